@@ -1,0 +1,110 @@
+-- The slot in use of a whole file, and its table, or the first refusal.
+use Rattle.std.specs.Prelude.{ℕ, zero, suc, ◌+◌, ◌*◌, ◌==◌, nat_lt, Bool, true, false, not, if◌then◌else◌, List, [], ◌∷◌, length, take, drop, slice_index, Option, Some, None, Result, Ok, Err}
+use Rattle.std.specs.Ordering.{is_lt}
+use Rattle.byte_ranges.specs.Ranges.{bytes_at}
+use Rattle.byte_ranges.specs.Lists.{◌>>=◌}
+use Rattle.slot_codec.specs.Names.{name_cmp}
+use Rattle.slot_codec.specs.Spelling.{gate_open, slot_at, gate_at, format_gate_at, head_len, superblock_len, header_len, record_len}
+use Rattle.slot_codec.specs.Reading.{number_at, read_superblock, read_header, read_record}
+use Rattle.slot_codec.specs.declared.codec.SuperBlock.{SuperBlock}
+use Rattle.slot_codec.specs.declared.codec.Header.{Header}
+use Rattle.slot_codec.specs.declared.codec.Record.{Record}
+use Rattle.slot_codec.specs.declared.codec.CodecFault.{CodecFault}
+use Rattle.slot_codec.specs.declared.codec.CodecFault.TheVariants as fault
+
+-- why a file is refused before its table's rules are tried; a codec fault has a position
+pub data SlotRefusal : Type 0 where
+  too_short : SlotRefusal
+  unformatted : SlotRefusal
+  no_gate : SlotRefusal
+  same_sequence : SlotRefusal
+  codec : CodecFault → ℕ → SlotRefusal
+
+-- a fault in a part that stands at a position
+abbrev pub placed_at : {A : Type 0} → ℕ → Result A CodecFault → Result A SlotRefusal
+placed_at at (Ok x) = Ok x
+placed_at at (Err f) = Err (codec f at)
+
+-- which slot is in use
+pub record InUse : Type 0 where
+  pub block : SuperBlock
+  pub slot : ℕ
+  pub sequence : ℕ
+  pub other_open : Bool
+
+abbrev pub is_open : List ℕ → ℕ → Bool
+is_open file at = slice_index file at == gate_open
+
+abbrev pub sequence_at : List ℕ → ℕ → ℕ → ℕ
+sequence_at file names slot = number_at file (slot_at names slot + 8)
+
+-- of two slots that are open or not, the open one, or the one with the greater sequence
+abbrev pub pick : SuperBlock → Bool → Bool → ℕ → ℕ → Result InUse SlotRefusal
+pick block false false first second = Err no_gate
+pick block true false first second = Ok (record { block = block; slot = 0; sequence = first; other_open = false })
+pick block false true first second = Ok (record { block = block; slot = 1; sequence = second; other_open = false })
+pick block true true first second =
+    if first == second then Err same_sequence else
+    if nat_lt second first then Ok (record { block = block; slot = 0; sequence = first; other_open = true }) else
+    Ok (record { block = block; slot = 1; sequence = second; other_open = true })
+
+-- The slot in use: by the length, the superblock, the three gates and the two sequences.
+abbrev pub slot_in_use : List ℕ → Result InUse SlotRefusal
+slot_in_use file =
+    if nat_lt (length file) superblock_len then Err too_short else
+    (placed_at 0 (read_superblock (bytes_at file 0 superblock_len)) >>= λ block.
+    if nat_lt (length file) (head_len block.names) then Err too_short else
+    if not (is_open file (format_gate_at block.names)) then Err unformatted else
+    pick block (is_open file (gate_at block.names 0)) (is_open file (gate_at block.names 1)) (sequence_at file block.names 0) (sequence_at file block.names 1))
+
+-- The slot in use, and its header.
+pub record Chosen : Type 0 where
+  pub block : SuperBlock
+  pub slot : ℕ
+  pub header : Header
+
+abbrev pub chosen : List ℕ → Result Chosen SlotRefusal
+chosen file =
+    slot_in_use file >>= λ in_use.
+    placed_at (slot_at in_use.block.names in_use.slot) (read_header in_use.block.names (bytes_at file (slot_at in_use.block.names in_use.slot) header_len)) >>= λ header.
+    Ok (record { block = in_use.block; slot = in_use.slot; header = header })
+
+-- a name is greater than the one before it, if there is one
+abbrev pub rises : Option (List ℕ) → List ℕ → Bool
+rises None name = true
+rises (Some before) name = is_lt (name_cmp before name)
+
+-- the first record of a text that stands at a position, after a name
+abbrev pub first_record : List ℕ → ℕ → Option (List ℕ) → Result Record SlotRefusal
+first_record text at before =
+    placed_at at (read_record (take record_len text)) >>= λ r.
+    if not (rises before r.name) then Err (codec fault.Order at) else Ok r
+
+-- n records of a text that stands at a position, after a name
+abbrev pub read_records : ℕ → List ℕ → ℕ → Option (List ℕ) → Result (List Record) SlotRefusal
+read_records zero text at before = Ok []
+read_records (suc n) text at before =
+    first_record text at before >>= λ r.
+    read_records n (drop record_len text) (at + record_len) (Some r.name) >>= λ rest.
+    Ok (r ∷ rest)
+
+-- where the records of the slot in use stand, and their bytes
+abbrev pub records_at : Chosen → ℕ
+records_at c = slot_at c.block.names c.slot + header_len
+
+abbrev pub records_text : List ℕ → Chosen → List ℕ
+records_text file c = bytes_at file (records_at c) (record_len * c.header.count)
+
+-- the table of a file: its slot and header, and its records in order
+pub record Table : Type 0 where
+  pub chosen : Chosen
+  pub records : List Record
+
+abbrev pub records_of : List ℕ → Chosen → Result (List Record) SlotRefusal
+records_of file c = read_records c.header.count (records_text file c) (records_at c) None
+
+unfoldable pub table_of : List ℕ → Result Table SlotRefusal
+table_of file =
+    chosen file >>= λ c.
+    records_of file c >>= λ records.
+    Ok (record { chosen = c; records = records })

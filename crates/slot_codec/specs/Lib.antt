@@ -1,0 +1,6 @@
+pub mod Names
+pub mod Spelling
+pub mod Reading
+pub mod Choice
+pub mod ChoiceLaws
+pub mod Rolls

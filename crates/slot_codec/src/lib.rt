@@ -1,0 +1,27 @@
+//! The superblock, the headers and the records of a store's file, as bytes and as values.
+#![tactic(auto)]
+
+ghost use Rattle.std.specs.Prelude.{◌≡◌, ℕ, List, [], Ok, Err};
+ghost use Rattle.std.specs.Prelude.{◌≤◌, length};
+ghost use Rattle.byte_ranges.specs.Ranges.{SameBelow};
+ghost use Rattle.slot_codec.specs.Spelling.{head_len};
+ghost use Rattle.slot_codec.specs.Choice.{too_short, table_of, slot_in_use, InUse};
+
+mod codec;
+mod name;
+mod roll;
+
+pub use codec::{CodecFault, Header, Kind, NoMemory, Record, SuperBlock};
+pub use name::Name;
+pub use roll::Roll;
+
+/// A file that is too short has no table.
+#[tactic(auto, unfolding(crate::specs::Choice::table_of))]
+pub fn too_short_for_a_table()
+    ensures { table_of [] ≡ Err too_short }
+{}
+
+/// The slot in use depends on the bytes below the data part alone.
+pub fn the_slot_lies_below_the_data()
+    ensures { (a b : List ℕ) (u : InUse) → slot_in_use a ≡ Ok u → head_len u.block.names ≤ length b → SameBelow (head_len u.block.names) a b → slot_in_use b ≡ Ok u }
+{}
