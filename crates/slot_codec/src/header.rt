@@ -1,5 +1,5 @@
 //! Reading a header.
-ghost use Rattle.std.specs.Prelude.{◌≡◌, ◌+◌, ◌*◌, length, map};
+ghost use Rattle.std.specs.Prelude.{◌≡◌, ◌+◌, ◌*◌, ◌≤◌, IfOk, IsTrue, length, map};
 ghost use Rattle.std.specs.List.{list_all};
 ghost use Rattle.byte_ranges.specs.Lists.{below};
 ghost use Rattle.slot_codec.specs.Reading.{all_in_range, header_of, is_in_range, kind_of, numbers_at, read_header, worn_from};
@@ -10,9 +10,12 @@ use crate::{CodecFault, Header, Kind};
 
 /// What a header of 8,488 bytes says, in a file with room for `names` names: `Version`, `Kind`,
 /// `Zeros`, `Worn`, `Count` or `Range` where it is at fault, the first of these that holds.
+#[tactic(auto, unfolding(crate::specs::Reading::read_header))]
 pub fn read_header(bytes: &[u8], names: u64) -> Result<Header, CodecFault>
     requires { length bytes.now ≡ HEADER_LEN }
-    ensures { result ≡ read_header names bytes.now }
+    ensures value { result ≡ read_header names bytes.now }
+    ensures count { IfOk result (λ header. header.count ≤ names) }
+    ensures ranges { IfOk result (λ header. IsTrue (all_in_range header)) }
 {
     if bytes[0] != 1 {
         return Err(CodecFault::Version);

@@ -1,5 +1,5 @@
 //! The readers: the value that bytes spell, or the first fault in them.
-ghost use Rattle.std.specs.Prelude.{◌≡◌, length};
+ghost use Rattle.std.specs.Prelude.{◌≡◌, ◌<◌, ◌≤◌, ◌^◌, IfOk, length};
 ghost use Rattle.slot_codec.specs.Reading.{read_record, read_superblock};
 
 use crate::fields::{RANGE, are_zeros, number_at};
@@ -8,9 +8,12 @@ use crate::{CodecFault, Name, Record, SuperBlock};
 
 /// What a superblock of 64 bytes says: `Magic`, `Params` or `Zeros` where it is at fault, the
 /// first of these that holds.
+#[tactic(auto, unfolding(crate::specs::Reading::read_superblock))]
 pub fn read_superblock(bytes: &[u8]) -> Result<SuperBlock, CodecFault>
     requires { length bytes.now ≡ SUPERBLOCK_LEN }
-    ensures { result ≡ read_superblock bytes.now }
+    ensures value { result ≡ read_superblock bytes.now }
+    ensures divisor { IfOk result (λ block. (2 ≤ block.k) × (block.k ≤ 64)) }
+    ensures names { IfOk result (λ block. (16 ≤ block.names) × (block.names ≤ 65536)) }
 {
     if &bytes[..8] != b"COSTORE1".as_slice() {
         return Err(CodecFault::Magic);
@@ -28,9 +31,11 @@ pub fn read_superblock(bytes: &[u8]) -> Result<SuperBlock, CodecFault>
 
 /// What a record of 80 bytes says: `NameBytes`, `Zeros` or `Range` where it is at fault, the first
 /// of these that holds.
+#[tactic(auto, unfolding(crate::specs::Reading::read_record))]
 pub fn read_record(bytes: &[u8]) -> Result<Record, CodecFault>
     requires { length bytes.now ≡ RECORD_LEN }
-    ensures { result ≡ read_record bytes.now }
+    ensures value { result ≡ read_record bytes.now }
+    ensures ranges { IfOk result (λ r. (r.place < 2 ^ 48) × (r.size < 2 ^ 48)) }
 {
     let len = bytes[0] as usize;
     if len > Name::LONGEST {
