@@ -137,6 +137,7 @@ slot_low names (suc (suc n)) h = absurd (omega (arith, h))
 
 -- the header that is read has no more records than there may be
 header_count : (names : ℕ) (bytes : List ℕ) (h : Header) → read_header names bytes ≡ Ok h → h.count ≤ names
+unfolding read_header
 header_count names bytes h e =
     let o = header_of bytes in
     let g1 = guard_ok (not (slice_index bytes 0 == 1)) _ _ h e in

@@ -24,7 +24,7 @@ numbers_at n bytes at = map (λ i. number_at bytes (at + 8 * i)) (below n)
 abbrev pub are_zeros : List ℕ → Bool
 are_zeros bytes = list_all (λ b. b == 0) bytes
 
-abbrev pub read_superblock : List ℕ → Result SuperBlock CodecFault
+unfoldable pub read_superblock : List ℕ → Result SuperBlock CodecFault
 read_superblock bytes =
     let k = number_at bytes 8 in
     let names = number_at bytes 16 in
@@ -62,7 +62,7 @@ header_of bytes =
 abbrev pub all_in_range : Header → Bool
 all_in_range h = is_in_range h.wall && is_in_range h.slack && list_all is_in_range h.caps && list_all (list_all is_in_range) h.used
 
-abbrev pub read_header : ℕ → List ℕ → Result Header CodecFault
+unfoldable pub read_header : ℕ → List ℕ → Result Header CodecFault
 read_header names bytes =
     let h = header_of bytes in
     if not (slice_index bytes 0 == 1) then Err fault.Version else
@@ -76,7 +76,7 @@ read_header names bytes =
 abbrev pub record_of : List ℕ → Record
 record_of bytes = record { name = bytes_at bytes 1 (slice_index bytes 0); place = number_at bytes 64; size = number_at bytes 72 }
 
-abbrev pub read_record : List ℕ → Result Record CodecFault
+unfoldable pub read_record : List ℕ → Result Record CodecFault
 read_record bytes =
     let r = record_of bytes in
     if nat_lt 63 (slice_index bytes 0) || not (is_name r.name) then Err fault.NameBytes else

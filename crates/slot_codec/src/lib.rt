@@ -8,11 +8,18 @@ ghost use Rattle.slot_codec.specs.Spelling.{head_len};
 ghost use Rattle.slot_codec.specs.Choice.{too_short, table_of, slot_in_use, InUse};
 
 mod codec;
+mod fields;
+mod header;
+mod lengths;
 mod name;
+mod read;
 mod roll;
 
 pub use codec::{CodecFault, Header, Kind, NoMemory, Record, SuperBlock};
+pub use header::read_header;
+pub use lengths::{GATE_OPEN, HEADER_LEN, RECORD_LEN, SUPERBLOCK_LEN, head_len, slot_len};
 pub use name::Name;
+pub use read::{read_record, read_superblock};
 pub use roll::Roll;
 
 /// A file that is too short has no table.
