@@ -1,0 +1,6 @@
+//! The two slots of a file: which one is in use, and how a checkpoint is saved into the other.
+#![tactic(auto)]
+
+mod find;
+
+pub use find::{Found, SlotFault, choose, gate_at, read_chosen_header, slot_at};
