@@ -1,7 +1,9 @@
 -- Byte strings by position. A file is a list of bytes; past its end `slice_index` gives 0.
 use Rattle.std.specs.Prelude.{◌≡◌, ℕ, ◌+◌, ◌-◌, ◌<◌, ◌≤◌, List, ◌++◌, length, take, drop, replicate, slice_index, refl}
-use Rattle.std.proofs.Common.{arith, sym, ◌∙◌, ap, length-drop, rules}
-use Rattle.std.proofs.lemmas.List.{get_or-take, get_or-drop, places}
+use Rattle.std.proofs.Common.{inl, inr, length-append, append_assoc, arith, sym, ◌∙◌, ap, length-drop, rules}
+use Rattle.std.proofs.lemmas.List.{get_or-take, get_or-drop, places, length-take-le, take_at, drop_at, drop-take, take-take, drop-drop}
+use Rattle.std.proofs.Math.Seq.{take-add}
+use Rattle.std.proofs.lemmas.Bool.{cases_lt}
 use Rattle.std.proofs.lemmas.Grind.{same_number_lists}
 
 -- the n bytes of a file that begin at a position
@@ -115,3 +117,66 @@ bytes_at-from start a b at n same low =
     let rests : drop at b ≡ drop at a = same_number_lists _ _ (length-drop at b ∙ ap (λ x. x - at) (sym same.same_length) ∙ sym (length-drop at a)) (λ k h.
     get_or-drop at b k 0 ∙ sym (same.bytes (at + k) (omega (arith, low))) ∙ sym (get_or-drop at a k 0))
     in ap (take n) rests
+
+-- alike is alike both ways, and from one to the next
+pub SameWithin-sym : (low high : ℕ) (a b : List ℕ) → SameWithin low high a b → SameWithin low high b a
+SameWithin-sym low high a b same = λ i l h. sym (same i l h)
+
+pub SameWithin-trans : (low high : ℕ) (a b c : List ℕ) → SameWithin low high a b → SameWithin low high b c → SameWithin low high a c
+SameWithin-trans low high a b c ab bc = λ i l h. ab i l h ∙ bc i l h
+
+pub SameBelow-sym : (end : ℕ) (a b : List ℕ) → SameBelow end a b → SameBelow end b a
+SameBelow-sym end a b same = λ i h. sym (same i h)
+
+pub SameBelow-trans : (end : ℕ) (a b c : List ℕ) → SameBelow end a b → SameBelow end b c → SameBelow end a c
+SameBelow-trans end a b c ab bc = λ i h. ab i h ∙ bc i h
+
+pub SameFrom-refl : (start : ℕ) (a : List ℕ) → SameFrom start a a
+SameFrom-refl start a = record { same_length = refl; bytes = λ i h. refl }
+
+pub SameFrom-trans : (start : ℕ) (a b c : List ℕ) → SameFrom start a b → SameFrom start b c → SameFrom start a c
+SameFrom-trans start a b c ab bc = record { same_length = ab.same_length ∙ bc.same_length; bytes = λ i h. ab.bytes i h ∙ bc.bytes i h }
+
+pub SameOutside-sym : (at n : ℕ) (a b : List ℕ) → SameOutside at n a b → SameOutside at n b a
+SameOutside-sym at n a b same = record { same_length = sym same.same_length; below = λ i h. sym (same.below i h); above = λ i h. sym (same.above i h) }
+
+-- files that are alike below a position and from it on are one
+pub same_file : (p : ℕ) (a b : List ℕ) → SameBelow p a b → SameFrom p a b → a ≡ b
+same_file p a b below above =
+    same_number_lists a b above.same_length (λ i h. elim (cases_lt i p) as (λ x. slice_index a i ≡ slice_index b i) [ inl low ↦ below i low | inr high ↦ above.bytes i high ])
+
+-- a part of what stands at a position is what stands there in the file
+pub bytes_at-within : (file : List ℕ) (at n i m : ℕ) → i + m ≤ n → bytes_at (bytes_at file at n) i m ≡ bytes_at file (at + i) m
+bytes_at-within file at n i m within =
+    let split : n ≡ i + (n - i) = omega (arith, within) in
+    let short : m ≤ n - i = omega (arith, within) in
+    ap (λ (x : ℕ). take m (drop i (take x (drop at file)))) split
+    ∙ ap (take m) (drop-take i (n - i) (drop at file))
+    ∙ take-take m (n - i) (drop i (drop at file)) short
+    ∙ ap (take m) (drop-drop i at file)
+
+-- two pieces beside each other
+pub bytes_at-append : (file : List ℕ) (at m n : ℕ) → bytes_at file at (m + n) ≡ bytes_at file at m ++ bytes_at file (at + m) n
+bytes_at-append file at m n = take-add m n (drop at file) ∙ ap (λ (xs : List ℕ). take m (drop at file) ++ take n xs) (drop-drop m at file)
+
+-- two writes beside each other are one
+pub overwritten-pieces : (file : List ℕ) (at : ℕ) (xs ys : List ℕ) → at + length xs + length ys ≤ length file → overwritten (overwritten file at xs) (at + length xs) ys ≡ overwritten file at (xs ++ ys)
+overwritten-pieces file at xs ys within =
+    let after : List ℕ = overwritten file at xs in
+    let front_len : length (take at file ++ xs) ≡ at + length xs = omega (arith, length-append (take at file) xs, length-take-le at file (omega (arith, within))) in
+    let front : take (at + length xs) after ≡ take at file ++ xs = take_at (take at file ++ xs) (drop (at + length xs) file) (at + length xs) front_len in
+    let rest : drop (at + length xs) after ≡ drop (at + length xs) file = drop_at (take at file ++ xs) (drop (at + length xs) file) (at + length xs) front_len in
+    let back : drop (at + length xs + length ys) after ≡ drop (at + length (xs ++ ys)) file = sym (drop-drop (length ys) (at + length xs) after) ∙ ap (drop (length ys)) rest ∙ drop-drop (length ys) (at + length xs) file ∙ ap (λ n. drop n file) (omega (arith, length-append xs ys)) in
+    rw (front, back) (ap (λ (zs : List ℕ). zs ++ drop (at + length (xs ++ ys)) file) (append_assoc (take at file) xs ys))
+
+-- the length that a file has
+pub resized-same : (file : List ℕ) → resized file (length file) ≡ file
+resized-same file = search (rules, places)
+
+-- the same bytes at a position are alike there
+pub within_from_bytes : (a b : List ℕ) (at n : ℕ) → bytes_at a at n ≡ bytes_at b at n → SameWithin at (at + n) a b
+within_from_bytes a b at n same = λ i l h.
+    let k : ℕ = i - at in
+    let is : i ≡ at + k = omega (arith, l) in
+    let low : k < n = omega (arith, l, h) in
+    ap (slice_index a) is ∙ sym (bytes_at-index a at n k low) ∙ ap (λ (xs : List ℕ). slice_index xs k) same ∙ bytes_at-index b at n k low ∙ ap (slice_index b) (sym is)
