@@ -1,6 +1,9 @@
 //! The program as one call: from the words of its command line to the bytes that it puts out.
 #![tactic(auto)]
 
+mod copy;
+mod stop;
 mod words;
 
+pub use stop::{Stop, StoreFault};
 pub use words::read_words;

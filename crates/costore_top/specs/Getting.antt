@@ -1,0 +1,121 @@
+-- What `get` answers, by the bytes of the file alone.
+use Rattle.std.specs.Prelude.{◌≡◌, ℕ, ◌+◌, ◌-◌, ◌/◌, ◌==◌, nat_le, nat_lt, Bool, true, false, not, ◌||◌, if◌then◌else◌, List, [], ◌∷◌, length, take, sum_by, Option, Some, None, Result, Ok, Err}
+use Rattle.std.specs.Str.{bytes_eq}
+use Rattle.byte_ranges.specs.Ranges.{bytes_at}
+use Rattle.byte_ranges.specs.Lists.{◌>>=◌}
+use Rattle.slot_codec.specs.Spelling.{head_len}
+use Rattle.slot_codec.specs.Choice.{InUse, SlotRefusal, Chosen, slot_in_use, chosen, records_of}
+use Rattle.slot_codec.specs.Choice as choice
+use Rattle.slot_codec.specs.declared.codec.Kind.{Kind}
+use Rattle.slot_codec.specs.declared.codec.Kind.TheVariants.{Settled, Moving}
+use Rattle.slot_codec.specs.declared.codec.Record.{Record}
+use Rattle.slot_pair.specs.declared.find.SlotFault.{SlotFault}
+use Rattle.slot_pair.specs.declared.find.SlotFault.TheVariants as slot
+use Rattle.costore_top.specs.declared.stop.StoreFault.{StoreFault}
+use Rattle.costore_top.specs.declared.stop.StoreFault.TheVariants as fault
+use Rattle.costore_top.specs.declared.stop.Stop.{Stop}
+use Rattle.costore_top.specs.declared.stop.Stop.TheVariants as stop
+
+-- a refusal by the slots, as the program says it
+abbrev pub fault_of : SlotRefusal → SlotFault
+fault_of choice.too_short = slot.Short
+fault_of choice.unformatted = slot.Unformatted
+fault_of choice.no_gate = slot.NoGate
+fault_of choice.same_sequence = slot.SameSequence
+fault_of (choice.codec f at) = slot.Codec f at
+
+-- what the slots refuse is no store
+abbrev pub or_no_store : {A : Type 0} → Result A SlotRefusal → Result A Stop
+or_no_store (Ok x) = Ok x
+or_no_store (Err r) = Err (stop.NotStore (fault.Slot (fault_of r)))
+
+-- the gate of slot 1 is open
+abbrev pub is_second_open : Result InUse SlotRefusal → Bool
+is_second_open (Ok u) = u.other_open || (u.slot == 1)
+is_second_open (Err choice.same_sequence) = true
+is_second_open (Err _) = false
+
+-- a settled table is read; a moving one isn't yet
+abbrev pub settled_only : Chosen → Kind → Result Chosen Stop
+settled_only c Settled = Ok c
+settled_only c Moving = Err stop.NotBuilt
+
+-- the settled table of a file, and its slot; slot 1 isn't read yet
+abbrev pub settled_table : List ℕ → Result Chosen Stop
+settled_table file =
+    if is_second_open (slot_in_use file) then Err stop.NotBuilt else
+    (or_no_store (chosen file) >>= λ c. settled_only c c.header.kind)
+
+-- the number of the first record from the n-th on that fails a test
+abbrev pub first_failing : (Record → Bool) → ℕ → List Record → Option ℕ
+first_failing passes n [] = None
+first_failing passes n (r ∷ rs) = if passes r then first_failing passes (n + 1) rs else Some n
+
+-- the greatest size of an object, in bytes, and how many classes of sizes there are
+abbrev pub size_max : ℕ
+size_max = 1048576
+
+abbrev pub classes : ℕ
+classes = 21
+
+-- no object is too large; an empty one has place 0; each lies within the data part
+abbrev pub fits : Record → Bool
+fits r = nat_le r.size size_max
+
+abbrev pub is_placed : Record → Bool
+is_placed r = nat_lt 0 r.size || (r.place == 0)
+
+abbrev pub ends_within : ℕ → Record → Bool
+ends_within data_len r = nat_le (r.place + r.size) data_len
+
+-- where the layout of a header's capacities ends: each payload segment has a buffer of its k-th part
+abbrev pub layout_end : ℕ → List ℕ → ℕ
+layout_end k caps = sum_by (λ v. v + v / k) (take classes caps)
+
+-- the first place that is found, as a fault of a rule
+abbrev pub or_rule : ℕ → Option ℕ → Result Unit Stop → Result Unit Stop
+or_rule rule (Some at) next = Err (stop.NotStore (fault.Rule rule at))
+or_rule rule None next = next
+
+-- the place of the layout's end in its rule is the number of records
+abbrev pub last_place : Bool → ℕ → Option ℕ
+last_place true n = None
+last_place false n = Some n
+
+-- the rules of a table that are tried: sizes, places of empty objects, and ends
+abbrev pub keeps_rules : ℕ → ℕ → List Record → Result Unit Stop
+keeps_rules end data_len records =
+    or_rule 1 (first_failing fits 0 records) (
+    or_rule 2 (first_failing is_placed 0 records) (
+    or_rule 3 (first_failing (ends_within data_len) 0 records) (
+    or_rule 3 (last_place (nat_le end data_len) (length records)) (Ok tt))))
+
+-- the record of a name
+abbrev pub record_named : List ℕ → List Record → Result Record Stop
+record_named name [] = Err stop.Missing
+record_named name (r ∷ rs) = if bytes_eq r.name name then Ok r else record_named name rs
+
+-- the length of the data part
+abbrev pub data_len_of : List ℕ → Chosen → ℕ
+data_len_of file c = length file - head_len c.block.names
+
+-- the records of a table that keeps the rules
+abbrev pub checked_records : List ℕ → Chosen → Result (List Record) Stop
+checked_records file c =
+    or_no_store (records_of file c) >>= λ records.
+    keeps_rules (layout_end c.block.k c.header.caps) (data_len_of file c) records >>= λ _.
+    Ok records
+
+-- the bytes of the object of a name, or why there are none
+unfoldable pub answer_of : List ℕ → List ℕ → Result (List ℕ) Stop
+answer_of name file =
+    settled_table file >>= λ c.
+    checked_records file c >>= λ records.
+    record_named name records >>= λ r.
+    Ok (bytes_at file (head_len c.block.names + r.place) r.size)
+
+-- a command that stops for this reason is to, unless a device failed
+abbrev pub StopsAs : {A : Type 0} → Result A Stop → Stop → Type 0
+StopsAs expected stop.Disk = Unit {0}
+StopsAs expected stop.Sink = Unit {0}
+StopsAs expected why = expected ≡ Err why
