@@ -24,6 +24,11 @@ fault_of choice.no_gate = slot.NoGate
 fault_of choice.same_sequence = slot.SameSequence
 fault_of (choice.codec f at) = slot.Codec f at
 
+-- a fault in finding the slot, as a reason to stop
+abbrev pub stop_of : SlotFault → Stop
+stop_of slot.Disk = stop.Disk
+stop_of f = stop.NotStore (fault.Slot f)
+
 -- what the slots refuse is no store
 abbrev pub or_no_store : {A : Type 0} → Result A SlotRefusal → Result A Stop
 or_no_store (Ok x) = Ok x

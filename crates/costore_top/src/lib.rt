@@ -2,7 +2,9 @@
 #![tactic(auto)]
 
 mod copy;
+mod records;
 mod stop;
+mod table;
 mod words;
 
 pub use stop::{Stop, StoreFault};

@@ -1,0 +1,63 @@
+//! Opening a settled file and reading the records of its table.
+ghost use Rattle.std.specs.Prelude.{◌≡◌, ◌⊎◌, ◌+◌, ◌*◌, ◌^◌, ◌<◌, ◌≤◌, Ok, Err, IfOk, IfErr, IsTrue, length};
+ghost use Rattle.byte_ranges.specs.Ranges.{bytes_at};
+ghost use Rattle.disk_face.specs.Counts.{Rose};
+ghost use Rattle.disk_face.specs.Frames.{Unchanged};
+ghost use Rattle.slot_codec.specs.Spelling.{head_len};
+ghost use Rattle.slot_codec.specs.Reading.{all_in_range};
+ghost use Rattle.costore_top.specs.Opened.{chosen_of};
+ghost use Rattle.costore_top.specs.Getting.{settled_table, stop_of, StopsAs};
+
+use disk_face::Disk;
+use slot_codec::{Header, Kind, SuperBlock};
+use slot_pair::{SlotFault, choose, read_chosen_header};
+
+use crate::{Stop, StoreFault};
+
+/// The slot in use of a file, and its header.
+#[derive(Drop)]
+pub struct Opened {
+    pub block: SuperBlock,
+    pub slot: u8,
+    pub header: Header,
+}
+
+/// The settled table of a file whose slot 1 is closed.
+pub fn open_settled<D: Disk>(disk: &mut D) -> Result<Opened, Stop>
+    requires ready { IsTrue (D.is_ready disk.old) }
+    ensures opened { IsTrue (D.tells disk.old) → IfOk result (λ o. settled_table (D.file disk.old) ≡ Ok (chosen_of o)) }
+    ensures stopped { IsTrue (D.tells disk.old) → IfErr result (StopsAs (settled_table (D.file disk.old))) }
+    ensures long { IsTrue (D.tells disk.old) → IfOk result (λ o. head_len o.block.names ≤ length (D.file disk.old)) }
+    ensures low { IfOk result (λ o. 16 ≤ o.block.names) }
+    ensures high { IfOk result (λ o. o.block.names ≤ 65536) }
+    ensures slot { IfOk result (λ o. o.slot ≤ 1) }
+    ensures count { IfOk result (λ o. o.header.count ≤ o.block.names) }
+    ensures ranges { IfOk result (λ o. IsTrue (all_in_range o.header)) }
+    ensures cause { result ≡ Err Stop.Disk → Rose (D.faults disk.old) (D.faults disk.new) }
+    ensures frame { Unchanged D.tells D.file D.may_leave D.left_since D.turn D.faults D.is_ready D.tells_images disk.old disk.new }
+{
+    let found = match choose(disk) {
+        Ok(found) => found,
+        // Both slots are open.
+        Err(SlotFault::SameSequence) => return Err(Stop::NotBuilt),
+        Err(fault) => return Err(stop_of(fault)),
+    };
+    if found.slot == 1 || found.other_open {
+        return Err(Stop::NotBuilt);
+    }
+    let header = read_chosen_header(disk, &found).map_err(stop_of)?;
+    if header.kind == Kind::Moving {
+        return Err(Stop::NotBuilt);
+    }
+    Ok(Opened { block: found.block, slot: found.slot, header })
+}
+
+/// What a fault in finding the slot is to the command.
+fn stop_of(fault: SlotFault) -> Stop
+    ensures { result ≡ stop_of fault }
+{
+    match fault {
+        SlotFault::Disk => Stop::Disk,
+        other => Stop::NotStore(StoreFault::Slot(other)),
+    }
+}
