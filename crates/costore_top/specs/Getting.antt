@@ -11,6 +11,7 @@ use Rattle.slot_codec.specs.declared.codec.Kind.TheVariants.{Settled, Moving}
 use Rattle.slot_codec.specs.declared.codec.Record.{Record}
 use Rattle.slot_pair.specs.declared.find.SlotFault.{SlotFault}
 use Rattle.slot_pair.specs.declared.find.SlotFault.TheVariants as slot
+use Rattle.costore_top.specs.declared.pass.Spot.{Spot}
 use Rattle.costore_top.specs.declared.stop.StoreFault.{StoreFault}
 use Rattle.costore_top.specs.declared.stop.StoreFault.TheVariants as fault
 use Rattle.costore_top.specs.declared.stop.Stop.{Stop}
@@ -95,29 +96,32 @@ keeps_rules end data_len records =
     or_rule 3 (first_failing (ends_within data_len) 0 records) (
     or_rule 3 (last_place (nat_le end data_len) (length records)) (Ok tt))))
 
--- the record of a name
-abbrev pub record_named : List ℕ → List Record → Result Record Stop
-record_named name [] = Err stop.Missing
-record_named name (r ∷ rs) = if bytes_eq r.name name then Ok r else record_named name rs
+-- where the object of a name stands
+abbrev pub spot_named : List ℕ → List Record → Option Spot
+spot_named name [] = None
+spot_named name (r ∷ rs) = if bytes_eq r.name name then Some (record { place = r.place; size = r.size }) else spot_named name rs
+
+abbrev pub or_missing : Option Spot → Result Spot Stop
+or_missing None = Err stop.Missing
+or_missing (Some s) = Ok s
 
 -- the length of the data part
 abbrev pub data_len_of : List ℕ → Chosen → ℕ
 data_len_of file c = length file - head_len c.block.names
 
--- the records of a table that keeps the rules
-abbrev pub checked_records : List ℕ → Chosen → Result (List Record) Stop
-checked_records file c =
+-- where the object of a name stands, by the table of a file
+abbrev pub spot_of : List ℕ → List ℕ → Chosen → Result Spot Stop
+spot_of name file c =
     or_no_store (records_of file c) >>= λ records.
     keeps_rules (layout_end c.block.k c.header.caps) (data_len_of file c) records >>= λ _.
-    Ok records
+    or_missing (spot_named name records)
 
 -- the bytes of the object of a name, or why there are none
 unfoldable pub answer_of : List ℕ → List ℕ → Result (List ℕ) Stop
 answer_of name file =
     settled_table file >>= λ c.
-    checked_records file c >>= λ records.
-    record_named name records >>= λ r.
-    Ok (bytes_at file (head_len c.block.names + r.place) r.size)
+    spot_of name file c >>= λ s.
+    Ok (bytes_at file (head_len c.block.names + s.place) s.size)
 
 -- a command that stops for this reason is to, unless a device failed
 abbrev pub StopsAs : {A : Type 0} → Result A Stop → Stop → Type 0

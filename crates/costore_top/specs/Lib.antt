@@ -1,3 +1,4 @@
 pub mod Words
 pub mod Getting
 pub mod Opened
+pub mod Passes

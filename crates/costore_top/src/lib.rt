@@ -2,6 +2,7 @@
 #![tactic(auto)]
 
 mod copy;
+mod pass;
 mod records;
 mod stop;
 mod table;

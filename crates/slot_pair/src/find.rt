@@ -52,6 +52,7 @@ pub fn choose<D: Disk>(disk: &mut D) -> Result<Found, SlotFault>
     ensures found { IsTrue (D.tells disk.old) → IfOk result (λ found. slot_in_use (D.file disk.old) ≡ Ok (in_use_of found)) }
     ensures refused { IsTrue (D.tells disk.old) → IfErr result (Refuses (slot_in_use (D.file disk.old))) }
     ensures long { IsTrue (D.tells disk.old) → IfOk result (λ found. head_len found.block.names ≤ length (D.file disk.old)) }
+    ensures divisor { IfOk result (λ found. (2 ≤ found.block.k) × (found.block.k ≤ 64)) }
     ensures low { IfOk result (λ found. 16 ≤ found.block.names) }
     ensures high { IfOk result (λ found. found.block.names ≤ 65536) }
     ensures slot { IfOk result (λ found. found.slot ≤ 1) }
@@ -151,6 +152,7 @@ fn formatted<D: Disk>(disk: &mut D) -> Result<SuperBlock, SlotFault>
     ensures block { IsTrue (D.tells disk.old) → IfOk result (λ block. formatted (D.file disk.old) ≡ Ok block) }
     ensures refused { IsTrue (D.tells disk.old) → IfErr result (Refuses (formatted (D.file disk.old))) }
     ensures long { IsTrue (D.tells disk.old) → IfOk result (λ block. head_len block.names ≤ length (D.file disk.old)) }
+    ensures divisor { IfOk result (λ block. (2 ≤ block.k) × (block.k ≤ 64)) }
     ensures low { IfOk result (λ block. 16 ≤ block.names) }
     ensures high { IfOk result (λ block. block.names ≤ 65536) }
     ensures cause { result ≡ Err SlotFault.Disk → Rose (D.faults disk.old) (D.faults disk.new) }
@@ -176,6 +178,7 @@ fn superblock<D: Disk>(disk: &mut D) -> Result<SuperBlock, SlotFault>
     requires within { IsTrue (D.tells disk.old) → SUPERBLOCK_LEN ≤ length (D.file disk.old) }
     ensures block { IsTrue (D.tells disk.old) → IfOk result (λ block. placed_at 0 (read_superblock (bytes_at (D.file disk.old) 0 SUPERBLOCK_LEN)) ≡ Ok block) }
     ensures refused { IsTrue (D.tells disk.old) → IfErr result (Refuses (placed_at 0 (read_superblock (bytes_at (D.file disk.old) 0 SUPERBLOCK_LEN)))) }
+    ensures divisor { IfOk result (λ block. (2 ≤ block.k) × (block.k ≤ 64)) }
     ensures low { IfOk result (λ block. 16 ≤ block.names) }
     ensures high { IfOk result (λ block. block.names ≤ 65536) }
     ensures cause { result ≡ Err SlotFault.Disk → Rose (D.faults disk.old) (D.faults disk.new) }
