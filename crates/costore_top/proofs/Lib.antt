@@ -1,3 +1,6 @@
 mod Pieces
 mod RecordTexts
 mod Passing
+mod Judging
+mod Stops
+mod Answering

@@ -1,5 +1,5 @@
 -- How a pass over records goes on, a record at a time.
-use Rattle.std.specs.Prelude.{◌≡◌, ℕ, zero, suc, ◌+◌, ◌-◌, ◌*◌, ◌<◌, ◌≤◌, List, [], ◌∷◌, length, take, drop, Option, Some, None, Result, Ok, Err, not, if◌then◌else◌, refl}
+use Rattle.std.specs.Prelude.{◌≡◌, ℕ, suc, ◌+◌, ◌-◌, ◌*◌, ◌<◌, ◌≤◌, List, [], ◌∷◌, drop, Option, Some, Result, Ok, Err, not, if◌then◌else◌, refl}
 use Rattle.std.proofs.Common.{arith, ap, sym, ◌∙◌, subst}
 use Rattle.std.proofs.lemmas.List.{take-take, drop-drop}
 use Rattle.byte_ranges.specs.Ranges.{bytes_at, bytes_at-within}
@@ -67,8 +67,8 @@ pub record_text : (file : List ℕ) (at count n : ℕ) (before : Option (List �
     → or_no_store (first_record (bytes_at file (at + record_len * n) record_len) place before) ≡ or_no_store (first_record (drop (record_len * n) (bytes_at file at (record_len * count))) place before)
 record_text file at count n before place low =
     ap (by_text place before) (
-      take-take record_len record_len (drop (at + record_len * n) file) (omega arith)
-      ∙ sym (bytes_at-within file at (record_len * count) (record_len * n) record_len (omega (arith, low))))
+    take-take record_len record_len (drop (at + record_len * n) file) (omega arith)
+    ∙ sym (bytes_at-within file at (record_len * count) (record_len * n) record_len (omega (arith, low))))
 
 -- what is left of a table of so many records at a position, from record n on
 abbrev pub left_from : ℕ → List ℕ → List ℕ → ℕ → ℕ → ℕ → Pass → Result Pass Stop

@@ -1,5 +1,5 @@
 -- What `get` answers, by the bytes of the file alone.
-use Rattle.std.specs.Prelude.{◌≡◌, ℕ, ◌+◌, ◌-◌, ◌/◌, ◌==◌, nat_le, nat_lt, Bool, true, false, not, ◌||◌, if◌then◌else◌, List, [], ◌∷◌, length, take, sum_by, Option, Some, None, Result, Ok, Err}
+use Rattle.std.specs.Prelude.{◌≡◌, ℕ, ◌+◌, ◌-◌, ◌/◌, ◌==◌, nat_le, nat_lt, Bool, true, false, ◌||◌, if◌then◌else◌, List, [], ◌∷◌, length, take, sum_by, Option, Some, None, Result, Ok, Err}
 use Rattle.std.specs.Str.{bytes_eq}
 use Rattle.byte_ranges.specs.Ranges.{bytes_at}
 use Rattle.byte_ranges.specs.Lists.{◌>>=◌}
@@ -12,7 +12,6 @@ use Rattle.slot_codec.specs.declared.codec.Record.{Record}
 use Rattle.slot_pair.specs.declared.find.SlotFault.{SlotFault}
 use Rattle.slot_pair.specs.declared.find.SlotFault.TheVariants as slot
 use Rattle.costore_top.specs.declared.pass.Spot.{Spot}
-use Rattle.costore_top.specs.declared.stop.StoreFault.{StoreFault}
 use Rattle.costore_top.specs.declared.stop.StoreFault.TheVariants as fault
 use Rattle.costore_top.specs.declared.stop.Stop.{Stop}
 use Rattle.costore_top.specs.declared.stop.Stop.TheVariants as stop

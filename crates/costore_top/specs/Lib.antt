@@ -2,3 +2,4 @@ pub mod Words
 pub mod Getting
 pub mod Opened
 pub mod Passes
+pub mod Answers

@@ -1,5 +1,5 @@
 -- What one pass over the records of a table notes.
-use Rattle.std.specs.Prelude.{◌≡◌, ℕ, zero, suc, ◌+◌, ◌*◌, Bool, true, false, if◌then◌else◌, List, [], ◌∷◌, length, Option, Some, None, Result, Ok, Err, nat_le}
+use Rattle.std.specs.Prelude.{ℕ, ◌+◌, Bool, true, false, List, [], ◌∷◌, Option, Some, None, Result, Ok, nat_le}
 use Rattle.std.specs.Str.{bytes_eq}
 use Rattle.byte_ranges.specs.Lists.{◌>>=◌}
 use Rattle.slot_codec.specs.Choice.{read_records}

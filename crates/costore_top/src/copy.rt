@@ -5,16 +5,20 @@ ghost use Rattle.disk_face.specs.Counts.{Rose};
 ghost use Rattle.disk_face.specs.Frames.{Unchanged};
 ghost use Rattle.disk_face.specs.Streams.{Puts};
 
-use disk_face::{Disk, Sink, read};
-
 use crate::Stop;
+use disk_face::{Disk, Sink, read};
 
 /// How many bytes are copied at a time.
 const PIECE: usize = 4096;
 
 /// Puts `size` bytes of the file from position `at` on, in pieces. Where a device fails, a front of
 /// them was put.
-pub fn put_bytes<D: Disk, O: Sink>(disk: &mut D, at: u64, size: u64, output: &mut O) -> Result<(), Stop>
+pub fn put_bytes<D: Disk, O: Sink>(
+    disk: &mut D,
+    at: u64,
+    size: u64,
+    output: &mut O,
+) -> Result<(), Stop>
     requires ready { IsTrue (D.is_ready disk.old) }
     requires range { at + size < 2 ^ 64 }
     requires within { IsTrue (D.tells disk.old) → at + size ≤ length (D.file disk.old) }
@@ -22,7 +26,7 @@ pub fn put_bytes<D: Disk, O: Sink>(disk: &mut D, at: u64, size: u64, output: &mu
     ensures only { OnErr result ((result ≡ Err Stop.Disk) ⊎ (result ≡ Err Stop.Sink)) }
     ensures disk_cause { result ≡ Err Stop.Disk → Rose (D.faults disk.old) (D.faults disk.new) }
     ensures sink_cause { result ≡ Err Stop.Sink → Rose (O.faults output.old) (O.faults output.new) }
-    ensures frame { Unchanged D.tells D.file D.may_leave D.left_since D.turn D.faults D.is_ready D.tells_images disk.old disk.new }
+    ensures frame { Unchanged D.tells D.file D.may_leave D.left_since D.turn D.faults D.is_ready D.tells_images D.last_mount disk.old disk.new }
     ensures sink_later { O.faults output.old ≤ O.faults output.new }
     ensures sink_told { O.tells output.new ≡ O.tells output.old }
 {
@@ -37,7 +41,13 @@ pub fn put_bytes<D: Disk, O: Sink>(disk: &mut D, at: u64, size: u64, output: &mu
 }
 
 /// Puts `size` bytes of the file at once, through a buffer that has room for them.
-fn put_piece<D: Disk, O: Sink>(disk: &mut D, at: u64, size: usize, buffer: &mut [u8], output: &mut O) -> Result<(), Stop>
+fn put_piece<D: Disk, O: Sink>(
+    disk: &mut D,
+    at: u64,
+    size: usize,
+    buffer: &mut [u8],
+    output: &mut O,
+) -> Result<(), Stop>
     requires ready { IsTrue (D.is_ready disk.old) }
     requires room { size ≤ length buffer.old }
     requires within { IsTrue (D.tells disk.old) → at + size ≤ length (D.file disk.old) }
@@ -45,7 +55,7 @@ fn put_piece<D: Disk, O: Sink>(disk: &mut D, at: u64, size: usize, buffer: &mut 
     ensures only { OnErr result ((result ≡ Err Stop.Disk) ⊎ (result ≡ Err Stop.Sink)) }
     ensures disk_cause { result ≡ Err Stop.Disk → Rose (D.faults disk.old) (D.faults disk.new) }
     ensures sink_cause { result ≡ Err Stop.Sink → Rose (O.faults output.old) (O.faults output.new) }
-    ensures frame { Unchanged D.tells D.file D.may_leave D.left_since D.turn D.faults D.is_ready D.tells_images disk.old disk.new }
+    ensures frame { Unchanged D.tells D.file D.may_leave D.left_since D.turn D.faults D.is_ready D.tells_images D.last_mount disk.old disk.new }
     ensures sink_later { O.faults output.old ≤ O.faults output.new }
     ensures sink_told { O.tells output.new ≡ O.tells output.old }
 {

@@ -2,6 +2,7 @@
 #![tactic(auto)]
 
 mod copy;
+mod get;
 mod pass;
 mod records;
 mod stop;

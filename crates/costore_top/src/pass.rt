@@ -1,16 +1,15 @@
 //! One pass over the records of a table: what the rules say of them, and where an object stands.
-ghost use Rattle.std.specs.Prelude.{◌≡◌, ◌+◌, ◌*◌, ◌^◌, ◌<◌, ◌≤◌, Ok, Err, IfOk, IfErr, IfSome, IsTrue, length};
+ghost use Rattle.std.specs.Prelude.{◌≡◌, ◌≢◌, ◌+◌, ◌*◌, ◌^◌, ◌<◌, ◌≤◌, Ok, Err, IfOk, IfErr, IfSome, IsTrue, length};
 ghost use Rattle.byte_ranges.specs.Ranges.{bytes_at};
 ghost use Rattle.disk_face.specs.Counts.{Rose};
 ghost use Rattle.disk_face.specs.Frames.{Unchanged};
 ghost use Rattle.costore_top.specs.Getting.{StopsAs};
 ghost use Rattle.costore_top.specs.Passes.{judged, noted, nothing_noted, or_first, or_found, passed};
 
-use disk_face::Disk;
-use slot_codec::{Name, RECORD_LEN, Record};
-
 use crate::records::next_record;
 use crate::{Stop, StoreFault};
+use disk_face::Disk;
+use slot_codec::{Name, RECORD_LEN, Record};
 
 /// The greatest size of an object, in bytes.
 const SIZE_MAX: u64 = 1_048_576;
@@ -51,10 +50,17 @@ pub fn pass_over<D: Disk>(disk: &mut D, course: Course, name: &Name) -> Result<P
     ensures passed { IsTrue (D.tells disk.old) → IfOk result (λ p. passed course.data_len name.now course.count (bytes_at (D.file disk.old) course.at (RECORD_LEN * course.count)) course.at 0 nothing_noted ≡ Ok p) }
     ensures stopped { IsTrue (D.tells disk.old) → IfErr result (StopsAs (passed course.data_len name.now course.count (bytes_at (D.file disk.old) course.at (RECORD_LEN * course.count)) course.at 0 nothing_noted)) }
     ensures ranges { IfOk result (λ p. IfSome p.found (λ s. (s.place < 2 ^ 48) × (s.size < 2 ^ 48))) }
+    ensures only { IfErr result (λ why. why ≢ Stop.Sink) }
     ensures cause { result ≡ Err Stop.Disk → Rose (D.faults disk.old) (D.faults disk.new) }
-    ensures frame { Unchanged D.tells D.file D.may_leave D.left_since D.turn D.faults D.is_ready D.tells_images disk.old disk.new }
+    ensures frame { Unchanged D.tells D.file D.may_leave D.left_since D.turn D.faults D.is_ready D.tells_images D.last_mount disk.old disk.new }
 {
-    let mut pass = Pass { too_large: None, misplaced: None, past_end: None, found: None, before: None };
+    let mut pass = Pass {
+        too_large: None,
+        misplaced: None,
+        past_end: None,
+        found: None,
+        before: None,
+    };
     'records: for n in 0..course.count {
         let record = next_record(disk, course.at + RECORD_LEN as u64 * n, &pass.before)?;
         pass = note(pass, n, record, course.data_len, name);
@@ -69,7 +75,11 @@ fn note(pass: Pass, n: u64, next: Record, data_len: u64, name: &Name) -> Pass
     ensures noted { result ≡ noted data_len name.now n pass next }
     ensures found { IfSome pass.found (λ s. (s.place < 2 ^ 48) × (s.size < 2 ^ 48)) → IfSome result.found (λ s. (s.place < 2 ^ 48) × (s.size < 2 ^ 48)) }
 {
-    let Record { name: its_name, place, size } = next;
+    let Record {
+        name: its_name,
+        place,
+        size,
+    } = next;
     let is_it = its_name.as_bytes() == name.as_bytes();
     Pass {
         too_large: or_first(pass.too_large, size <= SIZE_MAX, n),

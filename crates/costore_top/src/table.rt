@@ -1,5 +1,5 @@
 //! Opening a settled file and reading the records of its table.
-ghost use Rattle.std.specs.Prelude.{◌≡◌, ◌⊎◌, ◌+◌, ◌*◌, ◌^◌, ◌<◌, ◌≤◌, Ok, Err, IfOk, IfErr, IsTrue, length};
+ghost use Rattle.std.specs.Prelude.{◌≡◌, ◌≢◌, ◌⊎◌, ◌+◌, ◌*◌, ◌^◌, ◌<◌, ◌≤◌, Ok, Err, IfOk, IfErr, IsTrue, length};
 ghost use Rattle.std.specs.List.{list_all};
 ghost use Rattle.byte_ranges.specs.Ranges.{bytes_at};
 ghost use Rattle.disk_face.specs.Counts.{Rose};
@@ -9,11 +9,10 @@ ghost use Rattle.slot_codec.specs.Reading.{all_in_range, is_in_range};
 ghost use Rattle.costore_top.specs.Opened.{chosen_of};
 ghost use Rattle.costore_top.specs.Getting.{layout_end, settled_table, stop_of, StopsAs};
 
+use crate::{Stop, StoreFault};
 use disk_face::Disk;
 use slot_codec::{Header, Kind, SuperBlock};
 use slot_pair::{SlotFault, choose, read_chosen_header};
-
-use crate::{Stop, StoreFault};
 
 /// How many classes of sizes there are.
 const CLASSES: usize = 21;
@@ -38,8 +37,9 @@ pub fn open_settled<D: Disk>(disk: &mut D) -> Result<Opened, Stop>
     ensures slot { IfOk result (λ o. o.slot ≤ 1) }
     ensures count { IfOk result (λ o. o.header.count ≤ o.block.names) }
     ensures ranges { IfOk result (λ o. IsTrue (all_in_range o.header)) }
+    ensures only { IfErr result (λ why. why ≢ Stop.Sink) }
     ensures cause { result ≡ Err Stop.Disk → Rose (D.faults disk.old) (D.faults disk.new) }
-    ensures frame { Unchanged D.tells D.file D.may_leave D.left_since D.turn D.faults D.is_ready D.tells_images disk.old disk.new }
+    ensures frame { Unchanged D.tells D.file D.may_leave D.left_since D.turn D.faults D.is_ready D.tells_images D.last_mount disk.old disk.new }
 {
     let found = match choose(disk) {
         Ok(found) => found,
@@ -54,7 +54,11 @@ pub fn open_settled<D: Disk>(disk: &mut D) -> Result<Opened, Stop>
     if header.kind == Kind::Moving {
         return Err(Stop::NotBuilt);
     }
-    Ok(Opened { block: found.block, slot: found.slot, header })
+    Ok(Opened {
+        block: found.block,
+        slot: found.slot,
+        header,
+    })
 }
 
 /// What a fault in finding the slot is to the command.

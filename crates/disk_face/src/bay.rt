@@ -2,7 +2,7 @@
 ghost use Rattle.std.specs.Prelude.{◌≡◌, ◌≢◌, ◌↔◌, ℕ, Bool, true, false, List, [], Option, Some, None, Ok, OnErr, IfOk, IsTrue, IsFalse};
 ghost use Rattle.disk_face.specs.Counts.{HasCause};
 ghost use Rattle.disk_face.specs.Moments.{NoMore, Elapses};
-ghost use Rattle.disk_face.specs.Mounts.{Mount, is_mounted};
+ghost use Rattle.disk_face.specs.Mounts.{is_mounted};
 
 use crate::{Disk, DiskFault};
 
@@ -14,9 +14,6 @@ pub enum Mounted {
 }
 
 pub trait Bay: Disk {
-    /// The last mount that was answered, if any.
-    ghost last_mount: { Self → Option Mount };
-
     /// Whether it tells which names are there, and whether a name is.
     ghost tells_names: { Self → Bool };
 
@@ -24,9 +21,9 @@ pub trait Bay: Disk {
 
     /// Opens the file of that name, and makes it where it is not there and `make` is true.
     fn mount(&mut self, name: &str, make: bool) -> Result<Mounted, DiskFault>
-        requires { last_mount self.old ≡ None }
-        ensures mounted { IfOk result (λ answer. last_mount self.new ≡ Some (record { name = name.now; make = make; answer = answer })) }
-        ensures none { OnErr result (last_mount self.new ≡ None) }
+        requires { Self.last_mount self.old ≡ None }
+        ensures mounted { IfOk result (λ answer. Self.last_mount self.new ≡ Some (record { name = name.now; make = make; answer = answer })) }
+        ensures none { OnErr result (Self.last_mount self.new ≡ None) }
         ensures there { IsTrue (tells_names self.old) → IfOk result (λ answer. IsTrue (is_there self.old name.now) ↔ (answer ≡ Mounted.There)) }
         ensures made { result ≡ Ok Mounted.Made → IsTrue make × (IsTrue (Self.tells self.old) → Self.file self.new ≡ []) }
         ensures absent { result ≡ Ok Mounted.Absent → IsFalse make }
@@ -40,5 +37,5 @@ pub trait Bay: Disk {
         ensures names_told { tells_names self.new ≡ tells_names self.old };
 
     /// It is ready exactly where its last mount found or made a file.
-    ghost ready_if_mounted: { (bay : Self) → Self.is_ready bay ≡ is_mounted (last_mount bay) };
+    ghost ready_if_mounted: { (bay : Self) → Self.is_ready bay ≡ is_mounted (Self.last_mount bay) };
 }

@@ -57,7 +57,7 @@ pub fn choose<D: Disk>(disk: &mut D) -> Result<Found, SlotFault>
     ensures high { IfOk result (λ found. found.block.names ≤ 65536) }
     ensures slot { IfOk result (λ found. found.slot ≤ 1) }
     ensures cause { result ≡ Err SlotFault.Disk → Rose (D.faults disk.old) (D.faults disk.new) }
-    ensures frame { Unchanged D.tells D.file D.may_leave D.left_since D.turn D.faults D.is_ready D.tells_images disk.old disk.new }
+    ensures frame { Unchanged D.tells D.file D.may_leave D.left_since D.turn D.faults D.is_ready D.tells_images D.last_mount disk.old disk.new }
 {
     let block = formatted(disk)?;
     let first_open = gate_is_open(disk, gate_at(block.names, 0))?;
@@ -78,7 +78,7 @@ pub fn read_chosen_header<D: Disk>(disk: &mut D, found: &Found) -> Result<Header
     ensures count { IfOk result (λ header. header.count ≤ found.now.block.names) }
     ensures ranges { IfOk result (λ header. IsTrue (all_in_range header)) }
     ensures cause { result ≡ Err SlotFault.Disk → Rose (D.faults disk.old) (D.faults disk.new) }
-    ensures frame { Unchanged D.tells D.file D.may_leave D.left_since D.turn D.faults D.is_ready D.tells_images disk.old disk.new }
+    ensures frame { Unchanged D.tells D.file D.may_leave D.left_since D.turn D.faults D.is_ready D.tells_images D.last_mount disk.old disk.new }
 {
     let at = slot_at(found.block.names, found.slot);
     let mut bytes = [0u8; HEADER_LEN];
@@ -102,7 +102,7 @@ fn pick<D: Disk>(
     ensures block { IfOk result (λ found. found.block ≡ block) }
     ensures slot { IfOk result (λ found. found.slot ≤ 1) }
     ensures cause { result ≡ Err SlotFault.Disk → Rose (D.faults disk.old) (D.faults disk.new) }
-    ensures frame { Unchanged D.tells D.file D.may_leave D.left_since D.turn D.faults D.is_ready D.tells_images disk.old disk.new }
+    ensures frame { Unchanged D.tells D.file D.may_leave D.left_since D.turn D.faults D.is_ready D.tells_images D.last_mount disk.old disk.new }
 {
     if !first_open && !second_open {
         return Err(SlotFault::NoGate);
@@ -156,7 +156,7 @@ fn formatted<D: Disk>(disk: &mut D) -> Result<SuperBlock, SlotFault>
     ensures low { IfOk result (λ block. 16 ≤ block.names) }
     ensures high { IfOk result (λ block. block.names ≤ 65536) }
     ensures cause { result ≡ Err SlotFault.Disk → Rose (D.faults disk.old) (D.faults disk.new) }
-    ensures frame { Unchanged D.tells D.file D.may_leave D.left_since D.turn D.faults D.is_ready D.tells_images disk.old disk.new }
+    ensures frame { Unchanged D.tells D.file D.may_leave D.left_since D.turn D.faults D.is_ready D.tells_images D.last_mount disk.old disk.new }
 {
     let length = length_of(disk).map_err(|_| SlotFault::Disk)?;
     if length < SUPERBLOCK_LEN as u64 {
@@ -182,7 +182,7 @@ fn superblock<D: Disk>(disk: &mut D) -> Result<SuperBlock, SlotFault>
     ensures low { IfOk result (λ block. 16 ≤ block.names) }
     ensures high { IfOk result (λ block. block.names ≤ 65536) }
     ensures cause { result ≡ Err SlotFault.Disk → Rose (D.faults disk.old) (D.faults disk.new) }
-    ensures frame { Unchanged D.tells D.file D.may_leave D.left_since D.turn D.faults D.is_ready D.tells_images disk.old disk.new }
+    ensures frame { Unchanged D.tells D.file D.may_leave D.left_since D.turn D.faults D.is_ready D.tells_images D.last_mount disk.old disk.new }
 {
     let mut bytes = [0u8; SUPERBLOCK_LEN];
     read(disk, 0, &mut bytes).map_err(|_| SlotFault::Disk)?;
@@ -196,7 +196,7 @@ fn gate_is_open<D: Disk>(disk: &mut D, at: u64) -> Result<bool, SlotFault>
     ensures gate { IsTrue (D.tells disk.old) → IfOk result (λ b. b ≡ is_open (D.file disk.old) at) }
     ensures only { OnErr result (result ≡ Err SlotFault.Disk) }
     ensures cause { OnErr result (Rose (D.faults disk.old) (D.faults disk.new)) }
-    ensures frame { Unchanged D.tells D.file D.may_leave D.left_since D.turn D.faults D.is_ready D.tells_images disk.old disk.new }
+    ensures frame { Unchanged D.tells D.file D.may_leave D.left_since D.turn D.faults D.is_ready D.tells_images D.last_mount disk.old disk.new }
 {
     let mut gate = [0u8; 1];
     read(disk, at, &mut gate).map_err(|_| SlotFault::Disk)?;
@@ -213,7 +213,7 @@ fn sequence_of<D: Disk>(disk: &mut D, names: u64, slot: u8) -> Result<u64, SlotF
     ensures value { IsTrue (D.tells disk.old) → IfOk result (λ n. n ≡ sequence_at (D.file disk.old) names slot) }
     ensures only { OnErr result (result ≡ Err SlotFault.Disk) }
     ensures cause { OnErr result (Rose (D.faults disk.old) (D.faults disk.new)) }
-    ensures frame { Unchanged D.tells D.file D.may_leave D.left_since D.turn D.faults D.is_ready D.tells_images disk.old disk.new }
+    ensures frame { Unchanged D.tells D.file D.may_leave D.left_since D.turn D.faults D.is_ready D.tells_images D.last_mount disk.old disk.new }
 {
     let mut number = [0u8; 8];
     read(disk, slot_at(names, slot) + 8, &mut number).map_err(|_| SlotFault::Disk)?;

@@ -1,6 +1,5 @@
-use Rattle.std.proofs.Common.{rules, arith, sym, subst, IsTrue, ◌≡◌, ◌++◌, ◌+◌, ap}
+use Rattle.std.proofs.Common.{rules, arith, IsTrue}
 use Rattle.std.proofs.lemmas.Grind.{common_steps}
-use Rattle.byte_ranges.specs.Ranges.{bytes_at}
 use Rattle.disk_face.specs.Frames.{Unchanged-trans}
 use Rattle.costore_top.proofs.Pieces.{put_more, put_front}
 use Rattle.costore_top.proofs.copy.put_bytes.Goals as goal
@@ -10,13 +9,13 @@ pieces-preserved g c = record {
   within = omega arith;
   buffer = grind (arith, common_steps);
   put = λ told sink_told.
-    let here : IsTrue (g.D.Disk.tells c.pieces.disk) = grind (arith, c.pieces.invariant.frame.told) in
-    let there : IsTrue (g.O.Sink.tells c.pieces.output) = grind arith in
-    let first = c.pieces.invariant.put told sink_told in
-    let second = (c.in_ok-put_piece.ensures.put here there).all in
-    let same = c.pieces.invariant.frame.same_file told in
-    put_more (g.O.Sink.given c.args.output.now) (g.O.Sink.given c.pieces.output) (g.O.Sink.given c.put_piece.new.output) (g.D.Disk.file c.args.disk.now) c.args.at c.pieces.done c.min-n.result first (rw same at second);
-  frame = Unchanged-trans _ _ _ _ _ _ _ _ _ _ _ c.pieces.invariant.frame c.put_piece.ensures.frame;
+      let here : IsTrue (g.D.Disk.tells c.pieces.disk) = grind (arith, c.pieces.invariant.frame.told) in
+      let there : IsTrue (g.O.Sink.tells c.pieces.output) = grind arith in
+      let first = c.pieces.invariant.put told sink_told in
+      let second = (c.in_ok-put_piece.ensures.put here there).all in
+      let same = c.pieces.invariant.frame.same_file told in
+      put_more (g.O.Sink.given c.args.output.now) (g.O.Sink.given c.pieces.output) (g.O.Sink.given c.put_piece.new.output) (g.D.Disk.file c.args.disk.now) c.args.at c.pieces.done c.min-n.result first (rw same at second);
+  frame = Unchanged-trans _ _ _ _ _ _ _ _ _ _ _ _ c.pieces.invariant.frame c.put_piece.ensures.frame;
   sink_later = omega arith;
   sink_told = cc;
 }

@@ -1,5 +1,4 @@
-use Rattle.std.proofs.Common.{◌≡◌, Ok, Err, ap, sym, ◌∙◌, true, false}
-use Rattle.slot_codec.specs.Reading.{read_record}
+use Rattle.std.proofs.Common.{◌≡◌, Err, ap, sym, ◌∙◌, true, false}
 use Rattle.slot_codec.specs.Choice.{rises}
 use Rattle.costore_top.proofs.RecordTexts.{first_record-bad, first_record-order, first_record-good}
 use Rattle.costore_top.proofs.records.record_after.Goals as goal
