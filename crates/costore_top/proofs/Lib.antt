@@ -4,3 +4,4 @@ mod Passing
 mod Judging
 mod Stops
 mod Answering
+mod Statuses

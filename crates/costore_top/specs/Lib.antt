@@ -3,3 +3,4 @@ pub mod Getting
 pub mod Opened
 pub mod Passes
 pub mod Answers
+pub mod Outcomes

@@ -8,7 +8,7 @@ ghost use Rattle.slot_codec.specs.Reading.{all_in_range};
 ghost use Rattle.slot_codec.specs.Choice.{chosen};
 ghost use Rattle.costore_top.specs.Opened.{chosen_of};
 ghost use Rattle.costore_top.specs.Getting.{answer_of, spot_of, StopsAs};
-ghost use Rattle.costore_top.specs.Answers.{PutsAnswer};
+ghost use Rattle.costore_top.specs.Answers.{IsFront, IsOfDevice, bytes_of};
 
 use crate::Stop;
 use crate::copy::put_bytes;
@@ -23,7 +23,10 @@ pub fn get<D: Disk, O: Sink>(disk: &mut D, name: &Name, output: &mut O) -> Resul
     requires ready { IsTrue (D.is_ready disk.old) }
     ensures answer { IsTrue (D.tells disk.old) → OnOk result (IsOk (answer_of name.now (D.file disk.old))) }
     ensures stopped { IsTrue (D.tells disk.old) → IfErr result (StopsAs (answer_of name.now (D.file disk.old))) }
-    ensures put { IsTrue (D.tells disk.old) → IsTrue (O.tells output.old) → PutsAnswer (O.given output.old) (O.given output.new) (answer_of name.now (D.file disk.old)) result }
+    ensures put { IsTrue (D.tells disk.old) → IsTrue (O.tells output.old) → OnOk result (O.given output.new ≡ O.given output.old ++ bytes_of (answer_of name.now (D.file disk.old))) }
+    ensures front { IsTrue (D.tells disk.old) → IsTrue (O.tells output.old) → IsFront (O.given output.old) (O.given output.new) (bytes_of (answer_of name.now (D.file disk.old))) }
+    ensures sink_found { IsTrue (D.tells disk.old) → result ≡ Err Stop.Sink → IsOk (answer_of name.now (D.file disk.old)) }
+    ensures nothing_put { IfErr result (λ why. IsOfDevice why ⊎ (output.new ≡ output.old)) }
     ensures disk_cause { result ≡ Err Stop.Disk → Rose (D.faults disk.old) (D.faults disk.new) }
     ensures sink_cause { result ≡ Err Stop.Sink → Rose (O.faults output.old) (O.faults output.new) }
     ensures frame { Unchanged D.tells D.file D.may_leave D.left_since D.turn D.faults D.is_ready D.tells_images D.last_mount disk.old disk.new }

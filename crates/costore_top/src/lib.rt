@@ -7,7 +7,8 @@ mod pass;
 mod records;
 mod stop;
 mod table;
+mod top;
 mod words;
 
 pub use stop::{Stop, StoreFault};
-pub use words::read_words;
+pub use top::{Outcome, costore};
