@@ -14,6 +14,8 @@ mod lengths;
 mod name;
 mod read;
 mod roll;
+#[cfg(test)]
+mod tests;
 
 pub use codec::{CodecFault, Header, Kind, NoMemory, Record, SuperBlock};
 pub use header::read_header;
