@@ -10,20 +10,7 @@ use Rattle.slot_codec.specs.declared.codec.Header.{Header}
 use Rattle.slot_codec.specs.declared.codec.CodecFault.{CodecFault}
 use Rattle.slot_codec.specs.Choice.{Chosen, Table, chosen, records_of, records_at, records_text, table_of, read_records, SlotRefusal, InUse, pick, placed_at, is_open, sequence_at, slot_in_use, too_short, unformatted}
 use Rattle.slot_codec.specs.declared.codec.SuperBlock.{SuperBlock}
-
-bind_ok : {A B E : Type 0} (r : Result A E) (f : A → Result B E) (y : B) → (r >>= f) ≡ Ok y → (x : A) × (r ≡ Ok x) × (f x ≡ Ok y)
-bind_ok (Ok x) f y h = (x, refl, h)
-bind_ok (Err e) f y h = cc
-
-bind_from : {A B E : Type 0} (r : Result A E) (f : A → Result B E) (x : A) → r ≡ Ok x → (r >>= f) ≡ f x
-bind_from r f x e = ap (λ z. z >>= f) e
-
-guard_ok : {A E : Type 0} (b : Bool) (e : E) (z : Result A E) (y : A) → cond b (Err e) z ≡ Ok y → (b ≡ false) × (z ≡ Ok y)
-guard_ok true e z y h = cc
-guard_ok false e z y h = (refl, h)
-
-guard_from : {A E : Type 0} (b : Bool) (e : E) (z : Result A E) → b ≡ false → cond b (Err e) z ≡ z
-guard_from b e z h = ap (λ x. cond x (Err e) z) h
+use Rattle.slot_codec.specs.StepLaws.{bind_ok, bind_from, guard_ok, guard_from, from_ok}
 
 abbrev block_or : SuperBlock → Result InUse SlotRefusal → SuperBlock
 block_or block (Ok v) = v.block
@@ -160,13 +147,6 @@ placed_ok at (Ok y) x h = ap (unplaced y) h
     unplaced y (Ok z) = Ok z
     unplaced y (Err e) = Ok y
 placed_ok at (Err f) x h = cc
-
-from_ok : {A E : Type 0} (x y : A) → ◌≡◌ {A = Result A E} (Ok x) (Ok y) → x ≡ y
-from_ok {A} {E} x y h = ap (value_or x) h
-  where
-    value_or : {A E : Type 0} → A → Result A E → A
-    value_or x (Ok z) = z
-    value_or x (Err e) = x
 
 -- what the choice consists of
 pub record ChosenParts (a : List ℕ) (c : Chosen) : Type 0 where
