@@ -3,6 +3,8 @@ pub mod Spelling
 pub mod Reading
 pub mod StepLaws
 pub mod PartLaws
+pub mod Readable
+pub mod SuperBlockLaws
 pub mod Choice
 pub mod ChoiceLaws
 pub mod Rolls
