@@ -5,6 +5,8 @@ pub mod StepLaws
 pub mod PartLaws
 pub mod Readable
 pub mod SuperBlockLaws
+pub mod RecordLaws
+pub mod HeaderLaws
 pub mod Choice
 pub mod ChoiceLaws
 pub mod Rolls
