@@ -6,7 +6,8 @@ use Rattle.std.specs.List.{list_all}
 use Rattle.std.specs.Prelude.{flat_map, nat_le, nat_lt, slice_index, slice_index_or, Ok, Err}
 use Rattle.byte_ranges.specs.Lists.{below, counting_from, length-map_below}
 use Rattle.byte_ranges.specs.Ranges.{bytes_at, length-bytes_at}
-use Rattle.slot_codec.specs.PartLaws.{StandsAt, bytes_at-more, length-numbers, number_spelled, numbers_spelled, stands_bytes, stands_index, stands_left, stands_number, stands_numbers, stands_right, stands_whole, zeros_are_zeros, zeros_spelled}
+use Rattle.slot_codec.specs.PartLaws.{StandsAt, bytes_at-grown, bytes_at-more, length-numbers, number_spelled, numbers_spelled, stands_bytes, stands_index, stands_left, stands_number, stands_numbers, stands_right, stands_whole, zeros_are_zeros, zeros_spelled}
+use Rattle.slot_codec.specs.TableLaws.{below_at, length-below}
 use Rattle.slot_codec.specs.Readable.{IsHeader}
 use Rattle.slot_codec.specs.Reading.{all_in_range, are_zeros, header_of, is_in_range, kind_of, number_at, numbers_at, read_header, worn_from}
 use Rattle.slot_codec.specs.Spelling.{AreBytes, header_bytes, header_front, kind_code, number, zeros}
@@ -84,3 +85,86 @@ kind_of-code Moving = refl
 code_low : (kind : Kind) → kind_code kind ≤ 1
 code_low Settled = omega arith
 code_low Moving = omega arith
+
+worn_low : (kind : Kind) → worn_from kind ≤ 2 ^ 62
+worn_low Settled = omega arith
+worn_low Moving = omega arith
+
+pub header_parts : (names : ℕ) (bytes : List ℕ) (h : Header) → AreBytes bytes → read_header names bytes ≡ Ok h → HeaderParts names bytes h
+unfolding read_header
+header_parts names bytes h are read =
+    let o = header_of bytes in
+    let a = guard_ok (not (slice_index bytes 0 == 1)) _ _ h read in
+    let b = guard_ok (nat_lt 1 (slice_index bytes 1)) _ _ h a.1 in
+    let c = guard_ok (not (are_zeros (bytes_at bytes 3 5))) _ _ h b.1 in
+    let d = guard_ok (nat_le (worn_from o.kind) o.sequence) _ _ h c.1 in
+    let e = guard_ok (nat_lt names o.count) _ _ h d.1 in
+    let f = guard_ok (not (all_in_range o)) _ _ h e.1 in
+    let fits : IsHeader names o =
+        record {
+          boundary = are 2;
+          sequence = leb-false (worn_from o.kind) o.sequence d.0;
+          count = ltb-false names o.count e.0;
+          ranges = not-false _ f.0;
+          caps_full = length-below (λ i. number_at bytes (40 + 8 * i)) 32;
+          used_full = length-below (λ j. numbers_at 32 bytes (296 + 256 * j)) 32;
+          rows_full = λ j low. ap length (below_at (λ j. numbers_at 32 bytes (296 + 256 * j)) 32 j [] low) ∙ length-below (λ i. number_at bytes (296 + 256 * j + 8 * i)) 32;
+        }
+    in
+    let parts : HeaderParts names bytes o =
+        record {
+          version = eqb-true (slice_index bytes 0) 1 (not-false _ a.0);
+          kind = kind_code-of (slice_index bytes 1) (ltb-false 1 (slice_index bytes 1) b.0);
+          boundary = refl;
+          padding = not-false _ c.0;
+          sequence = refl;
+          count = refl;
+          wall = refl;
+          slack = refl;
+          caps = refl;
+          used = refl;
+          fits = fits;
+        }
+    in
+    rw (← from_ok o h f.1) parts
+
+first_three : (b : List ℕ) → 3 ≤ length b → bytes_at b 0 3 ≡ slice_index b 0 ∷ slice_index b 1 ∷ slice_index b 2 ∷ []
+first_three b long =
+    let third = drop-cons b 2 0 (omega (arith, long)) in
+    let second = drop-cons b 1 0 (omega (arith, long)) ∙ ap (λ xs. slice_index b 1 ∷ xs) third in
+    ap (take 3) (drop-cons b 0 0 (omega (arith, long)) ∙ ap (λ xs. slice_index b 0 ∷ xs) second)
+
+-- what is read as a header is its spelling
+pub header_spelled : (names : ℕ) (bytes : List ℕ) (h : Header) → length bytes ≡ 8488 → AreBytes bytes → read_header names bytes ≡ Ok h → bytes ≡ header_bytes h
+header_spelled names bytes h long are read =
+    let p = header_parts names bytes h are read in
+    let three : bytes_at bytes 0 3 ≡ 1 ∷ kind_code h.kind ∷ h.boundary ∷ [] = first_three bytes (omega (arith, long)) ∙ λ i. p.version i ∷ p.kind i ∷ p.boundary i ∷ [] in
+    let padding : bytes_at bytes 3 5 ≡ zeros 5 = zeros_spelled (bytes_at bytes 3 5) p.padding ∙ ap zeros (length-bytes_at bytes 3 5 (omega (arith, long))) in
+    let sequence : bytes_at bytes 8 8 ≡ number h.sequence = sym (number_spelled bytes 8 are (omega (arith, long))) ∙ ap number p.sequence in
+    let count : bytes_at bytes 16 8 ≡ number h.count = sym (number_spelled bytes 16 are (omega (arith, long))) ∙ ap number p.count in
+    let wall : bytes_at bytes 24 8 ≡ number h.wall = sym (number_spelled bytes 24 are (omega (arith, long))) ∙ ap number p.wall in
+    let slack : bytes_at bytes 32 8 ≡ number h.slack = sym (number_spelled bytes 32 are (omega (arith, long))) ∙ ap number p.slack in
+    let caps : bytes_at bytes 40 256 ≡ flat_map number h.caps = sym (row_spelled bytes 40 are (omega (arith, long))) ∙ ap (flat_map number) p.caps in
+    let used : bytes_at bytes 296 8192 ≡ flat_map (flat_map number) h.used = sym (used_spelled bytes are long) ∙ ap (flat_map (flat_map number)) p.used in
+    sym (take_all 8488 bytes (omega (arith, long)))
+    ∙ bytes_at-grown bytes 296 8192 _ _ (bytes_at-grown bytes 40 256 _ _ (bytes_at-grown bytes 32 8 _ _ (bytes_at-grown bytes 24 8 _ _ (bytes_at-grown bytes 16 8 _ _ (bytes_at-grown bytes 8 8 _ _ (bytes_at-grown bytes 3 5 _ _ three padding) sequence) count) wall) slack) caps) used
+
+-- and what has these parts is read
+pub header_from_parts : (names : ℕ) (bytes : List ℕ) (h : Header) → HeaderParts names bytes h → read_header names bytes ≡ Ok h
+unfolding read_header
+header_from_parts names bytes h p =
+    let kind : kind_of (slice_index bytes 1) ≡ h.kind = ap kind_of p.kind ∙ kind_of-code h.kind in
+    let is : header_of bytes ≡ h =
+        λ i. record { kind = kind i; boundary = p.boundary i; sequence = p.sequence i; count = p.count i; wall = p.wall i; slack = p.slack i; caps = p.caps i; used = p.used i }
+    in
+    let version : (slice_index bytes 0 == 1) ≡ true = ap (λ x. x == 1) p.version in
+    let code : nat_lt 1 (slice_index bytes 1) ≡ false = le-ltb 1 _ (omega (arith, p.kind, code_low h.kind)) in
+    let fresh : nat_le (worn_from (header_of bytes).kind) (header_of bytes).sequence ≡ false = ap (λ x. nat_le (worn_from x.kind) x.sequence) is ∙ lt-leb (worn_from h.kind) h.sequence p.fits.sequence in
+    let few : nat_lt names (header_of bytes).count ≡ false = ap (λ x. nat_lt names x.count) is ∙ le-ltb names h.count p.fits.count in
+    guard_from _ fault.Version _ (not_from_true _ version)
+    ∙ guard_from _ fault.Kind _ code
+    ∙ guard_from _ fault.Zeros _ (not_from_true _ p.padding)
+    ∙ guard_from _ fault.Worn _ fresh
+    ∙ guard_from _ fault.Count _ few
+    ∙ guard_from _ fault.Range _ (not_from_true _ (ap all_in_range is ∙ p.fits.ranges))
+    ∙ ap (λ x. Ok x) is

@@ -2,6 +2,7 @@ pub mod Names
 pub mod Spelling
 pub mod Reading
 pub mod StepLaws
+pub mod TableLaws
 pub mod PartLaws
 pub mod Readable
 pub mod SuperBlockLaws

@@ -16,6 +16,12 @@ use Rattle.slot_codec.specs.Reading.{are_zeros, is_in_range, number_at}
 pub bytes_at-more : (b : List ℕ) (at n m : ℕ) → bytes_at b at n ++ bytes_at b (at + n) m ≡ bytes_at b at (n + m)
 bytes_at-more b at n m = ap (λ xs. take n (drop at b) ++ take m xs) (sym (drop-drop n at b)) ∙ sym (take-add n m (drop at b))
 
+-- a part that grows at its end
+pub bytes_at-grown : (b : List ℕ) (n m : ℕ) (front part : List ℕ) → bytes_at b 0 n ≡ front → bytes_at b n m ≡ part → bytes_at b 0 (n + m) ≡ front ++ part
+bytes_at-grown b n m front part e f =
+    let at : 0 + n ≡ n = omega arith in
+    sym (bytes_at-more b 0 n m) ∙ ap (λ xs. xs ++ bytes_at b (0 + n) m) e ∙ ap (λ k. front ++ bytes_at b k m) at ∙ ap (λ xs. front ++ xs) f
+
 bytes_at-byte : (b : List ℕ) (at n : ℕ) → AreBytes b → (i : ℕ) → (i < n) ⊎ (n ≤ i) → slice_index (bytes_at b at n) i < 256
 bytes_at-byte b at n bytes i (inl low) = rw (bytes_at-index b at n i low) (bytes (at + i))
 bytes_at-byte b at n bytes i (inr high) =
