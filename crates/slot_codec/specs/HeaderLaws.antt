@@ -168,3 +168,54 @@ header_from_parts names bytes h p =
     ∙ guard_from _ fault.Count _ few
     ∙ guard_from _ fault.Range _ (not_from_true _ (ap all_in_range is ∙ p.fits.ranges))
     ∙ ap (λ x. Ok x) is
+
+stands_used : (b : List ℕ) (h : Header) (names : ℕ) → IsHeader names h → list_all (list_all is_in_range) h.used ≡ true → StandsAt b 296 (flat_map (flat_map number) h.used) → map (λ j. numbers_at 32 b (296 + 256 * j)) (below 32) ≡ h.used
+unfolding below
+stands_used b h names fits low stands =
+    ap (λ n. map (λ j. numbers_at 32 b (296 + 256 * j)) (counting_from 0 n)) (sym fits.used_full)
+    ∙ stands_rows b 0 h.used (λ j below. fits.rows_full j (omega (arith, below, fits.used_full))) low stands
+
+-- what has the spelling of a header at its start has these parts
+pub header_stands : (names : ℕ) (b : List ℕ) (h : Header) → names < 2 ^ 64 → IsHeader names h → StandsAt b 0 (header_bytes h) → HeaderParts names b h
+header_stands names b h few fits all =
+    let caps = flat_map number h.caps in
+    let used = flat_map (flat_map number) h.used in
+    let three = 1 ∷ kind_code h.kind ∷ h.boundary ∷ [] in
+    let to_padding = three ++ zeros 5 in
+    let to_sequence = to_padding ++ number h.sequence in
+    let to_count = to_sequence ++ number h.count in
+    let to_wall = to_count ++ number h.wall in
+    let front = to_wall ++ number h.slack in
+    let low = and_parts (is_in_range h.wall && is_in_range h.slack && list_all is_in_range h.caps) (list_all (list_all is_in_range) h.used) fits.ranges in
+    let low_caps = and_parts (is_in_range h.wall && is_in_range h.slack) (list_all is_in_range h.caps) low.0 in
+    let low_wall = and_parts (is_in_range h.wall) (is_in_range h.slack) low_caps.0 in
+    let fresh : h.sequence < 2 ^ 64 = omega (arith, fits.sequence, worn_low h.kind) in
+    let counted : h.count < 2 ^ 64 = omega (arith, fits.count, few) in
+    let wall_low : h.wall < 2 ^ 64 = omega (arith, ltb-true h.wall (2 ^ 48) low_wall.0) in
+    let slack_low : h.slack < 2 ^ 64 = omega (arith, ltb-true h.slack (2 ^ 48) low_wall.1) in
+    let end : 0 + length (front ++ caps) ≡ 296 = omega (arith, length-append front caps, length-numbers h.caps, fits.caps_full) in
+    let seven = stands_left b 0 (front ++ caps) used all in
+    let six = stands_left b 0 front caps seven in
+    let five = stands_left b 0 to_wall (number h.slack) six in
+    let four = stands_left b 0 to_count (number h.wall) five in
+    let to_three = stands_left b 0 to_sequence (number h.count) four in
+    let two = stands_left b 0 to_padding (number h.sequence) to_three in
+    let one = stands_left b 0 three (zeros 5) two in
+    let padding : bytes_at b 3 5 ≡ zeros 5 = stands_bytes b 3 5 (zeros 5) refl (stands_right b 0 3 three (zeros 5) refl two) in
+    record {
+      version = stands_index b 0 1 (kind_code h.kind ∷ h.boundary ∷ []) one;
+      kind = stands_index b 1 (kind_code h.kind) (h.boundary ∷ []) (stands_right b 0 1 (1 ∷ []) (kind_code h.kind ∷ h.boundary ∷ []) refl one);
+      boundary = stands_index b 2 h.boundary [] (stands_right b 0 2 (1 ∷ kind_code h.kind ∷ []) (h.boundary ∷ []) refl one);
+      padding = ap are_zeros padding ∙ zeros_are_zeros 5;
+      sequence = stands_number b 8 h.sequence fresh (stands_right b 0 8 to_padding (number h.sequence) refl to_three);
+      count = stands_number b 16 h.count counted (stands_right b 0 16 to_sequence (number h.count) refl four);
+      wall = stands_number b 24 h.wall wall_low (stands_right b 0 24 to_count (number h.wall) refl five);
+      slack = stands_number b 32 h.slack slack_low (stands_right b 0 32 to_wall (number h.slack) refl six);
+      caps = stands_row b 40 h.caps fits.caps_full low_caps.1 (stands_right b 0 40 front caps refl seven);
+      used = stands_used b h names fits low.1 (stands_right b 0 296 (front ++ caps) used end all);
+      fits = fits;
+    }
+
+-- the spelling of a header in range is read as it
+pub header_read : (names : ℕ) (h : Header) → names < 2 ^ 64 → IsHeader names h → read_header names (header_bytes h) ≡ Ok h
+header_read names h few fits = header_from_parts names (header_bytes h) h (header_stands names (header_bytes h) h few fits (stands_whole (header_bytes h)))
