@@ -1,16 +1,16 @@
 -- A header has one spelling, and reading is its inverse.
-use Rattle.std.proofs.Common.{◌≡◌, ℕ, zero, suc, ◌+◌, ◌-◌, ◌*◌, ◌<◌, ◌≤◌, ◌^◌, ◌==◌, Bool, true, false, not, ◌&&◌, List, [], ◌∷◌, ◌++◌, length, take, drop, map, refl, sym, ap, ◌∙◌, arith, eqb, drop-cons, length-append}
-use Rattle.std.proofs.lemmas.Bool.{and_from, and_parts, eqb-true, le-ltb, leb-false, lt-leb, ltb-false, ltb-true, not-false, not_from_true}
-use Rattle.std.proofs.lemmas.List.{take_all, length-map, length-replicate}
+use Rattle.std.proofs.Common.{◌≡◌, ℕ, zero, suc, ◌+◌, ◌*◌, ◌<◌, ◌≤◌, ◌^◌, ◌==◌, true, false, not, ◌&&◌, List, [], ◌∷◌, ◌++◌, length, take, map, refl, sym, ap, ◌∙◌, arith, drop-cons, length-append}
+use Rattle.std.proofs.lemmas.Bool.{and_parts, eqb-true, le-ltb, leb-false, lt-leb, ltb-false, ltb-true, not-false, not_from_true}
+use Rattle.std.proofs.lemmas.List.{take_all}
 use Rattle.std.specs.List.{list_all}
-use Rattle.std.specs.Prelude.{flat_map, nat_le, nat_lt, slice_index, slice_index_or, Ok, Err}
-use Rattle.byte_ranges.specs.Lists.{below, counting_from, length-map_below}
+use Rattle.std.specs.Prelude.{flat_map, nat_le, nat_lt, slice_index, slice_index_or, Ok}
+use Rattle.byte_ranges.specs.Lists.{below, counting_from}
 use Rattle.byte_ranges.specs.Ranges.{bytes_at, length-bytes_at}
 use Rattle.slot_codec.specs.PartLaws.{StandsAt, bytes_at-grown, bytes_at-more, length-numbers, number_spelled, numbers_spelled, stands_bytes, stands_index, stands_left, stands_number, stands_numbers, stands_right, stands_whole, zeros_are_zeros, zeros_spelled}
 use Rattle.slot_codec.specs.TableLaws.{below_at, length-below}
 use Rattle.slot_codec.specs.Readable.{IsHeader}
 use Rattle.slot_codec.specs.Reading.{all_in_range, are_zeros, header_of, is_in_range, kind_of, number_at, numbers_at, read_header, worn_from}
-use Rattle.slot_codec.specs.Spelling.{AreBytes, header_bytes, header_front, kind_code, number, zeros}
+use Rattle.slot_codec.specs.Spelling.{AreBytes, header_bytes, kind_code, number, zeros}
 use Rattle.slot_codec.specs.StepLaws.{from_ok, guard_from, guard_ok}
 use Rattle.slot_codec.specs.declared.codec.Header.{Header}
 use Rattle.slot_codec.specs.declared.codec.Kind.{Kind}

@@ -1,5 +1,5 @@
 -- Parts of byte strings: what stands where, and numbers and zeros that stand there.
-use Rattle.std.proofs.Common.{inl, inr, ◌⊎◌, ◌≡◌, ℕ, zero, suc, ◌+◌, ◌-◌, ◌*◌, ◌<◌, ◌≤◌, ◌^◌, true, List, [], ◌∷◌, ◌++◌, length, take, drop, map, replicate, refl, sym, ap, ◌∙◌, arith, eqb, append_assoc}
+use Rattle.std.proofs.Common.{inl, inr, ◌⊎◌, ◌≡◌, ℕ, zero, suc, ◌+◌, ◌*◌, ◌<◌, ◌≤◌, ◌^◌, true, List, [], ◌∷◌, ◌++◌, length, take, drop, map, refl, sym, ap, ◌∙◌, arith, eqb, append_assoc}
 use Rattle.std.proofs.lemmas.Bool.{and_parts, eqb-true, cases_lt, ltb-true}
 use Rattle.std.proofs.lemmas.List.{append-nil, drop-drop, get_or-drop, get_or_past, length-take}
 use Rattle.std.proofs.lemmas.Nat.{le_bytes_8, from_le_bytes-to_le_bytes_8}

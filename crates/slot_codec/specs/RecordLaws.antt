@@ -1,9 +1,9 @@
 -- A record has one spelling, and reading is its inverse.
-use Rattle.std.proofs.Common.{◌≡◌, ℕ, suc, ◌+◌, ◌-◌, ◌<◌, ◌≤◌, ◌^◌, Bool, true, false, not, ◌&&◌, ◌||◌, List, [], ◌∷◌, ◌++◌, length, take, drop, refl, sym, ap, ◌∙◌, arith, drop-cons, length-append}
+use Rattle.std.proofs.Common.{◌≡◌, ℕ, ◌+◌, ◌-◌, ◌<◌, ◌≤◌, ◌^◌, true, false, not, ◌&&◌, ◌||◌, List, [], ◌∷◌, ◌++◌, length, take, refl, sym, ap, ◌∙◌, arith, drop-cons, length-append}
 use Rattle.std.proofs.lemmas.Bool.{and_from, and_parts, le-ltb, leb-true, lt-ltb, ltb-false, ltb-true, not-false, not_from_true, or_from, or_parts}
 use Rattle.std.proofs.lemmas.List.{take_all, length-replicate}
 use Rattle.std.specs.List.{list_all}
-use Rattle.std.specs.Prelude.{nat_le, nat_lt, slice_index, Ok, Err}
+use Rattle.std.specs.Prelude.{nat_le, nat_lt, slice_index, Ok}
 use Rattle.byte_ranges.specs.Ranges.{bytes_at, length-bytes_at}
 use Rattle.slot_codec.specs.Names.{is_name, is_name_byte, IsName}
 use Rattle.slot_codec.specs.PartLaws.{StandsAt, bytes_at-more, number_spelled, stands_bytes, stands_index, stands_left, stands_number, stands_right, stands_whole, zeros_are_zeros, zeros_spelled}

@@ -1,11 +1,11 @@
 -- A superblock has one spelling, and reading is its inverse.
-use Rattle.std.proofs.Common.{◌≡◌, ℕ, ◌+◌, ◌<◌, ◌≤◌, ◌^◌, Bool, true, false, not, ◌||◌, List, ◌++◌, length, take, refl, sym, ap, ◌∙◌, arith}
+use Rattle.std.proofs.Common.{◌≡◌, ℕ, true, false, not, ◌||◌, List, ◌++◌, length, take, refl, sym, ap, ◌∙◌, arith}
 use Rattle.std.proofs.lemmas.Bool.{le-ltb, ltb-false, not-false, not_from_true, or_from, or_parts}
-use Rattle.std.proofs.lemmas.List.{take_all, length-replicate}
+use Rattle.std.proofs.lemmas.List.{take_all}
 use Rattle.std.proofs.lemmas.Slice.Eq.{bytes_eq-Decides}
-use Rattle.std.specs.Prelude.{nat_lt, codes, bytes_eq, Ok, Err}
+use Rattle.std.specs.Prelude.{nat_lt, codes, bytes_eq, Ok}
 use Rattle.byte_ranges.specs.Ranges.{bytes_at, length-bytes_at}
-use Rattle.slot_codec.specs.PartLaws.{StandsAt, bytes_at-more, number_spelled, stands_bytes, stands_left, stands_number, stands_right, stands_whole, zeros_are_zeros, zeros_spelled}
+use Rattle.slot_codec.specs.PartLaws.{bytes_at-more, number_spelled, stands_bytes, stands_left, stands_number, stands_right, stands_whole, zeros_are_zeros, zeros_spelled}
 use Rattle.slot_codec.specs.Readable.{IsSuperBlock}
 use Rattle.slot_codec.specs.Reading.{are_zeros, number_at, read_superblock}
 use Rattle.slot_codec.specs.Spelling.{AreBytes, number, superblock_bytes, zeros}

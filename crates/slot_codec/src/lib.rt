@@ -12,10 +12,12 @@ mod fields;
 mod header;
 mod lengths;
 mod name;
+mod put;
 mod read;
 mod roll;
 #[cfg(test)]
 mod tests;
+mod write;
 
 pub use codec::{CodecFault, Header, Kind, NoMemory, Record, SuperBlock};
 pub use header::read_header;
@@ -23,6 +25,7 @@ pub use lengths::{GATE_OPEN, HEADER_LEN, RECORD_LEN, SUPERBLOCK_LEN, head_len, s
 pub use name::Name;
 pub use read::{read_record, read_superblock};
 pub use roll::Roll;
+pub use write::{write_header, write_record, write_superblock};
 
 /// A file that is too short has no table.
 #[tactic(auto, unfolding(crate::specs::Choice::table_of))]
