@@ -1,5 +1,5 @@
 -- A header has one spelling, and reading is its inverse.
-use Rattle.std.proofs.Common.{◌≡◌, ℕ, zero, suc, ◌+◌, ◌*◌, ◌<◌, ◌≤◌, ◌^◌, ◌==◌, true, false, not, ◌&&◌, List, [], ◌∷◌, ◌++◌, length, take, map, refl, sym, ap, ◌∙◌, arith, drop-cons, length-append}
+use Rattle.std.proofs.Common.{◌≡◌, ◌↔◌, ℕ, zero, suc, ◌+◌, ◌*◌, ◌<◌, ◌≤◌, ◌^◌, ◌==◌, true, false, not, ◌&&◌, List, [], ◌∷◌, ◌++◌, length, take, map, refl, sym, ap, ◌∙◌, arith, drop-cons, length-append}
 use Rattle.std.proofs.lemmas.Bool.{and_parts, eqb-true, le-ltb, leb-false, lt-leb, ltb-false, ltb-true, not-false, not_from_true}
 use Rattle.std.proofs.lemmas.List.{take_all}
 use Rattle.std.specs.List.{list_all}
@@ -219,3 +219,8 @@ header_stands names b h few fits all =
 -- the spelling of a header in range is read as it
 pub header_read : (names : ℕ) (h : Header) → names < 2 ^ 64 → IsHeader names h → read_header names (header_bytes h) ≡ Ok h
 header_read names h few fits = header_from_parts names (header_bytes h) h (header_stands names (header_bytes h) h few fits (stands_whole (header_bytes h)))
+
+-- bytes are read as a header exactly where they are the spelling of one in range
+pub header_exact : (names : ℕ) (bytes : List ℕ) (h : Header) → names < 2 ^ 64 → length bytes ≡ 8488 → AreBytes bytes → (read_header names bytes ≡ Ok h) ↔ (IsHeader names h × (bytes ≡ header_bytes h))
+header_exact names bytes h few long are =
+    (λ read. ((header_parts names bytes h are read).fits, header_spelled names bytes h long are read), λ s. ap (read_header names) s.1 ∙ header_read names h few s.0)

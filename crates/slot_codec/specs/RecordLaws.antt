@@ -1,5 +1,5 @@
 -- A record has one spelling, and reading is its inverse.
-use Rattle.std.proofs.Common.{◌≡◌, ℕ, ◌+◌, ◌-◌, ◌<◌, ◌≤◌, ◌^◌, true, false, not, ◌&&◌, ◌||◌, List, [], ◌∷◌, ◌++◌, length, take, refl, sym, ap, ◌∙◌, arith, drop-cons, length-append}
+use Rattle.std.proofs.Common.{◌≡◌, ◌↔◌, ℕ, ◌+◌, ◌-◌, ◌<◌, ◌≤◌, ◌^◌, true, false, not, ◌&&◌, ◌||◌, List, [], ◌∷◌, ◌++◌, length, take, refl, sym, ap, ◌∙◌, arith, drop-cons, length-append}
 use Rattle.std.proofs.lemmas.Bool.{and_from, and_parts, le-ltb, leb-true, lt-ltb, ltb-false, ltb-true, not-false, not_from_true, or_from, or_parts}
 use Rattle.std.proofs.lemmas.List.{take_all, length-replicate}
 use Rattle.std.specs.List.{list_all}
@@ -128,3 +128,8 @@ record_stands bytes r fits all =
 -- the spelling of a record in range is read as it
 pub record_read : (r : Record) → IsRecord r → read_record (record_bytes r) ≡ Ok r
 record_read r fits = record_from_parts (record_bytes r) r (record_stands (record_bytes r) r fits (stands_whole (record_bytes r)))
+
+-- bytes are read as a record exactly where they are the spelling of one in range
+pub record_exact : (bytes : List ℕ) (r : Record) → length bytes ≡ 80 → AreBytes bytes → (read_record bytes ≡ Ok r) ↔ (IsRecord r × (bytes ≡ record_bytes r))
+record_exact bytes r long are =
+    (λ h. ((record_parts bytes r long h).fits, record_spelled bytes r long are h), λ s. ap read_record s.1 ∙ record_read r s.0)

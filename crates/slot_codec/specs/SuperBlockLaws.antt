@@ -1,5 +1,5 @@
 -- A superblock has one spelling, and reading is its inverse.
-use Rattle.std.proofs.Common.{◌≡◌, ℕ, true, false, not, ◌||◌, List, ◌++◌, length, take, refl, sym, ap, ◌∙◌, arith}
+use Rattle.std.proofs.Common.{◌≡◌, ◌↔◌, ℕ, true, false, not, ◌||◌, List, ◌++◌, length, take, refl, sym, ap, ◌∙◌, arith}
 use Rattle.std.proofs.lemmas.Bool.{le-ltb, ltb-false, not-false, not_from_true, or_from, or_parts}
 use Rattle.std.proofs.lemmas.List.{take_all}
 use Rattle.std.proofs.lemmas.Slice.Eq.{bytes_eq-Decides}
@@ -95,3 +95,8 @@ superblock_read block fits =
       padding = ap are_zeros padding ∙ zeros_are_zeros 40;
       fits = fits;
     }
+
+-- bytes are read as a superblock exactly where they are the spelling of one in range
+pub superblock_exact : (bytes : List ℕ) (block : SuperBlock) → length bytes ≡ 64 → AreBytes bytes → (read_superblock bytes ≡ Ok block) ↔ (IsSuperBlock block × (bytes ≡ superblock_bytes block))
+superblock_exact bytes block long are =
+    (λ h. ((superblock_parts bytes block h).fits, superblock_spelled bytes block long are h), λ s. ap read_superblock s.1 ∙ superblock_read block s.0)

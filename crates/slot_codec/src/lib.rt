@@ -10,6 +10,7 @@ ghost use Rattle.slot_codec.specs.Choice.{too_short, table_of, slot_in_use, InUs
 mod codec;
 mod fields;
 mod header;
+mod laws;
 mod lengths;
 mod name;
 mod put;
@@ -21,6 +22,9 @@ mod write;
 
 pub use codec::{CodecFault, Header, Kind, NoMemory, Record, SuperBlock};
 pub use header::read_header;
+pub use laws::{
+    a_header_has_one_spelling, a_record_has_one_spelling, a_superblock_has_one_spelling,
+};
 pub use lengths::{GATE_OPEN, HEADER_LEN, RECORD_LEN, SUPERBLOCK_LEN, head_len, slot_len};
 pub use name::Name;
 pub use read::{read_record, read_superblock};

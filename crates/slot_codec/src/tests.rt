@@ -1,4 +1,4 @@
-//! The readers over bytes made by hand: a file with room for 16 names and one object, `a` of 5 bytes.
+//! The readers and the writers over bytes made by hand: a file with room for 16 names and one object, `a` of 5 bytes.
 use super::*;
 
 #[test]
@@ -16,6 +16,11 @@ fn a_superblock_is_read_or_its_first_fault(rt: HostRuntime) {
         bytes[16] = 16;
         bytes[at] = byte;
         assert_eq!(rt; read_superblock(&bytes), want, "with {byte} at {at}");
+        if let Ok(block) = want {
+            let mut out = [0xFF; SUPERBLOCK_LEN];
+            write_superblock(&block, &mut out);
+            assert_eq!(rt; out, bytes);
+        }
     }
 }
 
@@ -49,6 +54,11 @@ fn a_header_is_read_or_its_first_fault(rt: HostRuntime) {
         bytes[56] = 5;
         bytes[at] = byte;
         assert_eq!(rt; read_header(&bytes, 16), want, "with {byte} at {at}");
+        if let Ok(header) = want {
+            let mut out = [0xFF; HEADER_LEN];
+            write_header(&header, &mut out);
+            assert_eq!(rt; out, bytes);
+        }
     }
 }
 
@@ -71,6 +81,9 @@ fn a_record_is_read_or_its_first_fault(rt: HostRuntime) {
                 assert_eq!(rt; want, None, "with {byte} at {at}");
                 assert_eq!(rt; record.name.as_bytes(), b"a".as_slice());
                 assert_eq!(rt; (record.place, record.size), (0, 5));
+                let mut out = [0xFF; RECORD_LEN];
+                write_record(&record, &mut out);
+                assert_eq!(rt; out, bytes);
             }
             Err(fault) => assert_eq!(rt; want, Some(fault), "with {byte} at {at}"),
         }
