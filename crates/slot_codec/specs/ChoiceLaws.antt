@@ -140,7 +140,7 @@ header_count names bytes h e =
     count_or (Ok x) = x.count
     count_or (Err f) = 0
 
-placed_ok : {A : Type 0} (at : ℕ) (r : Result A CodecFault) (x : A) → placed_at at r ≡ Ok x → r ≡ Ok x
+pub placed_ok : {A : Type 0} (at : ℕ) (r : Result A CodecFault) (x : A) → placed_at at r ≡ Ok x → r ≡ Ok x
 placed_ok at (Ok y) x h = ap (unplaced y) h
   where
     unplaced : {A : Type 0} → A → Result A SlotRefusal → Result A CodecFault

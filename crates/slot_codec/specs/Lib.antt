@@ -11,3 +11,5 @@ pub mod HeaderLaws
 pub mod Choice
 pub mod ChoiceLaws
 pub mod Rolls
+pub mod RollLaws
+pub mod RecordsLaws

@@ -1,5 +1,5 @@
 -- Values whose spelling is read as they are.
-use Rattle.std.specs.Prelude.{◌≡◌, ℕ, ◌^◌, ◌<◌, ◌≤◌, IsTrue, [], length, slice_index_or}
+use Rattle.std.specs.Prelude.{◌≡◌, ℕ, ◌^◌, ◌<◌, ◌≤◌, IsTrue, List, [], Some, length, slice_get, slice_index_or}
 use Rattle.slot_codec.specs.Names.{IsName}
 use Rattle.slot_codec.specs.Reading.{all_in_range, worn_from}
 use Rattle.slot_codec.specs.declared.codec.SuperBlock.{SuperBlock}
@@ -28,3 +28,8 @@ pub record IsRecord (r : Record) : Type 0 where
   pub named : IsName r.name
   pub place : r.place < 2 ^ 48
   pub size : r.size < 2 ^ 48
+
+-- the places and sizes of records are in range
+pub record AreInRange (records : List Record) : Type 0 where
+  pub place : (i : ℕ) (r : Record) → slice_get records i ≡ Some r → r.place < 2 ^ 48
+  pub size : (i : ℕ) (r : Record) → slice_get records i ≡ Some r → r.size < 2 ^ 48

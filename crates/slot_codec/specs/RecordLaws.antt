@@ -29,6 +29,19 @@ pub record RecordParts (bytes : List ℕ) (r : Record) : Type 0 where
   pub size : number_at bytes 72 ≡ r.size
   pub fits : IsRecord r
 
+-- what is read as a record is in range
+pub record_fits : (bytes : List ℕ) (r : Record) → read_record bytes ≡ Ok r → IsRecord r
+unfolding read_record
+record_fits bytes r h =
+    let o = record_of bytes in
+    let a = guard_ok (nat_lt 63 (slice_index bytes 0) || not (is_name o.name)) _ _ r h in
+    let b = guard_ok (not (are_zeros (bytes_at bytes (1 + length o.name) (63 - length o.name)))) _ _ r a.1 in
+    let c = guard_ok (not (is_in_range o.place && is_in_range o.size)) _ _ r b.1 in
+    let named = or_parts (nat_lt 63 (slice_index bytes 0)) (not (is_name o.name)) a.0 in
+    let ranges = and_parts (is_in_range o.place) (is_in_range o.size) (not-false _ c.0) in
+    let fits : IsRecord o = record { named = not-false _ named.1; place = ltb-true o.place (2 ^ 48) ranges.0; size = ltb-true o.size (2 ^ 48) ranges.1 } in
+    rw (← from_ok o r c.1) fits
+
 pub record_parts : (bytes : List ℕ) (r : Record) → length bytes ≡ 80 → read_record bytes ≡ Ok r → RecordParts bytes r
 unfolding read_record
 record_parts bytes r long h =
@@ -128,6 +141,16 @@ record_stands bytes r fits all =
 -- the spelling of a record in range is read as it
 pub record_read : (r : Record) → IsRecord r → read_record (record_bytes r) ≡ Ok r
 record_read r fits = record_from_parts (record_bytes r) r (record_stands (record_bytes r) r fits (stands_whole (record_bytes r)))
+
+-- the length of a record's spelling
+pub length-record_bytes : (r : Record) → IsName r.name → length (record_bytes r) ≡ 80
+length-record_bytes r named =
+    let n = length r.name in
+    let front = n ∷ r.name in
+    let padded = front ++ zeros (63 - n) in
+    let short : n ≤ 63 = name_short r.name named in
+    let long : length padded ≡ 64 = omega (arith, short, length-append front (zeros (63 - n)), length-replicate {A = ℕ} (63 - n) 0) in
+    length-append (padded ++ number r.place) (number r.size) ∙ ap (λ k. k + 8) (length-append padded (number r.place) ∙ ap (λ k. k + 8) long)
 
 -- bytes are read as a record exactly where they are the spelling of one in range
 pub record_exact : (bytes : List ℕ) (r : Record) → length bytes ≡ 80 → AreBytes bytes → (read_record bytes ≡ Ok r) ↔ (IsRecord r × (bytes ≡ record_bytes r))
