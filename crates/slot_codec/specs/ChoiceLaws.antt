@@ -39,7 +39,7 @@ same_number : (end : ℕ) (a b : List ℕ) (at : ℕ) → SameBelow end a b → 
 same_number end a b at same in_a in_b low = ap (from_le_bytes w64) (same_bytes end a b at 8 same in_a in_b low)
 
 -- the rest of the choice once the superblock is read
-abbrev by_block : List ℕ → SuperBlock → Result InUse SlotRefusal
+abbrev pub by_block : List ℕ → SuperBlock → Result InUse SlotRefusal
 by_block file block =
     cond (nat_lt (length file) (head_len block.names)) (Err too_short)
     (cond (not (is_open file (format_gate_at block.names))) (Err unformatted)

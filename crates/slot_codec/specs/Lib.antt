@@ -10,6 +10,7 @@ pub mod RecordLaws
 pub mod HeaderLaws
 pub mod Choice
 pub mod ChoiceLaws
+pub mod PickLaws
 pub mod Rolls
 pub mod RollLaws
 pub mod RecordsLaws
