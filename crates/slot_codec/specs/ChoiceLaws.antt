@@ -156,10 +156,10 @@ pub record ChosenParts (a : List ℕ) (c : Chosen) : Type 0 where
   pub same_slot : c.slot ≡ in_use.slot
   pub header_read : read_header in_use.block.names (bytes_at a (slot_at in_use.block.names in_use.slot) header_len) ≡ Ok c.header
 
-abbrev chosen_of : InUse → Header → Chosen
+abbrev pub chosen_of : InUse → Header → Chosen
 chosen_of u h = record { block = u.block; slot = u.slot; header = h }
 
-abbrev by_slot : List ℕ → InUse → Result Chosen SlotRefusal
+abbrev pub by_slot : List ℕ → InUse → Result Chosen SlotRefusal
 by_slot file u =
     placed_at (slot_at u.block.names u.slot) (read_header u.block.names (bytes_at file (slot_at u.block.names u.slot) header_len)) >>= λ header. Ok (chosen_of u header)
 

@@ -11,6 +11,8 @@ pub mod HeaderLaws
 pub mod Choice
 pub mod ChoiceLaws
 pub mod PickLaws
+pub mod Slots
+pub mod SlotLaws
 pub mod Rolls
 pub mod RollLaws
 pub mod RecordsLaws
