@@ -123,7 +123,7 @@ slot_low names (suc zero) h = omega arith
 slot_low names (suc (suc n)) h = absurd (omega (arith, h))
 
 -- the header that is read has no more records than there may be
-header_count : (names : ℕ) (bytes : List ℕ) (h : Header) → read_header names bytes ≡ Ok h → h.count ≤ names
+pub header_count : (names : ℕ) (bytes : List ℕ) (h : Header) → read_header names bytes ≡ Ok h → h.count ≤ names
 unfolding read_header
 header_count names bytes h e =
     let o = header_of bytes in

@@ -1,13 +1,12 @@
 -- The slot in use, taken apart: what the file has where a slot is in use, and only there.
-use Rattle.std.proofs.Common.{◌≡◌, ℕ, zero, suc, ◌+◌, ◌-◌, ◌<◌, ◌≤◌, ◌==◌, Bool, true, false, not, cond, List, length, refl, sym, ap, ◌∙◌, arith}
+use Rattle.std.proofs.Common.{◌≡◌, ℕ, zero, suc, ◌-◌, ◌<◌, ◌≤◌, ◌==◌, Bool, true, false, not, cond, List, length, refl, sym, ap, ◌∙◌, arith}
 use Rattle.std.proofs.lemmas.Bool.{cond-true, cond-false, eqb-false, le-ltb, lt-ltb, ltb-false, ltb-true, ne_eqb, not-false, not_from_true}
-use Rattle.std.specs.Prelude.{nat_lt, Result, Ok, Err}
-use Rattle.byte_ranges.specs.Lists.{◌>>=◌}
+use Rattle.std.specs.Prelude.{nat_lt, Result, Ok}
 use Rattle.byte_ranges.specs.Ranges.{bytes_at}
-use Rattle.slot_codec.specs.Choice.{InUse, SlotRefusal, is_open, no_gate, pick, placed_at, same_sequence, sequence_at, slot_in_use, too_short, unformatted}
+use Rattle.slot_codec.specs.Choice.{InUse, SlotRefusal, is_open, pick, placed_at, same_sequence, sequence_at, slot_in_use, too_short, unformatted}
 use Rattle.slot_codec.specs.ChoiceLaws.{by_block, placed_ok}
 use Rattle.slot_codec.specs.Reading.{read_superblock}
-use Rattle.slot_codec.specs.Spelling.{format_gate_at, gate_at, head_len, slot_at, superblock_len}
+use Rattle.slot_codec.specs.Spelling.{format_gate_at, gate_at, head_len, superblock_len}
 use Rattle.slot_codec.specs.StepLaws.{bind_from, bind_ok, from_ok, guard_from, guard_ok}
 use Rattle.slot_codec.specs.declared.codec.SuperBlock.{SuperBlock}
 

@@ -5,11 +5,10 @@ use Rattle.std.proofs.lemmas.List.{append-nil, get_or-drop, length-take-le, take
 use Rattle.std.proofs.Math.Seq.{drop-append_seam, take-append_seam}
 use Rattle.std.specs.Prelude.{flat_map, if◌then◌else◌, Option, Some, None, Result, Ok, Err}
 use Rattle.byte_ranges.specs.Lists.{◌>>=◌}
-use Rattle.byte_ranges.specs.Ranges.{bytes_at, length-bytes_at}
 use Rattle.slot_codec.specs.Choice.{Chosen, codec, first_record, placed_at, read_records, records_at, records_of, records_text, rises, SlotRefusal}
 use Rattle.slot_codec.specs.ChoiceLaws.{placed_ok}
 use Rattle.slot_codec.specs.PartLaws.{bytes_at-are_bytes}
-use Rattle.slot_codec.specs.Readable.{AreInRange, IsRecord}
+use Rattle.slot_codec.specs.Readable.{AreInRange}
 use Rattle.slot_codec.specs.Reading.{read_record}
 use Rattle.slot_codec.specs.RecordLaws.{length-record_bytes, record_fits, record_read, record_spelled}
 use Rattle.slot_codec.specs.RollLaws.{RiseFrom, in_range_from_rise, rise_from_roll, roll_from_rise}

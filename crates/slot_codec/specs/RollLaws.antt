@@ -1,12 +1,12 @@
 -- Records in the order of their names: said of all pairs, and said of each record and the one before it.
 use Rattle.std.proofs.Common.{◌≡◌, ℕ, zero, suc, ◌<◌, true, List, [], ◌∷◌, refl, sym, ap, ◌∙◌, arith}
 use Rattle.std.proofs.lemmas.Cmp.{nat_list_cmp_total}
-use Rattle.std.specs.Ordering.{is_lt, nat_cmp}
+use Rattle.std.specs.Ordering.{is_lt}
 use Rattle.std.specs.Prelude.{Option, Some, None, slice_get}
 use Rattle.std.specs.declared.cmp.Ordering.{Ordering}
 use Rattle.std.specs.declared.cmp.Ordering.TheVariants.{Less, Equal, Greater}
 use Rattle.slot_codec.specs.Choice.{rises}
-use Rattle.slot_codec.specs.Names.{IsName, name_cmp}
+use Rattle.slot_codec.specs.Names.{name_cmp}
 use Rattle.slot_codec.specs.Readable.{AreInRange, IsRecord}
 use Rattle.slot_codec.specs.Rolls.{IsRoll}
 use Rattle.slot_codec.specs.declared.codec.Record.{Record}
