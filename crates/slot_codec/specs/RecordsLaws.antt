@@ -109,3 +109,7 @@ pub records-rise : (file : List ℕ) (c : Chosen) (rs : List Record) → records
 records-rise file c rs h =
     let rise = read_records_rise c.header.count (records_text file c) (records_at c) None rs h in
     (roll_from_rise None rs rise, in_range_from_rise None rs rise, length-read_records c.header.count (records_text file c) (records_at c) None rs h)
+
+pub records_of-spelled : (file : List ℕ) (c : Chosen) (rs : List Record) → length (records_text file c) ≡ 80 * c.header.count → AreBytes file → records_of file c ≡ Ok rs → records_text file c ≡ flat_map record_bytes rs
+records_of-spelled file c rs long are h =
+    read_records_spelled c.header.count (records_text file c) (records_at c) None rs long (bytes_at-are_bytes file (records_at c) (80 * c.header.count) are) h
