@@ -55,7 +55,7 @@ stands_rows b first (row ∷ rows) full fits h =
     let next : at + length (flat_map number row) ≡ 296 + 256 * (first + 1) = omega (arith, length-numbers row, row_full) in
     let head : numbers_at 32 b at ≡ row = stands_row b at row row_full parts.0 (stands_left b at (flat_map number row) (flat_map (flat_map number) rows) h) in
     let tail =
-        stands_rows b (first + 1) rows (λ j low. full (suc j) (omega (arith, low))) parts.1 (stands_right b at (296 + 256 * (first + 1)) (flat_map number row) (flat_map (flat_map number) rows) next h)
+    stands_rows b (first + 1) rows (λ j low. full (suc j) (omega (arith, low))) parts.1 (stands_right b at (296 + 256 * (first + 1)) (flat_map number row) (flat_map (flat_map number) rows) next h)
     in
     ap (λ x. x ∷ map (λ j. numbers_at 32 b (296 + 256 * j)) (counting_from (first + 1) (length rows))) head ∙ ap (λ xs. row ∷ xs) tail
 
@@ -101,30 +101,30 @@ header_parts names bytes h are read =
     let e = guard_ok (nat_lt names o.count) _ _ h d.1 in
     let f = guard_ok (not (all_in_range o)) _ _ h e.1 in
     let fits : IsHeader names o =
-        record {
-          boundary = are 2;
-          sequence = leb-false (worn_from o.kind) o.sequence d.0;
-          count = ltb-false names o.count e.0;
-          ranges = not-false _ f.0;
-          caps_full = length-below (λ i. number_at bytes (40 + 8 * i)) 32;
-          used_full = length-below (λ j. numbers_at 32 bytes (296 + 256 * j)) 32;
-          rows_full = λ j low. ap length (below_at (λ j. numbers_at 32 bytes (296 + 256 * j)) 32 j [] low) ∙ length-below (λ i. number_at bytes (296 + 256 * j + 8 * i)) 32;
-        }
+    record {
+      boundary = are 2;
+      sequence = leb-false (worn_from o.kind) o.sequence d.0;
+      count = ltb-false names o.count e.0;
+      ranges = not-false _ f.0;
+      caps_full = length-below (λ i. number_at bytes (40 + 8 * i)) 32;
+      used_full = length-below (λ j. numbers_at 32 bytes (296 + 256 * j)) 32;
+      rows_full = λ j low. ap length (below_at (λ j. numbers_at 32 bytes (296 + 256 * j)) 32 j [] low) ∙ length-below (λ i. number_at bytes (296 + 256 * j + 8 * i)) 32;
+    }
     in
     let parts : HeaderParts names bytes o =
-        record {
-          version = eqb-true (slice_index bytes 0) 1 (not-false _ a.0);
-          kind = kind_code-of (slice_index bytes 1) (ltb-false 1 (slice_index bytes 1) b.0);
-          boundary = refl;
-          padding = not-false _ c.0;
-          sequence = refl;
-          count = refl;
-          wall = refl;
-          slack = refl;
-          caps = refl;
-          used = refl;
-          fits = fits;
-        }
+    record {
+      version = eqb-true (slice_index bytes 0) 1 (not-false _ a.0);
+      kind = kind_code-of (slice_index bytes 1) (ltb-false 1 (slice_index bytes 1) b.0);
+      boundary = refl;
+      padding = not-false _ c.0;
+      sequence = refl;
+      count = refl;
+      wall = refl;
+      slack = refl;
+      caps = refl;
+      used = refl;
+      fits = fits;
+    }
     in
     rw (← from_ok o h f.1) parts
 
@@ -155,7 +155,7 @@ unfolding read_header
 header_from_parts names bytes h p =
     let kind : kind_of (slice_index bytes 1) ≡ h.kind = ap kind_of p.kind ∙ kind_of-code h.kind in
     let is : header_of bytes ≡ h =
-        λ i. record { kind = kind i; boundary = p.boundary i; sequence = p.sequence i; count = p.count i; wall = p.wall i; slack = p.slack i; caps = p.caps i; used = p.used i }
+    λ i. record { kind = kind i; boundary = p.boundary i; sequence = p.sequence i; count = p.count i; wall = p.wall i; slack = p.slack i; caps = p.caps i; used = p.used i }
     in
     let version : (slice_index bytes 0 == 1) ≡ true = ap (λ x. x == 1) p.version in
     let code : nat_lt 1 (slice_index bytes 1) ≡ false = le-ltb 1 _ (omega (arith, p.kind, code_low h.kind)) in

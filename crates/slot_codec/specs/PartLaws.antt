@@ -16,6 +16,10 @@ use Rattle.slot_codec.specs.Reading.{are_zeros, is_in_range, number_at}
 pub bytes_at-more : (b : List ℕ) (at n m : ℕ) → bytes_at b at n ++ bytes_at b (at + n) m ≡ bytes_at b at (n + m)
 bytes_at-more b at n m = ap (λ xs. take n (drop at b) ++ take m xs) (sym (drop-drop n at b)) ∙ sym (take-add n m (drop at b))
 
+-- equal parts, joined
+pub same_joined : (a b c d a' b' c' d' : List ℕ) → a ≡ a' → b ≡ b' → c ≡ c' → d ≡ d' → a ++ b ++ c ++ d ≡ a' ++ b' ++ c' ++ d'
+same_joined a b c d a' b' c' d' p q r s = cc
+
 -- a part that grows at its end
 pub bytes_at-grown : (b : List ℕ) (n m : ℕ) (front part : List ℕ) → bytes_at b 0 n ≡ front → bytes_at b n m ≡ part → bytes_at b 0 (n + m) ≡ front ++ part
 bytes_at-grown b n m front part e f =
@@ -72,10 +76,10 @@ stands_right b at to xs ys e h =
     record {
       rest = h.rest;
       is =
-        ap (λ k. drop k b) (sym e)
-        ∙ sym (drop-drop (length xs) at b)
-        ∙ ap (drop (length xs)) (h.is ∙ append_assoc xs ys h.rest)
-        ∙ drop-append_seam xs (ys ++ h.rest);
+          ap (λ k. drop k b) (sym e)
+          ∙ sym (drop-drop (length xs) at b)
+          ∙ ap (drop (length xs)) (h.is ∙ append_assoc xs ys h.rest)
+          ∙ drop-append_seam xs (ys ++ h.rest);
     }
 
 -- what stands there is what is read there

@@ -40,14 +40,14 @@ in_use block slot sequence other = record { block = block; slot = slot; sequence
 picked_by_order : (block : SuperBlock) (m n : ℕ) (u : InUse) (x : Bool) → (m == n) ≡ false → nat_lt n m ≡ x → ◌≡◌ {A = Result InUse SlotRefusal} (cond x (Ok (in_use block 0 m true)) (Ok (in_use block 1 n true))) (Ok u) → IsPicked block true true m n u
 picked_by_order block m n u true apart order h =
     let first : IsPicked block true true m n (in_use block 0 m true) =
-        record { same_block = refl; slot = omega arith; gate = refl; sequence = refl; other = refl; newer = λ e. ltb-true n m order }
+    record { same_block = refl; slot = omega arith; gate = refl; sequence = refl; other = refl; newer = λ e. ltb-true n m order }
     in
     rw (← from_ok (in_use block 0 m true) u h) first
 picked_by_order block m n u false apart order h =
     let ne : m ≡ n → ⊥ = eqb-false m n apart in
     let le : m ≤ n = ltb-false n m order in
     let second : IsPicked block true true m n (in_use block 1 n true) =
-        record { same_block = refl; slot = omega arith; gate = refl; sequence = refl; other = refl; newer = λ e. omega (arith, ne, le) }
+    record { same_block = refl; slot = omega arith; gate = refl; sequence = refl; other = refl; newer = λ e. omega (arith, ne, le) }
     in
     rw (← from_ok (in_use block 1 n true) u h) second
 
@@ -55,12 +55,12 @@ pick_parts : (block : SuperBlock) (f g : Bool) (m n : ℕ) (u : InUse) → pick 
 pick_parts block false false m n u h = cc
 pick_parts block true false m n u h =
     let first : IsPicked block true false m n (in_use block 0 m false) =
-        record { same_block = refl; slot = omega arith; gate = refl; sequence = refl; other = refl; newer = λ e. cc }
+    record { same_block = refl; slot = omega arith; gate = refl; sequence = refl; other = refl; newer = λ e. cc }
     in
     rw (← from_ok (in_use block 0 m false) u h) first
 pick_parts block false true m n u h =
     let second : IsPicked block false true m n (in_use block 1 n false) =
-        record { same_block = refl; slot = omega arith; gate = refl; sequence = refl; other = refl; newer = λ e. cc }
+    record { same_block = refl; slot = omega arith; gate = refl; sequence = refl; other = refl; newer = λ e. cc }
     in
     rw (← from_ok (in_use block 1 n false) u h) second
 pick_parts block true true m n u h =

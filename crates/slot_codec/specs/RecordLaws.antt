@@ -6,7 +6,7 @@ use Rattle.std.specs.List.{list_all}
 use Rattle.std.specs.Prelude.{nat_le, nat_lt, slice_index, Ok}
 use Rattle.byte_ranges.specs.Ranges.{bytes_at, length-bytes_at}
 use Rattle.slot_codec.specs.Names.{is_name, is_name_byte, IsName}
-use Rattle.slot_codec.specs.PartLaws.{StandsAt, bytes_at-more, number_spelled, stands_bytes, stands_index, stands_left, stands_number, stands_right, stands_whole, zeros_are_zeros, zeros_spelled}
+use Rattle.slot_codec.specs.PartLaws.{StandsAt, bytes_at-more, number_spelled, same_joined, stands_bytes, stands_index, stands_left, stands_number, stands_right, stands_whole, zeros_are_zeros, zeros_spelled}
 use Rattle.slot_codec.specs.Readable.{IsRecord}
 use Rattle.slot_codec.specs.Reading.{are_zeros, is_in_range, number_at, read_record, record_of}
 use Rattle.slot_codec.specs.Spelling.{AreBytes, number, record_bytes, zeros}
@@ -50,25 +50,22 @@ record_parts bytes r long h =
     let b = guard_ok (not (are_zeros (bytes_at bytes (1 + length o.name) (63 - length o.name)))) _ _ r a.1 in
     let c = guard_ok (not (is_in_range o.place && is_in_range o.size)) _ _ r b.1 in
     let named = or_parts (nat_lt 63 (slice_index bytes 0)) (not (is_name o.name)) a.0 in
-    let ranges = and_parts (is_in_range o.place) (is_in_range o.size) (not-false _ c.0) in
     let short : slice_index bytes 0 ≤ 63 = ltb-false 63 (slice_index bytes 0) named.0 in
+    let same : o ≡ r = from_ok o r c.1 in
     let parts : RecordParts bytes o =
-        record {
-          len = sym (length-bytes_at bytes 1 (slice_index bytes 0) (omega (arith, short, long)));
-          name = refl;
-          padding = not-false _ b.0;
-          place = refl;
-          size = refl;
-          fits = record { named = not-false _ named.1; place = ltb-true o.place (2 ^ 48) ranges.0; size = ltb-true o.size (2 ^ 48) ranges.1 };
-        }
+    record {
+      len = sym (length-bytes_at bytes 1 (slice_index bytes 0) (omega (arith, short, long)));
+      name = refl;
+      padding = not-false _ b.0;
+      place = refl;
+      size = refl;
+      fits = rw same (record_fits bytes r h);
+    }
     in
-    rw (← from_ok o r c.1) parts
+    rw (← same) parts
 
 first_byte : (bytes : List ℕ) → 0 < length bytes → bytes_at bytes 0 1 ≡ slice_index bytes 0 ∷ []
 first_byte bytes h = ap (take 1) (drop-cons bytes 0 0 h)
-
-same_joined : (a b c d a' b' c' d' : List ℕ) → a ≡ a' → b ≡ b' → c ≡ c' → d ≡ d' → a ++ b ++ c ++ d ≡ a' ++ b' ++ c' ++ d'
-same_joined a b c d a' b' c' d' p q r s = cc
 
 -- what is read as a record is its spelling
 pub record_spelled : (bytes : List ℕ) (r : Record) → length bytes ≡ 80 → AreBytes bytes → read_record bytes ≡ Ok r → bytes ≡ record_bytes r
@@ -78,17 +75,17 @@ record_spelled bytes r long are h =
     let short : n ≤ 63 = name_short r.name p.fits.named in
     let name : bytes_at bytes 1 n ≡ r.name = ap (bytes_at bytes 1) (sym p.len) ∙ p.name in
     let front : bytes_at bytes 0 (1 + n) ≡ n ∷ r.name =
-        sym (bytes_at-more bytes 0 1 n) ∙ ap (λ xs. xs ++ bytes_at bytes 1 n) (first_byte bytes (omega (arith, long))) ∙ ap (λ x. x ∷ bytes_at bytes 1 n) p.len ∙ ap (λ xs. n ∷ xs) name
+    sym (bytes_at-more bytes 0 1 n) ∙ ap (λ xs. xs ++ bytes_at bytes 1 n) (first_byte bytes (omega (arith, long))) ∙ ap (λ x. x ∷ bytes_at bytes 1 n) p.len ∙ ap (λ xs. n ∷ xs) name
     in
     let padding : bytes_at bytes (1 + n) (63 - n) ≡ zeros (63 - n) =
-        zeros_spelled (bytes_at bytes (1 + n) (63 - n)) p.padding ∙ ap zeros (length-bytes_at bytes (1 + n) (63 - n) (omega (arith, long, short)))
+    zeros_spelled (bytes_at bytes (1 + n) (63 - n)) p.padding ∙ ap zeros (length-bytes_at bytes (1 + n) (63 - n) (omega (arith, long, short)))
     in
     let place : bytes_at bytes 64 8 ≡ number r.place = sym (number_spelled bytes 64 are (omega (arith, long))) ∙ ap number p.place in
     let size : bytes_at bytes 72 8 ≡ number r.size = sym (number_spelled bytes 72 are (omega (arith, long))) ∙ ap number p.size in
     let named : bytes_at bytes 0 64 ≡ bytes_at bytes 0 (1 + n) ++ bytes_at bytes (1 + n) (63 - n) =
-        (let e : 64 ≡ 1 + n + (63 - n) = omega (arith, short) in
-        let f : 1 + n ≡ 0 + (1 + n) = omega arith in
-        ap (bytes_at bytes 0) e ∙ sym (bytes_at-more bytes 0 (1 + n) (63 - n)) ∙ ap (λ k. bytes_at bytes 0 (1 + n) ++ bytes_at bytes k (63 - n)) (sym f))
+    (let e : 64 ≡ 1 + n + (63 - n) = omega (arith, short) in
+    let f : 1 + n ≡ 0 + (1 + n) = omega arith in
+    ap (bytes_at bytes 0) e ∙ sym (bytes_at-more bytes 0 (1 + n) (63 - n)) ∙ ap (λ k. bytes_at bytes 0 (1 + n) ++ bytes_at bytes k (63 - n)) (sym f))
     in
     sym (take_all 80 bytes (omega (arith, long)))
     ∙ sym (bytes_at-more bytes 0 72 8)
@@ -127,7 +124,7 @@ record_stands bytes r fits all =
     let one = stands_left bytes 0 front (zeros (63 - n)) two in
     let len : slice_index bytes 0 ≡ n = stands_index bytes 0 n r.name one in
     let padding : bytes_at bytes (1 + n) (63 - n) ≡ zeros (63 - n) =
-        stands_bytes bytes (1 + n) (63 - n) (zeros (63 - n)) (length-replicate {A = ℕ} (63 - n) 0) (stands_right bytes 0 (1 + n) front (zeros (63 - n)) (omega arith) two)
+    stands_bytes bytes (1 + n) (63 - n) (zeros (63 - n)) (length-replicate {A = ℕ} (63 - n) 0) (stands_right bytes 0 (1 + n) front (zeros (63 - n)) (omega arith) two)
     in
     record {
       len = len;

@@ -71,7 +71,7 @@ read_records_rise zero text at before rs h = rw (← from_ok [] rs h) tt
 read_records_rise (suc n) text at before rs h =
     let p = records_parts n text at before rs h in
     let rise : RiseFrom before (p.first ∷ p.later) =
-        (record_fits (take 80 text) p.first p.first_read, p.first_rises, read_records_rise n (drop 80 text) (at + 80) (Some p.first.name) p.later p.later_read)
+    (record_fits (take 80 text) p.first p.first_read, p.first_rises, read_records_rise n (drop 80 text) (at + 80) (Some p.first.name) p.later p.later_read)
     in
     rw (← p.is) rise
 

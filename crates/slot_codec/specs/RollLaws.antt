@@ -59,11 +59,10 @@ rise_after : (before : Option (List ℕ)) (rs : List Record) → ((r : Record) �
 rise_after before [] first roll ranges = tt
 rise_after before (x ∷ rs) first roll ranges =
     let later : IsRoll rs = record { named = λ i r e. roll.named (suc i) r e; rising = λ i j a b low e f. roll.rising (suc i) (suc j) a b (omega (arith, low)) e f } in
-    let later_ranges : AreInRange rs = record { place = λ i r e. ranges.place (suc i) r e; size = λ i r e. ranges.size (suc i) r e } in
-    (
+    let later_ranges : AreInRange rs = record { place = λ i r e. ranges.place (suc i) r e; size = λ i r e. ranges.size (suc i) r e } in (
       record { named = roll.named 0 x refl; place = ranges.place 0 x refl; size = ranges.size 0 x refl },
       first x refl,
-      rise_after (Some x.name) rs (λ r e. roll.rising 0 1 x r (omega arith) refl e) later later_ranges
+      rise_after (Some x.name) rs (λ r e. roll.rising 0 1 x r (omega arith) refl e) later later_ranges,
     )
 
 pub rise_from_roll : (rs : List Record) → IsRoll rs → AreInRange rs → RiseFrom None rs

@@ -74,7 +74,7 @@ kept : (a b : List ℕ) (u : InUse) → InUseParts a u → head_len u.block.name
 kept a b u p in_b same =
     let n = u.block.names in
     let front : bytes_at b 0 superblock_len ≡ bytes_at a 0 superblock_len =
-        sym (bytes_at-same a b 0 superblock_len (omega (arith, p.long)) (omega (arith, in_b)) (λ i l h. front_kept n (1 - u.slot) a b same i l (omega (arith, h))))
+    sym (bytes_at-same a b 0 superblock_len (omega (arith, p.long)) (omega (arith, in_b)) (λ i l h. front_kept n (1 - u.slot) a b same i l (omega (arith, h))))
     in
     let format = format_kept n (1 - u.slot) a b (other_low u.slot) same in
     let this = slot_kept n u.slot a b p.slot same (gate_at n u.slot) (omega arith) (omega arith) in
@@ -113,16 +113,16 @@ other_newer a b u h in_b same gate more =
     let k = kept a b u p in_b same in
     let back = other_twice u.slot p.slot in
     let parts : InUseParts b (opened_beside b u) =
-        record {
-          block = k.block;
-          long = in_b;
-          formatted = k.formatted;
-          slot = other_low u.slot;
-          gate = gate;
-          sequence = refl;
-          other = ap (λ s. is_open b (gate_at n s)) back ∙ k.gate;
-          newer = λ e. omega (arith, ap (sequence_at b n) back, k.sequence, more);
-        }
+    record {
+      block = k.block;
+      long = in_b;
+      formatted = k.formatted;
+      slot = other_low u.slot;
+      gate = gate;
+      sequence = refl;
+      other = ap (λ s. is_open b (gate_at n s)) back ∙ k.gate;
+      newer = λ e. omega (arith, ap (sequence_at b n) back, k.sequence, more);
+    }
     in
     in_use_from b (opened_beside b u) parts
 
@@ -144,16 +144,16 @@ chosen_kept a b c v h in_b same in_use block slot =
     let in_a = chosen_long a c h in
     let low : c.slot ≤ 1 = omega (arith, p.same_slot, in_use_slot a p.in_use p.slot_read) in
     let read_a : read_header n (bytes_at a (slot_at n c.slot) header_len) ≡ Ok c.header =
-        ap (λ (u : SuperBlock). read_header u.names (bytes_at a (slot_at u.names c.slot) header_len)) p.same_block
-        ∙ ap (λ s. read_header p.in_use.block.names (bytes_at a (slot_at p.in_use.block.names s) header_len)) p.same_slot
-        ∙ p.header_read
+    ap (λ (u : SuperBlock). read_header u.names (bytes_at a (slot_at u.names c.slot) header_len)) p.same_block
+    ∙ ap (λ s. read_header p.in_use.block.names (bytes_at a (slot_at p.in_use.block.names s) header_len)) p.same_slot
+    ∙ p.header_read
     in
     let header = part_kept n c.slot (slot_at n c.slot) header_len a b low in_a in_b same (omega arith) (omega arith) in
     let read_b : read_header v.block.names (bytes_at b (slot_at v.block.names v.slot) header_len) ≡ Ok c.header =
-        ap (λ (u : SuperBlock). read_header u.names (bytes_at b (slot_at u.names v.slot) header_len)) block
-        ∙ ap (λ s. read_header n (bytes_at b (slot_at n s) header_len)) slot
-        ∙ ap (read_header n) header
-        ∙ read_a
+    ap (λ (u : SuperBlock). read_header u.names (bytes_at b (slot_at u.names v.slot) header_len)) block
+    ∙ ap (λ s. read_header n (bytes_at b (slot_at n s) header_len)) slot
+    ∙ ap (read_header n) header
+    ∙ read_a
     in
     let few = (header_count n (bytes_at a (slot_at n c.slot) header_len) c.header read_a) in
     let text = part_kept n c.slot (records_at c) (record_len * c.header.count) a b low in_a in_b same (omega arith) (omega (arith, few)) in

@@ -5,7 +5,7 @@ use Rattle.std.proofs.lemmas.List.{take_all}
 use Rattle.std.proofs.lemmas.Slice.Eq.{bytes_eq-Decides}
 use Rattle.std.specs.Prelude.{nat_lt, codes, bytes_eq, Ok}
 use Rattle.byte_ranges.specs.Ranges.{bytes_at, length-bytes_at}
-use Rattle.slot_codec.specs.PartLaws.{bytes_at-more, number_spelled, stands_bytes, stands_left, stands_number, stands_right, stands_whole, zeros_are_zeros, zeros_spelled}
+use Rattle.slot_codec.specs.PartLaws.{bytes_at-more, number_spelled, same_joined, stands_bytes, stands_left, stands_number, stands_right, stands_whole, zeros_are_zeros, zeros_spelled}
 use Rattle.slot_codec.specs.Readable.{IsSuperBlock}
 use Rattle.slot_codec.specs.Reading.{are_zeros, number_at, read_superblock}
 use Rattle.slot_codec.specs.Spelling.{AreBytes, number, superblock_bytes, zeros}
@@ -45,9 +45,6 @@ superblock_parts bytes block h =
       padding = not-false _ c.0;
       fits = rw (← is) (in_range k names b.0);
     }
-
-same_joined : (a b c d a' b' c' d' : List ℕ) → a ≡ a' → b ≡ b' → c ≡ c' → d ≡ d' → a ++ b ++ c ++ d ≡ a' ++ b' ++ c' ++ d'
-same_joined a b c d a' b' c' d' p q r s = cc
 
 -- what is read as a superblock is its spelling
 pub superblock_spelled : (bytes : List ℕ) (block : SuperBlock) → length bytes ≡ 64 → AreBytes bytes → read_superblock bytes ≡ Ok block → bytes ≡ superblock_bytes block
