@@ -5,8 +5,9 @@ use Rattle.std.proofs.lemmas.List.{append-nil, get_or-drop, length-take-le, take
 use Rattle.std.proofs.Math.Seq.{drop-append_seam, take-append_seam}
 use Rattle.std.specs.Prelude.{flat_map, if◌then◌else◌, Option, Some, None, Result, Ok, Err}
 use Rattle.byte_ranges.specs.Lists.{◌>>=◌}
-use Rattle.slot_codec.specs.Choice.{Chosen, codec, first_record, placed_at, read_records, records_at, records_of, records_text, rises, SlotRefusal}
-use Rattle.slot_codec.specs.ChoiceLaws.{placed_ok}
+use Rattle.byte_ranges.specs.Ranges.{length-bytes_at}
+use Rattle.slot_codec.specs.Choice.{Chosen, chosen, codec, first_record, placed_at, read_records, records_at, records_of, records_text, rises, SlotRefusal}
+use Rattle.slot_codec.specs.ChoiceLaws.{chosen_long, placed_ok, records_low}
 use Rattle.slot_codec.specs.PartLaws.{bytes_at-are_bytes}
 use Rattle.slot_codec.specs.Readable.{AreInRange}
 use Rattle.slot_codec.specs.Reading.{read_record}
@@ -110,6 +111,8 @@ records-rise file c rs h =
     let rise = read_records_rise c.header.count (records_text file c) (records_at c) None rs h in
     (roll_from_rise None rs rise, in_range_from_rise None rs rise, length-read_records c.header.count (records_text file c) (records_at c) None rs h)
 
-pub records_of-spelled : (file : List ℕ) (c : Chosen) (rs : List Record) → length (records_text file c) ≡ 80 * c.header.count → AreBytes file → records_of file c ≡ Ok rs → records_text file c ≡ flat_map record_bytes rs
-records_of-spelled file c rs long are h =
+pub records_of-spelled : (file : List ℕ) (c : Chosen) (rs : List Record) → chosen file ≡ Ok c → AreBytes file → records_of file c ≡ Ok rs → records_text file c ≡ flat_map record_bytes rs
+records_of-spelled file c rs in_use are h =
+    let within : records_at c + 80 * c.header.count ≤ length file = omega (arith, records_low file c in_use, chosen_long file c in_use) in
+    let long = length-bytes_at file (records_at c) (80 * c.header.count) within in
     read_records_spelled c.header.count (records_text file c) (records_at c) None rs long (bytes_at-are_bytes file (records_at c) (80 * c.header.count) are) h

@@ -32,7 +32,7 @@ pub fn a_record_has_one_spelling()
 /// Records in range whose names rise are read from their spelling, and from nothing else.
 pub fn a_table_has_one_spelling()
     ensures read { (file : List ℕ) (c : Chosen) (rs : List Record) → c.header.count ≡ length rs → IsRoll rs → AreInRange rs → records_text file c ≡ flat_map record_bytes rs → records_of file c ≡ Ok rs }
-    ensures spelled { (file : List ℕ) (c : Chosen) (rs : List Record) → length (records_text file c) ≡ 80 * c.header.count → AreBytes file → records_of file c ≡ Ok rs → records_text file c ≡ flat_map record_bytes rs }
+    ensures spelled { (file : List ℕ) (c : Chosen) (rs : List Record) → chosen file ≡ Ok c → AreBytes file → records_of file c ≡ Ok rs → records_text file c ≡ flat_map record_bytes rs }
 {}
 
 /// The records that a slot is read to have are as many as its header says, are in range, and their
