@@ -10,20 +10,7 @@ use Rattle.slot_codec.specs.declared.codec.Header.{Header}
 use Rattle.slot_codec.specs.declared.codec.CodecFault.{CodecFault}
 use Rattle.slot_codec.specs.Choice.{Chosen, Table, chosen, records_of, records_at, records_text, table_of, read_records, SlotRefusal, InUse, pick, placed_at, is_open, sequence_at, slot_in_use, too_short, unformatted}
 use Rattle.slot_codec.specs.declared.codec.SuperBlock.{SuperBlock}
-
-bind_ok : {A B E : Type 0} (r : Result A E) (f : A → Result B E) (y : B) → (r >>= f) ≡ Ok y → (x : A) × (r ≡ Ok x) × (f x ≡ Ok y)
-bind_ok (Ok x) f y h = (x, refl, h)
-bind_ok (Err e) f y h = cc
-
-bind_from : {A B E : Type 0} (r : Result A E) (f : A → Result B E) (x : A) → r ≡ Ok x → (r >>= f) ≡ f x
-bind_from r f x e = ap (λ z. z >>= f) e
-
-guard_ok : {A E : Type 0} (b : Bool) (e : E) (z : Result A E) (y : A) → cond b (Err e) z ≡ Ok y → (b ≡ false) × (z ≡ Ok y)
-guard_ok true e z y h = cc
-guard_ok false e z y h = (refl, h)
-
-guard_from : {A E : Type 0} (b : Bool) (e : E) (z : Result A E) → b ≡ false → cond b (Err e) z ≡ z
-guard_from b e z h = ap (λ x. cond x (Err e) z) h
+use Rattle.slot_codec.specs.StepLaws.{bind_ok, bind_from, guard_ok, guard_from, from_ok}
 
 abbrev block_or : SuperBlock → Result InUse SlotRefusal → SuperBlock
 block_or block (Ok v) = v.block
@@ -52,7 +39,7 @@ same_number : (end : ℕ) (a b : List ℕ) (at : ℕ) → SameBelow end a b → 
 same_number end a b at same in_a in_b low = ap (from_le_bytes w64) (same_bytes end a b at 8 same in_a in_b low)
 
 -- the rest of the choice once the superblock is read
-abbrev by_block : List ℕ → SuperBlock → Result InUse SlotRefusal
+abbrev pub by_block : List ℕ → SuperBlock → Result InUse SlotRefusal
 by_block file block =
     cond (nat_lt (length file) (head_len block.names)) (Err too_short)
     (cond (not (is_open file (format_gate_at block.names))) (Err unformatted)
@@ -136,7 +123,7 @@ slot_low names (suc zero) h = omega arith
 slot_low names (suc (suc n)) h = absurd (omega (arith, h))
 
 -- the header that is read has no more records than there may be
-header_count : (names : ℕ) (bytes : List ℕ) (h : Header) → read_header names bytes ≡ Ok h → h.count ≤ names
+pub header_count : (names : ℕ) (bytes : List ℕ) (h : Header) → read_header names bytes ≡ Ok h → h.count ≤ names
 unfolding read_header
 header_count names bytes h e =
     let o = header_of bytes in
@@ -153,20 +140,13 @@ header_count names bytes h e =
     count_or (Ok x) = x.count
     count_or (Err f) = 0
 
-placed_ok : {A : Type 0} (at : ℕ) (r : Result A CodecFault) (x : A) → placed_at at r ≡ Ok x → r ≡ Ok x
+pub placed_ok : {A : Type 0} (at : ℕ) (r : Result A CodecFault) (x : A) → placed_at at r ≡ Ok x → r ≡ Ok x
 placed_ok at (Ok y) x h = ap (unplaced y) h
   where
     unplaced : {A : Type 0} → A → Result A SlotRefusal → Result A CodecFault
     unplaced y (Ok z) = Ok z
     unplaced y (Err e) = Ok y
 placed_ok at (Err f) x h = cc
-
-from_ok : {A E : Type 0} (x y : A) → ◌≡◌ {A = Result A E} (Ok x) (Ok y) → x ≡ y
-from_ok {A} {E} x y h = ap (value_or x) h
-  where
-    value_or : {A E : Type 0} → A → Result A E → A
-    value_or x (Ok z) = z
-    value_or x (Err e) = x
 
 -- what the choice consists of
 pub record ChosenParts (a : List ℕ) (c : Chosen) : Type 0 where
@@ -176,10 +156,10 @@ pub record ChosenParts (a : List ℕ) (c : Chosen) : Type 0 where
   pub same_slot : c.slot ≡ in_use.slot
   pub header_read : read_header in_use.block.names (bytes_at a (slot_at in_use.block.names in_use.slot) header_len) ≡ Ok c.header
 
-abbrev chosen_of : InUse → Header → Chosen
+abbrev pub chosen_of : InUse → Header → Chosen
 chosen_of u h = record { block = u.block; slot = u.slot; header = h }
 
-abbrev by_slot : List ℕ → InUse → Result Chosen SlotRefusal
+abbrev pub by_slot : List ℕ → InUse → Result Chosen SlotRefusal
 by_slot file u =
     placed_at (slot_at u.block.names u.slot) (read_header u.block.names (bytes_at file (slot_at u.block.names u.slot) header_len)) >>= λ header. Ok (chosen_of u header)
 

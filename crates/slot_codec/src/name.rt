@@ -1,5 +1,5 @@
 //! Names of objects.
-ghost use Rattle.std.specs.Prelude.{◌≡◌, IsSome, ◌↔◌, IfSome};
+ghost use Rattle.std.specs.Prelude.{◌≡◌, ◌≤◌, IsSome, ◌↔◌, IfSome, length};
 ghost use Rattle.std.specs.List.{list_all};
 ghost use Rattle.slot_codec.specs.Names.{is_name, is_name_byte, IsName};
 
@@ -59,6 +59,14 @@ impl Name {
             text: self.text.clone().unwrap(),
         }
     }
+}
+
+/// How many bytes a name has.
+pub fn len_of(name: &Name) -> usize
+    ensures value { result ≡ length name.now }
+    ensures short { result ≤ 63 }
+{
+    name.text.len()
 }
 
 /// Whether bytes are a name.

@@ -1,6 +1,6 @@
 use Rattle.std.proofs.Common.{◌+◌, ◌*◌, arith}
 use Rattle.slot_codec.specs.Reading.{number_at}
-use Rattle.slot_codec.proofs.Tables.{fill_below}
+use Rattle.slot_codec.specs.TableLaws.{fill_below}
 use Rattle.slot_codec.proofs.fields.numbers_at.Goals as goal
 
 pub returns : goal.returns

@@ -1,6 +1,6 @@
 use Rattle.std.proofs.Common.{◌+◌, ◌*◌, [], arith}
 use Rattle.slot_codec.specs.Reading.{numbers_at}
-use Rattle.slot_codec.proofs.Tables.{fill_below}
+use Rattle.slot_codec.specs.TableLaws.{fill_below}
 use Rattle.slot_codec.proofs.header.used_of.Goals as goal
 
 pub returns : goal.returns
