@@ -1,2 +1,4 @@
+pub mod Bays
+pub mod LastMounts
 pub mod Lists
 pub mod Streams

@@ -1,6 +1,8 @@
 //! The outside in memory: disks that keep a record or none, a bay of one file, a source and a sink.
 #![tactic(auto)]
 
+mod bay;
 mod streams;
 
+pub use bay::MemBay;
 pub use streams::{MemSink, MemSource};
