@@ -1,5 +1,5 @@
 -- A piece that is taken from the front of what is left.
-use Rattle.std.proofs.Common.{◌≡◌, ◌+◌, ◌-◌, ◌≤◌, ℕ, List, [], ◌++◌, length, take, drop, arith, ap, sym, ◌∙◌}
+use Rattle.std.proofs.Common.{◌≡◌, ◌+◌, ◌-◌, ◌≤◌, ℕ, List, ◌++◌, length, take, drop, arith, ap, sym, ◌∙◌}
 use Rattle.std.proofs.lemmas.List.{take_at, drop-drop, take-append-drop, length-take-le}
 
 pub piece_first : (left bytes read part rest : List ℕ) (at n : ℕ) → left ≡ drop at bytes → read ≡ bytes → part ≡ take (at + n - at) (drop at read) → n ≤ length (drop at bytes)

@@ -1,5 +1,5 @@
 -- The last mount of a bay of one file.
-use Rattle.std.specs.Prelude.{ℕ, Bool, true, false, ◌&&◌, if◌then◌else◌, List, bytes_eq, string_bytes, Option, Some, None}
+use Rattle.std.specs.Prelude.{ℕ, Bool, false, if◌then◌else◌, List, string_bytes, Option, Some, None}
 use Rattle.disk_face.specs.declared.bay.Mounted.{Mounted}
 use Rattle.disk_face.specs.declared.bay.Mounted.TheVariants.{There, Made, Absent}
 use Rattle.disk_face.specs.Mounts.{Mount}

@@ -1,5 +1,5 @@
 -- A source and a sink in memory, as values.
-use Rattle.std.specs.Prelude.{ℕ, ◌+◌, ◌<◌, ◌≤◌, nat_lt, Bool, ◌||◌, List, ◌++◌, length, drop}
+use Rattle.std.specs.Prelude.{ℕ, ◌+◌, nat_lt, Bool, ◌||◌, List, ◌++◌, length, drop}
 use Rattle.disk_face.specs.Counts.{counted}
 use Rattle.disk_mem.specs.Lists.{next_call, is_listed}
 

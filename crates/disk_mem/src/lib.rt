@@ -2,7 +2,12 @@
 #![tactic(auto)]
 
 mod bay;
+mod disk;
+mod laws;
+mod record;
+mod replay;
 mod streams;
 
 pub use bay::MemBay;
+pub use disk::MemDisk;
 pub use streams::{MemSink, MemSource};

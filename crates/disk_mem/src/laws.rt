@@ -1,0 +1,9 @@
+//! What reads give is an image.
+ghost use Rattle.std.specs.Prelude.{List, ℕ};
+ghost use Rattle.disk_face.specs.Images.{IsImage};
+ghost use Rattle.disk_mem.specs.Histories.{History, file_of, unsynced_of};
+
+/// What reads give is among the images.
+pub fn what_reads_give_is_an_image()
+    ensures { (h : History) → IsImage (unsynced_of h) (file_of h) }
+{}
