@@ -5,4 +5,5 @@ pub mod Histories
 pub mod HistoryLaws
 pub mod LastMounts
 pub mod Lists
+pub mod Plain
 pub mod Streams

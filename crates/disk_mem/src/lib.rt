@@ -4,10 +4,12 @@
 mod bay;
 mod disk;
 mod laws;
+mod plain;
 mod record;
 mod replay;
 mod streams;
 
 pub use bay::MemBay;
 pub use disk::MemDisk;
+pub use plain::PlainDisk;
 pub use streams::{MemSink, MemSource};

@@ -7,7 +7,8 @@ use std::alloc::AllocError;
 /// Writes the bytes over those at a place within the file.
 pub fn put(file: &mut Vec<u8>, pos: u64, bytes: &[u8])
     requires { pos + length bytes.now ≤ length file.old.items }
-    ensures { file.new.items ≡ overwritten file.old.items pos bytes.now }
+    ensures items { file.new.items ≡ overwritten file.old.items pos bytes.now }
+    ensures capacity { vec_capacity file.new ≡ vec_capacity file.old }
 {
     let start = pos as usize;
     file[start..start + bytes.len()].copy_from_slice(bytes);
@@ -24,7 +25,8 @@ pub fn make_room(file: &mut Vec<u8>, n: u64) -> Result<(), AllocError>
 /// Cuts the file, or grows it by zeros within its memory.
 pub fn cut_or_grow(file: &mut Vec<u8>, n: u64)
     requires { n ≤ vec_capacity file.old }
-    ensures { file.new.items ≡ resized file.old.items n }
+    ensures items { file.new.items ≡ resized file.old.items n }
+    ensures capacity { vec_capacity file.old ≤ vec_capacity file.new }
 {
     file.resize(n as usize, 0).unwrap();
 }

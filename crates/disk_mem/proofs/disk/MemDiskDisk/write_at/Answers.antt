@@ -27,7 +27,7 @@ returns-then-is_err-clause-time c =
 pub invariant_of-self-2 : goal.invariant_of-self-2
 invariant_of-self-2 c =
     holds_done c.self.inside.bytes.items c.put.new.file.items c.self.inside.base.items (newest_first c.self.inside.calls.items) (newest_first c.keep_write.new.entries.items) (Wrote c.args.pos c.args.bytes.now) c.self.inside.turn c.saturating_add-self-inside.result
-    c.saturating_add-self-inside.ensures (omega arith) (search rules) (c.put.ensures ∙ changed_within c.self.inside.bytes.items c.args.pos c.args.bytes.now (search rules)) c.self.invariant.0 c.self.invariant.1
+    c.saturating_add-self-inside.ensures (omega arith) (search rules) (c.put.ensures.items ∙ changed_within c.self.inside.bytes.items c.args.pos c.args.bytes.now (search rules)) c.self.invariant.0 c.self.invariant.1
 
 pub returns-clause-images : goal.returns-clause-images
 returns-clause-images c =
