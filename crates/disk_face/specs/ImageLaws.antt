@@ -22,7 +22,7 @@ and_off : (x : Bool) → (x && false) ≡ false
 and_off true = refl
 and_off false = refl
 
-outside_range : (i at n : ℕ) → (i < at) ⊎ (at + n ≤ i) → in_range i (at, n) ≡ false
+pub outside_range : (i at n : ℕ) → (i < at) ⊎ (at + n ≤ i) → in_range i (at, n) ≡ false
 outside_range i at n (inl low) = ap (λ x. x && nat_lt i (at + n)) (not_le at i low)
   where
     not_le : (a b : ℕ) → b < a → nat_le a b ≡ false
@@ -134,7 +134,7 @@ image_with_length u n image is =
 pub settled_image : (bytes : List ℕ) → IsImage (settled bytes) bytes
 settled_image bytes = record { held_length = (zero, omega arith, refl); bytes = λ i low. inr refl }
 
-inside_range : (i at n : ℕ) → at ≤ i → i < at + n → IsTrue (in_range i (at, n))
+pub inside_range : (i at n : ℕ) → at ≤ i → i < at + n → IsTrue (in_range i (at, n))
 inside_range i at n low high = ap (λ x. x && nat_lt i (at + n)) (le-leb at i low) ∙ le-ltb_true i (at + n) high
   where
     le-ltb_true : (a b : ℕ) → a < b → nat_lt a b ≡ true
@@ -160,7 +160,7 @@ image_written u at n old new is same =
     ]
 
 -- past a length that was held all is loose
-loose_past : (u : Unsynced) (held i : ℕ) → Contains u.lengths held → held ≤ i → IsTrue (is_loose u i)
+pub loose_past : (u : Unsynced) (held i : ℕ) → Contains u.lengths held → held ≤ i → IsTrue (is_loose u i)
 loose_past u held i (k, low, is) past =
     or_right (list_any (in_range i) u.ranges) (list_any (λ m. nat_le m i) u.lengths)
     (list_any_at (λ m. nat_le m i) u.lengths k held low (ap (λ m. nat_le m i) is ∙ le-leb held i past))

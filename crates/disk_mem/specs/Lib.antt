@@ -7,3 +7,7 @@ pub mod LastMounts
 pub mod Lists
 pub mod Plain
 pub mod Streams
+pub mod Tearing
+pub mod TearingLaws
+pub mod TurnLaws
+pub mod Turns

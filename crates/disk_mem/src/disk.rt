@@ -5,8 +5,10 @@ ghost use Rattle.disk_face.specs.Counts.{counted, HasCause};
 ghost use Rattle.disk_face.specs.Images.{IsImage};
 ghost use Rattle.disk_face.specs.Moments.{ResizedImage, Follows, Only, NoMore, Elapses};
 ghost use Rattle.disk_mem.specs.Changes.Change.{Wrote, Sized, Synced};
+ghost use Rattle.disk_mem.specs.Turns.{LeftAt, image_at};
 ghost use Rattle.disk_mem.specs.Histories.{fresh, done, undone, file_of, MayLeave, LeftSince};
 
+use crate::image::{Choice, build};
 use crate::record::{Call, Entry, keep, keep_length, keep_write};
 use crate::replay::{cut_or_grow, put};
 use disk_face::{Disk, DiskFault};
@@ -68,6 +70,20 @@ impl MemDisk {
             turn: 0,
             faults: 0,
         })
+    }
+
+    /// Builds an image of a turn, which a crash might have left at a moment of it. The turn is at
+    /// most `turns()`.
+    pub fn image(&self, turn: u64, choice: Choice) -> Result<Vec<u8>, NoMemory>
+        requires { turn ≤ self.now.turn }
+        ensures is_image { IfOk result (λ image. LeftAt self.now turn image.items) }
+        ensures since { IfOk result (λ image. LeftSince self.now turn image.items) }
+        ensures exact { IfOk result (λ image. image.items ≡ image_at self.now turn choice) }
+    {
+        match build(*self.base.allocator(), &self.base, &self.calls, turn, choice) {
+            Ok(image) => Ok(image),
+            Err(_) => Err(NoMemory),
+        }
     }
 }
 

@@ -3,13 +3,17 @@
 
 mod bay;
 mod disk;
+mod image;
 mod laws;
 mod plain;
 mod record;
 mod replay;
+mod smear;
 mod streams;
+mod turns;
 
 pub use bay::MemBay;
 pub use disk::MemDisk;
+pub use image::Choice;
 pub use plain::PlainDisk;
 pub use streams::{MemSink, MemSource};
