@@ -1,5 +1,5 @@
 -- What is built is the image that is asked for.
-use Rattle.std.specs.Prelude.{Option, None, option_map, slice_get}
+use Rattle.std.specs.Prelude.{None, option_map, slice_get}
 use Rattle.std.proofs.Common.{◌≡◌, ℕ, List, take, drop, sym, ◌∙◌, ap}
 use Rattle.disk_mem.specs.Changes.{content_after}
 use Rattle.disk_mem.specs.Entries.{stamp_of, newest_first}

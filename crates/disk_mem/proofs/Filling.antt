@@ -1,7 +1,7 @@
 -- A range that is filled.
-use Rattle.std.specs.Prelude.{cond, map, slice_index}
-use Rattle.std.proofs.Common.{◌≡◌, ◌⊎◌, ℕ, ◌+◌, ◌-◌, ◌<◌, ◌≤◌, List, ◌++◌, length, take, drop, replicate, min, Bool, true, false, IsTrue, arith, rules, sym, ◌∙◌, ap, inl, inr, refl}
-use Rattle.std.proofs.lemmas.Bool.{cases_lt, le-ltb, and_parts}
+use Rattle.std.specs.Prelude.{cond, slice_index}
+use Rattle.std.proofs.Common.{◌≡◌, ◌⊎◌, ℕ, ◌+◌, ◌-◌, ◌<◌, ◌≤◌, List, length, replicate, min, arith, sym, ◌∙◌, ap, inl, inr}
+use Rattle.std.proofs.lemmas.Bool.{cases_lt}
 use Rattle.std.proofs.lemmas.List.{length-replicate, get_or-replicate}
 use Rattle.std.proofs.lemmas.Grind.{same_number_lists}
 use Rattle.byte_ranges.specs.Lists.{length-map_below, map_below-index}
@@ -29,12 +29,12 @@ filled_is b pos n start stop file from to =
       | inl under ↦ out k (inl under) _ (overwritten-below file start (replicate (stop - start) b) k within (omega (arith, under, inside, from)))
       | inr above ↦ elim (cases_lt k (pos + n)) as (λ x. slice_index (overwritten file start (replicate (stop - start) b)) k ≡ cond (in_range k (pos, n)) b (slice_index file k)) [
         | inl within_range ↦
-          let offset : k ≡ start + (k - start) = omega (arith, above, inside, from) in
-          let short : k - start < stop - start = omega (arith, above, within_range, inside, from, to) in
-          ap (slice_index (overwritten file start (replicate (stop - start) b))) offset
-          ∙ overwritten-inside file start (replicate (stop - start) b) (k - start) within (omega (arith, short, size))
-          ∙ get_or-replicate (stop - start) (k - start) b 0 short
-          ∙ ap (λ test. cond test b (slice_index file k)) (sym (inside_range k pos n above within_range))
+            let offset : k ≡ start + (k - start) = omega (arith, above, inside, from) in
+            let short : k - start < stop - start = omega (arith, above, within_range, inside, from, to) in
+            ap (slice_index (overwritten file start (replicate (stop - start) b))) offset
+            ∙ overwritten-inside file start (replicate (stop - start) b) (k - start) within (omega (arith, short, size))
+            ∙ get_or-replicate (stop - start) (k - start) b 0 short
+            ∙ ap (λ test. cond test b (slice_index file k)) (sym (inside_range k pos n above within_range))
         | inr past ↦ out k (inr past) _ (overwritten-above file start (replicate (stop - start) b) k within (omega (arith, past, inside, size, from, to)))
       ]
     ]

@@ -1,5 +1,5 @@
 -- The record grows at its end.
-use Rattle.std.proofs.Common.{◌+◌, ◌<◌, ℕ, length, take, drop, get_or, sym, arith, ◌≡◌, ◌∙◌, ap, refl, List, [], ◌∷◌, ◌++◌, map, reverse}
+use Rattle.std.proofs.Common.{◌+◌, ◌<◌, ℕ, length, take, get_or, sym, ◌≡◌, ◌∙◌, ap, refl, List, [], ◌∷◌, ◌++◌, map, reverse}
 use Rattle.std.proofs.lemmas.List.{reverse-append, map-append, take_more}
 use Rattle.disk_mem.specs.declared.record.Entry.{Entry}
 use Rattle.disk_mem.specs.Entries.{stamp_of, newest_first}

@@ -1,6 +1,6 @@
 -- The record, call by call.
-use Rattle.std.specs.Prelude.{nat_le, if◌then◌else◌, Bool, true, false, Option, Some, None, option_map, slice_get}
-use Rattle.std.proofs.Common.{◌≡◌, ◌+◌, ◌-◌, ◌<◌, ◌≤◌, ℕ, List, [], ◌∷◌, ◌++◌, length, take, drop, get_or, sym, ◌∙◌, ap, subst, arith, refl}
+use Rattle.std.specs.Prelude.{nat_le, if◌then◌else◌, true, false, Option, Some, None, option_map, slice_get}
+use Rattle.std.proofs.Common.{◌≡◌, ◌+◌, ◌<◌, ◌≤◌, ℕ, List, [], ◌∷◌, ◌++◌, length, take, drop, get_or, sym, ◌∙◌, ap, arith}
 use Rattle.std.proofs.lemmas.Bool.{le-leb}
 use Rattle.std.proofs.lemmas.List.{take_more, take_all, drop_all, length-take, drop-append-le}
 use Rattle.std.proofs.lemmas.Option.{slice_get-get_or, slice_get_past}
@@ -57,7 +57,7 @@ module _ (entries : List Entry) (i : ℕ) (entry : Entry) (low : i < length entr
   no_sync synced within other up_to since = (
     up_to ∙ sym (ap (λ test. if test then stamp_of entry ∷ newest_first (take i entries) else up_to_sync (newest_first (take i entries))) other) ∙ ap up_to_sync (sym (newest_first_more entries i entry low is)),
     ap newest_first one_more ∙ newest_first_push (drop synced (take i entries)) entry ∙ ap (λ calls. stamp_of entry ∷ calls) since
-    ∙ sym (ap (λ test. if test then [] else stamp_of entry ∷ since_sync (newest_first (take i entries))) other) ∙ ap since_sync (sym (newest_first_more entries i entry low is)),
+        ∙ sym (ap (λ test. if test then [] else stamp_of entry ∷ since_sync (newest_first (take i entries))) other) ∙ ap since_sync (sym (newest_first_more entries i entry low is)),
   )
     where
       one_more : drop synced (take (i + 1) entries) ≡ drop synced (take i entries) ++ entry ∷ []

@@ -1,6 +1,5 @@
 -- A disk in memory that keeps no record, as a value.
 use Rattle.std.specs.Prelude.{ℕ, List}
-use Rattle.byte_ranges.specs.Ranges.{overwritten, resized}
 use Rattle.disk_face.specs.Counts.{counted}
 
 -- what reads give, the greatest length, the changing calls so far, and those that failed

@@ -1,22 +1,22 @@
 -- An image that is built call by call is the one that is meant.
-use Rattle.std.specs.Prelude.{◌≡◌, ◌⊎◌, ℕ, ◌+◌, ◌-◌, ◌<◌, ◌≤◌, nat_le, nat_lt, nat_eq, Bool, true, false, cond, ◌||◌, if◌then◌else◌, List, [], ◌∷◌, ◌++◌, length, take, replicate, map, slice_index, Contains, IsTrue, Option, Some, None, refl}
+use Rattle.std.specs.Prelude.{◌≡◌, ◌⊎◌, ℕ, ◌+◌, ◌-◌, ◌<◌, ◌≤◌, nat_le, nat_eq, Bool, true, false, cond, ◌||◌, if◌then◌else◌, List, [], ◌∷◌, ◌++◌, length, take, replicate, slice_index, Contains, IsTrue, Option, Some, None, refl}
 use Rattle.std.specs.List.{list_any}
-use Rattle.std.proofs.Common.{arith, rules, sym, ◌∙◌, ap, subst, inl, inr}
-use Rattle.std.proofs.lemmas.Bool.{leb-true, cases_lt, cases_Bool}
+use Rattle.std.proofs.Common.{arith, rules, sym, ◌∙◌, ap, inl, inr}
+use Rattle.std.proofs.lemmas.Bool.{leb-true, cases_lt}
 use Rattle.std.proofs.lemmas.List.{places}
 use Rattle.std.proofs.lemmas.Grind.{same_number_lists}
-use Rattle.byte_ranges.specs.Lists.{below, length-map_below, map_below-index}
+use Rattle.byte_ranges.specs.Lists.{length-map_below, map_below-index}
 use Rattle.byte_ranges.specs.Ranges.{SameOutside, SameOutside-refl, resized, length-resized, resized-index}
-use Rattle.disk_face.specs.Images.{Unsynced, IsImage, is_loose, in_range, settled, with_range, with_length}
+use Rattle.disk_face.specs.Images.{Unsynced, is_loose, in_range, settled, with_range, with_length}
 use Rattle.disk_face.specs.ImageLaws.{inside_range, loose_past}
-use Rattle.disk_mem.specs.Changes.{Change, Stamped, changed, left_by, content_after, unsynced_after}
+use Rattle.disk_mem.specs.Changes.{Change, Stamped, changed, content_after, unsynced_after}
 use Rattle.disk_mem.specs.Changes.Change.{Wrote, Sized, Synced}
 use Rattle.disk_mem.specs.Histories.{History}
 use Rattle.disk_mem.specs.HistoryLaws.{present_is_image, changed_outside}
 use Rattle.disk_mem.specs.Turns.{torn, within_write, within_next_write, next_after, ended_by, newest_at, image_at}
 use Rattle.disk_mem.specs.declared.image.Choice.{Choice}
 use Rattle.disk_mem.specs.declared.image.Choice.TheVariants.{Durable, Newest, Torn}
-use Rattle.disk_mem.specs.Tearing.{filled, smeared, smeared_after, smeared_within, smeared_next, up_to_sync, since_sync, finished}
+use Rattle.disk_mem.specs.Tearing.{filled, smeared_after, smeared_within, smeared_next, up_to_sync, since_sync, finished}
 
 length-torn : (b : ℕ) (u : Unsynced) (file : List ℕ) → length (torn b u file) ≡ length file
 length-torn b u file = length-map_below (λ i. cond (is_loose u i) b (slice_index file i)) (length file)
@@ -114,7 +114,7 @@ torn_smeared b base (call ∷ earlier) = by_change call.began call.change (torn_
   where
     by_change : (began : ℕ) (change : Change) → torn b (unsynced_after base earlier) (content_after base earlier) ≡ smeared_after b (content_after base (up_to_sync earlier)) (since_sync earlier)
         → torn b (unsynced_after base (record { began = began; change = change } ∷ earlier)) (content_after base (record { began = began; change = change } ∷ earlier))
-          ≡ smeared_after b (content_after base (up_to_sync (record { began = began; change = change } ∷ earlier))) (since_sync (record { began = began; change = change } ∷ earlier))
+        ≡ smeared_after b (content_after base (up_to_sync (record { began = began; change = change } ∷ earlier))) (since_sync (record { began = began; change = change } ∷ earlier))
     by_change began (Wrote at bytes) so_far = torn_range b (unsynced_after base earlier) at (length bytes) (content_after base earlier) _ (changed_outside (content_after base earlier) at bytes) ∙ ap (filled b at (length bytes)) so_far
     by_change began (Sized n) so_far = torn_length b (unsynced_after base earlier) n (content_after base earlier) (present_is_image base earlier).held_length ∙ ap (λ (xs : List ℕ). take n xs ++ replicate (n - length xs) b) so_far
     by_change began Synced so_far = torn_settled b (content_after base earlier)

@@ -1,14 +1,13 @@
 -- The images that are built are left at a moment of the turn, and so since it.
-use Rattle.std.specs.Prelude.{◌≡◌, ◌⊎◌, ℕ, ◌+◌, ◌<◌, ◌≤◌, nat_le, nat_eq, Bool, true, false, cond, if◌then◌else◌, List, [], ◌∷◌, length, map, slice_index, Contains, IsTrue, Option, Some, None, refl}
-use Rattle.std.proofs.Common.{arith, sym, ◌∙◌, ap, subst, inl, inr}
-use Rattle.std.proofs.lemmas.Bool.{leb-true, cases_lt, cases_Bool}
-use Rattle.byte_ranges.specs.Lists.{below, length-map_below, map_below-index}
-use Rattle.disk_face.specs.Counts.{last, counted}
-use Rattle.disk_face.specs.Images.{Unsynced, IsImage, is_loose, settled, with_range, with_length}
+use Rattle.std.specs.Prelude.{◌≡◌, ◌⊎◌, ℕ, ◌<◌, ◌≤◌, nat_le, nat_eq, Bool, true, false, cond, if◌then◌else◌, List, [], ◌∷◌, length, slice_index, Contains, IsTrue, Option, Some, None, refl}
+use Rattle.std.proofs.Common.{arith, sym, ◌∙◌, subst, inl, inr}
+use Rattle.byte_ranges.specs.Lists.{length-map_below, map_below-index}
+use Rattle.disk_face.specs.Counts.{counted}
+use Rattle.disk_face.specs.Images.{Unsynced, IsImage, is_loose}
 use Rattle.disk_face.specs.ImageLaws.{image_with_range, image_with_length, settled_image}
 use Rattle.disk_mem.specs.Changes.{Change, Stamped, during, left_by, content_after, unsynced_after}
 use Rattle.disk_mem.specs.Changes.Change.{Wrote, Sized, Synced}
-use Rattle.disk_mem.specs.Histories.{History, unsynced_of, LeftBefore, LeftSince, EndedBy}
+use Rattle.disk_mem.specs.Histories.{History, LeftBefore, LeftSince, EndedBy}
 use Rattle.disk_mem.specs.HistoryLaws.{present_is_image, image_during}
 use Rattle.disk_mem.specs.Turns.{at_turn, ended_by, next_after, within_next, within_next_write, within_write, LeftAt, durable_at, newest_at, torn, torn_at, image_at}
 use Rattle.disk_mem.specs.declared.image.Choice.{Choice}

@@ -59,17 +59,21 @@ impl<D: Disk> MemBay<D> {
     {
         &self.disk
     }
-}
-
-impl<D: Disk + Drop> MemBay<D> {
-    ghost use Rattle.disk_mem.specs.Bays.{disk_of};
 
     /// Gives the disk up.
     pub fn into_disk(self) -> D
-        ensures ready { IsTrue (D.Disk.is_ready result) }
+        ensures ready { IsTrue (D.is_ready result) }
         ensures disk { result ≡ disk_of self }
     {
-        self.disk
+        let MemBay {
+            alloc: _,
+            name: _,
+            there: _,
+            last: _,
+            disk,
+            faults: _,
+        } = self;
+        disk
     }
 }
 

@@ -57,7 +57,8 @@ impl MemDisk {
     /// A disk that holds these bytes, synced.
     #[tactic(auto, using(crate::proofs::Records::newest_first_none))]
     pub fn from_bytes(alloc: Global, bytes: &[u8]) -> Result<MemDisk, NoMemory>
-        ensures { IfOk result (λ disk. disk ≡ fresh bytes.now) }
+        ensures value { IfOk result (λ disk. disk ≡ fresh bytes.now) }
+        ensures rests { IfOk result (λ disk. Only bytes.now (MayLeave disk)) }
     {
         let (Ok(base), Ok(copy)) = (Vec::from_slice(alloc, bytes), Vec::from_slice(alloc, bytes))
         else {
@@ -80,7 +81,13 @@ impl MemDisk {
         ensures since { IfOk result (λ image. LeftSince self.now turn image.items) }
         ensures exact { IfOk result (λ image. image.items ≡ image_at self.now turn choice) }
     {
-        match build(*self.base.allocator(), &self.base, &self.calls, turn, choice) {
+        match build(
+            *self.base.allocator(),
+            &self.base,
+            &self.calls,
+            turn,
+            choice,
+        ) {
             Ok(image) => Ok(image),
             Err(_) => Err(NoMemory),
         }

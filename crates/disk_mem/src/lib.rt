@@ -10,6 +10,8 @@ mod record;
 mod replay;
 mod smear;
 mod streams;
+#[cfg(test)]
+mod tests;
 mod turns;
 
 pub use bay::MemBay;

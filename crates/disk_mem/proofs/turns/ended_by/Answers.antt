@@ -1,4 +1,4 @@
-use Rattle.std.proofs.Common.{◌≡◌, ◌+◌, ◌-◌, sym, ◌∙◌, ap, subst, take, arith, option_map, slice_get, None}
+use Rattle.std.proofs.Common.{◌≡◌, ◌+◌, ◌-◌, ◌∙◌, subst, take, arith, option_map, slice_get}
 use Rattle.disk_mem.specs.Entries.{stamp_of, newest_first}
 use Rattle.disk_mem.specs.Turns.{at_turn}
 use Rattle.disk_mem.proofs.Walks.{turn_found, turn_more, turn_none}
@@ -19,8 +19,8 @@ later-preserved c =
     record {
       within = omega arith;
       turn = c.later.invariant.turn
-      ∙ subst (λ n. at_turn c.args.turn next (newest_first (take n c.args.entries.now)) ≡ at_turn c.args.turn (option_map stamp_of (slice_get c.args.entries.now (c.later.count - 1))) (newest_first (take (c.later.count - 1) c.args.entries.now))) back
-      (turn_more c.args.entries.now (c.later.count - 1) c.index-entries-count.result (omega arith) c.index-entries-count.is c.args.turn next (omega (arith, c.saturating_add.ensures)));
+          ∙ subst (λ n. at_turn c.args.turn next (newest_first (take n c.args.entries.now)) ≡ at_turn c.args.turn (option_map stamp_of (slice_get c.args.entries.now (c.later.count - 1))) (newest_first (take (c.later.count - 1) c.args.entries.now))) back
+          (turn_more c.args.entries.now (c.later.count - 1) c.index-entries-count.result (omega arith) c.index-entries-count.is c.args.turn next (omega (arith, c.saturating_add.ensures)));
     }
 
 pub returns-clause-turn : goal.returns-clause-turn
