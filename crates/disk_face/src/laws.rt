@@ -1,9 +1,10 @@
 //! What follows for any disk: how the clauses of two calls join.
 ghost use Rattle.std.specs.Prelude.{◌≡◌, ◌⊎◌, ◌+◌, ◌<◌, ◌≤◌, ℕ, List, length, IsTrue, IfOk};
 ghost use Rattle.disk_face.specs.Counts.{last};
-ghost use Rattle.disk_face.specs.Moments.{Leaves, LeftOnly, Follows, Only};
+ghost use Rattle.disk_face.specs.Moments.{Leaves, LeftOnly, ResizedImage, Follows, Only};
 ghost use Rattle.byte_ranges.specs.Ranges.{overwritten, SameOutside};
-ghost use Rattle.disk_face.specs.Images.{IsImage, settled};
+ghost use Rattle.disk_face.specs.Images.{Unsynced, IsImage, settled, with_length};
+ghost use Rattle.std.specs.Prelude.{Contains};
 
 use crate::{Disk, DiskFault};
 
@@ -29,4 +30,9 @@ pub fn write_both<D: Disk>(
 /// The one image after a sync is what was synced.
 pub fn settled_is_the_one_image()
     ensures { (bytes image : List ℕ) → IsImage (settled bytes) image → image ≡ bytes }
+{}
+
+/// A length that is set takes part in each image, and leaves what lies below it and below both ends.
+pub fn a_length_leaves_what_lies_below()
+    ensures { (u : Unsynced) (n held : ℕ) (image : List ℕ) → Contains u.lengths held → IsImage (with_length u n) image → (before : List ℕ) × IsImage u before × ResizedImage n before image }
 {}

@@ -1,0 +1,31 @@
+-- What callers see of a bay of one file.
+use Rattle.std.specs.Prelude.{ℕ, Bool, List, bytes_eq, string_bytes, Option}
+use Rattle.disk_face.specs.Mounts.{Mount}
+use Rattle.disk_mem.specs.LastMounts.{mount_of}
+use Rattle.disk_face.specs.declared.Disk.{Ghosts}
+use Rattle.disk_mem.specs.declared.bay.MemBay.{MemBay}
+
+module _ {D : Type 0} {g : Ghosts D} where
+  -- the disk inside
+  abbrev pub disk_of : MemBay D g → D
+  disk_of bay = bay.disk
+
+  -- the name of its file
+  abbrev pub name_of : MemBay D g → List ℕ
+  name_of bay = string_bytes bay.name
+
+  -- its file is there
+  abbrev pub has_its_file : MemBay D g → Bool
+  has_its_file bay = bay.there
+
+  -- how many mounts have failed
+  abbrev pub own_faults : MemBay D g → ℕ
+  own_faults bay = bay.faults
+
+  -- the last mount that was answered
+  abbrev pub last_mount_of : MemBay D g → Option Mount
+  last_mount_of bay = mount_of (string_bytes bay.name) bay.last
+
+  -- the bytes are the name of its file
+  abbrev pub is_own : MemBay D g → List ℕ → Bool
+  is_own bay name = bytes_eq (string_bytes bay.name) name

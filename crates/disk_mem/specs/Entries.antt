@@ -1,0 +1,19 @@
+-- The record that a disk in memory keeps, as calls.
+use Rattle.std.specs.Prelude.{List, map, reverse}
+use Rattle.disk_mem.specs.Changes.{Change, Stamped}
+use Rattle.disk_mem.specs.Changes.Change.{Wrote, Sized, Synced}
+use Rattle.disk_mem.specs.declared.record.Call.{Call}
+use Rattle.disk_mem.specs.declared.record.Call.TheVariants.{Write, Resize, Sync}
+use Rattle.disk_mem.specs.declared.record.Entry.{Entry}
+
+abbrev pub change_of : Call → Change
+change_of (Write at bytes) = Wrote at bytes.items
+change_of (Resize n) = Sized n
+change_of Sync = Synced
+
+abbrev pub stamp_of : Entry → Stamped
+stamp_of entry = record { began = entry.began; change = change_of entry.call }
+
+-- the calls of a record that keeps the oldest first
+unfoldable pub newest_first : List Entry → List Stamped
+newest_first entries = reverse (map stamp_of entries)

@@ -1,0 +1,13 @@
+pub mod Bays
+pub mod Changes
+pub mod Entries
+pub mod Histories
+pub mod HistoryLaws
+pub mod LastMounts
+pub mod Lists
+pub mod Plain
+pub mod Streams
+pub mod Tearing
+pub mod TearingLaws
+pub mod TurnLaws
+pub mod Turns

@@ -1,0 +1,40 @@
+-- A source and a sink in memory, as values.
+use Rattle.std.specs.Prelude.{ℕ, ◌+◌, nat_lt, Bool, ◌||◌, List, ◌++◌, length, drop}
+use Rattle.disk_face.specs.Counts.{counted}
+use Rattle.disk_mem.specs.Lists.{next_call, is_listed}
+
+-- what a source has left, how much it gives at most in a call, the calls that fail, the calls so far, and the failed ones among them
+pub record Supply : Type 0 where
+  pub left : List ℕ
+  pub piece : ℕ
+  pub fails : List ℕ
+  pub calls : ℕ
+  pub faults : ℕ
+
+-- after a call that took n bytes
+abbrev pub supply_after : ℕ → Supply → Supply
+supply_after n s = record s { left = drop n s.left; calls = next_call s.calls }
+
+-- after a call that failed
+abbrev pub supply_failed : Supply → Supply
+supply_failed s = record s { calls = next_call s.calls; faults = counted s.faults 1 }
+
+-- what was put, how much may be put in all, the calls that fail, the calls so far, and the failed ones among them
+pub record Store : Type 0 where
+  pub given : List ℕ
+  pub room : ℕ
+  pub fails : List ℕ
+  pub calls : ℕ
+  pub faults : ℕ
+
+-- the next call fails at these bytes: it is listed, or they don't fit in the rest of the room
+abbrev pub put_fails : Store → List ℕ → Bool
+put_fails s bytes = is_listed s.fails (next_call s.calls) || nat_lt s.room (length s.given + length bytes)
+
+-- after a call that put the bytes
+abbrev pub store_after : List ℕ → Store → Store
+store_after bytes s = record s { given = s.given ++ bytes; calls = next_call s.calls }
+
+-- after a call that failed
+abbrev pub store_failed : Store → Store
+store_failed s = record s { calls = next_call s.calls; faults = counted s.faults 1 }
