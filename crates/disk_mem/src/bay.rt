@@ -94,6 +94,8 @@ impl<D: Disk> Disk for MemBay<D> {
 
     ghost is_ready = { λ bay. is_mounted (mount_of (string_bytes bay.name) bay.last) };
 
+    ghost last_mount = { λ bay. mount_of (string_bytes bay.name) bay.last };
+
     ghost has_content = { λ bay. D.has_content bay.disk };
 
     ghost both_told = { λ bay. D.both_told bay.disk };
@@ -130,8 +132,6 @@ impl<D: Disk> Disk for MemBay<D> {
 impl<D: Disk> Bay for MemBay<D> {
     ghost use Rattle.std.specs.Prelude.{◌||◌, if◌then◌else◌, is_ok};
     ghost use Rattle.disk_mem.specs.Bays.{disk_of, name_of, has_its_file, own_faults, last_mount_of, is_own};
-
-    ghost last_mount = { λ bay. mount_of (string_bytes bay.name) bay.last };
 
     ghost tells_names = { λ _. true };
 
