@@ -41,3 +41,7 @@ formatted file =
 -- of the slots of a file, by whether each is open
 abbrev pub picked : List ℕ → SuperBlock → Bool → Bool → Result InUse SlotRefusal
 picked file block first_open second_open = choice.pick block first_open second_open (choice.sequence_at file block.names 0) (choice.sequence_at file block.names 1)
+
+-- the slot that was found has a header that isn't refused
+abbrev pub chosen_header : List ℕ → Found → Type 0
+chosen_header file found = (header : Header) × (choice.chosen file ≡ Ok (chosen_of found header))

@@ -2,5 +2,7 @@
 #![tactic(auto)]
 
 mod find;
+mod pair;
 
 pub use find::{Found, SlotFault, choose, gate_at, read_chosen_header, slot_at};
+pub use pair::SlotPair;
