@@ -1,0 +1,8 @@
+//! The trusted edge: a real file of the runtime, and its standard reader and writer.
+#![tactic(auto)]
+
+mod bay;
+mod streams;
+
+pub use bay::FileBay;
+pub use streams::{StdSink, StdSource};
