@@ -12,3 +12,6 @@ mod words;
 
 pub use stop::{Stop, StoreFault};
 pub use top::{Outcome, costore};
+
+#[cfg(test)]
+mod tests;

@@ -6,6 +6,7 @@ ghost use Rattle.disk_face.specs.Mounts.{is_mounted};
 
 use crate::{Disk, DiskFault};
 
+/// What a mount found: the file was there, or it was made, or it is absent.
 #[derive(Clone, Copy, Debug, PartialEq, Eq)]
 pub enum Mounted {
     There,
@@ -13,6 +14,7 @@ pub enum Mounted {
     Absent,
 }
 
+/// A place that has files by name, of which one may be mounted. Once it is, the bay is that disk.
 pub trait Bay: Disk {
     /// Whether it tells which names are there, and whether a name is.
     ghost tells_names: { Self → Bool };

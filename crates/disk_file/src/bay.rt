@@ -1,5 +1,5 @@
 //! A bay of real files.
-ghost use Rattle.std.specs.Prelude.{◌≡◌, ◌≤◌, is_some, true, false, refl, [], IfOk, IsTrue, IsFalse};
+ghost use Rattle.std.specs.Prelude.{◌≡◌, ◌≤◌, None, is_some, true, false, refl, [], IfOk, IsTrue, IsFalse};
 ghost use Rattle.disk_face.specs.Counts.{Rose, counted};
 ghost use Rattle.disk_face.specs.Mounts.{has_file, is_mounted};
 ghost use Rattle.disk_file.specs.Mounted.{mount_of};
@@ -33,7 +33,9 @@ pub struct FileBay<'a, R: Files> {
 
 impl<'a, R: Files> FileBay<'a, R> {
     /// A bay that has mounted nothing.
-    pub fn new(rt: &'a R, alloc: Global) -> FileBay<'a, R> {
+    pub fn new(rt: &'a R, alloc: Global) -> FileBay<'a, R>
+        ensures { mount_of result.last ≡ None }
+    {
         FileBay {
             rt,
             alloc,
