@@ -1,5 +1,5 @@
 -- What callers see of a bay of one file.
-use Rattle.std.specs.Prelude.{ℕ, Bool, List, bytes_eq, string_bytes, Option}
+use Rattle.std.specs.Prelude.{◌≡◌, ℕ, Bool, List, bytes_eq, string_bytes, Option}
 use Rattle.disk_face.specs.Mounts.{Mount}
 use Rattle.disk_mem.specs.LastMounts.{mount_of}
 use Rattle.disk_face.specs.declared.Disk.{Ghosts}
@@ -29,3 +29,10 @@ module _ {D : Type 0} {g : Ghosts D} where
   -- the bytes are the name of its file
   abbrev pub is_own : MemBay D g → List ℕ → Bool
   is_own bay name = bytes_eq (string_bytes bay.name) name
+
+  -- all but the disk is as it was
+  pub record SameBay (old new : MemBay D g) : Type 0 where
+    pub name : name_of new ≡ name_of old
+    pub there : has_its_file new ≡ has_its_file old
+    pub mount : last_mount_of new ≡ last_mount_of old
+    pub faults : own_faults new ≡ own_faults old

@@ -6,11 +6,13 @@ use Rattle.disk_mem.specs.declared.record.Call.{Call}
 use Rattle.disk_mem.specs.declared.record.Call.TheVariants.{Write, Resize, Sync}
 use Rattle.disk_mem.specs.declared.record.Entry.{Entry}
 
+-- what a recorded call asked
 abbrev pub change_of : Call → Change
 change_of (Write at bytes) = Wrote at bytes.items
 change_of (Resize n) = Sized n
 change_of Sync = Synced
 
+-- a recorded call with its turn
 abbrev pub stamp_of : Entry → Stamped
 stamp_of entry = record { began = entry.began; change = change_of entry.call }
 

@@ -20,7 +20,7 @@ abbrev pub supply_failed : Supply → Supply
 supply_failed s = record s { calls = next_call s.calls; faults = counted s.faults 1 }
 
 -- what was put, how much may be put in all, the calls that fail, the calls so far, and the failed ones among them
-pub record Store : Type 0 where
+pub record Intake : Type 0 where
   pub given : List ℕ
   pub room : ℕ
   pub fails : List ℕ
@@ -28,13 +28,13 @@ pub record Store : Type 0 where
   pub faults : ℕ
 
 -- the next call fails at these bytes: it is listed, or they don't fit in the rest of the room
-abbrev pub put_fails : Store → List ℕ → Bool
+abbrev pub put_fails : Intake → List ℕ → Bool
 put_fails s bytes = is_listed s.fails (next_call s.calls) || nat_lt s.room (length s.given + length bytes)
 
 -- after a call that put the bytes
-abbrev pub store_after : List ℕ → Store → Store
-store_after bytes s = record s { given = s.given ++ bytes; calls = next_call s.calls }
+abbrev pub intake_after : List ℕ → Intake → Intake
+intake_after bytes s = record s { given = s.given ++ bytes; calls = next_call s.calls }
 
 -- after a call that failed
-abbrev pub store_failed : Store → Store
-store_failed s = record s { calls = next_call s.calls; faults = counted s.faults 1 }
+abbrev pub intake_failed : Intake → Intake
+intake_failed s = record s { calls = next_call s.calls; faults = counted s.faults 1 }

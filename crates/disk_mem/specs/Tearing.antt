@@ -22,6 +22,7 @@ abbrev pub smeared_after : ℕ → List ℕ → List Stamped → List ℕ
 smeared_after b file [] = file
 smeared_after b file (call ∷ earlier) = smeared b call.change (smeared_after b file earlier)
 
+-- the call is a sync
 abbrev pub is_sync : Change → Bool
 is_sync (Wrote at bytes) = false
 is_sync (Sized n) = false

@@ -15,9 +15,11 @@ at_turn t next [] = (next, [])
 at_turn t next (call ∷ earlier) =
     if nat_le (counted call.began 1) t then (next, call ∷ earlier) else at_turn t (Some call) earlier
 
+-- the calls that had ended by a turn, the newest first
 abbrev pub ended_by : History → ℕ → List Stamped
 ended_by h t = (at_turn t None h.calls).1
 
+-- the recorded call after them, if any
 abbrev pub next_after : History → ℕ → Option Stamped
 next_after h t = (at_turn t None h.calls).0
 

@@ -78,6 +78,11 @@ impl<D: Disk> MemBay<D> {
 }
 
 impl<D: Disk> Disk for MemBay<D> {
+    ghost use Rattle.std.specs.Prelude.{◌⊎◌};
+    ghost use Rattle.byte_ranges.specs.Ranges.{bytes_at, overwritten, resized, SameOutside};
+    ghost use Rattle.disk_face.specs.Moments.{ResizedImage, Follows, Only, NoMore, Elapses};
+    ghost use Rattle.disk_mem.specs.Bays.{disk_of, own_faults, last_mount_of, SameBay};
+
     ghost tells = { λ bay. D.tells bay.disk };
 
     ghost file = { λ bay. D.file bay.disk };
@@ -104,23 +109,85 @@ impl<D: Disk> Disk for MemBay<D> {
 
     ghost only_now = { λ bay. D.only_now bay.disk };
 
-    fn len(&mut self) -> Result<u64, DiskFault> {
+    fn len(&mut self) -> Result<u64, DiskFault>
+        requires { IsTrue (is_mounted (last_mount_of self.old)) }
+        ensures length { IsTrue (D.tells (disk_of self.old)) → IfOk result (λ n. n ≡ length (D.file (disk_of self.old))) }
+        ensures file { IsTrue (D.tells (disk_of self.old)) → D.file (disk_of self.new) ≡ D.file (disk_of self.old) }
+        ensures images { NoMore (D.may_leave (disk_of self.old)) (D.may_leave (disk_of self.new)) }
+        ensures time { Elapses (D.turn (disk_of self.old)) (D.turn (disk_of self.new)) (D.left_since (disk_of self.old)) (D.left_since (disk_of self.new)) (D.may_leave (disk_of self.new)) }
+        ensures turn { D.turn (disk_of self.new) ≡ D.turn (disk_of self.old) }
+        ensures cause { HasCause (D.faults (disk_of self.old) + own_faults self.old) (D.faults (disk_of self.new) + own_faults self.new) result }
+        ensures told { D.tells (disk_of self.new) ≡ D.tells (disk_of self.old) }
+        ensures images_told { D.tells_images (disk_of self.new) ≡ D.tells_images (disk_of self.old) }
+        ensures ready { IsTrue (is_mounted (last_mount_of self.new)) }
+        ensures bay { SameBay self.old self.new }
+    {
         self.disk.len()
     }
 
-    fn read_at(&mut self, pos: u64, out: &mut [u8]) -> Result<(), DiskFault> {
+    fn read_at(&mut self, pos: u64, out: &mut [u8]) -> Result<(), DiskFault>
+        requires ready { IsTrue (is_mounted (last_mount_of self.old)) }
+        requires within { IsTrue (D.tells (disk_of self.old)) → pos + length out.old ≤ length (D.file (disk_of self.old)) }
+        ensures bytes { IsTrue (D.tells (disk_of self.old)) → OnOk result (out.new ≡ bytes_at (D.file (disk_of self.old)) pos (length out.old)) }
+        ensures file { IsTrue (D.tells (disk_of self.old)) → D.file (disk_of self.new) ≡ D.file (disk_of self.old) }
+        ensures images { NoMore (D.may_leave (disk_of self.old)) (D.may_leave (disk_of self.new)) }
+        ensures time { Elapses (D.turn (disk_of self.old)) (D.turn (disk_of self.new)) (D.left_since (disk_of self.old)) (D.left_since (disk_of self.new)) (D.may_leave (disk_of self.new)) }
+        ensures turn { D.turn (disk_of self.new) ≡ D.turn (disk_of self.old) }
+        ensures cause { HasCause (D.faults (disk_of self.old) + own_faults self.old) (D.faults (disk_of self.new) + own_faults self.new) result }
+        ensures told { D.tells (disk_of self.new) ≡ D.tells (disk_of self.old) }
+        ensures images_told { D.tells_images (disk_of self.new) ≡ D.tells_images (disk_of self.old) }
+        ensures ready { IsTrue (is_mounted (last_mount_of self.new)) }
+        ensures bay { SameBay self.old self.new }
+    {
         self.disk.read_at(pos, out)
     }
 
-    fn write_at(&mut self, pos: u64, bytes: &[u8]) -> Result<(), DiskFault> {
+    fn write_at(&mut self, pos: u64, bytes: &[u8]) -> Result<(), DiskFault>
+        requires ready { IsTrue (is_mounted (last_mount_of self.old)) }
+        requires within { IsTrue (D.tells (disk_of self.old)) → pos + length bytes.now ≤ length (D.file (disk_of self.old)) }
+        ensures written { IsTrue (D.tells (disk_of self.old)) → OnOk result (D.file (disk_of self.new) ≡ overwritten (D.file (disk_of self.old)) pos bytes.now) }
+        ensures others { IsTrue (D.tells (disk_of self.old)) → SameOutside pos (length bytes.now) (D.file (disk_of self.old)) (D.file (disk_of self.new)) }
+        ensures images { Follows (SameOutside pos (length bytes.now)) (D.may_leave (disk_of self.old)) (D.may_leave (disk_of self.new)) }
+        ensures time { Elapses (D.turn (disk_of self.old)) (D.turn (disk_of self.new)) (D.left_since (disk_of self.old)) (D.left_since (disk_of self.new)) (D.may_leave (disk_of self.new)) }
+        ensures turn { D.turn (disk_of self.new) ≡ counted (D.turn (disk_of self.old)) 1 }
+        ensures cause { HasCause (D.faults (disk_of self.old) + own_faults self.old) (D.faults (disk_of self.new) + own_faults self.new) result }
+        ensures told { D.tells (disk_of self.new) ≡ D.tells (disk_of self.old) }
+        ensures images_told { D.tells_images (disk_of self.new) ≡ D.tells_images (disk_of self.old) }
+        ensures ready { IsTrue (is_mounted (last_mount_of self.new)) }
+        ensures bay { SameBay self.old self.new }
+    {
         self.disk.write_at(pos, bytes)
     }
 
-    fn set_len(&mut self, n: u64) -> Result<(), DiskFault> {
+    fn set_len(&mut self, n: u64) -> Result<(), DiskFault>
+        requires { IsTrue (is_mounted (last_mount_of self.old)) }
+        ensures resized { IsTrue (D.tells (disk_of self.old)) → OnOk result (D.file (disk_of self.new) ≡ resized (D.file (disk_of self.old)) n) }
+        ensures either { IsTrue (D.tells (disk_of self.old)) → OnErr result ((D.file (disk_of self.new) ≡ D.file (disk_of self.old)) ⊎ (D.file (disk_of self.new) ≡ resized (D.file (disk_of self.old)) n)) }
+        ensures images { Follows (ResizedImage n) (D.may_leave (disk_of self.old)) (D.may_leave (disk_of self.new)) }
+        ensures time { Elapses (D.turn (disk_of self.old)) (D.turn (disk_of self.new)) (D.left_since (disk_of self.old)) (D.left_since (disk_of self.new)) (D.may_leave (disk_of self.new)) }
+        ensures turn { D.turn (disk_of self.new) ≡ counted (D.turn (disk_of self.old)) 1 }
+        ensures cause { HasCause (D.faults (disk_of self.old) + own_faults self.old) (D.faults (disk_of self.new) + own_faults self.new) result }
+        ensures told { D.tells (disk_of self.new) ≡ D.tells (disk_of self.old) }
+        ensures images_told { D.tells_images (disk_of self.new) ≡ D.tells_images (disk_of self.old) }
+        ensures ready { IsTrue (is_mounted (last_mount_of self.new)) }
+        ensures bay { SameBay self.old self.new }
+    {
         self.disk.set_len(n)
     }
 
-    fn sync(&mut self) -> Result<(), DiskFault> {
+    fn sync(&mut self) -> Result<(), DiskFault>
+        requires { IsTrue (is_mounted (last_mount_of self.old)) }
+        ensures rests { OnOk result (Only (D.file (disk_of self.old)) (D.may_leave (disk_of self.new))) }
+        ensures file { IsTrue (D.tells (disk_of self.old)) → D.file (disk_of self.new) ≡ D.file (disk_of self.old) }
+        ensures images { NoMore (D.may_leave (disk_of self.old)) (D.may_leave (disk_of self.new)) }
+        ensures time { Elapses (D.turn (disk_of self.old)) (D.turn (disk_of self.new)) (D.left_since (disk_of self.old)) (D.left_since (disk_of self.new)) (D.may_leave (disk_of self.old)) }
+        ensures turn { D.turn (disk_of self.new) ≡ counted (D.turn (disk_of self.old)) 1 }
+        ensures cause { HasCause (D.faults (disk_of self.old) + own_faults self.old) (D.faults (disk_of self.new) + own_faults self.new) result }
+        ensures told { D.tells (disk_of self.new) ≡ D.tells (disk_of self.old) }
+        ensures images_told { D.tells_images (disk_of self.new) ≡ D.tells_images (disk_of self.old) }
+        ensures ready { IsTrue (is_mounted (last_mount_of self.new)) }
+        ensures bay { SameBay self.old self.new }
+    {
         self.disk.sync()
     }
 

@@ -3,7 +3,7 @@ ghost use Rattle.std.specs.Prelude.{◌≡◌, ◌<◌, ◌≤◌, ◌↔◌, mi
 ghost use Rattle.disk_face.specs.Counts.{HasCause};
 ghost use Rattle.disk_face.specs.Streams.{Takes, Puts};
 ghost use Rattle.disk_mem.specs.Lists.{next_call, is_listed};
-ghost use Rattle.disk_mem.specs.Streams.{supply_after, supply_failed, put_fails, store_after, store_failed};
+ghost use Rattle.disk_mem.specs.Streams.{supply_after, supply_failed, put_fails, intake_after, intake_failed};
 
 use disk_face::{Sink, SinkFault, Source, SourceFault};
 use slot_codec::NoMemory;
@@ -92,9 +92,9 @@ pub struct MemSink {
 
 impl Model for MemSink {
     ghost use Rattle.std.specs.Prelude.{◌≤◌, length, vec_capacity};
-    ghost use Rattle.disk_mem.specs.Streams.{Store};
+    ghost use Rattle.disk_mem.specs.Streams.{Intake};
 
-    ghost Value = { Store };
+    ghost Value = { Intake };
 
     ghost view = { λ s. record { given = s.bytes.items; room = s.room; fails = s.fails.items; calls = s.calls; faults = s.faults } };
 
@@ -140,8 +140,8 @@ impl Sink for MemSink {
         ensures put { Puts self.old.given self.new.given bytes.now result }
         ensures cause { HasCause self.old.faults self.new.faults result }
         ensures fails { IsErr result ↔ IsTrue (put_fails self.old bytes.now) }
-        ensures ok { OnOk result (self.new ≡ store_after bytes.now self.old) }
-        ensures err { OnErr result (self.new ≡ store_failed self.old) }
+        ensures ok { OnOk result (self.new ≡ intake_after bytes.now self.old) }
+        ensures err { OnErr result (self.new ≡ intake_failed self.old) }
     {
         self.calls = self.calls.saturating_add(1);
         let fits = bytes.len() as u64 <= self.room - self.bytes.len() as u64;
