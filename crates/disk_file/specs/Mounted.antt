@@ -1,5 +1,5 @@
 -- The last mount that a bay of real files keeps.
-use Rattle.std.specs.Prelude.{List, ℕ, Option, Some, None, string_bytes}
+use Rattle.std.specs.Prelude.{Option, Some, None, string_bytes}
 use Rattle.disk_face.specs.Mounts.{Mount}
 use Rattle.disk_file.specs.declared.bay.Last.{Last}
 

@@ -171,7 +171,11 @@ where
         match find_or_make(self.rt, name, make) {
             Ok((file, answer)) => {
                 self.file = file;
-                self.last = Some(Last { name: copy, make, answer });
+                self.last = Some(Last {
+                    name: copy,
+                    make,
+                    answer,
+                });
                 Ok(answer)
             }
             Err(_) => Err(self.fail()),
@@ -190,7 +194,11 @@ fn find_or_make<R: Files>(rt: &R, name: &str, make: bool) -> io::Result<(Option<
         Err(error) if error.kind() != ErrorKind::NotFound => Err(error),
         Err(_) if !make => Ok((None, Mounted::Absent)),
         Err(_) => {
-            let file = OpenOptions::new().read(true).write(true).create_new(true).open(rt, name)?;
+            let file = OpenOptions::new()
+                .read(true)
+                .write(true)
+                .create_new(true)
+                .open(rt, name)?;
             Ok((Some(file), Mounted::Made))
         }
     }
