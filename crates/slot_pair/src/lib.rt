@@ -2,6 +2,7 @@
 #![tactic(auto)]
 
 mod find;
+mod format;
 mod pair;
 
 pub use find::{Found, SlotFault, choose, gate_at, read_chosen_header, slot_at};
