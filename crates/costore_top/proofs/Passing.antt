@@ -54,6 +54,9 @@ passed-none data_len name text at n p = refl
 pub passed-stops : (data_len : ℕ) (name : List ℕ) (m : ℕ) (text : List ℕ) (at n : ℕ) (p : Pass) (e : Stop) → StopsAs (or_no_store (first_record text at p.before)) e → StopsAs (passed data_len name (suc m) text at n p) e
 passed-stops data_len name m text at n p stop.Disk h = h
 passed-stops data_len name m text at n p stop.Sink h = h
+passed-stops data_len name m text at n p stop.Words h = passed-stop data_len name m text at n p stop.Words h
+passed-stops data_len name m text at n p stop.NoFile h = passed-stop data_len name m text at n p stop.NoFile h
+passed-stops data_len name m text at n p (stop.Taken len) h = passed-stop data_len name m text at n p (stop.Taken len) h
 passed-stops data_len name m text at n p stop.Missing h = passed-stop data_len name m text at n p stop.Missing h
 passed-stops data_len name m text at n p stop.NotBuilt h = passed-stop data_len name m text at n p stop.NotBuilt h
 passed-stops data_len name m text at n p (stop.NotStore f) h = passed-stop data_len name m text at n p (stop.NotStore f) h

@@ -10,6 +10,9 @@ use Rattle.costore_top.specs.Getting.{StopsAs}
 pub StopsAs-then : {A B : Type 0} (x : Result A Stop) (next : A → Result B Stop) (e : Stop) → StopsAs x e → StopsAs (x >>= next) e
 StopsAs-then x next stop.Disk h = h
 StopsAs-then x next stop.Sink h = h
+StopsAs-then x next stop.Words h = ap (λ y. y >>= next) h
+StopsAs-then x next stop.NoFile h = ap (λ y. y >>= next) h
+StopsAs-then x next (stop.Taken n) h = ap (λ y. y >>= next) h
 StopsAs-then x next stop.Missing h = ap (λ y. y >>= next) h
 StopsAs-then x next stop.NotBuilt h = ap (λ y. y >>= next) h
 StopsAs-then x next (stop.NotStore f) h = ap (λ y. y >>= next) h
@@ -23,6 +26,9 @@ pub expected_err : {A : Type 0} (x r : Result A Stop) → r ≡ x → IfErr r (S
 expected_err x (Ok a) h = tt
 expected_err x (Err stop.Disk) h = tt
 expected_err x (Err stop.Sink) h = tt
+expected_err x (Err stop.Words) h = sym h
+expected_err x (Err stop.NoFile) h = sym h
+expected_err x (Err (stop.Taken n)) h = sym h
 expected_err x (Err stop.Missing) h = sym h
 expected_err x (Err stop.NotBuilt) h = sym h
 expected_err x (Err (stop.NotStore f)) h = sym h

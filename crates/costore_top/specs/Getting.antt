@@ -4,7 +4,7 @@ use Rattle.std.specs.Str.{bytes_eq}
 use Rattle.byte_ranges.specs.Ranges.{bytes_at}
 use Rattle.byte_ranges.specs.Lists.{◌>>=◌}
 use Rattle.slot_codec.specs.Spelling.{head_len}
-use Rattle.slot_codec.specs.Choice.{InUse, SlotRefusal, Chosen, slot_in_use, chosen, records_of}
+use Rattle.slot_codec.specs.Choice.{SlotRefusal, Chosen, chosen, records_of}
 use Rattle.slot_codec.specs.Choice as choice
 use Rattle.slot_codec.specs.declared.codec.Kind.{Kind}
 use Rattle.slot_codec.specs.declared.codec.Kind.TheVariants.{Settled, Moving}
@@ -34,22 +34,14 @@ abbrev pub or_no_store : {A : Type 0} → Result A SlotRefusal → Result A Stop
 or_no_store (Ok x) = Ok x
 or_no_store (Err r) = Err (stop.NotStore (fault.Slot (fault_of r)))
 
--- the gate of slot 1 is open
-abbrev pub is_second_open : Result InUse SlotRefusal → Bool
-is_second_open (Ok u) = u.other_open || (u.slot == 1)
-is_second_open (Err choice.same_sequence) = true
-is_second_open (Err _) = false
-
 -- a settled table is read; a moving one isn't yet
 abbrev pub settled_only : Chosen → Kind → Result Chosen Stop
 settled_only c Settled = Ok c
 settled_only c Moving = Err stop.NotBuilt
 
--- the settled table of a file, and its slot; slot 1 isn't read yet
+-- the settled table of a file, and its slot
 abbrev pub settled_table : List ℕ → Result Chosen Stop
-settled_table file =
-    if is_second_open (slot_in_use file) then Err stop.NotBuilt else
-    (or_no_store (chosen file) >>= λ c. settled_only c c.header.kind)
+settled_table file = or_no_store (chosen file) >>= λ c. settled_only c c.header.kind
 
 -- the number of the first record from the n-th on that fails a test
 abbrev pub first_failing : (Record → Bool) → ℕ → List Record → Option ℕ

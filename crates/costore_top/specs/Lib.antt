@@ -2,5 +2,6 @@ pub mod Words
 pub mod Getting
 pub mod Opened
 pub mod Passes
-pub mod Answers
+pub mod Faults
 pub mod Outcomes
+pub mod Commands

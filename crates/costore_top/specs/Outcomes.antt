@@ -1,37 +1,96 @@
--- The statuses of the program, and what each says of a command.
-use Rattle.std.specs.Prelude.{◌≡◌, ◌⊎◌, ℕ, List, false, Option, Some, Result, Ok, Err, IsOk}
+-- The statuses of the program, what each command answers, and what it puts.
+use Rattle.std.specs.Prelude.{◌≡◌, ◌⊎◌, ℕ, ◌==◌, ◌≤◌, Bool, true, false, if◌then◌else◌, List, [], ◌++◌, length, take, codes, Option, Some, Result, Ok, Err, IsOk}
 use Rattle.disk_face.specs.Mounts.{Mount}
-use Rattle.disk_face.specs.declared.bay.Mounted.TheVariants.{There, Absent}
-use Rattle.costore_top.specs.Words.{Command}
-use Rattle.costore_top.specs.Words.Command.{get}
+use Rattle.disk_face.specs.declared.bay.Mounted.{Mounted}
+use Rattle.costore_top.specs.Words.{Command, format, get, help, version}
 use Rattle.costore_top.specs.Getting.{answer_of}
+use Rattle.costore_top.specs.Faults.{line_of}
 use Rattle.costore_top.specs.declared.stop.Stop.{Stop}
 use Rattle.costore_top.specs.declared.stop.Stop.TheVariants as stop
+use Rattle.costore_top.specs.declared.help.TheConstants.{HELP, VERSION}
 
 -- the status of a command that stops for this reason
 abbrev pub status_of : Stop → ℕ
+status_of stop.Words = 1
+status_of stop.NoFile = 3
 status_of (stop.NotStore f) = 4
+status_of (stop.Taken n) = 5
 status_of stop.Missing = 6
 status_of stop.Disk = 7
 status_of stop.Sink = 9
 status_of stop.NotBuilt = 12
 
--- the status of a command whose answer this is
-abbrev pub status_of_answer : {A : Type 0} → Result A Stop → ℕ
-status_of_answer (Ok a) = 0
-status_of_answer (Err why) = status_of why
+-- the status of a command that ends so
+abbrev pub status_at : {A : Type 0} → Result A Stop → ℕ
+status_at (Ok a) = 0
+status_at (Err why) = status_of why
 
--- the answer of a command, by the bytes of its file
-abbrev pub command_answer : Command → List ℕ → Result (List ℕ) Stop
-command_answer (get file name) bytes = answer_of name bytes
+-- the command mounts its file, and it makes the file where it isn't there
+abbrev pub mounts : Command → Bool
+mounts (format file k names) = true
+mounts (get file name) = true
+mounts _ = false
 
--- the mount of a file that is there, and that of one that isn't
-abbrev pub found : List ℕ → Option Mount
-found file = Some (record { name = file; make = false; answer = There })
+abbrev pub makes : Command → Bool
+makes (format file k names) = true
+makes _ = false
 
-abbrev pub not_found : List ℕ → Option Mount
-not_found file = Some (record { name = file; make = false; answer = Absent })
+-- the file that a command mounts
+abbrev pub file_of : Command → List ℕ
+file_of (format file k names) = file
+file_of (get file name) = file
+file_of _ = []
 
--- The status is that of the answer, but where the disk failed, or where the sink did while the bytes were put.
-abbrev pub IsStatus : ℕ → Result (List ℕ) Stop → Type 0
-IsStatus status answer = (status ≡ 7) ⊎ ((status ≡ 9) × IsOk answer) ⊎ (status ≡ status_of_answer answer)
+-- the mount of a command's file, answered so
+abbrev pub mounted : Command → Mounted → Option Mount
+mounted c answer = Some (record { name = file_of c; make = makes c; answer = answer })
+
+-- only an empty file is formatted
+abbrev pub format_answer : List ℕ → Result (List ℕ) Stop
+format_answer file = if length file == 0 then Ok (codes "formatted\n") else Err (stop.Taken (length file))
+
+-- what a command answers, by the bytes of its file
+unfoldable pub answer_for : Command → List ℕ → Result (List ℕ) Stop
+answer_for (format name k names) file = format_answer file
+answer_for (get name object) file = answer_of object file
+answer_for help file = Ok HELP.now
+answer_for version file = Ok VERSION.now
+answer_for _ file = Err stop.NotBuilt
+
+-- A command whose answer this is may end so: with it, or where a device failed, or where its file isn't there.
+abbrev pub EndsBy : Result (List ℕ) Stop → Result (Unit {0}) Stop → Type 0
+EndsBy answer (Ok x) = IsOk answer
+EndsBy answer (Err stop.Disk) = Unit {0}
+EndsBy answer (Err stop.NoFile) = Unit {0}
+EndsBy answer (Err stop.Sink) = IsOk answer
+EndsBy answer (Err why) = answer ≡ Err why
+
+-- the bytes that an answer has
+abbrev pub bytes_of : Result (List ℕ) Stop → List ℕ
+bytes_of (Ok bytes) = bytes
+bytes_of (Err why) = []
+
+-- the line that is put last
+abbrev pub line_at : {A : Type 0} → Result A Stop → List ℕ
+line_at (Ok a) = []
+line_at (Err why) = line_of why
+
+-- a front of these bytes was put: all of them, some, or none
+abbrev pub IsFront : List ℕ → List ℕ → List ℕ → Type 0
+IsFront before now bytes = (n : ℕ) × (n ≤ length bytes) × (now ≡ before ++ take n bytes)
+
+-- What a command that ends so has put: the answer's bytes, all of them where it is done and a front of
+-- them where it stopped, and then the line of its end, whole unless the sink failed.
+pub record PutsOut (answer : Result (List ℕ) Stop) (end : Result (Unit {0}) Stop) (before now : List ℕ) (failed : Type 0) : Type 0 where
+  pub between : List ℕ
+  pub object : IsFront before between (bytes_of answer)
+  pub whole : IsOk end → between ≡ before ++ bytes_of answer
+  pub line : IsFront between now (line_at end)
+  pub all : (now ≡ between ++ line_at end) ⊎ failed
+
+-- the end of a command, by its status, its answer, and what it put
+pub record Ends (answer : Result (List ℕ) Stop) (status : ℕ) (before now : List ℕ) (failed : Type 0) : Type 0 where
+  pub end : Result (Unit {0}) Stop
+  pub same_status : status ≡ status_at end
+  pub by : EndsBy answer end
+  pub puts : PutsOut answer end before now failed

@@ -1,27 +1,49 @@
 -- The commands of the program, and how each is spelled.
-use Rattle.std.specs.Prelude.{◌≡◌, ℕ, ◌<◌, List, [], ◌∷◌, length, map, codes}
+use Rattle.std.specs.Prelude.{◌≡◌, ℕ, ◌<◌, ◌≤◌, ◌^◌, List, [], ◌∷◌, length, map, codes}
+use Rattle.std.specs.Fmt.{decimal}
 use Rattle.std.specs.Borrow.{Bor}
 use Rattle.slot_codec.specs.Names.{IsName}
+use Rattle.costore_top.specs.declared.words.Asked.{Asked}
+use Rattle.costore_top.specs.declared.words.Asked.TheVariants as asked
 
 -- what the program may be asked to do
 pub data Command : Type 0 where
+  -- make a store of a file: the file, the divisor of its buffers, and how many names it has room for
+  format : List ℕ → ℕ → ℕ → Command
   -- put the object of a name: the file, and the name
   get : List ℕ → List ℕ → Command
+  check : List ℕ → Command
+  map_of : List ℕ → Command
+  run : List ℕ → Command
+  -- do the jobs of a number: the file, the number, and how many
+  work : List ℕ → ℕ → ℕ → Command
+  help : Command
+  version : Command
 
 -- the words of a command line
 abbrev pub spelled : Command → List (List ℕ)
+spelled (format file k names) = codes "format" ∷ file ∷ decimal k ∷ decimal names ∷ []
 spelled (get file name) = codes "get" ∷ file ∷ name ∷ []
+spelled (check file) = codes "check" ∷ file ∷ []
+spelled (map_of file) = codes "map" ∷ file ∷ []
+spelled (run file) = codes "run" ∷ file ∷ []
+spelled (work file number count) = codes "work" ∷ file ∷ decimal number ∷ decimal count ∷ []
+spelled help = codes "--help" ∷ []
+spelled version = codes "--version" ∷ []
 
 -- a file's name is any text that isn't empty
 abbrev pub IsFile : List ℕ → Type 0
 IsFile file = 0 < length file
 
 abbrev pub IsCommand : Command → Type 0
+IsCommand (format file k names) = IsFile file × (2 ≤ k) × (k ≤ 64) × (16 ≤ names) × (names ≤ 65536)
 IsCommand (get file name) = IsFile file × IsName name
-
--- the file that a command asks for
-abbrev pub file_of : Command → List ℕ
-file_of (get file name) = file
+IsCommand (check file) = IsFile file
+IsCommand (map_of file) = IsFile file
+IsCommand (run file) = IsFile file
+IsCommand (work file number count) = IsFile file × (number < 2 ^ 64) × (1 ≤ count) × (count ≤ 1000000)
+IsCommand help = Unit {0}
+IsCommand version = Unit {0}
 
 -- the words mean this command
 abbrev pub Means : List (List ℕ) → Command → Type 0
@@ -34,3 +56,14 @@ MeansNone words = (c : Command) → Means words c → ⊥
 -- the texts of the words
 abbrev pub texts : List (Bor (List ℕ)) → List (List ℕ)
 texts words = map (λ word. word.now) words
+
+-- the command that the program has read
+abbrev pub command_of : Asked → Command
+command_of (asked.Format file k names) = format file.now k names
+command_of (asked.Get file name) = get file.now name
+command_of (asked.Check file) = check file.now
+command_of (asked.Map file) = map_of file.now
+command_of (asked.Run file) = run file.now
+command_of (asked.Work file number count) = work file.now number count
+command_of asked.Help = help
+command_of asked.Version = version

@@ -3,12 +3,13 @@ ghost use Rattle.std.specs.Prelude.{◌≡◌, ◌≢◌, ◌⊎◌, ◌+◌, �
 ghost use Rattle.byte_ranges.specs.Ranges.{bytes_at};
 ghost use Rattle.disk_face.specs.Counts.{Rose};
 ghost use Rattle.disk_face.specs.Frames.{Unchanged};
+ghost use Rattle.disk_face.specs.Streams.{Puts};
 ghost use Rattle.slot_codec.specs.Spelling.{head_len};
 ghost use Rattle.slot_codec.specs.Reading.{all_in_range};
 ghost use Rattle.slot_codec.specs.Choice.{chosen};
 ghost use Rattle.costore_top.specs.Opened.{chosen_of};
 ghost use Rattle.costore_top.specs.Getting.{answer_of, spot_of, StopsAs};
-ghost use Rattle.costore_top.specs.Answers.{IsFront, IsOfDevice, bytes_of};
+ghost use Rattle.costore_top.specs.Outcomes.{EndsBy, bytes_of};
 
 use crate::Stop;
 use crate::copy::put_bytes;
@@ -21,12 +22,10 @@ use slot_pair::slot_at;
 /// Puts the bytes of the object of a name and nothing more. The disk stays as it is.
 pub fn get<D: Disk, O: Sink>(disk: &mut D, name: &Name, output: &mut O) -> Result<(), Stop>
     requires ready { IsTrue (D.is_ready disk.old) }
-    ensures answer { IsTrue (D.tells disk.old) → OnOk result (IsOk (answer_of name.now (D.file disk.old))) }
-    ensures stopped { IsTrue (D.tells disk.old) → IfErr result (StopsAs (answer_of name.now (D.file disk.old))) }
-    ensures put { IsTrue (D.tells disk.old) → IsTrue (O.tells output.old) → OnOk result (O.given output.new ≡ O.given output.old ++ bytes_of (answer_of name.now (D.file disk.old))) }
-    ensures front { IsTrue (D.tells disk.old) → IsTrue (O.tells output.old) → IsFront (O.given output.old) (O.given output.new) (bytes_of (answer_of name.now (D.file disk.old))) }
-    ensures sink_found { IsTrue (D.tells disk.old) → result ≡ Err Stop.Sink → IsOk (answer_of name.now (D.file disk.old)) }
-    ensures nothing_put { IfErr result (λ why. IsOfDevice why ⊎ (output.new ≡ output.old)) }
+    ensures ends { IsTrue (D.tells disk.old) → EndsBy (answer_of name.now (D.file disk.old)) result }
+    ensures put { IsTrue (D.tells disk.old) → IsTrue (O.tells output.old) → Puts (O.given output.old) (O.given output.new) (bytes_of (answer_of name.now (D.file disk.old))) result }
+    ensures other { IfErr result (λ why. (why ≢ Stop.NoFile) × (why ≢ Stop.Words)) }
+    ensures nothing_put { IfErr result (λ why. (why ≡ Stop.Disk) ⊎ (why ≡ Stop.Sink) ⊎ (output.new ≡ output.old)) }
     ensures disk_cause { result ≡ Err Stop.Disk → Rose (D.faults disk.old) (D.faults disk.new) }
     ensures sink_cause { result ≡ Err Stop.Sink → Rose (O.faults output.old) (O.faults output.new) }
     ensures frame { Unchanged D.tells D.file D.may_leave D.left_since D.turn D.faults D.is_ready D.tells_images D.last_mount disk.old disk.new }
@@ -44,7 +43,7 @@ fn locate<D: Disk>(disk: &mut D, name: &Name) -> Result<(u64, Spot), Stop>
     ensures stopped { IsTrue (D.tells disk.old) → IfErr result (StopsAs (answer_of name.now (D.file disk.old))) }
     ensures within { IsTrue (D.tells disk.old) → IfOk result (λ at. at.0 + at.1.place + at.1.size ≤ length (D.file disk.old)) }
     ensures ranges { IfOk result (λ at. (at.0 < 2 ^ 32) × (at.1.place < 2 ^ 48) × (at.1.size < 2 ^ 48)) }
-    ensures only { IfErr result (λ why. why ≢ Stop.Sink) }
+    ensures only { IfErr result (λ why. (why ≢ Stop.Sink) × (why ≢ Stop.NoFile) × (why ≢ Stop.Words)) }
     ensures cause { result ≡ Err Stop.Disk → Rose (D.faults disk.old) (D.faults disk.new) }
     ensures frame { Unchanged D.tells D.file D.may_leave D.left_since D.turn D.faults D.is_ready D.tells_images D.last_mount disk.old disk.new }
 {
@@ -67,7 +66,7 @@ fn find_spot<D: Disk>(disk: &mut D, opened: &Opened, name: &Name) -> Result<Spot
     ensures found { IsTrue (D.tells disk.old) → IfOk result (λ s. spot_of name.now (D.file disk.old) (chosen_of opened.now) ≡ Ok s) }
     ensures stopped { IsTrue (D.tells disk.old) → IfErr result (StopsAs (spot_of name.now (D.file disk.old) (chosen_of opened.now))) }
     ensures ranges { IfOk result (λ s. (s.place < 2 ^ 48) × (s.size < 2 ^ 48)) }
-    ensures only { IfErr result (λ why. why ≢ Stop.Sink) }
+    ensures only { IfErr result (λ why. (why ≢ Stop.Sink) × (why ≢ Stop.NoFile) × (why ≢ Stop.Words)) }
     ensures cause { result ≡ Err Stop.Disk → Rose (D.faults disk.old) (D.faults disk.new) }
     ensures frame { Unchanged D.tells D.file D.may_leave D.left_since D.turn D.faults D.is_ready D.tells_images D.last_mount disk.old disk.new }
 {

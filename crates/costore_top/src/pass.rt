@@ -50,7 +50,7 @@ pub fn pass_over<D: Disk>(disk: &mut D, course: Course, name: &Name) -> Result<P
     ensures passed { IsTrue (D.tells disk.old) → IfOk result (λ p. passed course.data_len name.now course.count (bytes_at (D.file disk.old) course.at (RECORD_LEN * course.count)) course.at 0 nothing_noted ≡ Ok p) }
     ensures stopped { IsTrue (D.tells disk.old) → IfErr result (StopsAs (passed course.data_len name.now course.count (bytes_at (D.file disk.old) course.at (RECORD_LEN * course.count)) course.at 0 nothing_noted)) }
     ensures ranges { IfOk result (λ p. IfSome p.found (λ s. (s.place < 2 ^ 48) × (s.size < 2 ^ 48))) }
-    ensures only { IfErr result (λ why. why ≢ Stop.Sink) }
+    ensures only { IfErr result (λ why. (why ≢ Stop.Sink) × (why ≢ Stop.NoFile) × (why ≢ Stop.Words)) }
     ensures cause { result ≡ Err Stop.Disk → Rose (D.faults disk.old) (D.faults disk.new) }
     ensures frame { Unchanged D.tells D.file D.may_leave D.left_since D.turn D.faults D.is_ready D.tells_images D.last_mount disk.old disk.new }
 {

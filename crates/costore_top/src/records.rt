@@ -19,7 +19,7 @@ pub fn next_record<D: Disk>(disk: &mut D, at: u64, before: &Option<Name>) -> Res
     ensures value { IsTrue (D.tells disk.old) → IfOk result (λ r. or_no_store (first_record (bytes_at (D.file disk.old) at RECORD_LEN) at before.now) ≡ Ok r) }
     ensures stopped { IsTrue (D.tells disk.old) → IfErr result (StopsAs (or_no_store (first_record (bytes_at (D.file disk.old) at RECORD_LEN) at before.now))) }
     ensures ranges { IfOk result (λ r. (r.place < 2 ^ 48) × (r.size < 2 ^ 48)) }
-    ensures only { IfErr result (λ why. why ≢ Stop.Sink) }
+    ensures only { IfErr result (λ why. (why ≢ Stop.Sink) × (why ≢ Stop.NoFile) × (why ≢ Stop.Words)) }
     ensures cause { result ≡ Err Stop.Disk → Rose (D.faults disk.old) (D.faults disk.new) }
     ensures frame { Unchanged D.tells D.file D.may_leave D.left_since D.turn D.faults D.is_ready D.tells_images D.last_mount disk.old disk.new }
 {
@@ -32,7 +32,7 @@ pub fn next_record<D: Disk>(disk: &mut D, at: u64, before: &Option<Name>) -> Res
 fn record_after(bytes: &[u8], at: u64, before: &Option<Name>) -> Result<Record, Stop>
     requires { length bytes.now ≡ RECORD_LEN }
     ensures value { result ≡ or_no_store (first_record bytes.now at before.now) }
-    ensures only { IfErr result (λ why. (why ≢ Stop.Sink) × (why ≢ Stop.Disk)) }
+    ensures only { IfErr result (λ why. (why ≢ Stop.Sink) × (why ≢ Stop.Disk) × (why ≢ Stop.NoFile) × (why ≢ Stop.Words)) }
     ensures ranges { IfOk result (λ r. (r.place < 2 ^ 48) × (r.size < 2 ^ 48)) }
 {
     let record = match read_record(bytes) {

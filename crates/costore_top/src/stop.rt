@@ -13,9 +13,17 @@ pub enum StoreFault {
 /// Why a command stops.
 #[derive(Clone, Copy, Debug, PartialEq, Eq)]
 pub enum Stop {
+    /// The words are no command.
+    Words,
+    /// There is no such file.
+    NoFile,
     NotStore(StoreFault),
+    /// A file that is to be formatted has this length, in bytes.
+    Taken(u64),
+    /// The store has no object of the name.
     Missing,
     Disk,
     Sink,
+    /// What is asked can't be done yet.
     NotBuilt,
 }

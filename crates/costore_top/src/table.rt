@@ -25,7 +25,7 @@ pub struct Opened {
     pub header: Header,
 }
 
-/// The settled table of a file whose slot 1 is closed.
+/// The settled table of the slot in use.
 pub fn open_settled<D: Disk>(disk: &mut D) -> Result<Opened, Stop>
     requires ready { IsTrue (D.is_ready disk.old) }
     ensures opened { IsTrue (D.tells disk.old) → IfOk result (λ o. settled_table (D.file disk.old) ≡ Ok (chosen_of o)) }
@@ -37,19 +37,11 @@ pub fn open_settled<D: Disk>(disk: &mut D) -> Result<Opened, Stop>
     ensures slot { IfOk result (λ o. o.slot ≤ 1) }
     ensures count { IfOk result (λ o. o.header.count ≤ o.block.names) }
     ensures ranges { IfOk result (λ o. IsTrue (all_in_range o.header)) }
-    ensures only { IfErr result (λ why. why ≢ Stop.Sink) }
+    ensures only { IfErr result (λ why. (why ≢ Stop.Sink) × (why ≢ Stop.NoFile) × (why ≢ Stop.Words)) }
     ensures cause { result ≡ Err Stop.Disk → Rose (D.faults disk.old) (D.faults disk.new) }
     ensures frame { Unchanged D.tells D.file D.may_leave D.left_since D.turn D.faults D.is_ready D.tells_images D.last_mount disk.old disk.new }
 {
-    let found = match choose(disk) {
-        Ok(found) => found,
-        // Both slots are open.
-        Err(SlotFault::SameSequence) => return Err(Stop::NotBuilt),
-        Err(fault) => return Err(stop_of(fault)),
-    };
-    if found.slot == 1 || found.other_open {
-        return Err(Stop::NotBuilt);
-    }
+    let found = choose(disk).map_err(stop_of)?;
     let header = read_chosen_header(disk, &found).map_err(stop_of)?;
     if header.kind == Kind::Moving {
         return Err(Stop::NotBuilt);

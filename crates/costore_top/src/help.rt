@@ -1,0 +1,29 @@
+//! The texts of `--help` and `--version`.
+
+/// The page that `--help` puts.
+pub const HELP: &str = "costore keeps named objects of bytes in one file, within a stated factor of its live bytes.
+
+commands:
+  costore format FILE K NAMES       makes a store of FILE, which must be new or empty
+  costore get FILE NAME             puts the bytes of the object NAME
+  costore check FILE                puts one line about the store (not built yet)
+  costore map FILE                  puts its segments and objects (not built yet)
+  costore run FILE                  serves requests from standard input (not built yet)
+  costore work FILE NUMBER COUNT    does the jobs of a number (not built yet)
+  costore --help                    puts this page
+  costore --version                 puts the version
+
+FILE is any text that isn't empty. NAME is 1 to 63 bytes of printable ASCII without blanks.
+K is 2 to 64: a buffer has a k-th of its segment. NAMES is 16 to 65536: how many objects may be live.
+NUMBER is 0 to 18446744073709551615, COUNT is 1 to 1000000. Numbers have no sign and no leading zero.
+
+status: 0 done, 1 faulty words, 3 no such file, 4 no store, 5 the file isn't empty, 6 no such object,
+7 the disk failed, 9 the output failed, 10 out of memory, 12 not built yet.
+At each status but 0, 9 and 10 one line that begins with fault is put last.
+
+example: costore format blocks 9 1024
+";
+
+/// The line that `--version` puts.
+pub const VERSION: &str = "costore 0.1.0
+";
