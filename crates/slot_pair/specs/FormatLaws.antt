@@ -24,7 +24,7 @@ use Rattle.slot_pair.specs.Formats.{HasFirstTable, HasOneMore, IsNoStore, IsNone
 no_store : (file : List ℕ) → ((c : Chosen) → chosen file ≡ Ok c → ⊥) → IsNoStore file
 no_store file none = elim (chosen file) as (λ r. ((c : Chosen) → r ≡ Ok c → ⊥) → IsErr r) [ Ok c ↦ λ n. absurd (n c refl) | Err e ↦ λ n. refl ] none
 
--- a file of at most 64 bytes
+-- a file of at most 64 bytes is no store
 pub short_is_none : (file : List ℕ) → length file ≤ superblock_len → IsNoStore file
 short_is_none file low = no_store file (λ c h. omega (arith, low, chosen_long file c h))
 
@@ -45,17 +45,17 @@ begins_with block file fits long same =
     ap read_superblock front ∙ superblock_read block fits
 
 -- the superblock of a store is what it begins with
-same_names : (block : SuperBlock) (file : List ℕ) (c : Chosen) → IsSuperBlock block → superblock_len ≤ length file → SameBelow superblock_len (superblock_bytes block) file → chosen file ≡ Ok c → c.block ≡ block
-same_names block file c fits long same h =
+block_is : (block : SuperBlock) (file : List ℕ) (c : Chosen) → IsSuperBlock block → superblock_len ≤ length file → SameBelow superblock_len (superblock_bytes block) file → chosen file ≡ Ok c → c.block ≡ block
+block_is block file c fits long same h =
     let p = chosen_parts file c h in
     let u = in_use_parts file p.in_use p.slot_read in
     p.same_block ∙ from_ok p.in_use.block block (sym u.block ∙ begins_with block file fits long same)
 
--- a file that ends before its data part
+-- a file that ends before the data part that its superblock tells
 pub unfinished_is_none : (block : SuperBlock) (file : List ℕ) → IsSuperBlock block → IsUnfinished block.names (superblock_bytes block) file → IsNoStore file
 unfinished_is_none block file fits u =
     no_store file (λ c h.
-    let is : head_len c.block.names ≡ head_len block.names = ap (λ x. head_len x.names) (same_names block file c fits (omega (arith, u.low, length-superblock block)) (λ i low. u.same i (omega (arith, low, length-superblock block))) h) in
+    let is : head_len c.block.names ≡ head_len block.names = ap (λ x. head_len x.names) (block_is block file c fits (omega (arith, u.low, length-superblock block)) (λ i low. u.same i (omega (arith, low, length-superblock block))) h) in
     omega (arith, is, u.high, chosen_long file c h))
 
 -- zeros, as numbers spell them and as they join
@@ -274,7 +274,7 @@ one_byte_more k names file false fits same len gate =
     inl (no_store file (λ c h.
     let p = chosen_parts file c h in
     let u = in_use_parts file p.in_use p.slot_read in
-    let is : p.in_use.block.names ≡ names = ap (λ x. x.names) (sym p.same_block ∙ same_names (block_for k names) file c fits (omega (arith, len)) begins h) in
+    let is : p.in_use.block.names ≡ names = ap (λ x. x.names) (sym p.same_block ∙ block_is (block_for k names) file c fits (omega (arith, len)) begins h) in
     let opened : is_open file (format_gate_at names) ≡ true = ap (λ n. is_open file (format_gate_at n)) (sym is) ∙ u.formatted in
     cc (sym gate ∙ opened)))
 

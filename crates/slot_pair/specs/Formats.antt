@@ -70,7 +70,7 @@ IsNoStore file = IsErr (choice.chosen file)
 abbrev pub IsNoneOrFirst : ℕ → ℕ → List ℕ → Type 0
 IsNoneOrFirst k names file = IsNoStore file ⊎ HasFirstTable k names file
 
--- a file goes on as another one does, and ends before its data part
+-- a file begins with another one, and ends before its data part
 pub record IsUnfinished (names : ℕ) (front file : List ℕ) : Type 0 where
   pub low : length front ≤ length file
   pub high : length file < head_len names
