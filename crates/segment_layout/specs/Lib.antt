@@ -1,0 +1,16 @@
+pub mod Shapes
+pub mod Layouts
+pub mod Charges
+pub mod Books
+pub mod Tables
+pub mod Opening
+pub mod Bounds
+pub mod Worked
+pub mod Balance
+pub mod OpeningLaws
+pub mod Rules
+pub mod SumLaws
+pub mod ShapeLaws
+pub mod LayoutLaws
+pub mod ChargeLaws
+pub mod SettleLaws

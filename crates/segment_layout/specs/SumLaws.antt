@@ -1,0 +1,114 @@
+-- Sums over numbers in order, and sums of lists as such sums.
+use Rattle.std.specs.Prelude.{◌≡◌, ◌≢◌, ℕ, zero, suc, ◌+◌, ◌<◌, ◌≤◌, List, [], ◌∷◌, length, map, sum, sum_by, slice_index, refl}
+use Rattle.std.proofs.Common.{arith, sym, ◌∙◌, ap, inl, inr}
+use Rattle.std.proofs.lemmas.Bool.{cases_order}
+use Rattle.std.proofs.lemmas.List.{length-map, ext_get_or}
+use Rattle.std.proofs.lemmas.List.Sums.{sum_by-cons, sum-map}
+use Rattle.byte_ranges.specs.Lists.{below, counting_from, sum_below, map_below-index, length-map_below}
+
+-- the sum of f over n numbers from a first one on
+abbrev pub sum_from : ℕ → ℕ → (ℕ → ℕ) → ℕ
+sum_from first n f = sum (map f (counting_from first n))
+
+pub sum_below_is : (n : ℕ) (f : ℕ → ℕ) → sum_below n f ≡ sum_from 0 n f
+unfolding sum_below below
+sum_below_is n f = refl
+
+sum_from-next : (first n : ℕ) (f : ℕ → ℕ) → sum_from first (suc n) f ≡ f first + sum_from (first + 1) n f
+sum_from-next first n f = sum_by-cons (λ x. x) (f first) (map f (counting_from (first + 1) n))
+
+sum_from_agree : (first n : ℕ) (f g : ℕ → ℕ) → ((i : ℕ) → first ≤ i → i < first + n → f i ≡ g i) → sum_from first n f ≡ sum_from first n g
+sum_from_agree first zero f g same = refl
+sum_from_agree first (suc n) f g same =
+    let rest : sum_from (first + 1) n f ≡ sum_from (first + 1) n g = sum_from_agree (first + 1) n f g (λ i l h. same i (omega arith) (omega arith)) in
+    omega (arith, sum_from-next first n f, sum_from-next first n g, same first (omega arith) (omega arith))
+
+sum_from_le : (first n : ℕ) (f g : ℕ → ℕ) → ((i : ℕ) → first ≤ i → i < first + n → f i ≤ g i) → sum_from first n f ≤ sum_from first n g
+sum_from_le first zero f g less = omega arith
+sum_from_le first (suc n) f g less =
+    let rest : sum_from (first + 1) n f ≤ sum_from (first + 1) n g = sum_from_le (first + 1) n f g (λ i l h. less i (omega arith) (omega arith)) in
+    omega (arith, sum_from-next first n f, sum_from-next first n g, less first (omega arith) (omega arith))
+
+sum_from_one : (first n j : ℕ) (f g : ℕ → ℕ) → first ≤ j → j < first + n → ((i : ℕ) → i ≢ j → f i ≡ g i) → sum_from first n f + g j ≡ sum_from first n g + f j
+sum_from_one first zero j f g low high same = absurd (omega arith)
+sum_from_one first (suc n) j f g low high same =
+    elim (cases_order first j) [
+      | inl e ↦
+          let rest : sum_from (first + 1) n f ≡ sum_from (first + 1) n g = sum_from_agree (first + 1) n f g (λ i l h. same i (λ x. absurd (omega arith))) in
+          omega (arith, sum_from-next first n f, sum_from-next first n g, ap f e, ap g e)
+      | inr (inl less) ↦
+          let rest = sum_from_one (first + 1) n j f g (omega arith) (omega arith) same in
+          omega (arith, rest, sum_from-next first n f, sum_from-next first n g, same first (λ x. absurd (omega arith)))
+      | inr (inr more) ↦ absurd (omega arith)
+    ]
+
+sum_from_add : (first n : ℕ) (f g : ℕ → ℕ) → sum_from first n (λ i. f i + g i) ≡ sum_from first n f + sum_from first n g
+sum_from_add first zero f g = refl
+sum_from_add first (suc n) f g = omega (arith, sum_from-next first n f, sum_from-next first n g, sum_from-next first n (λ i. f i + g i), sum_from_add (first + 1) n f g)
+
+sum_from_zero : (first n : ℕ) (f : ℕ → ℕ) → ((i : ℕ) → first ≤ i → i < first + n → f i ≡ 0) → sum_from first n f ≡ 0
+sum_from_zero first zero f none = refl
+sum_from_zero first (suc n) f none = omega (arith, sum_from-next first n f, none first (omega arith) (omega arith), sum_from_zero (first + 1) n f (λ i l h. none i (omega arith) (omega arith)))
+
+sum_from_swap : (a n b m : ℕ) (f : ℕ → ℕ → ℕ) → sum_from a n (λ i. sum_from b m (λ j. f i j)) ≡ sum_from b m (λ j. sum_from a n (λ i. f i j))
+sum_from_swap a zero b m f = sym (sum_from_zero b m (λ j. sum_from a zero (λ i. f i j)) (λ j l h. refl))
+sum_from_swap a (suc n) b m f =
+    let rest = sum_from_swap (a + 1) n b m f in
+    let split : sum_from b m (λ j. sum_from a (suc n) (λ i. f i j)) ≡ sum_from b m (λ j. f a j + sum_from (a + 1) n (λ i. f i j)) = sum_from_agree b m _ _ (λ j l h. sum_from-next a n (λ i. f i j)) in
+    omega (arith, rest, split, sum_from-next a n (λ i. sum_from b m (λ j. f i j)), sum_from_add b m (λ j. f a j) (λ j. sum_from (a + 1) n (λ i. f i j)))
+
+sum_from_split : (first n m : ℕ) (f : ℕ → ℕ) → sum_from first (n + m) f ≡ sum_from first n f + sum_from (first + n) m f
+sum_from_split first zero m f = (λ i. sum_from (first_is i) (m_is i) f) ∙ (let e : sum_from (first + 0) m f ≡ 0 + sum_from (first + 0) m f = omega arith in e)
+  where
+    first_is : first ≡ first + 0
+    first_is = omega arith
+
+    m_is : 0 + m ≡ m
+    m_is = omega arith
+sum_from_split first (suc n) m f =
+    let at : sum_from first (suc n + m) f ≡ sum_from first (suc (n + m)) f = (let e : suc n + m ≡ suc (n + m) = omega arith in ap (λ x. sum_from first x f) e) in
+    let last : sum_from (first + 1 + n) m f ≡ sum_from (first + suc n) m f = (let e : first + 1 + n ≡ first + suc n = omega arith in ap (λ x. sum_from x m f) e) in
+    omega (arith, at, last, sum_from-next first (n + m) f, sum_from-next first n f, sum_from_split (first + 1) n m f)
+
+-- ---- the same of the numbers below n
+
+pub sum_below_agree : (n : ℕ) (f g : ℕ → ℕ) → ((i : ℕ) → i < n → f i ≡ g i) → sum_below n f ≡ sum_below n g
+unfolding sum_below below
+sum_below_agree n f g same = sum_from_agree 0 n f g (λ i l h. same i (omega arith))
+
+pub sum_below_le : (n : ℕ) (f g : ℕ → ℕ) → ((i : ℕ) → i < n → f i ≤ g i) → sum_below n f ≤ sum_below n g
+unfolding sum_below below
+sum_below_le n f g less = sum_from_le 0 n f g (λ i l h. less i (omega arith))
+
+-- two functions that differ at one number
+pub sum_below_one : (n j : ℕ) (f g : ℕ → ℕ) → j < n → ((i : ℕ) → i ≢ j → f i ≡ g i) → sum_below n f + g j ≡ sum_below n g + f j
+unfolding sum_below below
+sum_below_one n j f g h same = sum_from_one 0 n j f g (omega arith) (omega arith) same
+
+pub sum_below_add : (n : ℕ) (f g : ℕ → ℕ) → sum_below n (λ i. f i + g i) ≡ sum_below n f + sum_below n g
+unfolding sum_below below
+sum_below_add n f g = sum_from_add 0 n f g
+
+pub sum_below_zero : (n : ℕ) (f : ℕ → ℕ) → ((i : ℕ) → i < n → f i ≡ 0) → sum_below n f ≡ 0
+unfolding sum_below below
+sum_below_zero n f none = sum_from_zero 0 n f (λ i l h. none i (omega arith))
+
+pub sum_below_swap : (n m : ℕ) (f : ℕ → ℕ → ℕ) → sum_below n (λ i. sum_below m (λ j. f i j)) ≡ sum_below m (λ j. sum_below n (λ i. f i j))
+unfolding sum_below below
+sum_below_swap n m f = sum_from_swap 0 n 0 m f
+
+-- a list's sum is that of its places
+pub sum_by_places : (f : ℕ → ℕ) (xs : List ℕ) (n : ℕ) → length xs ≡ n → sum_by f xs ≡ sum_below n (λ i. f (slice_index xs i))
+unfolding sum_below
+sum_by_places f xs n long =
+    sym (sum-map f xs)
+    ∙ ap sum (ext_get_or 0 (map f xs) (map (λ i. f (slice_index xs i)) (below n)) (length-map xs f ∙ long ∙ sym (length-map_below (λ i. f (slice_index xs i)) n))
+    (λ i h. map-index f xs i (omega (arith, length-map xs f)) ∙ sym (map_below-index (λ i. f (slice_index xs i)) n i (omega (arith, length-map xs f)))))
+  where
+    map-index : (f : ℕ → ℕ) (xs : List ℕ) (i : ℕ) → i < length xs → slice_index (map f xs) i ≡ f (slice_index xs i)
+    map-index f [] i h = absurd (omega arith)
+    map-index f (x ∷ xs) zero h = refl
+    map-index f (x ∷ xs) (suc i) h = map-index f xs i (omega arith)
+
+pub sum_places : (xs : List ℕ) (n : ℕ) → length xs ≡ n → sum xs ≡ sum_below n (λ i. slice_index xs i)
+sum_places xs n long = sum_by_places (λ x. x) xs n long

@@ -1,0 +1,12 @@
+//! The layout of the data part in segments and buffers, and the book of a map: what charging and
+//! laying out anew do to them, and what every book keeps.
+#![tactic(auto)]
+
+mod charge;
+mod laws;
+mod layout;
+mod settle;
+
+pub use charge::Charge;
+pub use laws::{nothing_fits, opens_once, worked_layouts};
+pub use layout::Layout;
