@@ -4,7 +4,7 @@ use Rattle.std.specs.Prelude.{◌≡◌, ℕ, ◌+◌, ◌^◌, ◌<◌, ◌≤�
 use Rattle.std.specs.FinMap as fin
 use Rattle.std.specs.FinSet as set
 use Rattle.byte_ranges.specs.Lists.{sum_below}
-use Rattle.size_class.specs.Classes.{width, cell}
+use Rattle.size_class.specs.Classes.{width, IsGrid, cell}
 use Rattle.store_terms.specs.Maps.{Map}
 use Rattle.segment_layout.specs.Shapes.{buffer_of, taken_in}
 use Rattle.segment_layout.specs.Books.{Book, volumes_of_sizes}
@@ -20,7 +20,12 @@ settled_bytes m book c = slice_index (volumes_of_sizes (map (λ e. length e.1) (
 abbrev pub entered : Book → ℕ → ℕ
 entered book c = sum_below width (λ j. cell book.grid j c)
 
+-- A book is balanced: what an entry takes is at least its class's least size, and each buffer that an entry passed
+-- over is full for that class; and of each class the objects outside buffers fit the payload segment, those in
+-- buffers have been entered, and what the payload segment has beyond its objects the dead bytes of buffers cover.
 pub record IsBalanced (k : ℕ) (m : Map) (book : Book) : Type 0 where
+  pub caps_full : length book.caps ≡ width
+  pub grid_full : IsGrid width book.grid
   pub rows : (j : ℕ) → j < width → taken_in book.grid j ≤ buffer_of k (slice_index book.caps j)
   pub lower : (j c : ℕ) → j < c → cell book.grid j c ≡ 0
   pub entry : (j c : ℕ) → j < width → 0 < cell book.grid j c → 2 ^ c ≤ cell book.grid j c

@@ -35,32 +35,29 @@ volumes m = volumes_of_sizes (map length (fin.values m))
 abbrev pub some_size : ℕ → List ℕ
 some_size size = if nat_lt 0 size then size ∷ [] else []
 
+abbrev pub item_of : Option (List ℕ) → List ℕ
+item_of None = []
+item_of (Some object) = some_size (length object)
+
 -- what a change has to charge: the old object where it stands in a payload segment, and then the new one
 abbrev pub old_item : Map → Book → List ℕ → List ℕ
-old_item m book name = if set.contains book.buffered name then [] else size_of (fin.get m name)
-  where
-    size_of : Option (List ℕ) → List ℕ
-    size_of None = []
-    size_of (Some object) = some_size (length object)
+old_item m book name = if set.contains book.buffered name then [] else item_of (fin.get m name)
 
 abbrev pub new_item : Change → List ℕ
-new_item c = size_of c.object
-  where
-    size_of : Option (List ℕ) → List ℕ
-    size_of None = []
-    size_of (Some object) = some_size (length object)
+new_item c = item_of c.object
 
 -- Items are charged in turn. What it leaves: the grid, and of each item its size and whether it found room.
 pub record Charged : Type 0 where
   pub grid : List (List ℕ)
   pub tried : List (ℕ × Bool)
 
+-- what an item leaves, by the buffer that it found
+abbrev pub entered_at : Charged → ℕ → Option ℕ → Charged
+entered_at done size (Some j) = record { grid = with_entry done.grid j (class_of size) size; tried = done.tried ++ (size, true) ∷ [] }
+entered_at done size None = record { grid = done.grid; tried = done.tried ++ (size, false) ∷ [] }
+
 abbrev pub charge_one : ℕ → List ℕ → Charged → ℕ → Charged
-charge_one k caps done size = go (buffer_for k caps done.grid (class_of size) size)
-  where
-    go : Option ℕ → Charged
-    go (Some j) = record { grid = with_entry done.grid j (class_of size) size; tried = done.tried ++ (size, true) ∷ [] }
-    go None = record { grid = done.grid; tried = done.tried ++ (size, false) ∷ [] }
+charge_one k caps done size = entered_at done size (buffer_for k caps done.grid (class_of size) size)
 
 abbrev pub charge_all : ℕ → List ℕ → List (List ℕ) → List ℕ → Charged
 charge_all k caps grid sizes = fold (charge_one k caps) (record { grid = grid; tried = [] }) sizes
@@ -96,13 +93,14 @@ reshaped k caps charged after =
 abbrev pub charge_change : ℕ → Map → Book → Change → Charged
 charge_change k m book c = charge_all k book.caps book.grid (old_item m book c.name ++ new_item c)
 
+-- each of the last items found room, and there is one
+abbrev pub found_room : List ℕ → List (ℕ × Bool) → Bool
+found_room [] tried = false
+found_room (size ∷ sizes) tried = list_all (λ item. item.1) tried
+
 -- the new object found room in a buffer
 abbrev pub is_new_buffered : Change → Charged → Bool
 is_new_buffered c charged = found_room (new_item c) (drop (length charged.tried - length (new_item c)) charged.tried)
-  where
-    found_room : List ℕ → List (ℕ × Bool) → Bool
-    found_room [] tried = false
-    found_room (size ∷ sizes) tried = list_all (λ item. item.1) tried
 
 -- the names that stand in buffers after a change, before any flush
 abbrev pub buffered_after : Book → Change → Charged → set.FinSet name_cmp
@@ -110,13 +108,14 @@ buffered_after book c charged =
     let rest = set.remove book.buffered c.name in
     if is_new_buffered c charged then set.insert rest c.name else rest
 
+-- an object is of a class below b
+abbrev pub is_below_class : ℕ → Option (List ℕ) → Bool
+is_below_class b None = false
+is_below_class b (Some object) = nat_lt (class_of (length object)) b
+
 -- the names of a set whose objects are of a class below b
 abbrev pub below_class : ℕ → Map → set.FinSet name_cmp → set.FinSet name_cmp
-below_class b m names = fin.retain_keys names (λ name. stays (fin.get m name))
-  where
-    stays : Option (List ℕ) → Bool
-    stays None = false
-    stays (Some object) = nat_lt (class_of (length object)) b
+below_class b m names = set.retain names (λ name. is_below_class b (fin.get m name))
 
 -- What a change does to a book: whether it is quiet, and else from which class on the flush lays out anew.
 pub record Next : Type 0 where
@@ -134,3 +133,12 @@ next_book k m book c =
       boundary = shape.boundary;
       book = record { caps = shape.caps; grid = shape.grid; buffered = if shape.quiet then names else below_class shape.boundary (changed c m) names };
     }
+
+-- the map and the book after changes one after another
+abbrev pub map_after : Map → List Change → Map
+map_after m [] = m
+map_after m (c ∷ cs) = map_after (changed c m) cs
+
+abbrev pub book_after : ℕ → Map → Book → List Change → Book
+book_after k m book [] = book
+book_after k m book (c ∷ cs) = book_after k (changed c m) (next_book k m book c).book cs

@@ -14,3 +14,8 @@ pub mod ShapeLaws
 pub mod LayoutLaws
 pub mod ChargeLaws
 pub mod SettleLaws
+pub mod BalanceLaws
+pub mod ChargingLaws
+pub mod BookLaws
+pub mod NextLaws
+pub mod TightLaws

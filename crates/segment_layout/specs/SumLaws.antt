@@ -1,5 +1,5 @@
 -- Sums over numbers in order, and sums of lists as such sums.
-use Rattle.std.specs.Prelude.{◌≡◌, ◌≢◌, ℕ, zero, suc, ◌+◌, ◌<◌, ◌≤◌, List, [], ◌∷◌, length, map, sum, sum_by, slice_index, refl}
+use Rattle.std.specs.Prelude.{◌≡◌, ◌≢◌, ℕ, zero, suc, ◌+◌, ◌*◌, ◌<◌, ◌≤◌, List, [], ◌∷◌, length, map, sum, sum_by, slice_index, refl}
 use Rattle.std.proofs.Common.{arith, sym, ◌∙◌, ap, inl, inr}
 use Rattle.std.proofs.lemmas.Bool.{cases_order}
 use Rattle.std.proofs.lemmas.List.{length-map, ext_get_or}
@@ -57,6 +57,12 @@ sum_from_swap a (suc n) b m f =
     let split : sum_from b m (λ j. sum_from a (suc n) (λ i. f i j)) ≡ sum_from b m (λ j. f a j + sum_from (a + 1) n (λ i. f i j)) = sum_from_agree b m _ _ (λ j l h. sum_from-next a n (λ i. f i j)) in
     omega (arith, rest, split, sum_from-next a n (λ i. sum_from b m (λ j. f i j)), sum_from_add b m (λ j. f a j) (λ j. sum_from (a + 1) n (λ i. f i j)))
 
+sum_from_times : (k first n : ℕ) (f : ℕ → ℕ) → k * sum_from first n f ≡ sum_from first n (λ i. k * f i)
+sum_from_times k first zero f = omega arith
+sum_from_times k first (suc n) f =
+    let rest = sum_from_times k (first + 1) n f in
+    ap (λ x. k * x) (sum_from-next first n f) ∙ (let e : k * (f first + sum_from (first + 1) n f) ≡ k * f first + sum_from (first + 1) n (λ i. k * f i) = omega (arith, rest) in e) ∙ sym (sum_from-next first n (λ i. k * f i))
+
 sum_from_split : (first n m : ℕ) (f : ℕ → ℕ) → sum_from first (n + m) f ≡ sum_from first n f + sum_from (first + n) m f
 sum_from_split first zero m f = (λ i. sum_from (first_is i) (m_is i) f) ∙ (let e : sum_from (first + 0) m f ≡ 0 + sum_from (first + 0) m f = omega arith in e)
   where
@@ -96,6 +102,19 @@ sum_below_zero n f none = sum_from_zero 0 n f (λ i l h. none i (omega arith))
 pub sum_below_swap : (n m : ℕ) (f : ℕ → ℕ → ℕ) → sum_below n (λ i. sum_below m (λ j. f i j)) ≡ sum_below m (λ j. sum_below n (λ i. f i j))
 unfolding sum_below below
 sum_below_swap n m f = sum_from_swap 0 n 0 m f
+
+pub sum_below_times : (k n : ℕ) (f : ℕ → ℕ) → k * sum_below n f ≡ sum_below n (λ i. k * f i)
+unfolding sum_below below
+sum_below_times k n f = sum_from_times k 0 n f
+
+-- a sum over a list of sums over numbers
+pub sum_by_below : {X : Type 0} (n : ℕ) (f : ℕ → X → ℕ) (xs : List X) → sum_by (λ x. sum_below n (λ c. f c x)) xs ≡ sum_below n (λ c. sum_by (f c) xs)
+sum_by_below n f [] = sym (sum_below_zero n (λ c. 0) (λ i h. refl))
+sum_by_below n f (x ∷ xs) =
+    sum_by-cons (λ x. sum_below n (λ c. f c x)) x xs
+    ∙ ap (λ y. sum_below n (λ c. f c x) + y) (sum_by_below n f xs)
+    ∙ sym (sum_below_add n (λ c. f c x) (λ c. sum_by (f c) xs))
+    ∙ sum_below_agree n (λ c. f c x + sum_by (f c) xs) (λ c. sum_by (f c) (x ∷ xs)) (λ c h. sym (sum_by-cons (f c) x xs))
 
 -- a list's sum is that of its places
 pub sum_by_places : (f : ℕ → ℕ) (xs : List ℕ) (n : ℕ) → length xs ≡ n → sum_by f xs ≡ sum_below n (λ i. f (slice_index xs i))

@@ -2,10 +2,14 @@
 ghost use Rattle.std.specs.Prelude.{◌≡◌, ℕ, List, [], ◌∷◌, false, replicate, slice_set, Some, None};
 ghost use Rattle.size_class.specs.Classes.{zero_grid, zero_row};
 ghost use Rattle.segment_layout.specs.Shapes.{buffer_for, with_entry};
-ghost use Rattle.segment_layout.specs.Books.{Book, empty_book, book_end};
+ghost use Rattle.std.specs.FinMap as fin;
+ghost use Rattle.segment_layout.specs.Books.{Book, empty_book, book_end, next_book, map_after, book_after};
+ghost use Rattle.segment_layout.specs.Balance.{IsBalanced};
+ghost use Rattle.segment_layout.specs.Bounds.{Tight, Loose};
 ghost use Rattle.segment_layout.specs.Opening.{Opens};
 ghost use Rattle.segment_layout.specs.Worked.{IsWorked, sizes_by};
 ghost use Rattle.store_terms.specs.Maps.{Map};
+ghost use Rattle.store_terms.specs.Requests.{Change, changed};
 
 /// An empty store has no room in any buffer. With k = 9 a payload segment of 100 bytes has a buffer
 /// of 11.
@@ -25,4 +29,25 @@ pub fn worked_layouts()
 /// What a file stands for is one thing.
 pub fn opens_once()
     ensures { (classes most : ℕ) (file : List ℕ) (m n : Map) (b c : Book) → Opens classes most file m b → Opens classes most file n c → m ≡ n }
+{}
+
+/// The book of an empty store is balanced.
+pub fn balanced_empty()
+    ensures { (k : ℕ) → IsBalanced k fin.empty empty_book }
+{}
+
+/// Each put and each removal leads from a balanced book to a balanced one.
+pub fn balanced_next()
+    ensures { (k : ℕ) (m : Map) (book : Book) (c : Change) → IsBalanced k m book → IsBalanced k (changed c m) (next_book k m book c).book }
+{}
+
+/// Where a book is balanced, the data part between requests has at most (k + 1) / (k - 1) times as
+/// many bytes as the objects. So it is after any puts and removals, from an empty store on and from
+/// any balanced book on; and the bound within a request holds too.
+pub fn tight()
+    ensures balanced { (k : ℕ) (m : Map) (book : Book) → IsBalanced k m book → Tight k (book_end k book) m }
+    ensures from_empty { (k : ℕ) (cs : List Change) → Tight k (book_end k (book_after k fin.empty empty_book cs)) (map_after fin.empty cs) }
+    ensures from_balanced { (k : ℕ) (m : Map) (book : Book) (cs : List Change) → IsBalanced k m book → Tight k (book_end k (book_after k m book cs)) (map_after m cs) }
+    ensures loose_before { (k n : ℕ) (m m' : Map) → Tight k n m → Loose k n m m' }
+    ensures loose_after { (k n : ℕ) (m m' : Map) → Tight k n m' → Loose k n m m' }
 {}

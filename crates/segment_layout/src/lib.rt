@@ -8,5 +8,5 @@ mod layout;
 mod settle;
 
 pub use charge::Charge;
-pub use laws::{nothing_fits, opens_once, worked_layouts};
+pub use laws::{balanced_empty, balanced_next, nothing_fits, opens_once, tight, worked_layouts};
 pub use layout::Layout;
