@@ -19,3 +19,6 @@ pub mod ChargingLaws
 pub mod BookLaws
 pub mod NextLaws
 pub mod TightLaws
+pub mod ApartLaws
+pub mod TableLaws
+pub mod FileLaws

@@ -1,7 +1,7 @@
 -- Sums over numbers in order, and sums of lists as such sums.
-use Rattle.std.specs.Prelude.{◌≡◌, ◌≢◌, ℕ, zero, suc, ◌+◌, ◌*◌, ◌<◌, ◌≤◌, List, [], ◌∷◌, length, map, sum, sum_by, slice_index, refl}
+use Rattle.std.specs.Prelude.{◌≡◌, ◌≢◌, ℕ, zero, suc, ◌+◌, ◌-◌, ◌*◌, ◌<◌, ◌≤◌, nat_le, nat_lt, ◌&&◌, cond, List, [], ◌∷◌, length, map, sum, sum_by, slice_index, slice_index_or, refl}
 use Rattle.std.proofs.Common.{arith, sym, ◌∙◌, ap, inl, inr}
-use Rattle.std.proofs.lemmas.Bool.{cases_order}
+use Rattle.std.proofs.lemmas.Bool.{cases_order, cond-true, cond-false, and_from, and_left, and_right, le-leb, lt-ltb, lt-leb, le-ltb}
 use Rattle.std.proofs.lemmas.List.{length-map, ext_get_or}
 use Rattle.std.proofs.lemmas.List.Sums.{sum_by-cons, sum-map}
 use Rattle.byte_ranges.specs.Lists.{below, counting_from, sum_below, map_below-index, length-map_below}
@@ -116,6 +116,29 @@ sum_by_below n f (x ∷ xs) =
     ∙ sym (sum_below_add n (λ c. f c x) (λ c. sum_by (f c) xs))
     ∙ sum_below_agree n (λ c. f c x + sum_by (f c) xs) (λ c. sum_by (f c) (x ∷ xs)) (λ c h. sym (sum_by-cons (f c) x xs))
 
+sum_from_term : (first n j : ℕ) (f : ℕ → ℕ) → first ≤ j → j < first + n → f j ≤ sum_from first n f
+sum_from_term first zero j f low high = absurd (omega arith)
+sum_from_term first (suc n) j f low high =
+    elim (cases_order first j) [
+      | inl e ↦ omega (arith, sum_from-next first n f, ap f e)
+      | inr (inl less) ↦ omega (arith, sum_from-next first n f, sum_from_term (first + 1) n j f (omega arith) (omega arith))
+      | inr (inr more) ↦ absurd (omega arith)
+    ]
+
+-- no term is larger than the sum
+pub sum_below_term : (n j : ℕ) (f : ℕ → ℕ) → j < n → f j ≤ sum_below n f
+unfolding sum_below below
+sum_below_term n j f h = sum_from_term 0 n j f (omega arith) (omega arith)
+
+-- sums over a list, compared or equal place by place
+pub sum_by_le_places : {X : Type 0} (d : X) (f g : X → ℕ) (xs : List X) → ((i : ℕ) → i < length xs → f (slice_index_or xs i d) ≤ g (slice_index_or xs i d)) → sum_by f xs ≤ sum_by g xs
+sum_by_le_places d f g [] each = omega arith
+sum_by_le_places d f g (x ∷ xs) each = omega (arith, sum_by-cons f x xs, sum_by-cons g x xs, each 0 (omega arith), sum_by_le_places d f g xs (λ i h. each (suc i) (omega arith)))
+
+pub sum_by_same_places : {X : Type 0} (d : X) (f g : X → ℕ) (xs : List X) → ((i : ℕ) → i < length xs → f (slice_index_or xs i d) ≡ g (slice_index_or xs i d)) → sum_by f xs ≡ sum_by g xs
+sum_by_same_places d f g [] each = refl
+sum_by_same_places d f g (x ∷ xs) each = omega (arith, sum_by-cons f x xs, sum_by-cons g x xs, each 0 (omega arith), sum_by_same_places d f g xs (λ i h. each (suc i) (omega arith)))
+
 -- a list's sum is that of its places
 pub sum_by_places : (f : ℕ → ℕ) (xs : List ℕ) (n : ℕ) → length xs ≡ n → sum_by f xs ≡ sum_below n (λ i. f (slice_index xs i))
 unfolding sum_below
@@ -131,3 +154,39 @@ sum_by_places f xs n long =
 
 pub sum_places : (xs : List ℕ) (n : ℕ) → length xs ≡ n → sum xs ≡ sum_below n (λ i. slice_index xs i)
 sum_places xs n long = sum_by_places (λ x. x) xs n long
+
+-- 1 at the n numbers from a first one on, else 0
+abbrev pub inside : ℕ → ℕ → ℕ → ℕ
+inside first n p = cond (nat_le first p && nat_lt p (first + n)) 1 0
+
+pub inside_here : (first n p : ℕ) → first ≤ p → p < first + n → inside first n p ≡ 1
+inside_here first n p low high = cond-true (nat_le first p && nat_lt p (first + n)) 1 0 (and_from (nat_le first p) (nat_lt p (first + n)) (le-leb first p low) (lt-ltb p (first + n) high))
+
+pub inside_below : (first n p : ℕ) → p < first → inside first n p ≡ 0
+inside_below first n p low = cond-false (nat_le first p && nat_lt p (first + n)) 1 0 (and_left (nat_le first p) (nat_lt p (first + n)) (lt-leb first p low))
+
+pub inside_above : (first n p : ℕ) → first + n ≤ p → inside first n p ≡ 0
+inside_above first n p high = cond-false (nat_le first p && nat_lt p (first + n)) 1 0 (and_right (nat_le first p) (nat_lt p (first + n)) (le-ltb p (first + n) high))
+
+sum_from_ones : (first n : ℕ) (f : ℕ → ℕ) → ((i : ℕ) → first ≤ i → i < first + n → f i ≡ 1) → sum_from first n f ≡ n
+sum_from_ones first zero f one = refl
+sum_from_ones first (suc n) f one = omega (arith, sum_from-next first n f, one first (omega arith) (omega arith), sum_from_ones (first + 1) n f (λ i l h. one i (omega arith) (omega arith)))
+
+-- they are n
+pub sum_below_inside : (all first n : ℕ) → first + n ≤ all → sum_below all (inside first n) ≡ n
+unfolding sum_below below
+sum_below_inside all first n fits =
+    let f = inside first n in
+    let rest = all - (first + n) in
+    let parts : sum_from 0 (first + (n + rest)) f ≡ sum_from 0 first f + sum_from (0 + first) (n + rest) f = sum_from_split 0 first (n + rest) f in
+    let more : sum_from (0 + first) (n + rest) f ≡ sum_from (0 + first) n f + sum_from (0 + first + n) rest f = sum_from_split (0 + first) n rest f in
+    let whole : sum_from 0 all f ≡ sum_from 0 (first + (n + rest)) f = (let e : all ≡ first + (n + rest) = omega arith in ap (λ x. sum_from 0 x f) e) in
+    omega (
+      arith,
+      parts,
+      more,
+      whole,
+      sum_from_zero 0 first f (λ i low high. inside_below first n i (omega arith)),
+      sum_from_ones (0 + first) n f (λ i low high. inside_here first n i (omega arith) (omega arith)),
+      sum_from_zero (0 + first + n) rest f (λ i low high. inside_above first n i (omega arith)),
+    )

@@ -1,12 +1,20 @@
 //! Laws of books and of whole files, as contracts of functions that do nothing.
-ghost use Rattle.std.specs.Prelude.{◌≡◌, ℕ, List, [], ◌∷◌, false, replicate, slice_set, Some, None};
+ghost use Rattle.std.specs.Prelude.{◌≡◌, ◌≤◌, ◌-◌, length, ℕ, List, [], ◌∷◌, false, replicate, slice_set, Some, None};
 ghost use Rattle.size_class.specs.Classes.{zero_grid, zero_row};
 ghost use Rattle.segment_layout.specs.Shapes.{buffer_for, with_entry};
 ghost use Rattle.std.specs.FinMap as fin;
 ghost use Rattle.segment_layout.specs.Books.{Book, empty_book, book_end, next_book, map_after, book_after};
 ghost use Rattle.segment_layout.specs.Balance.{IsBalanced};
 ghost use Rattle.segment_layout.specs.Bounds.{Tight, Loose};
-ghost use Rattle.segment_layout.specs.Opening.{Opens};
+ghost use Rattle.segment_layout.specs.Opening.{Opens, OpensBy, layed_of};
+ghost use Rattle.segment_layout.specs.OpeningLaws.{HasRoomFor, SameObjects, AllApart};
+ghost use Rattle.segment_layout.specs.Tables.{Layed, KeepsPlaces, bound, map_of, book_of};
+ghost use Rattle.segment_layout.specs.TableLaws.{HasTables};
+ghost use Rattle.segment_layout.specs.FileLaws.{HaveNames, LieWithin};
+ghost use Rattle.slot_codec.specs.Spelling.{head_len};
+ghost use Rattle.slot_codec.specs.Choice as choice;
+ghost use Rattle.byte_ranges.specs.Ranges.{SameBelow, SameOutside};
+ghost use Rattle.size_class.specs.Classes.{width};
 ghost use Rattle.segment_layout.specs.Worked.{IsWorked, sizes_by};
 ghost use Rattle.store_terms.specs.Maps.{Map};
 ghost use Rattle.store_terms.specs.Requests.{Change, changed};
@@ -50,4 +58,21 @@ pub fn tight()
     ensures from_balanced { (k : ℕ) (m : Map) (book : Book) (cs : List Change) → IsBalanced k m book → Tight k (book_end k (book_after k m book cs)) (map_after m cs) }
     ensures loose_before { (k n : ℕ) (m m' : Map) → Tight k n m → Loose k n m m' }
     ensures loose_after { (k n : ℕ) (m m' : Map) → Tight k n m' → Loose k n m m' }
+{}
+
+/// The book of a valid table is balanced, if its names differ and its objects lie within the file.
+/// So is the book of each file that opens, and after any puts and removals from there on the data
+/// part is within the bound.
+pub fn balanced_of_table()
+    ensures table { (t : Layed) (base : ℕ) (file : List ℕ) → HasTables t → KeepsPlaces t → bound t ≤ width → HaveNames t.records → LieWithin base file t.records → IsBalanced t.k (map_of base file t.records) (book_of t) }
+    ensures file { (classes most : ℕ) (t : choice.Table) (file : List ℕ) (m : Map) (book : Book) → classes ≤ width → OpensBy classes most t file m book → IsBalanced t.chosen.block.k m book }
+    ensures tight { (classes most : ℕ) (t : choice.Table) (file : List ℕ) (m : Map) (book : Book) (cs : List Change) → classes ≤ width → OpensBy classes most t file m book → Tight t.chosen.block.k (book_end t.chosen.block.k (book_after t.chosen.block.k m book cs)) (map_after m cs) }
+{}
+
+/// A file stands for what another stands for, if it is the same below the data part and where the
+/// objects of the table are, and has room for the table. So a change within the data part, apart
+/// from the objects, leaves what a file stands for.
+pub fn carries_on()
+    ensures same_objects { (classes most : ℕ) (t : choice.Table) (a b : List ℕ) (m : Map) (book : Book) → OpensBy classes most t a m book → head_len t.chosen.block.names ≤ length b → SameBelow (head_len t.chosen.block.names) a b → HasRoomFor (layed_of classes most a t) (length b - head_len t.chosen.block.names) → SameObjects (head_len t.chosen.block.names) t.records a b → OpensBy classes most t b m book }
+    ensures change_apart { (classes most : ℕ) (t : choice.Table) (a b : List ℕ) (m : Map) (book : Book) (at n : ℕ) → OpensBy classes most t a m book → head_len t.chosen.block.names ≤ at → SameOutside at n a b → AllApart (head_len t.chosen.block.names) at n (length a) t.records → OpensBy classes most t b m book }
 {}

@@ -8,5 +8,8 @@ mod layout;
 mod settle;
 
 pub use charge::Charge;
-pub use laws::{balanced_empty, balanced_next, nothing_fits, opens_once, tight, worked_layouts};
+pub use laws::{
+    balanced_empty, balanced_next, balanced_of_table, carries_on, nothing_fits, opens_once, tight,
+    worked_layouts,
+};
 pub use layout::Layout;
