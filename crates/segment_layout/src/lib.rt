@@ -6,6 +6,8 @@ mod charge;
 mod laws;
 mod layout;
 mod settle;
+#[cfg(test)]
+mod tests;
 
 pub use charge::Charge;
 pub use laws::{
