@@ -1,6 +1,6 @@
 -- What the tests need of known sizes.
-use Rattle.std.proofs.Common.{◌≡◌, ◌<◌, ◌^◌, ℕ, List, length, arith, refl, ap, ◌∙◌, inl, inr}
-use Rattle.std.specs.Prelude.{slice_index, slice_set, ◌≢◌}
+use Rattle.std.proofs.Common.{◌≡◌, ◌<◌, ℕ, List, length, arith, refl, ap, inl, inr}
+use Rattle.std.specs.Prelude.{slice_index, slice_set}
 use Rattle.std.proofs.lemmas.Bool.{cases_eq, cases_lt}
 use Rattle.std.proofs.lemmas.List.{get_or-set_same, get_or-set_other, get_or_past, length-set}
 use Rattle.byte_ranges.specs.Lists.{below}
