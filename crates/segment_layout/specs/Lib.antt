@@ -22,3 +22,4 @@ pub mod TightLaws
 pub mod ApartLaws
 pub mod TableLaws
 pub mod FileLaws
+pub mod SuffixLaws

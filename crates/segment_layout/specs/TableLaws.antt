@@ -189,7 +189,7 @@ module _ (t : Layed) where
       ∙ sum_below_agree width (λ j. dead_in_buffer t j d + live_in_buffer t j d) (λ j. cell t.header.used j d) (λ j h. let e : dead_in_buffer t j d + live_in_buffer t j d ≡ cell t.header.used j d = omega (arith, rule.buffers j h) in e) in
       omega (arith, rule.payload, parts, settled_is_live d low, buffered_is_live p d fits low)
 
-  zero_cell : HasTables t → KeepsPlaces t → (j d : ℕ) → (bound t ≤ j) ⊎ (j < d) → cell t.header.used j d ≡ 0
+  pub zero_cell : HasTables t → KeepsPlaces t → (j d : ℕ) → (bound t ≤ j) ⊎ (j < d) → cell t.header.used j d ≡ 0
   zero_cell h p j d out =
       elim (cases_lt j width) [
         | inr past ↦ h.grid_full.zero_above j d past

@@ -1,7 +1,7 @@
 //! Laws of books and of whole files, as contracts of functions that do nothing.
-ghost use Rattle.std.specs.Prelude.{◌≡◌, ◌≤◌, ◌-◌, length, ℕ, List, [], ◌∷◌, false, replicate, slice_set, Some, None};
+ghost use Rattle.std.specs.Prelude.{◌≡◌, ◌≤◌, ◌-◌, length, ℕ, List, [], ◌∷◌, false, true, replicate, slice_set, Some, None};
 ghost use Rattle.size_class.specs.Classes.{zero_grid, zero_row};
-ghost use Rattle.segment_layout.specs.Shapes.{buffer_for, with_entry};
+ghost use Rattle.segment_layout.specs.Shapes.{buffer_for, is_boundary, with_entry};
 ghost use Rattle.std.specs.FinMap as fin;
 ghost use Rattle.segment_layout.specs.Books.{Book, empty_book, book_end, next_book, map_after, book_after};
 ghost use Rattle.segment_layout.specs.Balance.{IsBalanced};
@@ -11,6 +11,7 @@ ghost use Rattle.segment_layout.specs.OpeningLaws.{HasRoomFor, SameObjects, AllA
 ghost use Rattle.segment_layout.specs.Tables.{Layed, KeepsPlaces, bound, map_of, book_of};
 ghost use Rattle.segment_layout.specs.TableLaws.{HasTables};
 ghost use Rattle.segment_layout.specs.FileLaws.{HaveNames, LieWithin};
+ghost use Rattle.segment_layout.specs.SuffixLaws.{KeepsBelow, suffix_at};
 ghost use Rattle.slot_codec.specs.Spelling.{head_len};
 ghost use Rattle.slot_codec.specs.Choice as choice;
 ghost use Rattle.byte_ranges.specs.Ranges.{SameBelow, SameOutside};
@@ -75,4 +76,11 @@ pub fn balanced_of_table()
 pub fn carries_on()
     ensures same_objects { (classes most : ℕ) (t : choice.Table) (a b : List ℕ) (m : Map) (book : Book) → OpensBy classes most t a m book → head_len t.chosen.block.names ≤ length b → SameBelow (head_len t.chosen.block.names) a b → HasRoomFor (layed_of classes most a t) (length b - head_len t.chosen.block.names) → SameObjects (head_len t.chosen.block.names) t.records a b → OpensBy classes most t b m book }
     ensures change_apart { (classes most : ℕ) (t : choice.Table) (a b : List ℕ) (m : Map) (book : Book) (at n : ℕ) → OpensBy classes most t a m book → head_len t.chosen.block.names ≤ at → SameOutside at n a b → AllApart (head_len t.chosen.block.names) at n (length a) t.records → OpensBy classes most t b m book }
+{}
+
+/// The records of a table, read with a moving header from a boundary on, keep the rules of places,
+/// if they keep them for the classes below. A valid table keeps them for the classes below any class.
+pub fn valid_for_suffix()
+    ensures suffix { (b : ℕ) (t : Layed) → HasTables t → b ≤ width → is_boundary t.header.used b ≡ true → KeepsBelow b t → KeepsPlaces (suffix_at b t) }
+    ensures valid { (b : ℕ) (t : Layed) → HasTables t → KeepsPlaces t → bound t ≤ width → b ≤ bound t → KeepsBelow b t }
 {}
