@@ -23,3 +23,4 @@ pub mod ApartLaws
 pub mod TableLaws
 pub mod FileLaws
 pub mod SuffixLaws
+pub mod WiderLaws

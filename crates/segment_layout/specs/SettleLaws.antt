@@ -65,7 +65,7 @@ emptied_more b j grid new after t low high is =
       above = λ i h. get_or-set_other new j i zero_row [] (λ x. absurd (omega arith)) ∙ t.above i (omega arith);
     })
 
-row_is_zero : (xs : List ℕ) → length xs ≡ width → ((c : ℕ) → slice_index xs c ≡ 0) → xs ≡ zero_row
+pub row_is_zero : (xs : List ℕ) → length xs ≡ width → ((c : ℕ) → slice_index xs c ≡ 0) → xs ≡ zero_row
 row_is_zero xs long none = ext_get_or 0 xs zero_row (long ∙ sym length-zero_row) (λ c h. none c ∙ sym (zero_row-index c))
 
 pub emptied_all : (C b : ℕ) (grid new : List (List ℕ)) → IsGrid C grid → b ≤ C → C ≤ width → EmptiedUpTo b C grid new → new ≡ settled_grid b grid

@@ -1,5 +1,5 @@
 //! Laws of books and of whole files, as contracts of functions that do nothing.
-ghost use Rattle.std.specs.Prelude.{◌≡◌, ◌≤◌, ◌-◌, length, ℕ, List, [], ◌∷◌, false, true, replicate, slice_set, Some, None};
+ghost use Rattle.std.specs.Prelude.{◌≡◌, ◌≤◌, ◌<◌, ◌^◌, ◌-◌, length, ℕ, List, [], ◌∷◌, false, true, replicate, slice_set, Some, None};
 ghost use Rattle.size_class.specs.Classes.{zero_grid, zero_row};
 ghost use Rattle.segment_layout.specs.Shapes.{buffer_for, is_boundary, with_entry};
 ghost use Rattle.std.specs.FinMap as fin;
@@ -35,9 +35,10 @@ pub fn worked_layouts()
     ensures ten { IsWorked 9 (sizes_by 6 900) (with_entry zero_grid 6 6 100) (100 ∷ []) (replicate 11 100) false 6 1222 }
 {}
 
-/// What a file stands for is one thing.
+/// What a file stands for is one thing: one map, and one book.
 pub fn opens_once()
-    ensures { (classes most : ℕ) (file : List ℕ) (m n : Map) (b c : Book) → Opens classes most file m b → Opens classes most file n c → m ≡ n }
+    ensures map { (classes most : ℕ) (file : List ℕ) (m n : Map) (b c : Book) → Opens classes most file m b → Opens classes most file n c → m ≡ n }
+    ensures book { (classes most : ℕ) (file : List ℕ) (m n : Map) (b c : Book) → Opens classes most file m b → Opens classes most file n c → b ≡ c }
 {}
 
 /// The book of an empty store is balanced.
@@ -83,4 +84,10 @@ pub fn carries_on()
 pub fn valid_for_suffix()
     ensures suffix { (b : ℕ) (t : Layed) → HasTables t → b ≤ width → is_boundary t.header.used b ≡ true → KeepsBelow b t → KeepsPlaces (suffix_at b t) }
     ensures valid { (b : ℕ) (t : Layed) → HasTables t → KeepsPlaces t → bound t ≤ width → b ≤ bound t → KeepsBelow b t }
+{}
+
+/// What a file stands for among some classes, which its objects' sizes have, it stands for among
+/// more classes and with larger objects allowed: the same map, and the same book.
+pub fn more_classes()
+    ensures { (few many most more : ℕ) (t : choice.Table) (file : List ℕ) (m : Map) (book : Book) → few ≤ many → many ≤ width → most < 2 ^ few → most ≤ more → OpensBy few most t file m book → OpensBy many more t file m book }
 {}

@@ -11,7 +11,7 @@ mod tests;
 
 pub use charge::Charge;
 pub use laws::{
-    balanced_empty, balanced_next, balanced_of_table, carries_on, nothing_fits, opens_once, tight,
-    worked_layouts,
+    balanced_empty, balanced_next, balanced_of_table, carries_on, more_classes, nothing_fits,
+    opens_once, tight, worked_layouts,
 };
 pub use layout::Layout;
