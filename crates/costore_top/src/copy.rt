@@ -61,5 +61,16 @@ fn put_piece<D: Disk, O: Sink>(
 {
     let piece = &mut buffer[..size];
     read(disk, at, piece).map_err(|_| Stop::Disk)?;
-    output.put(piece).map_err(|_| Stop::Sink)
+    put_whole(output, piece)
+}
+
+/// Puts bytes at once.
+pub fn put_whole<O: Sink>(output: &mut O, bytes: &[u8]) -> Result<(), Stop>
+    ensures put { IsTrue (O.tells output.old) → Puts (O.given output.old) (O.given output.new) bytes.now result }
+    ensures only { OnErr result (result ≡ Err Stop.Sink) }
+    ensures sink_cause { result ≡ Err Stop.Sink → Rose (O.faults output.old) (O.faults output.new) }
+    ensures sink_later { O.faults output.old ≤ O.faults output.new }
+    ensures sink_told { O.tells output.new ≡ O.tells output.old }
+{
+    output.put(bytes).map_err(|_| Stop::Sink)
 }

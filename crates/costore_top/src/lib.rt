@@ -10,6 +10,7 @@ mod pass;
 mod records;
 mod stop;
 mod table;
+mod top;
 mod words;
 
 pub use stop::{Stop, StoreFault};
