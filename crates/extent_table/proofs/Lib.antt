@@ -1,0 +1,12 @@
+pub mod EditLemmas
+pub mod EntryLemmas
+pub mod MapLemmas
+pub mod OperationLemmas
+pub mod OrderLemmas
+pub mod PlaceLemmas
+pub mod RetainLemmas
+pub mod SearchLemmas
+pub mod SettleLemmas
+pub mod SideLemmas
+pub mod SoundLemmas
+pub mod TableLemmas

@@ -1,0 +1,4 @@
+pub mod Extents
+pub mod Parts
+pub mod ExtentLaws
+pub mod Inside

@@ -1,0 +1,13 @@
+//! The table of names: where each object stands now, and where it stood at the last checkpoint.
+#![tactic(auto)]
+
+mod entry;
+mod order;
+mod roll;
+mod spot;
+mod table;
+#[cfg(test)]
+mod tests;
+
+pub use spot::Spot;
+pub use table::Table;
