@@ -5,3 +5,4 @@ mod Judging
 mod Stops
 mod Answering
 mod Statuses
+mod WordLists

@@ -5,6 +5,9 @@ use Rattle.disk_face.specs.Moments.{Leaves, Only}
 use Rattle.slot_pair.specs.Formats.{HasFirstTable, IsNoneOrFirst, formatted_file}
 use Rattle.disk_face.specs.Mounts.{Mount}
 use Rattle.disk_face.specs.declared.bay.Mounted.{Mounted}
+use Rattle.disk_face.specs.declared.bay.Mounted.TheVariants.{There, Made, Absent}
+use Rattle.costore_top.specs.Words.{Command}
+use Rattle.costore_top.specs.Outcomes.{mounted, status_at}
 use Rattle.costore_top.specs.declared.stop.Stop.{Stop}
 use Rattle.costore_top.specs.declared.stop.Stop.TheVariants as stop
 
@@ -25,3 +28,11 @@ pub record Formats {D : Type 0} (file : D → List ℕ) (may_leave : D → List 
   pub table : length (file old) ≡ 0 → IsDone end → HasFirstTable k names (file new)
   pub rests : length (file old) ≡ 0 → IsDone end → Only (file new) (may_leave new)
   pub calls : length (file old) ≡ 0 → IsDone end → turn new ≡ counted (turn old) 10
+
+-- the file of a command was mounted, or isn't there
+abbrev pub IsMounted : Command → Option Mount → Type 0
+IsMounted c mount = (mount ≡ mounted c Absent) ⊎ (mount ≡ mounted c There) ⊎ (mount ≡ mounted c Made)
+
+-- the same by the status of the program
+abbrev pub FormatsBy : {D : Type 0} → ℕ → (D → List ℕ) → (D → List ℕ → Type 0) → (D → ℕ → List ℕ → Type 0) → (D → ℕ) → D → D → ℕ → ℕ → Type 0
+FormatsBy status file may_leave left_since turn old new k names = (end : Result (Unit {0}) Stop) × (status ≡ status_at end) × Formats file may_leave left_since turn old new k names end

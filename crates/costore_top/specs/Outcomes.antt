@@ -88,6 +88,14 @@ pub record PutsOut (answer : Result (List ℕ) Stop) (end : Result (Unit {0}) St
   pub line : IsFront between now (line_at end)
   pub all : (now ≡ between ++ line_at end) ⊎ failed
 
+-- a command whose answer this is ends with a status
+abbrev pub EndsSo : Result (List ℕ) Stop → ℕ → Type 0
+EndsSo answer status = (end : Result (Unit {0}) Stop) × (status ≡ status_at end) × EndsBy answer end
+
+-- the line of a reason to stop of this status was put, or a front of it, and nothing more
+abbrev pub PutsLine : ℕ → List ℕ → List ℕ → Type 0
+PutsLine status before now = (why : Stop) × (status ≡ status_of why) × IsFront before now (line_of why)
+
 -- the end of a command, by its status, its answer, and what it put
 pub record Ends (answer : Result (List ℕ) Stop) (status : ℕ) (before now : List ℕ) (failed : Type 0) : Type 0 where
   pub end : Result (Unit {0}) Stop

@@ -1,6 +1,7 @@
 //! The program as one call: from the words of its command line to the bytes that it puts out.
 #![tactic(auto)]
 
+mod asked;
 mod command;
 mod copy;
 mod fault;
@@ -14,5 +15,6 @@ mod top;
 mod words;
 
 pub use stop::{Stop, StoreFault};
+pub use top::{Outcome, costore};
 
 

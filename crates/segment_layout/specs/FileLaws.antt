@@ -245,6 +245,7 @@ header_tables bytes =
     )
 
 read_is : (names : ℕ) (bytes : List ℕ) (header : Header) → read_header names bytes ≡ Ok header → header_of bytes ≡ header
+unfolding read_header
 read_is names bytes header is =
     let version = guard_ok (not (slice_index bytes 0 == 1)) _ _ header is in
     let kind = guard_ok (nat_lt 1 (slice_index bytes 1)) _ _ header version.1 in
