@@ -1,5 +1,5 @@
 -- The lines that the program puts where it stops.
-use Rattle.std.specs.Prelude.{ℕ, List, [], ◌++◌, codes, Result, Ok, Err}
+use Rattle.std.specs.Prelude.{ℕ, List, [], ◌++◌, codes}
 use Rattle.std.specs.Fmt.{decimal}
 use Rattle.slot_codec.specs.declared.codec.CodecFault.{CodecFault}
 use Rattle.slot_codec.specs.declared.codec.CodecFault.TheVariants as codec

@@ -7,13 +7,12 @@ ghost use Rattle.costore_top.specs.Commands.{Formats};
 ghost use Rattle.costore_top.specs.Words.{Command, command_of, format};
 ghost use Rattle.costore_top.specs.Outcomes.{EndsBy, answer_for, bytes_of, makes, mounted, mounts};
 
-use disk_face::{Bay, Mounted, Sink};
-
 use crate::Stop;
 use crate::command::{format_in, get_from};
 use crate::copy::put_whole;
 use crate::help::{HELP, VERSION};
 use crate::words::Asked;
+use disk_face::{Bay, Mounted, Sink};
 
 /// Does what is asked, but for the fault line.
 #[tactic(auto, unfolding(crate::specs::Outcomes::answer_for))]
@@ -44,6 +43,8 @@ pub fn do_asked<B: Bay, O: Sink>(asked: &Asked, bay: &mut B, output: &mut O) -> 
         Asked::Get(file, name) => get_from(bay, file, name, output),
         Asked::Help => put_whole(output, HELP.as_bytes()),
         Asked::Version => put_whole(output, VERSION.as_bytes()),
-        Asked::Check(_) | Asked::Map(_) | Asked::Run(_) | Asked::Work(_, _, _) => Err(Stop::NotBuilt),
+        Asked::Check(_) | Asked::Map(_) | Asked::Run(_) | Asked::Work(_, _, _) => Err(
+            Stop::NotBuilt,
+        ),
     }
 }

@@ -9,16 +9,20 @@ ghost use Rattle.costore_top.specs.Getting.{answer_of};
 ghost use Rattle.costore_top.specs.Commands.{mount_of, IsDone};
 ghost use Rattle.costore_top.specs.Outcomes.{EndsBy, bytes_of, format_answer};
 
+use crate::Stop;
+use crate::copy::put_whole;
+use crate::get::get;
 use disk_face::{Bay, Disk, Mounted, Sink, length_of};
 use slot_codec::Name;
 use slot_pair::SlotPair;
 
-use crate::Stop;
-use crate::copy::put_whole;
-use crate::get::get;
-
 /// `get FILE NAME`.
-pub fn get_from<B: Bay, O: Sink>(bay: &mut B, file: &str, name: &Name, output: &mut O) -> Result<(), Stop>
+pub fn get_from<B: Bay, O: Sink>(
+    bay: &mut B,
+    file: &str,
+    name: &Name,
+    output: &mut O,
+) -> Result<(), Stop>
     requires { B.last_mount bay.old ≡ None }
     ensures mounted { (result ≡ Err Stop.Disk) ⊎ (result ≡ Err Stop.NoFile) ⊎ (B.last_mount bay.new ≡ mount_of file.now false Mounted.There) }
     ensures no_file { (result ≡ Err Stop.NoFile) ↔ (B.last_mount bay.new ≡ mount_of file.now false Mounted.Absent) }
@@ -42,7 +46,13 @@ pub fn get_from<B: Bay, O: Sink>(bay: &mut B, file: &str, name: &Name, output: &
 }
 
 /// `format FILE K NAMES`. An empty file is formatted; another one stays as it is.
-pub fn format_in<B: Bay, O: Sink>(bay: &mut B, file: &str, k: u64, names: u64, output: &mut O) -> Result<(), Stop>
+pub fn format_in<B: Bay, O: Sink>(
+    bay: &mut B,
+    file: &str,
+    k: u64,
+    names: u64,
+    output: &mut O,
+) -> Result<(), Stop>
     requires none { B.last_mount bay.old ≡ None }
     requires divisor { (2 ≤ k) × (k ≤ 64) }
     requires low { 16 ≤ names }

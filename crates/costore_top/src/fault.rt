@@ -4,12 +4,11 @@ ghost use Rattle.std.specs.Fmt.{decimal};
 ghost use Rattle.arrayvec.specs.ArrayVec.{array_vec_len};
 ghost use Rattle.costore_top.specs.Faults.{line_of, number_of, slot_text, store_text};
 
+use crate::{Stop, StoreFault};
 use arrayvec::ArrayVec;
 use itoa::Buffer;
 use slot_codec::CodecFault;
 use slot_pair::SlotFault;
-
-use crate::{Stop, StoreFault};
 
 /// The fault line of a reason to stop, with its newline; empty where the sink itself failed.
 pub fn fault_line(why: Stop) -> ArrayVec<u8, 128>

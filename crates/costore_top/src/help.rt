@@ -1,7 +1,8 @@
 //! The texts of `--help` and `--version`.
 
 /// The page that `--help` puts.
-pub const HELP: &str = "costore keeps named objects of bytes in one file, within a stated factor of its live bytes.
+pub const HELP: &str =
+    "costore keeps named objects of bytes in one file, within a stated factor of its live bytes.
 
 commands:
   costore format FILE K NAMES       makes a store of FILE, which must be new or empty

@@ -16,5 +16,3 @@ mod words;
 
 pub use stop::{Stop, StoreFault};
 pub use top::{Outcome, costore};
-
-

@@ -8,12 +8,11 @@ ghost use Rattle.costore_top.specs.Words.{Command, Means, MeansNone, format, tex
 ghost use Rattle.costore_top.specs.Outcomes.{Ends, EndsBy, EndsSo, IsFront, PutsLine, answer_for, bytes_of, line_at, makes, mounted, mounts, status_at};
 ghost use Rattle.costore_top.specs.Faults.{line_of};
 
-use disk_face::{Bay, Mounted, Sink, Source};
-
 use crate::Stop;
 use crate::asked::do_asked;
 use crate::fault::fault_line;
 use crate::words::read_words;
+use disk_face::{Bay, Mounted, Sink, Source};
 
 /// How the program ends. The three numbers are of a session's requests; they are 0 for a command
 /// that serves none.
@@ -30,7 +29,12 @@ pub struct Outcome {
 /// The whole program: does what the words of the command line ask, without the program's name, with
 /// the files of a bay that has mounted none. It takes no memory. At each status but 0 and 9 one
 /// line is put last that tells why.
-pub fn costore<B: Bay, I: Source, O: Sink>(words: &[&str], bay: &mut B, input: &mut I, output: &mut O) -> Outcome
+pub fn costore<B: Bay, I: Source, O: Sink>(
+    words: &[&str],
+    bay: &mut B,
+    input: &mut I,
+    output: &mut O,
+) -> Outcome
     requires { B.last_mount bay.old ≡ None }
 
     // The words decide first, and where they are no command nothing is done.
@@ -108,7 +112,12 @@ fn finish<O: Sink>(end: Result<(), Stop>, output: &mut O) -> Outcome
     if let Err(why) = end {
         tell(why, output);
     }
-    Outcome { status: status_at(&end), done: 0, kept_done: 0, kept_turn: 0 }
+    Outcome {
+        status: status_at(&end),
+        done: 0,
+        kept_done: 0,
+        kept_turn: 0,
+    }
 }
 
 /// Puts the fault line of a reason to stop.

@@ -1,6 +1,6 @@
-use Rattle.std.proofs.Common.{◌≡◌, ℕ, List, ap, sym, ◌∙◌, subst}
+use Rattle.std.proofs.Common.{◌≡◌, ap, sym, ◌∙◌, subst}
 use Rattle.costore_top.specs.Commands.{Formats}
-use Rattle.costore_top.specs.Words.{Command, command_of, format}
+use Rattle.costore_top.specs.Words.{command_of, format}
 use Rattle.costore_top.proofs.asked.do_asked.Goals as goal
 
 pub format_in-requires-clause-divisor : goal.format_in-requires-clause-divisor
@@ -18,12 +18,12 @@ returns-in-Format-clause-formats g c = λ file k names is told.
     let same_k : c.in-Format.k ≡ k = cc in
     let same_names : c.in-Format.names ≡ names = cc in
     subst (λ x. Formats g.B.Disk.file g.B.Disk.may_leave g.B.Disk.left_since g.B.Disk.turn c.args.bay.now c.format_in.new.bay x names c.format_in.result) same_k
-      (subst (λ x. Formats g.B.Disk.file g.B.Disk.may_leave g.B.Disk.left_since g.B.Disk.turn c.args.bay.now c.format_in.new.bay c.in-Format.k x c.format_in.result) same_names
-        (record {
-          stopped = c.format_in.ensures.stopped told;
-          images = λ none rests. c.format_in.ensures.images told rests none;
-          done = c.format_in.ensures.file told;
-          table = c.format_in.ensures.formatted told;
-          rests = c.format_in.ensures.rests told;
-          calls = c.format_in.ensures.calls told;
-        }))
+    (subst (λ x. Formats g.B.Disk.file g.B.Disk.may_leave g.B.Disk.left_since g.B.Disk.turn c.args.bay.now c.format_in.new.bay c.in-Format.k x c.format_in.result) same_names
+    (record {
+      stopped = c.format_in.ensures.stopped told;
+      images = λ none rests. c.format_in.ensures.images told rests none;
+      done = c.format_in.ensures.file told;
+      table = c.format_in.ensures.formatted told;
+      rests = c.format_in.ensures.rests told;
+      calls = c.format_in.ensures.calls told;
+    }))

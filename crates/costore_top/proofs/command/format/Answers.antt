@@ -1,7 +1,5 @@
-use Rattle.std.proofs.Common.{◌≡◌, ◌<◌, length, IsTrue, arith, rules, ap}
+use Rattle.std.proofs.Common.{◌≡◌, length, arith}
 use Rattle.std.proofs.lemmas.Bool.{eq-eqb}
-use Rattle.std.proofs.lemmas.Grind.{common_steps}
-use Rattle.costore_top.specs.Outcomes.{bytes_of, format_answer}
 use Rattle.costore_top.proofs.command.format.Goals as goal
 
 pub returns-in_err-map_err-clause-taken : goal.returns-in_err-map_err-clause-taken

@@ -1,4 +1,4 @@
-use Rattle.std.proofs.Common.{rules, arith}
+use Rattle.std.proofs.Common.{rules}
 use Rattle.costore_top.proofs.command.format_in.Goals as goal
 
 pub returns-in-Ok-There : goal.returns-in-Ok-There

@@ -1,4 +1,4 @@
-use Rattle.std.proofs.Common.{◌≡◌, sym, ◌∙◌, subst}
+use Rattle.std.proofs.Common.{◌≡◌, subst}
 use Rattle.costore_top.specs.Faults.{line_of}
 use Rattle.costore_top.specs.Outcomes.{IsFront}
 use Rattle.costore_top.proofs.Statuses.{Puts-front}
