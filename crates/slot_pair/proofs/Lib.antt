@@ -1,1 +1,3 @@
 mod FindingLaws
+mod PiecesSoFar
+mod RecordLemmas

@@ -1,1 +1,4 @@
 pub mod Finding
+pub mod Saves
+pub mod SaveLaws
+pub mod Writes
