@@ -1,5 +1,5 @@
 -- How far the loop over pieces of records has come.
-use Rattle.std.specs.Prelude.{◌≡◌, ℕ, ◌+◌, ◌*◌, ◌≤◌, Bool, List, Option, IsTrue, flat_map, length, min, take}
+use Rattle.std.specs.Prelude.{◌≡◌, ℕ, ◌*◌, ◌≤◌, Bool, List, Option, IsTrue, flat_map, length, min, take}
 use Rattle.byte_ranges.specs.Ranges.{bytes_at}
 use Rattle.slot_codec.specs.Spelling.{record_bytes, record_len}
 use Rattle.slot_codec.specs.declared.codec.Record.{Record}

@@ -1,21 +1,19 @@
 -- What a file stands for while the other slot is written, and once its gate is open.
-use Rattle.std.proofs.Common.{◌≡◌, ◌⊎◌, ℕ, zero, suc, ◌+◌, ◌-◌, ◌*◌, ◌<◌, ◌≤◌, ◌^◌, ◌==◌, Bool, true, false, List, [], ◌∷◌, ◌++◌, length, flat_map, refl, sym, ap, ◌∙◌, inl, inr, arith, cond, subst}
-use Rattle.std.proofs.lemmas.Bool.{cases_lt}
+use Rattle.std.proofs.Common.{◌≡◌, ℕ, zero, suc, ◌+◌, ◌-◌, ◌*◌, ◌<◌, ◌≤◌, ◌^◌, ◌==◌, Bool, true, false, List, [], ◌∷◌, ◌++◌, length, flat_map, refl, sym, ap, ◌∙◌, arith, subst}
 use Rattle.std.specs.Int.{w64, from_le_bytes}
-use Rattle.std.specs.Prelude.{slice_index, Ok}
-use Rattle.byte_ranges.specs.Ranges.{SameBelow, SameFrom, SameOutside, SameOutside-refl, SameOutside-trans, SameOutside-wider, bytes_at, bytes_at-same, bytes_at-within}
-use Rattle.slot_codec.specs.Choice.{Chosen, InUse, chosen, is_open, records_text, records_at, records_of, sequence_at, slot_in_use}
-use Rattle.slot_codec.specs.ChoiceLaws.{ChosenParts, chosen_of, chosen_parts, in_use_slot, in_use_long}
-use Rattle.slot_codec.specs.HeaderLaws.{header_read, header_stands}
+use Rattle.std.specs.Prelude.{Ok}
+use Rattle.byte_ranges.specs.Ranges.{SameFrom, SameOutside, SameOutside-trans, SameOutside-wider, bytes_at, bytes_at-same, bytes_at-within}
+use Rattle.slot_codec.specs.Choice.{Chosen, InUse, chosen, is_open, sequence_at, slot_in_use}
+use Rattle.slot_codec.specs.ChoiceLaws.{chosen_parts, in_use_long}
 use Rattle.slot_codec.specs.PartLaws.{stands_left, stands_number, stands_right, stands_whole}
-use Rattle.slot_codec.specs.PickLaws.{InUseParts, in_use_parts}
+use Rattle.slot_codec.specs.PickLaws.{in_use_parts}
 use Rattle.slot_codec.specs.Readable.{AreInRange, IsHeader}
 use Rattle.slot_codec.specs.Reading.{number_at}
 use Rattle.slot_codec.specs.RecordsLaws.{records_of-written}
 use Rattle.slot_codec.specs.Rolls.{IsRoll}
-use Rattle.slot_codec.specs.SlotLaws.{SameButSlot-below, SameButSlot-refl, SameButSlot-trans, SameButSlot-written, chosen_kept, chosen_written, opened_beside, other_closed, other_newer, other_older}
+use Rattle.slot_codec.specs.SlotLaws.{SameButSlot-below, SameButSlot-trans, SameButSlot-written, chosen_kept, chosen_written, other_closed, other_newer, other_older}
 use Rattle.slot_codec.specs.Slots.{SameButSlot}
-use Rattle.slot_codec.specs.Spelling.{gate_at, gate_open, head_len, header_bytes, header_len, kind_code, number, record_bytes, record_len, slot_at, slot_len, zeros}
+use Rattle.slot_codec.specs.Spelling.{gate_at, gate_open, head_len, header_bytes, header_len, kind_code, number, record_len, slot_at, slot_len, zeros}
 use Rattle.slot_codec.specs.StepLaws.{from_ok}
 use Rattle.slot_codec.specs.declared.codec.Header.{Header}
 use Rattle.slot_codec.specs.declared.codec.Record.{Record}

@@ -1,8 +1,10 @@
 -- What a save of a checkpoint leaves.
-use Rattle.std.specs.Prelude.{◌≡◌, ◌⊎◌, ℕ, ◌+◌, ◌-◌, ◌*◌, ◌/◌, ◌≤◌, Bool, true, if◌then◌else◌, List, length, flat_map, Ok}
+use Rattle.std.specs.Prelude.{◌≡◌, ◌⊎◌, ℕ, ◌+◌, ◌-◌, ◌*◌, ◌/◌, ◌<◌, ◌≤◌, true, if◌then◌else◌, List, [], length, flat_map, slice_index_or, Ok}
 use Rattle.byte_ranges.specs.Ranges.{SameBelow, SameFrom, bytes_at}
+use Rattle.disk_face.specs.Moments.{Leaves}
 use Rattle.slot_codec.specs.Choice as choice
-use Rattle.slot_codec.specs.Spelling.{gate_at, header_bytes, header_len, record_bytes, record_len, slot_at}
+use Rattle.slot_codec.specs.Reading.{worn_from}
+use Rattle.slot_codec.specs.Spelling.{gate_at, head_len, header_bytes, header_len, record_bytes, record_len, slot_at}
 use Rattle.slot_codec.specs.declared.codec.Header.{Header}
 use Rattle.slot_codec.specs.declared.codec.Record.{Record}
 
@@ -44,10 +46,29 @@ pub record LeavesNew (c : choice.Chosen) (records : List Record) (base : ℕ) (f
   pub table : IsSaved c records image
   pub data_part : SameFrom base file image
 
--- each image has what lies below the data part, and has it from a file
+-- the old table or the new one
+abbrev pub HasEither : choice.InUse → choice.Chosen → Header → List Record → List ℕ → List ℕ → Type 0
+HasEither u old h rs file image = KeepsTable old file image ⊎ IsSaved (next_chosen u h (length rs)) rs image
+
+-- the same, with the data part that stands beside it
+abbrev pub LeavesEither : choice.InUse → choice.Chosen → Header → List Record → (List ℕ → Type 0) → List ℕ → List ℕ → Type 0
+LeavesEither u old h rs may_leave file image =
+    LeavesOld old (head_len u.block.names) may_leave file image ⊎ LeavesNew (next_chosen u h (length rs)) rs (head_len u.block.names) file image
+
+-- a file is long enough for a data part, and what lies below it is the same in another
 pub record IsAlikeBelow (base : ℕ) (file image : List ℕ) : Type 0 where
   pub long : base ≤ length image
   pub bytes : SameBelow base file image
+
+-- What a save leaves, whether or not it fails. The data part stays. Where neither the old header nor the
+-- new one is refused, the content has the old table or the new one; and if at first each image was like the
+-- content below the data part, then each image left since has one of the two.
+pub record SaveLeaves {D : Type 0} (file : D → List ℕ) (may_leave : D → List ℕ → Type 0) (left_since : D → ℕ → List ℕ → Type 0) (turn : D → ℕ) (u : choice.InUse) (h : Header) (rs : List Record) (a b : D) : Type 0 where
+  pub data_part : SameFrom (head_len u.block.names) (file a) (file b)
+  pub old_or_new : (old : choice.Chosen) → choice.chosen (file a) ≡ Ok old → u.sequence + 1 < worn_from h.kind → HasEither u old h rs (file a) (file b)
+  pub images : (old : choice.Chosen) → choice.chosen (file a) ≡ Ok old → u.sequence + 1 < worn_from h.kind
+      → ((image : List ℕ) → may_leave a image → IsAlikeBelow (head_len u.block.names) (file a) image)
+      → Leaves turn left_since a b (LeavesEither u old h rs (may_leave a) (file a))
 
 -- the bytes that a save writes first: the other gate where it is open, else the sequence behind it
 abbrev pub closing_at : choice.InUse → ℕ
@@ -60,3 +81,10 @@ closing_len u = if u.other_open then 1 else 8
 pub record HasTable (at : ℕ) (h : Header) (rs : List Record) (file : List ℕ) : Type 0 where
   pub header : bytes_at file at header_len ≡ header_bytes h
   pub records : bytes_at file (at + header_len) (record_len * length rs) ≡ flat_map record_bytes rs
+
+-- what the types of a header's fields say of it
+pub record IsWhole (h : Header) : Type 0 where
+  pub boundary : h.boundary < 256
+  pub caps_full : length h.caps ≡ 32
+  pub used_full : length h.used ≡ 32
+  pub rows_full : (j : ℕ) → j < 32 → length (slice_index_or h.used j []) ≡ 32

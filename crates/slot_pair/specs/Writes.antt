@@ -1,10 +1,18 @@
 -- Calls that write within a range of a file alone, and how one goes on after another.
-use Rattle.std.specs.Prelude.{◌≡◌, ◌⊎◌, ℕ, ◌+◌, ◌≤◌, Bool, List, Option, IsTrue, refl}
-use Rattle.std.proofs.Common.{arith, ◌∙◌, sym, subst}
+use Rattle.std.specs.Prelude.{◌≡◌, ℕ, ◌+◌, ◌≤◌, Bool, List, Option, IsTrue, refl}
+use Rattle.std.proofs.Common.{◌∙◌, sym, subst}
 use Rattle.byte_ranges.specs.Ranges.{SameOutside, SameOutside-refl, SameOutside-trans, SameOutside-wider}
 use Rattle.disk_face.specs.Mounts.{Mount}
 use Rattle.disk_face.specs.Moments.{Elapses, Follows, Leaves, NoMore}
 use Rattle.disk_face.specs.MomentLaws.{Leaves-call, Leaves-none, Leaves-trans, Leaves-weaken}
+
+-- The disk stays ready, its count of calls doesn't fall, and what it tells stays told.
+pub record KeepsDisk {D : Type 0} (tells : D → Bool) (turn : D → ℕ) (is_ready tells_images : D → Bool) (last_mount : D → Option Mount) (old new : D) : Type 0 where
+  pub no_turn_back : turn old ≤ turn new
+  pub ready : IsTrue (is_ready new)
+  pub told : tells new ≡ tells old
+  pub images_told : tells_images new ≡ tells_images old
+  pub same_mount : last_mount new ≡ last_mount old
 
 -- an image of before, but for n bytes at a position
 abbrev pub IsRewritten : (List ℕ → Type 0) → ℕ → ℕ → List ℕ → Type 0
@@ -77,7 +85,7 @@ module _ {D : Type 0} {tells : D → Bool} {file : D → List ℕ} {may_leave : 
     others = λ told. SameOutside-wider at n at' n' (file a) (file b) low high (ab.others told);
     images = λ image is. let was = ab.images image is in (was.0, was.1, SameOutside-wider at n at' n' was.0 image low high was.2);
     since = Leaves-weaken turn left_since a b (IsRewritten (may_leave a) at n) (IsRewritten (may_leave a) at' n')
-      (λ image is. (is.0, is.1, SameOutside-wider at n at' n' is.0 image low high is.2)) ab.since;
+        (λ image is. (is.0, is.1, SameOutside-wider at n at' n' is.0 image low high is.2)) ab.since;
     ready = ab.ready;
     told = ab.told;
     images_told = ab.images_told;
@@ -93,15 +101,15 @@ module _ {D : Type 0} {tells : D → Bool} {file : D → List ℕ} {may_leave : 
     others = λ told. SameOutside-trans at n (file a) (file b) (file c) (ab.others told) (bc.others (subst IsTrue (sym ab.told) told));
     images = from_first;
     since = Leaves-trans turn left_since a b c (IsRewritten (may_leave a) at n) ab.since
-      (Leaves-weaken turn left_since b c (IsRewritten (may_leave b) at n) (IsRewritten (may_leave a) at n) (λ image is. joined image is) bc.since);
+        (Leaves-weaken turn left_since b c (IsRewritten (may_leave b) at n) (IsRewritten (may_leave a) at n) (λ image is. joined image is) bc.since);
     ready = bc.ready;
     told = bc.told ∙ ab.told;
     images_told = bc.images_told ∙ ab.images_told;
     same_mount = bc.same_mount ∙ ab.same_mount;
   }
     where
-    joined : (image : List ℕ) → IsRewritten (may_leave b) at n image → IsRewritten (may_leave a) at n image
-    joined image is = let was = ab.images is.0 is.1 in (was.0, was.1, SameOutside-trans at n was.0 is.0 image was.2 is.2)
+      joined : (image : List ℕ) → IsRewritten (may_leave b) at n image → IsRewritten (may_leave a) at n image
+      joined image is = let was = ab.images is.0 is.1 in (was.0, was.1, SameOutside-trans at n was.0 is.0 image was.2 is.2)
 
-    from_first : Follows (SameOutside at n) (may_leave a) (may_leave c)
-    from_first image is = joined image (bc.images image is)
+      from_first : Follows (SameOutside at n) (may_leave a) (may_leave c)
+      from_first image is = joined image (bc.images image is)

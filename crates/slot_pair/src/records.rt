@@ -79,7 +79,10 @@ fn write_records<D: Disk, R: Roll>(
         let first = RECORDS_A_WRITE * piece;
         let n = (count - first).min(RECORDS_A_WRITE);
         spell_records(roll, first, n, buf);
-        disk.write_at(at + RECORD_LEN as u64 * first, &buf[..RECORD_LEN * n as usize])?;
+        disk.write_at(
+            at + RECORD_LEN as u64 * first,
+            &buf[..RECORD_LEN * n as usize],
+        )?;
     }
     Ok(())
 }

@@ -1,17 +1,17 @@
 //! The steps of a save: closing the other slot, and opening its gate.
-ghost use Rattle.std.specs.Prelude.{◌≡◌, ◌+◌, ◌-◌, ◌≤◌, ℕ, Ok, OnOk, IsTrue, false, true, length};
+ghost use Rattle.std.specs.Prelude.{◌≡◌, ◌+◌, ◌-◌, ◌<◌, ◌≤◌, ℕ, [], Ok, OnOk, IsTrue, false, true, length, slice_index_or};
 ghost use Rattle.byte_ranges.specs.Ranges.{overwritten};
 ghost use Rattle.slot_codec.specs.Choice.{is_open, slot_in_use};
 ghost use Rattle.slot_codec.specs.Spelling.{gate_at, head_len};
 ghost use Rattle.disk_face.specs.Counts.{HasCause, counted};
 ghost use Rattle.disk_face.specs.Moments.{Only};
 ghost use Rattle.slot_pair.specs.Finding.{in_use_of};
-ghost use Rattle.slot_pair.specs.Saves.{closing_at, closing_len};
+ghost use Rattle.slot_pair.specs.Saves.{IsWhole, closing_at, closing_len};
 ghost use Rattle.slot_pair.specs.Writes.{WritesWithin};
 
 use crate::{Found, gate_at, slot_at};
 use disk_face::{Disk, DiskFault};
-use slot_codec::GATE_OPEN;
+use slot_codec::{GATE_OPEN, Header};
 
 /// Closes the gate of the slot that isn't in use, and syncs. A gate that is closed already isn't
 /// written, since a crash while 0 is written may leave it open: there the sequence behind it is.
@@ -68,3 +68,25 @@ fn write_and_sync<D: Disk>(disk: &mut D, at: u64, bytes: &[u8]) -> Result<(), Di
     disk.write_at(at, bytes)?;
     disk.sync()
 }
+
+/// What the types of a header's fields say: a byte is below 256, and the tables have 32 numbers.
+pub fn header_is_whole(header: &Header)
+    ensures { IsWhole header.now }
+{
+    let _boundary = header.boundary;
+    rows_are_full(&header.used);
+}
+
+/// Each buffer has 32 numbers.
+fn rows_are_full(used: &[[u64; 32]; 32])
+    ensures { (j : ℕ) → j < 32 → length (slice_index_or used.now j []) ≡ 32 }
+{
+    'buffers: for j in 0..32 {
+        row_is_full(&used[j]);
+    }
+}
+
+/// A buffer has 32 numbers.
+fn row_is_full(row: &[u64; 32])
+    ensures { length row.now ≡ 32 }
+{}

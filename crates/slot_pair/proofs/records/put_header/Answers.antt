@@ -1,4 +1,4 @@
-use Rattle.std.proofs.Common.{◌≡◌, ◌+◌, ◌≤◌, ℕ, List, arith, length, ◌∙◌, take}
+use Rattle.std.proofs.Common.{◌≡◌, ℕ, List, arith, length, ◌∙◌, take}
 use Rattle.std.proofs.lemmas.List.{length-take-le}
 use Rattle.std.proofs.lemmas.Result.{on_ok_weaker}
 use Rattle.slot_pair.specs.Writes.{within-wider, within-write}

@@ -1,4 +1,4 @@
-use Rattle.std.proofs.Common.{◌+◌, ◌-◌, ◌*◌, ◌≡◌, ◌≤◌, ℕ, IsTrue, arith, drop, flat_map, length, min, refl, subst, sym, ap, ◌∙◌, take, List}
+use Rattle.std.proofs.Common.{◌+◌, ◌*◌, ◌≡◌, ◌≤◌, ℕ, IsTrue, arith, flat_map, length, min, subst, sym, take, List}
 use Rattle.std.proofs.lemmas.List.{length-take-le}
 use Rattle.byte_ranges.specs.Ranges.{bytes_at}
 use Rattle.slot_codec.specs.Spelling.{record_bytes}
@@ -34,11 +34,11 @@ pieces-preserved g c =
     record {
       writes = within-trans c.pieces.invariant.writes (within-wider c.args.at (80 * length rs) low high piece);
       records = λ told.
-      let told' : IsTrue (D.tells c.pieces.disk) = subst IsTrue (sym c.pieces.invariant.writes.told) told in
-      let within : c.args.at + 80 * (first + n) ≤ length (D.file c.pieces.disk) = omega (arith, far, c.requires.within told, (c.pieces.invariant.writes.others told).same_length) in
-      let before : bytes_at (D.file c.pieces.disk) c.args.at (80 * first) ≡ flat_map record_bytes (take first rs) = subst (λ k. bytes_at (D.file c.pieces.disk) c.args.at (80 * k) ≡ flat_map record_bytes (take k rs)) so_far (c.pieces.invariant.records told) in
-      subst (λ k. bytes_at (D.file c.write_at.new.self) c.args.at (80 * k) ≡ flat_map record_bytes (take k rs)) then
-      (next_written (D.file c.pieces.disk) (D.file c.write_at.new.self) bytes rs c.args.at first n within c.spell_records.ensures long (c.in_ok-write_at.ensures.written told') before);
+          let told' : IsTrue (D.tells c.pieces.disk) = subst IsTrue (sym c.pieces.invariant.writes.told) told in
+          let within : c.args.at + 80 * (first + n) ≤ length (D.file c.pieces.disk) = omega (arith, far, c.requires.within told, (c.pieces.invariant.writes.others told).same_length) in
+          let before : bytes_at (D.file c.pieces.disk) c.args.at (80 * first) ≡ flat_map record_bytes (take first rs) = subst (λ k. bytes_at (D.file c.pieces.disk) c.args.at (80 * k) ≡ flat_map record_bytes (take k rs)) so_far (c.pieces.invariant.records told) in
+          subst (λ k. bytes_at (D.file c.write_at.new.self) c.args.at (80 * k) ≡ flat_map record_bytes (take k rs)) then
+          (next_written (D.file c.pieces.disk) (D.file c.write_at.new.self) bytes rs c.args.at first n within c.spell_records.ensures long (c.in_ok-write_at.ensures.written told') before);
       calls = omega (arith, w.turn, c.pieces.invariant.calls);
       later = omega (arith, w.cause.later, c.pieces.invariant.later);
     }

@@ -1,4 +1,3 @@
-use Rattle.std.proofs.Common.{◌≡◌, ◌+◌, ◌*◌, ◌/◌, ◌≤◌, IsTrue, flat_map, length, min, take}
 use Rattle.slot_pair.proofs.PiecesSoFar.{PiecesSoFar}
 use Rattle.slot_pair.proofs.records.write_records.Given as goal
 

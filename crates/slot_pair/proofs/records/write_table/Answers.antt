@@ -1,4 +1,4 @@
-use Rattle.std.proofs.Common.{◌≡◌, ◌+◌, ◌*◌, ◌≤◌, ℕ, IsTrue, List, arith, length, subst, sym, ap, ◌∙◌, take}
+use Rattle.std.proofs.Common.{IsTrue, arith, subst, sym}
 use Rattle.slot_pair.specs.Writes.{within-sync, within-trans, within-wider}
 use Rattle.slot_pair.specs.Saves.{HasTable}
 use Rattle.slot_pair.proofs.RecordLemmas.{on_ok, table_written}
