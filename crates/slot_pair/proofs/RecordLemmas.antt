@@ -5,7 +5,7 @@ use Rattle.std.proofs.lemmas.List.{append-nil, get_or-drop, take_more}
 use Rattle.std.proofs.lemmas.Option.{get_or_from_slice_get, slice_get_within}
 use Rattle.std.proofs.lemmas.Slice.{take-put_mid}
 use Rattle.std.proofs.Math.Seq.{take-add}
-use Rattle.std.specs.Prelude.{flat_map, get_or, slice_get, OnOk, Result, Some, Ok, Err}
+use Rattle.std.specs.Prelude.{flat_map, get_or, slice_get, Some}
 use borrow.Rule.Slice.PartMut.{put_mid}
 use Rattle.byte_ranges.specs.Ranges.{SameOutside, bytes_at, bytes_at-append, bytes_at-overwritten, bytes_at-same, overwritten, overwritten-below, length-overwritten}
 use Rattle.slot_codec.specs.Spelling.{header_bytes, record_bytes}
@@ -62,8 +62,3 @@ table_written file first after at h rs within begun header same records =
 -- what was written is what stands there
 pub written_stands : (file after text : List ℕ) (at n : ℕ) → at + n ≤ length file → length text ≡ n → after ≡ overwritten file at text → bytes_at after at n ≡ text
 written_stands file after text at n within long written = ap (bytes_at after at) (sym long) ∙ ap (λ xs. bytes_at xs at (length text)) written ∙ bytes_at-overwritten file at text (omega (arith, within, long))
-
--- a fact that holds in any case
-pub on_ok : {T E P : Type 0} (r : Result T E) → P → OnOk r P
-on_ok (Ok x) p = p
-on_ok (Err e) p = tt

@@ -32,9 +32,30 @@ pub fn write_table<D: Disk, R: Roll>(
     ensures most { D.turn disk.new ≤ counted (D.turn disk.old) (2 + (length (R.records roll.now) + 511) / 512) }
     ensures cause { HasCause (D.faults disk.old) (D.faults disk.new) result }
 {
-    put_header(disk, at, header, buf)?;
-    write_records(disk, at + HEADER_LEN as u64, roll, buf)?;
+    put_table(disk, at, header, roll, buf)?;
     disk.sync()
+}
+
+/// Writes a header at a position and the records behind it.
+fn put_table<D: Disk, R: Roll>(
+    disk: &mut D,
+    at: u64,
+    header: &Header,
+    roll: &R,
+    buf: &mut [u8],
+) -> Result<(), DiskFault>
+    requires ready { IsTrue (D.is_ready disk.old) }
+    requires room { 40960 ≤ length buf.old }
+    requires fits { at + header_len + record_len * length (R.records roll.now) < 2 ^ 63 }
+    requires within { IsTrue (D.tells disk.old) → at + header_len + record_len * length (R.records roll.now) ≤ length (D.file disk.old) }
+    ensures table { IsTrue (D.tells disk.old) → OnOk result (HasTable at header.now (R.records roll.now) (D.file disk.new)) }
+    ensures writes { WritesWithin D.tells D.file D.may_leave D.left_since D.turn D.is_ready D.tells_images D.last_mount at (header_len + record_len * length (R.records roll.now)) disk.old disk.new }
+    ensures calls { OnOk result (D.turn disk.new ≡ counted (D.turn disk.old) (1 + (length (R.records roll.now) + 511) / 512)) }
+    ensures most { D.turn disk.new ≤ counted (D.turn disk.old) (1 + (length (R.records roll.now) + 511) / 512) }
+    ensures cause { HasCause (D.faults disk.old) (D.faults disk.new) result }
+{
+    put_header(disk, at, header, buf)?;
+    put_records(disk, at + HEADER_LEN as u64, roll, buf)
 }
 
 /// Writes a header at a position.
@@ -57,7 +78,7 @@ fn put_header<D: Disk>(
 }
 
 /// Writes the records at a position, up to 512 in one write.
-fn write_records<D: Disk, R: Roll>(
+fn put_records<D: Disk, R: Roll>(
     disk: &mut D,
     at: u64,
     roll: &R,

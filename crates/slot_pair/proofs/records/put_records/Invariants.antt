@@ -1,5 +1,5 @@
 use Rattle.slot_pair.proofs.PiecesSoFar.{PiecesSoFar}
-use Rattle.slot_pair.proofs.records.write_records.Given as goal
+use Rattle.slot_pair.proofs.records.put_records.Given as goal
 
 abbrev pub invariant-pieces : goal.invariant-pieces
 invariant-pieces g l =

@@ -4,7 +4,7 @@ use Rattle.byte_ranges.specs.Ranges.{bytes_at}
 use Rattle.slot_codec.specs.Spelling.{record_bytes}
 use Rattle.slot_pair.specs.Writes.{within-none, within-trans, within-wider, within-write}
 use Rattle.slot_pair.proofs.RecordLemmas.{next_written, none_written}
-use Rattle.slot_pair.proofs.records.write_records.Goals as goal
+use Rattle.slot_pair.proofs.records.put_records.Goals as goal
 
 pub pieces-init : goal.pieces-init
 pieces-init g c = record {
