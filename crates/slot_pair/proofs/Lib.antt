@@ -1,1 +1,4 @@
 mod FindingLaws
+mod PiecesSoFar
+mod RecordLemmas
+mod SavePhases

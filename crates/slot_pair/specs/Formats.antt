@@ -1,7 +1,6 @@
 -- What a file is formatted to, and what stands there before it is whole.
-use Rattle.std.specs.Prelude.{◌≡◌, ◌⊎◌, ℕ, ◌+◌, ◌-◌, ◌*◌, ◌<◌, ◌≤◌, Bool, false, List, [], ◌∷◌, ◌++◌, length, replicate, IsTrue, IsErr, Option, Ok}
+use Rattle.std.specs.Prelude.{◌≡◌, ◌⊎◌, ℕ, ◌+◌, ◌-◌, ◌*◌, ◌<◌, ◌≤◌, false, List, [], ◌∷◌, ◌++◌, length, replicate, IsErr, Ok}
 use Rattle.byte_ranges.specs.Ranges.{SameBelow, overwritten, resized}
-use Rattle.disk_face.specs.Mounts.{Mount}
 use Rattle.slot_codec.specs.Choice as choice
 use Rattle.slot_codec.specs.Spelling.{gate_at, gate_open, head_len, header_bytes, record_len, slot_len, superblock_bytes, superblock_len, zeros}
 use Rattle.slot_codec.specs.declared.codec.SuperBlock.{SuperBlock}
@@ -80,11 +79,3 @@ pub record IsUnfinished (names : ℕ) (front file : List ℕ) : Type 0 where
 pub record HasOneMore (before file : List ℕ) : Type 0 where
   pub either : (length file ≡ length before) ⊎ (length file ≡ length before + 1)
   pub same : SameBelow (length before) before file
-
--- what a call that changes a file keeps of its disk
-pub record KeepsDisk {D : Type 0} (turn : D → ℕ) (is_ready tells tells_images : D → Bool) (last_mount : D → Option Mount) (old new : D) : Type 0 where
-  pub later : turn old ≤ turn new
-  pub ready : IsTrue (is_ready new)
-  pub told : tells new ≡ tells old
-  pub images_told : tells_images new ≡ tells_images old
-  pub same_mount : last_mount new ≡ last_mount old

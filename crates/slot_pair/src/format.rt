@@ -1,9 +1,10 @@
 //! Formatting a file of length 0.
 ghost use Rattle.std.specs.Prelude.{◌≡◌, ◌+◌, ◌-◌, ◌≤◌, ◌∷◌, ◌++◌, IsTrue, OnOk, OnErr, [], length};
 ghost use Rattle.disk_face.specs.Counts.{HasCause, counted};
+ghost use Rattle.disk_face.specs.Writes.{KeepsDisk};
 ghost use Rattle.disk_face.specs.Moments.{Leaves, Only};
 ghost use Rattle.slot_codec.specs.Spelling.{gate_open, head_len, superblock_bytes, superblock_len};
-ghost use Rattle.slot_pair.specs.Formats.{HasFirstTable, HasOneMore, IsNoneOrFirst, IsUnfinished, KeepsDisk, block_for, formatted_file, with_first_slot};
+ghost use Rattle.slot_pair.specs.Formats.{HasFirstTable, HasOneMore, IsNoneOrFirst, IsUnfinished, block_for, formatted_file, with_first_slot};
 
 use crate::SlotPair;
 use crate::find::gate_at;
@@ -34,7 +35,7 @@ impl SlotPair {
         ensures calls { OnOk result (D.turn disk.new ≡ counted (D.turn disk.old) 10) }
         ensures few { D.turn disk.new ≤ counted (D.turn disk.old) 10 }
         ensures cause { HasCause (D.faults disk.old) (D.faults disk.new) result }
-        ensures frame { KeepsDisk D.turn D.is_ready D.tells D.tells_images D.last_mount disk.old disk.new }
+        ensures frame { KeepsDisk D.tells D.turn D.is_ready D.tells_images D.last_mount disk.old disk.new }
     {
         write_block(disk, k, names)?;
         write_slot(disk, names)?;
@@ -53,7 +54,7 @@ fn write_block<D: Disk>(disk: &mut D, k: u64, names: u64) -> Result<(), DiskFaul
     ensures calls { OnOk result (D.turn disk.new ≡ counted (D.turn disk.old) 3) }
     ensures few { D.turn disk.new ≤ counted (D.turn disk.old) 3 }
     ensures cause { HasCause (D.faults disk.old) (D.faults disk.new) result }
-    ensures frame { KeepsDisk D.turn D.is_ready D.tells D.tells_images D.last_mount disk.old disk.new }
+    ensures frame { KeepsDisk D.tells D.turn D.is_ready D.tells_images D.last_mount disk.old disk.new }
 {
     let mut bytes = [0u8; SUPERBLOCK_LEN];
     write_superblock(&SuperBlock { k, names }, &mut bytes);
@@ -75,7 +76,7 @@ fn write_slot<D: Disk>(disk: &mut D, names: u64) -> Result<(), DiskFault>
     ensures calls { OnOk result (D.turn disk.new ≡ counted (D.turn disk.old) 4) }
     ensures few { D.turn disk.new ≤ counted (D.turn disk.old) 4 }
     ensures cause { HasCause (D.faults disk.old) (D.faults disk.new) result }
-    ensures frame { KeepsDisk D.turn D.is_ready D.tells D.tells_images D.last_mount disk.old disk.new }
+    ensures frame { KeepsDisk D.tells D.turn D.is_ready D.tells_images D.last_mount disk.old disk.new }
 {
     disk.set_len(head_len(names) - 1)?;
     disk.write_at(SUPERBLOCK_LEN as u64, &FIRST_HEADER)?;
@@ -96,7 +97,7 @@ fn open_format_gate<D: Disk>(disk: &mut D, names: u64) -> Result<(), DiskFault>
     ensures calls { OnOk result (D.turn disk.new ≡ counted (D.turn disk.old) 3) }
     ensures few { D.turn disk.new ≤ counted (D.turn disk.old) 3 }
     ensures cause { HasCause (D.faults disk.old) (D.faults disk.new) result }
-    ensures frame { KeepsDisk D.turn D.is_ready D.tells D.tells_images D.last_mount disk.old disk.new }
+    ensures frame { KeepsDisk D.tells D.turn D.is_ready D.tells_images D.last_mount disk.old disk.new }
 {
     disk.set_len(head_len(names))?;
     disk.write_at(head_len(names) - 1, &[GATE_OPEN])?;

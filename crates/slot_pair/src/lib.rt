@@ -4,6 +4,8 @@
 mod find;
 mod format;
 mod pair;
+mod records;
+mod save;
 
 pub use find::{Found, SlotFault, choose, gate_at, read_chosen_header, slot_at};
 pub use pair::SlotPair;
