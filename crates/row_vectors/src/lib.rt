@@ -1,0 +1,28 @@
+//! Worked rows of the whole program: its words and a file, and what it puts and leaves.
+#![tactic(auto)]
+
+ghost use Rattle.std.specs.Prelude.{◌≡◌, None};
+ghost use Rattle.disk_mem.specs.Bays.{last_mount_of};
+
+use costore_top::{Outcome, costore};
+use disk_face::Disk;
+use disk_mem::{MemBay, MemSink, MemSource};
+
+/// One run of the program over devices in memory.
+pub fn serve<D: Disk>(
+    words: &[&str],
+    bay: &mut MemBay<D>,
+    input: &mut MemSource,
+    output: &mut MemSink,
+) -> Outcome
+    requires { last_mount_of bay.old ≡ None }
+{
+    costore(words, bay, input, output)
+}
+
+#[cfg(test)]
+mod formats;
+#[cfg(test)]
+mod gets;
+#[cfg(test)]
+mod images;
