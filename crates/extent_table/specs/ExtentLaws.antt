@@ -16,15 +16,15 @@ use Rattle.slot_codec.specs.declared.codec.Record.{Record}
 use Rattle.extent_table.specs.declared.spot.Spot.{Spot}
 use Rattle.extent_table.specs.Extents.{Spots, record_of, records_of}
 
-left : (a b : Bool) → T (a && b) → a ≡ true
+pub left : (a b : Bool) → T (a && b) → a ≡ true
 left true b h = refl
 left false b h = absurd h
 
-right : (a b : Bool) → T (a && b) → T b
+pub right : (a b : Bool) → T (a && b) → T b
 right true b h = h
 right false b h = absurd h
 
-of_mapped : {A B : Type 0} (f : A → B) (o : Option A) (b : B) → option_map f o ≡ Some b → (a : A) × (o ≡ Some a) × (f a ≡ b)
+pub of_mapped : {A B : Type 0} (f : A → B) (o : Option A) (b : B) → option_map f o ≡ Some b → (a : A) × (o ≡ Some a) × (f a ≡ b)
 of_mapped f None b is = absurd (cc)
 of_mapped f (Some a) b is = (a, refl, same_Some (f a) b is)
 
@@ -42,7 +42,7 @@ module _ {K X : Type 0} (R : K → K → Ordering) (p : K → Bool) where
         | false ↦ λ t found. passed xs i e found
       ] refl is
 
-  below_each : (k : K) (es : List (K × X)) (i : ℕ) (e : K × X) → T (below_all R k es) → slice_get es i ≡ Some e → is_lt (R k e.0) ≡ true
+  pub below_each : (k : K) (es : List (K × X)) (i : ℕ) (e : K × X) → T (below_all R k es) → slice_get es i ≡ Some e → is_lt (R k e.0) ≡ true
   below_each k [] i e h is = absurd (cc)
   below_each k (x ∷ xs) zero e h is = ap (λ (y : K × X). is_lt (R k y.0)) (sym (same_Some x e is)) ∙ left (is_lt (R k x.0)) (below_all R k xs) h
   below_each k (x ∷ xs) (suc i) e h is = below_each k xs i e (right (is_lt (R k x.0)) (below_all R k xs) h) is

@@ -2,3 +2,4 @@ pub mod Extents
 pub mod Parts
 pub mod ExtentLaws
 pub mod Inside
+pub mod SaveLaws

@@ -2,6 +2,7 @@
 #![tactic(auto)]
 
 mod entry;
+mod laws;
 mod order;
 mod roll;
 mod spot;
@@ -9,5 +10,6 @@ mod table;
 #[cfg(test)]
 mod tests;
 
+pub use laws::a_table_can_be_saved;
 pub use spot::Spot;
 pub use table::Table;
