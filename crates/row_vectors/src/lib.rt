@@ -21,6 +21,8 @@ pub fn serve<D: Disk>(
 }
 
 #[cfg(test)]
+mod crashes;
+#[cfg(test)]
 mod formats;
 #[cfg(test)]
 mod gets;

@@ -1,0 +1,152 @@
+//! Saving a table of names, and every image that a crash may leave of it.
+use crate::images::run;
+use disk_face::Disk;
+use disk_mem::{Choice, MemDisk};
+use extent_table::{Spot, Table, a_table_can_be_saved};
+use slot_codec::{HEADER_LEN, Header, Kind, Name, RECORD_LEN, read_header, read_record};
+use slot_pair::SlotPair;
+use std::alloc::Global;
+use std::process::Abort;
+use std::test::Fail;
+
+/// The settled header of a table whose class 2 has a capacity of 5.
+const HEADER: Header = Header {
+    kind: Kind::Settled,
+    boundary: 0,
+    sequence: 0,
+    count: 0,
+    wall: 0,
+    slack: 0,
+    caps: [
+        0, 0, 5, 0, 0, 0, 0, 0, 0, 0, 0, 0, 0, 0, 0, 0, 0, 0, 0, 0, 0, 0, 0, 0, 0, 0, 0, 0, 0, 0,
+        0, 0,
+    ],
+    used: [[0; 32]; 32],
+};
+
+/// A table with these objects, in a file with room for `names` names.
+fn table_of(
+    rt: &impl Abort,
+    alloc: Global,
+    names: u64,
+    objects: &[(&str, u64, u64)],
+) -> Result<Table, Fail> {
+    assert!(rt; names <= 65_536);
+    let mut table = Table::with_room(alloc, names)?;
+    for (name, place, size) in objects {
+        let name = Name::new(name.as_bytes()).ok_or("a name")?;
+        assert!(rt; table.room());
+        assert!(rt; *place < 1 << 48 && *size < 1 << 48);
+        table.set(
+            &name,
+            Spot {
+                place: *place,
+                size: *size,
+            },
+        );
+    }
+    Ok(table)
+}
+
+/// Saves a table on a disk that is a store, and answers the sequence.
+fn save(rt: &impl Abort, alloc: Global, disk: &mut MemDisk, table: &Table) -> Result<u64, Fail> {
+    let found = SlotPair::find(disk)?;
+    let mut pair = SlotPair::of(&found);
+    let mut buf = vec![in alloc; 0u8; 40_960]?;
+    a_table_can_be_saved();
+    assert!(rt; table.count() <= found.block.names);
+    assert!(rt; pair.sequence() < 1 << 61);
+    Ok(pair.save(disk, &HEADER, table, &mut buf)?)
+}
+
+#[test]
+fn saves_in_a_fixed_number_of_calls(rt: HostRuntime) -> Result<(), Fail> {
+    let mut disk = MemDisk::new(rt.alloc());
+    SlotPair::format(&mut disk, 9, 16)?;
+    let none = table_of(&rt, rt.alloc(), 16, &[])?;
+    assert_eq!(rt; save(&rt, rt.alloc(), &mut disk, &none)?, 2);
+    assert_eq!(rt; disk.turns(), 16);
+    let one = table_of(&rt, rt.alloc(), 16, &[("a", 0, 5)])?;
+    assert_eq!(rt; save(&rt, rt.alloc(), &mut disk, &one)?, 3);
+    assert_eq!(rt; disk.turns(), 23);
+    Ok(())
+}
+
+#[test]
+fn saves_more_records_in_one_call_more(rt: HostRuntime) -> Result<(), Fail> {
+    let mut disk = MemDisk::new(rt.alloc());
+    SlotPair::format(&mut disk, 9, 1024)?;
+    let mut table = table_of(&rt, rt.alloc(), 1024, &[])?;
+    for i in 0..513 {
+        let text = format!(in rt.alloc(); "n{i}")?;
+        let name = Name::new(text.as_bytes()).ok_or("a name")?;
+        assert!(rt; table.room());
+        table.set(&name, Spot { place: 0, size: 0 });
+    }
+    assert_eq!(rt; save(&rt, rt.alloc(), &mut disk, &table)?, 2);
+    assert_eq!(rt; disk.turns(), 18);
+    Ok(())
+}
+
+/// A store with the object `a` = `hello` in its data part, saved once; the save began after 12 calls.
+fn with_hello(rt: &impl Abort, alloc: Global) -> Result<MemDisk, Fail> {
+    let mut disk = MemDisk::new(alloc);
+    SlotPair::format(&mut disk, 9, 16)?;
+    disk.set_len(19608)?;
+    assert_eq!(rt; disk.len()?, 19608);
+    disk.write_at(19603, b"hello")?;
+    let table = table_of(rt, alloc, 16, &[("a", 0, 5)])?;
+    save(rt, alloc, &mut disk, &table)?;
+    Ok(disk)
+}
+
+#[test]
+fn leaves_the_old_table_or_the_new_one(rt: HostRuntime) -> Result<(), Fail> {
+    let disk = with_hello(&rt, rt.alloc())?;
+    assert_eq!(rt; disk.turns(), 19);
+    let choices = [
+        Choice::Durable,
+        Choice::Newest,
+        Choice::Torn(0),
+        Choice::Torn(0x5A),
+        Choice::Torn(0xA5),
+    ];
+    for turn in 12..20 {
+        for choice in choices {
+            assert!(rt; turn <= disk.turns());
+            let bytes = disk.image(turn, choice)?;
+            let (status, put) = run(rt.alloc(), &["get", "f", "a"], &bytes, Vec::new(rt.alloc()))?;
+            assert!(rt;
+                status == 6 || put.as_slice() == b"hello".as_slice(),
+                "turn {turn}"
+            );
+            assert!(rt; status == 6 || status == 0, "turn {turn}");
+            assert!(rt; 17 <= turn || status == 6, "turn {turn}");
+            assert!(rt; turn < 19 || status == 0, "turn {turn}");
+        }
+    }
+    Ok(())
+}
+
+#[test]
+fn finds_the_records_of_a_table_again(rt: HostRuntime) -> Result<(), Fail> {
+    let mut disk = MemDisk::new(rt.alloc());
+    SlotPair::format(&mut disk, 9, 16)?;
+    let table = table_of(&rt, rt.alloc(), 16, &[("b", 20, 1), ("a", 5, 10)])?;
+    save(&rt, rt.alloc(), &mut disk, &table)?;
+    assert_eq!(rt; disk.len()?, 19603);
+    let mut bytes = [0u8; HEADER_LEN];
+    disk.read_at(9833, &mut bytes)?;
+    let header = read_header(&bytes, 16)?;
+    assert_eq!(rt; header.sequence, 2);
+    assert_eq!(rt; header.count, 2);
+    for (at, name, place, size) in [(18321, "a", 5, 10), (18401, "b", 20, 1)] {
+        let mut bytes = [0u8; RECORD_LEN];
+        assert_eq!(rt; disk.len()?, 19603);
+        disk.read_at(at, &mut bytes)?;
+        let record = read_record(&bytes)?;
+        assert_eq!(rt; record.name.as_bytes(), name.as_bytes());
+        assert_eq!(rt; (record.place, record.size), (place, size));
+    }
+    Ok(())
+}
