@@ -4,6 +4,7 @@ ghost use Rattle.disk_face.specs.Counts.{Rose, counted};
 ghost use Rattle.disk_face.specs.Mounts.{has_file, is_mounted};
 ghost use Rattle.disk_file.specs.Mounted.{mount_of};
 
+use crate::positions::{SystemFile, fill, write_whole};
 use disk_face::{Bay, Disk, DiskFault, Mounted};
 use std::alloc::Global;
 use std::fs::{Files, OpenFile, OpenOptions};
@@ -84,6 +85,10 @@ impl<R: Files> Disk for FileBay<'_, R>
 where
     R::File: FileExt,
 {
+    ghost use Rattle.std.specs.Prelude.{is_ok, if◌then◌else◌};
+    ghost use Rattle.disk_face.specs.Counts.{HasCause};
+    ghost use Rattle.disk_file.specs.Bays.{turns_of, faults_of, last_mount_of};
+
     ghost tells = { λ _. false };
 
     ghost file = { λ _. [] };
@@ -110,29 +115,57 @@ where
 
     ghost only_now = { λ bay image low is. is };
 
-    fn len(&mut self) -> Result<u64, DiskFault> {
+    fn len(&mut self) -> Result<u64, DiskFault>
+        requires { IsTrue (is_mounted (last_mount_of self.old)) }
+        ensures faults { faults_of self.new ≡ (if is_ok result then faults_of self.old else counted (faults_of self.old) 1) }
+        ensures cause { HasCause (faults_of self.old) (faults_of self.new) result }
+        ensures turn { turns_of self.new ≡ turns_of self.old }
+        ensures later { turns_of self.old ≤ turns_of self.new }
+        ensures mounted { last_mount_of self.new ≡ last_mount_of self.old }
+    {
         match self.open().metadata() {
             Ok(metadata) => Ok(metadata.len()),
             Err(_) => Err(self.fail()),
         }
     }
 
-    fn read_at(&mut self, pos: u64, out: &mut [u8]) -> Result<(), DiskFault> {
-        match self.open().read_exact_at(out, pos) {
-            Ok(()) => Ok(()),
-            Err(_) => Err(self.fail()),
+    fn read_at(&mut self, pos: u64, out: &mut [u8]) -> Result<(), DiskFault>
+        requires { IsTrue (is_mounted (last_mount_of self.old)) }
+        ensures faults { faults_of self.new ≡ (if is_ok result then faults_of self.old else counted (faults_of self.old) 1) }
+        ensures cause { HasCause (faults_of self.old) (faults_of self.new) result }
+        ensures turn { turns_of self.new ≡ turns_of self.old }
+        ensures later { turns_of self.old ≤ turns_of self.new }
+        ensures mounted { last_mount_of self.new ≡ last_mount_of self.old }
+    {
+        if fill(&SystemFile(self.open()), pos, out) {
+            return Ok(());
         }
+        Err(self.fail())
     }
 
-    fn write_at(&mut self, pos: u64, bytes: &[u8]) -> Result<(), DiskFault> {
+    fn write_at(&mut self, pos: u64, bytes: &[u8]) -> Result<(), DiskFault>
+        requires { IsTrue (is_mounted (last_mount_of self.old)) }
+        ensures faults { faults_of self.new ≡ (if is_ok result then faults_of self.old else counted (faults_of self.old) 1) }
+        ensures cause { HasCause (faults_of self.old) (faults_of self.new) result }
+        ensures turn { turns_of self.new ≡ counted (turns_of self.old) 1 }
+        ensures later { turns_of self.old ≤ turns_of self.new }
+        ensures mounted { last_mount_of self.new ≡ last_mount_of self.old }
+    {
         self.turn();
-        match self.open().write_all_at(bytes, pos) {
-            Ok(()) => Ok(()),
-            Err(_) => Err(self.fail()),
+        if write_whole(&mut SystemFile(self.open()), pos, bytes) {
+            return Ok(());
         }
+        Err(self.fail())
     }
 
-    fn set_len(&mut self, n: u64) -> Result<(), DiskFault> {
+    fn set_len(&mut self, n: u64) -> Result<(), DiskFault>
+        requires { IsTrue (is_mounted (last_mount_of self.old)) }
+        ensures faults { faults_of self.new ≡ (if is_ok result then faults_of self.old else counted (faults_of self.old) 1) }
+        ensures cause { HasCause (faults_of self.old) (faults_of self.new) result }
+        ensures turn { turns_of self.new ≡ counted (turns_of self.old) 1 }
+        ensures later { turns_of self.old ≤ turns_of self.new }
+        ensures mounted { last_mount_of self.new ≡ last_mount_of self.old }
+    {
         self.turn();
         match self.open().set_len(n) {
             Ok(()) => Ok(()),
@@ -141,7 +174,14 @@ where
     }
 
     /// Reaches the device, for a change of the length too.
-    fn sync(&mut self) -> Result<(), DiskFault> {
+    fn sync(&mut self) -> Result<(), DiskFault>
+        requires { IsTrue (is_mounted (last_mount_of self.old)) }
+        ensures faults { faults_of self.new ≡ (if is_ok result then faults_of self.old else counted (faults_of self.old) 1) }
+        ensures cause { HasCause (faults_of self.old) (faults_of self.new) result }
+        ensures turn { turns_of self.new ≡ counted (turns_of self.old) 1 }
+        ensures later { turns_of self.old ≤ turns_of self.new }
+        ensures mounted { last_mount_of self.new ≡ last_mount_of self.old }
+    {
         self.turn();
         match self.open().sync_all() {
             Ok(()) => Ok(()),

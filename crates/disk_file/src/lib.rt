@@ -2,6 +2,9 @@
 #![tactic(auto)]
 
 mod bay;
+mod passes;
+mod positions;
+mod retries;
 mod streams;
 
 pub use bay::FileBay;

@@ -1,5 +1,5 @@
 -- The calls that a fuse has seen, and which of them it fails.
-use Rattle.std.specs.Prelude.{◌≡◌, ℕ, Bool, List, nat_eq, nat_le, if◌then◌else◌}
+use Rattle.std.specs.Prelude.{ℕ, Bool, List, nat_eq, nat_le, if◌then◌else◌}
 use Rattle.std.specs.List.{list_any}
 use Rattle.disk_face.specs.Counts.{counted}
 use Rattle.disk_fuse.specs.declared.calls.Rule.{Rule}

@@ -187,6 +187,8 @@ impl<D: Disk> Disk for Fuse<D> {
     }
 
     fn turns(&self) -> u64 {
-        self.inner.turns().saturating_add(self.calls.failed_changes())
+        self.inner
+            .turns()
+            .saturating_add(self.calls.failed_changes())
     }
 }
