@@ -1,3 +1,2 @@
-pub mod Bays
 pub mod Mounted
 pub mod Streams

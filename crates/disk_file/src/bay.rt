@@ -1,6 +1,6 @@
 //! A bay of real files.
 ghost use Rattle.std.specs.Prelude.{◌≡◌, ◌≤◌, None, is_some, true, false, refl, [], IfOk, IsTrue, IsFalse};
-ghost use Rattle.disk_face.specs.Counts.{Rose, counted};
+ghost use Rattle.disk_face.specs.Counts.{counted};
 ghost use Rattle.disk_face.specs.Mounts.{has_file, is_mounted};
 ghost use Rattle.disk_file.specs.Mounted.{mount_of};
 
@@ -51,7 +51,7 @@ impl<'a, R: Files> FileBay<'a, R> {
 impl<R: Files> FileBay<'_, R> {
     /// Counts a failure.
     fn fail(&mut self) -> DiskFault
-        ensures rose { Rose self.old.faults self.new.faults }
+        ensures faults { self.new.faults ≡ counted self.old.faults 1 }
         ensures later { self.old.faults ≤ self.new.faults }
         ensures turns { self.new.turns ≡ self.old.turns }
         ensures last { self.new.last ≡ self.old.last }
@@ -85,10 +85,6 @@ impl<R: Files> Disk for FileBay<'_, R>
 where
     R::File: FileExt,
 {
-    ghost use Rattle.std.specs.Prelude.{is_ok, if◌then◌else◌};
-    ghost use Rattle.disk_face.specs.Counts.{HasCause};
-    ghost use Rattle.disk_file.specs.Bays.{turns_of, faults_of, last_mount_of};
-
     ghost tells = { λ _. false };
 
     ghost file = { λ _. [] };
@@ -115,42 +111,21 @@ where
 
     ghost only_now = { λ bay image low is. is };
 
-    fn len(&mut self) -> Result<u64, DiskFault>
-        requires { IsTrue (is_mounted (last_mount_of self.old)) }
-        ensures faults { faults_of self.new ≡ (if is_ok result then faults_of self.old else counted (faults_of self.old) 1) }
-        ensures cause { HasCause (faults_of self.old) (faults_of self.new) result }
-        ensures turn { turns_of self.new ≡ turns_of self.old }
-        ensures later { turns_of self.old ≤ turns_of self.new }
-        ensures mounted { last_mount_of self.new ≡ last_mount_of self.old }
-    {
+    fn len(&mut self) -> Result<u64, DiskFault> {
         match self.open().metadata() {
             Ok(metadata) => Ok(metadata.len()),
             Err(_) => Err(self.fail()),
         }
     }
 
-    fn read_at(&mut self, pos: u64, out: &mut [u8]) -> Result<(), DiskFault>
-        requires { IsTrue (is_mounted (last_mount_of self.old)) }
-        ensures faults { faults_of self.new ≡ (if is_ok result then faults_of self.old else counted (faults_of self.old) 1) }
-        ensures cause { HasCause (faults_of self.old) (faults_of self.new) result }
-        ensures turn { turns_of self.new ≡ turns_of self.old }
-        ensures later { turns_of self.old ≤ turns_of self.new }
-        ensures mounted { last_mount_of self.new ≡ last_mount_of self.old }
-    {
+    fn read_at(&mut self, pos: u64, out: &mut [u8]) -> Result<(), DiskFault> {
         if fill(&SystemFile(self.open()), pos, out) {
             return Ok(());
         }
         Err(self.fail())
     }
 
-    fn write_at(&mut self, pos: u64, bytes: &[u8]) -> Result<(), DiskFault>
-        requires { IsTrue (is_mounted (last_mount_of self.old)) }
-        ensures faults { faults_of self.new ≡ (if is_ok result then faults_of self.old else counted (faults_of self.old) 1) }
-        ensures cause { HasCause (faults_of self.old) (faults_of self.new) result }
-        ensures turn { turns_of self.new ≡ counted (turns_of self.old) 1 }
-        ensures later { turns_of self.old ≤ turns_of self.new }
-        ensures mounted { last_mount_of self.new ≡ last_mount_of self.old }
-    {
+    fn write_at(&mut self, pos: u64, bytes: &[u8]) -> Result<(), DiskFault> {
         self.turn();
         if write_whole(&mut SystemFile(self.open()), pos, bytes) {
             return Ok(());
@@ -158,14 +133,7 @@ where
         Err(self.fail())
     }
 
-    fn set_len(&mut self, n: u64) -> Result<(), DiskFault>
-        requires { IsTrue (is_mounted (last_mount_of self.old)) }
-        ensures faults { faults_of self.new ≡ (if is_ok result then faults_of self.old else counted (faults_of self.old) 1) }
-        ensures cause { HasCause (faults_of self.old) (faults_of self.new) result }
-        ensures turn { turns_of self.new ≡ counted (turns_of self.old) 1 }
-        ensures later { turns_of self.old ≤ turns_of self.new }
-        ensures mounted { last_mount_of self.new ≡ last_mount_of self.old }
-    {
+    fn set_len(&mut self, n: u64) -> Result<(), DiskFault> {
         self.turn();
         match self.open().set_len(n) {
             Ok(()) => Ok(()),
@@ -174,14 +142,7 @@ where
     }
 
     /// Reaches the device, for a change of the length too.
-    fn sync(&mut self) -> Result<(), DiskFault>
-        requires { IsTrue (is_mounted (last_mount_of self.old)) }
-        ensures faults { faults_of self.new ≡ (if is_ok result then faults_of self.old else counted (faults_of self.old) 1) }
-        ensures cause { HasCause (faults_of self.old) (faults_of self.new) result }
-        ensures turn { turns_of self.new ≡ counted (turns_of self.old) 1 }
-        ensures later { turns_of self.old ≤ turns_of self.new }
-        ensures mounted { last_mount_of self.new ≡ last_mount_of self.old }
-    {
+    fn sync(&mut self) -> Result<(), DiskFault> {
         self.turn();
         match self.open().sync_all() {
             Ok(()) => Ok(()),

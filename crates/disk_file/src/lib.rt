@@ -6,6 +6,8 @@ mod passes;
 mod positions;
 mod retries;
 mod streams;
+#[cfg(test)]
+mod tests;
 
 pub use bay::FileBay;
 pub use streams::{StdSink, StdSource};

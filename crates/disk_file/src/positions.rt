@@ -5,7 +5,7 @@ ghost use Rattle.std.specs.IoError.{error_kind};
 ghost use Rattle.byte_ranges.specs.Ranges.{bytes_at, overwritten};
 
 use crate::retries::is_interrupted;
-use std::io;
+use std::io::{self, ErrorKind};
 use std::os::unix::fs::FileExt;
 
 /// A file whose calls may pass on fewer bytes than they are asked for.
@@ -51,17 +51,17 @@ impl<F: FileExt> Positions for SystemFile<'_, F> {
 pub fn fill<P: Positions>(file: &P, pos: u64, out: &mut [u8]) -> bool
     ensures { IsTrue result → IsTrue (P.tells file.now) → out.new ≡ bytes_at (P.file file.now) pos (length out.old) }
 {
-    let mut done = 0;
+    let mut filled = 0;
     'calls: for _ in 0..u64::MAX {
-        if done >= out.len() {
+        if filled >= out.len() {
             return true;
         }
-        let Some(at) = pos.checked_add(done as u64) else {
+        let Some(at) = pos.checked_add(filled as u64) else {
             return false;
         };
-        match file.read_some(at, &mut out[done..]) {
+        match file.read_some(at, &mut out[filled..]) {
             Ok(0) => return false,
-            Ok(n) => done += n,
+            Ok(n) => filled += n,
             Err(error) if is_interrupted(&error) => {}
             Err(_) => return false,
         }
@@ -75,17 +75,17 @@ pub fn write_whole<P: Positions>(file: &mut P, pos: u64, bytes: &[u8]) -> bool
     ensures told { P.tells file.new ≡ P.tells file.old }
     ensures written { IsTrue result → IsTrue (P.tells file.old) → pos + length bytes.now ≤ length (P.file file.old) → P.file file.new ≡ overwritten (P.file file.old) pos bytes.now }
 {
-    let mut done = 0;
+    let mut written = 0;
     'calls: for _ in 0..u64::MAX {
-        if done >= bytes.len() {
+        if written >= bytes.len() {
             return true;
         }
-        let Some(at) = pos.checked_add(done as u64) else {
+        let Some(at) = pos.checked_add(written as u64) else {
             return false;
         };
-        match file.write_some(at, &bytes[done..]) {
+        match file.write_some(at, &bytes[written..]) {
             Ok(0) => return false,
-            Ok(n) => done += n,
+            Ok(n) => written += n,
             Err(error) if is_interrupted(&error) => {}
             Err(_) => return false,
         }
