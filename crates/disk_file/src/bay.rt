@@ -1,9 +1,10 @@
 //! A bay of real files.
 ghost use Rattle.std.specs.Prelude.{◌≡◌, ◌≤◌, None, is_some, true, false, refl, [], IfOk, IsTrue, IsFalse};
-ghost use Rattle.disk_face.specs.Counts.{Rose, counted};
+ghost use Rattle.disk_face.specs.Counts.{counted};
 ghost use Rattle.disk_face.specs.Mounts.{has_file, is_mounted};
 ghost use Rattle.disk_file.specs.Mounted.{mount_of};
 
+use crate::positions::{SystemFile, fill, write_whole};
 use disk_face::{Bay, Disk, DiskFault, Mounted};
 use std::alloc::Global;
 use std::fs::{Files, OpenFile, OpenOptions};
@@ -50,7 +51,7 @@ impl<'a, R: Files> FileBay<'a, R> {
 impl<R: Files> FileBay<'_, R> {
     /// Counts a failure.
     fn fail(&mut self) -> DiskFault
-        ensures rose { Rose self.old.faults self.new.faults }
+        ensures faults { self.new.faults ≡ counted self.old.faults 1 }
         ensures later { self.old.faults ≤ self.new.faults }
         ensures turns { self.new.turns ≡ self.old.turns }
         ensures last { self.new.last ≡ self.old.last }
@@ -118,18 +119,18 @@ where
     }
 
     fn read_at(&mut self, pos: u64, out: &mut [u8]) -> Result<(), DiskFault> {
-        match self.open().read_exact_at(out, pos) {
-            Ok(()) => Ok(()),
-            Err(_) => Err(self.fail()),
+        if fill(&SystemFile(self.open()), pos, out) {
+            return Ok(());
         }
+        Err(self.fail())
     }
 
     fn write_at(&mut self, pos: u64, bytes: &[u8]) -> Result<(), DiskFault> {
         self.turn();
-        match self.open().write_all_at(bytes, pos) {
-            Ok(()) => Ok(()),
-            Err(_) => Err(self.fail()),
+        if write_whole(&mut SystemFile(self.open()), pos, bytes) {
+            return Ok(());
         }
+        Err(self.fail())
     }
 
     fn set_len(&mut self, n: u64) -> Result<(), DiskFault> {

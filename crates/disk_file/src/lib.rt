@@ -2,7 +2,12 @@
 #![tactic(auto)]
 
 mod bay;
+mod passes;
+mod positions;
+mod retries;
 mod streams;
+#[cfg(test)]
+mod tests;
 
 pub use bay::FileBay;
 pub use streams::{StdSink, StdSource};

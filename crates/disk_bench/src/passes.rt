@@ -1,0 +1,48 @@
+//! Passes over a file, a piece at a time.
+ghost use Rattle.std.specs.Prelude.{IsTrue, IsFalse};
+
+use disk_face::{Disk, DiskFault};
+
+/// Writes a piece so many times, one after another from position 0.
+pub fn writes<D: Disk>(disk: &mut D, piece: &[u8], count: u64) -> Result<(), DiskFault>
+    requires ready { IsTrue (D.is_ready disk.old) }
+    requires untold { IsFalse (D.tells disk.old) }
+    ensures ready { IsTrue (D.is_ready disk.new) }
+    ensures untold { IsFalse (D.tells disk.new) }
+{
+    let mut pos = 0u64;
+    'pieces: for _ in 0..count {
+        disk.write_at(pos, piece)?;
+        pos = pos.wrapping_add(piece.len() as u64);
+    }
+    Ok(())
+}
+
+/// Reads a piece so many times, one after another from position 0.
+pub fn reads<D: Disk>(disk: &mut D, piece: &mut [u8], count: u64) -> Result<(), DiskFault>
+    requires ready { IsTrue (D.is_ready disk.old) }
+    requires untold { IsFalse (D.tells disk.old) }
+    ensures ready { IsTrue (D.is_ready disk.new) }
+    ensures untold { IsFalse (D.tells disk.new) }
+{
+    let mut pos = 0u64;
+    'pieces: for _ in 0..count {
+        disk.read_at(pos, piece)?;
+        pos = pos.wrapping_add(piece.len() as u64);
+    }
+    Ok(())
+}
+
+/// Writes a piece at position 0 and syncs, so many times.
+pub fn syncs<D: Disk>(disk: &mut D, piece: &[u8], count: u64) -> Result<(), DiskFault>
+    requires ready { IsTrue (D.is_ready disk.old) }
+    requires untold { IsFalse (D.tells disk.old) }
+    ensures ready { IsTrue (D.is_ready disk.new) }
+    ensures untold { IsFalse (D.tells disk.new) }
+{
+    'pieces: for _ in 0..count {
+        disk.write_at(0, piece)?;
+        disk.sync()?;
+    }
+    Ok(())
+}

@@ -1,0 +1,19 @@
+-- What callers see of a source round a reader and of a sink round a writer.
+use Rattle.std.specs.Prelude.{ℕ}
+use Rattle.disk_file.specs.declared.streams.StdSource.{StdSource}
+use Rattle.disk_file.specs.declared.streams.StdSink.{StdSink}
+
+module _ {S : Type 0} where
+  abbrev pub reader_of : StdSource S → S
+  reader_of source = source.reader
+
+  -- how many calls have failed
+  abbrev pub source_faults : StdSource S → ℕ
+  source_faults source = source.faults
+
+  abbrev pub writer_of : StdSink S → S
+  writer_of sink = sink.writer
+
+  -- how many calls have failed
+  abbrev pub sink_faults : StdSink S → ℕ
+  sink_faults sink = sink.faults
