@@ -4,7 +4,7 @@ use Rattle.std.proofs.Common.{arith, ap, sym, ◌∙◌, inl, inr, add-zero}
 use Rattle.std.proofs.lemmas.Bool.{cases_lt, cases_Bool, cond-true, cond-false}
 use Rattle.std.proofs.lemmas.List.{get_or_past, take_all, map-append}
 use Rattle.std.proofs.lemmas.List.Elements.{filter_more}
-use Rattle.std.proofs.lemmas.List.Sums.{sum_by-append, sum_by_more, sum_by-cons, count_by_more_yes, count_by_more_no}
+use Rattle.std.proofs.lemmas.List.Sums.{get_or-le-sum_by, sum_by-append, sum_by_more, sum_by-cons, count_by_more_yes, count_by_more_no}
 use Rattle.std.proofs.lemmas.Nat.{one_shl}
 use Rattle.byte_ranges.specs.Lists.{below, counting_from, sum_below}
 use Rattle.size_class.specs.ClassLaws.{power_next}
@@ -100,3 +100,9 @@ from_next f b c h =
     ∙ ap (sum_by f) (counting_more b (c - b))
     ∙ sum_by-append f (counting_from b (c - b)) ((b + (c - b)) ∷ [])
     ∙ (let e : sum_by f ((b + (c - b)) ∷ []) ≡ f c = sum_by-cons f (b + (c - b)) [] ∙ add-zero (f (b + (c - b))) ∙ ap f at in ap (λ x. sum_by f (counting_from b (c - b)) + x) e)
+
+pub cell_le_sum : (xs : List ℕ) (c : ℕ) → slice_index xs c ≤ sum xs
+cell_le_sum xs c = elim (cases_lt c (length xs)) [
+  | inl within ↦ get_or-le-sum_by (λ (n : ℕ). n) xs c 0 within
+  | inr past ↦ omega (arith, get_or_past xs c 0 past)
+]

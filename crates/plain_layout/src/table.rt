@@ -188,7 +188,7 @@ impl Table {
 }
 
 /// The sum of a row.
-fn sum_of(row: &[u64]) -> u128
+pub(crate) fn sum_of(row: &[u64]) -> u128
     ensures sum { result ≡ sum row.now }
     ensures small { result < 2 ^ 127 }
 {

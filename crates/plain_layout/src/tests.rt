@@ -1,7 +1,7 @@
 //! Worked tables, the first rule that each breaks, and where; and worked lengths.
 ghost use Rattle.std.specs.Prelude.{◌≡◌, IfOk};
 
-use crate::{Sizes, Table, class_of, is_loose, is_tight};
+use crate::{Book, Sizes, Table, class_of, is_loose, is_tight, items_of};
 use slot_codec::{Header, Kind, Name, Record};
 use std::alloc::{AllocError, Global};
 
@@ -210,4 +210,57 @@ fn classes_of_sizes(rt: HostRuntime) {
         )*};
     }
     classes!(0 => 0, 1 => 0, 2 => 1, 3 => 1, 4 => 2, 1_048_575 => 19, 1_048_576 => 20, 4_294_967_296 => 31);
+}
+
+/// The book of capacities and entries, for a divisor.
+fn book(k: u64, numbers: &[Number]) -> Book
+    ensures { result.k ≡ k }
+{
+    let header = with_numbers(bare(Kind::Settled, 0, 0, 0), numbers);
+    Book {
+        k,
+        caps: header.caps,
+        used: header.used,
+    }
+}
+
+#[test]
+fn books_after_changes(rt: HostRuntime) {
+    macro_rules! changes {
+        ($($what:literal: $k:literal, [$($number:expr),*], [$($item:literal),*], [$($size:literal),*] => $quiet:literal, $boundary:literal, $end:literal, [$($after:expr),*]),*) => {$(
+            let next = book($k, &[$($number),*]).next(&[$($item),*], &[$($size),*]);
+            assert_eq!(rt; (next.quiet, next.boundary, next.book.end()), ($quiet, $boundary, $end), $what);
+            assert_eq!(rt; next.book, book($k, &[$($after),*]), $what);
+        )*};
+    }
+    changes!(
+        "the first object": 9, [], [100], [100] => false, 6, 111, [Number::Cap(6, 100)],
+        "an object in a buffer": 9, [Number::Cap(6, 100)], [10], [100, 10] => true, 31, 111, [Number::Cap(6, 100), Number::Used(6, 3, 10)],
+        "a small one beside a large one": 9, [Number::Cap(6, 100), Number::Used(6, 3, 10)], [5], [100, 10, 5] => false, 2, 127, [Number::Cap(2, 5), Number::Cap(3, 10), Number::Cap(6, 100)],
+        "a replacement": 9, [Number::Cap(6, 100)], [100, 10], [10] => false, 3, 11, [Number::Cap(3, 10)],
+        "a removal that is charged": 9, [Number::Cap(2, 5), Number::Cap(3, 10), Number::Cap(6, 100)], [10], [5, 100] => true, 31, 127, [Number::Cap(2, 5), Number::Cap(3, 10), Number::Cap(6, 100), Number::Used(6, 3, 10)],
+        "a removal after it": 9, [Number::Cap(2, 5), Number::Cap(3, 10), Number::Cap(6, 100), Number::Used(6, 3, 10)], [5], [100] => false, 2, 111, [Number::Cap(6, 100)],
+        "the last object": 9, [Number::Cap(6, 100)], [100], [] => false, 6, 0, [],
+        "an object of a byte": 2, [], [1], [1] => false, 0, 1, [Number::Cap(0, 1)],
+        "eleven objects": 9, [Number::Cap(6, 900), Number::Used(6, 6, 100)], [100], [100, 100, 100, 100, 100, 100, 100, 100, 100, 100, 100] => false, 6, 1222, [Number::Cap(6, 1100)]
+    );
+}
+
+#[test]
+fn items_of_changes(rt: HostRuntime) {
+    macro_rules! items {
+        ($($old:expr, $is_buffered:literal, $new:expr => [$($item:literal),*]),*) => {$(
+            let items = items_of(rt.alloc(), $old, $is_buffered, $new).expect(&rt, "memory");
+            let wanted: &[u64] = &[$($item),*];
+            assert_eq!(rt; items.as_slice(), wanted);
+        )*};
+    }
+    items!(
+        None, false, Some(100) => [100],
+        Some(100), false, Some(10) => [100, 10],
+        Some(100), true, Some(10) => [10],
+        Some(100), false, None => [100],
+        Some(0), false, Some(0) => [],
+        None, false, Some(0) => []
+    );
 }
