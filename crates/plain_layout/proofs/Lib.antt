@@ -1,0 +1,4 @@
+pub mod SumSteps
+pub mod FirstLemmas
+pub mod ChargeSteps
+pub mod ChangeLemmas

@@ -1,0 +1,8 @@
+use Rattle.std.proofs.Common.{◌<◌, ℕ}
+use Rattle.segment_layout.specs.Rules.{RuleAt}
+use Rattle.plain_layout.specs.Firsts.{named}
+use Rattle.plain_layout.specs.Plain.{layed}
+use Rattle.plain_layout.proofs.table.Table.first_of.Given as goal
+
+abbrev pub invariant-places : goal.invariant-places
+invariant-places l = (i : ℕ) → i < l.at → RuleAt (named l.rule) (layed l.self) i

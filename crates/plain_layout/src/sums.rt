@@ -1,0 +1,71 @@
+//! Sums over the records of a table.
+ghost use Rattle.std.specs.Prelude.{◌≡◌, ◌≤◌, ◌<◌, ◌^◌};
+ghost use Rattle.byte_ranges.specs.Lists.{sum_below};
+ghost use Rattle.plain_layout.specs.Plain.{layed};
+ghost use Rattle.segment_layout.specs.Tables.{dead_in_buffer, live, live_in_buffer, live_in_payload};
+ghost use Rattle.size_class.specs.Classes.{width};
+
+use crate::Table;
+
+impl Table {
+    /// The bytes of the objects of a class.
+    #[tactic(auto, using(crate::proofs::SumSteps::size_sum_more))]
+    pub fn live(&self, c: u8) -> u128
+        ensures sum { result ≡ live (layed self.now) c }
+        ensures small { result < 2 ^ 127 }
+    {
+        let mut bytes = 0;
+        'records: for at in 0..self.records.len() {
+            if self.is_of(c, at) {
+                bytes += u128::from(self.size(at));
+            }
+        }
+        bytes
+    }
+
+    /// The bytes of the objects of a class that lie in its payload segment.
+    #[tactic(auto, using(crate::proofs::SumSteps::size_sum_more))]
+    pub fn live_in_payload(&self, c: u8) -> u128
+        requires divisor { 1 ≤ self.now.k }
+        ensures sum { result ≡ live_in_payload (layed self.now) c }
+        ensures small { result < 2 ^ 127 }
+    {
+        let mut bytes = 0;
+        'records: for at in 0..self.records.len() {
+            if self.is_of(c, at) && self.lies_in_payload(c, at) {
+                bytes += u128::from(self.size(at));
+            }
+        }
+        bytes
+    }
+
+    /// The bytes of the objects of a class that lie in a buffer.
+    #[tactic(auto, using(crate::proofs::SumSteps::size_sum_more))]
+    pub fn live_in_buffer(&self, j: u8, c: u8) -> u128
+        requires divisor { 1 ≤ self.now.k }
+        ensures sum { result ≡ live_in_buffer (layed self.now) j c }
+        ensures small { result < 2 ^ 127 }
+    {
+        let mut bytes = 0;
+        'records: for at in 0..self.records.len() {
+            if self.is_of(c, at) && self.lies_in_buffer(j, at) {
+                bytes += u128::from(self.size(at));
+            }
+        }
+        bytes
+    }
+
+    /// The bytes that entries of a class have taken in all buffers for objects that are gone.
+    #[tactic(auto, using(crate::proofs::SumSteps::sum_below_next))]
+    pub fn dead(&self, c: u8) -> u128
+        requires divisor { 1 ≤ self.now.k }
+        ensures sum { result ≡ sum_below width (λ j. dead_in_buffer (layed self.now) j c) }
+        ensures small { result ≤ 2 ^ 69 }
+    {
+        let mut bytes = 0;
+        'buffers: for j in 0..32u8 {
+            bytes += u128::from(self.entry(j, c)).saturating_sub(self.live_in_buffer(j, c));
+        }
+        bytes
+    }
+}
