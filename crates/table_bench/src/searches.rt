@@ -71,6 +71,9 @@ pub fn time_by_name(rt: &HostRuntime, table: &mut Table, names: &[Name]) -> io::
             setting.add(start.elapsed(rt)?, batch.len());
         }
     }
+    if table.room() {
+        table.set(last, spot_of(0));
+    }
     getting.print(rt, "get")?;
     setting.print(rt, "set of a live name")
 }

@@ -5,7 +5,7 @@ use std::io;
 use std::time::Duration;
 
 /// How often each measurement is made.
-pub const ROUNDS: u64 = 16;
+pub const ROUNDS: u64 = 8;
 
 /// How many calls by name are timed together.
 pub const BATCH: usize = 1024;
