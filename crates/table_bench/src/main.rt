@@ -3,45 +3,58 @@
 //! Without a number of names from 1,024 to 65,536 it does nothing.
 #![tactic(auto)]
 
-mod names;
-mod passes;
-mod searches;
-mod times;
-
 ghost use Rattle.std.specs.Prelude.{◌≤◌};
 
+mod by_key;
+mod by_name;
+mod names;
+mod passes;
+
 use extent_table::Table;
-use names::names_of;
-use passes::{time_passes, time_rooms};
-use searches::{fill, time_by_key, time_by_name, time_edits};
+use names::{fill, names_of};
 use std::alloc::AllocError;
+use std::time::Instant;
 use std::{env, io};
+
+/// How often each measurement is made. The least is taken, since other processes run.
+const ROUNDS: u64 = 8;
 
 fn main(rt: HostRuntime) -> io::Result<()> {
     let Some(word) = env::args(&rt)?.nth(1) else {
         return Ok(());
     };
     match word.as_str().parse() {
-        Ok(count) if 1024 <= count && count <= 65_536 => time_all(&rt, count),
+        Ok(room) if 1024 <= room && room <= 65_536 => time_all(&rt, room),
         _ => Ok(()),
     }
 }
 
-/// Times each call at a table of `count` names.
-fn time_all(rt: &HostRuntime, count: u64) -> io::Result<()>
-    requires { count ≤ 65536 }
+/// Times each call at a table with room for `room` names. One name fewer is live, so that any may
+/// be set.
+fn time_all(rt: &HostRuntime, room: u64) -> io::Result<()>
+    requires { room ≤ 65536 }
 {
-    let names = names_of(rt.alloc(), b'o', count)?;
-    let others = names_of(rt.alloc(), b'p', count)?;
-    time_rooms(rt, count)?;
-    let Ok(mut table) = Table::with_room(rt.alloc(), count) else {
+    let names = names_of(rt.alloc(), 'o', room.saturating_sub(1))?;
+    let others = names_of(rt.alloc(), 'p', room.saturating_sub(1))?;
+    let start = Instant::now(rt)?;
+    let Ok(mut table) = Table::with_room(rt.alloc(), room) else {
         return Err(io::Error::from(AllocError));
     };
+    let making = mean(rt, start, 1)?;
+    println!(rt; "with_room {making}")?;
     fill(&mut table, &names);
-    time_edits(rt, &mut table, &names, "not kept")?;
+    by_name::time(rt, &mut table, &names, "never kept")?;
     table.keep();
-    time_edits(rt, &mut table, &names, "kept")?;
-    time_by_name(rt, &mut table, &names)?;
-    time_by_key(rt, &mut table)?;
-    time_passes(rt, &mut table, &names, &others)
+    by_name::time(rt, &mut table, &names, "kept")?;
+    by_key::time(rt, &mut table)?;
+    let one = &names[..names.len().min(1)];
+    passes::time(rt, &mut table, one, one, "one name changed")?;
+    passes::time(rt, &mut table, &names, &names, "all names changed")?;
+    passes::time(rt, &mut table, &names, &others, "all names replaced")
+}
+
+/// Nanoseconds a call, where some calls were made since `start`.
+fn mean(rt: &HostRuntime, start: Instant, calls: usize) -> io::Result<u64> {
+    let nanos = start.elapsed(rt)?.as_nanos();
+    Ok(u64::try_from(nanos).unwrap_or(u64::MAX) / calls.max(1) as u64)
 }

@@ -1,18 +1,16 @@
 //! Names as the blocks of a database have them.
 ghost use Rattle.std.specs.Prelude.{◌<◌, ◌^◌};
 
-use extent_table::Spot;
+use extent_table::{Spot, Table};
 use slot_codec::Name;
 use std::alloc::{AllocError, Global};
 
-/// Two neighbours in the list of names are so many numbers apart. It is a prime, so that each
-/// number comes once.
+/// Neighbours in the list of names are so many numbers apart: a prime, so that each number comes
+/// once.
 const STRIDE: u64 = 1_000_003;
 
-/// The names of a letter and the numbers from 0 to `count - 1`, as eight digits, in a scrambled
-/// order.
-pub fn names_of(alloc: Global, letter: u8, count: u64) -> Result<Vec<Name>, AllocError> {
-    let letter = char::from(letter);
+/// A letter and eight digits for each number below `count`, in a scrambled order.
+pub fn names_of(alloc: Global, letter: char, count: u64) -> Result<Vec<Name>, AllocError> {
     let mut names = Vec::new(alloc);
     for n in 0..count {
         let number = n.wrapping_mul(STRIDE) % count;
@@ -32,5 +30,21 @@ pub fn spot_of(n: u64) -> Spot
     Spot {
         place: n % 1_048_576 * 4096,
         size: 4096 + n % 256,
+    }
+}
+
+/// Sets names while there is room for another.
+pub fn fill(table: &mut Table, names: &[Name]) {
+    for n in 0..names.len() {
+        if table.room() {
+            table.set(&names[n], spot_of(n as u64));
+        }
+    }
+}
+
+/// Removes names.
+pub fn clear(table: &mut Table, names: &[Name]) {
+    for name in names {
+        table.remove(name);
     }
 }

@@ -1,6 +1,6 @@
 use Rattle.std.proofs.Common.{All, subst, sym}
 use Rattle.extent_table.specs.Extents.{IsLive}
-use Rattle.table_bench.proofs.searches.time_by_key.Goals as goal
+use Rattle.table_bench.proofs.by_key.time.Goals as goal
 
 pub look_at_all-requires : goal.look_at_all-requires
 look_at_all-requires c = subst (All (IsLive c.loop-round.table)) (sym c.deref.ensures.value) c.in_ok-keys.ensures.live

@@ -1,7 +1,7 @@
 use Rattle.std.proofs.Common.{◌≡◌, ℕ, List, Some, get_or, subst, sym}
 use Rattle.std.specs.FinMap as fin
 use Rattle.extent_table.specs.Extents.{Keys}
-use Rattle.table_bench.proofs.searches.relocate_all.Goals as goal
+use Rattle.table_bench.proofs.by_key.relocate_all.Goals as goal
 
 pub relocate-requires-clause-live : goal.relocate-requires-clause-live
 relocate-requires-clause-live c =

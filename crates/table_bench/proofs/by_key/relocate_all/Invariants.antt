@@ -1,5 +1,5 @@
 use Rattle.std.proofs.Common.{◌≡◌}
-use Rattle.table_bench.proofs.searches.relocate_all.Given as goal
+use Rattle.table_bench.proofs.by_key.relocate_all.Given as goal
 
 -- each name keeps its key
 abbrev pub invariant-keys : goal.invariant-keys
