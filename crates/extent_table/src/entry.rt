@@ -61,12 +61,12 @@ pub(crate) fn clear_spot(entries: &mut Slab<Entry>, key: u32)
     }
 }
 
-/// A copy of a name. Another copy is dropped here, where a proof sees what holds of each name.
+/// A copy of a name. Its text is read here, where a proof sees what holds of each name.
 fn copy_of(name: &Name) -> Name
     ensures same { result ≡ name.now }
     ensures named { IsName name.now }
 {
-    let _dropped = name.copied();
+    let _text = name.as_bytes();
     name.copied()
 }
 
