@@ -23,6 +23,8 @@ pub fn serve<D: Disk>(
 #[cfg(test)]
 mod crashes;
 #[cfg(test)]
+mod faults;
+#[cfg(test)]
 mod formats;
 #[cfg(test)]
 mod gets;
