@@ -19,7 +19,7 @@ const NAME: &str = "disk_bench.scratch";
 /// Pieces of a size where no word says how many.
 const FEW: u64 = 64;
 
-/// Pieces between two syncs' worth of pieces: so many times fewer syncs than pieces are made.
+/// How many times fewer syncs than pieces are measured.
 const PIECES_A_SYNC: u64 = 64;
 
 fn main(rt: HostRuntime) -> io::Result<()> {
@@ -58,7 +58,8 @@ fn sizes<D: Disk>(rt: &HostRuntime, disk: &mut D, count: Option<u64>) -> io::Res
     one_size(rt, disk, &mut large, count)
 }
 
-/// Writes over the file twice, the first time without being measured, reads it once, and syncs.
+/// Writes over the file twice, the first time without being measured, reads it once, syncs what was
+/// written, and then writes and syncs a few pieces.
 fn one_size<D: Disk>(
     rt: &HostRuntime,
     disk: &mut D,
@@ -80,6 +81,7 @@ fn one_size<D: Disk>(
     let start = Instant::now(rt)?;
     reads(disk, piece, pieces).map_err(failed)?;
     let read = start.elapsed(rt)?.as_micros();
+    disk.sync().map_err(failed)?;
     let start = Instant::now(rt)?;
     syncs(disk, piece, pieces / PIECES_A_SYNC).map_err(failed)?;
     let synced = start.elapsed(rt)?.as_micros();

@@ -1,6 +1,6 @@
 -- One more piece of what is passed on.
-use Rattle.std.proofs.Common.{◌≡◌, ℕ, ◌+◌, ◌-◌, ◌≤◌, Option, List, ◌++◌, length, take, drop, rules, arith, sym, ap, ◌∙◌, subst, le_refl, drop_at, take_at, length-take-le, length-drop}
-use Rattle.std.proofs.lemmas.List.{places, take_rest}
+use Rattle.std.proofs.Common.{◌≡◌, ℕ, ◌+◌, ◌-◌, ◌≤◌, Option, List, ◌++◌, length, take, drop, arith, sym, ap, ◌∙◌, subst, drop_at, take_at, length-take-le, length-drop}
+use Rattle.std.proofs.lemmas.List.{take_rest}
 use Rattle.std.proofs.Math.Seq.{take-add}
 use lib.Seq.{take-append-le}
 use borrow.Rule.Slice.PartMut.{put_mid, post_of}

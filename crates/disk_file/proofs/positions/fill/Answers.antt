@@ -1,4 +1,4 @@
-use Rattle.std.proofs.Common.{◌≡◌, ◌+◌, rules, arith, le_refl, ◌∙◌}
+use Rattle.std.proofs.Common.{◌≡◌, ◌+◌, rules, le_refl, ◌∙◌}
 use Rattle.std.proofs.lemmas.Slice.{take-put_mid_below}
 use Rattle.disk_file.proofs.Steps.{filled_more}
 use Rattle.disk_file.proofs.positions.fill.Goals as goal
