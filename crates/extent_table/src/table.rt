@@ -173,7 +173,7 @@ impl Table {
                 self.volume -= before.size;
                 Some(before)
             }
-            Err(_) => None,
+            Err(_place) => None,
         }
     }
 
