@@ -50,8 +50,8 @@ pub returns-in-Err : goal.returns-in-Err
 returns-in-Err c =
     let below = rw c.deref.ensures.value at c.in-Err.ensures.below in
     let above = rw c.deref.ensures.value at c.in-Err.ensures.above in
-    let absent = get_in_gap now_of c.self.inside.entries.slots c.self.inside.order.items c.self.invariant.sound.now c.in-Err.field-0 c.args.name.now below above (spot_at now_of c.self.inside.entries.slots) in
-    let keyless = get_in_gap now_of c.self.inside.entries.slots c.self.inside.order.items c.self.invariant.sound.now c.in-Err.field-0 c.args.name.now below above (λ k. k) in
+    let absent = get_in_gap now_of c.self.inside.entries.slots c.self.inside.order.items c.self.invariant.sound.now c.in-Err._place c.args.name.now below above (spot_at now_of c.self.inside.entries.slots) in
+    let keyless = get_in_gap now_of c.self.inside.entries.slots c.self.inside.order.items c.self.invariant.sound.now c.in-Err._place c.args.name.now below above (λ k. k) in
     record {
       was = rw (← c.self.view_is) (sym absent);
       now = rw (← c.self.view_is) (sym (remove_none name_cmp nat_list_cmp_total (slice_cmp-IsAntisymmetric nat_cmp-IsAntisymmetric) (spots_of now_of c.self.inside.entries.slots c.self.inside.order.items) c.args.name.now absent));
