@@ -11,7 +11,12 @@ use Rattle.size_class.specs.ClassLaws.{power_next}
 use Rattle.slot_codec.specs.declared.codec.Record.{Record}
 use Rattle.segment_layout.specs.Shapes.{buffer_of, end_of, start_of}
 use Rattle.segment_layout.specs.ShapeLaws.{end_of-next, buffer_of-zero}
-use Rattle.segment_layout.specs.Tables.{no_record, size_sum}
+use Rattle.store_terms.specs.MapLaws.{sum_by-map}
+use Rattle.segment_layout.specs.Books.{volumes_of_sizes}
+use Rattle.segment_layout.specs.BalanceLaws.{bytes_in}
+use Rattle.segment_layout.specs.BookLaws.{sum_by-filter, volumes_of_sizes-index}
+use Rattle.segment_layout.specs.SumLaws.{sum_by_le_places}
+use Rattle.segment_layout.specs.Tables.{is_of, no_record, size_sum, sizes}
 
 counting_more : (first n : ℕ) → counting_from first (n + 1) ≡ counting_from first n ++ (first + n) ∷ []
 counting_more first zero = λ i. (let e : first ≡ first + 0 = omega arith in e i) ∷ []
@@ -106,3 +111,22 @@ cell_le_sum xs c = elim (cases_lt c (length xs)) [
   | inl within ↦ get_or-le-sum_by (λ (n : ℕ). n) xs c 0 within
   | inr past ↦ omega (arith, get_or_past xs c 0 past)
 ]
+
+pub chosen_le : (p : Record → Bool) (rs : List Record) → size_sum (filter p rs) ≤ size_sum rs
+chosen_le p rs = omega (
+  arith,
+  sum_by-filter (λ (r : Record). r.size) p rs,
+  sum_by_le_places no_record (λ (r : Record). cond (p r) r.size 0) (λ (r : Record). r.size) rs (λ i h.
+      let r = slice_index_or rs i no_record in
+      elim (cases_Bool (p r)) [ inl is ↦ omega (arith, cond-true (p r) r.size 0 is) | inr other ↦ omega (arith, cond-false (p r) r.size 0 other) ]),
+)
+
+-- the live bytes of a class are its volume
+pub live_is_volume : (c : ℕ) (rs : List Record) → size_sum (filter (is_of c) rs) ≡ slice_index (volumes_of_sizes (sizes rs)) c
+live_is_volume c rs =
+    sum_by-filter (λ (r : Record). r.size) (is_of c) rs
+    ∙ sym (sum_by-map (λ (size : ℕ). bytes_in c size) (λ (r : Record). r.size) rs)
+    ∙ sym (volumes_of_sizes-index (sizes rs) c)
+
+pub sizes_more : (rs : List Record) (i : ℕ) → i < length rs → size_sum (take (i + 1) rs) ≡ size_sum (take i rs) + (slice_index_or rs i no_record).size
+sizes_more rs i h = sum_by_more (λ (r : Record). r.size) rs i no_record h

@@ -7,6 +7,7 @@ mod bounds;
 mod change;
 mod class;
 mod first;
+mod opening;
 mod resume;
 mod rules;
 mod settle;

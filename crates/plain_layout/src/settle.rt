@@ -71,8 +71,8 @@ fn caps_from(mut caps: [u64; 32], b: u8, after: &[u64]) -> [u64; 32]
 }
 
 /// What entries have taken, with nothing in the buffers from `b` on.
-fn used_from(mut used: [[u64; 32]; 32], b: u8) -> [[u64; 32]; 32]
-    requires class { b < 32 }
+pub(crate) fn used_from(mut used: [[u64; 32]; 32], b: u8) -> [[u64; 32]; 32]
+    requires class { b ≤ 32 }
     ensures { result ≡ settled_grid b used }
 {
     'rows: for j in b..32 {

@@ -2,12 +2,24 @@
 ghost use Rattle.std.specs.Prelude.{◌≡◌, ◌≤◌, ◌<◌, ◌^◌};
 ghost use Rattle.byte_ranges.specs.Lists.{sum_below};
 ghost use Rattle.plain_layout.specs.Plain.{layed};
-ghost use Rattle.segment_layout.specs.Tables.{dead_in_buffer, live, live_in_buffer, live_in_payload};
+ghost use Rattle.segment_layout.specs.Tables.{dead_in_buffer, live, live_in_buffer, live_in_payload, size_sum};
 ghost use Rattle.size_class.specs.Classes.{width};
 
 use crate::Table;
 
 impl Table {
+    /// The bytes of all objects together.
+    #[tactic(auto, using(crate::proofs::SumSteps::sizes_more))]
+    pub fn bytes(&self) -> u128
+        ensures { result ≡ size_sum self.now.records.items }
+    {
+        let mut bytes = 0;
+        'records: for at in 0..self.records.len() {
+            bytes += u128::from(self.size(at));
+        }
+        bytes
+    }
+
     /// The bytes of the objects of a class.
     #[tactic(auto, using(crate::proofs::SumSteps::size_sum_more))]
     pub fn live(&self, c: u8) -> u128

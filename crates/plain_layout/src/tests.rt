@@ -217,11 +217,9 @@ fn book(k: u64, numbers: &[Number]) -> Book
     ensures { result.k ≡ k }
 {
     let header = with_numbers(bare(Kind::Settled, 0, 0, 0), numbers);
-    Book {
-        k,
-        caps: header.caps,
-        used: header.used,
-    }
+    let caps = header.caps;
+    let used = header.used;
+    Book { k, caps, used }
 }
 
 #[test]
@@ -262,5 +260,44 @@ fn items_of_changes(rt: HostRuntime) {
         Some(100), false, None => [100],
         Some(0), false, Some(0) => [],
         None, false, Some(0) => []
+    );
+}
+
+#[test]
+fn books_of_tables(rt: HostRuntime) {
+    let moving = table(
+        rt.alloc(),
+        21,
+        254,
+        bare(Kind::Moving, 2, 239, 112),
+        &[(b'a', 139, 100), (b'b', 239, 10), (b'c', 249, 5)],
+    )
+    .expect(&rt, "memory");
+    assert!(rt; moving.bound() <= 32 && moving.bytes() < 1 << 64);
+    assert_eq!(rt;
+        moving.book(),
+        book(
+            9,
+            &[Number::Cap(2, 5), Number::Cap(3, 10), Number::Cap(6, 100)]
+        )
+    );
+    assert_eq!(rt;
+        (moving.is_buffered(0), moving.is_buffered(1)),
+        (false, false)
+    );
+    let numbers = &[Number::Cap(6, 100), Number::Used(6, 3, 10)];
+    let settled = table(
+        rt.alloc(),
+        21,
+        111,
+        with_numbers(bare(Kind::Settled, 0, 0, 0), numbers),
+        &[(b'a', 0, 100), (b'b', 100, 10)],
+    )
+    .expect(&rt, "memory");
+    assert!(rt; settled.bound() <= 32 && settled.bytes() < 1 << 64);
+    assert_eq!(rt; settled.book(), book(9, numbers));
+    assert_eq!(rt;
+        (settled.is_buffered(0), settled.is_buffered(1)),
+        (false, true)
     );
 }

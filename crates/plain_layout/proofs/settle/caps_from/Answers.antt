@@ -1,4 +1,4 @@
-use Rattle.std.proofs.Common.{arith, subst, ap, ◌∙◌, ◌≡◌, ℕ}
+use Rattle.std.proofs.Common.{arith, subst, ap, ◌≡◌, ℕ}
 use Rattle.std.specs.Prelude.{slice_set}
 use Rattle.std.proofs.lemmas.List.{get_or_past}
 use Rattle.segment_layout.specs.Books.{volumes_of_sizes}

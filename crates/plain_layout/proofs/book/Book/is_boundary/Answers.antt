@@ -1,4 +1,4 @@
-use Rattle.std.proofs.Common.{arith, sym, inl, inr, ap, ◌∙◌, length, ◌<◌, List, [], ℕ}
+use Rattle.std.proofs.Common.{arith, sym, inl, inr, ap, ◌∙◌, length, List, [], ℕ}
 use Rattle.std.specs.Prelude.{slice_index}
 use Rattle.std.proofs.lemmas.Bool.{cases_Bool, cases_lt, false≢true}
 use Rattle.std.proofs.lemmas.List.{get_or_past}

@@ -1,7 +1,6 @@
-use Rattle.std.proofs.Common.{◌≡◌, ◌≤◌, ◌<◌, ◌+◌, ◌-◌, ◌*◌, ◌^◌, ℕ}
+use Rattle.std.proofs.Common.{◌≤◌, ◌<◌, ◌+◌, ◌^◌, ℕ}
 use Rattle.segment_layout.specs.Shapes.{buffer_of, taken_in}
 use Rattle.std.specs.Prelude.{slice_index}
-use Rattle.plain_layout.specs.Plain.{layed}
 use Rattle.plain_layout.proofs.table.Table.are_full.Given as goal
 
 abbrev pub invariant-between : goal.invariant-between

@@ -1,4 +1,4 @@
-use Rattle.std.proofs.Common.{◌<◌, ℕ}
+use Rattle.std.proofs.Common.{◌<◌}
 use Rattle.segment_layout.specs.Rules.{Rule, number_of}
 use Rattle.plain_layout.specs.Firsts.{AllHold}
 use Rattle.plain_layout.specs.Plain.{layed}

@@ -1,8 +1,7 @@
-use Rattle.std.proofs.Common.{◌≡◌, ◌≤◌, ◌<◌, ◌+◌, ◌-◌, ◌*◌, ◌^◌, ℕ}
-use Rattle.size_class.specs.Classes.{cell, class_of}
+use Rattle.std.proofs.Common.{◌≤◌, ◌<◌, ◌+◌, ◌^◌, ℕ}
+use Rattle.size_class.specs.Classes.{cell}
 use Rattle.segment_layout.specs.Shapes.{buffer_of, taken_in}
 use Rattle.std.specs.Prelude.{slice_index}
-use Rattle.plain_layout.specs.Plain.{layed}
 use Rattle.plain_layout.proofs.table.Table.has_full_buffers.Given as goal
 
 abbrev pub invariant-buffers : goal.invariant-buffers

@@ -1,6 +1,5 @@
-use Rattle.std.proofs.Common.{◌≡◌, ◌≤◌, ◌<◌, ◌+◌, ◌-◌, ◌*◌, ◌^◌, ℕ}
-use Rattle.size_class.specs.Classes.{cell, class_of}
-use Rattle.plain_layout.specs.Plain.{layed}
+use Rattle.std.proofs.Common.{◌≤◌, ◌<◌, ◌^◌, ℕ}
+use Rattle.size_class.specs.Classes.{cell}
 use Rattle.plain_layout.proofs.table.Table.has_least_entries.Given as goal
 
 abbrev pub invariant-buffers : goal.invariant-buffers

@@ -1,6 +1,6 @@
-use Rattle.std.proofs.Common.{◌≡◌, ◌≤◌, ◌<◌, ◌+◌, ◌-◌, ◌*◌, ◌^◌, ℕ}
+use Rattle.std.proofs.Common.{◌≤◌, ◌<◌, ℕ}
 use Rattle.std.specs.Prelude.{IsTrue}
-use Rattle.size_class.specs.Classes.{cell, class_of}
+use Rattle.size_class.specs.Classes.{class_of}
 use Rattle.segment_layout.specs.Tables.{is_below_wall, nth}
 use Rattle.plain_layout.specs.Plain.{layed}
 use Rattle.plain_layout.proofs.table.Table.is_above_lesser.Given as goal

@@ -1,7 +1,7 @@
 use Rattle.std.proofs.Common.{◌≡◌, ◌≤◌, ◌*◌, ◌^◌, take}
 use Rattle.std.specs.Prelude.{◌&&◌, filter}
 use Rattle.plain_layout.specs.Plain.{layed}
-use Rattle.segment_layout.specs.Tables.{is_of, lies_in_payload, lies_in_buffer, size_sum}
+use Rattle.segment_layout.specs.Tables.{is_of, lies_in_buffer, size_sum}
 use Rattle.plain_layout.proofs.table.Table.live_in_buffer.Given as goal
 
 abbrev pub invariant-records : goal.invariant-records

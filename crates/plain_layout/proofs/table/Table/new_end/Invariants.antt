@@ -1,4 +1,4 @@
-use Rattle.std.proofs.Common.{◌≡◌, ◌≤◌, ◌<◌, ◌+◌, ◌-◌, ◌*◌, ◌^◌, ℕ}
+use Rattle.std.proofs.Common.{◌≡◌, ◌+◌, ◌-◌, ◌^◌}
 use Rattle.std.specs.Prelude.{min, sum_by}
 use Rattle.byte_ranges.specs.Lists.{counting_from}
 use Rattle.segment_layout.specs.Shapes.{buffer_of, start_of}

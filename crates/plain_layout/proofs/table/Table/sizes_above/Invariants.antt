@@ -1,4 +1,4 @@
-use Rattle.std.proofs.Common.{◌≡◌, ◌≤◌, ◌<◌, ◌+◌, ◌-◌, ◌*◌, ◌^◌, ℕ}
+use Rattle.std.proofs.Common.{◌≡◌, ◌≤◌, ◌*◌, ◌^◌}
 use Rattle.std.specs.Prelude.{◌&&◌, nat_lt, filter, take}
 use Rattle.segment_layout.specs.Tables.{is_below_wall, size_sum}
 use Rattle.plain_layout.specs.Plain.{layed}

@@ -1,4 +1,4 @@
-use Rattle.std.proofs.Common.{◌≡◌, ◌≤◌, ◌<◌, ◌+◌, ◌-◌, ◌*◌, ◌^◌, ℕ}
+use Rattle.std.proofs.Common.{◌≤◌, ◌<◌, ℕ}
 use Rattle.std.specs.Prelude.{IsTrue}
 use Rattle.segment_layout.specs.Tables.{is_suffix, nth}
 use Rattle.plain_layout.specs.Plain.{layed}

@@ -1,5 +1,5 @@
-use Rattle.std.proofs.Common.{◌≡◌, ◌≤◌, ◌<◌, ◌+◌, ◌-◌, ◌*◌, ◌^◌, ℕ}
-use Rattle.size_class.specs.Classes.{cell, class_of}
+use Rattle.std.proofs.Common.{◌≤◌, ◌<◌, ℕ}
+use Rattle.size_class.specs.Classes.{cell}
 use Rattle.segment_layout.specs.Tables.{live_in_buffer}
 use Rattle.plain_layout.specs.Plain.{layed}
 use Rattle.plain_layout.proofs.table.Table.was_entered.Given as goal
