@@ -2,8 +2,8 @@ use Rattle.std.proofs.Common.{All, subst, sym}
 use Rattle.extent_table.specs.Extents.{IsLive}
 use Rattle.table_bench.proofs.by_key.time.Goals as goal
 
-pub look_at_all-requires : goal.look_at_all-requires
-look_at_all-requires c = subst (All (IsLive c.loop-round.table)) (sym c.deref.ensures.value) c.in_ok-keys.ensures.live
+pub sum_of_kept-requires : goal.sum_of_kept-requires
+sum_of_kept-requires c = subst (All (IsLive c.loop-round.table)) (sym c.deref.ensures.value) c.in_ok-keys.ensures.live
 
 pub relocate_all-requires-clause-live : goal.relocate_all-requires-clause-live
 relocate_all-requires-clause-live c = subst (All (IsLive c.loop-round.table)) (sym c.deref-in-loop-round.ensures.value) c.in_ok-keys.ensures.live
