@@ -1,0 +1,18 @@
+use Rattle.std.proofs.Common.{rules, subst}
+use Rattle.plain_opening.specs.Opened.{table_seen}
+use Rattle.plain_opening.proofs.Tables.{no_table}
+use Rattle.segment_layout.specs.Rules.{FirstBroken}
+use Rattle.plain_opening.proofs.opened.open.Goals as goal
+
+pub returns-in_err-opened-clause-refused : goal.returns-in_err-opened-clause-refused
+returns-in_err-opened-clause-refused g c =
+    let all = no_table c.args.classes c.args.size_max (g.D.Disk.file c.args.disk.now) c.in_err-opened.field-0.0 c.in_err-opened.ensures.refused in
+    search rules
+
+pub returns-in-Some-clause-refused : goal.returns-in-Some-clause-refused
+returns-in-Some-clause-refused g c =
+    record {
+      table = table_seen c.in_ok-opened.opened;
+      read = c.in_ok-opened.ensures.read;
+      first = subst (λ t. FirstBroken t c.in-Some.number c.in-Some.at) c.in_ok-opened.ensures.layed c.in-Some.ensures.first;
+    }
