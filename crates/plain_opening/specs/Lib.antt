@@ -1,2 +1,3 @@
 pub mod Refusals
 pub mod Opened
+pub mod Objects

@@ -1,7 +1,8 @@
-//! From a file to its table, and whether it stands for a map and a book, by plain and slow steps, to
+//! From a file to the map and the book for which it stands, by plain and slow steps, to
 //! be tried on examples.
 #![tactic(auto)]
 
+mod objects;
 mod opened;
 mod records;
 #[cfg(test)]

@@ -4,8 +4,8 @@ ghost use Rattle.disk_face.specs.Frames.{Unchanged};
 ghost use Rattle.plain_layout.specs.Plain.{layed};
 ghost use Rattle.plain_opening.specs.Opened.{RefusesToOpen, table_seen};
 ghost use Rattle.plain_opening.specs.Refusals.{RefusesBy};
-ghost use Rattle.segment_layout.specs.Opening.{layed_of};
-ghost use Rattle.segment_layout.specs.Tables.{IsValid};
+ghost use Rattle.segment_layout.specs.Opening.{Opens, layed_of};
+ghost use Rattle.segment_layout.specs.Tables.{IsValid, book_of, map_of};
 ghost use Rattle.slot_codec.specs.Choice.{chosen, records_of, table_of};
 ghost use Rattle.slot_codec.specs.Spelling.{head_len};
 ghost use Rattle.slot_pair.specs.Finding.{chosen_of};
@@ -46,6 +46,7 @@ pub fn open<D: Disk>(
     ensures read { IfOk result (λ o. table_of (D.file disk.old) ≡ Ok (table_seen o)) }
     ensures layed { IfOk result (λ o. layed o.table ≡ layed_of classes size_max (D.file disk.old) (table_seen o)) }
     ensures valid { IfOk result (λ o. IsValid (layed o.table)) }
+    ensures opens { IfOk result (λ o. Opens classes size_max (D.file disk.old) (map_of (head_len o.found.block.names) (D.file disk.old) o.table.records.items) (book_of (layed o.table))) }
     ensures divisor { IfOk result (λ o. (2 ≤ o.table.k) × (o.table.k ≤ 64)) }
     ensures refused { IfErr result (RefusesToOpen classes size_max (D.file disk.old)) }
     ensures frame { Unchanged D.tells D.file D.may_leave D.left_since D.turn D.faults D.is_ready D.tells_images D.last_mount disk.old disk.new }

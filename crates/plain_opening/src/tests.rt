@@ -1,7 +1,7 @@
 //! A worked file, its changes, and what each opens to.
 use crate::{Refusal, open};
 use disk_mem::MemDisk;
-use slot_codec::CodecFault;
+use slot_codec::{CodecFault, Name};
 use slot_pair::SlotFault;
 use std::alloc::Global;
 use std::test::Fail;
@@ -81,6 +81,14 @@ fn gives_the_book_of_a_file(rt: HostRuntime) -> Result<(), Fail> {
     assert_eq!(rt; opened.table.records.len(), 1);
     assert_eq!(rt; (opened.table.place(0), opened.table.size(0)), (0, 5));
     assert_eq!(rt; opened.table.data_len, 5);
+    let (a, b) = (
+        Name::new(b"a").ok_or("a name")?,
+        Name::new(b"b").ok_or("a name")?,
+    );
+    assert_eq!(rt;
+        (opened.spot_of(&a), opened.spot_of(&b)),
+        (Some((0, 5)), None)
+    );
     assert_eq!(rt;
         (opened.table.cap(2), opened.table.is_buffered(0)),
         (5, false)

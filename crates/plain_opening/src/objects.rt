@@ -1,0 +1,30 @@
+//! Where the objects of an opened file stand.
+ghost use Rattle.std.specs.Prelude.{◌≡◌, ℕ, List};
+ghost use Rattle.plain_opening.specs.Objects.{cut, object_in, object_of};
+
+use crate::Opened;
+use slot_codec::{Name, Record};
+
+impl Opened {
+    /// The place and size of a name's object, in bytes, with places from 0 of the data part; none
+    /// where the map of the file has no such name.
+    pub fn spot_of(&self, name: &Name) -> Option<(u64, u64)>
+        ensures { (base : ℕ) (file : List ℕ) → cut base file result ≡ object_of base file self.now.table.records.items name.now }
+    {
+        spot_in(&self.table.records, name)
+    }
+}
+
+/// The place and size that the first record of a name has.
+fn spot_in(records: &[Record], name: &Name) -> Option<(u64, u64)>
+    ensures { (base : ℕ) (file : List ℕ) → cut base file result ≡ object_in base file records.now name.now }
+{
+    if records.is_empty() {
+        return None;
+    }
+    let first = &records[0];
+    if name.cmp(&first.name).is_eq() {
+        return Some((first.place, first.size));
+    }
+    spot_in(&records[1..], name)
+}
