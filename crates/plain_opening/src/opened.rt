@@ -1,5 +1,6 @@
 //! Opening a file: its table, and whether that keeps the rules.
-ghost use Rattle.std.specs.Prelude.{◌≡◌, ◌≤◌, ◌<◌, ◌^◌, Ok, IfOk, IfErr, IsTrue, length};
+ghost use Rattle.std.specs.Prelude.{◌≡◌, ◌≤◌, ◌<◌, ◌^◌, Ok, Err, IfOk, IfErr, IsTrue, length};
+ghost use Rattle.disk_face.specs.Counts.{Rose};
 ghost use Rattle.disk_face.specs.Frames.{Unchanged};
 ghost use Rattle.plain_layout.specs.Plain.{layed};
 ghost use Rattle.plain_opening.specs.Opened.{RefusesToOpen, table_seen};
@@ -49,6 +50,7 @@ pub fn open<D: Disk>(
     ensures opens { IfOk result (λ o. Opens classes size_max (D.file disk.old) (map_of (head_len o.found.block.names) (D.file disk.old) o.table.records.items) (book_of (layed o.table))) }
     ensures divisor { IfOk result (λ o. (2 ≤ o.table.k) × (o.table.k ≤ 64)) }
     ensures refused { IfErr result (RefusesToOpen classes size_max (D.file disk.old)) }
+    ensures cause { result ≡ Err (Refusal.Slot SlotFault.Disk) → Rose (D.faults disk.old) (D.faults disk.new) }
     ensures frame { Unchanged D.tells D.file D.may_leave D.left_since D.turn D.faults D.is_ready D.tells_images D.last_mount disk.old disk.new }
 {
     let opened = read_table(alloc, disk, classes, size_max)?;
@@ -71,6 +73,7 @@ fn read_table<D: Disk>(
     ensures layed { IfOk result (λ o. layed o.table ≡ layed_of classes size_max (D.file disk.old) (table_seen o)) }
     ensures divisor { IfOk result (λ o. (2 ≤ o.table.k) × (o.table.k ≤ 64)) }
     ensures refused { IfErr result (RefusesBy (table_of (D.file disk.old))) }
+    ensures cause { result ≡ Err (Refusal.Slot SlotFault.Disk) → Rose (D.faults disk.old) (D.faults disk.new) }
     ensures frame { Unchanged D.tells D.file D.may_leave D.left_since D.turn D.faults D.is_ready D.tells_images D.last_mount disk.old disk.new }
 {
     let found = match choose(disk) {
@@ -112,6 +115,7 @@ fn records_of<D: Disk>(
     requires long { head_len found.now.block.names ≤ length (D.file disk.old) }
     ensures read { IfOk result (λ rs. records_of (D.file disk.old) (chosen_of found.now header.now) ≡ Ok rs.items) }
     ensures refused { IfErr result (RefusesBy (records_of (D.file disk.old) (chosen_of found.now header.now))) }
+    ensures cause { result ≡ Err (Refusal.Slot SlotFault.Disk) → Rose (D.faults disk.old) (D.faults disk.new) }
     ensures frame { Unchanged D.tells D.file D.may_leave D.left_since D.turn D.faults D.is_ready D.tells_images D.last_mount disk.old disk.new }
 {
     let at = slot_at(found.block.names, found.slot) + HEADER_LEN as u64;

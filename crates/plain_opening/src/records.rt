@@ -1,5 +1,5 @@
 //! The records of a table.
-ghost use Rattle.std.specs.Prelude.{◌≡◌, ◌+◌, ◌*◌, ◌≤◌, ◌<◌, ◌^◌, Ok, IfOk, IfErr, OnOk, length};
+ghost use Rattle.std.specs.Prelude.{◌≡◌, ◌≢◌, ◌+◌, ◌*◌, ◌≤◌, ◌<◌, ◌^◌, Ok, IfOk, IfErr, OnOk, length};
 ghost use Rattle.slot_codec.specs.Choice.{first_record, read_records, rises};
 ghost use Rattle.slot_pair.specs.Finding.{Refuses};
 ghost use Rattle.plain_opening.specs.Refusals.{RefusesBy, behind};
@@ -20,6 +20,7 @@ pub fn add_records(
     requires small { at + RECORD_LEN * count < 2 ^ 64 }
     ensures read { OnOk result (behind records.old.items (read_records count text.now at before.now) ≡ Ok records.new.items) }
     ensures refused { IfErr result (RefusesBy (read_records count text.now at before.now)) }
+    ensures only { IfErr result (λ why. why ≢ Refusal.Slot SlotFault.Disk) }
 {
     if count == 0 {
         return Ok(());
@@ -46,6 +47,7 @@ fn first_record(text: &[u8], at: u64, before: &Option<Name>) -> Result<Record, S
     requires long { RECORD_LEN ≤ length text.now }
     ensures read { IfOk result (λ r. first_record text.now at before.now ≡ Ok r) }
     ensures refused { IfErr result (Refuses (first_record text.now at before.now)) }
+    ensures only { IfErr result (λ why. why ≢ SlotFault.Disk) }
 {
     let record = read_record(&text[..RECORD_LEN]).map_err(|fault| SlotFault::Codec(fault, at))?;
     if !rises(before, &record.name) {
