@@ -5,4 +5,5 @@ mod Judging
 mod Stops
 mod Answering
 mod Statuses
+mod Formatting
 mod WordLists

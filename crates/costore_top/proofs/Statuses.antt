@@ -1,32 +1,84 @@
 -- What was put, and which status comes of it.
-use Rattle.std.specs.Prelude.{◌≡◌, ◌⊎◌, ℕ, List, ◌++◌, length, Result, Ok, Err, IsOk}
+use Rattle.std.specs.Prelude.{◌≡◌, ◌⊎◌, ◌≤◌, ℕ, List, ◌++◌, length, Result, Ok, Err, IsOk, IsTrue, OnErr, refl}
 use Rattle.costore_top.specs.declared.stop.Stop.{Stop}
-use Rattle.std.proofs.Common.{arith, ap, sym, ◌∙◌}
+use Rattle.costore_top.specs.declared.stop.Stop.TheVariants as stop
+use Rattle.std.proofs.Common.{arith, ap, sym, ◌∙◌, subst, inl, inr}
+use Rattle.disk_face.specs.Counts.{HasCause, Rose}
 use Rattle.std.proofs.lemmas.List.{take_all}
-use Rattle.disk_face.specs.Streams.{Puts}
-use Rattle.costore_top.specs.Outcomes.{Ends, EndsBy, IsFront, bytes_of, line_at, status_at}
+use Rattle.disk_face.specs.Streams.{Puts, SinkState}
+use Rattle.costore_top.specs.Outcomes.{Ends, IsFront, PutsLast, PutsLine, bytes_of, line_at, status_at}
+use Rattle.costore_top.specs.Layers.{Answers}
 
 -- all bytes are a front of them
-pub Puts-front : {T E : Type 0} (before now bytes : List ℕ) (result : Result T E) → Puts before now bytes result → IsFront before now bytes
-Puts-front before now bytes (Ok x) puts = (length bytes, omega arith, puts.all ∙ ap (λ (xs : List ℕ). before ++ xs) (sym (take_all (length bytes) bytes (omega arith))))
+pub Puts-front : {T E : Type 0} (before now bytes : List ℕ) (result : Result T E)
+    → Puts before now bytes result → IsFront before now bytes
+Puts-front before now bytes (Ok x) puts = (
+  length bytes,
+  omega arith,
+  puts.all
+      ∙ ap (λ (xs : List ℕ). before ++ xs) (sym (take_all (length bytes) bytes (omega arith))),
+)
 Puts-front before now bytes (Err e) puts = puts.front
 
+-- bytes that were put, told by the count of the sink's faults
+pub put_last : {T E : Type 0} (old new : SinkState) (bytes : List ℕ) (result : Result T E)
+    → Puts old.given new.given bytes result → HasCause old.faults new.faults result
+    → PutsLast old.given new.given bytes (Rose old.faults new.faults)
+put_last old new bytes result puts cause = record {
+  front = Puts-front old.given new.given bytes result puts;
+  whole = whole_of result puts cause.rose;
+}
+  where
+    whole_of : {T E : Type 0} (r : Result T E) → Puts old.given new.given bytes r
+        → OnErr r (Rose old.faults new.faults)
+        → (new.given ≡ old.given ++ bytes) ⊎ Rose old.faults new.faults
+    whole_of (Ok x) p rose = inl p.all
+    whole_of (Err e) p rose = inr rose
+
+-- a count that rose later has risen since before
+later_rose : {between now : List ℕ} {line : List ℕ} (a b n : ℕ) → a ≤ b
+    → PutsLast between now line (Rose b n) → PutsLast between now line (Rose a n)
+later_rose {between} {now} {line} a b n later last = record {
+  front = last.front;
+  whole = elim last.whole as (λ x. (now ≡ between ++ line) ⊎ Rose a n) [
+    | inl is ↦ inl is
+    | inr rose ↦ inr (omega (arith, rose, later))
+  ];
+}
+
 -- the end of a command, its answer's bytes put first and its line after them
-pub ended : (answer : Result (List ℕ) Stop) (end : Result (Unit {0}) Stop) (status : ℕ) (before between now : List ℕ) (failed : Type 0) → status ≡ status_at end → EndsBy answer end
-    → Puts before between (bytes_of answer) end → IsFront between now (line_at end) → (now ≡ between ++ line_at end) ⊎ failed → Ends answer status before now failed
-ended answer end status before between now failed is by puts line all = record {
+pub ended : (answer : Result (List ℕ) Stop) (end : Result (Unit {0}) Stop) (status : ℕ)
+    (old mid new : SinkState)
+    → status ≡ status_at end → Answers answer old mid end → mid.tells ≡ old.tells → old.faults ≤ mid.faults
+    → (IsTrue mid.tells → PutsLast mid.given new.given (line_at end) (Rose mid.faults new.faults))
+    → Ends answer status old new
+ended answer end status old mid new is answers told later line = record {
   end = end;
   same_status = is;
-  by = by;
-  puts = record {
-    between = between;
-    object = Puts-front before between (bytes_of answer) end puts;
-    whole = λ done. whole_of end puts done;
-    line = line;
-    all = all;
+  by = answers.ends;
+  puts = λ sink_told. record {
+    between = mid.given;
+    object = Puts-front old.given mid.given (bytes_of answer) end (answers.puts sink_told);
+    whole = λ done. whole_of end (answers.puts sink_told) done;
+    line = later_rose old.faults mid.faults new.faults later (line (subst IsTrue (sym told) sink_told));
   };
 }
   where
-    whole_of : (e : Result (Unit {0}) Stop) → Puts before between (bytes_of answer) e → IsOk e → between ≡ before ++ bytes_of answer
+    whole_of : (e : Result (Unit {0}) Stop) → Puts old.given mid.given (bytes_of answer) e → IsOk e
+        → mid.given ≡ old.given ++ bytes_of answer
     whole_of (Ok x) puts done = puts.all
     whole_of (Err why) puts done = cc
+
+-- where nothing was put before it, the line is all that was put
+pub line_after_none : (old mid new : SinkState) (end : Result (Unit {0}) Stop) → mid ≡ old
+    → end ≡ Err stop.Disk
+    → IsTrue old.tells
+    → (IsTrue mid.tells → PutsLast mid.given new.given (line_at end) (Rose mid.faults new.faults))
+    → PutsLine 7 old new
+line_after_none old mid new end same disk told line = record {
+  why = stop.Disk;
+  same_status = refl;
+  line = subst (λ e. PutsLast old.given new.given (line_at e) (Rose old.faults new.faults)) disk
+      (subst (λ s. PutsLast s.given new.given (line_at end) (Rose s.faults new.faults)) same
+      (line (subst (λ s. IsTrue s.tells) (sym same) told)));
+}

@@ -7,7 +7,8 @@ use Rattle.costore_top.specs.declared.stop.Stop.TheVariants as stop
 use Rattle.costore_top.specs.Getting.{StopsAs}
 
 -- what stops a step stops what comes after it
-pub StopsAs-then : {A B : Type 0} (x : Result A Stop) (next : A → Result B Stop) (e : Stop) → StopsAs x e → StopsAs (x >>= next) e
+pub StopsAs-then : {A B : Type 0} (x : Result A Stop) (next : A → Result B Stop) (e : Stop) → StopsAs x e
+    → StopsAs (x >>= next) e
 StopsAs-then x next stop.Disk h = h
 StopsAs-then x next stop.Sink h = h
 StopsAs-then x next stop.Words h = ap (λ y. y >>= next) h

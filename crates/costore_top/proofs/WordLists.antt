@@ -34,16 +34,26 @@ spelled_one (map_of f) (map_of g) c d h = cc
 spelled_one (run f) (run g) c d h = cc
 spelled_one help help c d h = cc
 spelled_one version version c d h = cc
-spelled_one (check f) (map_of g) c d h = let e : codes "check" ≡ codes "map" = cc in differ (codes "check") (codes "map") 0 e (λ same. absurd (omega (arith, same)))
-spelled_one (check f) (run g) c d h = let e : codes "check" ≡ codes "run" = cc in differ (codes "check") (codes "run") 0 e (λ same. absurd (omega (arith, same)))
-spelled_one (map_of f) (check g) c d h = let e : codes "map" ≡ codes "check" = cc in differ (codes "map") (codes "check") 0 e (λ same. absurd (omega (arith, same)))
-spelled_one (map_of f) (run g) c d h = let e : codes "map" ≡ codes "run" = cc in differ (codes "map") (codes "run") 0 e (λ same. absurd (omega (arith, same)))
-spelled_one (run f) (check g) c d h = let e : codes "run" ≡ codes "check" = cc in differ (codes "run") (codes "check") 0 e (λ same. absurd (omega (arith, same)))
-spelled_one (run f) (map_of g) c d h = let e : codes "run" ≡ codes "map" = cc in differ (codes "run") (codes "map") 0 e (λ same. absurd (omega (arith, same)))
-spelled_one (format f k n) (work g l m) c d h = let e : codes "format" ≡ codes "work" = cc in differ (codes "format") (codes "work") 0 e (λ same. absurd (omega (arith, same)))
-spelled_one (work f k n) (format g l m) c d h = let e : codes "work" ≡ codes "format" = cc in differ (codes "work") (codes "format") 0 e (λ same. absurd (omega (arith, same)))
-spelled_one help version c d h = let e : codes "--help" ≡ codes "--version" = cc in differ (codes "--help") (codes "--version") 2 e (λ same. absurd (omega (arith, same)))
-spelled_one version help c d h = let e : codes "--version" ≡ codes "--help" = cc in differ (codes "--version") (codes "--help") 2 e (λ same. absurd (omega (arith, same)))
+spelled_one (check f) (map_of g) c d h = let e : codes "check" ≡ codes "map" = cc in
+    differ (codes "check") (codes "map") 0 e (λ same. absurd (omega (arith, same)))
+spelled_one (check f) (run g) c d h = let e : codes "check" ≡ codes "run" = cc in
+    differ (codes "check") (codes "run") 0 e (λ same. absurd (omega (arith, same)))
+spelled_one (map_of f) (check g) c d h = let e : codes "map" ≡ codes "check" = cc in
+    differ (codes "map") (codes "check") 0 e (λ same. absurd (omega (arith, same)))
+spelled_one (map_of f) (run g) c d h = let e : codes "map" ≡ codes "run" = cc in
+    differ (codes "map") (codes "run") 0 e (λ same. absurd (omega (arith, same)))
+spelled_one (run f) (check g) c d h = let e : codes "run" ≡ codes "check" = cc in
+    differ (codes "run") (codes "check") 0 e (λ same. absurd (omega (arith, same)))
+spelled_one (run f) (map_of g) c d h = let e : codes "run" ≡ codes "map" = cc in
+    differ (codes "run") (codes "map") 0 e (λ same. absurd (omega (arith, same)))
+spelled_one (format f k n) (work g l m) c d h = let e : codes "format" ≡ codes "work" = cc in
+    differ (codes "format") (codes "work") 0 e (λ same. absurd (omega (arith, same)))
+spelled_one (work f k n) (format g l m) c d h = let e : codes "work" ≡ codes "format" = cc in
+    differ (codes "work") (codes "format") 0 e (λ same. absurd (omega (arith, same)))
+spelled_one help version c d h = let e : codes "--help" ≡ codes "--version" = cc in
+    differ (codes "--help") (codes "--version") 2 e (λ same. absurd (omega (arith, same)))
+spelled_one version help c d h = let e : codes "--version" ≡ codes "--help" = cc in
+    differ (codes "--version") (codes "--help") 2 e (λ same. absurd (omega (arith, same)))
 spelled_one _ _ c d h = cc
 
 pub means_one : (words : List (List ℕ)) (c d : Command) → Means words c → Means words d → c ≡ d

@@ -11,7 +11,8 @@ use Rattle.slot_codec.specs.declared.codec.Kind.TheVariants.{Settled, Moving}
 use Rattle.slot_codec.specs.declared.codec.Record.{Record}
 use Rattle.slot_pair.specs.declared.find.SlotFault.{SlotFault}
 use Rattle.slot_pair.specs.declared.find.SlotFault.TheVariants as slot
-use Rattle.costore_top.specs.declared.pass.Spot.{Spot}
+use Rattle.size_class.specs.declared.TheConstants.{CLASSES, SIZE_MAX}
+use Rattle.extent_table.specs.declared.spot.Spot.{Spot}
 use Rattle.costore_top.specs.declared.stop.StoreFault.TheVariants as fault
 use Rattle.costore_top.specs.declared.stop.Stop.{Stop}
 use Rattle.costore_top.specs.declared.stop.Stop.TheVariants as stop
@@ -48,16 +49,9 @@ abbrev pub first_failing : (Record → Bool) → ℕ → List Record → Option 
 first_failing passes n [] = None
 first_failing passes n (r ∷ rs) = if passes r then first_failing passes (n + 1) rs else Some n
 
--- the greatest size of an object, in bytes, and how many classes of sizes there are
-abbrev pub size_max : ℕ
-size_max = 1048576
-
-abbrev pub classes : ℕ
-classes = 21
-
 -- no object is too large; an empty one has place 0; each lies within the data part
 abbrev pub fits : Record → Bool
-fits r = nat_le r.size size_max
+fits r = nat_le r.size SIZE_MAX
 
 abbrev pub is_placed : Record → Bool
 is_placed r = nat_lt 0 r.size || (r.place == 0)
@@ -67,7 +61,7 @@ ends_within data_len r = nat_le (r.place + r.size) data_len
 
 -- where the layout of a header's capacities ends: each payload segment has a buffer of its k-th part
 abbrev pub layout_end : ℕ → List ℕ → ℕ
-layout_end k caps = sum_by (λ v. v + v / k) (take classes caps)
+layout_end k caps = sum_by (λ v. v + v / k) (take CLASSES caps)
 
 -- the first place that is found, as a fault of a rule
 abbrev pub or_rule : ℕ → Option ℕ → Result Unit Stop → Result Unit Stop
@@ -90,7 +84,8 @@ keeps_rules end data_len records =
 -- where the object of a name stands
 abbrev pub spot_named : List ℕ → List Record → Option Spot
 spot_named name [] = None
-spot_named name (r ∷ rs) = if bytes_eq r.name name then Some (record { place = r.place; size = r.size }) else spot_named name rs
+spot_named name (r ∷ rs) = if bytes_eq r.name name then Some (record { place = r.place; size = r.size })
+    else spot_named name rs
 
 abbrev pub or_missing : Option Spot → Result Spot Stop
 or_missing None = Err stop.Missing

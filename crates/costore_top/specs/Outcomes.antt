@@ -1,6 +1,8 @@
 -- The statuses of the program, what each command answers, and what it puts.
-use Rattle.std.specs.Prelude.{◌≡◌, ◌⊎◌, ℕ, ◌==◌, ◌≤◌, Bool, true, false, if◌then◌else◌, List, [], ◌++◌, length, take, codes, Option, Some, Result, Ok, Err, IsOk}
+use Rattle.std.specs.Prelude.{◌≡◌, ◌⊎◌, ℕ, ◌==◌, ◌≤◌, Bool, true, false, if◌then◌else◌, List, [], ◌++◌, length, take, codes, Option, Some, Result, Ok, Err, IsOk, IsTrue}
+use Rattle.disk_face.specs.Counts.{Rose}
 use Rattle.disk_face.specs.Mounts.{Mount}
+use Rattle.disk_face.specs.Streams.{SinkState}
 use Rattle.disk_face.specs.declared.bay.Mounted.{Mounted}
 use Rattle.costore_top.specs.Words.{Command, format, get, help, version}
 use Rattle.costore_top.specs.Getting.{answer_of}
@@ -57,7 +59,8 @@ answer_for help file = Ok HELP.now
 answer_for version file = Ok VERSION.now
 answer_for _ file = Err stop.NotBuilt
 
--- A command whose answer this is may end so: with it, or where a device failed, or where its file isn't there.
+-- A command whose answer this is may end so: with it, or where a device failed, or where its file isn't
+-- there.
 abbrev pub EndsBy : Result (List ℕ) Stop → Result (Unit {0}) Stop → Type 0
 EndsBy answer (Ok x) = IsOk answer
 EndsBy answer (Err stop.Disk) = Unit {0}
@@ -79,26 +82,29 @@ line_at (Err why) = line_of why
 abbrev pub IsFront : List ℕ → List ℕ → List ℕ → Type 0
 IsFront before now bytes = (n : ℕ) × (n ≤ length bytes) × (now ≡ before ++ take n bytes)
 
+-- These bytes were put, or where the sink failed a front of them.
+pub record PutsLast (before now bytes : List ℕ) (failed : Type 0) : Type 0 where
+  pub front : IsFront before now bytes
+  pub whole : (now ≡ before ++ bytes) ⊎ failed
+
 -- What a command that ends so has put: the answer's bytes, all of them where it is done and a front of
--- them where it stopped, and then the line of its end, whole unless the sink failed.
-pub record PutsOut (answer : Result (List ℕ) Stop) (end : Result (Unit {0}) Stop) (before now : List ℕ) (failed : Type 0) : Type 0 where
+-- them where it stopped, and then the line of its end.
+pub record PutsOut (answer : Result (List ℕ) Stop) (end : Result (Unit {0}) Stop) (before now : List ℕ)
+    (failed : Type 0) : Type 0 where
   pub between : List ℕ
   pub object : IsFront before between (bytes_of answer)
   pub whole : IsOk end → between ≡ before ++ bytes_of answer
-  pub line : IsFront between now (line_at end)
-  pub all : (now ≡ between ++ line_at end) ⊎ failed
+  pub line : PutsLast between now (line_at end) failed
 
--- a command whose answer this is ends with a status
-abbrev pub EndsSo : Result (List ℕ) Stop → ℕ → Type 0
-EndsSo answer status = (end : Result (Unit {0}) Stop) × (status ≡ status_at end) × EndsBy answer end
+-- The line of a reason to stop of this status was put and nothing more, whole unless the sink failed.
+pub record PutsLine (status : ℕ) (old new : SinkState) : Type 0 where
+  pub why : Stop
+  pub same_status : status ≡ status_of why
+  pub line : PutsLast old.given new.given (line_of why) (Rose old.faults new.faults)
 
--- the line of a reason to stop of this status was put, or a front of it, and nothing more
-abbrev pub PutsLine : ℕ → List ℕ → List ℕ → Type 0
-PutsLine status before now = (why : Stop) × (status ≡ status_of why) × IsFront before now (line_of why)
-
--- the end of a command, by its status, its answer, and what it put
-pub record Ends (answer : Result (List ℕ) Stop) (status : ℕ) (before now : List ℕ) (failed : Type 0) : Type 0 where
+-- The end of a command, by its status, its answer, and what it put.
+pub record Ends (answer : Result (List ℕ) Stop) (status : ℕ) (old new : SinkState) : Type 0 where
   pub end : Result (Unit {0}) Stop
   pub same_status : status ≡ status_at end
   pub by : EndsBy answer end
-  pub puts : PutsOut answer end before now failed
+  pub puts : IsTrue old.tells → PutsOut answer end old.given new.given (Rose old.faults new.faults)

@@ -5,7 +5,7 @@ use Rattle.byte_ranges.specs.Lists.{◌>>=◌}
 use Rattle.slot_codec.specs.Choice.{read_records}
 use Rattle.slot_codec.specs.declared.codec.Record.{Record}
 use Rattle.costore_top.specs.declared.pass.Pass.{Pass}
-use Rattle.costore_top.specs.declared.pass.Spot.{Spot}
+use Rattle.extent_table.specs.declared.spot.Spot.{Spot}
 use Rattle.costore_top.specs.declared.stop.Stop.{Stop}
 use Rattle.costore_top.specs.Getting.{or_no_store, or_rule, or_missing, last_place, fits, is_placed, ends_within}
 
@@ -43,9 +43,12 @@ noted_all data_len name n p (r ∷ rs) = noted_all data_len name (n + 1) (noted 
 
 -- m records of a text that stands at a position are read and noted, the first of number n
 unfoldable pub passed : ℕ → List ℕ → ℕ → List ℕ → ℕ → ℕ → Pass → Result Pass Stop
-passed data_len name m text at n p = or_no_store (read_records m text at p.before) >>= λ records. Ok (noted_all data_len name n p records)
+passed data_len name m text at n p =
+    or_no_store (read_records m text at p.before) >>= λ records. Ok (noted_all data_len name n p records)
 
 -- what a whole pass says of a table of so many records
 abbrev pub judged : ℕ → ℕ → ℕ → Pass → Result Spot Stop
 judged end data_len count p =
-    or_rule 1 p.too_large (or_rule 2 p.misplaced (or_rule 3 p.past_end (or_rule 3 (last_place (nat_le end data_len) count) (Ok tt)))) >>= λ _. or_missing p.found
+    or_rule 1 p.too_large (or_rule 2 p.misplaced
+    (or_rule 3 p.past_end (or_rule 3 (last_place (nat_le end data_len) count) (Ok tt)))) >>= λ _.
+    or_missing p.found

@@ -1,13 +1,11 @@
 //! Each command, but for the fault line.
-ghost use Rattle.std.specs.Prelude.{◌≡◌, ◌≢◌, ◌⊎◌, ◌↔◌, ◌≤◌, ◌<◌, ◌+◌, ℕ, [], None, true, false, Ok, Err, IfErr, IsOk, IsErr, OnOk, IsTrue, IsFalse, length, codes};
-ghost use Rattle.disk_face.specs.Counts.{Rose, counted};
-ghost use Rattle.disk_face.specs.Moments.{Leaves, Only};
+ghost use Rattle.std.specs.Prelude.{◌≡◌, ◌≢◌, ◌≤◌, None, Ok, Err, IsTrue, length};
 ghost use Rattle.disk_face.specs.Frames.{Untouched};
-ghost use Rattle.disk_face.specs.Streams.{Puts};
-ghost use Rattle.slot_pair.specs.Formats.{HasFirstTable, IsNoneOrFirst, formatted_file};
 ghost use Rattle.costore_top.specs.Getting.{answer_of};
-ghost use Rattle.costore_top.specs.Commands.{mount_of, IsDone};
-ghost use Rattle.costore_top.specs.Outcomes.{EndsBy, bytes_of, format_answer};
+ghost use Rattle.costore_top.specs.Commands.{Formats, IsDone, IsMounted};
+ghost use Rattle.costore_top.specs.Layers.{Answers, KeepsAt, PutsNone};
+ghost use Rattle.costore_top.specs.Outcomes.{format_answer};
+ghost use Rattle.costore_top.specs.Words.{format, get};
 
 use crate::Stop;
 use crate::copy::put_whole;
@@ -23,18 +21,17 @@ pub fn get_from<B: Bay, O: Sink>(
     name: &Name,
     output: &mut O,
 ) -> Result<(), Stop>
-    requires { B.last_mount bay.old ≡ None }
-    ensures mounted { (result ≡ Err Stop.Disk) ⊎ (result ≡ Err Stop.NoFile) ⊎ (B.last_mount bay.new ≡ mount_of file.now false Mounted.There) }
-    ensures no_file { (result ≡ Err Stop.NoFile) ↔ (B.last_mount bay.new ≡ mount_of file.now false Mounted.Absent) }
-    ensures ends { IsTrue (B.tells bay.old) → EndsBy (answer_of name.now (B.file bay.old)) result }
-    ensures put { IsTrue (B.tells bay.old) → IsTrue (O.tells output.old) → Puts (O.given output.old) (O.given output.new) (bytes_of (answer_of name.now (B.file bay.old))) result }
-    ensures nothing_put { IfErr result (λ why. (why ≡ Stop.Disk) ⊎ (why ≡ Stop.Sink) ⊎ (output.new ≡ output.old)) }
+    requires { (B.state bay.old).last_mount ≡ None }
     ensures words { result ≢ Err Stop.Words }
-    ensures disk_cause { result ≡ Err Stop.Disk → Rose (B.faults bay.old) (B.faults bay.new) }
-    ensures sink_cause { result ≡ Err Stop.Sink → Rose (O.faults output.old) (O.faults output.new) }
-    ensures frame { Untouched B.tells B.file B.may_leave B.left_since B.turn B.faults B.tells_images bay.old bay.new }
-    ensures sink_later { O.faults output.old ≤ O.faults output.new }
-    ensures sink_told { O.tells output.new ≡ O.tells output.old }
+    ensures mounted { IsMounted (get file.now name.now) (B.state bay.new).last_mount (result ≡ Err Stop.Disk)
+        (result ≡ Err Stop.NoFile) }
+    ensures answers { IsTrue (B.state bay.old).tells
+        → Answers (answer_of name.now (B.state bay.old).file) (O.state output.old) (O.state output.new)
+        result }
+    ensures nothing_put { PutsNone output.old output.new result }
+    ensures frame { Untouched (B.state bay.old) (B.state bay.new) }
+    ensures keeps { KeepsAt (B.state bay.old) (B.state bay.new) (O.state output.old) (O.state output.new)
+        result }
 {
     match bay.mount(file, false) {
         Err(_) => Err(Stop::Disk),
@@ -53,36 +50,21 @@ pub fn format_in<B: Bay, O: Sink>(
     names: u64,
     output: &mut O,
 ) -> Result<(), Stop>
-    requires none { B.last_mount bay.old ≡ None }
+    requires none { (B.state bay.old).last_mount ≡ None }
     requires divisor { (2 ≤ k) × (k ≤ 64) }
     requires low { 16 ≤ names }
     requires high { names ≤ 65536 }
-    ensures mounted { (result ≡ Err Stop.Disk) ⊎ (B.last_mount bay.new ≡ mount_of file.now true Mounted.There) ⊎ (B.last_mount bay.new ≡ mount_of file.now true Mounted.Made) }
-    ensures found { result ≢ Err Stop.NoFile }
-    ensures absent { B.last_mount bay.new ≡ mount_of file.now true Mounted.Absent → ⊥ }
-    ensures ends { IsTrue (B.tells bay.old) → EndsBy (format_answer (B.file bay.old)) result }
-    ensures put { IsTrue (B.tells bay.old) → IsTrue (O.tells output.old) → Puts (O.given output.old) (O.given output.new) (bytes_of (format_answer (B.file bay.old))) result }
-    ensures nothing_put { IfErr result (λ why. (why ≡ Stop.Disk) ⊎ (why ≡ Stop.Sink) ⊎ (output.new ≡ output.old)) }
     ensures words { result ≢ Err Stop.Words }
-    ensures disk_cause { result ≡ Err Stop.Disk → Rose (B.faults bay.old) (B.faults bay.new) }
-    ensures sink_cause { result ≡ Err Stop.Sink → Rose (O.faults output.old) (O.faults output.new) }
-    ensures sink_later { O.faults output.old ≤ O.faults output.new }
-    ensures sink_told { O.tells output.new ≡ O.tells output.old }
-    ensures told { B.tells bay.new ≡ B.tells bay.old }
-    ensures images_told { B.tells_images bay.new ≡ B.tells_images bay.old }
-    ensures later { B.faults bay.old ≤ B.faults bay.new }
-
-    // A file that isn't empty stays as it is.
-    ensures taken { IsTrue (B.tells bay.old) → 0 < length (B.file bay.old) → Untouched B.tells B.file B.may_leave B.left_since B.turn B.faults B.tells_images bay.old bay.new }
-
-    // An empty one is no store, or the store with no names; once it is done, it is that store, and a crash leaves it.
-    ensures formatted { IsTrue (B.tells bay.old) → length (B.file bay.old) ≡ 0 → IsDone result → HasFirstTable k names (B.file bay.new) }
-    ensures file { IsTrue (B.tells bay.old) → length (B.file bay.old) ≡ 0 → IsDone result → B.file bay.new ≡ formatted_file k names }
-    ensures stopped { IsTrue (B.tells bay.old) → length (B.file bay.old) ≡ 0 → IsNoneOrFirst k names (B.file bay.new) }
-    ensures images { IsTrue (B.tells bay.old) → Only [] (B.may_leave bay.old) → length (B.file bay.old) ≡ 0 → Leaves B.turn B.left_since bay.old bay.new (IsNoneOrFirst k names) }
-    ensures rests { IsTrue (B.tells bay.old) → length (B.file bay.old) ≡ 0 → IsDone result → Only (B.file bay.new) (B.may_leave bay.new) }
-    ensures calls { IsTrue (B.tells bay.old) → length (B.file bay.old) ≡ 0 → IsDone result → B.turn bay.new ≡ counted (B.turn bay.old) 10 }
-    ensures few { B.turn bay.new ≤ B.turn bay.old + 10 }
+    ensures mounted { IsMounted (format file.now k names) (B.state bay.new).last_mount
+        (result ≡ Err Stop.Disk) (result ≡ Err Stop.NoFile) }
+    ensures answers { IsTrue (B.state bay.old).tells
+        → Answers (format_answer (B.state bay.old).file) (O.state output.old) (O.state output.new) result }
+    ensures nothing_put { PutsNone output.old output.new result }
+    ensures formats { IsTrue (B.state bay.old).tells → length (B.state bay.old).file ≡ 0
+        → Formats k names (B.state bay.old) (B.state bay.new) (IsDone result) }
+    ensures silent { result ≡ Err Stop.Disk → output.new ≡ output.old }
+    ensures keeps { KeepsAt (B.state bay.old) (B.state bay.new) (O.state output.old) (O.state output.new)
+        result }
 {
     match bay.mount(file, true) {
         Err(_) => Err(Stop::Disk),
@@ -94,31 +76,20 @@ pub fn format_in<B: Bay, O: Sink>(
 
 /// Formats the file that is mounted, if it is empty.
 fn format<D: Disk, O: Sink>(disk: &mut D, k: u64, names: u64, output: &mut O) -> Result<(), Stop>
-    requires ready { IsTrue (D.is_ready disk.old) }
+    requires ready { IsTrue (D.state disk.old).is_ready }
     requires divisor { (2 ≤ k) × (k ≤ 64) }
     requires low { 16 ≤ names }
     requires high { names ≤ 65536 }
-    ensures found { result ≢ Err Stop.NoFile }
-    ensures ends { IsTrue (D.tells disk.old) → EndsBy (format_answer (D.file disk.old)) result }
-    ensures put { IsTrue (D.tells disk.old) → IsTrue (O.tells output.old) → Puts (O.given output.old) (O.given output.new) (bytes_of (format_answer (D.file disk.old))) result }
-    ensures nothing_put { IfErr result (λ why. (why ≡ Stop.Disk) ⊎ (why ≡ Stop.Sink) ⊎ (output.new ≡ output.old)) }
-    ensures words { result ≢ Err Stop.Words }
-    ensures disk_cause { result ≡ Err Stop.Disk → Rose (D.faults disk.old) (D.faults disk.new) }
-    ensures sink_cause { result ≡ Err Stop.Sink → Rose (O.faults output.old) (O.faults output.new) }
-    ensures sink_later { O.faults output.old ≤ O.faults output.new }
-    ensures sink_told { O.tells output.new ≡ O.tells output.old }
-    ensures told { D.tells disk.new ≡ D.tells disk.old }
-    ensures images_told { D.tells_images disk.new ≡ D.tells_images disk.old }
-    ensures later { D.faults disk.old ≤ D.faults disk.new }
-    ensures mount { D.last_mount disk.new ≡ D.last_mount disk.old }
-    ensures taken { IsTrue (D.tells disk.old) → 0 < length (D.file disk.old) → Untouched D.tells D.file D.may_leave D.left_since D.turn D.faults D.tells_images disk.old disk.new }
-    ensures formatted { IsTrue (D.tells disk.old) → length (D.file disk.old) ≡ 0 → IsDone result → HasFirstTable k names (D.file disk.new) }
-    ensures file { IsTrue (D.tells disk.old) → length (D.file disk.old) ≡ 0 → IsDone result → D.file disk.new ≡ formatted_file k names }
-    ensures stopped { IsTrue (D.tells disk.old) → length (D.file disk.old) ≡ 0 → IsNoneOrFirst k names (D.file disk.new) }
-    ensures images { IsTrue (D.tells disk.old) → Only [] (D.may_leave disk.old) → length (D.file disk.old) ≡ 0 → Leaves D.turn D.left_since disk.old disk.new (IsNoneOrFirst k names) }
-    ensures rests { IsTrue (D.tells disk.old) → length (D.file disk.old) ≡ 0 → IsDone result → Only (D.file disk.new) (D.may_leave disk.new) }
-    ensures calls { IsTrue (D.tells disk.old) → length (D.file disk.old) ≡ 0 → IsDone result → D.turn disk.new ≡ counted (D.turn disk.old) 10 }
-    ensures few { D.turn disk.new ≤ D.turn disk.old + 10 }
+    ensures words { (result ≢ Err Stop.Words) × (result ≢ Err Stop.NoFile) }
+    ensures answers { IsTrue (D.state disk.old).tells
+        → Answers (format_answer (D.state disk.old).file) (O.state output.old) (O.state output.new) result }
+    ensures nothing_put { PutsNone output.old output.new result }
+    ensures formats { IsTrue (D.state disk.old).tells → length (D.state disk.old).file ≡ 0
+        → Formats k names (D.state disk.old) (D.state disk.new) (IsDone result) }
+    ensures silent { result ≡ Err Stop.Disk → output.new ≡ output.old }
+    ensures mount { (D.state disk.new).last_mount ≡ (D.state disk.old).last_mount }
+    ensures keeps { KeepsAt (D.state disk.old) (D.state disk.new) (O.state output.old) (O.state output.new)
+        result }
 {
     let length = length_of(disk).map_err(|_| Stop::Disk)?;
     if length != 0 {

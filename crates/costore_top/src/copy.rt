@@ -1,9 +1,10 @@
 //! Copying bytes of the file to the sink.
-ghost use Rattle.std.specs.Prelude.{◌≡◌, ◌⊎◌, ◌+◌, ◌++◌, ◌^◌, ◌<◌, ◌≤◌, ℕ, take, Err, OnOk, OnErr, IsTrue, length};
+ghost use Rattle.std.specs.Prelude.{◌≡◌, ◌⊎◌, ◌+◌, ◌^◌, ◌<◌, ◌≤◌, Err, OnErr, IsTrue, length};
 ghost use Rattle.byte_ranges.specs.Ranges.{bytes_at};
-ghost use Rattle.disk_face.specs.Counts.{Rose};
+ghost use Rattle.disk_face.specs.Counts.{HasCause};
 ghost use Rattle.disk_face.specs.Frames.{Unchanged};
 ghost use Rattle.disk_face.specs.Streams.{Puts};
+ghost use Rattle.costore_top.specs.Layers.{HasCausesAt};
 
 use crate::Stop;
 use disk_face::{Disk, Sink, read};
@@ -19,16 +20,16 @@ pub fn put_bytes<D: Disk, O: Sink>(
     size: u64,
     output: &mut O,
 ) -> Result<(), Stop>
-    requires ready { IsTrue (D.is_ready disk.old) }
+    requires ready { IsTrue (D.state disk.old).is_ready }
     requires range { at + size < 2 ^ 64 }
-    requires within { IsTrue (D.tells disk.old) → at + size ≤ length (D.file disk.old) }
-    ensures put { IsTrue (D.tells disk.old) → IsTrue (O.tells output.old) → Puts (O.given output.old) (O.given output.new) (bytes_at (D.file disk.old) at size) result }
+    requires within { IsTrue (D.state disk.old).tells → at + size ≤ length (D.state disk.old).file }
+    ensures put { IsTrue (D.state disk.old).tells → IsTrue (O.state output.old).tells
+        → Puts (O.state output.old).given (O.state output.new).given
+        (bytes_at (D.state disk.old).file at size) result }
     ensures only { OnErr result ((result ≡ Err Stop.Disk) ⊎ (result ≡ Err Stop.Sink)) }
-    ensures disk_cause { result ≡ Err Stop.Disk → Rose (D.faults disk.old) (D.faults disk.new) }
-    ensures sink_cause { result ≡ Err Stop.Sink → Rose (O.faults output.old) (O.faults output.new) }
-    ensures frame { Unchanged D.tells D.file D.may_leave D.left_since D.turn D.faults D.is_ready D.tells_images D.last_mount disk.old disk.new }
-    ensures sink_later { O.faults output.old ≤ O.faults output.new }
-    ensures sink_told { O.tells output.new ≡ O.tells output.old }
+    ensures causes { HasCausesAt (D.state disk.old) (D.state disk.new) (O.state output.old)
+        (O.state output.new) result }
+    ensures frame { Unchanged (D.state disk.old) (D.state disk.new) }
 {
     let mut buffer = [0u8; PIECE];
     let mut done = 0;
@@ -48,16 +49,16 @@ fn put_piece<D: Disk, O: Sink>(
     buffer: &mut [u8],
     output: &mut O,
 ) -> Result<(), Stop>
-    requires ready { IsTrue (D.is_ready disk.old) }
+    requires ready { IsTrue (D.state disk.old).is_ready }
     requires room { size ≤ length buffer.old }
-    requires within { IsTrue (D.tells disk.old) → at + size ≤ length (D.file disk.old) }
-    ensures put { IsTrue (D.tells disk.old) → IsTrue (O.tells output.old) → Puts (O.given output.old) (O.given output.new) (bytes_at (D.file disk.old) at size) result }
+    requires within { IsTrue (D.state disk.old).tells → at + size ≤ length (D.state disk.old).file }
+    ensures put { IsTrue (D.state disk.old).tells → IsTrue (O.state output.old).tells
+        → Puts (O.state output.old).given (O.state output.new).given
+        (bytes_at (D.state disk.old).file at size) result }
     ensures only { OnErr result ((result ≡ Err Stop.Disk) ⊎ (result ≡ Err Stop.Sink)) }
-    ensures disk_cause { result ≡ Err Stop.Disk → Rose (D.faults disk.old) (D.faults disk.new) }
-    ensures sink_cause { result ≡ Err Stop.Sink → Rose (O.faults output.old) (O.faults output.new) }
-    ensures frame { Unchanged D.tells D.file D.may_leave D.left_since D.turn D.faults D.is_ready D.tells_images D.last_mount disk.old disk.new }
-    ensures sink_later { O.faults output.old ≤ O.faults output.new }
-    ensures sink_told { O.tells output.new ≡ O.tells output.old }
+    ensures causes { HasCausesAt (D.state disk.old) (D.state disk.new) (O.state output.old)
+        (O.state output.new) result }
+    ensures frame { Unchanged (D.state disk.old) (D.state disk.new) }
 {
     let piece = &mut buffer[..size];
     read(disk, at, piece).map_err(|_| Stop::Disk)?;
@@ -66,11 +67,11 @@ fn put_piece<D: Disk, O: Sink>(
 
 /// Puts bytes at once.
 pub fn put_whole<O: Sink>(output: &mut O, bytes: &[u8]) -> Result<(), Stop>
-    ensures put { IsTrue (O.tells output.old) → Puts (O.given output.old) (O.given output.new) bytes.now result }
+    ensures put { IsTrue (O.state output.old).tells
+        → Puts (O.state output.old).given (O.state output.new).given bytes.now result }
     ensures only { OnErr result (result ≡ Err Stop.Sink) }
-    ensures sink_cause { result ≡ Err Stop.Sink → Rose (O.faults output.old) (O.faults output.new) }
-    ensures sink_later { O.faults output.old ≤ O.faults output.new }
-    ensures sink_told { O.tells output.new ≡ O.tells output.old }
+    ensures told { (O.state output.new).tells ≡ (O.state output.old).tells }
+    ensures cause { HasCause (O.state output.old).faults (O.state output.new).faults result }
 {
     output.put(bytes).map_err(|_| Stop::Sink)
 }

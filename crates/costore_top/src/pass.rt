@@ -1,25 +1,16 @@
 //! One pass over the records of a table: what the rules say of them, and where an object stands.
 ghost use Rattle.std.specs.Prelude.{◌≡◌, ◌≢◌, ◌+◌, ◌*◌, ◌^◌, ◌<◌, ◌≤◌, Ok, Err, IfOk, IfErr, IfSome, IsTrue, length};
 ghost use Rattle.byte_ranges.specs.Ranges.{bytes_at};
-ghost use Rattle.disk_face.specs.Counts.{Rose};
-ghost use Rattle.disk_face.specs.Frames.{Unchanged};
+ghost use Rattle.costore_top.specs.Layers.{Looks};
 ghost use Rattle.costore_top.specs.Getting.{StopsAs};
 ghost use Rattle.costore_top.specs.Passes.{judged, noted, nothing_noted, or_first, or_found, passed};
 
 use crate::records::next_record;
 use crate::{Stop, StoreFault};
 use disk_face::Disk;
+use extent_table::Spot;
+use size_class::SIZE_MAX;
 use slot_codec::{Name, RECORD_LEN, Record};
-
-/// The greatest size of an object, in bytes.
-const SIZE_MAX: u64 = 1_048_576;
-
-/// Where an object stands: `size` bytes from `place` of the data part on.
-#[derive(Clone, Copy, Debug, PartialEq, Eq)]
-pub struct Spot {
-    pub place: u64,
-    pub size: u64,
-}
 
 /// What a pass has noted so far: of each rule the first record that breaks it, where the object
 /// that is asked for stands, and the last name.
@@ -43,16 +34,20 @@ pub struct Course {
 
 /// Reads all records of a table, each once.
 pub fn pass_over<D: Disk>(disk: &mut D, course: Course, name: &Name) -> Result<Pass, Stop>
-    requires ready { IsTrue (D.is_ready disk.old) }
+    requires ready { IsTrue (D.state disk.old).is_ready }
     requires few { course.count ≤ 65536 }
     requires low { course.at < 2 ^ 32 }
-    requires within { IsTrue (D.tells disk.old) → course.at + RECORD_LEN * course.count ≤ length (D.file disk.old) }
-    ensures passed { IsTrue (D.tells disk.old) → IfOk result (λ p. passed course.data_len name.now course.count (bytes_at (D.file disk.old) course.at (RECORD_LEN * course.count)) course.at 0 nothing_noted ≡ Ok p) }
-    ensures stopped { IsTrue (D.tells disk.old) → IfErr result (StopsAs (passed course.data_len name.now course.count (bytes_at (D.file disk.old) course.at (RECORD_LEN * course.count)) course.at 0 nothing_noted)) }
+    requires within { IsTrue (D.state disk.old).tells
+        → course.at + RECORD_LEN * course.count ≤ length (D.state disk.old).file }
+    ensures passed { IsTrue (D.state disk.old).tells
+        → IfOk result (λ p. passed course.data_len name.now course.count
+        (bytes_at (D.state disk.old).file course.at (RECORD_LEN * course.count)) course.at 0 nothing_noted
+        ≡ Ok p) }
+    ensures stopped { IsTrue (D.state disk.old).tells
+        → IfErr result (StopsAs (passed course.data_len name.now course.count
+        (bytes_at (D.state disk.old).file course.at (RECORD_LEN * course.count)) course.at 0 nothing_noted)) }
     ensures ranges { IfOk result (λ p. IfSome p.found (λ s. (s.place < 2 ^ 48) × (s.size < 2 ^ 48))) }
-    ensures only { IfErr result (λ why. (why ≢ Stop.Sink) × (why ≢ Stop.NoFile) × (why ≢ Stop.Words)) }
-    ensures cause { result ≡ Err Stop.Disk → Rose (D.faults disk.old) (D.faults disk.new) }
-    ensures frame { Unchanged D.tells D.file D.may_leave D.left_since D.turn D.faults D.is_ready D.tells_images D.last_mount disk.old disk.new }
+    ensures looks { Looks (D.state disk.old) (D.state disk.new) result }
 {
     let mut pass = Pass {
         too_large: None,
@@ -73,7 +68,8 @@ fn note(pass: Pass, n: u64, next: Record, data_len: u64, name: &Name) -> Pass
     requires place { next.place < 2 ^ 48 }
     requires size { next.size < 2 ^ 48 }
     ensures noted { result ≡ noted data_len name.now n pass next }
-    ensures found { IfSome pass.found (λ s. (s.place < 2 ^ 48) × (s.size < 2 ^ 48)) → IfSome result.found (λ s. (s.place < 2 ^ 48) × (s.size < 2 ^ 48)) }
+    ensures found { IfSome pass.found (λ s. (s.place < 2 ^ 48) × (s.size < 2 ^ 48))
+        → IfSome result.found (λ s. (s.place < 2 ^ 48) × (s.size < 2 ^ 48)) }
 {
     let Record {
         name: its_name,

@@ -2,51 +2,48 @@
 ghost use Rattle.std.specs.Prelude.{◌≡◌, ◌≢◌, ◌⊎◌, ◌+◌, ◌*◌, ◌^◌, ◌<◌, ◌≤◌, Ok, Err, IfOk, IfErr, IsTrue, length};
 ghost use Rattle.std.specs.List.{list_all};
 ghost use Rattle.byte_ranges.specs.Ranges.{bytes_at};
-ghost use Rattle.disk_face.specs.Counts.{Rose};
-ghost use Rattle.disk_face.specs.Frames.{Unchanged};
 ghost use Rattle.slot_codec.specs.Spelling.{head_len};
+ghost use Rattle.slot_codec.specs.Readable.{IsSuperBlock};
 ghost use Rattle.slot_codec.specs.Reading.{all_in_range, is_in_range};
-ghost use Rattle.costore_top.specs.Opened.{chosen_of};
+ghost use Rattle.costore_top.specs.Chosen.{chosen_of};
+ghost use Rattle.costore_top.specs.Layers.{Looks};
 ghost use Rattle.costore_top.specs.Getting.{layout_end, settled_table, stop_of, StopsAs};
 
 use crate::{Stop, StoreFault};
 use disk_face::Disk;
+use size_class::CLASSES;
 use slot_codec::{Header, Kind, SuperBlock};
 use slot_pair::{SlotFault, choose, read_chosen_header};
 
-/// How many classes of sizes there are.
-const CLASSES: usize = 21;
-
 /// The slot in use of a file, and its header.
 #[derive(Drop)]
-pub struct Opened {
+pub struct Chosen {
     pub block: SuperBlock,
     pub slot: u8,
     pub header: Header,
 }
 
 /// The settled table of the slot in use.
-pub fn open_settled<D: Disk>(disk: &mut D) -> Result<Opened, Stop>
-    requires ready { IsTrue (D.is_ready disk.old) }
-    ensures opened { IsTrue (D.tells disk.old) → IfOk result (λ o. settled_table (D.file disk.old) ≡ Ok (chosen_of o)) }
-    ensures stopped { IsTrue (D.tells disk.old) → IfErr result (StopsAs (settled_table (D.file disk.old))) }
-    ensures long { IsTrue (D.tells disk.old) → IfOk result (λ o. head_len o.block.names ≤ length (D.file disk.old)) }
-    ensures divisor { IfOk result (λ o. (2 ≤ o.block.k) × (o.block.k ≤ 64)) }
-    ensures low { IfOk result (λ o. 16 ≤ o.block.names) }
-    ensures high { IfOk result (λ o. o.block.names ≤ 65536) }
-    ensures slot { IfOk result (λ o. o.slot ≤ 1) }
-    ensures count { IfOk result (λ o. o.header.count ≤ o.block.names) }
-    ensures ranges { IfOk result (λ o. IsTrue (all_in_range o.header)) }
-    ensures only { IfErr result (λ why. (why ≢ Stop.Sink) × (why ≢ Stop.NoFile) × (why ≢ Stop.Words)) }
-    ensures cause { result ≡ Err Stop.Disk → Rose (D.faults disk.old) (D.faults disk.new) }
-    ensures frame { Unchanged D.tells D.file D.may_leave D.left_since D.turn D.faults D.is_ready D.tells_images D.last_mount disk.old disk.new }
+pub fn open_settled<D: Disk>(disk: &mut D) -> Result<Chosen, Stop>
+    requires ready { IsTrue (D.state disk.old).is_ready }
+    ensures table { IsTrue (D.state disk.old).tells
+        → IfOk result (λ c. settled_table (D.state disk.old).file ≡ Ok (chosen_of c)) }
+    ensures stopped { IsTrue (D.state disk.old).tells
+        → IfErr result (StopsAs (settled_table (D.state disk.old).file)) }
+    ensures long { IsTrue (D.state disk.old).tells
+        → IfOk result (λ c. head_len c.block.names ≤ length (D.state disk.old).file) }
+    ensures block { IfOk result (λ c. IsSuperBlock c.block) }
+    ensures slot { IfOk result (λ c. c.slot ≤ 1) }
+    ensures count { IfOk result (λ c. c.header.count ≤ c.block.names) }
+    ensures ranges { IfOk result (λ c. IsTrue (all_in_range c.header)) }
+    ensures looks { Looks (D.state disk.old) (D.state disk.new) result }
 {
     let found = choose(disk).map_err(stop_of)?;
     let header = read_chosen_header(disk, &found).map_err(stop_of)?;
     if header.kind == Kind::Moving {
         return Err(Stop::NotBuilt);
     }
-    Ok(Opened {
+    Ok(Chosen {
         block: found.block,
         slot: found.slot,
         header,

@@ -1,11 +1,11 @@
 //! The top call: what the program does with its words, its disk and its streams.
-ghost use Rattle.std.specs.Prelude.{◌≡◌, ◌≢◌, ◌⊎◌, ◌↔◌, ◌≤◌, ◌<◌, ◌+◌, ◌++◌, ℕ, List, [], None, Ok, Err, IfErr, IsTrue, IsFalse, length};
+ghost use Rattle.std.specs.Prelude.{◌≡◌, ◌≢◌, ◌⊎◌, ◌↔◌, ◌<◌, ◌≤◌, ℕ, List, None, Ok, Err, OnOk, IsTrue, IsFalse, length};
 ghost use Rattle.disk_face.specs.Counts.{Rose};
 ghost use Rattle.disk_face.specs.Frames.{Untouched};
-ghost use Rattle.disk_face.specs.Streams.{Puts};
-ghost use Rattle.costore_top.specs.Commands.{Formats, FormatsBy, IsMounted};
+ghost use Rattle.costore_top.specs.Commands.{Formats, IsDone, IsMounted};
 ghost use Rattle.costore_top.specs.Words.{Command, Means, MeansNone, format, texts};
-ghost use Rattle.costore_top.specs.Outcomes.{Ends, EndsBy, EndsSo, IsFront, PutsLine, answer_for, bytes_of, line_at, makes, mounted, mounts, status_at};
+ghost use Rattle.costore_top.specs.Outcomes.{Ends, PutsLast, PutsLine, answer_for, line_at, makes, mounts, status_at};
+ghost use Rattle.costore_top.specs.Layers.{Answers, Keeps, KeepsAt, PutsNone};
 ghost use Rattle.costore_top.specs.Faults.{line_of};
 
 use crate::Stop;
@@ -35,37 +35,40 @@ pub fn costore<B: Bay, I: Source, O: Sink>(
     input: &mut I,
     output: &mut O,
 ) -> Outcome
-    requires { B.last_mount bay.old ≡ None }
+    requires { (B.state bay.old).last_mount ≡ None }
 
     // The words decide first, and where they are no command nothing is done.
     ensures words { (result.status ≡ 1) ↔ MeansNone (texts words.now) }
     ensures nothing_done { MeansNone (texts words.now) → bay.new ≡ bay.old }
-    ensures unmounted { (c : Command) → Means (texts words.now) c → IsFalse (mounts c) → bay.new ≡ bay.old }
+    ensures unmounted { (c : Command) → Means (texts words.now) c → IsFalse (mounts c)
+        → (bay.new ≡ bay.old) × (result.status ≢ 3) }
 
     // Then the mount decides: each status but the disk's own comes of the file that was asked for.
-    ensures mounted { (c : Command) → Means (texts words.now) c → IsTrue (mounts c) → (result.status ≡ 7) ⊎ IsMounted c (B.last_mount bay.new) }
-    ensures no_file { (c : Command) → Means (texts words.now) c → IsTrue (mounts c) → ((result.status ≡ 3) ↔ (B.last_mount bay.new ≡ mounted c Mounted.Absent)) }
-    ensures found { (c : Command) → Means (texts words.now) c → IsFalse (mounts c) → result.status ≢ 3 }
+    ensures mounted { (c : Command) → Means (texts words.now) c → IsTrue (mounts c)
+        → IsMounted c (B.state bay.new).last_mount (result.status ≡ 7) (result.status ≡ 3) }
 
     // Then the bytes of the file decide the status, and what is put.
-    ensures status { (c : Command) → Means (texts words.now) c → (IsTrue (mounts c) → IsTrue (B.tells bay.old)) → EndsSo (answer_for c (B.file bay.old)) result.status }
-    ensures ends { (c : Command) → Means (texts words.now) c → (IsTrue (mounts c) → IsTrue (B.tells bay.old)) → IsTrue (O.tells output.old)
-        → Ends (answer_for c (B.file bay.old)) result.status (O.given output.old) (O.given output.new) (Rose (O.faults output.old) (O.faults output.new)) }
-    ensures line_alone { IsTrue (O.tells output.old) → (result.status ≡ 0) ⊎ (result.status ≡ 7) ⊎ (result.status ≡ 9) ⊎ PutsLine result.status (O.given output.old) (O.given output.new) }
+    ensures ends { (c : Command) → Means (texts words.now) c
+        → (IsTrue (mounts c) → IsTrue (B.state bay.old).tells)
+        → Ends (answer_for c (B.state bay.old).file) result.status (O.state output.old) (O.state output.new) }
+    ensures line_alone { IsTrue (O.state output.old).tells
+        → (result.status ≡ 0) ⊎ (result.status ≡ 7) ⊎ (result.status ≡ 9)
+        ⊎ PutsLine result.status (O.state output.old) (O.state output.new) }
 
-    // The devices' own faults.
-    ensures disk_cause { result.status ≡ 7 → Rose (B.faults bay.old) (B.faults bay.new) }
-    ensures sink_cause { result.status ≡ 9 → Rose (O.faults output.old) (O.faults output.new) }
+    // `format` alone makes changing calls, and only on an empty file. It tells that a file is formatted
+    // only once that file is safe: where the disk failed, the fault line is all that is put.
+    ensures frame { ((c : Command) → Means (texts words.now) c → IsFalse (makes c))
+        → Untouched (B.state bay.old) (B.state bay.new) }
+    ensures formats { (file : List ℕ) (k names : ℕ) → Means (texts words.now) (format file k names)
+        → IsTrue (B.state bay.old).tells → length (B.state bay.old).file ≡ 0
+        → Formats k names (B.state bay.old) (B.state bay.new) ((result.status ≡ 0) ⊎ (result.status ≡ 9)) }
+    ensures silent { (c : Command) → Means (texts words.now) c → IsTrue (makes c)
+        → IsTrue (O.state output.old).tells → result.status ≡ 7
+        → PutsLine 7 (O.state output.old) (O.state output.new) }
 
-    // `format` alone makes changing calls, and only on an empty file.
-    ensures frame { ((c : Command) → Means (texts words.now) c → IsFalse (makes c)) → Untouched B.tells B.file B.may_leave B.left_since B.turn B.faults B.tells_images bay.old bay.new }
-    ensures taken { IsTrue (B.tells bay.old) → 0 < length (B.file bay.old) → Untouched B.tells B.file B.may_leave B.left_since B.turn B.faults B.tells_images bay.old bay.new }
-    ensures formats { (file : List ℕ) (k names : ℕ) → Means (texts words.now) (format file k names) → IsTrue (B.tells bay.old) → FormatsBy result.status B.file B.may_leave B.left_since B.turn bay.old bay.new k names }
-
-    // What every call keeps.
-    ensures told { (B.tells bay.new ≡ B.tells bay.old) × (B.tells_images bay.new ≡ B.tells_images bay.old) × (O.tells output.new ≡ O.tells output.old) }
-    ensures later { (B.faults bay.old ≤ B.faults bay.new) × (O.faults output.old ≤ O.faults output.new) }
-    ensures few { B.turn bay.new ≤ B.turn bay.old + 10 }
+    // What every call keeps. The devices' own faults have their causes.
+    ensures keeps { Keeps (B.state bay.old) (B.state bay.new) (O.state output.old) (O.state output.new)
+        (result.status ≡ 7) (result.status ≡ 9) (result.status ≡ 0) }
     ensures input { input.new ≡ input.old }
     ensures numbers { (result.done ≡ 0) × (result.kept_done ≡ 0) × (result.kept_turn ≡ 0) }
 {
@@ -76,23 +79,26 @@ pub fn costore<B: Bay, I: Source, O: Sink>(
 
 /// Does what the words ask, but for the fault line.
 fn do_words<B: Bay, O: Sink>(words: &[&str], bay: &mut B, output: &mut O) -> Result<(), Stop>
-    requires { B.last_mount bay.old ≡ None }
+    requires { (B.state bay.old).last_mount ≡ None }
     ensures words { (result ≡ Err Stop.Words) ↔ MeansNone (texts words.now) }
     ensures nothing_done { MeansNone (texts words.now) → bay.new ≡ bay.old }
-    ensures unmounted { (c : Command) → Means (texts words.now) c → IsFalse (mounts c) → (bay.new ≡ bay.old) × (result ≢ Err Stop.NoFile) }
-    ensures mounted { (c : Command) → Means (texts words.now) c → IsTrue (mounts c) → (result ≡ Err Stop.Disk) ⊎ IsMounted c (B.last_mount bay.new) }
-    ensures no_file { (c : Command) → Means (texts words.now) c → IsTrue (mounts c) → ((result ≡ Err Stop.NoFile) ↔ (B.last_mount bay.new ≡ mounted c Mounted.Absent)) }
-    ensures ends { (c : Command) → Means (texts words.now) c → (IsTrue (mounts c) → IsTrue (B.tells bay.old)) → EndsBy (answer_for c (B.file bay.old)) result }
-    ensures put { (c : Command) → Means (texts words.now) c → (IsTrue (mounts c) → IsTrue (B.tells bay.old)) → IsTrue (O.tells output.old) → Puts (O.given output.old) (O.given output.new) (bytes_of (answer_for c (B.file bay.old))) result }
-    ensures nothing_put { IfErr result (λ why. (why ≡ Stop.Disk) ⊎ (why ≡ Stop.Sink) ⊎ (output.new ≡ output.old)) }
-    ensures disk_cause { result ≡ Err Stop.Disk → Rose (B.faults bay.old) (B.faults bay.new) }
-    ensures sink_cause { result ≡ Err Stop.Sink → Rose (O.faults output.old) (O.faults output.new) }
-    ensures frame { ((c : Command) → Means (texts words.now) c → IsFalse (makes c)) → Untouched B.tells B.file B.may_leave B.left_since B.turn B.faults B.tells_images bay.old bay.new }
-    ensures taken { IsTrue (B.tells bay.old) → 0 < length (B.file bay.old) → Untouched B.tells B.file B.may_leave B.left_since B.turn B.faults B.tells_images bay.old bay.new }
-    ensures formats { (file : List ℕ) (k names : ℕ) → Means (texts words.now) (format file k names) → IsTrue (B.tells bay.old) → Formats B.file B.may_leave B.left_since B.turn bay.old bay.new k names result }
-    ensures told { (B.tells bay.new ≡ B.tells bay.old) × (B.tells_images bay.new ≡ B.tells_images bay.old) × (O.tells output.new ≡ O.tells output.old) }
-    ensures later { (B.faults bay.old ≤ B.faults bay.new) × (O.faults output.old ≤ O.faults output.new) }
-    ensures few { B.turn bay.new ≤ B.turn bay.old + 10 }
+    ensures unmounted { (c : Command) → Means (texts words.now) c → IsFalse (mounts c)
+        → (bay.new ≡ bay.old) × (result ≢ Err Stop.NoFile) }
+    ensures mounted { (c : Command) → Means (texts words.now) c → IsTrue (mounts c)
+        → IsMounted c (B.state bay.new).last_mount (result ≡ Err Stop.Disk) (result ≡ Err Stop.NoFile) }
+    ensures answers { (c : Command) → Means (texts words.now) c
+        → (IsTrue (mounts c) → IsTrue (B.state bay.old).tells)
+        → Answers (answer_for c (B.state bay.old).file) (O.state output.old) (O.state output.new) result }
+    ensures nothing_put { PutsNone output.old output.new result }
+    ensures frame { ((c : Command) → Means (texts words.now) c → IsFalse (makes c))
+        → Untouched (B.state bay.old) (B.state bay.new) }
+    ensures formats { (file : List ℕ) (k names : ℕ) → Means (texts words.now) (format file k names)
+        → IsTrue (B.state bay.old).tells → length (B.state bay.old).file ≡ 0
+        → Formats k names (B.state bay.old) (B.state bay.new) (IsDone result) }
+    ensures silent { (c : Command) → Means (texts words.now) c → IsTrue (makes c) → result ≡ Err Stop.Disk
+        → output.new ≡ output.old }
+    ensures keeps { KeepsAt (B.state bay.old) (B.state bay.new) (O.state output.old) (O.state output.new)
+        result }
 {
     match read_words(words) {
         None => Err(Stop::Words),
@@ -104,10 +110,12 @@ fn do_words<B: Bay, O: Sink>(words: &[&str], bay: &mut B, output: &mut O) -> Res
 /// status stays.
 fn finish<O: Sink>(end: Result<(), Stop>, output: &mut O) -> Outcome
     ensures status { result ≡ record { status = status_at end; done = 0; kept_done = 0; kept_turn = 0 } }
-    ensures line { IsTrue (O.tells output.old) → IsFront (O.given output.old) (O.given output.new) (line_at end) }
-    ensures all { IsTrue (O.tells output.old) → (O.given output.new ≡ O.given output.old ++ line_at end) ⊎ Rose (O.faults output.old) (O.faults output.new) }
-    ensures sink_later { O.faults output.old ≤ O.faults output.new }
-    ensures sink_told { O.tells output.new ≡ O.tells output.old }
+    ensures line { IsTrue (O.state output.old).tells
+        → PutsLast (O.state output.old).given (O.state output.new).given (line_at end)
+        (Rose (O.state output.old).faults (O.state output.new).faults) }
+    ensures told { (O.state output.new).tells ≡ (O.state output.old).tells }
+    ensures later { (O.state output.old).faults ≤ (O.state output.new).faults }
+    ensures calm { OnOk end ((O.state output.new).faults ≡ (O.state output.old).faults) }
 {
     if let Err(why) = end {
         tell(why, output);
@@ -122,10 +130,11 @@ fn finish<O: Sink>(end: Result<(), Stop>, output: &mut O) -> Outcome
 
 /// Puts the fault line of a reason to stop.
 fn tell<O: Sink>(why: Stop, output: &mut O)
-    ensures line { IsTrue (O.tells output.old) → IsFront (O.given output.old) (O.given output.new) (line_of why) }
-    ensures all { IsTrue (O.tells output.old) → (O.given output.new ≡ O.given output.old ++ line_of why) ⊎ Rose (O.faults output.old) (O.faults output.new) }
-    ensures sink_later { O.faults output.old ≤ O.faults output.new }
-    ensures sink_told { O.tells output.new ≡ O.tells output.old }
+    ensures line { IsTrue (O.state output.old).tells
+        → PutsLast (O.state output.old).given (O.state output.new).given (line_of why)
+        (Rose (O.state output.old).faults (O.state output.new).faults) }
+    ensures told { (O.state output.new).tells ≡ (O.state output.old).tells }
+    ensures later { (O.state output.old).faults ≤ (O.state output.new).faults }
 {
     let line = fault_line(why);
     let _ = output.put(line.as_slice());

@@ -23,7 +23,8 @@ pub enum Asked<'a> {
 
 /// What the words ask for, or none where they are no command.
 pub fn read_words<'a>(words: &[&'a str]) -> Option<Asked<'a>>
-    ensures { MatchOption result (MeansNone (texts words.now)) (λ asked. Means (texts words.now) (command_of asked)) }
+    ensures { MatchOption result (MeansNone (texts words.now))
+        (λ asked. Means (texts words.now) (command_of asked)) }
 {
     match words {
         [command] => one_word(command),
@@ -36,7 +37,8 @@ pub fn read_words<'a>(words: &[&'a str]) -> Option<Asked<'a>>
 
 /// A command that names no file.
 fn one_word<'a>(command: &str) -> Option<Asked<'a>>
-    ensures { MatchOption result (MeansNone (command.now ∷ [])) (λ asked. Means (command.now ∷ []) (command_of asked)) }
+    ensures { MatchOption result (MeansNone (command.now ∷ []))
+        (λ asked. Means (command.now ∷ []) (command_of asked)) }
 {
     if says(command, "--help") {
         Some(Asked::Help)
@@ -49,7 +51,8 @@ fn one_word<'a>(command: &str) -> Option<Asked<'a>>
 
 /// A command of a file alone.
 fn two_words<'a>(command: &str, file: &'a str) -> Option<Asked<'a>>
-    ensures { MatchOption result (MeansNone (command.now ∷ file.now ∷ [])) (λ asked. Means (command.now ∷ file.now ∷ []) (command_of asked)) }
+    ensures { MatchOption result (MeansNone (command.now ∷ file.now ∷ []))
+        (λ asked. Means (command.now ∷ file.now ∷ []) (command_of asked)) }
 {
     if file.is_empty() {
         None
@@ -66,7 +69,8 @@ fn two_words<'a>(command: &str, file: &'a str) -> Option<Asked<'a>>
 
 /// `get FILE NAME`.
 fn three_words<'a>(command: &str, file: &'a str, name: &str) -> Option<Asked<'a>>
-    ensures { MatchOption result (MeansNone (command.now ∷ file.now ∷ name.now ∷ [])) (λ asked. Means (command.now ∷ file.now ∷ name.now ∷ []) (command_of asked)) }
+    ensures { MatchOption result (MeansNone (command.now ∷ file.now ∷ name.now ∷ []))
+        (λ asked. Means (command.now ∷ file.now ∷ name.now ∷ []) (command_of asked)) }
 {
     if !says(command, "get") || file.is_empty() {
         return None;
@@ -77,7 +81,8 @@ fn three_words<'a>(command: &str, file: &'a str, name: &str) -> Option<Asked<'a>
 
 /// A command of a file and two numbers.
 fn four_words<'a>(command: &str, file: &'a str, first: &str, second: &str) -> Option<Asked<'a>>
-    ensures { MatchOption result (MeansNone (command.now ∷ file.now ∷ first.now ∷ second.now ∷ [])) (λ asked. Means (command.now ∷ file.now ∷ first.now ∷ second.now ∷ []) (command_of asked)) }
+    ensures { MatchOption result (MeansNone (command.now ∷ file.now ∷ first.now ∷ second.now ∷ []))
+        (λ asked. Means (command.now ∷ file.now ∷ first.now ∷ second.now ∷ []) (command_of asked)) }
 {
     if file.is_empty() {
         None
@@ -97,7 +102,8 @@ fn four_words<'a>(command: &str, file: &'a str, first: &str, second: &str) -> Op
 /// The number from `low` to `high` that a word spells: decimal digits without a sign or a leading
 /// zero.
 fn number(word: &str, low: u64, high: u64) -> Option<u64>
-    ensures { MatchOption result ((n : ℕ) → low ≤ n → n ≤ high → word.now ≡ decimal n → ⊥) (λ n. (low ≤ n) × (n ≤ high) × (word.now ≡ decimal n)) }
+    ensures { MatchOption result ((n : ℕ) → low ≤ n → n ≤ high → word.now ≡ decimal n → ⊥)
+        (λ n. (low ≤ n) × (n ≤ high) × (word.now ≡ decimal n)) }
 {
     let Ok(n) = word.parse::<u64>() else {
         return None;

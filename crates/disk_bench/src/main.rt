@@ -49,8 +49,8 @@ fn failed(_: DiskFault) -> io::Error {
 }
 
 fn sizes<D: Disk>(rt: &HostRuntime, disk: &mut D, count: Option<u64>) -> io::Result<()>
-    requires ready { IsTrue (D.is_ready disk.old) }
-    requires untold { IsFalse (D.tells disk.old) }
+    requires ready { IsTrue (D.state disk.old).is_ready }
+    requires untold { IsFalse (D.state disk.old).tells }
 {
     let mut small = vec![in rt.alloc(); 7u8; 4096]?;
     let mut large = vec![in rt.alloc(); 7u8; 65536]?;
@@ -66,10 +66,10 @@ fn one_size<D: Disk>(
     piece: &mut [u8],
     count: Option<u64>,
 ) -> io::Result<()>
-    requires ready { IsTrue (D.is_ready disk.old) }
-    requires untold { IsFalse (D.tells disk.old) }
-    ensures ready { IsTrue (D.is_ready disk.new) }
-    ensures untold { IsFalse (D.tells disk.new) }
+    requires ready { IsTrue (D.state disk.old).is_ready }
+    requires untold { IsFalse (D.state disk.old).tells }
+    ensures ready { IsTrue (D.state disk.new).is_ready }
+    ensures untold { IsFalse (D.state disk.new).tells }
 {
     let pieces = count.unwrap_or(FEW);
     disk.set_len(pieces.saturating_mul(piece.len() as u64))

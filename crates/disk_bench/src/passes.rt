@@ -5,10 +5,10 @@ use disk_face::{Disk, DiskFault};
 
 /// Writes a piece so many times, one after another from position 0.
 pub fn writes<D: Disk>(disk: &mut D, piece: &[u8], count: u64) -> Result<(), DiskFault>
-    requires ready { IsTrue (D.is_ready disk.old) }
-    requires untold { IsFalse (D.tells disk.old) }
-    ensures ready { IsTrue (D.is_ready disk.new) }
-    ensures untold { IsFalse (D.tells disk.new) }
+    requires ready { IsTrue (D.state disk.old).is_ready }
+    requires untold { IsFalse (D.state disk.old).tells }
+    ensures ready { IsTrue (D.state disk.new).is_ready }
+    ensures untold { IsFalse (D.state disk.new).tells }
 {
     let mut pos = 0u64;
     'pieces: for _ in 0..count {
@@ -20,10 +20,10 @@ pub fn writes<D: Disk>(disk: &mut D, piece: &[u8], count: u64) -> Result<(), Dis
 
 /// Reads a piece so many times, one after another from position 0.
 pub fn reads<D: Disk>(disk: &mut D, piece: &mut [u8], count: u64) -> Result<(), DiskFault>
-    requires ready { IsTrue (D.is_ready disk.old) }
-    requires untold { IsFalse (D.tells disk.old) }
-    ensures ready { IsTrue (D.is_ready disk.new) }
-    ensures untold { IsFalse (D.tells disk.new) }
+    requires ready { IsTrue (D.state disk.old).is_ready }
+    requires untold { IsFalse (D.state disk.old).tells }
+    ensures ready { IsTrue (D.state disk.new).is_ready }
+    ensures untold { IsFalse (D.state disk.new).tells }
 {
     let mut pos = 0u64;
     'pieces: for _ in 0..count {
@@ -35,10 +35,10 @@ pub fn reads<D: Disk>(disk: &mut D, piece: &mut [u8], count: u64) -> Result<(), 
 
 /// Writes a piece at position 0 and syncs, so many times.
 pub fn syncs<D: Disk>(disk: &mut D, piece: &[u8], count: u64) -> Result<(), DiskFault>
-    requires ready { IsTrue (D.is_ready disk.old) }
-    requires untold { IsFalse (D.tells disk.old) }
-    ensures ready { IsTrue (D.is_ready disk.new) }
-    ensures untold { IsFalse (D.tells disk.new) }
+    requires ready { IsTrue (D.state disk.old).is_ready }
+    requires untold { IsFalse (D.state disk.old).tells }
+    ensures ready { IsTrue (D.state disk.new).is_ready }
+    ensures untold { IsFalse (D.state disk.new).tells }
 {
     'pieces: for _ in 0..count {
         disk.write_at(0, piece)?;

@@ -14,17 +14,18 @@ abbrev pub in_range : ℕ → ℕ × ℕ → Bool
 in_range i range = nat_le range.0 i && nat_lt i (range.0 + range.1)
 
 -- a crash may leave any byte at a position: it was written since, or lay outside the file at some time since
-abbrev pub is_loose : Unsynced → ℕ → Bool
-is_loose u i = list_any (in_range i) u.ranges || list_any (λ n. nat_le n i) u.lengths
+abbrev pub is_unsynced : Unsynced → ℕ → Bool
+is_unsynced u i = list_any (in_range i) u.ranges || list_any (λ n. nat_le n i) u.lengths
 
 -- a crash may leave these bytes
 pub record IsImage (u : Unsynced) (image : List ℕ) : Type 0 where
   pub held_length : Contains u.lengths (length image)
-  pub bytes : (i : ℕ) → i < length image → IsTrue (is_loose u i) ⊎ (slice_index image i ≡ slice_index u.synced i)
+  pub bytes : (i : ℕ) → i < length image
+      → IsTrue (is_unsynced u i) ⊎ (slice_index image i ≡ slice_index u.synced i)
 
 -- after a sync of these bytes
-abbrev pub settled : List ℕ → Unsynced
-settled bytes = record { synced = bytes; lengths = length bytes ∷ []; ranges = [] }
+abbrev pub after_sync : List ℕ → Unsynced
+after_sync bytes = record { synced = bytes; lengths = length bytes ∷ []; ranges = [] }
 
 -- once a range is written, or is being written
 abbrev pub with_range : Unsynced → ℕ → ℕ → Unsynced

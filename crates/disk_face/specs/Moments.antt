@@ -1,5 +1,6 @@
 -- What a crash may leave: images of a file, now and since a turn.
 use Rattle.std.specs.Prelude.{◌≡◌, ◌⊎◌, ℕ, ◌<◌, ◌≤◌, List, length, slice_index}
+use Rattle.disk_face.specs.States.{State}
 
 -- an image after a change of the length to n, from an image before: the length is one of the two,
 -- and what lies below n and below both ends is the same
@@ -20,16 +21,22 @@ abbrev pub NoMore : (List ℕ → Type 0) → (List ℕ → Type 0) → Type 0
 NoMore old new = (image : List ℕ) → new image → old image
 
 -- Time goes on: an image left since an earlier turn had been left before, or may be left now.
-pub record Elapses (before now : ℕ) (past since : ℕ → List ℕ → Type 0) (may_leave : List ℕ → Type 0) : Type 0 where
-  pub later : before ≤ now
-  pub each : (t : ℕ) (image : List ℕ) → t ≤ before → since t image → past t image ⊎ may_leave image
-  pub keeps : (t : ℕ) (image : List ℕ) → t ≤ before → past t image → since t image
+pub record Elapses (old new : State) (may_leave : List ℕ → Type 0) : Type 0 where
+  pub later : old.turn ≤ new.turn
+  pub each : (t : ℕ) (image : List ℕ) → t ≤ old.turn → new.left_since t image
+      → old.left_since t image ⊎ may_leave image
+  pub keeps : (t : ℕ) (image : List ℕ) → t ≤ old.turn → old.left_since t image → new.left_since t image
 
--- Between two states of a disk no image was left but such that had been left before, or have P.
-pub record Leaves {D : Type 0} (turn : D → ℕ) (left_since : D → ℕ → List ℕ → Type 0) (old new : D) (P : List ℕ → Type 0) : Type 0 where
-  pub later : turn old ≤ turn new
-  pub each : (t : ℕ) (image : List ℕ) → t ≤ turn old → left_since new t image → left_since old t image ⊎ P image
+-- Between two states no image was left but such that had been left before, or have P.
+pub record Leaves (old new : State) (P : List ℕ → Type 0) : Type 0 where
+  pub later : old.turn ≤ new.turn
+  pub each : (t : ℕ) (image : List ℕ) → t ≤ old.turn → new.left_since t image
+      → old.left_since t image ⊎ P image
 
 -- each image left since a turn has P
-abbrev pub LeftOnly : {D : Type 0} → (D → ℕ → List ℕ → Type 0) → D → ℕ → (List ℕ → Type 0) → Type 0
-LeftOnly left_since disk t P = (image : List ℕ) → left_since disk t image → P image
+abbrev pub LeftOnly : State → ℕ → (List ℕ → Type 0) → Type 0
+LeftOnly s t P = (image : List ℕ) → s.left_since t image → P image
+
+-- a crash leaves what reads give
+abbrev pub Rests : State → Type 0
+Rests s = Only s.file s.may_leave

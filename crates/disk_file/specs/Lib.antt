@@ -1,2 +1,3 @@
+pub mod Bays
 pub mod Mounted
 pub mod Streams

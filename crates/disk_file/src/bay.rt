@@ -2,13 +2,13 @@
 ghost use Rattle.std.specs.Prelude.{◌≡◌, ◌≤◌, None, is_some, true, false, refl, [], IfOk, IsTrue, IsFalse};
 ghost use Rattle.disk_face.specs.Counts.{counted};
 ghost use Rattle.disk_face.specs.Mounts.{has_file, is_mounted};
-ghost use Rattle.disk_file.specs.Mounted.{mount_of};
+ghost use Rattle.disk_file.specs.Mounted.{mount_of, untold};
 
+use crate::mounts::find_or_make;
 use crate::positions::{SystemFile, fill, write_whole};
 use disk_face::{Bay, Disk, DiskFault, Mounted};
 use std::alloc::Global;
-use std::fs::{Files, OpenFile, OpenOptions};
-use std::io::{self, ErrorKind};
+use std::fs::{Files, OpenFile};
 use std::os::unix::fs::FileExt;
 
 /// A mount that was answered.
@@ -29,13 +29,17 @@ pub struct FileBay<'a, R: Files> {
     last: Option<Last>,
     turns: u64,
     faults: u64,
+    has_lost: bool,
     ghost open_if_mounted: { is_some file ≡ is_mounted (mount_of last) },
 }
 
 impl<'a, R: Files> FileBay<'a, R> {
     /// A bay that has mounted nothing.
     pub fn new(rt: &'a R, alloc: Global) -> FileBay<'a, R>
-        ensures { mount_of result.last ≡ None }
+        ensures none { mount_of result.last ≡ None }
+        ensures turns { result.turns ≡ 0 }
+        ensures faults { result.faults ≡ 0 }
+        ensures whole { IsFalse result.has_lost }
     {
         FileBay {
             rt,
@@ -44,6 +48,7 @@ impl<'a, R: Files> FileBay<'a, R> {
             last: None,
             turns: 0,
             faults: 0,
+            has_lost: false,
         }
     }
 }
@@ -55,6 +60,7 @@ impl<R: Files> FileBay<'_, R> {
         ensures later { self.old.faults ≤ self.new.faults }
         ensures turns { self.new.turns ≡ self.old.turns }
         ensures last { self.new.last ≡ self.old.last }
+        ensures lost { self.new.has_lost ≡ self.old.has_lost }
     {
         self.faults = self.faults.saturating_add(1);
         DiskFault
@@ -66,6 +72,7 @@ impl<R: Files> FileBay<'_, R> {
         ensures later { self.old.turns ≤ self.new.turns }
         ensures faults { self.new.faults ≡ self.old.faults }
         ensures last { self.new.last ≡ self.old.last }
+        ensures lost { self.new.has_lost ≡ self.old.has_lost }
     {
         self.turns = self.turns.saturating_add(1);
     }
@@ -85,31 +92,23 @@ impl<R: Files> Disk for FileBay<'_, R>
 where
     R::File: FileExt,
 {
-    ghost tells = { λ _. false };
+    ghost use Rattle.std.specs.Prelude.{◌↔◌, IsErr, OnOk};
+    ghost use Rattle.std.proofs.Common.{arith};
+    ghost use Rattle.disk_face.specs.Counts.{HasCause};
+    ghost use Rattle.disk_face.specs.Frames.{AfterSync};
+    ghost use Rattle.disk_face.specs.Moments.{Only};
+    ghost use Rattle.std.proofs.lemmas.Bool.{false≢true};
+    ghost use Rattle.disk_file.specs.Bays.{bay_state, has_lost};
 
-    ghost file = { λ _. [] };
+    ghost state = { bay_state };
 
-    ghost tells_images = { λ _. false };
-
-    ghost may_leave = { λ _ _. ⊥ };
-
-    ghost left_since = { λ _ _ _. ⊥ };
-
-    ghost turn = { λ bay. bay.turns };
-
-    ghost faults = { λ bay. bay.faults };
-
-    ghost is_ready = { λ bay. is_mounted (mount_of bay.last) };
-
-    ghost last_mount = { λ bay. mount_of bay.last };
-
-    ghost has_content = { λ bay told. cc };
-
-    ghost both_told = { λ bay told. told };
-
-    ghost counts_now = { λ bay t image low is. is };
-
-    ghost only_now = { λ bay image low is. is };
+    ghost lawful = { λ bay. record {
+      has_content = λ told. absurd (false≢true told);
+      both_told = λ told. told;
+      counts_now = λ t image t_le is. is;
+      only_now = λ image below since. since;
+      turn_fits = omega arith;
+    } };
 
     fn len(&mut self) -> Result<u64, DiskFault> {
         match self.open().metadata() {
@@ -141,13 +140,22 @@ where
         }
     }
 
-    /// Reaches the device, for a change of the length too.
-    fn sync(&mut self) -> Result<(), DiskFault> {
+    /// Reaches the device, for a change of the length too. After a sync that failed each later one
+    /// fails: the system may have let go of what it could not write, and would say that all is well.
+    fn sync(&mut self) -> Result<(), DiskFault>
+        requires { IsTrue (bay_state self.old).is_ready }
+        ensures rests { OnOk result (Only (bay_state self.old).file (bay_state self.new).may_leave) }
+        ensures frame { AfterSync (bay_state self.old) (bay_state self.new) }
+        ensures cause { HasCause (bay_state self.old).faults (bay_state self.new).faults result }
+        ensures lost { IsTrue (has_lost self.old) → IsErr result }
+        ensures loses { IsErr result ↔ IsTrue (has_lost self.new) }
+    {
         self.turn();
-        match self.open().sync_all() {
-            Ok(()) => Ok(()),
-            Err(_) => Err(self.fail()),
+        if self.has_lost || self.open().sync_all().is_err() {
+            self.has_lost = true;
+            return Err(self.fail());
         }
+        Ok(())
     }
 
     fn turns(&self) -> u64 {
@@ -159,9 +167,7 @@ impl<R: Files> Bay for FileBay<'_, R>
 where
     R::File: FileExt,
 {
-    ghost tells_names = { λ _. false };
-
-    ghost is_there = { λ _ _. false };
+    ghost names = { λ _. record { tells = false; is_there = λ _. false } };
 
     ghost ready_if_mounted = { λ _. refl };
 
@@ -180,27 +186,6 @@ where
                 Ok(answer)
             }
             Err(_) => Err(self.fail()),
-        }
-    }
-}
-
-/// The file of a name, where it is there or was made, and which of these. It is never cut.
-fn find_or_make<R: Files>(rt: &R, name: &str, make: bool) -> io::Result<(Option<R::File>, Mounted)>
-    ensures open { IfOk result (λ r. is_some r.0 ≡ has_file r.1) }
-    ensures made { IfOk result (λ r. r.1 ≡ Mounted.Made → IsTrue make) }
-    ensures absent { IfOk result (λ r. r.1 ≡ Mounted.Absent → IsFalse make) }
-{
-    match OpenOptions::new().read(true).write(true).open(rt, name) {
-        Ok(file) => Ok((Some(file), Mounted::There)),
-        Err(error) if error.kind() != ErrorKind::NotFound => Err(error),
-        Err(_) if !make => Ok((None, Mounted::Absent)),
-        Err(_) => {
-            let file = OpenOptions::new()
-                .read(true)
-                .write(true)
-                .create_new(true)
-                .open(rt, name)?;
-            Ok((Some(file), Mounted::Made))
         }
     }
 }

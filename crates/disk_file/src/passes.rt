@@ -24,7 +24,8 @@ pub fn read_once<I: Read>(reader: &mut I, out: &mut [u8]) -> io::Result<usize>
 /// takes none of what is left, ends it with false, where a front of the bytes was written.
 pub fn put_all<O: Write>(writer: &mut O, bytes: &[u8]) -> bool
     ensures all { IsTrue result → Appends (O.contents writer.old) (O.contents writer.new) bytes.now }
-    ensures front { (n : ℕ) × (n ≤ length bytes.now) × Appends (O.contents writer.old) (O.contents writer.new) (take n bytes.now) }
+    ensures front { (n : ℕ) × (n ≤ length bytes.now)
+        × Appends (O.contents writer.old) (O.contents writer.new) (take n bytes.now) }
 {
     let mut done = 0;
     'calls: for _ in 0..u64::MAX {

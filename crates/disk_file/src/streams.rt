@@ -28,21 +28,18 @@ impl<I: Read> StdSource<I> {
 }
 
 impl<I: Read> Source for StdSource<I> {
-    ghost use Rattle.std.specs.Prelude.{false, []};
-    ghost use Rattle.disk_file.specs.Streams.{reader_of, source_faults};
+    ghost use Rattle.disk_file.specs.Streams.{reader_of, source_faults, source_state};
 
-    ghost tells = { λ _. false };
-
-    ghost left = { λ _. [] };
-
-    ghost faults = { λ source. source.faults };
+    ghost state = { source_state };
 
     /// Takes what one read gives.
     fn take(&mut self, out: &mut [u8]) -> Result<usize, SourceFault>
         ensures bound { IfOk result (λ n. n ≤ length out.old) }
-        ensures taken { ReadConsumes (I.remaining (reader_of self.old)) (I.remaining (reader_of self.new)) result out.new }
+        ensures taken { ReadConsumes (I.remaining (reader_of self.old)) (I.remaining (reader_of self.new))
+            result out.new }
         ensures cause { HasCause (source_faults self.old) (source_faults self.new) result }
-        ensures faults { source_faults self.new ≡ (if is_ok result then source_faults self.old else counted (source_faults self.old) 1) }
+        ensures faults { source_faults self.new
+            ≡ (if is_ok result then source_faults self.old else counted (source_faults self.old) 1) }
     {
         match read_once(&mut self.reader, out) {
             Ok(n) => Ok(n),
@@ -75,21 +72,19 @@ impl<O: Write> StdSink<O> {
 }
 
 impl<O: Write> Sink for StdSink<O> {
-    ghost use Rattle.std.specs.Prelude.{false, []};
-    ghost use Rattle.disk_file.specs.Streams.{writer_of, sink_faults};
+    ghost use Rattle.disk_file.specs.Streams.{writer_of, sink_faults, sink_state};
 
-    ghost tells = { λ _. false };
-
-    ghost given = { λ _. [] };
-
-    ghost faults = { λ sink. sink.faults };
+    ghost state = { sink_state };
 
     /// Writes all the bytes, or at a fault a front of them.
     fn put(&mut self, bytes: &[u8]) -> Result<(), SinkFault>
-        ensures all { OnOk result (Appends (O.contents (writer_of self.old)) (O.contents (writer_of self.new)) bytes.now) }
-        ensures front { (n : ℕ) × (n ≤ length bytes.now) × Appends (O.contents (writer_of self.old)) (O.contents (writer_of self.new)) (take n bytes.now) }
+        ensures all { OnOk result (Appends (O.contents (writer_of self.old)) (O.contents (writer_of self.new))
+            bytes.now) }
+        ensures front { (n : ℕ) × (n ≤ length bytes.now)
+            × Appends (O.contents (writer_of self.old)) (O.contents (writer_of self.new)) (take n bytes.now) }
         ensures cause { HasCause (sink_faults self.old) (sink_faults self.new) result }
-        ensures faults { sink_faults self.new ≡ (if is_ok result then sink_faults self.old else counted (sink_faults self.old) 1) }
+        ensures faults { sink_faults self.new
+            ≡ (if is_ok result then sink_faults self.old else counted (sink_faults self.old) 1) }
     {
         if put_all(&mut self.writer, bytes) {
             return Ok(());

@@ -5,7 +5,8 @@ use Rattle.disk_face.specs.Counts.{counted}
 use Rattle.disk_fuse.specs.declared.calls.Rule.{Rule}
 use Rattle.disk_fuse.specs.declared.calls.Rule.TheVariants.{Listed, StopAfter}
 
--- the changing calls and the others of the listed numbers fail, or each call once so many changing calls were made
+-- the changing calls and the others of the listed numbers fail, or each call once so many changing calls were
+-- made
 pub data Breaks : Type 0 where
   ListedCalls : List ℕ → List ℕ → Breaks
   AfterChanges : ℕ → Breaks
@@ -52,8 +53,14 @@ failures_after fails before = if fails then counted before 1 else before
 
 -- once the next changing call was made
 abbrev pub after_change : Calls → Calls
-after_change calls = record calls { changes = counted calls.changes 1; failed_changes = failures_after (next_change_fails calls) calls.failed_changes }
+after_change calls = record calls {
+  changes = counted calls.changes 1;
+  failed_changes = failures_after (next_change_fails calls) calls.failed_changes;
+}
 
 -- once the next call that isn't a changing one was made
 abbrev pub after_read : Calls → Calls
-after_read calls = record calls { reads = counted calls.reads 1; failed_reads = failures_after (next_read_fails calls) calls.failed_reads }
+after_read calls = record calls {
+  reads = counted calls.reads 1;
+  failed_reads = failures_after (next_read_fails calls) calls.failed_reads;
+}

@@ -49,7 +49,13 @@ impl Model for Calls {
 
     ghost Value = { Calls };
 
-    ghost view = { λ c. record { breaks = breaks_of c.rule; changes = c.changes; reads = c.reads; failed_changes = c.failed_changes; failed_reads = c.failed_reads } };
+    ghost view = { λ c. record {
+      breaks = breaks_of c.rule;
+      changes = c.changes;
+      reads = c.reads;
+      failed_changes = c.failed_changes;
+      failed_reads = c.failed_reads;
+    } };
 }
 
 impl Calls {

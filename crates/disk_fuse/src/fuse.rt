@@ -1,8 +1,10 @@
 //! A disk round another one, which fails the calls that it is told.
-ghost use Rattle.std.specs.Prelude.{◌≡◌, ◌⊎◌, ◌≤◌, ◌+◌, ℕ, min, false, refl, length, OnOk, OnErr, IfOk, IsErr, IsTrue, IsFalse, if◌then◌else◌};
-ghost use Rattle.byte_ranges.specs.Ranges.{bytes_at, overwritten, resized, SameOutside};
-ghost use Rattle.disk_face.specs.Counts.{last, counted, HasCause};
-ghost use Rattle.disk_face.specs.Moments.{ResizedImage, Follows, Only, NoMore, Elapses};
+ghost use Rattle.std.specs.Prelude.{◌≡◌, ◌⊎◌, ◌≤◌, ◌+◌, false, length, OnOk, OnErr, IfOk, IsTrue, IsFalse};
+ghost use Rattle.byte_ranges.specs.Ranges.{bytes_at, overwritten, resized};
+ghost use Rattle.disk_face.specs.Counts.{counted};
+ghost use Rattle.disk_face.specs.Frames.{AfterLength, AfterRead, AfterSync, AfterWrite};
+ghost use Rattle.disk_face.specs.Moments.{Only};
+ghost use Rattle.std.proofs.Common.{arith};
 ghost use Rattle.disk_fuse.specs.Calls.{ListedCalls, AfterChanges, none_made, next_change_fails, next_read_fails, after_change, after_read};
 
 use crate::calls::Calls;
@@ -53,45 +55,25 @@ impl<D: Disk> Fuse<D> {
 
 impl<D: Disk> Disk for Fuse<D> {
     ghost use Rattle.std.proofs.lemmas.Bool.{false≢true};
-    ghost use Rattle.disk_fuse.specs.Fuses.{disk_of, calls_of};
+    ghost use Rattle.disk_fuse.specs.Fuses.{calls_of, disk_of, fuse_state, PassesOn};
 
-    ghost tells = { λ fuse. D.tells fuse.inner };
+    ghost state = { fuse_state D.state };
 
-    ghost file = { λ fuse. D.file fuse.inner };
-
-    ghost tells_images = { λ _. false };
-
-    ghost may_leave = { λ _ _. ⊥ };
-
-    ghost left_since = { λ _ _ _. ⊥ };
-
-    ghost turn = { λ fuse. min (D.turn fuse.inner + fuse.calls.failed_changes) last };
-
-    ghost faults = { λ fuse. min (D.faults fuse.inner + (fuse.calls.failed_changes + fuse.calls.failed_reads)) last };
-
-    ghost is_ready = { λ fuse. D.is_ready fuse.inner };
-
-    ghost has_content = { λ _ told. absurd (false≢true told) };
-
-    ghost both_told = { λ _ told. absurd (false≢true told) };
-
-    ghost counts_now = { λ _ t image t_le is. is };
-
-    ghost only_now = { λ _ image below since. since };
+    ghost lawful = { λ fuse. record {
+      has_content = λ told. absurd (false≢true told);
+      both_told = λ told. absurd (false≢true told);
+      counts_now = λ t image t_le is. is;
+      only_now = λ image below since. since;
+      turn_fits = omega arith;
+    } };
 
     fn len(&mut self) -> Result<u64, DiskFault>
-        requires { IsTrue (D.is_ready (disk_of self.old)) }
-        ensures length { IsTrue (D.tells (disk_of self.old)) → IfOk result (λ n. n ≡ length (D.file (disk_of self.old))) }
-        ensures file { IsTrue (D.tells (disk_of self.old)) → D.file (disk_of self.new) ≡ D.file (disk_of self.old) }
-        ensures images { NoMore (D.may_leave (disk_of self.old)) (D.may_leave (disk_of self.new)) }
-        ensures time { Elapses (D.turn (disk_of self.old)) (D.turn (disk_of self.new)) (D.left_since (disk_of self.old)) (D.left_since (disk_of self.new)) (D.may_leave (disk_of self.new)) }
-        ensures turn { D.turn (disk_of self.new) ≡ D.turn (disk_of self.old) }
-        ensures ready { IsTrue (D.is_ready (disk_of self.new)) }
-        ensures told { D.tells (disk_of self.new) ≡ D.tells (disk_of self.old) }
-        ensures images_told { D.tells_images (disk_of self.new) ≡ D.tells_images (disk_of self.old) }
-        ensures mounted { D.last_mount (disk_of self.new) ≡ D.last_mount (disk_of self.old) }
-        ensures fails { IsTrue (next_read_fails (calls_of self.old)) → IsErr result × (disk_of self.new ≡ disk_of self.old) }
-        ensures passes { IsFalse (next_read_fails (calls_of self.old)) → HasCause (D.faults (disk_of self.old)) (D.faults (disk_of self.new)) result }
+        requires { IsTrue (D.state (disk_of self.old)).is_ready }
+        ensures length { IsTrue (D.state (disk_of self.old)).tells
+            → IfOk result (λ n. n ≡ length (D.state (disk_of self.old)).file) }
+        ensures frame { AfterRead (D.state (disk_of self.old)) (D.state (disk_of self.new)) }
+        ensures call { PassesOn D.state (next_read_fails (calls_of self.old)) (disk_of self.old)
+            (disk_of self.new) result }
         ensures calls { calls_of self.new ≡ after_read (calls_of self.old) }
     {
         if self.calls.read() {
@@ -101,19 +83,14 @@ impl<D: Disk> Disk for Fuse<D> {
     }
 
     fn read_at(&mut self, pos: u64, out: &mut [u8]) -> Result<(), DiskFault>
-        requires ready { IsTrue (D.is_ready (disk_of self.old)) }
-        requires within { IsTrue (D.tells (disk_of self.old)) → pos + length out.old ≤ length (D.file (disk_of self.old)) }
-        ensures bytes { IsTrue (D.tells (disk_of self.old)) → OnOk result (out.new ≡ bytes_at (D.file (disk_of self.old)) pos (length out.old)) }
-        ensures file { IsTrue (D.tells (disk_of self.old)) → D.file (disk_of self.new) ≡ D.file (disk_of self.old) }
-        ensures images { NoMore (D.may_leave (disk_of self.old)) (D.may_leave (disk_of self.new)) }
-        ensures time { Elapses (D.turn (disk_of self.old)) (D.turn (disk_of self.new)) (D.left_since (disk_of self.old)) (D.left_since (disk_of self.new)) (D.may_leave (disk_of self.new)) }
-        ensures turn { D.turn (disk_of self.new) ≡ D.turn (disk_of self.old) }
-        ensures ready { IsTrue (D.is_ready (disk_of self.new)) }
-        ensures told { D.tells (disk_of self.new) ≡ D.tells (disk_of self.old) }
-        ensures images_told { D.tells_images (disk_of self.new) ≡ D.tells_images (disk_of self.old) }
-        ensures mounted { D.last_mount (disk_of self.new) ≡ D.last_mount (disk_of self.old) }
-        ensures fails { IsTrue (next_read_fails (calls_of self.old)) → IsErr result × (disk_of self.new ≡ disk_of self.old) }
-        ensures passes { IsFalse (next_read_fails (calls_of self.old)) → HasCause (D.faults (disk_of self.old)) (D.faults (disk_of self.new)) result }
+        requires ready { IsTrue (D.state (disk_of self.old)).is_ready }
+        requires within { IsTrue (D.state (disk_of self.old)).tells
+            → pos + length out.old ≤ length (D.state (disk_of self.old)).file }
+        ensures bytes { IsTrue (D.state (disk_of self.old)).tells
+            → OnOk result (out.new ≡ bytes_at (D.state (disk_of self.old)).file pos (length out.old)) }
+        ensures frame { AfterRead (D.state (disk_of self.old)) (D.state (disk_of self.new)) }
+        ensures call { PassesOn D.state (next_read_fails (calls_of self.old)) (disk_of self.old)
+            (disk_of self.new) result }
         ensures calls { calls_of self.new ≡ after_read (calls_of self.old) }
     {
         if self.calls.read() {
@@ -123,19 +100,16 @@ impl<D: Disk> Disk for Fuse<D> {
     }
 
     fn write_at(&mut self, pos: u64, bytes: &[u8]) -> Result<(), DiskFault>
-        requires ready { IsTrue (D.is_ready (disk_of self.old)) }
-        requires within { IsTrue (D.tells (disk_of self.old)) → pos + length bytes.now ≤ length (D.file (disk_of self.old)) }
-        ensures written { IsTrue (D.tells (disk_of self.old)) → OnOk result (D.file (disk_of self.new) ≡ overwritten (D.file (disk_of self.old)) pos bytes.now) }
-        ensures others { IsTrue (D.tells (disk_of self.old)) → SameOutside pos (length bytes.now) (D.file (disk_of self.old)) (D.file (disk_of self.new)) }
-        ensures images { Follows (SameOutside pos (length bytes.now)) (D.may_leave (disk_of self.old)) (D.may_leave (disk_of self.new)) }
-        ensures time { Elapses (D.turn (disk_of self.old)) (D.turn (disk_of self.new)) (D.left_since (disk_of self.old)) (D.left_since (disk_of self.new)) (D.may_leave (disk_of self.new)) }
-        ensures turn { D.turn (disk_of self.new) ≡ (if next_change_fails (calls_of self.old) then D.turn (disk_of self.old) else counted (D.turn (disk_of self.old)) 1) }
-        ensures ready { IsTrue (D.is_ready (disk_of self.new)) }
-        ensures told { D.tells (disk_of self.new) ≡ D.tells (disk_of self.old) }
-        ensures images_told { D.tells_images (disk_of self.new) ≡ D.tells_images (disk_of self.old) }
-        ensures mounted { D.last_mount (disk_of self.new) ≡ D.last_mount (disk_of self.old) }
-        ensures fails { IsTrue (next_change_fails (calls_of self.old)) → IsErr result × (disk_of self.new ≡ disk_of self.old) }
-        ensures passes { IsFalse (next_change_fails (calls_of self.old)) → HasCause (D.faults (disk_of self.old)) (D.faults (disk_of self.new)) result }
+        requires ready { IsTrue (D.state (disk_of self.old)).is_ready }
+        requires within { IsTrue (D.state (disk_of self.old)).tells
+            → pos + length bytes.now ≤ length (D.state (disk_of self.old)).file }
+        ensures written { IsTrue (D.state (disk_of self.old)).tells
+            → OnOk result ((D.state (disk_of self.new)).file
+            ≡ overwritten (D.state (disk_of self.old)).file pos bytes.now) }
+        ensures frame { IsFalse (next_change_fails (calls_of self.old))
+            → AfterWrite pos (length bytes.now) (D.state (disk_of self.old)) (D.state (disk_of self.new)) }
+        ensures call { PassesOn D.state (next_change_fails (calls_of self.old)) (disk_of self.old)
+            (disk_of self.new) result }
         ensures calls { calls_of self.new ≡ after_change (calls_of self.old) }
     {
         if self.calls.change() {
@@ -145,18 +119,17 @@ impl<D: Disk> Disk for Fuse<D> {
     }
 
     fn set_len(&mut self, n: u64) -> Result<(), DiskFault>
-        requires { IsTrue (D.is_ready (disk_of self.old)) }
-        ensures resized { IsTrue (D.tells (disk_of self.old)) → OnOk result (D.file (disk_of self.new) ≡ resized (D.file (disk_of self.old)) n) }
-        ensures either { IsTrue (D.tells (disk_of self.old)) → OnErr result ((D.file (disk_of self.new) ≡ D.file (disk_of self.old)) ⊎ (D.file (disk_of self.new) ≡ resized (D.file (disk_of self.old)) n)) }
-        ensures images { Follows (ResizedImage n) (D.may_leave (disk_of self.old)) (D.may_leave (disk_of self.new)) }
-        ensures time { Elapses (D.turn (disk_of self.old)) (D.turn (disk_of self.new)) (D.left_since (disk_of self.old)) (D.left_since (disk_of self.new)) (D.may_leave (disk_of self.new)) }
-        ensures turn { D.turn (disk_of self.new) ≡ (if next_change_fails (calls_of self.old) then D.turn (disk_of self.old) else counted (D.turn (disk_of self.old)) 1) }
-        ensures ready { IsTrue (D.is_ready (disk_of self.new)) }
-        ensures told { D.tells (disk_of self.new) ≡ D.tells (disk_of self.old) }
-        ensures images_told { D.tells_images (disk_of self.new) ≡ D.tells_images (disk_of self.old) }
-        ensures mounted { D.last_mount (disk_of self.new) ≡ D.last_mount (disk_of self.old) }
-        ensures fails { IsTrue (next_change_fails (calls_of self.old)) → IsErr result × (disk_of self.new ≡ disk_of self.old) }
-        ensures passes { IsFalse (next_change_fails (calls_of self.old)) → HasCause (D.faults (disk_of self.old)) (D.faults (disk_of self.new)) result }
+        requires { IsTrue (D.state (disk_of self.old)).is_ready }
+        ensures resized { IsTrue (D.state (disk_of self.old)).tells
+            → OnOk result ((D.state (disk_of self.new)).file
+            ≡ resized (D.state (disk_of self.old)).file n) }
+        ensures either { IsTrue (D.state (disk_of self.old)).tells
+            → OnErr result (((D.state (disk_of self.new)).file ≡ (D.state (disk_of self.old)).file)
+            ⊎ ((D.state (disk_of self.new)).file ≡ resized (D.state (disk_of self.old)).file n)) }
+        ensures frame { IsFalse (next_change_fails (calls_of self.old))
+            → AfterLength n (D.state (disk_of self.old)) (D.state (disk_of self.new)) }
+        ensures call { PassesOn D.state (next_change_fails (calls_of self.old)) (disk_of self.old)
+            (disk_of self.new) result }
         ensures calls { calls_of self.new ≡ after_change (calls_of self.old) }
     {
         if self.calls.change() {
@@ -166,18 +139,13 @@ impl<D: Disk> Disk for Fuse<D> {
     }
 
     fn sync(&mut self) -> Result<(), DiskFault>
-        requires { IsTrue (D.is_ready (disk_of self.old)) }
-        ensures rests { OnOk result (Only (D.file (disk_of self.old)) (D.may_leave (disk_of self.new))) }
-        ensures file { IsTrue (D.tells (disk_of self.old)) → D.file (disk_of self.new) ≡ D.file (disk_of self.old) }
-        ensures images { NoMore (D.may_leave (disk_of self.old)) (D.may_leave (disk_of self.new)) }
-        ensures time { Elapses (D.turn (disk_of self.old)) (D.turn (disk_of self.new)) (D.left_since (disk_of self.old)) (D.left_since (disk_of self.new)) (D.may_leave (disk_of self.old)) }
-        ensures turn { D.turn (disk_of self.new) ≡ (if next_change_fails (calls_of self.old) then D.turn (disk_of self.old) else counted (D.turn (disk_of self.old)) 1) }
-        ensures ready { IsTrue (D.is_ready (disk_of self.new)) }
-        ensures told { D.tells (disk_of self.new) ≡ D.tells (disk_of self.old) }
-        ensures images_told { D.tells_images (disk_of self.new) ≡ D.tells_images (disk_of self.old) }
-        ensures mounted { D.last_mount (disk_of self.new) ≡ D.last_mount (disk_of self.old) }
-        ensures fails { IsTrue (next_change_fails (calls_of self.old)) → IsErr result × (disk_of self.new ≡ disk_of self.old) }
-        ensures passes { IsFalse (next_change_fails (calls_of self.old)) → HasCause (D.faults (disk_of self.old)) (D.faults (disk_of self.new)) result }
+        requires { IsTrue (D.state (disk_of self.old)).is_ready }
+        ensures rests { OnOk result (Only (D.state (disk_of self.old)).file
+            (D.state (disk_of self.new)).may_leave) }
+        ensures frame { IsFalse (next_change_fails (calls_of self.old))
+            → AfterSync (D.state (disk_of self.old)) (D.state (disk_of self.new)) }
+        ensures call { PassesOn D.state (next_change_fails (calls_of self.old)) (disk_of self.old)
+            (disk_of self.new) result }
         ensures calls { calls_of self.new ≡ after_change (calls_of self.old) }
     {
         if self.calls.change() {

@@ -7,10 +7,11 @@ use Rattle.disk_face.specs.Counts.{last, counted}
 use Rattle.disk_mem.specs.Changes.{Change, Stamped, changed, content_after}
 use Rattle.disk_mem.specs.Changes.Change.{Wrote}
 use Rattle.disk_mem.specs.Histories.{EndedBy}
-use Rattle.disk_mem.specs.HistoryLaws.{EndedBy_later}
+use Rattle.disk_mem.proofs.HistoryLaws.{EndedBy_later}
 
 -- a call that found no memory left the record as it was
-pub holds_undone : (file base : List ℕ) (calls now : List Stamped) (turn next : ℕ) → next ≡ counted turn 1 → turn ≤ last → now ≡ calls → file ≡ content_after base calls → EndedBy turn calls
+pub holds_undone : (file base : List ℕ) (calls now : List Stamped) (turn next : ℕ) → next ≡ counted turn 1
+    → turn ≤ last → now ≡ calls → file ≡ content_after base calls → EndedBy turn calls
     → (file ≡ content_after base now) × EndedBy next now
 holds_undone file base calls now turn next is fits same holds ended = (
   holds ∙ ap (content_after base) (sym same),
@@ -18,13 +19,21 @@ holds_undone file base calls now turn next is fits same holds ended = (
 )
 
 -- a call that was done stands in the record, and the bytes are those after it
-pub holds_done : (file new base : List ℕ) (calls now : List Stamped) (change : Change) (turn next : ℕ) → next ≡ counted turn 1 → turn ≤ last → now ≡ record { began = turn; change = change } ∷ calls → new ≡ changed change file
+pub holds_done : (file new base : List ℕ) (calls now : List Stamped) (change : Change) (turn next : ℕ)
+    → next ≡ counted turn 1 → turn ≤ last → now ≡ record { began = turn; change = change } ∷ calls
+    → new ≡ changed change file
     → file ≡ content_after base calls → EndedBy turn calls → (new ≡ content_after base now) × EndedBy next now
 holds_done file new base calls now change turn next is fits more does holds ended = (
   does ∙ ap (changed change) holds ∙ ap (content_after base) (sym more),
-  subst (EndedBy next) (sym more) (omega (arith, is), EndedBy_later turn next calls (omega (arith, is, fits)) ended),
+  subst (EndedBy next) (sym more) (
+    omega (arith, is),
+    EndedBy_later turn next calls (omega (arith, is, fits)) ended,
+  ),
 )
 
 -- a write within the file
-pub changed_within : (file : List ℕ) (at : ℕ) (bytes : List ℕ) → at + length bytes ≤ length file → overwritten file at bytes ≡ changed (Wrote at bytes) file
-changed_within file at bytes within = ap (λ b. if b then overwritten file at bytes else file) (sym (le-leb (at + length bytes) (length file) within))
+pub changed_within : (file : List ℕ) (at : ℕ) (bytes : List ℕ) → at + length bytes ≤ length file
+    → overwritten file at bytes ≡ changed (Wrote at bytes) file
+changed_within file at bytes within =
+    ap (λ b. if b then overwritten file at bytes else file)
+    (sym (le-leb (at + length bytes) (length file) within))

@@ -1,6 +1,7 @@
 -- What callers see of a bay of one file.
-use Rattle.std.specs.Prelude.{◌≡◌, ℕ, Bool, List, bytes_eq, string_bytes, Option}
-use Rattle.disk_face.specs.Mounts.{Mount}
+use Rattle.std.specs.Prelude.{◌≡◌, ℕ, ◌+◌, Bool, ◌&&◌, true, List, bytes_eq, string_bytes, Option}
+use Rattle.disk_face.specs.Mounts.{Mount, Names, is_mounted}
+use Rattle.disk_face.specs.States.{State}
 use Rattle.disk_mem.specs.LastMounts.{mount_of}
 use Rattle.disk_face.specs.declared.Disk.{Ghosts}
 use Rattle.disk_mem.specs.declared.bay.MemBay.{MemBay}
@@ -26,9 +27,21 @@ module _ {D : Type 0} {g : Ghosts D} where
   abbrev pub last_mount_of : MemBay D g → Option Mount
   last_mount_of bay = mount_of (string_bytes bay.name) bay.last
 
+  -- as a disk: the one inside, once it is mounted
+  abbrev pub bay_state : MemBay D g → State
+  bay_state bay = record (g.state bay.disk) {
+    faults = (g.state bay.disk).faults + bay.faults;
+    is_ready = is_mounted (last_mount_of bay);
+    last_mount = last_mount_of bay;
+  }
+
   -- the bytes are the name of its file
   abbrev pub is_own : MemBay D g → List ℕ → Bool
   is_own bay name = bytes_eq (string_bytes bay.name) name
+
+  -- it tells which name is there: that of its file, where that is there
+  abbrev pub names_of : MemBay D g → Names
+  names_of bay = record { tells = true; is_there = λ name. is_own bay name && bay.there }
 
   -- all but the disk is as it was
   pub record SameBay (old new : MemBay D g) : Type 0 where

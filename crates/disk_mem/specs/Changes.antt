@@ -1,7 +1,7 @@
 -- The changing calls on a file: what reads give after them, and what stands unsynced.
 use Rattle.std.specs.Prelude.{ℕ, ◌+◌, nat_le, if◌then◌else◌, List, [], ◌∷◌, length}
 use Rattle.byte_ranges.specs.Ranges.{overwritten, resized}
-use Rattle.disk_face.specs.Images.{Unsynced, settled, with_range, with_length}
+use Rattle.disk_face.specs.Images.{Unsynced, after_sync, with_range, with_length}
 
 -- a write of bytes at a position, a change of the length, or a sync
 pub data Change : Type 0 where
@@ -11,11 +11,13 @@ pub data Change : Type 0 where
 
 -- a file after a call; a write that isn't within the file changes nothing
 abbrev pub changed : Change → List ℕ → List ℕ
-changed (Wrote at bytes) file = if nat_le (at + length bytes) (length file) then overwritten file at bytes else file
+changed (Wrote at bytes) file = if nat_le (at + length bytes) (length file) then overwritten file at bytes
+    else file
 changed (Sized n) file = resized file n
 changed Synced file = file
 
--- what stands unsynced while a call runs: the range counts as written, both lengths as held, and a sync has done nothing yet
+-- what stands unsynced while a call runs: the range counts as written, both lengths as held, and a sync has
+-- done nothing yet
 abbrev pub during : Change → Unsynced → Unsynced
 during (Wrote at bytes) u = with_range u at (length bytes)
 during (Sized n) u = with_length u n
@@ -25,7 +27,7 @@ during Synced u = u
 abbrev pub left_by : Change → List ℕ → Unsynced → Unsynced
 left_by (Wrote at bytes) file u = with_range u at (length bytes)
 left_by (Sized n) file u = with_length u n
-left_by Synced file u = settled file
+left_by Synced file u = after_sync file
 
 -- a call, and the turn in which it was made
 pub record Stamped : Type 0 where
@@ -39,5 +41,6 @@ content_after base (call ∷ earlier) = changed call.change (content_after base 
 
 -- what stands unsynced after these calls
 abbrev pub unsynced_after : List ℕ → List Stamped → Unsynced
-unsynced_after base [] = settled base
-unsynced_after base (call ∷ earlier) = left_by call.change (content_after base earlier) (unsynced_after base earlier)
+unsynced_after base [] = after_sync base
+unsynced_after base (call ∷ earlier) =
+    left_by call.change (content_after base earlier) (unsynced_after base earlier)

@@ -2,12 +2,10 @@ pub mod Bays
 pub mod Changes
 pub mod Entries
 pub mod Histories
-pub mod HistoryLaws
 pub mod LastMounts
+pub mod Lawful
 pub mod Lists
 pub mod Plain
 pub mod Streams
 pub mod Tearing
-pub mod TearingLaws
-pub mod TurnLaws
 pub mod Turns

@@ -2,7 +2,7 @@
 use Rattle.std.specs.Prelude.{ℕ, nat_le, nat_eq, if◌then◌else◌, cond, List, [], ◌∷◌, length, map, slice_index, Option, Some, None}
 use Rattle.byte_ranges.specs.Lists.{below}
 use Rattle.disk_face.specs.Counts.{counted}
-use Rattle.disk_face.specs.Images.{Unsynced, IsImage, is_loose, with_range}
+use Rattle.disk_face.specs.Images.{Unsynced, IsImage, is_unsynced, with_range}
 use Rattle.disk_mem.specs.Changes.{Change, Stamped, content_after, unsynced_after, during}
 use Rattle.disk_mem.specs.Changes.Change.{Wrote, Sized, Synced}
 use Rattle.disk_mem.specs.Histories.{History}
@@ -53,11 +53,13 @@ within_next_write t (Some call) u = if nat_eq call.began t then within_write cal
 
 -- a file with the byte b wherever a crash may leave any
 abbrev pub torn : ℕ → Unsynced → List ℕ → List ℕ
-torn b u file = map (λ i. cond (is_loose u i) b (slice_index file i)) (below (length file))
+torn b u file = map (λ i. cond (is_unsynced u i) b (slice_index file i)) (below (length file))
 
--- the newest bytes, with b wherever one was written or grown since that sync, and in the range of a write that is next
+-- the newest bytes, with b wherever one was written or grown since that sync, and in the range of a write
+-- that is next
 abbrev pub torn_at : History → ℕ → ℕ → List ℕ
-torn_at h t b = torn b (within_next_write t (next_after h t) (unsynced_after h.base (ended_by h t))) (newest_at h t)
+torn_at h t b = torn b (within_next_write t (next_after h t) (unsynced_after h.base (ended_by h t)))
+    (newest_at h t)
 
 -- the image that is asked for
 abbrev pub image_at : History → ℕ → Choice → List ℕ

@@ -1,8 +1,7 @@
 //! A bay of one file, round a disk.
-ghost use Rattle.std.specs.Prelude.{◌≡◌, ◌↔◌, ◌≤◌, ◌+◌, ◌&&◌, ℕ, [], true, false, refl, length, bytes_eq, string_bytes, Option, Some, None, Ok, OnOk, OnErr, IfOk, IsErr, IsTrue, IsFalse};
+ghost use Rattle.std.specs.Prelude.{◌≡◌, ◌≤◌, ◌+◌, ◌&&◌, [], refl, length, string_bytes, Some, None, Ok, OnOk, OnErr, IfOk, IsErr, IsTrue, IsFalse};
 ghost use Rattle.disk_face.specs.Counts.{counted, HasCause};
-ghost use Rattle.disk_face.specs.Moments.{NoMore, Elapses};
-ghost use Rattle.disk_face.specs.Mounts.{Mount, is_mounted};
+ghost use Rattle.disk_face.specs.Mounts.{is_mounted};
 ghost use Rattle.disk_mem.specs.LastMounts.{mount_of, own_answer};
 
 use disk_face::{Bay, Disk, DiskFault, Mounted};
@@ -25,9 +24,9 @@ pub struct MemBay<D: Disk> {
     last: Last,
     disk: D,
     faults: u64,
-    ghost ready: { IsTrue (D.is_ready disk) },
+    ghost ready: { IsTrue (D.state disk).is_ready },
     ghost found: { IsTrue (is_mounted (mount_of (string_bytes name) last)) → IsTrue there },
-    ghost empty: { IsFalse there → IsTrue (D.tells disk) → D.file disk ≡ [] },
+    ghost empty: { IsFalse there → IsTrue (D.state disk).tells → (D.state disk).file ≡ [] },
 }
 
 impl<D: Disk> MemBay<D> {
@@ -35,8 +34,8 @@ impl<D: Disk> MemBay<D> {
 
     /// A bay of the one file `name`, which is there or not. Nothing is mounted.
     pub fn new(alloc: Global, name: String, there: bool, disk: D) -> MemBay<D>
-        requires ready { IsTrue (D.is_ready disk) }
-        requires empty { IsFalse there → IsTrue (D.tells disk) → length (D.file disk) ≡ 0 }
+        requires ready { IsTrue (D.state disk).is_ready }
+        requires empty { IsFalse there → IsTrue (D.state disk).tells → length (D.state disk).file ≡ 0 }
         ensures disk { disk_of result ≡ disk }
         ensures name { name_of result ≡ string_bytes name }
         ensures there { has_its_file result ≡ there }
@@ -62,7 +61,7 @@ impl<D: Disk> MemBay<D> {
 
     /// Gives the disk up.
     pub fn into_disk(self) -> D
-        ensures ready { IsTrue (D.is_ready result) }
+        ensures ready { IsTrue (D.state result).is_ready }
         ensures disk { result ≡ disk_of self }
     {
         let MemBay {
@@ -79,113 +78,78 @@ impl<D: Disk> MemBay<D> {
 
 impl<D: Disk> Disk for MemBay<D> {
     ghost use Rattle.std.specs.Prelude.{◌⊎◌};
-    ghost use Rattle.byte_ranges.specs.Ranges.{bytes_at, overwritten, resized, SameOutside};
-    ghost use Rattle.disk_face.specs.Moments.{ResizedImage, Follows, Only, NoMore, Elapses};
-    ghost use Rattle.disk_mem.specs.Bays.{disk_of, own_faults, last_mount_of, SameBay};
+    ghost use Rattle.byte_ranges.specs.Ranges.{bytes_at, overwritten, resized};
+    ghost use Rattle.disk_face.specs.Frames.{AfterLength, AfterRead, AfterSync, AfterWrite};
+    ghost use Rattle.disk_face.specs.Moments.{Only};
+    ghost use Rattle.disk_mem.specs.Bays.{bay_state, SameBay};
 
-    ghost tells = { λ bay. D.tells bay.disk };
+    ghost state = { bay_state };
 
-    ghost file = { λ bay. D.file bay.disk };
-
-    ghost tells_images = { λ bay. D.tells_images bay.disk };
-
-    ghost may_leave = { λ bay. D.may_leave bay.disk };
-
-    ghost left_since = { λ bay. D.left_since bay.disk };
-
-    ghost turn = { λ bay. D.turn bay.disk };
-
-    ghost faults = { λ bay. D.faults bay.disk + bay.faults };
-
-    ghost is_ready = { λ bay. is_mounted (mount_of (string_bytes bay.name) bay.last) };
-
-    ghost last_mount = { λ bay. mount_of (string_bytes bay.name) bay.last };
-
-    ghost has_content = { λ bay. D.has_content bay.disk };
-
-    ghost both_told = { λ bay. D.both_told bay.disk };
-
-    ghost counts_now = { λ bay. D.counts_now bay.disk };
-
-    ghost only_now = { λ bay. D.only_now bay.disk };
+    ghost lawful = { λ bay. let l = D.lawful bay.disk in
+        record {
+          has_content = l.has_content;
+          both_told = l.both_told;
+          counts_now = l.counts_now;
+          only_now = l.only_now;
+          turn_fits = l.turn_fits;
+        } };
 
     fn len(&mut self) -> Result<u64, DiskFault>
-        requires { IsTrue (is_mounted (last_mount_of self.old)) }
-        ensures length { IsTrue (D.tells (disk_of self.old)) → IfOk result (λ n. n ≡ length (D.file (disk_of self.old))) }
-        ensures file { IsTrue (D.tells (disk_of self.old)) → D.file (disk_of self.new) ≡ D.file (disk_of self.old) }
-        ensures images { NoMore (D.may_leave (disk_of self.old)) (D.may_leave (disk_of self.new)) }
-        ensures time { Elapses (D.turn (disk_of self.old)) (D.turn (disk_of self.new)) (D.left_since (disk_of self.old)) (D.left_since (disk_of self.new)) (D.may_leave (disk_of self.new)) }
-        ensures turn { D.turn (disk_of self.new) ≡ D.turn (disk_of self.old) }
-        ensures cause { HasCause (D.faults (disk_of self.old) + own_faults self.old) (D.faults (disk_of self.new) + own_faults self.new) result }
-        ensures told { D.tells (disk_of self.new) ≡ D.tells (disk_of self.old) }
-        ensures images_told { D.tells_images (disk_of self.new) ≡ D.tells_images (disk_of self.old) }
-        ensures ready { IsTrue (is_mounted (last_mount_of self.new)) }
+        requires { IsTrue (bay_state self.old).is_ready }
+        ensures length { IsTrue (bay_state self.old).tells
+            → IfOk result (λ n. n ≡ length (bay_state self.old).file) }
+        ensures frame { AfterRead (bay_state self.old) (bay_state self.new) }
+        ensures cause { HasCause (bay_state self.old).faults (bay_state self.new).faults result }
         ensures bay { SameBay self.old self.new }
     {
         self.disk.len()
     }
 
     fn read_at(&mut self, pos: u64, out: &mut [u8]) -> Result<(), DiskFault>
-        requires ready { IsTrue (is_mounted (last_mount_of self.old)) }
-        requires within { IsTrue (D.tells (disk_of self.old)) → pos + length out.old ≤ length (D.file (disk_of self.old)) }
-        ensures bytes { IsTrue (D.tells (disk_of self.old)) → OnOk result (out.new ≡ bytes_at (D.file (disk_of self.old)) pos (length out.old)) }
-        ensures file { IsTrue (D.tells (disk_of self.old)) → D.file (disk_of self.new) ≡ D.file (disk_of self.old) }
-        ensures images { NoMore (D.may_leave (disk_of self.old)) (D.may_leave (disk_of self.new)) }
-        ensures time { Elapses (D.turn (disk_of self.old)) (D.turn (disk_of self.new)) (D.left_since (disk_of self.old)) (D.left_since (disk_of self.new)) (D.may_leave (disk_of self.new)) }
-        ensures turn { D.turn (disk_of self.new) ≡ D.turn (disk_of self.old) }
-        ensures cause { HasCause (D.faults (disk_of self.old) + own_faults self.old) (D.faults (disk_of self.new) + own_faults self.new) result }
-        ensures told { D.tells (disk_of self.new) ≡ D.tells (disk_of self.old) }
-        ensures images_told { D.tells_images (disk_of self.new) ≡ D.tells_images (disk_of self.old) }
-        ensures ready { IsTrue (is_mounted (last_mount_of self.new)) }
+        requires ready { IsTrue (bay_state self.old).is_ready }
+        requires within { IsTrue (bay_state self.old).tells
+            → pos + length out.old ≤ length (bay_state self.old).file }
+        ensures bytes { IsTrue (bay_state self.old).tells
+            → OnOk result (out.new ≡ bytes_at (bay_state self.old).file pos (length out.old)) }
+        ensures frame { AfterRead (bay_state self.old) (bay_state self.new) }
+        ensures cause { HasCause (bay_state self.old).faults (bay_state self.new).faults result }
         ensures bay { SameBay self.old self.new }
     {
         self.disk.read_at(pos, out)
     }
 
     fn write_at(&mut self, pos: u64, bytes: &[u8]) -> Result<(), DiskFault>
-        requires ready { IsTrue (is_mounted (last_mount_of self.old)) }
-        requires within { IsTrue (D.tells (disk_of self.old)) → pos + length bytes.now ≤ length (D.file (disk_of self.old)) }
-        ensures written { IsTrue (D.tells (disk_of self.old)) → OnOk result (D.file (disk_of self.new) ≡ overwritten (D.file (disk_of self.old)) pos bytes.now) }
-        ensures others { IsTrue (D.tells (disk_of self.old)) → SameOutside pos (length bytes.now) (D.file (disk_of self.old)) (D.file (disk_of self.new)) }
-        ensures images { Follows (SameOutside pos (length bytes.now)) (D.may_leave (disk_of self.old)) (D.may_leave (disk_of self.new)) }
-        ensures time { Elapses (D.turn (disk_of self.old)) (D.turn (disk_of self.new)) (D.left_since (disk_of self.old)) (D.left_since (disk_of self.new)) (D.may_leave (disk_of self.new)) }
-        ensures turn { D.turn (disk_of self.new) ≡ counted (D.turn (disk_of self.old)) 1 }
-        ensures cause { HasCause (D.faults (disk_of self.old) + own_faults self.old) (D.faults (disk_of self.new) + own_faults self.new) result }
-        ensures told { D.tells (disk_of self.new) ≡ D.tells (disk_of self.old) }
-        ensures images_told { D.tells_images (disk_of self.new) ≡ D.tells_images (disk_of self.old) }
-        ensures ready { IsTrue (is_mounted (last_mount_of self.new)) }
+        requires ready { IsTrue (bay_state self.old).is_ready }
+        requires within { IsTrue (bay_state self.old).tells
+            → pos + length bytes.now ≤ length (bay_state self.old).file }
+        ensures written { IsTrue (bay_state self.old).tells
+            → OnOk result ((bay_state self.new).file ≡ overwritten (bay_state self.old).file pos bytes.now) }
+        ensures frame { AfterWrite pos (length bytes.now) (bay_state self.old) (bay_state self.new) }
+        ensures cause { HasCause (bay_state self.old).faults (bay_state self.new).faults result }
         ensures bay { SameBay self.old self.new }
     {
         self.disk.write_at(pos, bytes)
     }
 
     fn set_len(&mut self, n: u64) -> Result<(), DiskFault>
-        requires { IsTrue (is_mounted (last_mount_of self.old)) }
-        ensures resized { IsTrue (D.tells (disk_of self.old)) → OnOk result (D.file (disk_of self.new) ≡ resized (D.file (disk_of self.old)) n) }
-        ensures either { IsTrue (D.tells (disk_of self.old)) → OnErr result ((D.file (disk_of self.new) ≡ D.file (disk_of self.old)) ⊎ (D.file (disk_of self.new) ≡ resized (D.file (disk_of self.old)) n)) }
-        ensures images { Follows (ResizedImage n) (D.may_leave (disk_of self.old)) (D.may_leave (disk_of self.new)) }
-        ensures time { Elapses (D.turn (disk_of self.old)) (D.turn (disk_of self.new)) (D.left_since (disk_of self.old)) (D.left_since (disk_of self.new)) (D.may_leave (disk_of self.new)) }
-        ensures turn { D.turn (disk_of self.new) ≡ counted (D.turn (disk_of self.old)) 1 }
-        ensures cause { HasCause (D.faults (disk_of self.old) + own_faults self.old) (D.faults (disk_of self.new) + own_faults self.new) result }
-        ensures told { D.tells (disk_of self.new) ≡ D.tells (disk_of self.old) }
-        ensures images_told { D.tells_images (disk_of self.new) ≡ D.tells_images (disk_of self.old) }
-        ensures ready { IsTrue (is_mounted (last_mount_of self.new)) }
+        requires { IsTrue (bay_state self.old).is_ready }
+        ensures resized { IsTrue (bay_state self.old).tells
+            → OnOk result ((bay_state self.new).file ≡ resized (bay_state self.old).file n) }
+        ensures either { IsTrue (bay_state self.old).tells
+            → OnErr result (((bay_state self.new).file ≡ (bay_state self.old).file)
+            ⊎ ((bay_state self.new).file ≡ resized (bay_state self.old).file n)) }
+        ensures frame { AfterLength n (bay_state self.old) (bay_state self.new) }
+        ensures cause { HasCause (bay_state self.old).faults (bay_state self.new).faults result }
         ensures bay { SameBay self.old self.new }
     {
         self.disk.set_len(n)
     }
 
     fn sync(&mut self) -> Result<(), DiskFault>
-        requires { IsTrue (is_mounted (last_mount_of self.old)) }
-        ensures rests { OnOk result (Only (D.file (disk_of self.old)) (D.may_leave (disk_of self.new))) }
-        ensures file { IsTrue (D.tells (disk_of self.old)) → D.file (disk_of self.new) ≡ D.file (disk_of self.old) }
-        ensures images { NoMore (D.may_leave (disk_of self.old)) (D.may_leave (disk_of self.new)) }
-        ensures time { Elapses (D.turn (disk_of self.old)) (D.turn (disk_of self.new)) (D.left_since (disk_of self.old)) (D.left_since (disk_of self.new)) (D.may_leave (disk_of self.old)) }
-        ensures turn { D.turn (disk_of self.new) ≡ counted (D.turn (disk_of self.old)) 1 }
-        ensures cause { HasCause (D.faults (disk_of self.old) + own_faults self.old) (D.faults (disk_of self.new) + own_faults self.new) result }
-        ensures told { D.tells (disk_of self.new) ≡ D.tells (disk_of self.old) }
-        ensures images_told { D.tells_images (disk_of self.new) ≡ D.tells_images (disk_of self.old) }
-        ensures ready { IsTrue (is_mounted (last_mount_of self.new)) }
+        requires { IsTrue (bay_state self.old).is_ready }
+        ensures rests { OnOk result (Only (bay_state self.old).file (bay_state self.new).may_leave) }
+        ensures frame { AfterSync (bay_state self.old) (bay_state self.new) }
+        ensures cause { HasCause (bay_state self.old).faults (bay_state self.new).faults result }
         ensures bay { SameBay self.old self.new }
     {
         self.disk.sync()
@@ -198,11 +162,9 @@ impl<D: Disk> Disk for MemBay<D> {
 
 impl<D: Disk> Bay for MemBay<D> {
     ghost use Rattle.std.specs.Prelude.{◌||◌, if◌then◌else◌, is_ok};
-    ghost use Rattle.disk_mem.specs.Bays.{disk_of, name_of, has_its_file, own_faults, last_mount_of, is_own};
+    ghost use Rattle.disk_mem.specs.Bays.{bay_state, disk_of, name_of, has_its_file, own_faults, last_mount_of, is_own, names_of};
 
-    ghost tells_names = { λ _. true };
-
-    ghost is_there = { λ bay name. bytes_eq (string_bytes bay.name) name && bay.there };
+    ghost names = { names_of };
 
     ghost ready_if_mounted = { λ _. refl };
 
@@ -210,17 +172,21 @@ impl<D: Disk> Bay for MemBay<D> {
     /// file is to be made, or where there is no memory for a copy of the name.
     fn mount(&mut self, name: &str, make: bool) -> Result<Mounted, DiskFault>
         requires { last_mount_of self.old ≡ None }
-        ensures mounted { IfOk result (λ answer. last_mount_of self.new ≡ Some (record { name = name.now; make = make; answer = answer })) }
+        ensures mounted { IfOk result (λ answer. last_mount_of self.new
+            ≡ Some (record { name = name.now; make = make; answer = answer })) }
         ensures none { OnErr result (last_mount_of self.new ≡ None) }
-        ensures made { result ≡ Ok Mounted.Made → IsTrue make × (IsTrue (D.tells (disk_of self.new)) → D.file (disk_of self.new) ≡ []) }
-        ensures cause { HasCause (D.faults (disk_of self.old) + own_faults self.old) (D.faults (disk_of self.new) + own_faults self.new) result }
+        ensures made { result ≡ Ok Mounted.Made
+            → IsTrue make × (IsTrue (bay_state self.new).tells → (bay_state self.new).file ≡ []) }
+        ensures cause { HasCause (bay_state self.old).faults (bay_state self.new).faults result }
         ensures disk { disk_of self.new ≡ disk_of self.old }
         ensures name { name_of self.new ≡ name_of self.old }
-        ensures own { IsTrue (is_own self.old name.now) → result ≡ Ok (own_answer (has_its_file self.old) make) }
+        ensures own { IsTrue (is_own self.old name.now)
+            → result ≡ Ok (own_answer (has_its_file self.old) make) }
         ensures other { IsFalse (is_own self.old name.now) → IfOk result (λ answer. answer ≡ Mounted.Absent) }
         ensures not_made { IsFalse (is_own self.old name.now) → IsTrue make → IsErr result }
         ensures file { has_its_file self.new ≡ (has_its_file self.old || (is_own self.old name.now && make)) }
-        ensures faults { own_faults self.new ≡ (if is_ok result then own_faults self.old else counted (own_faults self.old) 1) }
+        ensures faults { own_faults self.new
+            ≡ (if is_ok result then own_faults self.old else counted (own_faults self.old) 1) }
     {
         if self.name.as_str() == name {
             let answer = if self.there {

@@ -1,12 +1,11 @@
 //! A disk in memory that records each changing call, and so knows all that a crash may leave.
-ghost use Rattle.std.specs.Prelude.{◌≡◌, ◌≤◌, ◌+◌, ◌∷◌, [], true, refl, length, OnOk, OnErr, IfOk, IsOk};
-ghost use Rattle.byte_ranges.specs.Ranges.{bytes_at, overwritten, resized, SameOutside};
-ghost use Rattle.disk_face.specs.Counts.{counted, HasCause};
-ghost use Rattle.disk_face.specs.Images.{IsImage};
+ghost use Rattle.std.specs.Prelude.{◌≡◌, ◌≤◌, ◌+◌, [], length, OnOk, OnErr, IfOk, IsOk};
+ghost use Rattle.byte_ranges.specs.Ranges.{bytes_at, SameOutside};
+ghost use Rattle.disk_face.specs.Counts.{HasCause};
 ghost use Rattle.disk_face.specs.Moments.{ResizedImage, Follows, Only, NoMore, Elapses};
 ghost use Rattle.disk_mem.specs.Changes.Change.{Wrote, Sized, Synced};
 ghost use Rattle.disk_mem.specs.Turns.{LeftAt, image_at};
-ghost use Rattle.disk_mem.specs.Histories.{fresh, done, undone, file_of, MayLeave, LeftSince};
+ghost use Rattle.disk_mem.specs.Histories.{fresh, done, undone, file_of, MayLeave, LeftSince, history_state};
 
 use crate::image::{Choice, build};
 use crate::record::{Call, Entry, keep, keep_length, keep_write};
@@ -34,9 +33,15 @@ impl Model for MemDisk {
 
     ghost Value = { History };
 
-    ghost view = { λ d. record { base = d.base.items; calls = newest_first d.calls.items; turn = d.turn; faults = d.faults } };
+    ghost view = { λ d. record {
+      base = d.base.items;
+      calls = newest_first d.calls.items;
+      turn = d.turn;
+      faults = d.faults;
+    } };
 
-    ghost invariant = { λ d. (d.bytes.items ≡ content_after d.base.items (newest_first d.calls.items)) × EndedBy d.turn (newest_first d.calls.items) };
+    ghost invariant = { λ d. (d.bytes.items ≡ content_after d.base.items (newest_first d.calls.items))
+        × EndedBy d.turn (newest_first d.calls.items) };
 }
 
 impl MemDisk {
@@ -95,32 +100,11 @@ impl MemDisk {
 }
 
 impl Disk for MemDisk {
-    ghost use Rattle.disk_mem.specs.HistoryLaws.{present_is_image, only_now_law};
-    ghost use Rattle.std.proofs.Common.{inl};
+    ghost use Rattle.disk_mem.specs.Lawful.{history_lawful};
 
-    ghost tells = { λ _. true };
+    ghost state = { history_state };
 
-    ghost file = { file_of };
-
-    ghost tells_images = { λ _. true };
-
-    ghost may_leave = { MayLeave };
-
-    ghost left_since = { LeftSince };
-
-    ghost turn = { λ d. d.turn };
-
-    ghost faults = { λ d. d.faults };
-
-    ghost is_ready = { λ _. true };
-
-    ghost has_content = { λ d _. present_is_image d.base d.calls };
-
-    ghost both_told = { λ _ _. refl };
-
-    ghost counts_now = { λ d t image t_le is. (t_le, inl is) };
-
-    ghost only_now = { only_now_law };
+    ghost lawful = { history_lawful };
 
     fn len(&mut self) -> Result<u64, DiskFault>
         ensures ok { IsOk result }
@@ -145,8 +129,9 @@ impl Disk for MemDisk {
         requires { pos + length bytes.now ≤ length (file_of self.old) }
         ensures ok { OnOk result (self.new ≡ done (Wrote pos bytes.now) self.old) }
         ensures err { OnErr result (self.new ≡ undone self.old) }
-        ensures images { Follows (SameOutside pos (length bytes.now)) (MayLeave self.old) (MayLeave self.new) }
-        ensures time { Elapses self.old.turn self.new.turn (LeftSince self.old) (LeftSince self.new) (MayLeave self.new) }
+        ensures images { Follows (SameOutside pos (length bytes.now)) (MayLeave self.old)
+            (MayLeave self.new) }
+        ensures time { Elapses (history_state self.old) (history_state self.new) (MayLeave self.new) }
         ensures cause { HasCause self.old.faults self.new.faults result }
     {
         let began = self.turn;
@@ -163,7 +148,7 @@ impl Disk for MemDisk {
         ensures ok { OnOk result (self.new ≡ done (Sized n) self.old) }
         ensures err { OnErr result (self.new ≡ undone self.old) }
         ensures images { Follows (ResizedImage n) (MayLeave self.old) (MayLeave self.new) }
-        ensures time { Elapses self.old.turn self.new.turn (LeftSince self.old) (LeftSince self.new) (MayLeave self.new) }
+        ensures time { Elapses (history_state self.old) (history_state self.new) (MayLeave self.new) }
         ensures cause { HasCause self.old.faults self.new.faults result }
     {
         let began = self.turn;
@@ -181,7 +166,7 @@ impl Disk for MemDisk {
         ensures err { OnErr result (self.new ≡ undone self.old) }
         ensures rests { OnOk result (Only (file_of self.old) (MayLeave self.new)) }
         ensures images { NoMore (MayLeave self.old) (MayLeave self.new) }
-        ensures time { Elapses self.old.turn self.new.turn (LeftSince self.old) (LeftSince self.new) (MayLeave self.old) }
+        ensures time { Elapses (history_state self.old) (history_state self.new) (MayLeave self.old) }
         ensures cause { HasCause self.old.faults self.new.faults result }
     {
         let began = self.turn;

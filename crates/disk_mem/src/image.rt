@@ -64,7 +64,9 @@ fn finish(
     turn: u64,
     choice: Choice,
 ) -> Result<(), AllocError>
-    ensures { OnOk result (file.new.items ≡ finished turn choice (option_map stamp_of (slice_get entries.now index)) (newest_first since.now) file.old.items) }
+    ensures { OnOk result (file.new.items
+        ≡ finished turn choice (option_map stamp_of (slice_get entries.now index)) (newest_first since.now)
+        file.old.items) }
 {
     match choice {
         Choice::Durable => Ok(()),
@@ -85,7 +87,8 @@ pub fn build(
     turn: u64,
     choice: Choice,
 ) -> Result<Vec<u8>, AllocError>
-    ensures { IfOk result (λ image. (h : History) → h.base ≡ base.now → h.calls ≡ newest_first entries.now → image.items ≡ image_at h turn choice) }
+    ensures { IfOk result (λ image. (h : History) → h.base ≡ base.now → h.calls ≡ newest_first entries.now
+        → image.items ≡ image_at h turn choice) }
 {
     let ended = ended_by(entries, turn);
     let done = &entries[..ended];

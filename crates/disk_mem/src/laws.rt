@@ -13,10 +13,13 @@ pub fn what_reads_give_is_an_image()
 
 /// What was left at a moment of a turn was left since that turn.
 pub fn what_is_left_at_a_turn_is_left_since()
-    ensures { (h : History) (t : ℕ) (image : List ℕ) → EndedBy h.turn h.calls → t ≤ h.turn → LeftAt h t image → LeftSince h t image }
+    ensures { (h : History) (t : ℕ) (image : List ℕ) → EndedBy h.turn h.calls → t ≤ h.turn → LeftAt h t image
+        → LeftSince h t image }
 {}
 
 /// A torn image is what the last sync left, smeared by the calls since.
 pub fn a_torn_image_is_smeared()
-    ensures { (b : ℕ) (base : List ℕ) (calls : List Stamped) → torn b (unsynced_after base calls) (content_after base calls) ≡ smeared_after b (content_after base (up_to_sync calls)) (since_sync calls) }
+    ensures { (b : ℕ) (base : List ℕ) (calls : List Stamped)
+        → torn b (unsynced_after base calls) (content_after base calls)
+        ≡ smeared_after b (content_after base (up_to_sync calls)) (since_sync calls) }
 {}

@@ -1,8 +1,9 @@
 //! A disk in memory that keeps no record.
-ghost use Rattle.std.specs.Prelude.{◌≡◌, ◌<◌, ◌≤◌, ◌+◌, ◌↔◌, ℕ, List, [], true, false, refl, length, OnOk, OnErr, IfOk, IsOk, IsErr, IsTrue};
+ghost use Rattle.std.specs.Prelude.{◌≡◌, ◌<◌, ◌≤◌, ◌+◌, ◌↔◌, [], length, OnOk, OnErr, IfOk, IsOk, IsErr};
 ghost use Rattle.byte_ranges.specs.Ranges.{bytes_at, overwritten, resized};
 ghost use Rattle.disk_face.specs.Counts.{HasCause};
-ghost use Rattle.disk_mem.specs.Plain.{plain_after, plain_failed, no_image};
+ghost use Rattle.disk_mem.specs.Plain.{plain_after, plain_failed, plain_state};
+ghost use Rattle.disk_mem.specs.Lawful.{plain_lawful};
 
 use crate::replay::{cut_or_grow, put};
 use disk_face::{Disk, DiskFault};
@@ -48,31 +49,9 @@ impl PlainDisk {
 }
 
 impl Disk for PlainDisk {
-    ghost use Rattle.std.proofs.lemmas.Bool.{false≢true};
+    ghost state = { plain_state };
 
-    ghost tells = { λ _. true };
-
-    ghost file = { λ d. d.content };
-
-    ghost tells_images = { λ _. false };
-
-    ghost may_leave = { λ _. no_image };
-
-    ghost left_since = { λ _ _. no_image };
-
-    ghost turn = { λ d. d.turn };
-
-    ghost faults = { λ d. d.faults };
-
-    ghost is_ready = { λ _. true };
-
-    ghost has_content = { λ d told. absurd (false≢true told) };
-
-    ghost both_told = { λ _ _. refl };
-
-    ghost counts_now = { λ d t image t_le is. is };
-
-    ghost only_now = { λ d image below since. since };
+    ghost lawful = { plain_lawful };
 
     fn len(&mut self) -> Result<u64, DiskFault>
         ensures ok { IsOk result }
@@ -97,7 +76,6 @@ impl Disk for PlainDisk {
         requires { pos + length bytes.now ≤ length self.old.content }
         ensures ok { IsOk result }
         ensures written { self.new ≡ plain_after (overwritten self.old.content pos bytes.now) self.old }
-        ensures later { self.old.turn ≤ self.new.turn }
     {
         self.turn = self.turn.saturating_add(1);
         put(&mut self.bytes, pos, bytes);
@@ -108,7 +86,6 @@ impl Disk for PlainDisk {
         ensures fails { IsErr result ↔ (self.old.room < n) }
         ensures ok { OnOk result (self.new ≡ plain_after (resized self.old.content n) self.old) }
         ensures err { OnErr result (self.new ≡ plain_failed self.old) }
-        ensures later { self.old.turn ≤ self.new.turn }
         ensures cause { HasCause self.old.faults self.new.faults result }
     {
         self.turn = self.turn.saturating_add(1);
@@ -123,7 +100,6 @@ impl Disk for PlainDisk {
     fn sync(&mut self) -> Result<(), DiskFault>
         ensures ok { IsOk result }
         ensures same { self.new ≡ plain_after self.old.content self.old }
-        ensures later { self.old.turn ≤ self.new.turn }
     {
         self.turn = self.turn.saturating_add(1);
         Ok(())

@@ -24,7 +24,8 @@ pub struct Entry {
 /// Adds a call at the end, or finds no memory and leaves the record as it was.
 #[tactic(auto, using(crate::proofs::Records::newest_first_push))]
 pub fn keep(entries: &mut Vec<Entry>, began: u64, call: Call) -> Result<(), AllocError>
-    ensures ok { OnOk result (newest_first entries.new.items ≡ record { began = began; change = change_of call } ∷ newest_first entries.old.items) }
+    ensures ok { OnOk result (newest_first entries.new.items
+        ≡ record { began = began; change = change_of call } ∷ newest_first entries.old.items) }
     ensures err { OnErr result (entries.new.items ≡ entries.old.items) }
 {
     entries.push(Entry { began, call })?;
@@ -38,7 +39,8 @@ pub fn keep_write(
     pos: u64,
     bytes: &[u8],
 ) -> Result<(), AllocError>
-    ensures ok { OnOk result (newest_first entries.new.items ≡ record { began = began; change = Wrote pos bytes.now } ∷ newest_first entries.old.items) }
+    ensures ok { OnOk result (newest_first entries.new.items
+        ≡ record { began = began; change = Wrote pos bytes.now } ∷ newest_first entries.old.items) }
     ensures err { OnErr result (entries.new.items ≡ entries.old.items) }
 {
     let copy = Vec::from_slice(*entries.allocator(), bytes)?;
@@ -54,7 +56,8 @@ pub fn keep_length(
 ) -> Result<(), AllocError>
     ensures items { file.new.items ≡ file.old.items }
     ensures room { OnOk result (n ≤ vec_capacity file.new) }
-    ensures ok { OnOk result (newest_first entries.new.items ≡ record { began = began; change = Sized n } ∷ newest_first entries.old.items) }
+    ensures ok { OnOk result (newest_first entries.new.items
+        ≡ record { began = began; change = Sized n } ∷ newest_first entries.old.items) }
     ensures err { OnErr result (entries.new.items ≡ entries.old.items) }
 {
     make_room(file, n)?;

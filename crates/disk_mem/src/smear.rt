@@ -51,7 +51,8 @@ pub fn smear(file: &mut Vec<u8>, entries: &[Entry], byte: u8) -> Result<(), Allo
 
 /// Puts the byte into the range of the call at an index, where that is a write of the turn.
 pub fn smear_next(file: &mut Vec<u8>, entries: &[Entry], index: usize, turn: u64, byte: u8)
-    ensures { file.new.items ≡ smeared_next turn byte (option_map stamp_of (slice_get entries.now index)) file.old.items }
+    ensures { file.new.items ≡ smeared_next turn byte (option_map stamp_of (slice_get entries.now index))
+        file.old.items }
 {
     if index >= entries.len() {
         return;

@@ -3,7 +3,7 @@ ghost use Rattle.std.specs.Prelude.{◌≡◌, ◌<◌, ◌≤◌, ◌↔◌, mi
 ghost use Rattle.disk_face.specs.Counts.{HasCause};
 ghost use Rattle.disk_face.specs.Streams.{Takes, Puts};
 ghost use Rattle.disk_mem.specs.Lists.{next_call, is_listed};
-ghost use Rattle.disk_mem.specs.Streams.{supply_after, supply_failed, put_fails, intake_after, intake_failed};
+ghost use Rattle.disk_mem.specs.Streams.{supply_after, supply_failed, put_fails, intake_after, intake_failed, source_state, sink_state};
 
 use disk_face::{Sink, SinkFault, Source, SourceFault};
 use slot_codec::NoMemory;
@@ -27,7 +27,13 @@ impl Model for MemSource {
 
     ghost Value = { Supply };
 
-    ghost view = { λ s. record { left = drop s.at s.bytes.items; piece = s.piece; fails = s.fails.items; calls = s.calls; faults = s.faults } };
+    ghost view = { λ s. record {
+      left = drop s.at s.bytes.items;
+      piece = s.piece;
+      fails = s.fails.items;
+      calls = s.calls;
+      faults = s.faults;
+    } };
 
     ghost invariant = { λ s. (0 < s.piece) × (s.at ≤ length s.bytes.items) };
 }
@@ -37,7 +43,13 @@ impl MemSource {
     /// numbers, from 1, are listed.
     pub fn new(bytes: Vec<u8>, piece: usize, fails: Vec<u64>) -> MemSource
         requires { 0 < piece }
-        ensures { result ≡ record { left = bytes.items; piece = piece; fails = fails.items; calls = 0; faults = 0 } }
+        ensures { result ≡ record {
+          left = bytes.items;
+          piece = piece;
+          fails = fails.items;
+          calls = 0;
+          faults = 0;
+        } }
     {
         MemSource {
             bytes,
@@ -51,20 +63,15 @@ impl MemSource {
 }
 
 impl Source for MemSource {
-    ghost use Rattle.std.specs.Prelude.{true};
-
-    ghost tells = { λ _. true };
-
-    ghost left = { λ s. s.left };
-
-    ghost faults = { λ s. s.faults };
+    ghost state = { source_state };
 
     fn take(&mut self, out: &mut [u8]) -> Result<usize, SourceFault>
         ensures bound { IfOk result (λ n. n ≤ length out.old) }
         ensures taken { Takes self.old.left self.new.left out.new result }
         ensures cause { HasCause self.old.faults self.new.faults result }
         ensures fails { IsErr result ↔ IsTrue (is_listed self.old.fails (next_call self.old.calls)) }
-        ensures count { IfOk result (λ n. n ≡ min (min (length out.old) self.old.piece) (length self.old.left)) }
+        ensures count { IfOk result (λ n. n
+            ≡ min (min (length out.old) self.old.piece) (length self.old.left)) }
         ensures ok { IfOk result (λ n. self.new ≡ supply_after n self.old) }
         ensures err { OnErr result (self.new ≡ supply_failed self.old) }
     {
@@ -96,7 +103,13 @@ impl Model for MemSink {
 
     ghost Value = { Intake };
 
-    ghost view = { λ s. record { given = s.bytes.items; room = s.room; fails = s.fails.items; calls = s.calls; faults = s.faults } };
+    ghost view = { λ s. record {
+      given = s.bytes.items;
+      room = s.room;
+      fails = s.fails.items;
+      calls = s.calls;
+      faults = s.faults;
+    } };
 
     ghost invariant = { λ s. (length s.bytes.items ≤ s.room) × (s.room ≤ vec_capacity s.bytes) };
 }
@@ -105,7 +118,8 @@ impl MemSink {
     /// Is empty, and takes memory for `room` bytes. It fails the calls whose numbers, from 1, are
     /// listed, and those whose bytes don't fit.
     pub fn with_room(alloc: Global, room: u64, fails: Vec<u64>) -> Result<MemSink, NoMemory>
-        ensures { IfOk result (λ sink. sink ≡ record { given = []; room = room; fails = fails.items; calls = 0; faults = 0 }) }
+        ensures { IfOk result (λ sink. sink
+            ≡ record { given = []; room = room; fails = fails.items; calls = 0; faults = 0 }) }
     {
         let Ok(bytes) = Vec::with_capacity(alloc, room as usize) else {
             return Err(NoMemory);
@@ -128,13 +142,7 @@ impl MemSink {
 }
 
 impl Sink for MemSink {
-    ghost use Rattle.std.specs.Prelude.{true};
-
-    ghost tells = { λ _. true };
-
-    ghost given = { λ s. s.given };
-
-    ghost faults = { λ s. s.faults };
+    ghost state = { sink_state };
 
     fn put(&mut self, bytes: &[u8]) -> Result<(), SinkFault>
         ensures put { Puts self.old.given self.new.given bytes.now result }

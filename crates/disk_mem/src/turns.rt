@@ -9,7 +9,8 @@ use crate::record::{Call, Entry};
 /// How many of the recorded calls had ended by the turn.
 pub fn ended_by(entries: &[Entry], turn: u64) -> usize
     ensures within { result ≤ length entries.now }
-    ensures turn { at_turn turn None (newest_first entries.now) ≡ (option_map stamp_of (slice_get entries.now result), newest_first (take result entries.now)) }
+    ensures turn { at_turn turn None (newest_first entries.now)
+        ≡ (option_map stamp_of (slice_get entries.now result), newest_first (take result entries.now)) }
 {
     let mut count = entries.len();
     'later: while count > 0 {

@@ -1,12 +1,14 @@
 pub mod EditLemmas
 pub mod EntryLemmas
 pub mod MapLemmas
-pub mod OperationLemmas
+pub mod FoundLemmas
 pub mod OrderLemmas
 pub mod PlaceLemmas
 pub mod RetainLemmas
 pub mod SearchLemmas
 pub mod SettleLemmas
 pub mod SideLemmas
-pub mod SoundLemmas
+pub mod ChangeLemmas
 pub mod TableLemmas
+pub mod ExtentLaws
+pub mod SaveLaws

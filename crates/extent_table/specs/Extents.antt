@@ -14,8 +14,9 @@ Spots = fin.FinMap name_cmp Spot
 abbrev pub Keys : Type 0
 Keys = fin.FinMap name_cmp ℕ
 
--- how many names may be live, where objects stand now, where they stood at the last checkpoint, and the key of each
--- name that is live now
+-- how many names may be live, where objects stand now, where they stood at the last checkpoint, and the key
+-- of
+-- each name that is live now
 pub record Extents : Type 0 where
   pub names : ℕ
   pub now : Spots
@@ -36,7 +37,8 @@ IsLive e key = (name : List ℕ) × (fin.get e.keys name ≡ Some key)
 
 -- the object of the live name with this key moves to a place, with its size, and no other does
 abbrev pub MovesTo : Extents → ℕ → ℕ → Spots → Type 0
-MovesTo e key place after = (name : List ℕ) → fin.get e.keys name ≡ Some key → IsSomeAnd (fin.get e.now name) (λ s. after ≡ fin.insert e.now name (record s { place = place }))
+MovesTo e key place after = (name : List ℕ) → fin.get e.keys name ≡ Some key
+    → IsSomeAnd (fin.get e.now name) (λ s. after ≡ fin.insert e.now name (record s { place = place }))
 
 -- exactly the live names have keys, and the keys all differ
 pub record HasKeys (now : Spots) (keys : Keys) : Type 0 where
@@ -45,7 +47,8 @@ pub record HasKeys (now : Spots) (keys : Keys) : Type 0 where
 
 -- a name that is live before and after keeps its key
 abbrev pub KeepsKeys : Keys → Keys → Type 0
-KeepsKeys old new = (name : List ℕ) (key after : ℕ) → fin.get old name ≡ Some key → fin.get new name ≡ Some after → after ≡ key
+KeepsKeys old new = (name : List ℕ) (key after : ℕ) → fin.get old name ≡ Some key
+    → fin.get new name ≡ Some after → after ≡ key
 
 -- what holds of each table
 pub record IsTable (e : Extents) : Type 0 where
@@ -61,18 +64,21 @@ pub record IsTable (e : Extents) : Type 0 where
 abbrev pub record_of : List ℕ × Spot → Record
 record_of e = record { name = e.0; place = e.1.place; size = e.1.size }
 
--- the records of a map of spots, by name. In a table each name is a name of the file, so that none is left out
+-- The records of a map of spots, by name. In a table each name is a name of the file, so none is left out.
 abbrev pub records_of : Spots → List Record
 records_of spots = map record_of (filter (λ e. is_name e.0) (fin.entries spots))
 
 abbrev pub spot_code : Coded Spot
-spot_code = code_by (ℕ × ℕ) (coded× coded_ℕ coded_ℕ) (λ s. (s.place, s.size)) (λ p. record { place = p.0; size = p.1 }) (λ _. refl)
+spot_code = code_by (ℕ × ℕ) (coded× coded_ℕ coded_ℕ) (λ s. (s.place, s.size))
+    (λ p. record { place = p.0; size = p.1 }) (λ _. refl)
 
 abbrev pub extents_code : Coded Extents
 extents_code =
     code_by (ℕ × (Spots × (Spots × fin.FinMap name_cmp ℕ)))
-    (coded× coded_ℕ (coded× (fin.code (coded_list coded_ℕ) spot_code) (coded× (fin.code (coded_list coded_ℕ) spot_code) (fin.code (coded_list coded_ℕ) coded_ℕ))))
-    (λ e. (e.names, (e.now, (e.kept, e.keys)))) (λ p. record { names = p.0; now = p.1.0; kept = p.1.1.0; keys = p.1.1.1 }) (λ _. refl)
+    (coded× coded_ℕ (coded× (fin.code (coded_list coded_ℕ) spot_code)
+    (coded× (fin.code (coded_list coded_ℕ) spot_code) (fin.code (coded_list coded_ℕ) coded_ℕ))))
+    (λ e. (e.names, (e.now, (e.kept, e.keys))))
+    (λ p. record { names = p.0; now = p.1.0; kept = p.1.1.0; keys = p.1.1.1 }) (λ _. refl)
 
 -- a table with no names in it
 abbrev pub empty_extents : ℕ → Extents

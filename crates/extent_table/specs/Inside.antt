@@ -1,9 +1,12 @@
 -- What holds of the fields of a table.
 --
--- The slab has one entry for each name that is live or was kept. `order` lists the keys of exactly the entries that stand
--- now, and `kept_order` of exactly those that were kept, each by rising name, so that their lengths are the two counts.
--- The volumes are the sums of the sizes. Each order has at most `names` keys and room for as many. So there are at most
--- `2 * names` entries, and the slab has room for as many; its keys are below 2^32.
+-- The slab has one entry for each name that is live or was kept. `order` lists the keys of exactly the
+-- entries
+-- that stand now, and `kept_order` of exactly those that were kept, each by rising name, so that their
+-- lengths
+-- are the two counts. The volumes are the sums of the sizes. Each order has at most `names` keys and room for
+-- as
+-- many. So there are at most `2 * names` entries, and the slab has room for as many; its keys are below 2^32.
 use Rattle.std.specs.Prelude.{◌≡◌, vec_capacity}
 use Rattle.extent_table.specs.declared.table.Table.TheInside.{Inside}
 use Rattle.extent_table.specs.Extents.{Extents}

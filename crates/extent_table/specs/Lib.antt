@@ -1,5 +1,4 @@
 pub mod Extents
 pub mod Parts
-pub mod ExtentLaws
 pub mod Inside
-pub mod SaveLaws
+pub mod Rising

@@ -58,7 +58,8 @@ Lists order key = (i : ℕ) × (i < length order) × (slice_index order i ≡ ke
 
 -- the names of an order's entries strictly rise, said of all pairs
 abbrev pub Rises : Slots → List ℕ → Type 0
-Rises slots order = (i j : ℕ) → i < j → j < length order → name_cmp (name_of (at slots (slice_index order i))) (name_of (at slots (slice_index order j))) ≡ Less
+Rises slots order = (i j : ℕ) → i < j → j < length order
+    → name_cmp (name_of (at slots (slice_index order i))) (name_of (at slots (slice_index order j))) ≡ Less
 
 -- the order has exactly the keys whose entries have this side, and their names strictly rise
 pub record IsOrder (side : Option Entry → Option Spot) (slots : Slots) (order : List ℕ) : Type 0 where
@@ -68,8 +69,10 @@ pub record IsOrder (side : Option Entry → Option Spot) (slots : Slots) (order 
 
 -- each entry has a side at least, a name of its own, and numbers in range
 pub record IsEntries (slots : Slots) : Type 0 where
-  pub used : (key : ℕ) → IsSome (at slots key) → IsSome (now_of (at slots key)) ⊎ IsSome (kept_of (at slots key))
-  pub one : (a b : ℕ) → IsSome (at slots a) → IsSome (at slots b) → name_of (at slots a) ≡ name_of (at slots b) → a ≡ b
+  pub used : (key : ℕ) → IsSome (at slots key)
+      → IsSome (now_of (at slots key)) ⊎ IsSome (kept_of (at slots key))
+  pub one : (a b : ℕ) → IsSome (at slots a) → IsSome (at slots b)
+      → name_of (at slots a) ≡ name_of (at slots b) → a ≡ b
   pub named : (key : ℕ) → IsSome (at slots key) → IsName (name_of (at slots key))
   pub now_in_range : (key : ℕ) → IsInRange (spot_at now_of slots key)
   pub kept_in_range : (key : ℕ) → IsInRange (spot_at kept_of slots key)

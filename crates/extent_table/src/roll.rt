@@ -4,7 +4,7 @@ use slot_codec::{Record, Roll};
 
 impl Roll for Table {
     ghost use Rattle.extent_table.specs.Extents.{records_of};
-    ghost use Rattle.extent_table.specs.ExtentLaws.{records_of-rise};
+    ghost use Rattle.extent_table.specs.Rising.{records_of-rise};
 
     ghost records = { λ table. records_of table.now };
 

@@ -198,7 +198,8 @@ impl Table {
     /// Where the object of the live name with this key stood at the last checkpoint.
     pub fn kept_spot(&self, key: u32) -> Option<Spot>
         requires { IsLive self.now key }
-        ensures { (name : List ℕ) → fin.get self.now.keys name ≡ Some key → result ≡ fin.get self.now.kept name }
+        ensures { (name : List ℕ) → fin.get self.now.keys name ≡ Some key
+            → result ≡ fin.get self.now.kept name }
     {
         self.entries.get(key as usize).unwrap().kept
     }

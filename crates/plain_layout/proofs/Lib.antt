@@ -1,4 +1,3 @@
 pub mod SumSteps
-pub mod FirstLemmas
 pub mod ChargeSteps
 pub mod ChangeLemmas

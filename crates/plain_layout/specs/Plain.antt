@@ -1,9 +1,9 @@
 -- The table of the program as the rules see it.
 use Rattle.plain_layout.specs.declared.table.Table.{Table}
-use Rattle.segment_layout.specs.Tables.{Layed}
+use Rattle.table_rules.specs.Tables.{PlacedTable}
 
-abbrev pub layed : Table → Layed
-layed t =
+abbrev pub placed : Table → PlacedTable
+placed t =
     record {
       classes = t.classes;
       size_max = t.size_max;

@@ -1,6 +1,6 @@
 //! The numbers of a book, and what charging does to them.
 ghost use Rattle.std.specs.Prelude.{◌≡◌, ◌≤◌, ◌<◌, ◌^◌, ◌*◌, slice_index, is_some, ◌+◌, IsTrue, IfSome};
-ghost use Rattle.plain_layout.specs.Changes.{after_one};
+ghost use Rattle.plain_layout.specs.Changes.{after_one, finds_last};
 ghost use Rattle.segment_layout.specs.Books.{charge_all, is_quiet, trigger};
 ghost use Rattle.segment_layout.specs.Shapes.{buffer_for, buffer_of, end_of, has_room, taken_in};
 ghost use Rattle.size_class.specs.Classes.{cell, class_of};
@@ -26,6 +26,8 @@ pub struct Charged {
     pub quiet: bool,
     /// The least class of the items that found none, or 31.
     pub trigger: u8,
+    /// The last item found room.
+    pub found_last: bool,
 }
 
 impl Book {
@@ -91,7 +93,8 @@ impl Book {
     /// Charges an item to the first buffer that has room for it, and says whether one has.
     pub fn charge(&mut self, size: u64) -> bool
         requires divisor { 1 ≤ self.old.k }
-        ensures found { result ≡ is_some (buffer_for self.old.k self.old.caps self.old.used (class_of size) size) }
+        ensures found { result ≡ is_some (buffer_for self.old.k self.old.caps self.old.used (class_of size)
+            size) }
         ensures used { self.new.used ≡ after_one self.old.k self.old.caps self.old.used size }
         ensures divisor { self.new.k ≡ self.old.k }
         ensures caps { self.new.caps ≡ self.old.caps }
@@ -107,24 +110,34 @@ impl Book {
     }
 
     /// Charges items in turn.
-    #[tactic(auto, using(crate::proofs::ChargeSteps::charged_next, crate::proofs::ChargeSteps::grid_next))]
+    #[tactic(auto, using(crate::proofs::ChargeSteps::charged_next, crate::proofs::ChargeSteps::grid_next, crate::proofs::ChargeSteps::last_next))]
     pub fn charge_all(&mut self, items: &[u64]) -> Charged
         requires divisor { 1 ≤ self.old.k }
-        ensures quiet { result.quiet ≡ is_quiet (charge_all self.old.k self.old.caps self.old.used items.now) }
-        ensures trigger { result.trigger ≡ trigger (charge_all self.old.k self.old.caps self.old.used items.now) }
+        ensures quiet { result.quiet ≡ is_quiet
+            (charge_all self.old.k self.old.caps self.old.used items.now) }
+        ensures trigger { result.trigger ≡ trigger
+            (charge_all self.old.k self.old.caps self.old.used items.now) }
         ensures small { result.trigger < 32 }
+        ensures last { result.found_last ≡ finds_last
+            (charge_all self.old.k self.old.caps self.old.used items.now) }
         ensures used { self.new.used ≡ (charge_all self.old.k self.old.caps self.old.used items.now).grid }
         ensures divisor { self.new.k ≡ self.old.k }
         ensures caps { self.new.caps ≡ self.old.caps }
     {
         let mut quiet = true;
         let mut trigger = 31;
+        let mut found_last = false;
         'items: for item in items {
-            if !self.charge(*item) {
+            found_last = self.charge(*item);
+            if !found_last {
                 quiet = false;
                 trigger = class_of(*item).min(trigger);
             }
         }
-        Charged { quiet, trigger }
+        Charged {
+            quiet,
+            trigger,
+            found_last,
+        }
     }
 }

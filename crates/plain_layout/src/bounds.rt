@@ -27,7 +27,8 @@ pub fn is_tight(k: u64, len: u64, bytes: u64) -> bool
 pub fn is_loose(k: u64, len: u64, before: Sizes, after: Sizes) -> bool
     requires low { 1 ≤ k }
     requires high { k ≤ 64 }
-    ensures { (m n : Map) → volume m ≡ before.volume → largest m ≡ before.largest → volume n ≡ after.volume → largest n ≡ after.largest → (IsTrue result ↔ Loose k len m n) }
+    ensures { (m n : Map) → volume m ≡ before.volume → largest m ≡ before.largest → volume n ≡ after.volume
+        → largest n ≡ after.largest → (IsTrue result ↔ Loose k len m n) }
 {
     let volume = before.volume.max(after.volume);
     let largest = before.largest.max(after.largest);

@@ -1,15 +1,16 @@
-//! What a change does to the numbers of a book.
-ghost use Rattle.std.specs.Prelude.{◌≡◌, ◌≤◌, ◌<◌, ◌^◌, ◌++◌, [], IfOk, OnOk, if◌then◌else◌, length, map, sum};
+//! What a change does to a book: its numbers, and which names stand in buffers after it.
+ghost use Rattle.std.specs.Prelude.{◌≡◌, ◌≤◌, ◌<◌, ◌^◌, ◌++◌, [], ℕ, List, IfOk, OnOk, if◌then◌else◌, length, map, sum};
 ghost use Rattle.std.specs.FinMap as fin;
 ghost use Rattle.std.specs.FinSet as set;
 ghost use Rattle.std.specs.Option.{option_map};
-ghost use Rattle.plain_layout.specs.Changes.{IsNext, sized};
+ghost use Rattle.plain_layout.specs.Changes.{IsNext, enters, finds_last, is_of_lower, sized, stays_buffered};
 ghost use Rattle.segment_layout.specs.Books as books;
 ghost use Rattle.segment_layout.specs.Books.{charge_all, new_item, next_book, old_item, reshaped, volumes_of_sizes};
 ghost use Rattle.store_terms.specs.Maps.{Map};
 ghost use Rattle.store_terms.specs.Requests.{Change, changed};
+ghost use Rattle.store_terms.specs.Weights.{same_name};
 
-use crate::Book;
+use crate::{Book, class_of};
 use std::alloc::{AllocError, Global};
 
 /// What a change does to the numbers of a book.
@@ -21,6 +22,8 @@ pub struct Next {
     pub boundary: u8,
     /// The numbers after the change.
     pub book: Book,
+    /// The last item found room.
+    pub found_last: bool,
 }
 
 impl Book {
@@ -29,12 +32,23 @@ impl Book {
     pub fn next(&self, items: &[u64], after: &[u64]) -> Next
         requires divisor { 1 ≤ self.now.k }
         requires fits { sum after.now < 2 ^ 64 }
-        ensures quiet { result.quiet ≡ (reshaped self.now.k self.now.caps (charge_all self.now.k self.now.caps self.now.used items.now) (volumes_of_sizes after.now)).quiet }
-        ensures boundary { result.boundary ≡ (reshaped self.now.k self.now.caps (charge_all self.now.k self.now.caps self.now.used items.now) (volumes_of_sizes after.now)).boundary }
-        ensures caps { result.book.caps ≡ (reshaped self.now.k self.now.caps (charge_all self.now.k self.now.caps self.now.used items.now) (volumes_of_sizes after.now)).caps }
-        ensures used { result.book.used ≡ (reshaped self.now.k self.now.caps (charge_all self.now.k self.now.caps self.now.used items.now) (volumes_of_sizes after.now)).grid }
+        ensures quiet { result.quiet ≡ (reshaped self.now.k self.now.caps
+            (charge_all self.now.k self.now.caps self.now.used items.now)
+            (volumes_of_sizes after.now)).quiet }
+        ensures boundary { result.boundary
+            ≡ (reshaped self.now.k self.now.caps (charge_all self.now.k self.now.caps self.now.used items.now)
+            (volumes_of_sizes after.now)).boundary }
+        ensures caps { result.book.caps ≡ (reshaped self.now.k self.now.caps
+            (charge_all self.now.k self.now.caps self.now.used items.now) (volumes_of_sizes after.now)).caps }
+        ensures used { result.book.used ≡ (reshaped self.now.k self.now.caps
+            (charge_all self.now.k self.now.caps self.now.used items.now) (volumes_of_sizes after.now)).grid }
         ensures divisor { result.book.k ≡ self.now.k }
-        ensures book { (m : Map) (book : books.Book) (c : Change) → book.caps ≡ self.now.caps → book.grid ≡ self.now.used → old_item m book c.name ++ new_item c ≡ items.now → map length (fin.values (changed c m)) ≡ after.now → IsNext result.quiet result.boundary result.book.caps result.book.used (next_book self.now.k m book c) }
+        ensures last { result.found_last
+            ≡ finds_last (charge_all self.now.k self.now.caps self.now.used items.now) }
+        ensures book { (m : Map) (book : books.Book) (c : Change) → book.caps ≡ self.now.caps
+            → book.grid ≡ self.now.used → old_item m book c.name ++ new_item c ≡ items.now
+            → map length (fin.values (changed c m)) ≡ after.now
+            → IsNext result self.now.k m book c }
     {
         self.reshaped(items, after)
     }
@@ -43,11 +57,19 @@ impl Book {
     fn reshaped(&self, items: &[u64], after: &[u64]) -> Next
         requires divisor { 1 ≤ self.now.k }
         requires fits { sum after.now < 2 ^ 64 }
-        ensures quiet { result.quiet ≡ (reshaped self.now.k self.now.caps (charge_all self.now.k self.now.caps self.now.used items.now) (volumes_of_sizes after.now)).quiet }
-        ensures boundary { result.boundary ≡ (reshaped self.now.k self.now.caps (charge_all self.now.k self.now.caps self.now.used items.now) (volumes_of_sizes after.now)).boundary }
-        ensures caps { result.book.caps ≡ (reshaped self.now.k self.now.caps (charge_all self.now.k self.now.caps self.now.used items.now) (volumes_of_sizes after.now)).caps }
-        ensures used { result.book.used ≡ (reshaped self.now.k self.now.caps (charge_all self.now.k self.now.caps self.now.used items.now) (volumes_of_sizes after.now)).grid }
+        ensures quiet { result.quiet ≡ (reshaped self.now.k self.now.caps
+            (charge_all self.now.k self.now.caps self.now.used items.now)
+            (volumes_of_sizes after.now)).quiet }
+        ensures boundary { result.boundary
+            ≡ (reshaped self.now.k self.now.caps (charge_all self.now.k self.now.caps self.now.used items.now)
+            (volumes_of_sizes after.now)).boundary }
+        ensures caps { result.book.caps ≡ (reshaped self.now.k self.now.caps
+            (charge_all self.now.k self.now.caps self.now.used items.now) (volumes_of_sizes after.now)).caps }
+        ensures used { result.book.used ≡ (reshaped self.now.k self.now.caps
+            (charge_all self.now.k self.now.caps self.now.used items.now) (volumes_of_sizes after.now)).grid }
         ensures divisor { result.book.k ≡ self.now.k }
+        ensures last { result.found_last
+            ≡ finds_last (charge_all self.now.k self.now.caps self.now.used items.now) }
     {
         let mut book = *self;
         let charged = book.charge_all(items);
@@ -61,7 +83,50 @@ impl Book {
             quiet: charged.quiet,
             boundary,
             book,
+            found_last: charged.found_last,
         }
+    }
+}
+
+impl Next {
+    /// Whether a name stands in a buffer after the change: by whether it did before, whether the
+    /// change is of this name, and the size of its object after the change, if there is one.
+    pub fn is_buffered(&self, was: bool, is_changed: bool, size: Option<u64>) -> bool
+        ensures value { result ≡ stays_buffered self.now was is_changed size }
+        ensures names { (k : ℕ) (m : Map) (book : books.Book) (c : Change) (name : List ℕ)
+            → IsNext self.now k m book c → set.contains book.buffered name ≡ was
+            → same_name name c.name ≡ is_changed → option_map length (fin.get (changed c m) name) ≡ size
+            → set.contains (next_book k m book c).book.buffered name ≡ result }
+    {
+        self.stays(was, is_changed, size)
+    }
+
+    /// Whether a name stands in a buffer before anything is laid out anew, and is left there.
+    fn stays(&self, was: bool, is_changed: bool, size: Option<u64>) -> bool
+        ensures { result ≡ stays_buffered self.now was is_changed size }
+    {
+        let stands = if is_changed { self.enters(size) } else { was };
+        stands && (self.quiet || is_of_lower(self.boundary, size))
+    }
+
+    /// Whether the new object stands in a buffer before anything is laid out anew.
+    fn enters(&self, size: Option<u64>) -> bool
+        ensures { result ≡ enters self.now.found_last size }
+    {
+        match size {
+            Some(size) => 0 < size && self.found_last,
+            None => false,
+        }
+    }
+}
+
+/// Whether there is an object, and of a class below `b`.
+fn is_of_lower(b: u8, size: Option<u64>) -> bool
+    ensures { result ≡ is_of_lower b size }
+{
+    match size {
+        Some(size) => class_of(size) < b,
+        None => false,
     }
 }
 
@@ -73,8 +138,11 @@ pub fn items_of(
     is_buffered: bool,
     new: Option<u64>,
 ) -> Result<Vec<u64>, AllocError>
-    ensures items { IfOk result (λ items. items.items ≡ (if is_buffered then [] else sized old) ++ sized new) }
-    ensures change { IfOk result (λ items. (m : Map) (book : books.Book) (c : Change) → option_map length (fin.get m c.name) ≡ old → set.contains book.buffered c.name ≡ is_buffered → option_map length c.object ≡ new → items.items ≡ old_item m book c.name ++ new_item c) }
+    ensures items { IfOk result (λ items. items.items ≡ (if is_buffered then [] else sized old)
+        ++ sized new) }
+    ensures change { IfOk result (λ items. (m : Map) (book : books.Book) (c : Change)
+        → option_map length (fin.get m c.name) ≡ old → set.contains book.buffered c.name ≡ is_buffered
+        → option_map length c.object ≡ new → items.items ≡ old_item m book c.name ++ new_item c) }
 {
     let mut items = Vec::new(alloc);
     if !is_buffered {

@@ -1,9 +1,8 @@
 //! The first rule that a table breaks, and where.
 ghost use Rattle.std.specs.Prelude.{◌≡◌, ◌≤◌, ◌<◌, ◌↔◌, IsTrue, IsNone, IfSome};
-ghost use Rattle.plain_layout.specs.Firsts.{AllHold, BreaksAt, last_of, named};
-ghost use Rattle.plain_layout.specs.Plain.{layed};
-ghost use Rattle.segment_layout.specs.Rules.{FirstBroken, RuleAt, number_of, places_of};
-ghost use Rattle.segment_layout.specs.Tables.{IsValid};
+ghost use Rattle.plain_layout.specs.Firsts.{BreaksAt, named};
+ghost use Rattle.plain_layout.specs.Plain.{placed};
+ghost use Rattle.table_rules.specs.Rules.{AllHold, FirstBroken, IsValid, RuleAt, last_of, moving_places, number_of, places_of};
 
 use crate::Table;
 use slot_codec::Kind;
@@ -13,13 +12,13 @@ use slot_codec::Kind;
 pub enum Rule {
     SizeFits,
     EmptyAtZero,
-    WithinData,
-    HeaderFront,
+    EndsWithin,
+    KindFits,
     NothingAbove,
     RowFits,
     LowerStands,
-    Apart,
-    Balance,
+    ApartFromEarlier,
+    Balances,
     BuffersFull,
     RoomToResume,
     PlacesToResume,
@@ -29,20 +28,20 @@ impl Table {
     /// Whether a rule holds at a place: a record, a class, or 0.
     pub fn holds(&self, rule: Rule, at: usize) -> bool
         requires divisor { 1 ≤ self.now.k }
-        requires within { at < places_of (named rule) (layed self.now) }
-        ensures { IsTrue result ↔ RuleAt (named rule) (layed self.now) at }
+        requires within { at < places_of (named rule) (placed self.now) }
+        ensures { IsTrue result ↔ RuleAt (named rule) (placed self.now) at }
     {
-        let _bound = self.bound();
+        let _boundary = self.table_boundary();
         match rule {
             Rule::SizeFits => self.size_fits(at),
             Rule::EmptyAtZero => self.empty_at_zero(at),
-            Rule::WithinData => self.within_data(at),
-            Rule::HeaderFront => self.header_front(),
+            Rule::EndsWithin => self.ends_within(at),
+            Rule::KindFits => self.kind_fits(),
             Rule::NothingAbove => self.nothing_above(at as u8),
             Rule::RowFits => self.row_fits(at as u8),
             Rule::LowerStands => self.lower_stands(at),
-            Rule::Apart => self.apart(at),
-            Rule::Balance => self.balance(at as u8),
+            Rule::ApartFromEarlier => self.apart_from_earlier(at),
+            Rule::Balances => self.balances(at as u8),
             Rule::BuffersFull => self.buffers_full(at as u8),
             Rule::RoomToResume => self.room_to_resume(),
             Rule::PlacesToResume => self.places_to_resume(at),
@@ -51,22 +50,36 @@ impl Table {
 
     /// How many places a rule has, counted from 0.
     pub fn places(&self, rule: Rule) -> usize
-        ensures { result ≡ places_of (named rule) (layed self.now) }
+        ensures { result ≡ places_of (named rule) (placed self.now) }
     {
         match rule {
-            Rule::HeaderFront | Rule::RoomToResume => 1,
-            Rule::WithinData => self.records.len() + 1,
+            Rule::KindFits => 1,
+            Rule::EndsWithin => self.records.len() + 1,
             Rule::NothingAbove => 32,
-            Rule::RowFits | Rule::Balance | Rule::BuffersFull => usize::from(self.bound()),
+            Rule::RowFits | Rule::Balances | Rule::BuffersFull => usize::from(
+                self.table_boundary(),
+            ),
+            Rule::RoomToResume => self.moving_places(1),
+            Rule::PlacesToResume => self.moving_places(self.records.len()),
             _ => self.records.len(),
+        }
+    }
+
+    /// How many places a rule of moving tables has, which are none in a settled one.
+    fn moving_places(&self, places: usize) -> usize
+        ensures { result ≡ moving_places self.now.header.kind places }
+    {
+        match self.header.kind {
+            Kind::Settled => 0,
+            Kind::Moving => places,
         }
     }
 
     /// The first place at which a rule is broken.
     pub fn first_of(&self, rule: Rule) -> Option<usize>
         requires divisor { 1 ≤ self.now.k }
-        ensures none { IsNone result → AllHold (named rule) (layed self.now) }
-        ensures first { IfSome result (λ at. BreaksAt (named rule) (layed self.now) at) }
+        ensures none { IsNone result → AllHold (named rule) (placed self.now) }
+        ensures first { IfSome result (λ at. BreaksAt (named rule) (placed self.now) at) }
     {
         'places: for at in 0..self.places(rule) {
             if !self.holds(rule, at) {
@@ -77,11 +90,11 @@ impl Table {
     }
 
     /// The number of the first rule that is broken, and the least place at which it is. None
-    /// exactly where the table is valid: all rules hold at all places, the last two if it is moving.
+    /// exactly where the table is valid: all rules hold at all their places.
     pub fn first_broken(&self) -> Option<(u8, u64)>
         requires divisor { 1 ≤ self.now.k }
-        ensures first { IfSome result (λ first. FirstBroken (layed self.now) first.0 first.1) }
-        ensures valid { IsNone result ↔ IsValid (layed self.now) }
+        ensures first { IfSome result (λ first. FirstBroken (placed self.now) first.0 first.1) }
+        ensures valid { IsNone result ↔ IsValid (placed self.now) }
     {
         'rules: for number in 1..self.last_rule() + 1 {
             if let Some(at) = self.first_of(rule_of(number)) {
@@ -111,13 +124,13 @@ pub fn rule_of(number: u8) -> Rule
     match number {
         1 => Rule::SizeFits,
         2 => Rule::EmptyAtZero,
-        3 => Rule::WithinData,
-        4 => Rule::HeaderFront,
+        3 => Rule::EndsWithin,
+        4 => Rule::KindFits,
         5 => Rule::NothingAbove,
         6 => Rule::RowFits,
         7 => Rule::LowerStands,
-        8 => Rule::Apart,
-        9 => Rule::Balance,
+        8 => Rule::ApartFromEarlier,
+        9 => Rule::Balances,
         10 => Rule::BuffersFull,
         11 => Rule::RoomToResume,
         _ => Rule::PlacesToResume,

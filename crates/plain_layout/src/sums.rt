@@ -1,8 +1,8 @@
 //! Sums over the records of a table.
 ghost use Rattle.std.specs.Prelude.{◌≡◌, ◌≤◌, ◌<◌, ◌^◌};
 ghost use Rattle.byte_ranges.specs.Lists.{sum_below};
-ghost use Rattle.plain_layout.specs.Plain.{layed};
-ghost use Rattle.segment_layout.specs.Tables.{dead_in_buffer, live, live_in_buffer, live_in_payload, size_sum};
+ghost use Rattle.plain_layout.specs.Plain.{placed};
+ghost use Rattle.table_rules.specs.Tables.{dead_in_buffer, live, live_in_buffer, live_in_payload, size_sum};
 ghost use Rattle.size_class.specs.Classes.{width};
 
 use crate::Table;
@@ -23,7 +23,7 @@ impl Table {
     /// The bytes of the objects of a class.
     #[tactic(auto, using(crate::proofs::SumSteps::size_sum_more))]
     pub fn live(&self, c: u8) -> u128
-        ensures sum { result ≡ live (layed self.now) c }
+        ensures sum { result ≡ live (placed self.now) c }
         ensures small { result < 2 ^ 127 }
     {
         let mut bytes = 0;
@@ -39,7 +39,7 @@ impl Table {
     #[tactic(auto, using(crate::proofs::SumSteps::size_sum_more))]
     pub fn live_in_payload(&self, c: u8) -> u128
         requires divisor { 1 ≤ self.now.k }
-        ensures sum { result ≡ live_in_payload (layed self.now) c }
+        ensures sum { result ≡ live_in_payload (placed self.now) c }
         ensures small { result < 2 ^ 127 }
     {
         let mut bytes = 0;
@@ -55,7 +55,7 @@ impl Table {
     #[tactic(auto, using(crate::proofs::SumSteps::size_sum_more))]
     pub fn live_in_buffer(&self, j: u8, c: u8) -> u128
         requires divisor { 1 ≤ self.now.k }
-        ensures sum { result ≡ live_in_buffer (layed self.now) j c }
+        ensures sum { result ≡ live_in_buffer (placed self.now) j c }
         ensures small { result < 2 ^ 127 }
     {
         let mut bytes = 0;
@@ -71,7 +71,7 @@ impl Table {
     #[tactic(auto, using(crate::proofs::SumSteps::sum_below_next))]
     pub fn dead(&self, c: u8) -> u128
         requires divisor { 1 ≤ self.now.k }
-        ensures sum { result ≡ sum_below width (λ j. dead_in_buffer (layed self.now) j c) }
+        ensures sum { result ≡ sum_below width (λ j. dead_in_buffer (placed self.now) j c) }
         ensures small { result ≤ 2 ^ 69 }
     {
         let mut bytes = 0;

@@ -1,8 +1,8 @@
 //! A table, and the numbers that its rules speak of.
 ghost use Rattle.std.specs.Prelude.{◌≡◌, ◌≤◌, ◌<◌, ◌+◌, ◌*◌, ◌^◌, sum, slice_index, slice_index_or, length};
-ghost use Rattle.plain_layout.specs.Plain.{layed};
+ghost use Rattle.plain_layout.specs.Plain.{placed};
 ghost use Rattle.segment_layout.specs.Shapes.{buffer_of, buffer_start, start_of, taken_in};
-ghost use Rattle.segment_layout.specs.Tables.{bound, end_of_record, is_lower, is_of, is_suffix, last_end, lies_in_buffer, lies_in_payload, lies_within, nth};
+ghost use Rattle.table_rules.specs.Tables.{table_boundary, end_of_record, is_lower, is_of, is_suffix, last_end, lies_in_buffer, lies_in_payload, lies_within, nth};
 ghost use Rattle.size_class.specs.Classes.{cell, class_of};
 
 use crate::class_of;
@@ -27,7 +27,7 @@ pub struct Table {
 impl Table {
     /// The place of a record, or 0 where there is none.
     pub fn place(&self, at: usize) -> u64
-        ensures { result ≡ (nth (layed self.now) at).place }
+        ensures { result ≡ (nth (placed self.now) at).place }
     {
         match self.records.get(at) {
             Some(record) => record.place,
@@ -37,7 +37,7 @@ impl Table {
 
     /// The size of a record, or 0 where there is none.
     pub fn size(&self, at: usize) -> u64
-        ensures { result ≡ (nth (layed self.now) at).size }
+        ensures { result ≡ (nth (placed self.now) at).size }
     {
         match self.records.get(at) {
             Some(record) => record.size,
@@ -47,7 +47,7 @@ impl Table {
 
     /// Where a record ends.
     pub fn end_of(&self, at: usize) -> u128
-        ensures place { result ≡ end_of_record (nth (layed self.now) at) }
+        ensures place { result ≡ end_of_record (nth (placed self.now) at) }
         ensures small { result < 2 ^ 65 }
     {
         u128::from(self.place(at)) + u128::from(self.size(at))
@@ -55,7 +55,7 @@ impl Table {
 
     /// The class of a record.
     pub fn class(&self, at: usize) -> u8
-        ensures same { result ≡ class_of (nth (layed self.now) at).size }
+        ensures same { result ≡ class_of (nth (placed self.now) at).size }
         ensures small { result < 32 }
     {
         class_of(self.size(at))
@@ -128,8 +128,8 @@ impl Table {
     }
 
     /// The boundary of a moving table. A settled one has its boundary behind the last class.
-    pub fn bound(&self) -> u8
-        ensures { result ≡ bound (layed self.now) }
+    pub fn table_boundary(&self) -> u8
+        ensures { result ≡ table_boundary (placed self.now) }
     {
         match self.header.kind {
             Kind::Settled => self.classes,
@@ -140,7 +140,7 @@ impl Table {
     /// Where a settled table's layout of the classes in use ends, or a moving table's wall.
     pub fn last_end(&self) -> u128
         requires divisor { 1 ≤ self.now.k }
-        ensures { result ≡ last_end (layed self.now) self.now.header.kind }
+        ensures { result ≡ last_end (placed self.now) self.now.header.kind }
     {
         match self.header.kind {
             Kind::Settled => self.start(self.classes),
@@ -150,29 +150,29 @@ impl Table {
 
     /// Whether a record has a class, and this one.
     pub fn is_of(&self, c: u8, at: usize) -> bool
-        ensures { result ≡ is_of c (nth (layed self.now) at) }
+        ensures { result ≡ is_of c (nth (placed self.now) at) }
     {
         0 < self.size(at) && self.class(at) == c
     }
 
     /// Whether a record has a class below the boundary.
     pub fn is_lower(&self, at: usize) -> bool
-        ensures { result ≡ is_lower (layed self.now) (nth (layed self.now) at) }
+        ensures { result ≡ is_lower (placed self.now) (nth (placed self.now) at) }
     {
-        0 < self.size(at) && self.class(at) < self.bound()
+        0 < self.size(at) && self.class(at) < self.table_boundary()
     }
 
     /// Whether a record has a class from the boundary on.
     pub fn is_suffix(&self, at: usize) -> bool
-        ensures { result ≡ is_suffix (layed self.now) (nth (layed self.now) at) }
+        ensures { result ≡ is_suffix (placed self.now) (nth (placed self.now) at) }
     {
-        0 < self.size(at) && self.bound() <= self.class(at)
+        0 < self.size(at) && self.table_boundary() <= self.class(at)
     }
 
     /// Whether a record lies in the payload segment of a class.
     pub fn lies_in_payload(&self, c: u8, at: usize) -> bool
         requires divisor { 1 ≤ self.now.k }
-        ensures { result ≡ lies_in_payload (layed self.now) c (nth (layed self.now) at) }
+        ensures { result ≡ lies_in_payload (placed self.now) c (nth (placed self.now) at) }
     {
         self.start(c) <= u128::from(self.place(at)) && self.end_of(at) <= self.buffer_start(c)
     }
@@ -180,7 +180,7 @@ impl Table {
     /// Whether a record lies in what is taken of a buffer.
     pub fn lies_in_buffer(&self, j: u8, at: usize) -> bool
         requires divisor { 1 ≤ self.now.k }
-        ensures { result ≡ lies_in_buffer (layed self.now) j (nth (layed self.now) at) }
+        ensures { result ≡ lies_in_buffer (placed self.now) j (nth (placed self.now) at) }
     {
         self.buffer_start(j) <= u128::from(self.place(at))
             && self.end_of(at) <= self.buffer_start(j) + self.taken(j)

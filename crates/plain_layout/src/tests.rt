@@ -143,7 +143,8 @@ fn first_broken_rules_of_two_objects(rt: HostRuntime) {
 #[test]
 fn first_broken_rules_of_a_moving_table(rt: HostRuntime) {
     macro_rules! tables {
-        ($($what:literal: $kind:ident $boundary:literal, $wall:literal, $slack:literal, $place:literal => $first:expr),*) => {$(
+        ($($what:literal: $kind:ident $boundary:literal, $wall:literal, $slack:literal,
+            $place:literal => $first:expr),*) => {$(
             let header = bare(Kind::$kind, $boundary, $wall, $slack);
             let first = under(rt.alloc(), 254, header, &[(b'a', $place, 100), (b'b', 239, 10), (b'c', 249, 5)]).expect(&rt, "memory");
             assert_eq!(rt; first, $first, $what);
@@ -192,7 +193,8 @@ fn lengths_within_bounds(rt: HostRuntime) {
         ($($k:literal, $bytes:literal: $most:literal),*) => {$(
             let one = Sizes { volume: $bytes, largest: $bytes };
             assert_eq!(rt;
-                (is_loose($k, $most, none, one), is_loose($k, $most, one, none), is_loose($k, $most + 1, none, one)),
+                (is_loose($k, $most, none, one), is_loose($k, $most, one, none),
+                    is_loose($k, $most + 1, none, one)),
                 (true, true, false),
                 "k = {}, {} bytes", $k, $bytes
             );
@@ -225,7 +227,9 @@ fn book(k: u64, numbers: &[Number]) -> Book
 #[test]
 fn books_after_changes(rt: HostRuntime) {
     macro_rules! changes {
-        ($($what:literal: $k:literal, [$($number:expr),*], [$($item:literal),*], [$($size:literal),*] => $quiet:literal, $boundary:literal, $end:literal, [$($after:expr),*]),*) => {$(
+        ($($what:literal: $k:literal, [$($number:expr),*], [$($item:literal),*],
+            [$($size:literal),*] => $quiet:literal, $boundary:literal, $end:literal, [$($after:expr),*]),*) =>
+            {$(
             let next = book($k, &[$($number),*]).next(&[$($item),*], &[$($size),*]);
             assert_eq!(rt; (next.quiet, next.boundary, next.book.end()), ($quiet, $boundary, $end), $what);
             assert_eq!(rt; next.book, book($k, &[$($after),*]), $what);
@@ -241,6 +245,26 @@ fn books_after_changes(rt: HostRuntime) {
         "the last object": 9, [Number::Cap(6, 100)], [100], [] => false, 6, 0, [],
         "an object of a byte": 2, [], [1], [1] => false, 0, 1, [Number::Cap(0, 1)],
         "eleven objects": 9, [Number::Cap(6, 900), Number::Used(6, 6, 100)], [100], [100, 100, 100, 100, 100, 100, 100, 100, 100, 100, 100] => false, 6, 1222, [Number::Cap(6, 1100)]
+    );
+}
+
+#[test]
+fn names_in_buffers_after_changes(rt: HostRuntime) {
+    macro_rules! names {
+        ($($what:literal: [$($number:expr),*], $item:literal, [$($size:literal),*] =>
+            $([$was:literal, $is_changed:literal, $after:expr => $stands:literal]),*;)*) => {$(
+            let next = book(9, &[$($number),*]).next(&[$item], &[$($size),*]);
+            $(assert_eq!(rt; next.is_buffered($was, $is_changed, $after), $stands, $what);)*
+        )*};
+    }
+    names!(
+        "one put into a buffer": [Number::Cap(6, 100)], 10, [100, 10] =>
+            [false, true, Some(10) => true], [false, false, Some(100) => false];
+        "one laid out anew": [Number::Cap(6, 100), Number::Used(6, 3, 10)], 5, [100, 10, 5] =>
+            [true, false, Some(10) => false], [false, true, Some(5) => false];
+        "one left below the boundary": [Number::Cap(3, 18), Number::Cap(6, 100), Number::Used(3, 0, 1)], 50, [18, 100, 1, 50] =>
+            [true, false, Some(1) => true], [false, true, Some(50) => false];
+        "one removed": [Number::Cap(6, 100)], 100, [] => [false, true, None => false];
     );
 }
 
@@ -273,7 +297,7 @@ fn books_of_tables(rt: HostRuntime) {
         &[(b'a', 139, 100), (b'b', 239, 10), (b'c', 249, 5)],
     )
     .expect(&rt, "memory");
-    assert!(rt; moving.bound() <= 32 && moving.bytes() < 1 << 64);
+    assert!(rt; moving.table_boundary() <= 32 && moving.bytes() < 1 << 64);
     assert_eq!(rt;
         moving.book(),
         book(
@@ -294,7 +318,7 @@ fn books_of_tables(rt: HostRuntime) {
         &[(b'a', 0, 100), (b'b', 100, 10)],
     )
     .expect(&rt, "memory");
-    assert!(rt; settled.bound() <= 32 && settled.bytes() < 1 << 64);
+    assert!(rt; settled.table_boundary() <= 32 && settled.bytes() < 1 << 64);
     assert_eq!(rt; settled.book(), book(9, numbers));
     assert_eq!(rt;
         (settled.is_buffered(0), settled.is_buffered(1)),

@@ -2,8 +2,8 @@
 use Rattle.std.specs.Prelude.{◌≡◌, ℕ, List, Ok}
 use Rattle.slot_codec.specs.Choice as choice
 use Rattle.slot_pair.specs.Finding.{Refuses, chosen_of}
-use Rattle.segment_layout.specs.Opening.{layed_of}
-use Rattle.segment_layout.specs.Rules.{FirstBroken}
+use Rattle.table_rules.specs.Opening.{placed_table}
+use Rattle.table_rules.specs.Rules.{FirstBroken}
 use Rattle.plain_opening.specs.declared.opened.Opened.{Opened}
 use Rattle.plain_opening.specs.declared.opened.Refusal.{Refusal}
 use Rattle.plain_opening.specs.declared.opened.Refusal.TheVariants as refusal
@@ -16,7 +16,7 @@ table_seen o = record { chosen = chosen_of o.found o.table.header; records = o.t
 pub record BreaksFirst (classes size_max : ℕ) (file : List ℕ) (number at : ℕ) : Type 0 where
   pub table : choice.Table
   pub read : choice.table_of file ≡ Ok table
-  pub first : FirstBroken (layed_of classes size_max file table) number at
+  pub first : FirstBroken (placed_table classes size_max file table) number at
 
 -- the refusal is the first that applies, unless the disk or memory failed
 abbrev pub RefusesToOpen : ℕ → ℕ → List ℕ → Refusal → Type 0

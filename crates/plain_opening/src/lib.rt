@@ -4,8 +4,6 @@
 
 mod objects;
 mod opened;
-mod records;
-#[cfg(test)]
-mod tests;
+mod record_list;
 
 pub use opened::{Opened, Refusal, open};

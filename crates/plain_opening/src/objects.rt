@@ -1,15 +1,20 @@
 //! Where the objects of an opened file stand.
-ghost use Rattle.std.specs.Prelude.{◌≡◌, ℕ, List};
-ghost use Rattle.plain_opening.specs.Objects.{cut, object_in, object_of};
+ghost use Rattle.std.specs.Prelude.{◌≡◌, ℕ, List, IfSome};
+ghost use Rattle.plain_layout.specs.Plain.{placed};
+ghost use Rattle.plain_opening.specs.Objects.{cut, object_of, spot_in};
+ghost use Rattle.table_rules.specs.Rules.{IsValid};
 
 use crate::Opened;
 use slot_codec::{Name, Record};
 
 impl Opened {
     /// The place and size of a name's object, in bytes, with places from 0 of the data part; none
-    /// where the map of the file has no such name.
+    /// where the map of the file has no such name. An empty object has place 0.
     pub fn spot_of(&self, name: &Name) -> Option<(u64, u64)>
-        ensures { (base : ℕ) (file : List ℕ) → cut base file result ≡ object_of base file self.now.table.records.items name.now }
+        ensures spot { result ≡ spot_in self.now.table.records.items name.now }
+        ensures object { (base : ℕ) (file : List ℕ)
+            → cut base file result ≡ object_of base file self.now.table.records.items name.now }
+        ensures empty { IsValid (placed self.now.table) → IfSome result (λ spot. spot.1 ≡ 0 → spot.0 ≡ 0) }
     {
         spot_in(&self.table.records, name)
     }
@@ -17,7 +22,7 @@ impl Opened {
 
 /// The place and size that the first record of a name has.
 fn spot_in(records: &[Record], name: &Name) -> Option<(u64, u64)>
-    ensures { (base : ℕ) (file : List ℕ) → cut base file result ≡ object_in base file records.now name.now }
+    ensures { result ≡ spot_in records.now name.now }
 {
     if records.is_empty() {
         return None;

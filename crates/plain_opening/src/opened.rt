@@ -1,17 +1,18 @@
 //! Opening a file: its table, and whether that keeps the rules.
 ghost use Rattle.std.specs.Prelude.{◌≡◌, ◌≤◌, ◌<◌, ◌^◌, Ok, Err, IfOk, IfErr, IsTrue, length};
-ghost use Rattle.disk_face.specs.Counts.{Rose};
 ghost use Rattle.disk_face.specs.Frames.{Unchanged};
-ghost use Rattle.plain_layout.specs.Plain.{layed};
+ghost use Rattle.plain_layout.specs.Plain.{placed};
 ghost use Rattle.plain_opening.specs.Opened.{RefusesToOpen, table_seen};
 ghost use Rattle.plain_opening.specs.Refusals.{RefusesBy};
-ghost use Rattle.segment_layout.specs.Opening.{Opens, layed_of};
-ghost use Rattle.segment_layout.specs.Tables.{IsValid, book_of, map_of};
-ghost use Rattle.slot_codec.specs.Choice.{chosen, records_of, table_of};
+ghost use Rattle.table_rules.specs.Opening.{Opens, placed_table};
+ghost use Rattle.table_rules.specs.Tables.{book_of, map_of};
+ghost use Rattle.slot_codec.specs.Choice.{chosen, records_of, slot_in_use, table_of};
 ghost use Rattle.slot_codec.specs.Spelling.{head_len};
-ghost use Rattle.slot_pair.specs.Finding.{chosen_of};
+ghost use Rattle.slot_codec.specs.Readable.{IsSuperBlock};
+ghost use Rattle.slot_pair.specs.Finding.{HasDiskCause, chosen_of, in_use_of};
+ghost use Rattle.table_rules.specs.Rules.{IsValid};
 
-use crate::records::add_records;
+use crate::record_list::add_records;
 use disk_face::{Disk, length_of, read};
 use plain_layout::Table;
 use slot_codec::{HEADER_LEN, Header, RECORD_LEN, Record, head_len};
@@ -42,16 +43,21 @@ pub fn open<D: Disk>(
     classes: u8,
     size_max: u64,
 ) -> Result<Opened, Refusal>
-    requires ready { IsTrue (D.is_ready disk.old) }
-    requires tells { IsTrue (D.tells disk.old) }
-    ensures read { IfOk result (λ o. table_of (D.file disk.old) ≡ Ok (table_seen o)) }
-    ensures layed { IfOk result (λ o. layed o.table ≡ layed_of classes size_max (D.file disk.old) (table_seen o)) }
-    ensures valid { IfOk result (λ o. IsValid (layed o.table)) }
-    ensures opens { IfOk result (λ o. Opens classes size_max (D.file disk.old) (map_of (head_len o.found.block.names) (D.file disk.old) o.table.records.items) (book_of (layed o.table))) }
+    requires ready { IsTrue (D.state disk.old).is_ready }
+    requires tells { IsTrue (D.state disk.old).tells }
+    ensures slot { IfOk result (λ o. slot_in_use (D.state disk.old).file ≡ Ok (in_use_of o.found)) }
+    ensures read { IfOk result (λ o. table_of (D.state disk.old).file ≡ Ok (table_seen o)) }
+    ensures placed { IfOk result (λ o. placed o.table
+        ≡ placed_table classes size_max (D.state disk.old).file (table_seen o)) }
+    ensures valid { IfOk result (λ o. IsValid (placed o.table)) }
+    ensures opens { IfOk result (λ o. Opens classes size_max (D.state disk.old).file
+        (map_of (head_len o.found.block.names) (D.state disk.old).file o.table.records.items)
+        (book_of (placed o.table))) }
     ensures divisor { IfOk result (λ o. (2 ≤ o.table.k) × (o.table.k ≤ 64)) }
-    ensures refused { IfErr result (RefusesToOpen classes size_max (D.file disk.old)) }
-    ensures cause { result ≡ Err (Refusal.Slot SlotFault.Disk) → Rose (D.faults disk.old) (D.faults disk.new) }
-    ensures frame { Unchanged D.tells D.file D.may_leave D.left_since D.turn D.faults D.is_ready D.tells_images D.last_mount disk.old disk.new }
+    ensures refused { IfErr result (RefusesToOpen classes size_max (D.state disk.old).file) }
+    ensures cause { HasDiskCause (Refusal.Slot SlotFault.Disk) (D.state disk.old).faults
+        (D.state disk.new).faults result }
+    ensures frame { Unchanged (D.state disk.old) (D.state disk.new) }
 {
     let opened = read_table(alloc, disk, classes, size_max)?;
     match opened.table.first_broken() {
@@ -67,14 +73,17 @@ fn read_table<D: Disk>(
     classes: u8,
     size_max: u64,
 ) -> Result<Opened, Refusal>
-    requires ready { IsTrue (D.is_ready disk.old) }
-    requires tells { IsTrue (D.tells disk.old) }
-    ensures read { IfOk result (λ o. table_of (D.file disk.old) ≡ Ok (table_seen o)) }
-    ensures layed { IfOk result (λ o. layed o.table ≡ layed_of classes size_max (D.file disk.old) (table_seen o)) }
+    requires ready { IsTrue (D.state disk.old).is_ready }
+    requires tells { IsTrue (D.state disk.old).tells }
+    ensures slot { IfOk result (λ o. slot_in_use (D.state disk.old).file ≡ Ok (in_use_of o.found)) }
+    ensures read { IfOk result (λ o. table_of (D.state disk.old).file ≡ Ok (table_seen o)) }
+    ensures placed { IfOk result (λ o. placed o.table
+        ≡ placed_table classes size_max (D.state disk.old).file (table_seen o)) }
     ensures divisor { IfOk result (λ o. (2 ≤ o.table.k) × (o.table.k ≤ 64)) }
-    ensures refused { IfErr result (RefusesBy (table_of (D.file disk.old))) }
-    ensures cause { result ≡ Err (Refusal.Slot SlotFault.Disk) → Rose (D.faults disk.old) (D.faults disk.new) }
-    ensures frame { Unchanged D.tells D.file D.may_leave D.left_since D.turn D.faults D.is_ready D.tells_images D.last_mount disk.old disk.new }
+    ensures refused { IfErr result (RefusesBy (table_of (D.state disk.old).file)) }
+    ensures cause { HasDiskCause (Refusal.Slot SlotFault.Disk) (D.state disk.old).faults
+        (D.state disk.new).faults result }
+    ensures frame { Unchanged (D.state disk.old) (D.state disk.new) }
 {
     let found = match choose(disk) {
         Ok(found) => found,
@@ -106,17 +115,19 @@ fn records_of<D: Disk>(
     found: &Found,
     header: &Header,
 ) -> Result<Vec<Record>, Refusal>
-    requires ready { IsTrue (D.is_ready disk.old) }
-    requires tells { IsTrue (D.tells disk.old) }
-    requires low { 16 ≤ found.now.block.names }
-    requires high { found.now.block.names ≤ 65536 }
+    requires ready { IsTrue (D.state disk.old).is_ready }
+    requires tells { IsTrue (D.state disk.old).tells }
+    requires block { IsSuperBlock found.now.block }
     requires slot { found.now.slot ≤ 1 }
     requires count { header.now.count ≤ found.now.block.names }
-    requires long { head_len found.now.block.names ≤ length (D.file disk.old) }
-    ensures read { IfOk result (λ rs. records_of (D.file disk.old) (chosen_of found.now header.now) ≡ Ok rs.items) }
-    ensures refused { IfErr result (RefusesBy (records_of (D.file disk.old) (chosen_of found.now header.now))) }
-    ensures cause { result ≡ Err (Refusal.Slot SlotFault.Disk) → Rose (D.faults disk.old) (D.faults disk.new) }
-    ensures frame { Unchanged D.tells D.file D.may_leave D.left_since D.turn D.faults D.is_ready D.tells_images D.last_mount disk.old disk.new }
+    requires long { head_len found.now.block.names ≤ length (D.state disk.old).file }
+    ensures read { IfOk result (λ rs. records_of (D.state disk.old).file (chosen_of found.now header.now)
+        ≡ Ok rs.items) }
+    ensures refused { IfErr result (RefusesBy
+        (records_of (D.state disk.old).file (chosen_of found.now header.now))) }
+    ensures cause { HasDiskCause (Refusal.Slot SlotFault.Disk) (D.state disk.old).faults
+        (D.state disk.new).faults result }
+    ensures frame { Unchanged (D.state disk.old) (D.state disk.new) }
 {
     let at = slot_at(found.block.names, found.slot) + HEADER_LEN as u64;
     let Ok(mut text) = vec![in alloc; 0u8; RECORD_LEN * header.count as usize] else {

@@ -1,5 +1,5 @@
 //! Saving a table of names, and every image that a crash may leave of it.
-use crate::images::run;
+use crate::runs::run;
 use disk_face::Disk;
 use disk_mem::{Choice, MemDisk};
 use extent_table::{Spot, Table, a_table_can_be_saved};
@@ -115,14 +115,16 @@ fn leaves_the_old_table_or_the_new_one(rt: HostRuntime) -> Result<(), Fail> {
         for choice in choices {
             assert!(rt; turn <= disk.turns());
             let bytes = disk.image(turn, choice)?;
-            let (status, put) = run(rt.alloc(), &["get", "f", "a"], &bytes, Vec::new(rt.alloc()))?;
-            assert!(rt;
-                status == 6 || put.as_slice() == b"hello".as_slice(),
-                "turn {turn}"
-            );
-            assert!(rt; status == 6 || status == 0, "turn {turn}");
-            assert!(rt; 17 <= turn || status == 6, "turn {turn}");
-            assert!(rt; turn < 19 || status == 0, "turn {turn}");
+            let ran = run(rt.alloc(), &["get", "f", "a"], &bytes)?;
+            let puts = if ran.status == 0 {
+                "hello"
+            } else {
+                "fault missing\n"
+            };
+            assert_eq!(rt; ran.put.as_slice(), puts.as_bytes(), "turn {turn}");
+            assert!(rt; ran.status == 6 || ran.status == 0, "turn {turn}");
+            assert!(rt; 17 <= turn || ran.status == 6, "turn {turn}");
+            assert!(rt; turn < 19 || ran.status == 0, "turn {turn}");
         }
     }
     Ok(())

@@ -1,31 +1,19 @@
 //! Formatting, and every image that a crash may leave of it.
-use crate::images::run;
-use crate::serve;
+use crate::images::disk;
+use crate::runs::{Ran, run, run_on};
 use disk_face::Disk;
-use disk_mem::{Choice, MemBay, MemDisk, MemSink, MemSource};
+use disk_mem::{Choice, MemDisk};
 use std::alloc::Global;
 use std::process::Abort;
 use std::test::Fail;
 
 /// A disk on which an absent file `f` was formatted, with k = 9 and 16 names.
 fn formatted(rt: &impl Abort, alloc: Global) -> Result<MemDisk, Fail> {
-    let mut bay = MemBay::new(
-        alloc,
-        String::from_str(alloc, "f")?,
-        false,
-        MemDisk::new(alloc),
-    );
-    let mut input = MemSource::new(Vec::new(alloc), 1, Vec::new(alloc));
-    let mut output = MemSink::with_room(alloc, 64, Vec::new(alloc))?;
-    let outcome = serve(
-        &["format", "f", "9", "16"],
-        &mut bay,
-        &mut input,
-        &mut output,
-    );
-    assert_eq!(rt; outcome.status, 0);
-    assert_eq!(rt; output.bytes(), b"formatted\n".as_slice());
-    Ok(bay.into_disk())
+    let words = ["format", "f", "9", "16"];
+    let ran = run_on(alloc, &words, false, MemDisk::new(alloc), Vec::new(alloc))?;
+    assert_eq!(rt; ran.status, 0);
+    assert_eq!(rt; ran.put.as_slice(), b"formatted\n".as_slice());
+    Ok(ran.disk)
 }
 
 /// What `get f a` comes to on an image of a turn.
@@ -35,10 +23,10 @@ fn get_at(
     disk: &MemDisk,
     turn: u64,
     choice: Choice,
-) -> Result<(u8, Vec<u8>), Fail> {
+) -> Result<Ran<MemDisk>, Fail> {
     assert!(rt; turn <= disk.turns());
     let bytes = disk.image(turn, choice)?;
-    run(alloc, &["get", "f", "a"], &bytes, Vec::new(alloc))
+    run(alloc, &["get", "f", "a"], &bytes)
 }
 
 #[test]
@@ -60,9 +48,9 @@ fn formats_in_ten_calls(rt: HostRuntime) -> Result<(), Fail> {
         (10, 6, "fault missing\n"),
     ];
     for (turn, status, puts) in rows {
-        let (answer, put) = get_at(&rt, rt.alloc(), &disk, turn, Choice::Newest)?;
-        assert_eq!(rt; put.as_slice(), puts.as_bytes(), "turn {turn}");
-        assert_eq!(rt; answer, status, "turn {turn}");
+        let ran = get_at(&rt, rt.alloc(), &disk, turn, Choice::Newest)?;
+        assert_eq!(rt; ran.put.as_slice(), puts.as_bytes(), "turn {turn}");
+        assert_eq!(rt; ran.status, status, "turn {turn}");
     }
     Ok(())
 }
@@ -80,9 +68,9 @@ fn leaves_no_store_or_the_empty_one(rt: HostRuntime) -> Result<(), Fail> {
     ];
     for turn in 0..11 {
         for choice in choices {
-            let (status, _put) = get_at(&rt, rt.alloc(), &disk, turn, choice)?;
-            assert!(rt; status == 4 || status == 6, "turn {turn}");
-            assert!(rt; turn < 10 || status == 6, "turn {turn}");
+            let ran = get_at(&rt, rt.alloc(), &disk, turn, choice)?;
+            assert!(rt; ran.status == 4 || ran.status == 6, "turn {turn}");
+            assert!(rt; turn < 10 || ran.status == 6, "turn {turn}");
         }
     }
     Ok(())
@@ -90,21 +78,21 @@ fn leaves_no_store_or_the_empty_one(rt: HostRuntime) -> Result<(), Fail> {
 
 #[test]
 fn leaves_a_file_that_is_not_empty(rt: HostRuntime) -> Result<(), Fail> {
-    let disk = MemDisk::from_bytes(rt.alloc(), b"x")?;
-    let mut bay = MemBay::new(rt.alloc(), String::from_str(rt.alloc(), "f")?, true, disk);
-    let mut input = MemSource::new(Vec::new(rt.alloc()), 1, Vec::new(rt.alloc()));
-    let mut output = MemSink::with_room(rt.alloc(), 64, Vec::new(rt.alloc()))?;
-    let outcome = serve(
-        &["format", "f", "9", "16"],
-        &mut bay,
-        &mut input,
-        &mut output,
-    );
-    assert_eq!(rt; outcome.status, 5);
-    assert_eq!(rt; output.bytes(), b"fault taken 1\n".as_slice());
-    let disk = bay.into_disk();
-    assert_eq!(rt; disk.turns(), 0);
-    let kept = disk.image(0, Choice::Newest)?;
-    assert_eq!(rt; kept.as_slice(), b"x".as_slice());
+    for (length, puts) in [
+        (1, "fault taken 1\n"),
+        (64, "fault taken 64\n"),
+        (19608, "fault taken 19608\n"),
+    ] {
+        let file = disk(rt.alloc(), length, &[], &[])?;
+        let before = file.image(0, Choice::Newest)?;
+        let words = ["format", "f", "9", "16"];
+        let ran = run_on(rt.alloc(), &words, true, file, Vec::new(rt.alloc()))?;
+        assert_eq!(rt; ran.status, 5);
+        assert_eq!(rt; ran.put.as_slice(), puts.as_bytes());
+        assert_eq!(rt; ran.disk.turns(), 0);
+        let kept = ran.disk.image(0, Choice::Newest)?;
+        assert_eq!(rt; kept.len(), length);
+        assert!(rt; kept.as_slice() == before.as_slice());
+    }
     Ok(())
 }

@@ -1,5 +1,6 @@
-//! What `get` answers on changed images, and what the words come to.
-use crate::images::{Change, image, run};
+//! What `get` answers on changed images.
+use crate::images::{Change, image};
+use crate::runs::run;
 use std::alloc::Global;
 use std::process::Abort;
 use std::test::Fail;
@@ -22,10 +23,10 @@ macro_rules! rows {
 /// Gets the object of each row's image.
 fn try_rows(rt: &impl Abort, alloc: Global, rows: &[Row]) -> Result<(), Fail> {
     for row in rows {
-        let bytes = image(alloc, row.length, row.changes)?;
-        let (status, put) = run(alloc, &["get", "f", "a"], &bytes, Vec::new(alloc))?;
-        assert_eq!(rt; put.as_slice(), row.puts.as_bytes(), "{}", row.puts);
-        assert_eq!(rt; status, row.status, "{}", row.puts);
+        let bytes = image(alloc, row.length, row.changes, &[])?;
+        let ran = run(alloc, &["get", "f", "a"], &bytes)?;
+        assert_eq!(rt; ran.put.as_slice(), row.puts.as_bytes(), "{}", row.puts);
+        assert_eq!(rt; ran.status, row.status, "{}", row.puts);
     }
     Ok(())
 }
@@ -81,66 +82,4 @@ fn gets_what_the_records_say(rt: HostRuntime) -> Result<(), Fail> {
         19608, [(888, 1)] => 0 "hello";
     };
     try_rows(&rt, rt.alloc(), &rows)
-}
-
-#[test]
-fn ends_by_the_words(rt: HostRuntime) -> Result<(), Fail> {
-    let bytes = image(rt.alloc(), 19608, &[])?;
-    let rows: [(&[&str], u8, &str); 16] = [
-        (&["get", "f", "b"], 6, "fault missing\n"),
-        (&["get", "g", "a"], 3, "fault no file\n"),
-        (&["get", "f"], 1, "fault words\n"),
-        (&["get", "", "a"], 1, "fault words\n"),
-        (&["get", "f", "a b"], 1, "fault words\n"),
-        (&["got", "f", "a"], 1, "fault words\n"),
-        (&["format", "f", "1", "16"], 1, "fault words\n"),
-        (&["format", "f", "09", "16"], 1, "fault words\n"),
-        (&["format", "f", "9", "+16"], 1, "fault words\n"),
-        (&["format", "f", "9", "65537"], 1, "fault words\n"),
-        (
-            &["work", "f", "18446744073709551616", "1"],
-            1,
-            "fault words\n",
-        ),
-        (&["work", "f", "0", "0"], 1, "fault words\n"),
-        (
-            &["work", "f", "18446744073709551615", "1000000"],
-            12,
-            "fault not built\n",
-        ),
-        (&["check", "f"], 12, "fault not built\n"),
-        (&["format", "f", "9", "16"], 5, "fault taken 19608\n"),
-        (&["--version"], 0, "costore 0.1.0\n"),
-    ];
-    for (words, status, puts) in rows {
-        let (answer, given) = run(rt.alloc(), words, &bytes, Vec::new(rt.alloc()))?;
-        assert_eq!(rt; given.as_slice(), puts.as_bytes(), "{words:?}");
-        assert_eq!(rt; answer, status, "{words:?}");
-    }
-    Ok(())
-}
-
-#[test]
-fn ends_where_the_sink_fails(rt: HostRuntime) -> Result<(), Fail> {
-    let bytes = image(rt.alloc(), 19608, &[])?;
-    let (status, put) = run(
-        rt.alloc(),
-        &["get", "f", "a"],
-        &bytes,
-        vec![in rt.alloc(); 1]?,
-    )?;
-    assert_eq!(rt; status, 9);
-    assert_eq!(rt; put.len(), 0);
-    let (status, put) = run(
-        rt.alloc(),
-        &["get", "f", "b"],
-        &bytes,
-        vec![in rt.alloc(); 1]?,
-    )?;
-    assert_eq!(rt; status, 6);
-    assert_eq!(rt; put.len(), 0);
-    let (status, page) = run(rt.alloc(), &["--help"], &bytes, Vec::new(rt.alloc()))?;
-    assert_eq!(rt; status, 0);
-    assert!(rt; page.starts_with(b"costore keeps named objects"));
-    Ok(())
 }

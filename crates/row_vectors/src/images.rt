@@ -1,6 +1,5 @@
-//! A hand-made image with one object, its changes, and runs of the program on them.
-use crate::serve;
-use disk_mem::{MemBay, MemDisk, MemSink, MemSource};
+//! A hand-made image with one object, and its changes.
+use disk_mem::MemDisk;
 use std::alloc::Global;
 use std::test::Fail;
 
@@ -35,10 +34,30 @@ const HELLO: [Change; 24] = [
     (19607, b'o'),
 ];
 
-/// The image of some length, changed; all other bytes are 0.
-pub fn image(alloc: Global, length: usize, changes: &[Change]) -> Result<Vec<u8>, Fail> {
+/// The changes to an object of 10,000 bytes, in a file of 30,714 bytes. Its class is 13, with a
+/// capacity of 10,000 (0x2710) and a buffer of 1,111. It is put in three pieces; this tells the
+/// first byte of each, and the last.
+pub const LONG: [Change; 9] = [
+    (120, 0),
+    (208, 0x10),
+    (209, 0x27),
+    (8624, 0x10),
+    (8625, 0x27),
+    (19603, b'h'),
+    (23699, b'i'),
+    (27795, b'j'),
+    (29602, b'k'),
+];
+
+/// The image of some length, changed twice; all other bytes are 0.
+pub fn image(
+    alloc: Global,
+    length: usize,
+    first: &[Change],
+    then: &[Change],
+) -> Result<Vec<u8>, Fail> {
     let mut bytes = vec![in alloc; 0u8; length]?;
-    for (at, byte) in HELLO.iter().chain(changes.iter()) {
+    for (at, byte) in HELLO.iter().chain(first.iter()).chain(then.iter()) {
         if *at < bytes.len() {
             bytes[*at] = *byte;
         }
@@ -46,18 +65,13 @@ pub fn image(alloc: Global, length: usize, changes: &[Change]) -> Result<Vec<u8>
     Ok(bytes)
 }
 
-/// The status of the program on a file `f` with these bytes, and what it put. The sink fails the
-/// listed calls.
-pub fn run(
+/// A disk that holds the image.
+pub fn disk(
     alloc: Global,
-    words: &[&str],
-    bytes: &[u8],
-    fails: Vec<u64>,
-) -> Result<(u8, Vec<u8>), Fail> {
-    let disk = MemDisk::from_bytes(alloc, bytes)?;
-    let mut bay = MemBay::new(alloc, String::from_str(alloc, "f")?, true, disk);
-    let mut input = MemSource::new(Vec::new(alloc), 1, Vec::new(alloc));
-    let mut output = MemSink::with_room(alloc, 1 << 21, fails)?;
-    let outcome = serve(words, &mut bay, &mut input, &mut output);
-    Ok((outcome.status, output.bytes().to_vec(alloc)?))
+    length: usize,
+    first: &[Change],
+    then: &[Change],
+) -> Result<MemDisk, Fail> {
+    let bytes = image(alloc, length, first, then)?;
+    Ok(MemDisk::from_bytes(alloc, &bytes)?)
 }

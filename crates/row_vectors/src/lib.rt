@@ -23,10 +23,24 @@ pub fn serve<D: Disk>(
 #[cfg(test)]
 mod crashes;
 #[cfg(test)]
-mod faults;
+mod failing_disks;
+#[cfg(test)]
+mod failing_sinks;
 #[cfg(test)]
 mod formats;
 #[cfg(test)]
 mod gets;
 #[cfg(test)]
 mod images;
+#[cfg(test)]
+mod limits;
+#[cfg(test)]
+mod moving;
+#[cfg(test)]
+mod openings;
+#[cfg(test)]
+mod runs;
+#[cfg(test)]
+mod texts;
+#[cfg(test)]
+mod words;

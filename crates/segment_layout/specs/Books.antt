@@ -53,7 +53,10 @@ pub record Charged : Type 0 where
 
 -- what an item leaves, by the buffer that it found
 abbrev pub entered_at : Charged → ℕ → Option ℕ → Charged
-entered_at done size (Some j) = record { grid = with_entry done.grid j (class_of size) size; tried = done.tried ++ (size, true) ∷ [] }
+entered_at done size (Some j) = record {
+  grid = with_entry done.grid j (class_of size) size;
+  tried = done.tried ++ (size, true) ∷ [];
+}
 entered_at done size None = record { grid = done.grid; tried = done.tried ++ (size, false) ∷ [] }
 
 abbrev pub charge_one : ℕ → List ℕ → Charged → ℕ → Charged
@@ -68,7 +71,8 @@ is_quiet charged = list_all (λ item. item.1) charged.tried
 
 -- the least class of the items that found no room
 abbrev pub trigger : Charged → ℕ
-trigger charged = fold (λ least item. if item.1 then least else min least (class_of item.0)) (width - 1) charged.tried
+trigger charged = fold (λ least item. if item.1 then least else min least (class_of item.0)) (width - 1)
+    charged.tried
 
 -- What items do to a layout: whether each found room, and else from which class on it is laid out anew.
 pub record Reshaped : Type 0 where
@@ -100,7 +104,8 @@ found_room (size ∷ sizes) tried = list_all (λ item. item.1) tried
 
 -- the new object found room in a buffer
 abbrev pub is_new_buffered : Change → Charged → Bool
-is_new_buffered c charged = found_room (new_item c) (drop (length charged.tried - length (new_item c)) charged.tried)
+is_new_buffered c charged = found_room (new_item c)
+    (drop (length charged.tried - length (new_item c)) charged.tried)
 
 -- the names that stand in buffers after a change, before any flush
 abbrev pub buffered_after : Book → Change → Charged → set.FinSet name_cmp
@@ -131,7 +136,11 @@ next_book k m book c =
     record {
       quiet = shape.quiet;
       boundary = shape.boundary;
-      book = record { caps = shape.caps; grid = shape.grid; buffered = if shape.quiet then names else below_class shape.boundary (changed c m) names };
+      book = record {
+        caps = shape.caps;
+        grid = shape.grid;
+        buffered = if shape.quiet then names else below_class shape.boundary (changed c m) names;
+      };
     }
 
 -- the map and the book after changes one after another
@@ -142,3 +151,7 @@ map_after m (c ∷ cs) = map_after (changed c m) cs
 abbrev pub book_after : ℕ → Map → Book → List Change → Book
 book_after k m book [] = book
 book_after k m book (c ∷ cs) = book_after k (changed c m) (next_book k m book c).book cs
+
+-- a set of names
+abbrev pub Names : Type 0
+Names = set.FinSet name_cmp

@@ -23,6 +23,21 @@ impl<const C: usize> Grid<C> {
         }
     }
 
+    /// The grid of 32 rows of 32 numbers, of which those from `C` on are 0.
+    pub fn of(cells: [[u64; 32]; 32]) -> Self
+        requires shape { IsGrid C cells }
+        ensures { rows_of result ≡ cells }
+    {
+        Grid { cells }
+    }
+
+    /// All its 32 rows of 32 numbers.
+    pub fn cells(&self) -> [[u64; 32]; 32]
+        ensures { result ≡ rows_of self.now }
+    {
+        self.cells
+    }
+
     /// The number of class `c` in row `j`.
     pub fn get(&self, j: u8, c: u8) -> u64
         requires in_row { j < C }
@@ -38,7 +53,8 @@ impl<const C: usize> Grid<C> {
         requires in_row { j < C }
         requires class { c < C }
         requires fits { C ≤ 32 }
-        ensures { rows_of self.new ≡ slice_set (rows_of self.old) j (slice_set (row (rows_of self.old) j) c v) }
+        ensures { rows_of self.new ≡ slice_set (rows_of self.old) j
+            (slice_set (row (rows_of self.old) j) c v) }
     {
         self.cells[j as usize][c as usize] = v;
     }

@@ -20,6 +20,21 @@ impl<const C: usize> Row<C> {
         Row { cells: [0; 32] }
     }
 
+    /// The row of 32 numbers, of which those from `C` on are 0.
+    pub fn of(cells: [u64; 32]) -> Self
+        requires shape { IsRow C cells }
+        ensures { cells_of result ≡ cells }
+    {
+        Row { cells }
+    }
+
+    /// All its 32 numbers.
+    pub fn cells(&self) -> [u64; 32]
+        ensures { result ≡ cells_of self.now }
+    {
+        self.cells
+    }
+
     /// The number of class `c`.
     pub fn get(&self, c: u8) -> u64
         requires class { c < C }
@@ -51,7 +66,8 @@ impl<const C: usize> Row<C> {
     pub fn add(&mut self, c: u8, w: u64)
         requires class { c < C }
         requires fits { C ≤ 32 }
-        ensures { cells_of self.new ≡ slice_set (cells_of self.old) c (min (slice_index (cells_of self.old) c + w) (2 ^ 64 - 1)) }
+        ensures { cells_of self.new ≡ slice_set (cells_of self.old) c
+            (min (slice_index (cells_of self.old) c + w) (2 ^ 64 - 1)) }
     {
         let old = self.cells[c as usize];
         self.cells[c as usize] = old.saturating_add(w);

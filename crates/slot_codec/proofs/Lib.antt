@@ -1,1 +1,12 @@
 pub mod PutLemmas
+pub mod ChoiceLaws
+pub mod HeaderLaws
+pub mod PartLaws
+pub mod PickLaws
+pub mod RecordLaws
+pub mod RecordsLaws
+pub mod RollLaws
+pub mod SlotLaws
+pub mod StepLaws
+pub mod SuperBlockLaws
+pub mod TableLaws

@@ -25,7 +25,7 @@ abbrev pub placed_at : {A : Type 0} → ℕ → Result A CodecFault → Result A
 placed_at at (Ok x) = Ok x
 placed_at at (Err f) = Err (codec f at)
 
--- which slot is in use
+-- the slot in use, and whether the gate of the other slot is open
 pub record InUse : Type 0 where
   pub block : SuperBlock
   pub slot : ℕ
@@ -41,11 +41,14 @@ sequence_at file names slot = number_at file (slot_at names slot + 8)
 -- of two slots that are open or not, the open one, or the one with the greater sequence
 abbrev pub pick : SuperBlock → Bool → Bool → ℕ → ℕ → Result InUse SlotRefusal
 pick block false false first second = Err no_gate
-pick block true false first second = Ok (record { block = block; slot = 0; sequence = first; other_open = false })
-pick block false true first second = Ok (record { block = block; slot = 1; sequence = second; other_open = false })
+pick block true false first second =
+    Ok (record { block = block; slot = 0; sequence = first; other_open = false })
+pick block false true first second =
+    Ok (record { block = block; slot = 1; sequence = second; other_open = false })
 pick block true true first second =
     if first == second then Err same_sequence else
-    if nat_lt second first then Ok (record { block = block; slot = 0; sequence = first; other_open = true }) else
+    if nat_lt second first then Ok (record { block = block; slot = 0; sequence = first; other_open = true })
+    else
     Ok (record { block = block; slot = 1; sequence = second; other_open = true })
 
 -- The slot in use: by the length, the superblock, the three gates and the two sequences.
@@ -55,9 +58,10 @@ slot_in_use file =
     (placed_at 0 (read_superblock (bytes_at file 0 superblock_len)) >>= λ block.
     if nat_lt (length file) (head_len block.names) then Err too_short else
     if not (is_open file (format_gate_at block.names)) then Err unformatted else
-    pick block (is_open file (gate_at block.names 0)) (is_open file (gate_at block.names 1)) (sequence_at file block.names 0) (sequence_at file block.names 1))
+    pick block (is_open file (gate_at block.names 0)) (is_open file (gate_at block.names 1))
+    (sequence_at file block.names 0) (sequence_at file block.names 1))
 
--- The slot in use, and its header.
+-- The slot in use with its header.
 pub record Chosen : Type 0 where
   pub block : SuperBlock
   pub slot : ℕ
@@ -66,7 +70,9 @@ pub record Chosen : Type 0 where
 abbrev pub chosen : List ℕ → Result Chosen SlotRefusal
 chosen file =
     slot_in_use file >>= λ in_use.
-    placed_at (slot_at in_use.block.names in_use.slot) (read_header in_use.block.names (bytes_at file (slot_at in_use.block.names in_use.slot) header_len)) >>= λ header.
+    placed_at (slot_at in_use.block.names in_use.slot)
+    (read_header in_use.block.names (bytes_at file (slot_at in_use.block.names in_use.slot) header_len))
+    >>= λ header.
     Ok (record { block = in_use.block; slot = in_use.slot; header = header })
 
 -- a name is greater than the one before it, if there is one
@@ -74,13 +80,17 @@ abbrev pub rises : Option (List ℕ) → List ℕ → Bool
 rises None name = true
 rises (Some before) name = is_lt (name_cmp before name)
 
--- the first record of a text that stands at a position, after a name
-abbrev pub first_record : List ℕ → ℕ → Option (List ℕ) → Result Record SlotRefusal
-first_record text at before =
-    placed_at at (read_record (take record_len text)) >>= λ r.
-    if not (rises before r.name) then Err (codec fault.Order at) else Ok r
+-- the record that 80 bytes say, behind that of a name
+abbrev pub record_after : List ℕ → Option (List ℕ) → Result Record CodecFault
+record_after bytes before =
+    read_record bytes >>= λ r.
+    if not (rises before r.name) then Err fault.Order else Ok r
 
--- n records of a text that stands at a position, after a name
+-- the first record of a text that stands at a position, behind that of a name
+abbrev pub first_record : List ℕ → ℕ → Option (List ℕ) → Result Record SlotRefusal
+first_record text at before = placed_at at (record_after (take record_len text) before)
+
+-- n records of a text that stands at a position, behind that of a name
 abbrev pub read_records : ℕ → List ℕ → ℕ → Option (List ℕ) → Result (List Record) SlotRefusal
 read_records zero text at before = Ok []
 read_records (suc n) text at before =

@@ -60,7 +60,8 @@ header_of bytes =
     }
 
 abbrev pub all_in_range : Header → Bool
-all_in_range h = is_in_range h.wall && is_in_range h.slack && list_all is_in_range h.caps && list_all (list_all is_in_range) h.used
+all_in_range h = is_in_range h.wall && is_in_range h.slack && list_all is_in_range h.caps
+    && list_all (list_all is_in_range) h.used
 
 unfoldable pub read_header : ℕ → List ℕ → Result Header CodecFault
 read_header names bytes =
@@ -74,7 +75,11 @@ read_header names bytes =
     Ok h
 
 abbrev pub record_of : List ℕ → Record
-record_of bytes = record { name = bytes_at bytes 1 (slice_index bytes 0); place = number_at bytes 64; size = number_at bytes 72 }
+record_of bytes = record {
+  name = bytes_at bytes 1 (slice_index bytes 0);
+  place = number_at bytes 64;
+  size = number_at bytes 72;
+}
 
 unfoldable pub read_record : List ℕ → Result Record CodecFault
 read_record bytes =

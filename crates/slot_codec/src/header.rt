@@ -1,5 +1,5 @@
 //! Reading a header.
-ghost use Rattle.std.specs.Prelude.{◌≡◌, ◌+◌, ◌*◌, ◌≤◌, IfOk, IsTrue, length, map};
+ghost use Rattle.std.specs.Prelude.{◌≡◌, ◌+◌, ◌*◌, ◌<◌, ◌≤◌, IfOk, IsTrue, length, map};
 ghost use Rattle.std.specs.List.{list_all};
 ghost use Rattle.byte_ranges.specs.Lists.{below};
 ghost use Rattle.slot_codec.specs.Reading.{all_in_range, header_of, is_in_range, kind_of, numbers_at, read_header, worn_from};
@@ -14,6 +14,7 @@ use crate::{CodecFault, Header, Kind};
 pub fn read_header(bytes: &[u8], names: u64) -> Result<Header, CodecFault>
     requires { length bytes.now ≡ HEADER_LEN }
     ensures value { result ≡ read_header names bytes.now }
+    ensures fresh { IfOk result (λ header. header.sequence < worn_from header.kind) }
     ensures count { IfOk result (λ header. header.count ≤ names) }
     ensures ranges { IfOk result (λ header. IsTrue (all_in_range header)) }
 {

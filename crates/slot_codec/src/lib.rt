@@ -24,6 +24,6 @@ pub use laws::{
 };
 pub use lengths::{GATE_OPEN, HEADER_LEN, RECORD_LEN, SUPERBLOCK_LEN, head_len, slot_len};
 pub use name::Name;
-pub use read::{read_record, read_superblock};
+pub use read::{read_record, read_record_after, read_superblock};
 pub use roll::Roll;
 pub use write::{write_header, write_record, write_superblock};

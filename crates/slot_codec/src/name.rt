@@ -46,14 +46,16 @@ impl Name {
 
     /// The bytes of the name.
     pub fn as_bytes(&self) -> &[u8]
-        ensures { result.now ≡ self.now }
+        ensures value { result.now ≡ self.now }
+        ensures named { IsName result.now }
     {
         self.text.as_slice()
     }
 
     /// The same name once more; it takes no memory.
     pub fn copied(&self) -> Name
-        ensures { result ≡ self.now }
+        ensures value { result ≡ self.now }
+        ensures named { IsName result }
     {
         Name {
             text: self.text.clone().unwrap(),

@@ -1,5 +1,9 @@
 //! The readers: the value that bytes spell, or the first fault in them.
-ghost use Rattle.std.specs.Prelude.{◌≡◌, ◌<◌, ◌≤◌, ◌^◌, IfOk, length};
+ghost use Rattle.std.specs.Prelude.{◌≡◌, ◌<◌, ◌≤◌, ◌^◌, IfOk, length, take};
+ghost use Rattle.std.specs.Option.{option_copied};
+ghost use Rattle.slot_codec.specs.Choice.{record_after, rises};
+ghost use Rattle.slot_codec.specs.Names.{IsName};
+ghost use Rattle.slot_codec.specs.Readable.{IsSuperBlock};
 ghost use Rattle.slot_codec.specs.Reading.{read_record, read_superblock};
 
 use crate::fields::{RANGE, are_zeros, number_at};
@@ -12,8 +16,7 @@ use crate::{CodecFault, Name, Record, SuperBlock};
 pub fn read_superblock(bytes: &[u8]) -> Result<SuperBlock, CodecFault>
     requires { length bytes.now ≡ SUPERBLOCK_LEN }
     ensures value { result ≡ read_superblock bytes.now }
-    ensures divisor { IfOk result (λ block. (2 ≤ block.k) × (block.k ≤ 64)) }
-    ensures names { IfOk result (λ block. (16 ≤ block.names) × (block.names ≤ 65536)) }
+    ensures ranges { IfOk result (λ block. IsSuperBlock block) }
 {
     if &bytes[..8] != b"COSTORE1".as_slice() {
         return Err(CodecFault::Magic);
@@ -35,6 +38,7 @@ pub fn read_superblock(bytes: &[u8]) -> Result<SuperBlock, CodecFault>
 pub fn read_record(bytes: &[u8]) -> Result<Record, CodecFault>
     requires { length bytes.now ≡ RECORD_LEN }
     ensures value { result ≡ read_record bytes.now }
+    ensures named { IfOk result (λ r. IsName r.name) }
     ensures ranges { IfOk result (λ r. (r.place < 2 ^ 48) × (r.size < 2 ^ 48)) }
 {
     let len = bytes[0] as usize;
@@ -53,4 +57,29 @@ pub fn read_record(bytes: &[u8]) -> Result<Record, CodecFault>
         return Err(CodecFault::Range);
     }
     Ok(Record { name, place, size })
+}
+
+/// The first record of a text, behind the record of a name where there is one: `Order` where its
+/// name isn't greater, else what `read_record` says of the first 80 bytes.
+pub fn read_record_after(text: &[u8], before: Option<&Name>) -> Result<Record, CodecFault>
+    requires { RECORD_LEN ≤ length text.now }
+    ensures value { result ≡ record_after (take RECORD_LEN text.now) (option_copied before.entry) }
+    ensures named { IfOk result (λ r. IsName r.name) }
+    ensures ranges { IfOk result (λ r. (r.place < 2 ^ 48) × (r.size < 2 ^ 48)) }
+{
+    let record = read_record(&text[..RECORD_LEN])?;
+    if !rises(before, &record.name) {
+        return Err(CodecFault::Order);
+    }
+    Ok(record)
+}
+
+/// Whether a name is greater than the one before it, if there is one.
+fn rises(before: Option<&Name>, name: &Name) -> bool
+    ensures { result ≡ rises (option_copied before.entry) name.now }
+{
+    match before {
+        None => true,
+        Some(before) => before.cmp(name).is_lt(),
+    }
 }

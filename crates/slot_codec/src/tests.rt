@@ -1,4 +1,5 @@
-//! The readers and the writers over bytes made by hand: a file with room for 16 names and one object, `a` of 5 bytes.
+//! The readers and the writers over bytes made by hand: a file with room for 16 names and one object, `a` of
+//! 5 bytes.
 use super::*;
 
 #[test]

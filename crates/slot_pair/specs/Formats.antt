@@ -39,11 +39,14 @@ formatted_file k names = unsealed_file k names ++ gate_open ∷ []
 
 -- the first 24 bytes of that header; those that follow are 0
 abbrev pub first_bytes : List ℕ
-first_bytes = 1 ∷ 0 ∷ 0 ∷ 0 ∷ 0 ∷ 0 ∷ 0 ∷ 0 ∷ 1 ∷ 0 ∷ 0 ∷ 0 ∷ 0 ∷ 0 ∷ 0 ∷ 0 ∷ 0 ∷ 0 ∷ 0 ∷ 0 ∷ 0 ∷ 0 ∷ 0 ∷ 0 ∷ []
+first_bytes = 1 ∷ 0 ∷ 0 ∷ 0 ∷ 0 ∷ 0 ∷ 0 ∷ 0 ∷ 1 ∷ 0 ∷ 0 ∷ 0 ∷ 0 ∷ 0 ∷ 0 ∷ 0 ∷ 0 ∷ 0 ∷ 0 ∷ 0 ∷ 0 ∷ 0 ∷ 0 ∷ 0 ∷
+    []
 
 -- a superblock once that slot is written behind it, into zeros that reach to the format gate
 abbrev pub with_first_slot : ℕ → List ℕ → List ℕ
-with_first_slot names front = overwritten (overwritten (resized front (head_len names - 1)) superblock_len first_bytes) (gate_at names 0) (gate_open ∷ [])
+with_first_slot names front = overwritten
+    (overwritten (resized front (head_len names - 1)) superblock_len first_bytes) (gate_at names 0)
+    (gate_open ∷ [])
 
 -- slot 0 is in use, with sequence 1, and the gate of the other slot is closed
 abbrev pub first_in_use : ℕ → ℕ → choice.InUse

@@ -2,6 +2,7 @@
 use Rattle.std.specs.Prelude.{◌≡◌, ◌⊎◌, ℕ, ◌+◌, ◌-◌, ◌*◌, ◌/◌, ◌<◌, ◌≤◌, true, if◌then◌else◌, List, [], length, flat_map, slice_index_or, Ok}
 use Rattle.byte_ranges.specs.Ranges.{SameBelow, SameFrom, bytes_at}
 use Rattle.disk_face.specs.Moments.{Leaves}
+use Rattle.disk_face.specs.States.{State}
 use Rattle.slot_codec.specs.Choice as choice
 use Rattle.slot_codec.specs.Reading.{worn_from}
 use Rattle.slot_codec.specs.Spelling.{gate_at, head_len, header_bytes, header_len, record_bytes, record_len, slot_at}
@@ -12,7 +13,7 @@ use Rattle.slot_codec.specs.declared.codec.Record.{Record}
 abbrev pub save_calls : ℕ → ℕ
 save_calls count = 6 + (count + 511) / 512
 
--- the slot that is in use after the next save
+-- the slot in use after the next save
 abbrev pub next_in_use : choice.InUse → choice.InUse
 next_in_use u = record { block = u.block; slot = 1 - u.slot; sequence = u.sequence + 1; other_open = true }
 
@@ -20,40 +21,48 @@ next_in_use u = record { block = u.block; slot = 1 - u.slot; sequence = u.sequen
 abbrev pub next_header : choice.InUse → Header → ℕ → Header
 next_header u header count = record header { sequence = u.sequence + 1; count = count }
 
--- the slot that the next save writes, and its header
+-- the slot in use after the next save, with its header
 abbrev pub next_chosen : choice.InUse → Header → ℕ → choice.Chosen
-next_chosen u header count = record { block = u.block; slot = 1 - u.slot; header = next_header u header count }
+next_chosen u header count = record {
+  block = u.block;
+  slot = 1 - u.slot;
+  header = next_header u header count;
+}
 
--- a file has this slot and header in use, and the records of another file there
+-- a file has this slot in use with this header, and the records that another file has there
 pub record KeepsTable (c : choice.Chosen) (file image : List ℕ) : Type 0 where
   pub same_slot : choice.chosen image ≡ Ok c
   pub same_records : choice.records_text image c ≡ choice.records_text file c
 
--- a file has this slot and header in use, and these records
+-- a file has this slot in use with this header, and these records
 pub record IsSaved (c : choice.Chosen) (records : List Record) (image : List ℕ) : Type 0 where
   pub slot : choice.chosen image ≡ Ok c
   pub read : choice.records_of image c ≡ Ok records
 
 -- What a save may leave at any moment, from images that had `may_leave`: the old table beside what an
 -- old image, or the content, has from the data on; or the new table beside what the content has there.
-pub record LeavesOld (c : choice.Chosen) (base : ℕ) (may_leave : List ℕ → Type 0) (file image : List ℕ) : Type 0 where
+pub record LeavesOld (c : choice.Chosen) (base : ℕ) (may_leave : List ℕ → Type 0) (file image : List ℕ) : Type
+    0 where
   pub table : KeepsTable c file image
   pub before : List ℕ
   pub was : may_leave before ⊎ (before ≡ file)
   pub data_part : SameFrom base before image
 
-pub record LeavesNew (c : choice.Chosen) (records : List Record) (base : ℕ) (file image : List ℕ) : Type 0 where
-  pub table : IsSaved c records image
-  pub data_part : SameFrom base file image
+pub record LeavesNew (c : choice.Chosen) (records : List Record) (base : ℕ) (file image : List ℕ) : Type 0
+  where
+    pub table : IsSaved c records image
+    pub data_part : SameFrom base file image
 
 -- the old table or the new one
 abbrev pub HasEither : choice.InUse → choice.Chosen → Header → List Record → List ℕ → List ℕ → Type 0
 HasEither u old h rs file image = KeepsTable old file image ⊎ IsSaved (next_chosen u h (length rs)) rs image
 
 -- the same, with the data part that stands beside it
-abbrev pub LeavesEither : choice.InUse → choice.Chosen → Header → List Record → (List ℕ → Type 0) → List ℕ → List ℕ → Type 0
+abbrev pub LeavesEither : choice.InUse → choice.Chosen → Header → List Record → (List ℕ → Type 0) → List ℕ
+    → List ℕ → Type 0
 LeavesEither u old h rs may_leave file image =
-    LeavesOld old (head_len u.block.names) may_leave file image ⊎ LeavesNew (next_chosen u h (length rs)) rs (head_len u.block.names) file image
+    LeavesOld old (head_len u.block.names) may_leave file image
+    ⊎ LeavesNew (next_chosen u h (length rs)) rs (head_len u.block.names) file image
 
 -- a file is long enough for a data part, and what lies below it is the same in another
 pub record IsAlikeBelow (base : ℕ) (file image : List ℕ) : Type 0 where
@@ -63,16 +72,18 @@ pub record IsAlikeBelow (base : ℕ) (file image : List ℕ) : Type 0 where
 -- What a save leaves, whether or not it fails. The data part stays. Where neither the old header nor the
 -- new one is refused, the content has the old table or the new one; and if at first each image was like the
 -- content below the data part, then each image left since has one of the two.
-pub record SaveLeaves {D : Type 0} (file : D → List ℕ) (may_leave : D → List ℕ → Type 0) (left_since : D → ℕ → List ℕ → Type 0) (turn : D → ℕ) (u : choice.InUse) (h : Header) (rs : List Record) (a b : D) : Type 0 where
-  pub data_part : SameFrom (head_len u.block.names) (file a) (file b)
-  pub old_or_new : (old : choice.Chosen) → choice.chosen (file a) ≡ Ok old → u.sequence + 1 < worn_from h.kind → HasEither u old h rs (file a) (file b)
-  pub images : (old : choice.Chosen) → choice.chosen (file a) ≡ Ok old → u.sequence + 1 < worn_from h.kind
-      → ((image : List ℕ) → may_leave a image → IsAlikeBelow (head_len u.block.names) (file a) image)
-      → Leaves turn left_since a b (LeavesEither u old h rs (may_leave a) (file a))
+pub record SaveLeaves (u : choice.InUse) (h : Header) (rs : List Record) (a b : State) : Type 0 where
+  pub data_part : SameFrom (head_len u.block.names) a.file b.file
+  pub old_or_new : (old : choice.Chosen) → choice.chosen a.file ≡ Ok old → u.sequence + 1 < worn_from h.kind
+      → HasEither u old h rs a.file b.file
+  pub images : (old : choice.Chosen) → choice.chosen a.file ≡ Ok old → u.sequence + 1 < worn_from h.kind
+      → ((image : List ℕ) → a.may_leave image → IsAlikeBelow (head_len u.block.names) a.file image)
+      → Leaves a b (LeavesEither u old h rs a.may_leave a.file)
 
 -- the bytes that a save writes first: the other gate where it is open, else the sequence behind it
 abbrev pub closing_at : choice.InUse → ℕ
-closing_at u = if u.other_open then gate_at u.block.names (1 - u.slot) else slot_at u.block.names (1 - u.slot) + 8
+closing_at u = if u.other_open then gate_at u.block.names (1 - u.slot)
+    else slot_at u.block.names (1 - u.slot) + 8
 
 abbrev pub closing_len : choice.InUse → ℕ
 closing_len u = if u.other_open then 1 else 8

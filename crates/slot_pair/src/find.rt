@@ -2,10 +2,10 @@
 ghost use Rattle.std.specs.Prelude.{◌≡◌, ◌+◌, ◌*◌, ◌<◌, ◌≤◌, Ok, Err, IfOk, IfErr, IsTrue, OnErr, length};
 ghost use Rattle.byte_ranges.specs.Ranges.{bytes_at};
 ghost use Rattle.slot_codec.specs.Choice.{placed_at, is_open, sequence_at, slot_in_use, chosen};
-ghost use Rattle.slot_codec.specs.Reading.{all_in_range, read_superblock};
+ghost use Rattle.slot_codec.specs.Readable.{IsSuperBlock};
+ghost use Rattle.slot_codec.specs.Reading.{all_in_range, read_superblock, worn_from};
 ghost use Rattle.slot_codec.specs.Spelling.{slot_at, gate_at, head_len};
-ghost use Rattle.slot_pair.specs.Finding.{in_use_of, chosen_of, formatted, picked, Refuses};
-ghost use Rattle.disk_face.specs.Counts.{Rose};
+ghost use Rattle.slot_pair.specs.Finding.{HasDiskCause, in_use_of, chosen_of, formatted_block, picked, Refuses};
 ghost use Rattle.disk_face.specs.Frames.{Unchanged};
 
 use disk_face::{Disk, DiskFault, length_of, read};
@@ -15,7 +15,8 @@ use slot_codec::{
 };
 use thiserror::Error;
 
-/// The slot in use of a file.
+/// The slot in use of a file, as the program finds it. Contracts call it `InUse`, and with its header
+/// `Chosen`.
 #[derive(Clone, Copy, Debug, PartialEq, Eq)]
 pub struct Found {
     pub block: SuperBlock,
@@ -48,37 +49,45 @@ pub enum SlotFault {
 /// The slot in use, by the length, the superblock, the three gates and the two sequences. It reads
 /// a sequence only where it decides, or is that of the slot in use.
 pub fn choose<D: Disk>(disk: &mut D) -> Result<Found, SlotFault>
-    requires ready { IsTrue (D.is_ready disk.old) }
-    ensures found { IsTrue (D.tells disk.old) → IfOk result (λ found. slot_in_use (D.file disk.old) ≡ Ok (in_use_of found)) }
-    ensures refused { IsTrue (D.tells disk.old) → IfErr result (Refuses (slot_in_use (D.file disk.old))) }
-    ensures long { IsTrue (D.tells disk.old) → IfOk result (λ found. head_len found.block.names ≤ length (D.file disk.old)) }
-    ensures divisor { IfOk result (λ found. (2 ≤ found.block.k) × (found.block.k ≤ 64)) }
-    ensures low { IfOk result (λ found. 16 ≤ found.block.names) }
-    ensures high { IfOk result (λ found. found.block.names ≤ 65536) }
+    requires ready { IsTrue (D.state disk.old).is_ready }
+    ensures found { IsTrue (D.state disk.old).tells
+        → IfOk result (λ found. slot_in_use (D.state disk.old).file ≡ Ok (in_use_of found)) }
+    ensures refused { IsTrue (D.state disk.old).tells
+        → IfErr result (Refuses (slot_in_use (D.state disk.old).file)) }
+    ensures long { IsTrue (D.state disk.old).tells
+        → IfOk result (λ found. head_len found.block.names ≤ length (D.state disk.old).file) }
+    ensures ranges { IfOk result (λ found. IsSuperBlock found.block) }
     ensures slot { IfOk result (λ found. found.slot ≤ 1) }
-    ensures cause { result ≡ Err SlotFault.Disk → Rose (D.faults disk.old) (D.faults disk.new) }
-    ensures frame { Unchanged D.tells D.file D.may_leave D.left_since D.turn D.faults D.is_ready D.tells_images D.last_mount disk.old disk.new }
+    ensures cause { HasDiskCause SlotFault.Disk (D.state disk.old).faults (D.state disk.new).faults result }
+    ensures frame { Unchanged (D.state disk.old) (D.state disk.new) }
 {
-    let block = formatted(disk)?;
+    let block = formatted_block(disk)?;
     let first_open = gate_is_open(disk, gate_at(block.names, 0))?;
     let second_open = gate_is_open(disk, gate_at(block.names, 1))?;
     pick(disk, block, first_open, second_open)
 }
 
-/// The header of a slot in use that `choose` found.
+/// The header of the slot in use that `choose` found.
 pub fn read_chosen_header<D: Disk>(disk: &mut D, found: &Found) -> Result<Header, SlotFault>
-    requires ready { IsTrue (D.is_ready disk.old) }
+    requires ready { IsTrue (D.state disk.old).is_ready }
     requires low { 16 ≤ found.now.block.names }
     requires high { found.now.block.names ≤ 65536 }
     requires slot { found.now.slot ≤ 1 }
-    requires long { IsTrue (D.tells disk.old) → head_len found.now.block.names ≤ length (D.file disk.old) }
-    requires found { IsTrue (D.tells disk.old) → slot_in_use (D.file disk.old) ≡ Ok (in_use_of found.now) }
-    ensures header { IsTrue (D.tells disk.old) → IfOk result (λ header. chosen (D.file disk.old) ≡ Ok (chosen_of found.now header)) }
-    ensures refused { IsTrue (D.tells disk.old) → IfErr result (Refuses (chosen (D.file disk.old))) }
+    requires long { IsTrue (D.state disk.old).tells
+        → head_len found.now.block.names ≤ length (D.state disk.old).file }
+    requires found { IsTrue (D.state disk.old).tells
+        → slot_in_use (D.state disk.old).file ≡ Ok (in_use_of found.now) }
+    ensures header { IsTrue (D.state disk.old).tells
+        → IfOk result (λ header. chosen (D.state disk.old).file ≡ Ok (chosen_of found.now header)) }
+    ensures refused { IsTrue (D.state disk.old).tells
+        → IfErr result (Refuses (chosen (D.state disk.old).file)) }
+    ensures sequence { IsTrue (D.state disk.old).tells
+        → IfOk result (λ header. header.sequence ≡ found.now.sequence) }
+    ensures fresh { IfOk result (λ header. header.sequence < worn_from header.kind) }
     ensures count { IfOk result (λ header. header.count ≤ found.now.block.names) }
     ensures ranges { IfOk result (λ header. IsTrue (all_in_range header)) }
-    ensures cause { result ≡ Err SlotFault.Disk → Rose (D.faults disk.old) (D.faults disk.new) }
-    ensures frame { Unchanged D.tells D.file D.may_leave D.left_since D.turn D.faults D.is_ready D.tells_images D.last_mount disk.old disk.new }
+    ensures cause { HasDiskCause SlotFault.Disk (D.state disk.old).faults (D.state disk.new).faults result }
+    ensures frame { Unchanged (D.state disk.old) (D.state disk.new) }
 {
     let at = slot_at(found.block.names, found.slot);
     let mut bytes = [0u8; HEADER_LEN];
@@ -93,16 +102,20 @@ fn pick<D: Disk>(
     first_open: bool,
     second_open: bool,
 ) -> Result<Found, SlotFault>
-    requires ready { IsTrue (D.is_ready disk.old) }
+    requires ready { IsTrue (D.state disk.old).is_ready }
     requires low { 16 ≤ block.names }
     requires high { block.names ≤ 65536 }
-    requires within { IsTrue (D.tells disk.old) → head_len block.names ≤ length (D.file disk.old) }
-    ensures found { IsTrue (D.tells disk.old) → IfOk result (λ found. picked (D.file disk.old) block first_open second_open ≡ Ok (in_use_of found)) }
-    ensures refused { IsTrue (D.tells disk.old) → IfErr result (Refuses (picked (D.file disk.old) block first_open second_open)) }
+    requires within { IsTrue (D.state disk.old).tells
+        → head_len block.names ≤ length (D.state disk.old).file }
+    ensures found { IsTrue (D.state disk.old).tells
+        → IfOk result (λ found. picked (D.state disk.old).file block first_open second_open
+        ≡ Ok (in_use_of found)) }
+    ensures refused { IsTrue (D.state disk.old).tells
+        → IfErr result (Refuses (picked (D.state disk.old).file block first_open second_open)) }
     ensures block { IfOk result (λ found. found.block ≡ block) }
     ensures slot { IfOk result (λ found. found.slot ≤ 1) }
-    ensures cause { result ≡ Err SlotFault.Disk → Rose (D.faults disk.old) (D.faults disk.new) }
-    ensures frame { Unchanged D.tells D.file D.may_leave D.left_since D.turn D.faults D.is_ready D.tells_images D.last_mount disk.old disk.new }
+    ensures cause { HasDiskCause SlotFault.Disk (D.state disk.old).faults (D.state disk.new).faults result }
+    ensures frame { Unchanged (D.state disk.old) (D.state disk.new) }
 {
     if !first_open && !second_open {
         return Err(SlotFault::NoGate);
@@ -147,16 +160,17 @@ fn pick<D: Disk>(
 }
 
 /// The superblock of a file that is formatted to its end.
-fn formatted<D: Disk>(disk: &mut D) -> Result<SuperBlock, SlotFault>
-    requires ready { IsTrue (D.is_ready disk.old) }
-    ensures block { IsTrue (D.tells disk.old) → IfOk result (λ block. formatted (D.file disk.old) ≡ Ok block) }
-    ensures refused { IsTrue (D.tells disk.old) → IfErr result (Refuses (formatted (D.file disk.old))) }
-    ensures long { IsTrue (D.tells disk.old) → IfOk result (λ block. head_len block.names ≤ length (D.file disk.old)) }
-    ensures divisor { IfOk result (λ block. (2 ≤ block.k) × (block.k ≤ 64)) }
-    ensures low { IfOk result (λ block. 16 ≤ block.names) }
-    ensures high { IfOk result (λ block. block.names ≤ 65536) }
-    ensures cause { result ≡ Err SlotFault.Disk → Rose (D.faults disk.old) (D.faults disk.new) }
-    ensures frame { Unchanged D.tells D.file D.may_leave D.left_since D.turn D.faults D.is_ready D.tells_images D.last_mount disk.old disk.new }
+fn formatted_block<D: Disk>(disk: &mut D) -> Result<SuperBlock, SlotFault>
+    requires ready { IsTrue (D.state disk.old).is_ready }
+    ensures block { IsTrue (D.state disk.old).tells
+        → IfOk result (λ block. formatted_block (D.state disk.old).file ≡ Ok block) }
+    ensures refused { IsTrue (D.state disk.old).tells
+        → IfErr result (Refuses (formatted_block (D.state disk.old).file)) }
+    ensures long { IsTrue (D.state disk.old).tells
+        → IfOk result (λ block. head_len block.names ≤ length (D.state disk.old).file) }
+    ensures ranges { IfOk result (λ block. IsSuperBlock block) }
+    ensures cause { HasDiskCause SlotFault.Disk (D.state disk.old).faults (D.state disk.new).faults result }
+    ensures frame { Unchanged (D.state disk.old) (D.state disk.new) }
 {
     let length = length_of(disk).map_err(|_| SlotFault::Disk)?;
     if length < SUPERBLOCK_LEN as u64 {
@@ -174,15 +188,17 @@ fn formatted<D: Disk>(disk: &mut D) -> Result<SuperBlock, SlotFault>
 
 /// What the first 64 bytes say.
 fn superblock<D: Disk>(disk: &mut D) -> Result<SuperBlock, SlotFault>
-    requires ready { IsTrue (D.is_ready disk.old) }
-    requires within { IsTrue (D.tells disk.old) → SUPERBLOCK_LEN ≤ length (D.file disk.old) }
-    ensures block { IsTrue (D.tells disk.old) → IfOk result (λ block. placed_at 0 (read_superblock (bytes_at (D.file disk.old) 0 SUPERBLOCK_LEN)) ≡ Ok block) }
-    ensures refused { IsTrue (D.tells disk.old) → IfErr result (Refuses (placed_at 0 (read_superblock (bytes_at (D.file disk.old) 0 SUPERBLOCK_LEN)))) }
-    ensures divisor { IfOk result (λ block. (2 ≤ block.k) × (block.k ≤ 64)) }
-    ensures low { IfOk result (λ block. 16 ≤ block.names) }
-    ensures high { IfOk result (λ block. block.names ≤ 65536) }
-    ensures cause { result ≡ Err SlotFault.Disk → Rose (D.faults disk.old) (D.faults disk.new) }
-    ensures frame { Unchanged D.tells D.file D.may_leave D.left_since D.turn D.faults D.is_ready D.tells_images D.last_mount disk.old disk.new }
+    requires ready { IsTrue (D.state disk.old).is_ready }
+    requires within { IsTrue (D.state disk.old).tells → SUPERBLOCK_LEN ≤ length (D.state disk.old).file }
+    ensures block { IsTrue (D.state disk.old).tells
+        → IfOk result (λ block. placed_at 0
+        (read_superblock (bytes_at (D.state disk.old).file 0 SUPERBLOCK_LEN)) ≡ Ok block) }
+    ensures refused { IsTrue (D.state disk.old).tells
+        → IfErr result (Refuses (placed_at 0
+        (read_superblock (bytes_at (D.state disk.old).file 0 SUPERBLOCK_LEN)))) }
+    ensures ranges { IfOk result (λ block. IsSuperBlock block) }
+    ensures cause { HasDiskCause SlotFault.Disk (D.state disk.old).faults (D.state disk.new).faults result }
+    ensures frame { Unchanged (D.state disk.old) (D.state disk.new) }
 {
     let mut bytes = [0u8; SUPERBLOCK_LEN];
     read(disk, 0, &mut bytes).map_err(|_| SlotFault::Disk)?;
@@ -191,12 +207,13 @@ fn superblock<D: Disk>(disk: &mut D) -> Result<SuperBlock, SlotFault>
 
 /// Whether the gate at a position is open.
 fn gate_is_open<D: Disk>(disk: &mut D, at: u64) -> Result<bool, SlotFault>
-    requires ready { IsTrue (D.is_ready disk.old) }
-    requires within { IsTrue (D.tells disk.old) → at < length (D.file disk.old) }
-    ensures gate { IsTrue (D.tells disk.old) → IfOk result (λ b. b ≡ is_open (D.file disk.old) at) }
+    requires ready { IsTrue (D.state disk.old).is_ready }
+    requires within { IsTrue (D.state disk.old).tells → at < length (D.state disk.old).file }
+    ensures gate { IsTrue (D.state disk.old).tells
+        → IfOk result (λ b. b ≡ is_open (D.state disk.old).file at) }
     ensures only { OnErr result (result ≡ Err SlotFault.Disk) }
-    ensures cause { OnErr result (Rose (D.faults disk.old) (D.faults disk.new)) }
-    ensures frame { Unchanged D.tells D.file D.may_leave D.left_since D.turn D.faults D.is_ready D.tells_images D.last_mount disk.old disk.new }
+    ensures cause { HasDiskCause SlotFault.Disk (D.state disk.old).faults (D.state disk.new).faults result }
+    ensures frame { Unchanged (D.state disk.old) (D.state disk.new) }
 {
     let mut gate = [0u8; 1];
     read(disk, at, &mut gate).map_err(|_| SlotFault::Disk)?;
@@ -205,15 +222,16 @@ fn gate_is_open<D: Disk>(disk: &mut D, at: u64) -> Result<bool, SlotFault>
 
 /// The sequence of a slot.
 fn sequence_of<D: Disk>(disk: &mut D, names: u64, slot: u8) -> Result<u64, SlotFault>
-    requires ready { IsTrue (D.is_ready disk.old) }
+    requires ready { IsTrue (D.state disk.old).is_ready }
     requires low { 16 ≤ names }
     requires high { names ≤ 65536 }
     requires slot { slot ≤ 1 }
-    requires within { IsTrue (D.tells disk.old) → head_len names ≤ length (D.file disk.old) }
-    ensures value { IsTrue (D.tells disk.old) → IfOk result (λ n. n ≡ sequence_at (D.file disk.old) names slot) }
+    requires within { IsTrue (D.state disk.old).tells → head_len names ≤ length (D.state disk.old).file }
+    ensures value { IsTrue (D.state disk.old).tells
+        → IfOk result (λ n. n ≡ sequence_at (D.state disk.old).file names slot) }
     ensures only { OnErr result (result ≡ Err SlotFault.Disk) }
-    ensures cause { OnErr result (Rose (D.faults disk.old) (D.faults disk.new)) }
-    ensures frame { Unchanged D.tells D.file D.may_leave D.left_since D.turn D.faults D.is_ready D.tells_images D.last_mount disk.old disk.new }
+    ensures cause { HasDiskCause SlotFault.Disk (D.state disk.old).faults (D.state disk.new).faults result }
+    ensures frame { Unchanged (D.state disk.old) (D.state disk.new) }
 {
     let mut number = [0u8; 8];
     read(disk, slot_at(names, slot) + 8, &mut number).map_err(|_| SlotFault::Disk)?;

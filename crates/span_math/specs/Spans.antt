@@ -1,6 +1,5 @@
 -- Spans of bytes, and what two of them have in common.
-use Rattle.std.specs.Prelude.{ℕ, ◌+◌, ◌<◌, ◌≤◌, ◌≡◌, ◌⊎◌, ◌↔◌, max}
-use Rattle.std.proofs.Common.{arith}
+use Rattle.std.specs.Prelude.{ℕ, ◌+◌, ◌<◌, ◌≤◌, ◌≡◌, ◌⊎◌}
 use Rattle.span_math.specs.declared.span.Span.{Span}
 
 -- the byte at a place belongs to a span
@@ -14,10 +13,3 @@ SharesByte a b = (0 < a.size) × (0 < b.size) × (a.place < b.place + b.size) ×
 -- one of the spans is empty, or one ends before the other begins
 abbrev pub IsApart : Span → Span → Type 0
 IsApart a b = (a.size ≡ 0) ⊎ (b.size ≡ 0) ⊎ (a.place + a.size ≤ b.place) ⊎ (b.place + b.size ≤ a.place)
-
--- two spans share a byte exactly where some byte belongs to both
-pub shared_byte : (a b : Span) → SharesByte a b ↔ ((place : ℕ) × Covers a place × Covers b place)
-shared_byte a b = (
-  λ h. (max a.place b.place, (omega (arith, h.0, h.1, h.2, h.3), omega (arith, h.0, h.1, h.2, h.3)), (omega (arith, h.0, h.1, h.2, h.3), omega (arith, h.0, h.1, h.2, h.3))),
-  λ h. (omega (arith, h.1, h.2), omega (arith, h.1, h.2), omega (arith, h.1, h.2), omega (arith, h.1, h.2)),
-)

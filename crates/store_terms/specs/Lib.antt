@@ -1,3 +1,3 @@
 pub mod Maps
 pub mod Requests
-pub mod MapLaws
+pub mod Weights

@@ -4,13 +4,14 @@
 ghost use Rattle.std.specs.Prelude.{◌≡◌, ◌≤◌, ◌+◌, ℕ, List, length, max};
 ghost use Rattle.std.specs.FinMap as fin;
 ghost use Rattle.store_terms.specs.Maps.{Map, volume, largest};
-ghost use Rattle.store_terms.specs.MapLaws.{size_at};
+ghost use Rattle.store_terms.specs.Weights.{size_at};
 
 /// A put adds the new object's bytes to the volume and takes those of the name's old object, if it
 /// has one. A removal takes them.
 pub fn volumes_add_up()
     ensures empty { volume fin.empty ≡ 0 }
-    ensures put { (m : Map) (name object : List ℕ) → volume (fin.insert m name object) + size_at m name ≡ volume m + length object }
+    ensures put { (m : Map) (name object : List ℕ)
+        → volume (fin.insert m name object) + size_at m name ≡ volume m + length object }
     ensures remove { (m : Map) (name : List ℕ) → volume (fin.remove m name) + size_at m name ≡ volume m }
 {}
 
@@ -18,6 +19,7 @@ pub fn volumes_add_up()
 /// removal makes it no larger.
 pub fn the_largest_object_follows()
     ensures empty { largest fin.empty ≡ 0 }
-    ensures put { (m : Map) (name object : List ℕ) → largest (fin.insert m name object) ≤ max (largest m) (length object) }
+    ensures put { (m : Map) (name object : List ℕ)
+        → largest (fin.insert m name object) ≤ max (largest m) (length object) }
     ensures remove { (m : Map) (name : List ℕ) → largest (fin.remove m name) ≤ largest m }
 {}

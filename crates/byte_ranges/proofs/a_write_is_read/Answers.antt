@@ -1,4 +1,4 @@
-use Rattle.byte_ranges.specs.Ranges.{bytes_at-overwritten, overwritten-outside}
+use Rattle.byte_ranges.proofs.RangeLaws.{bytes_at-overwritten, overwritten-outside}
 use Rattle.byte_ranges.proofs.a_write_is_read.Goals as goal
 
 pub returns-clause-read : goal.returns-clause-read

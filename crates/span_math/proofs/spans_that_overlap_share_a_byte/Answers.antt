@@ -1,4 +1,4 @@
-use Rattle.span_math.specs.Spans.{shared_byte}
+use Rattle.span_math.proofs.SpanLaws.{shared_byte}
 use Rattle.span_math.proofs.spans_that_overlap_share_a_byte.Goals as goal
 
 pub returns : goal.returns

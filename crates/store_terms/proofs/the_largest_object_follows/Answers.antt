@@ -1,4 +1,4 @@
-use Rattle.store_terms.specs.MapLaws.{largest-empty, largest-insert, largest-remove}
+use Rattle.store_terms.proofs.MapLaws.{largest-empty, largest-insert, largest-remove}
 use Rattle.store_terms.proofs.the_largest_object_follows.Goals as goal
 
 pub returns-clause-empty : goal.returns-clause-empty

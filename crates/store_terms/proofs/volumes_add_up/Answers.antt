@@ -1,4 +1,4 @@
-use Rattle.store_terms.specs.MapLaws.{volume-empty, volume-insert, volume-remove}
+use Rattle.store_terms.proofs.MapLaws.{volume-empty, volume-insert, volume-remove}
 use Rattle.store_terms.proofs.volumes_add_up.Goals as goal
 
 pub returns-clause-empty : goal.returns-clause-empty

@@ -1,23 +1,64 @@
-use Rattle.std.proofs.Common.{◌≡◌, length, arith}
+use Rattle.std.proofs.Common.{◌≡◌, IsTrue, arith, length, rules, subst, sym}
 use Rattle.std.proofs.lemmas.Bool.{eq-eqb}
+use Rattle.costore_top.specs.Commands.{IsDone, IsFormatted}
+use Rattle.costore_top.proofs.Formatting.{formats_later, formats_now, untouched}
 use Rattle.costore_top.proofs.command.format.Goals as goal
 
-pub returns-in_err-map_err-clause-taken : goal.returns-in_err-map_err-clause-taken
-returns-in_err-map_err-clause-taken g c = λ told some.
-    let is = c.length_of.ensures.length told in
-    let none : length (g.D.Disk.file c.args.disk.now) ≡ 0 = grind (arith, is) in
-    absurd (omega (arith, none, some))
+pub returns-in_err-map_err-clause-formats : goal.returns-in_err-map_err-clause-formats
+returns-in_err-map_err-clause-formats g c = λ told empty.
+    let same = c.length_of.ensures.frame in
+    let here : IsTrue (g.D.Disk.state c.length_of.new.disk).tells = subst IsTrue (sym same.stays.told) told in
+    let done = IsDone c.from_residual-in_err-map_err.result in
+    formats_later c.args.k c.args.names done (untouched same) told empty
+    (formats_now c.args.k c.args.names done (grind (arith, same.same_file told, empty))
+    (c.format.ensures.stopped here) (c.format.ensures.images here) (λ is. absurd (search rules)))
 
-pub returns-clause-taken : goal.returns-clause-taken
-returns-clause-taken g c = λ told some.
+pub returns-clause-answers : goal.returns-clause-answers
+returns-clause-answers g c = λ told.
     let is = c.length_of.ensures.length told in
-    let none : length (g.D.Disk.file c.args.disk.now) ≡ 0 = grind (arith, is) in
-    absurd (omega (arith, none, some))
-
-pub returns-clause-put : goal.returns-clause-put
-returns-clause-put g c = λ told sink_told.
-    let is = c.length_of.ensures.length told in
-    let none : length (g.D.Disk.file c.args.disk.now) ≡ 0 = grind (arith, is) in
+    let none : length (g.D.Disk.state c.args.disk.now).file ≡ 0 = grind (arith, is) in
     let test = eq-eqb _ _ none in
-    let put = c.put_whole.ensures.put sink_told in
-    rw test put
+    rw test (search rules)
+
+pub returns-clause-formats : goal.returns-clause-formats
+returns-clause-formats g c = λ told empty.
+    let same = c.length_of.ensures.frame in
+    let here : IsTrue (g.D.Disk.state c.length_of.new.disk).tells = subst IsTrue (sym same.stays.told) told in
+    let whole : IsFormatted c.args.k c.args.names (g.D.Disk.state c.length_of.new.disk)
+    (g.D.Disk.state c.format.new.disk) = search rules in
+    let done = IsDone c.put_whole.result in
+    formats_later c.args.k c.args.names done (untouched same) told empty
+    (formats_now c.args.k c.args.names done (grind (arith, same.same_file told, empty))
+    (c.format.ensures.stopped here) (c.format.ensures.images here) (λ is. whole))
+
+pub returns-clause-keeps : goal.returns-clause-keeps
+returns-clause-keeps g c = record {
+  causes = search rules;
+  told = search rules;
+  images_told = search rules;
+  few = search rules;
+  taken = λ told some.
+      let is = c.length_of.ensures.length told in
+      let none : length (g.D.Disk.state c.args.disk.now).file ≡ 0 = grind (arith, is) in
+      absurd (omega (arith, none, some));
+}
+
+pub returns-in_err-map_err-clause-keeps : goal.returns-in_err-map_err-clause-keeps
+returns-in_err-map_err-clause-keeps g c = record {
+  causes = record {
+    later = search rules;
+    rose = search rules;
+    calm = λ fine. absurd (fine (search rules));
+    sink_later = search rules;
+    sink_rose = search rules;
+    sink_calm = search rules;
+    sink_told = search rules;
+  };
+  told = search rules;
+  images_told = search rules;
+  few = search rules;
+  taken = λ told some.
+      let is = c.length_of.ensures.length told in
+      let none : length (g.D.Disk.state c.args.disk.now).file ≡ 0 = grind (arith, is) in
+      absurd (omega (arith, none, some));
+}

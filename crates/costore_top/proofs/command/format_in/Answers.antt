@@ -1,28 +1,20 @@
-use Rattle.std.proofs.Common.{rules}
+use Rattle.std.proofs.Common.{IsTrue, arith, rules, subst, sym}
+use Rattle.disk_face.specs.Frames.{Untouched}
+use Rattle.costore_top.specs.Commands.{IsDone}
+use Rattle.costore_top.proofs.Formatting.{formats_later}
 use Rattle.costore_top.proofs.command.format_in.Goals as goal
 
 pub returns-in-Ok-There : goal.returns-in-Ok-There
 returns-in-Ok-There g c = record {
-  mounted = search rules;
-  found = search rules;
-  absent = search rules;
-  ends = search rules;
-  put = search rules;
-  nothing_put = search rules;
   words = search rules;
-  disk_cause = search rules;
-  sink_cause = search rules;
-  sink_later = search rules;
-  sink_told = search rules;
-  told = search rules;
-  images_told = search rules;
-  later = search rules;
-  taken = search rules;
-  formatted = search rules;
-  file = search rules;
-  stopped = search rules;
-  images = search rules;
-  rests = search rules;
-  calls = search rules;
-  few = search rules;
+  mounted = search rules;
+  answers = search rules;
+  nothing_put = search rules;
+  formats = λ told empty.
+      let same : Untouched (g.B.Disk.state c.args.bay.now) (g.B.Disk.state c.mount.new.self) = search rules in
+      let here : IsTrue (g.B.Disk.state c.mount.new.self).tells = subst IsTrue (sym same.told) told in
+      formats_later c.args.k c.args.names (IsDone c.format.result) same told empty
+      (c.format.ensures.formats here (grind (arith, same.same_file told, empty)));
+  silent = search rules;
+  keeps = search rules;
 }

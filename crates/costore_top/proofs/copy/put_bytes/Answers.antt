@@ -1,6 +1,6 @@
 use Rattle.std.proofs.Common.{rules, arith, IsTrue}
 use Rattle.std.proofs.lemmas.Grind.{common_steps}
-use Rattle.disk_face.specs.Frames.{Unchanged-trans}
+use Rattle.disk_face.proofs.FrameLaws.{Unchanged-trans}
 use Rattle.costore_top.proofs.Pieces.{put_more, put_front}
 use Rattle.costore_top.proofs.copy.put_bytes.Goals as goal
 
@@ -9,23 +9,32 @@ pieces-preserved g c = record {
   within = omega arith;
   buffer = grind (arith, common_steps);
   put = λ told sink_told.
-      let here : IsTrue (g.D.Disk.tells c.pieces.disk) = grind (arith, c.pieces.invariant.frame.told) in
-      let there : IsTrue (g.O.Sink.tells c.pieces.output) = grind arith in
+      let here : IsTrue (g.D.Disk.state c.pieces.disk).tells =
+      grind (arith, c.pieces.invariant.frame.stays.told) in
+      let there : IsTrue (g.O.Sink.state c.pieces.output).tells = grind arith in
       let first = c.pieces.invariant.put told sink_told in
       let second = (c.in_ok-put_piece.ensures.put here there).all in
       let same = c.pieces.invariant.frame.same_file told in
-      put_more (g.O.Sink.given c.args.output.now) (g.O.Sink.given c.pieces.output) (g.O.Sink.given c.put_piece.new.output) (g.D.Disk.file c.args.disk.now) c.args.at c.pieces.done c.min-n.result first (rw same at second);
-  frame = Unchanged-trans _ _ _ _ _ _ _ _ _ _ _ _ c.pieces.invariant.frame c.put_piece.ensures.frame;
-  sink_later = omega arith;
+      put_more (g.O.Sink.state c.args.output.now).given (g.O.Sink.state c.pieces.output).given
+      (g.O.Sink.state c.put_piece.new.output).given (g.D.Disk.state c.args.disk.now).file c.args.at
+      c.pieces.done
+      c.min-n.result first (rw same at second);
+  frame = Unchanged-trans c.pieces.invariant.frame c.put_piece.ensures.frame;
+  calm = search rules;
+  sink_calm = search rules;
   sink_told = cc;
 }
 
 pub returns-in_err-put_piece-clause-put : goal.returns-in_err-put_piece-clause-put
 returns-in_err-put_piece-clause-put g c = λ told sink_told.
-    let here : IsTrue (g.D.Disk.tells c.pieces.disk) = grind (arith, c.pieces.invariant.frame.told) in
-    let there : IsTrue (g.O.Sink.tells c.pieces.output) = grind arith in
+    let here : IsTrue (g.D.Disk.state c.pieces.disk).tells =
+    grind (arith, c.pieces.invariant.frame.stays.told) in
+    let there : IsTrue (g.O.Sink.state c.pieces.output).tells = grind arith in
     let first = c.pieces.invariant.put told sink_told in
     let second = (c.in_err-put_piece.ensures.put here there).front in
     let same = c.pieces.invariant.frame.same_file told in
-    let front = put_front (g.O.Sink.given c.args.output.now) (g.O.Sink.given c.pieces.output) (g.O.Sink.given c.put_piece.new.output) (g.D.Disk.file c.args.disk.now) c.args.at c.pieces.done c.min-n.result c.args.size (omega arith) (c.requires.within told) first (rw same at second) in
+    let front = put_front (g.O.Sink.state c.args.output.now).given (g.O.Sink.state c.pieces.output).given
+    (g.O.Sink.state c.put_piece.new.output).given (g.D.Disk.state c.args.disk.now).file c.args.at
+    c.pieces.done
+    c.min-n.result c.args.size (omega arith) (c.requires.within told) first (rw same at second) in
     search rules

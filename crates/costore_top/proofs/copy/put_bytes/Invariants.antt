@@ -7,10 +7,13 @@ abbrev pub invariant-pieces : goal.invariant-pieces
 invariant-pieces g l = record {
   within : l.done ≤ l.size;
   buffer : length l.buffer ≡ 4096;
-  put : IsTrue (g.D.Disk.tells l.fn.disk) → IsTrue (g.O.Sink.tells l.fn.output) → g.O.Sink.given l.output ≡ g.O.Sink.given l.fn.output ++ bytes_at (g.D.Disk.file l.fn.disk) l.at l.done;
-  frame : Unchanged g.D.Disk.tells g.D.Disk.file g.D.Disk.may_leave g.D.Disk.left_since g.D.Disk.turn g.D.Disk.faults g.D.Disk.is_ready g.D.Disk.tells_images g.D.Disk.last_mount l.fn.disk l.disk;
-  sink_later : g.O.Sink.faults l.fn.output ≤ g.O.Sink.faults l.output;
-  sink_told : g.O.Sink.tells l.output ≡ g.O.Sink.tells l.fn.output;
+  put : IsTrue (g.D.Disk.state l.fn.disk).tells → IsTrue (g.O.Sink.state l.fn.output).tells
+      → (g.O.Sink.state l.output).given ≡ (g.O.Sink.state l.fn.output).given
+      ++ bytes_at (g.D.Disk.state l.fn.disk).file l.at l.done;
+  frame : Unchanged (g.D.Disk.state l.fn.disk) (g.D.Disk.state l.disk);
+  calm : (g.D.Disk.state l.disk).faults ≡ (g.D.Disk.state l.fn.disk).faults;
+  sink_calm : (g.O.Sink.state l.output).faults ≡ (g.O.Sink.state l.fn.output).faults;
+  sink_told : (g.O.Sink.state l.output).tells ≡ (g.O.Sink.state l.fn.output).tells;
 }
 
 abbrev pub decreases-pieces : goal.decreases-pieces

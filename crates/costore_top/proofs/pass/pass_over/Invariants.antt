@@ -8,9 +8,14 @@ use Rattle.costore_top.proofs.pass.pass_over.Given as goal
 
 abbrev pub invariant-records : goal.invariant-records
 invariant-records g l = record {
-  rest : IsTrue (g.D.Disk.tells l.fn.disk)
-      → passed l.course.data_len l.name l.course.count (bytes_at (g.D.Disk.file l.fn.disk) l.course.at (record_len * l.course.count)) l.course.at 0 nothing_noted
-      ≡ passed l.course.data_len l.name (l.course.count - l.n) (drop (record_len * l.n) (bytes_at (g.D.Disk.file l.fn.disk) l.course.at (record_len * l.course.count))) (l.course.at + record_len * l.n) l.n l.pass;
+  rest : IsTrue (g.D.Disk.state l.fn.disk).tells
+      → passed l.course.data_len l.name l.course.count
+      (bytes_at (g.D.Disk.state l.fn.disk).file l.course.at (record_len * l.course.count)) l.course.at 0
+      nothing_noted
+      ≡ passed l.course.data_len l.name (l.course.count - l.n)
+      (drop (record_len * l.n) (bytes_at (g.D.Disk.state l.fn.disk).file l.course.at
+      (record_len * l.course.count))) (l.course.at + record_len * l.n) l.n l.pass;
   ranges : IfSome l.pass.found (λ s. (s.place < 2 ^ 48) × (s.size < 2 ^ 48));
-  frame : Unchanged g.D.Disk.tells g.D.Disk.file g.D.Disk.may_leave g.D.Disk.left_since g.D.Disk.turn g.D.Disk.faults g.D.Disk.is_ready g.D.Disk.tells_images g.D.Disk.last_mount l.fn.disk l.disk;
+  frame : Unchanged (g.D.Disk.state l.fn.disk) (g.D.Disk.state l.disk);
+  calm : (g.D.Disk.state l.disk).faults ≡ (g.D.Disk.state l.fn.disk).faults;
 }

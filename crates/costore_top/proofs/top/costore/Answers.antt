@@ -1,20 +1,32 @@
 -- The end of the command, and what was put before the line that tells it.
-use Rattle.std.proofs.Common.{◌≡◌, ◌⊎◌, ◌++◌, IsTrue, arith, inl, inr}
-use Rattle.disk_face.specs.Counts.{Rose}
-use Rattle.costore_top.specs.Outcomes.{answer_for, status_at, line_at}
-use Rattle.costore_top.proofs.Statuses.{ended}
+use Rattle.std.proofs.Common.{◌≡◌, ◌⊎◌, ap, subst, sym, ◌∙◌}
+use Rattle.costore_top.specs.Commands.{Formats}
+use Rattle.costore_top.specs.Outcomes.{answer_for, status_at}
+use Rattle.costore_top.proofs.Formatting.{disk_by, formats_by}
+use Rattle.costore_top.proofs.Statuses.{ended, line_after_none}
 use Rattle.costore_top.proofs.top.costore.Goals as goal
 
 pub returns-clause-ends : goal.returns-clause-ends
-returns-clause-ends g c = λ command means told sink_told.
-    let there : IsTrue (g.O.Sink.tells c.do_words-end.new.output) = grind (arith, c.do_words-end.ensures.told) in
-    let whole = c.finish.ensures.status in
+returns-clause-ends g c = λ command means told.
     let status : c.finish.result.status ≡ status_at c.do_words-end.result = cc in
-    let failed : Type 0 = Rose (g.O.Sink.faults c.args.output.now) (g.O.Sink.faults c.finish.new.output) in
-    let all : (g.O.Sink.given c.finish.new.output ≡ g.O.Sink.given c.do_words-end.new.output ++ line_at c.do_words-end.result) ⊎ failed =
-    elim (c.finish.ensures.all there) as (λ x. (g.O.Sink.given c.finish.new.output ≡ g.O.Sink.given c.do_words-end.new.output ++ line_at c.do_words-end.result) ⊎ failed) [
-      | inl is ↦ inl is
-      | inr rose ↦ inr (omega (arith, rose, c.do_words-end.ensures.later.1))
-    ] in
-    ended (answer_for command (g.B.Disk.file c.args.bay.now)) c.do_words-end.result c.finish.result.status (g.O.Sink.given c.args.output.now) (g.O.Sink.given c.do_words-end.new.output) (g.O.Sink.given c.finish.new.output) failed
-    status (c.do_words-end.ensures.ends command means told) (c.do_words-end.ensures.put command means told sink_told) (c.finish.ensures.line there) all
+    let causes = c.do_words-end.ensures.keeps.causes in
+    ended (answer_for command (g.B.Disk.state c.args.bay.now).file) c.do_words-end.result
+    c.finish.result.status
+    (g.O.Sink.state c.args.output.now) (g.O.Sink.state c.do_words-end.new.output)
+    (g.O.Sink.state c.finish.new.output) status (c.do_words-end.ensures.answers command means told)
+    causes.sink_told causes.sink_later c.finish.ensures.line
+
+pub returns-clause-formats : goal.returns-clause-formats
+returns-clause-formats g c = λ file k names means told empty.
+    let status : c.finish.result.status ≡ status_at c.do_words-end.result = cc in
+    subst (λ n. Formats k names (g.B.Disk.state c.args.bay.now) (g.B.Disk.state c.do_words-end.new.bay)
+    ((n ≡ 0) ⊎ (n ≡ 9))) (sym status)
+    (formats_by k names c.do_words-end.result (c.do_words-end.ensures.formats file k names means told empty))
+
+pub returns-clause-silent : goal.returns-clause-silent
+returns-clause-silent g c = λ command means makes told failed.
+    let status : c.finish.result.status ≡ status_at c.do_words-end.result = cc in
+    let disk = disk_by c.do_words-end.result (sym status ∙ failed) in
+    let same = ap g.O.Sink.state (c.do_words-end.ensures.silent command means makes disk) in
+    line_after_none (g.O.Sink.state c.args.output.now) (g.O.Sink.state c.do_words-end.new.output)
+    (g.O.Sink.state c.finish.new.output) c.do_words-end.result same disk told c.finish.ensures.line

@@ -3,4 +3,4 @@ use Rattle.disk_bench.proofs.passes.writes.Given as goal
 
 -- the file is open, and tells nothing
 abbrev pub invariant-pieces : goal.invariant-pieces
-invariant-pieces g l = IsTrue (g.D.Disk.is_ready l.disk) × IsFalse (g.D.Disk.tells l.disk)
+invariant-pieces g l = IsTrue (g.D.Disk.state l.disk).is_ready × IsFalse (g.D.Disk.state l.disk).tells

@@ -1,4 +1,4 @@
-use Rattle.disk_face.specs.ImageLaws.{image_after_range}
+use Rattle.disk_face.proofs.ImageLaws.{image_after_range}
 use Rattle.disk_face.proofs.laws.a_write_leaves_what_lies_outside.Goals as goal
 
 pub returns : goal.returns

@@ -15,8 +15,14 @@ returns c = λ h is_base is_calls.
     let synced = c.synced_by-synced.result in
     let done = take ended entries in
     let next = option_map stamp_of (slice_get entries ended) in
-    let rest : take (length done - synced) (drop synced done) ≡ drop synced done = take_all (length done - synced) (drop synced done) (omega (arith, length-drop synced done)) in
+    let rest : take (length done - synced) (drop synced done)
+    ≡ drop synced done = take_all (length done - synced) (drop synced done)
+    (omega (arith, length-drop synced done)) in
     c.in_ok-finish.ensures
-    ∙ ap (λ (xs : List Entry). finished c.args.turn c.args.choice next (newest_first xs) c.replay.new.file.items) rest
-    ∙ ap (λ (xs : List ℕ). finished c.args.turn c.args.choice next (newest_first (drop synced done)) xs) (c.in_ok-replay.ensures ∙ ap (λ (xs : List ℕ). content_after xs (newest_first (take synced done))) (c.in_ok-image.ensures.items ∙ sym is_base))
-    ∙ built_is h entries done c.args.turn c.args.choice ended synced is_calls refl c.ended_by-ended.ensures.turn c.synced_by-synced.ensures.up_to c.synced_by-synced.ensures.since
+    ∙ ap (λ (xs : List Entry). finished c.args.turn c.args.choice next (newest_first xs)
+    c.replay.new.file.items) rest
+    ∙ ap (λ (xs : List ℕ). finished c.args.turn c.args.choice next (newest_first (drop synced done)) xs)
+    (c.in_ok-replay.ensures ∙ ap (λ (xs : List ℕ). content_after xs (newest_first (take synced done)))
+    (c.in_ok-image.ensures.items ∙ sym is_base))
+    ∙ built_is h entries done c.args.turn c.args.choice ended synced is_calls refl
+    c.ended_by-ended.ensures.turn c.synced_by-synced.ensures.up_to c.synced_by-synced.ensures.since

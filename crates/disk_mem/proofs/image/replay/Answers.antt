@@ -9,4 +9,5 @@ calls-init c = ap (content_after c.args.file.now.items) (sym newest_first_none)
 
 pub calls-preserved : goal.calls-preserved
 calls-preserved c =
-    c.in_ok-replay_one.ensures ∙ content_more c.args.entries.now c.calls.entry-index c.entry-item.result c.calls-test.true c.entry-item.is c.args.file.now.items c.calls.file.items c.calls.invariant
+    c.in_ok-replay_one.ensures ∙ content_more c.args.entries.now c.calls.entry-index c.entry-item.result
+    c.calls-test.true c.entry-item.is c.args.file.now.items c.calls.file.items c.calls.invariant

@@ -1,4 +1,4 @@
-use Rattle.disk_mem.specs.HistoryLaws.{present_is_image}
+use Rattle.disk_mem.specs.Lawful.{present_is_image}
 use Rattle.disk_mem.proofs.laws.what_reads_give_is_an_image.Goals as goal
 
 pub returns : goal.returns

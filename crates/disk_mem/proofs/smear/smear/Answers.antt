@@ -9,4 +9,6 @@ calls-init c = ap (smeared_after c.args.byte c.args.file.now.items) (sym newest_
 
 pub calls-preserved : goal.calls-preserved
 calls-preserved c =
-    c.in_ok-smear_one.ensures ∙ smeared_more c.args.entries.now c.calls.entry-index c.entry-item.result c.calls-test.true c.entry-item.is c.args.byte c.args.file.now.items c.calls.file.items c.calls.invariant
+    c.in_ok-smear_one.ensures ∙ smeared_more c.args.entries.now c.calls.entry-index c.entry-item.result
+    c.calls-test.true c.entry-item.is c.args.byte c.args.file.now.items c.calls.file.items
+    c.calls.invariant

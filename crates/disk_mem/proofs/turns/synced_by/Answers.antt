@@ -17,17 +17,22 @@ calls-init c = record {
 pub calls-preserved : goal.calls-preserved
 calls-preserved c = elim c.if-is_sync.branch [
   | then-is_sync w ↦
-      let both = at_sync c.args.entries.now c.calls.i c.index-entries-i.result c.calls-test.true c.index-entries-i.is (sym c.is_sync.ensures ∙ w.if-is_sync.true) in
+      let both = at_sync c.args.entries.now c.calls.i c.index-entries-i.result c.calls-test.true
+      c.index-entries-i.is (sym c.is_sync.ensures ∙ w.if-is_sync.true) in
       record {
         within = omega (arith, w.synced-is);
         up_to = ap (λ n. newest_first (take n c.args.entries.now)) w.synced-is ∙ both.0;
-        since = ap (λ n. newest_first (drop n (take (c.calls.i + 1) c.args.entries.now))) w.synced-is ∙ both.1;
+        since = ap (λ n. newest_first (drop n (take (c.calls.i + 1) c.args.entries.now))) w.synced-is
+            ∙ both.1;
       }
   | else-is_sync w ↦
-      let both = no_sync c.args.entries.now c.calls.i c.index-entries-i.result c.calls-test.true c.index-entries-i.is c.calls.synced c.calls.invariant.within (sym c.is_sync.ensures ∙ w.if-is_sync.false) c.calls.invariant.up_to c.calls.invariant.since in
+      let both = no_sync c.args.entries.now c.calls.i c.index-entries-i.result c.calls-test.true
+      c.index-entries-i.is c.calls.synced c.calls.invariant.within
+      (sym c.is_sync.ensures ∙ w.if-is_sync.false) c.calls.invariant.up_to c.calls.invariant.since in
       record {
         within = omega (arith, w.synced-is);
         up_to = ap (λ n. newest_first (take n c.args.entries.now)) w.synced-is ∙ both.0;
-        since = ap (λ n. newest_first (drop n (take (c.calls.i + 1) c.args.entries.now))) w.synced-is ∙ both.1;
+        since = ap (λ n. newest_first (drop n (take (c.calls.i + 1) c.args.entries.now))) w.synced-is
+            ∙ both.1;
       }
 ]

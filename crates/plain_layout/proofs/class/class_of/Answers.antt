@@ -11,9 +11,27 @@ powers-preserved c =
     let e = shifted c.powers.c c.powers-test.true in
     elim c.if-c-size.branch [
       | then-c-size w ↦
-          let some : p c.powers.c ≡ true = le-leb (2 ^ c.powers.c) size (omega (arith, e, w.if-c-size.true)) in
-          record { count = omega (arith, count_yes p 32 c.powers.c c.powers-test.true some, w.powers-is, c.powers.invariant.count); few = omega arith }
+          let some : p c.powers.c ≡ true = le-leb (2 ^ c.powers.c) size (omega (arith, e, w.if-c-size.true))
+          in
+          record {
+            count = omega (
+              arith,
+              count_yes p 32 c.powers.c c.powers-test.true some,
+              w.powers-is,
+              c.powers.invariant.count,
+            );
+            few = omega arith;
+          }
       | else-c-size w ↦
-          let none : p c.powers.c ≡ false = lt-leb (2 ^ c.powers.c) size (omega (arith, e, w.if-c-size.false)) in
-          record { count = omega (arith, count_no p 32 c.powers.c c.powers-test.true none, w.powers-is, c.powers.invariant.count); few = omega arith }
+          let none : p c.powers.c ≡ false = lt-leb (2 ^ c.powers.c) size (omega (arith, e, w.if-c-size.false))
+          in
+          record {
+            count = omega (
+              arith,
+              count_no p 32 c.powers.c c.powers-test.true none,
+              w.powers-is,
+              c.powers.invariant.count,
+            );
+            few = omega arith;
+          }
     ]

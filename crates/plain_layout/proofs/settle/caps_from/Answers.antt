@@ -2,8 +2,8 @@ use Rattle.std.proofs.Common.{arith, subst, ap, ◌≡◌, ℕ}
 use Rattle.std.specs.Prelude.{slice_set}
 use Rattle.std.proofs.lemmas.List.{get_or_past}
 use Rattle.segment_layout.specs.Books.{volumes_of_sizes}
-use Rattle.segment_layout.specs.BookLaws.{length-volumes_of_sizes}
-use Rattle.segment_layout.specs.SettleLaws.{TakenUpTo, taken_none, taken_more, taken_all}
+use Rattle.segment_layout.proofs.BookLaws.{length-volumes_of_sizes}
+use Rattle.segment_layout.proofs.SettleLaws.{TakenUpTo, taken_none, taken_more, taken_all}
 use Rattle.plain_layout.proofs.settle.caps_from.Goals as goal
 
 pub classes-init : goal.classes-init
@@ -11,7 +11,8 @@ classes-init c = taken_none c.args.b c.args.caps (volumes_of_sizes c.args.after.
 
 pub classes-preserved : goal.classes-preserved
 classes-preserved c =
-    taken_more c.args.b c.classes.c c.volume_of.result c.args.caps (volumes_of_sizes c.args.after.now) c.classes.caps _ c.classes.invariant (omega arith) (omega arith) c.volume_of.ensures.volume
+    taken_more c.args.b c.classes.c c.volume_of.result c.args.caps (volumes_of_sizes c.args.after.now)
+    c.classes.caps _ c.classes.invariant (omega arith) (omega arith) c.volume_of.ensures.volume
     (ap (λ (n : ℕ). slice_set c.classes.caps n c.volume_of.result) c.from.ensures)
 
 pub returns : goal.returns

@@ -1,5 +1,5 @@
 use Rattle.segment_layout.specs.Books.{volumes_of_sizes}
-use Rattle.segment_layout.specs.SettleLaws.{TakenUpTo}
+use Rattle.segment_layout.proofs.SettleLaws.{TakenUpTo}
 use Rattle.plain_layout.proofs.settle.caps_from.Given as goal
 
 abbrev pub invariant-classes : goal.invariant-classes

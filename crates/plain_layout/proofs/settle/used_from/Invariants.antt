@@ -1,4 +1,4 @@
-use Rattle.segment_layout.specs.SettleLaws.{EmptiedUpTo}
+use Rattle.segment_layout.proofs.SettleLaws.{EmptiedUpTo}
 use Rattle.plain_layout.proofs.settle.used_from.Given as goal
 
 abbrev pub invariant-rows : goal.invariant-rows

@@ -1,6 +1,6 @@
 use Rattle.std.proofs.Common.{◌≡◌, ◌≤◌, ◌*◌, ◌^◌, take}
 use Rattle.std.specs.Prelude.{sum, sum_by}
-use Rattle.segment_layout.specs.BalanceLaws.{bytes_in}
+use Rattle.segment_layout.proofs.BalanceLaws.{bytes_in}
 use Rattle.plain_layout.proofs.settle.volume_of.Given as goal
 
 abbrev pub invariant-sizes : goal.invariant-sizes

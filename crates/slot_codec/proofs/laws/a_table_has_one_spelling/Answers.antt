@@ -1,4 +1,4 @@
-use Rattle.slot_codec.specs.RecordsLaws.{records_of-spelled, records_of-written}
+use Rattle.slot_codec.proofs.RecordsLaws.{records_of-spelled, records_of-written}
 use Rattle.slot_codec.proofs.laws.a_table_has_one_spelling.Goals as goal
 
 pub returns : goal.returns

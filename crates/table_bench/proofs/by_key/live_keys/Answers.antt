@@ -6,4 +6,6 @@ use Rattle.table_bench.proofs.by_key.live_keys.Goals as goal
 pub ranks-preserved : goal.ranks-preserved
 ranks-preserved c =
     let added : c.push.new.self.items ≡ c.ranks.keys.items ++ c.in_order-entry.result.0 ∷ [] = search rules in
-    subst (All (IsLive c.args.table.now)) (sym added) (All-push (IsLive c.args.table.now) c.ranks.keys.items c.in_order-entry.result.0 c.ranks.invariant (c.in_order-entry.result.1, c.in_order-entry.ensures.key))
+    subst (All (IsLive c.args.table.now)) (sym added)
+    (All-push (IsLive c.args.table.now) c.ranks.keys.items c.in_order-entry.result.0 c.ranks.invariant
+    (c.in_order-entry.result.1, c.in_order-entry.ensures.key))

@@ -3,49 +3,77 @@ use Rattle.disk_face.specs.Counts.{last}
 use Rattle.disk_face.specs.Moments.{NoMore, Only, Elapses}
 use Rattle.disk_mem.specs.Entries.{newest_first}
 use Rattle.disk_mem.specs.Changes.Change.{Synced}
-use Rattle.disk_mem.specs.Histories.{History, EndedBy, file_of, LeftSince, MayLeave, done, undone}
-use Rattle.disk_mem.specs.HistoryLaws.{Elapses_done, Elapses_undone, NoMore_sync, Only_sync}
+use Rattle.disk_mem.specs.Histories.{History, EndedBy, file_of, MayLeave, done, undone, history_state}
+use Rattle.disk_mem.proofs.HistoryLaws.{Elapses_done, Elapses_undone, NoMore_sync, Only_sync}
 use Rattle.disk_mem.proofs.Steps.{holds_done, holds_undone}
 use Rattle.disk_mem.proofs.disk.MemDiskDisk.sync.Goals as goal
 
 pub invariant_of-self : goal.invariant_of-self
 invariant_of-self c =
-    holds_undone c.self.inside.bytes.items c.self.inside.base.items (newest_first c.self.inside.calls.items) (newest_first c.keep.new.entries.items) c.self.inside.turn c.saturating_add-self-inside.result
+    holds_undone c.self.inside.bytes.items c.self.inside.base.items (newest_first c.self.inside.calls.items)
+    (newest_first c.keep.new.entries.items) c.self.inside.turn c.saturating_add-self-inside.result
     c.saturating_add-self-inside.ensures (omega arith) (search rules) c.self.invariant.0 c.self.invariant.1
 
 pub returns-then-is_err-clause-time : goal.returns-then-is_err-clause-time
 returns-then-is_err-clause-time c =
     let h = c.args.self.now in
-    let ended : EndedBy h.turn h.calls = subst (λ (x : History). EndedBy x.turn x.calls) c.self.view_is c.self.invariant.1 in
+    let ended : EndedBy h.turn h.calls =
+    subst (λ (x : History). EndedBy x.turn x.calls) c.self.view_is c.self.invariant.1 in
     let fits : h.turn ≤ last = omega (arith, ap (λ (x : History). x.turn) c.self.view_is) in
-    let new : History = record { base = c.self.inside.base.items; calls = newest_first c.keep.new.entries.items; turn = c.saturating_add-self-inside.result; faults = c.saturating_add-self-inside-then-is_err.result } in
+    let new : History = record {
+      base = c.self.inside.base.items;
+      calls = newest_first c.keep.new.entries.items;
+      turn = c.saturating_add-self-inside.result;
+      faults = c.saturating_add-self-inside-then-is_err.result;
+    } in
     let e : new ≡ undone h = search rules in
-    subst (λ (x : History). Elapses h.turn x.turn (LeftSince h) (LeftSince x) (MayLeave h)) (sym e) (Elapses_undone h fits ended (MayLeave h))
+    subst (λ (x : History). Elapses (history_state h) (history_state x) (MayLeave h)) (sym e)
+    (Elapses_undone h fits ended (MayLeave h))
 
 pub invariant_of-self-else-is_err : goal.invariant_of-self-else-is_err
 invariant_of-self-else-is_err c =
-    holds_done c.self.inside.bytes.items c.self.inside.bytes.items c.self.inside.base.items (newest_first c.self.inside.calls.items) (newest_first c.keep.new.entries.items) Synced c.self.inside.turn c.saturating_add-self-inside.result
-    c.saturating_add-self-inside.ensures (omega arith) (search rules) (refl) c.self.invariant.0 c.self.invariant.1
+    holds_done c.self.inside.bytes.items c.self.inside.bytes.items c.self.inside.base.items
+    (newest_first c.self.inside.calls.items) (newest_first c.keep.new.entries.items) Synced
+    c.self.inside.turn c.saturating_add-self-inside.result
+    c.saturating_add-self-inside.ensures (omega arith) (search rules) (refl) c.self.invariant.0
+    c.self.invariant.1
 
 pub returns-clause-images : goal.returns-clause-images
 returns-clause-images c =
     let h = c.args.self.now in
-    let new : History = record { base = c.self.inside.base.items; calls = newest_first c.keep.new.entries.items; turn = c.saturating_add-self-inside.result; faults = c.self.inside.faults } in
+    let new : History = record {
+      base = c.self.inside.base.items;
+      calls = newest_first c.keep.new.entries.items;
+      turn = c.saturating_add-self-inside.result;
+      faults = c.self.inside.faults;
+    } in
     let e : new ≡ done Synced h = search rules in
     subst (λ (x : History). NoMore (MayLeave h) (MayLeave x)) (sym e) (NoMore_sync h)
 
 pub returns-clause-rests : goal.returns-clause-rests
 returns-clause-rests c =
     let h = c.args.self.now in
-    let new : History = record { base = c.self.inside.base.items; calls = newest_first c.keep.new.entries.items; turn = c.saturating_add-self-inside.result; faults = c.self.inside.faults } in
+    let new : History = record {
+      base = c.self.inside.base.items;
+      calls = newest_first c.keep.new.entries.items;
+      turn = c.saturating_add-self-inside.result;
+      faults = c.self.inside.faults;
+    } in
     let e : new ≡ done Synced h = search rules in
     subst (λ (x : History). Only (file_of h) (MayLeave x)) (sym e) (Only_sync h)
 
 pub returns-clause-time : goal.returns-clause-time
 returns-clause-time c =
     let h = c.args.self.now in
-    let ended : EndedBy h.turn h.calls = subst (λ (x : History). EndedBy x.turn x.calls) c.self.view_is c.self.invariant.1 in
+    let ended : EndedBy h.turn h.calls =
+    subst (λ (x : History). EndedBy x.turn x.calls) c.self.view_is c.self.invariant.1 in
     let fits : h.turn ≤ last = omega (arith, ap (λ (x : History). x.turn) c.self.view_is) in
-    let new : History = record { base = c.self.inside.base.items; calls = newest_first c.keep.new.entries.items; turn = c.saturating_add-self-inside.result; faults = c.self.inside.faults } in
+    let new : History = record {
+      base = c.self.inside.base.items;
+      calls = newest_first c.keep.new.entries.items;
+      turn = c.saturating_add-self-inside.result;
+      faults = c.self.inside.faults;
+    } in
     let e : new ≡ done Synced h = search rules in
-    subst (λ (x : History). Elapses h.turn x.turn (LeftSince h) (LeftSince x) (MayLeave h)) (sym e) (Elapses_done h fits ended Synced (MayLeave h) (λ image is. is))
+    subst (λ (x : History). Elapses (history_state h) (history_state x) (MayLeave h)) (sym e)
+    (Elapses_done h fits ended Synced (MayLeave h) (λ image is. is))

@@ -7,7 +7,10 @@ pub returns-clause-taken : goal.returns-clause-taken
 returns-clause-taken c =
     let is_left = ap (λ s. s.left) (sym c.self.view_is) in
     record {
-      first = piece_first _ c.self.inside.bytes.items c.deref.result.now _ _ c.self.inside.at c.min-n.result is_left c.deref.ensures.value c.copy_from_slice.ensures.after (omega (arith, length-drop c.self.inside.at c.self.inside.bytes.items));
-      ended = λ has none. is_left ∙ drop_all c.self.inside.at c.self.inside.bytes.items (omega (arith, length-append c.copy_from_slice.new.self (drop c.min-n.result c.args.out.now)));
+      first = piece_first _ c.self.inside.bytes.items c.deref.result.now _ _ c.self.inside.at c.min-n.result
+          is_left c.deref.ensures.value c.copy_from_slice.ensures.after
+          (omega (arith, length-drop c.self.inside.at c.self.inside.bytes.items));
+      ended = λ has none. is_left ∙ drop_all c.self.inside.at c.self.inside.bytes.items
+          (omega (arith, length-append c.copy_from_slice.new.self (drop c.min-n.result c.args.out.now)));
       none = tt;
     }

@@ -1,27 +1,42 @@
-use Rattle.std.proofs.Common.{◌≡◌, refl, sym, ap, ◌∙◌, arith}
+use Rattle.std.proofs.Common.{◌≡◌, Some, refl, sym, ap, ◌∙◌, arith}
 use Rattle.std.proofs.lemmas.Cmp.{nat_list_cmp_total}
-use Rattle.std.specs.List.{remove}
 use Rattle.std.specs.FinMap.{nat_cmp-IsAntisymmetric, slice_cmp-IsAntisymmetric}
 use Rattle.slot_codec.specs.Names.{name_cmp}
 use Rattle.extent_table.specs.Extents.{Extents}
-use Rattle.extent_table.specs.Parts.{now_of, spot_at, spot_or_zero, spots_of, keys_of}
+use Rattle.extent_table.specs.Parts.{at, now_of, spot_at, spot_or_zero, spots_of, keys_of}
 use Rattle.extent_table.proofs.MapLemmas.{remove_none}
 use Rattle.extent_table.proofs.SideLemmas.{rising_names, get_in_gap}
-use Rattle.extent_table.proofs.OperationLemmas.{found_key, entry_read, get_found, removed}
+use Rattle.extent_table.proofs.FoundLemmas.{Found, found_key, entry_read, get_found}
+use Rattle.extent_table.proofs.ChangeLemmas.{Removed, removed}
 use Rattle.extent_table.proofs.TableLemmas.{table}
 use Rattle.extent_table.proofs.table.Table.remove.Goals as goal
+use Rattle.extent_table.proofs.table.Table.remove.Goals.{After-clear_spot}
 
 pub search-requires-clause-rising : goal.search-requires-clause-rising
-search-requires-clause-rising c = rw c.deref.ensures.value (rising_names now_of c.self.inside.entries.slots c.self.inside.order.items c.self.invariant.sound.now)
+search-requires-clause-rising c = rw c.deref.ensures.value (rising_names c.self.invariant.sound.now)
+
+-- where the name stands, what its entry says, and what is left without it
+abbrev found : (c : After-clear_spot) → Found now_of c.self.inside.entries.slots c.self.inside.order.items
+    c.args.name.now c.index-key.result.now
+found c = found_key now_of c.deref.ensures.value c.in-Ok.ensures.within c.in-Ok.ensures.found
+    c.index-key.ensures
+
+read : (c : After-clear_spot)
+    → now_of (at c.self.inside.entries.slots c.index-key.result.now) ≡ Some c.unwrap-before.result
+read c = ap now_of (entry_read c.self.inside.entries.slots c.index-key.result.now c.get.ensures
+    c.unwrap.ensures) ∙ c.unwrap-before.ensures
+
+changed : (c : After-clear_spot) → Removed c.self.inside.names c.self.inside.entries.slots
+    c.clear_spot.new.entries.slots c.self.inside.order.items c.self.inside.kept_order.items c.in-Ok.place
+    c.index-key.result.now c.args.name.now
+changed c = removed c.self.invariant.sound (found c) c.clear_spot.ensures.edit
 
 pub invariant_of-self : goal.invariant_of-self
 invariant_of-self c =
-    let found =
-    found_key now_of c.self.inside.entries.slots c.self.inside.order.items c.deref.result.now c.in-Ok.place c.args.name.now c.index-key.result.now
-    c.deref.ensures.value c.in-Ok.ensures.within c.in-Ok.ensures.found c.index-key.ensures in
-    let r = removed c.self.inside.names c.self.inside.entries.slots c.clear_spot.new.entries.slots c.self.inside.order.items c.self.inside.kept_order.items c.index-key.result.now c.args.name.now c.self.invariant.sound found c.clear_spot.ensures.edit in
-    let read = entry_read c.self.inside.entries.slots c.index-key.result.now c.get.result c.unwrap.result c.get.ensures c.unwrap.ensures in
-    let before : (spot_at now_of c.self.inside.entries.slots c.index-key.result.now).size ≡ c.unwrap-before.result.size = ap (λ e. (spot_or_zero (now_of e)).size) read ∙ ap (λ x. (spot_or_zero x).size) c.unwrap-before.ensures in
+    let at = (goal.at.invariant_of-self c).After-clear_spot in
+    let r = changed at in
+    let before : (spot_at now_of c.self.inside.entries.slots c.index-key.result.now).size
+    ≡ c.unwrap-before.result.size = ap (λ x. (spot_or_zero x).size) (read at) in
     record {
       sound = rw c.remove.ensures.items r.sound;
       room = rw (c.clear_spot.ensures.capacity, c.remove.ensures.capacity) c.self.invariant.room;
@@ -31,32 +46,34 @@ invariant_of-self c =
 
 pub returns-in-Ok : goal.returns-in-Ok
 returns-in-Ok c =
-    let found =
-    found_key now_of c.self.inside.entries.slots c.self.inside.order.items c.deref.result.now c.in-Ok.place c.args.name.now c.index-key.result.now
-    c.deref.ensures.value c.in-Ok.ensures.within c.in-Ok.ensures.found c.index-key.ensures in
-    let r = removed c.self.inside.names c.self.inside.entries.slots c.clear_spot.new.entries.slots c.self.inside.order.items c.self.inside.kept_order.items c.index-key.result.now c.args.name.now c.self.invariant.sound found c.clear_spot.ensures.edit in
-    let read = entry_read c.self.inside.entries.slots c.index-key.result.now c.get.result c.unwrap.result c.get.ensures c.unwrap.ensures in
+    let at = (goal.at.returns-in-Ok c).After-clear_spot in
+    let r = changed at in
     record {
-      was = rw (← c.self.view_is) (sym (get_found now_of c.self.inside.entries.slots c.self.inside.order.items c.args.name.now c.index-key.result.now c.self.invariant.sound.now found ∙ ap now_of read ∙ c.unwrap-before.ensures));
+      was = rw (← c.self.view_is) (sym (get_found c.self.invariant.sound.now (found at) ∙ read at));
       now = rw (c.remove.ensures.items, ← c.self.view_is) r.now;
       kept = rw (← c.self.view_is) r.kept;
       keys = rw (c.remove.ensures.items, ← c.self.view_is) r.keys;
       names = ap (λ (e : Extents). e.names) c.self.view_is;
-      table = rw c.remove.ensures.items (table c.self.inside.names c.clear_spot.new.entries.slots (remove c.self.inside.order.items c.in-Ok.place) c.self.inside.kept_order.items r.sound c.self.invariant.room.limit);
+      table = rw c.remove.ensures.items (table r.sound c.self.invariant.room.limit);
     }
 
 -- where no live name is this one, nothing changes
 pub returns-in-Err : goal.returns-in-Err
 returns-in-Err c =
+    let slots = c.self.inside.entries.slots in
+    let order = c.self.inside.order.items in
     let below = rw c.deref.ensures.value at c.in-Err.ensures.below in
     let above = rw c.deref.ensures.value at c.in-Err.ensures.above in
-    let absent = get_in_gap now_of c.self.inside.entries.slots c.self.inside.order.items c.self.invariant.sound.now c.in-Err._place c.args.name.now below above (spot_at now_of c.self.inside.entries.slots) in
-    let keyless = get_in_gap now_of c.self.inside.entries.slots c.self.inside.order.items c.self.invariant.sound.now c.in-Err._place c.args.name.now below above (λ k. k) in
+    let apart = slice_cmp-IsAntisymmetric nat_cmp-IsAntisymmetric in
+    let absent = get_in_gap c.self.invariant.sound.now c.args.name.now below above (spot_at now_of slots) in
+    let keyless = get_in_gap c.self.invariant.sound.now c.args.name.now below above (λ k. k) in
     record {
       was = rw (← c.self.view_is) (sym absent);
-      now = rw (← c.self.view_is) (sym (remove_none name_cmp nat_list_cmp_total (slice_cmp-IsAntisymmetric nat_cmp-IsAntisymmetric) (spots_of now_of c.self.inside.entries.slots c.self.inside.order.items) c.args.name.now absent));
+      now = rw (← c.self.view_is) (sym (remove_none name_cmp nat_list_cmp_total apart
+          (spots_of now_of slots order) c.args.name.now absent));
       kept = refl;
-      keys = rw (← c.self.view_is) (sym (remove_none name_cmp nat_list_cmp_total (slice_cmp-IsAntisymmetric nat_cmp-IsAntisymmetric) (keys_of c.self.inside.entries.slots c.self.inside.order.items) c.args.name.now keyless));
+      keys = rw (← c.self.view_is) (sym (remove_none name_cmp nat_list_cmp_total apart (keys_of slots order)
+          c.args.name.now keyless));
       names = refl;
-      table = rw (← c.self.view_is) (table c.self.inside.names c.self.inside.entries.slots c.self.inside.order.items c.self.inside.kept_order.items c.self.invariant.sound c.self.invariant.room.limit);
+      table = rw (← c.self.view_is) (table c.self.invariant.sound c.self.invariant.room.limit);
     }

@@ -4,4 +4,5 @@ use Rattle.segment_layout.specs.Shapes.{has_room}
 use Rattle.plain_layout.proofs.book.Book.buffer_for.Given as goal
 
 abbrev pub invariant-buffers : goal.invariant-buffers
-invariant-buffers l = (i : ℕ) → class_of l.size ≤ i → i < l.j → has_room l.self.k l.self.caps l.self.used l.size i ≡ false
+invariant-buffers l = (i : ℕ) → class_of l.size ≤ i → i < l.j
+    → has_room l.self.k l.self.caps l.self.used l.size i ≡ false

@@ -3,14 +3,15 @@ use Rattle.std.specs.Prelude.{slice_index}
 use Rattle.std.proofs.lemmas.Bool.{cases_Bool, cases_lt, false≢true}
 use Rattle.std.proofs.lemmas.List.{get_or_past}
 use Rattle.segment_layout.specs.Shapes.{is_boundary}
-use Rattle.segment_layout.specs.ShapeLaws.{boundary_means, boundary_from}
+use Rattle.segment_layout.proofs.ShapeLaws.{boundary_means, boundary_from}
 use Rattle.plain_layout.proofs.book.Book.is_boundary.Goals as goal
 
 pub returns-then-not-has_none_below : goal.returns-then-not-has_none_below
 returns-then-not-has_none_below c =
     let used = c.args.self.now.used in
     elim (cases_Bool (is_boundary used c.args.b)) [
-      | inl is ↦ absurd (false≢true (sym c.if-not-has_none_below.true ∙ c.has_none_below.ensures.1 (λ d h. boundary_means c.args.b used is c.rows.j d (omega arith) h)))
+      | inl is ↦ absurd (false≢true (sym c.if-not-has_none_below.true
+          ∙ c.has_none_below.ensures.1 (λ d h. boundary_means c.args.b used is c.rows.j d (omega arith) h)))
       | inr other ↦ sym other
     ]
 

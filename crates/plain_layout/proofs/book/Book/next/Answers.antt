@@ -5,4 +5,5 @@ pub returns-clause-book : goal.returns-clause-book
 returns-clause-book c =
     let self = c.args.self.now in
     let e = c.reshaped.ensures in
-    next_of self.k self.caps self.used c.args.items.now c.args.after.now _ _ _ _ e.quiet e.boundary e.caps e.used
+    next_of c.reshaped.result self.k self.caps self.used c.args.items.now c.args.after.now e.quiet e.boundary
+    e.last e.divisor e.caps e.used

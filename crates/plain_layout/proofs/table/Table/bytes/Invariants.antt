@@ -1,5 +1,5 @@
 use Rattle.std.proofs.Common.{◌≡◌, ◌≤◌, ◌*◌, ◌^◌, take}
-use Rattle.segment_layout.specs.Tables.{size_sum}
+use Rattle.table_rules.specs.Tables.{size_sum}
 use Rattle.plain_layout.proofs.table.Table.bytes.Given as goal
 
 abbrev pub invariant-records : goal.invariant-records

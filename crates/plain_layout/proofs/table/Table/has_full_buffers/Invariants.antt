@@ -5,4 +5,5 @@ use Rattle.std.specs.Prelude.{slice_index}
 use Rattle.plain_layout.proofs.table.Table.has_full_buffers.Given as goal
 
 abbrev pub invariant-buffers : goal.invariant-buffers
-invariant-buffers l = (j : ℕ) → j < l.j → 0 < cell l.self.header.used j l.c → (i : ℕ) → l.c ≤ i → i < j → buffer_of l.self.k (slice_index l.self.header.caps i) < taken_in l.self.header.used i + 2 ^ (l.c + 1)
+invariant-buffers l = (j : ℕ) → j < l.j → 0 < cell l.self.header.used j l.c → (i : ℕ) → l.c ≤ i → i < j
+    → buffer_of l.self.k (slice_index l.self.header.caps i) < taken_in l.self.header.used i + 2 ^ (l.c + 1)

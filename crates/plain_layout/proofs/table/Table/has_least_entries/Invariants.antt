@@ -3,4 +3,5 @@ use Rattle.size_class.specs.Classes.{cell}
 use Rattle.plain_layout.proofs.table.Table.has_least_entries.Given as goal
 
 abbrev pub invariant-buffers : goal.invariant-buffers
-invariant-buffers l = (j : ℕ) → j < l.j → 0 < cell l.self.header.used j l.c → 2 ^ l.c ≤ cell l.self.header.used j l.c
+invariant-buffers l = (j : ℕ) → j < l.j → 0 < cell l.self.header.used j l.c
+    → 2 ^ l.c ≤ cell l.self.header.used j l.c

@@ -1,6 +1,6 @@
 use Rattle.std.proofs.Common.{◌≡◌, ◌≤◌, ◌*◌, ◌^◌, take}
 use Rattle.std.specs.Prelude.{filter}
-use Rattle.segment_layout.specs.Tables.{is_of, size_sum}
+use Rattle.table_rules.specs.Tables.{is_of, size_sum}
 use Rattle.plain_layout.proofs.table.Table.live.Given as goal
 
 abbrev pub invariant-records : goal.invariant-records

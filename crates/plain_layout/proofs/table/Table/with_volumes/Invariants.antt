@@ -1,7 +1,8 @@
 use Rattle.segment_layout.specs.Books.{volumes_of_sizes}
-use Rattle.segment_layout.specs.SettleLaws.{TakenUpTo}
-use Rattle.segment_layout.specs.Tables.{sizes}
+use Rattle.segment_layout.proofs.SettleLaws.{TakenUpTo}
+use Rattle.table_rules.specs.Tables.{sizes}
 use Rattle.plain_layout.proofs.table.Table.with_volumes.Given as goal
 
 abbrev pub invariant-classes : goal.invariant-classes
-invariant-classes l = TakenUpTo l.bound l.c l.initial.caps (volumes_of_sizes (sizes l.self.records.items)) l.caps
+invariant-classes l = TakenUpTo l.boundary l.c l.initial.caps (volumes_of_sizes (sizes l.self.records.items))
+    l.caps

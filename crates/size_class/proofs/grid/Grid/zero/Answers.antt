@@ -1,6 +1,6 @@
 use Rattle.std.proofs.Common.{refl}
 use Rattle.size_class.specs.Classes.{zero_row, zero_grid}
-use Rattle.size_class.specs.ClassLaws.{IsGrid-zero}
+use Rattle.size_class.proofs.ClassLaws.{IsGrid-zero}
 use Rattle.size_class.proofs.grid.Grid.zero.Goals as goal
 
 pub invariant_of-result : goal.invariant_of-result

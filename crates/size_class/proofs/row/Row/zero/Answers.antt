@@ -1,5 +1,5 @@
 use Rattle.std.proofs.Common.{refl}
-use Rattle.byte_ranges.specs.Lists.{zeros_at}
+use Rattle.byte_ranges.proofs.ListLaws.{zeros_at}
 use Rattle.size_class.specs.Classes.{zero_row}
 use Rattle.size_class.proofs.row.Row.zero.Goals as goal
 

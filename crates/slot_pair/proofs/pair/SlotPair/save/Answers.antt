@@ -1,107 +1,80 @@
-use Rattle.std.proofs.Common.{◌≡◌, ◌+◌, ◌-◌, ◌*◌, ◌<◌, ◌≤◌, Ok, IsTrue, arith, length, subst, sym, ap}
-use Rattle.slot_codec.specs.Choice.{InUse, slot_in_use}
-use Rattle.slot_codec.specs.Spelling.{header_len, record_len, slot_at}
-use Rattle.slot_codec.specs.Reading.{worn_from}
+use Rattle.std.proofs.Common.{◌∙◌, IsTrue, Ok, ap, arith, sym}
+use Rattle.slot_codec.specs.Choice.{InUse}
 use Rattle.slot_pair.specs.Finding.{in_use_of}
-use Rattle.slot_pair.specs.Saves.{IsSaved, SaveLeaves, next_chosen, next_in_use}
-use Rattle.disk_face.specs.Writes.{within-wider}
-use Rattle.slot_pair.proofs.SavePhases.{begins, is_closed, is_written, left_closing, left_filling, left_opening, opened_in_use, opened_saved, table_as}
+use Rattle.slot_pair.proofs.SavePhases.{Begins, IsClosed, IsWritten, is_closed, is_written, left_closing, left_filling, left_opening, opened_in_use, opened_saved}
+use Rattle.slot_pair.proofs.pair.SlotPair.save.Given.{Over}
 use Rattle.slot_pair.proofs.pair.SlotPair.save.Goals as goal
+use Rattle.slot_pair.proofs.pair.SlotPair.save.Goals.{After-close_other, In_ok-close_other, In_ok-write_table}
+
+-- the save begins
+begun : (g : Over) (c : After-close_other g) → IsTrue (g.D.Disk.state c.args.disk.now).tells
+    → Begins (in_use_of c.self.inside.found) c.args.header.now (g.R.Roll.records c.args.roll.now)
+    (g.D.Disk.state c.args.disk.now)
+begun g c told =
+    let view = c.self.view_is in
+    record {
+      told = told;
+      in_use = c.requires.in_use told ∙ ap (λ x. Ok x) (sym view);
+      names = c.self.invariant.0.names_high;
+      sequence = omega (arith, c.requires.fresh, ap (λ (u : InUse). u.sequence) view);
+      few = omega (arith, c.requires.count, ap (λ (u : InUse). u.block.names) view);
+      whole = c.header_is_whole.ensures;
+      numbers = c.requires.ranges;
+      roll = g.met.R.Roll.in_order c.args.roll.now;
+      ranges = c.requires.records;
+    }
+
+-- the other slot is closed
+closed : (g : Over) (c : In_ok-close_other g)
+    → Begins (in_use_of c.self.inside.found) c.args.header.now (g.R.Roll.records c.args.roll.now)
+    (g.D.Disk.state c.args.disk.now)
+    → IsClosed (in_use_of c.self.inside.found) c.args.header.now (g.R.Roll.records c.args.roll.now)
+    (g.D.Disk.state c.args.disk.now) (g.D.Disk.state c.close_other.new.disk)
+closed g c begins = is_closed begins c.close_other.ensures.writes c.in_ok-close_other.ensures.closed
+    c.in_ok-close_other.ensures.rests
+
+-- the table is written behind it
+written : (g : Over) (c : In_ok-write_table g)
+    → IsClosed (in_use_of c.self.inside.found) c.args.header.now (g.R.Roll.records c.args.roll.now)
+    (g.D.Disk.state c.args.disk.now) (g.D.Disk.state c.close_other.new.disk)
+    → IsWritten (in_use_of c.self.inside.found) c.args.header.now (g.R.Roll.records c.args.roll.now)
+    (g.D.Disk.state c.args.disk.now) (g.D.Disk.state c.write_table.new.disk)
+written g c is = is_written c.slot_at.ensures c.count.ensures is c.write_table.ensures.writes
+    c.in_ok-write_table.ensures.table c.in_ok-write_table.ensures.rests
 
 pub returns-in_err-close_other-clause-left : goal.returns-in_err-close_other-clause-left
 returns-in_err-close_other-clause-left g c = λ told.
-    let D = g.D.Disk in
-    let h = c.args.header.now in
-    let rs = g.R.Roll.records c.args.roll.now in
-    let v : InUse = in_use_of c.self.inside.found in
-    let view : v ≡ c.args.self.now = c.self.view_is in
-    let b = begins v c.args.self.now h rs (D.file c.args.disk.now) view (c.requires.in_use told) c.self.invariant.1 c.requires.fresh c.requires.count c.header_is_whole.ensures c.requires.ranges (g.met.R.Roll.in_order c.args.roll.now) c.requires.records in
-    subst (λ u. SaveLeaves D.file D.may_leave D.left_since D.turn u h rs c.args.disk.now c.close_other.new.disk) view (left_closing told b c.close_other.ensures.writes)
+    let at = goal.at.returns-in_err-close_other-clause-left g c in
+    rw (← c.self.view_is) (left_closing (begun g at.After-close_other told) c.close_other.ensures.writes)
 
 pub returns-in_err-write_table-clause-left : goal.returns-in_err-write_table-clause-left
 returns-in_err-write_table-clause-left g c = λ told.
-    let D = g.D.Disk in
-    let h = c.args.header.now in
-    let rs = g.R.Roll.records c.args.roll.now in
-    let v : InUse = in_use_of c.self.inside.found in
-    let view : v ≡ c.args.self.now = c.self.view_is in
-    let b = begins v c.args.self.now h rs (D.file c.args.disk.now) view (c.requires.in_use told) c.self.invariant.1 c.requires.fresh c.requires.count c.header_is_whole.ensures c.requires.ranges (g.met.R.Roll.in_order c.args.roll.now) c.requires.records in
-    let told1 : IsTrue (D.tells c.close_other.new.disk) = subst IsTrue (sym c.close_other.ensures.writes.told) told in
-    let closed = is_closed told b c.close_other.ensures.writes (c.in_ok-close_other.ensures.closed told) (c.in_ok-close_other.ensures.rests told) in
-    let low : slot_at v.block.names (1 - v.slot) ≤ c.slot_at.result = omega (arith, c.slot_at.ensures) in
-    let high : c.slot_at.result + (header_len + record_len * length rs) ≤ slot_at v.block.names (1 - v.slot) + (header_len + record_len * length rs) = omega (arith, c.slot_at.ensures) in
-    let filling = within-wider (slot_at v.block.names (1 - v.slot)) (header_len + record_len * length rs) low high c.write_table.ensures.writes in
-    subst (λ u. SaveLeaves D.file D.may_leave D.left_since D.turn u h rs c.args.disk.now c.write_table.new.disk) view (left_filling told1 b closed filling)
+    let at = goal.at.returns-in_err-write_table-clause-left g c in
+    let is = closed g at.In_ok-close_other (begun g at.After-close_other told) in
+    rw (← c.self.view_is) (left_filling c.slot_at.ensures is c.write_table.ensures.writes)
 
 pub returns-in_err-open_gate-clause-left : goal.returns-in_err-open_gate-clause-left
 returns-in_err-open_gate-clause-left g c = λ told.
-    let D = g.D.Disk in
-    let h = c.args.header.now in
-    let rs = g.R.Roll.records c.args.roll.now in
-    let v : InUse = in_use_of c.self.inside.found in
-    let view : v ≡ c.args.self.now = c.self.view_is in
-    let b = begins v c.args.self.now h rs (D.file c.args.disk.now) view (c.requires.in_use told) c.self.invariant.1 c.requires.fresh c.requires.count c.header_is_whole.ensures c.requires.ranges (g.met.R.Roll.in_order c.args.roll.now) c.requires.records in
-    let told1 : IsTrue (D.tells c.close_other.new.disk) = subst IsTrue (sym c.close_other.ensures.writes.told) told in
-    let closed = is_closed told b c.close_other.ensures.writes (c.in_ok-close_other.ensures.closed told) (c.in_ok-close_other.ensures.rests told) in
-    let low : slot_at v.block.names (1 - v.slot) ≤ c.slot_at.result = omega (arith, c.slot_at.ensures) in
-    let high : c.slot_at.result + (header_len + record_len * length rs) ≤ slot_at v.block.names (1 - v.slot) + (header_len + record_len * length rs) = omega (arith, c.slot_at.ensures) in
-    let filling = within-wider (slot_at v.block.names (1 - v.slot)) (header_len + record_len * length rs) low high c.write_table.ensures.writes in
-    let told2 : IsTrue (D.tells c.write_table.new.disk) = subst IsTrue (sym c.write_table.ensures.writes.told) told1 in
-    let table = table_as (record h { sequence = v.sequence + 1 }) rs (D.file c.write_table.new.disk) c.slot_at.ensures c.count.ensures (c.in_ok-write_table.ensures.table told1) in
-    let written = is_written told1 b closed filling table (c.in_ok-write_table.ensures.rests told1) in
-    subst (λ u. SaveLeaves D.file D.may_leave D.left_since D.turn u h rs c.args.disk.now c.open_gate.new.disk) view (left_opening told2 b written c.open_gate.ensures.writes)
+    let at = goal.at.returns-in_err-open_gate-clause-left g c in
+    let is = closed g at.In_ok-close_other (begun g at.After-close_other told) in
+    rw (← c.self.view_is) (left_opening (written g at.In_ok-write_table is) c.open_gate.ensures.writes)
 
 pub returns-clause-left : goal.returns-clause-left
 returns-clause-left g c = λ told.
-    let D = g.D.Disk in
-    let h = c.args.header.now in
-    let rs = g.R.Roll.records c.args.roll.now in
-    let v : InUse = in_use_of c.self.inside.found in
-    let view : v ≡ c.args.self.now = c.self.view_is in
-    let b = begins v c.args.self.now h rs (D.file c.args.disk.now) view (c.requires.in_use told) c.self.invariant.1 c.requires.fresh c.requires.count c.header_is_whole.ensures c.requires.ranges (g.met.R.Roll.in_order c.args.roll.now) c.requires.records in
-    let told1 : IsTrue (D.tells c.close_other.new.disk) = subst IsTrue (sym c.close_other.ensures.writes.told) told in
-    let closed = is_closed told b c.close_other.ensures.writes (c.in_ok-close_other.ensures.closed told) (c.in_ok-close_other.ensures.rests told) in
-    let low : slot_at v.block.names (1 - v.slot) ≤ c.slot_at.result = omega (arith, c.slot_at.ensures) in
-    let high : c.slot_at.result + (header_len + record_len * length rs) ≤ slot_at v.block.names (1 - v.slot) + (header_len + record_len * length rs) = omega (arith, c.slot_at.ensures) in
-    let filling = within-wider (slot_at v.block.names (1 - v.slot)) (header_len + record_len * length rs) low high c.write_table.ensures.writes in
-    let told2 : IsTrue (D.tells c.write_table.new.disk) = subst IsTrue (sym c.write_table.ensures.writes.told) told1 in
-    let table = table_as (record h { sequence = v.sequence + 1 }) rs (D.file c.write_table.new.disk) c.slot_at.ensures c.count.ensures (c.in_ok-write_table.ensures.table told1) in
-    let written = is_written told1 b closed filling table (c.in_ok-write_table.ensures.rests told1) in
-    subst (λ u. SaveLeaves D.file D.may_leave D.left_since D.turn u h rs c.args.disk.now c.open_gate.new.disk) view (left_opening told2 b written c.open_gate.ensures.writes)
+    let at = goal.at.returns-clause-left g c in
+    let is = closed g at.In_ok-close_other (begun g at.After-close_other told) in
+    rw (← c.self.view_is) (left_opening (written g at.In_ok-write_table is) c.open_gate.ensures.writes)
 
 pub returns-clause-in_use : goal.returns-clause-in_use
 returns-clause-in_use g c = λ told.
-    let D = g.D.Disk in
-    let h = c.args.header.now in
-    let rs = g.R.Roll.records c.args.roll.now in
-    let v : InUse = in_use_of c.self.inside.found in
-    let view : v ≡ c.args.self.now = c.self.view_is in
-    let b = begins v c.args.self.now h rs (D.file c.args.disk.now) view (c.requires.in_use told) c.self.invariant.1 c.requires.fresh c.requires.count c.header_is_whole.ensures c.requires.ranges (g.met.R.Roll.in_order c.args.roll.now) c.requires.records in
-    let told1 : IsTrue (D.tells c.close_other.new.disk) = subst IsTrue (sym c.close_other.ensures.writes.told) told in
-    let closed = is_closed told b c.close_other.ensures.writes (c.in_ok-close_other.ensures.closed told) (c.in_ok-close_other.ensures.rests told) in
-    let low : slot_at v.block.names (1 - v.slot) ≤ c.slot_at.result = omega (arith, c.slot_at.ensures) in
-    let high : c.slot_at.result + (header_len + record_len * length rs) ≤ slot_at v.block.names (1 - v.slot) + (header_len + record_len * length rs) = omega (arith, c.slot_at.ensures) in
-    let filling = within-wider (slot_at v.block.names (1 - v.slot)) (header_len + record_len * length rs) low high c.write_table.ensures.writes in
-    let told2 : IsTrue (D.tells c.write_table.new.disk) = subst IsTrue (sym c.write_table.ensures.writes.told) told1 in
-    let table = table_as (record h { sequence = v.sequence + 1 }) rs (D.file c.write_table.new.disk) c.slot_at.ensures c.count.ensures (c.in_ok-write_table.ensures.table told1) in
-    let written = is_written told1 b closed filling table (c.in_ok-write_table.ensures.rests told1) in
-    subst (λ u. slot_in_use (D.file c.open_gate.new.disk) ≡ Ok (next_in_use u)) view (opened_in_use told2 b written c.open_gate.ensures.writes (c.in_ok-open_gate.ensures.opened told2))
+    let at = goal.at.returns-clause-in_use g c in
+    let is = closed g at.In_ok-close_other (begun g at.After-close_other told) in
+    rw (← c.self.view_is) (opened_in_use (written g at.In_ok-write_table is) c.open_gate.ensures.writes
+    c.in_ok-open_gate.ensures.opened)
 
 pub returns-clause-saved : goal.returns-clause-saved
-returns-clause-saved g c = λ told fresh.
-    let D = g.D.Disk in
-    let h = c.args.header.now in
-    let rs = g.R.Roll.records c.args.roll.now in
-    let v : InUse = in_use_of c.self.inside.found in
-    let view : v ≡ c.args.self.now = c.self.view_is in
-    let b = begins v c.args.self.now h rs (D.file c.args.disk.now) view (c.requires.in_use told) c.self.invariant.1 c.requires.fresh c.requires.count c.header_is_whole.ensures c.requires.ranges (g.met.R.Roll.in_order c.args.roll.now) c.requires.records in
-    let told1 : IsTrue (D.tells c.close_other.new.disk) = subst IsTrue (sym c.close_other.ensures.writes.told) told in
-    let closed = is_closed told b c.close_other.ensures.writes (c.in_ok-close_other.ensures.closed told) (c.in_ok-close_other.ensures.rests told) in
-    let low : slot_at v.block.names (1 - v.slot) ≤ c.slot_at.result = omega (arith, c.slot_at.ensures) in
-    let high : c.slot_at.result + (header_len + record_len * length rs) ≤ slot_at v.block.names (1 - v.slot) + (header_len + record_len * length rs) = omega (arith, c.slot_at.ensures) in
-    let filling = within-wider (slot_at v.block.names (1 - v.slot)) (header_len + record_len * length rs) low high c.write_table.ensures.writes in
-    let told2 : IsTrue (D.tells c.write_table.new.disk) = subst IsTrue (sym c.write_table.ensures.writes.told) told1 in
-    let table = table_as (record h { sequence = v.sequence + 1 }) rs (D.file c.write_table.new.disk) c.slot_at.ensures c.count.ensures (c.in_ok-write_table.ensures.table told1) in
-    let written = is_written told1 b closed filling table (c.in_ok-write_table.ensures.rests told1) in
-    let fresh1 : v.sequence + 1 < worn_from h.kind = omega (arith, fresh, ap (λ (x : InUse). x.sequence) view) in
-    subst (λ u. IsSaved (next_chosen u h (length rs)) rs (D.file c.open_gate.new.disk)) view (opened_saved told2 b fresh1 written c.open_gate.ensures.writes (c.in_ok-open_gate.ensures.opened told2))
+returns-clause-saved g c = λ told.
+    let at = goal.at.returns-clause-saved g c in
+    let is = closed g at.In_ok-close_other (begun g at.After-close_other told) in
+    rw (← c.self.view_is) (opened_saved (written g at.In_ok-write_table is) c.open_gate.ensures.writes
+    c.in_ok-open_gate.ensures.opened)

@@ -1,0 +1,90 @@
+-- What is left of an empty file that is formatted, and of the same after it was looked at.
+use Rattle.std.specs.Prelude.{◌≡◌, ◌⊎◌, ℕ, List, [], length, IsTrue, Result, Ok, Err, refl}
+use Rattle.std.proofs.Common.{◌∙◌, ap, arith, inl, inr, sym}
+use Rattle.std.proofs.lemmas.List.{nil_from_length}
+use Rattle.disk_face.specs.Counts.{counted}
+use Rattle.disk_face.specs.Frames.{Unchanged, Untouched}
+use Rattle.disk_face.specs.Moments.{Leaves, Only, Rests}
+use Rattle.disk_face.specs.States.{State}
+use Rattle.disk_face.proofs.MomentLaws.{Leaves-trans, Leaves-weaken}
+use Rattle.slot_pair.proofs.FormatLaws.{short_is_none}
+use Rattle.slot_pair.specs.Formats.{IsNoneOrFirst}
+use Rattle.costore_top.specs.Commands.{Formats, IsDone, IsFormatted}
+use Rattle.costore_top.specs.Outcomes.{status_at}
+use Rattle.costore_top.specs.declared.stop.Stop.{Stop}
+use Rattle.costore_top.specs.declared.stop.Stop.TheVariants as stop
+
+-- an empty file that rests leaves no bytes, which are no store
+rests_empty : (s : State) → length s.file ≡ 0 → Rests s → Only [] s.may_leave
+rests_empty s empty rests = λ image is. rests image is ∙ nil_from_length s.file empty
+
+none_of_empty : (k names : ℕ) (image : List ℕ) → image ≡ [] → IsNoneOrFirst k names image
+none_of_empty k names image empty = inl (short_is_none image (omega (arith, ap length empty)))
+
+pub formats_now : {a b : State} (k names : ℕ) (done : Type 0) → length a.file ≡ 0
+    → IsNoneOrFirst k names b.file → (Only [] a.may_leave → Leaves a b (IsNoneOrFirst k names))
+    → (done → IsFormatted k names a b) → Formats k names a b done
+formats_now {a} k names done empty stopped leaves formatted = record {
+  stopped = stopped;
+  images = λ rests. leaves (rests_empty a empty rests);
+  formatted = formatted;
+}
+
+pub untouched : {a b : State} → Unchanged a b → Untouched a b
+untouched same = record {
+  same_file = same.same_file;
+  images = same.images;
+  since = same.since;
+  same_turn = same.same_turn;
+  later = same.later;
+  told = same.stays.told;
+  images_told = same.stays.images_told;
+}
+
+pub formats_later : {a b c : State} (k names : ℕ) (done : Type 0) → Untouched a b → IsTrue a.tells
+    → length a.file ≡ 0 → Formats k names b c done → Formats k names a c done
+formats_later {a} k names done same told empty formats = record {
+  stopped = formats.stopped;
+  images = λ rests. Leaves-trans
+      (Leaves-weaken (IsNoneOrFirst k names)
+      (λ image is. none_of_empty k names image (rests_empty a empty rests image is)) same.since)
+      (formats.images (λ image is. rests image (same.images image is) ∙ sym (same.same_file told)));
+  formatted = λ is. let whole = formats.formatted is in record {
+    file = whole.file;
+    table = whole.table;
+    rests = whole.rests;
+    calls = whole.calls ∙ ap (λ turn. counted turn 10) same.same_turn;
+  };
+}
+
+-- which ends the statuses 0, 7 and 9 come of
+done_by : (end : Result (Unit {0}) Stop) → (status_at end ≡ 0) ⊎ (status_at end ≡ 9) → IsDone end
+done_by (Ok tt) is = inl refl
+done_by (Err stop.Sink) is = inr refl
+done_by (Err stop.Words) is = absurd (omega (arith, is))
+done_by (Err stop.NoFile) is = absurd (omega (arith, is))
+done_by (Err (stop.NotStore f)) is = absurd (omega (arith, is))
+done_by (Err (stop.Taken n)) is = absurd (omega (arith, is))
+done_by (Err stop.Missing) is = absurd (omega (arith, is))
+done_by (Err stop.Disk) is = absurd (omega (arith, is))
+done_by (Err stop.NotBuilt) is = absurd (omega (arith, is))
+
+pub disk_by : (end : Result (Unit {0}) Stop) → status_at end ≡ 7 → end ≡ Err stop.Disk
+disk_by (Ok tt) is = absurd (omega (arith, is))
+disk_by (Err stop.Sink) is = absurd (omega (arith, is))
+disk_by (Err stop.Words) is = absurd (omega (arith, is))
+disk_by (Err stop.NoFile) is = absurd (omega (arith, is))
+disk_by (Err (stop.NotStore f)) is = absurd (omega (arith, is))
+disk_by (Err (stop.Taken n)) is = absurd (omega (arith, is))
+disk_by (Err stop.Missing) is = absurd (omega (arith, is))
+disk_by (Err stop.Disk) is = refl
+disk_by (Err stop.NotBuilt) is = absurd (omega (arith, is))
+
+pub formats_by : {a b : State} (k names : ℕ) (end : Result (Unit {0}) Stop)
+    → Formats k names a b (IsDone end)
+    → Formats k names a b ((status_at end ≡ 0) ⊎ (status_at end ≡ 9))
+formats_by k names end formats = record {
+  stopped = formats.stopped;
+  images = formats.images;
+  formatted = λ is. formats.formatted (done_by end is);
+}

@@ -1,0 +1,4 @@
+pub mod FrameLaws
+pub mod ImageLaws
+pub mod MomentLaws
+pub mod WriteLaws

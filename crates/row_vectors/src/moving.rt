@@ -1,0 +1,97 @@
+//! A worked file with a moving table, its changes, and what each opens to.
+use crate::images::{Change, disk};
+use crate::openings::{Row, try_rows};
+use plain_opening::{Refusal, open};
+use slot_codec::Name;
+use std::test::Fail;
+
+/// The changes to a table that is moved from boundary 2 on, behind a wall of 239 with a slack of 112,
+/// in a file of 19,857 bytes: `a` of 100 bytes at 139, `b` of 10 at 239, `c` of 5 at 249.
+const MOVING: [Change; 17] = [
+    (65, 1),
+    (66, 2),
+    (80, 3),
+    (88, 239),
+    (96, 112),
+    (120, 0),
+    (8616, 139),
+    (8624, 100),
+    (8632, 1),
+    (8633, b'b'),
+    (8696, 239),
+    (8704, 10),
+    (8712, 1),
+    (8713, b'c'),
+    (8776, 249),
+    (8784, 5),
+    (9832, 0xA5),
+];
+
+macro_rules! rows {
+    ($($what:literal: $length:literal, $changes:expr => $refusal:expr;)*) => {
+        [$(Row { what: $what, length: $length, changes: &$changes, refusal: $refusal }),*]
+    };
+}
+
+#[test]
+fn opens_a_moving_file(rt: HostRuntime) -> Result<(), Fail> {
+    let mut file = disk(rt.alloc(), 19857, &MOVING, &[])?;
+    let Ok(opened) = open(rt.alloc(), &mut file, 21, 1_048_576) else {
+        return Err("a store")?;
+    };
+    assert_eq!(rt; opened.table.records.len(), 3);
+    assert_eq!(rt; opened.table.data_len, 254);
+    assert_eq!(rt; opened.table.table_boundary(), 2);
+    for (text, place, size) in [("a", 139, 100), ("b", 239, 10), ("c", 249, 5)] {
+        let name = Name::new(text.as_bytes()).ok_or("a name")?;
+        assert_eq!(rt; opened.spot_of(&name), Some((place, size)), "{text}");
+    }
+    Ok(())
+}
+
+#[test]
+fn opens_more_moving_files(rt: HostRuntime) -> Result<(), Fail> {
+    let rows = rows! {
+        "the largest is laid": 19857, [(8616, 16), (80, 1), (96, 100)] => None;
+        "all behind the wall": 19957, [(8616, 254)] => None;
+        "none from the boundary on": 19714,
+            [(66, 7), (80, 1), (88, 111), (96, 0), (152, 100), (8616, 0)] => None;
+    };
+    try_rows(&rt, rt.alloc(), &MOVING, &rows)
+}
+
+#[test]
+fn refuses_by_the_rules_of_any_table(rt: HostRuntime) -> Result<(), Fail> {
+    let rows = rows! {
+        "1: an object of 1,048,577 bytes": 19857, [(8624, 1), (8626, 0x10)] => Some(Refusal::Rule(1, 0));
+        "2: an empty object at 249": 19857, [(8784, 0)] => Some(Refusal::Rule(2, 2));
+        "3: an object past the end": 19857, [(8776, 250)] => Some(Refusal::Rule(3, 2));
+        "3: a wall past the end": 19857, [(88, 255)] => Some(Refusal::Rule(3, 3));
+        "4: a boundary behind all classes": 19857, [(66, 21)] => Some(Refusal::Rule(4, 0));
+        "5: a capacity from the boundary on": 19857, [(120, 5)] => Some(Refusal::Rule(5, 2));
+        "5: an entry from the boundary on": 19857, [(888, 1)] => Some(Refusal::Rule(5, 2));
+        "6: more in a buffer than it has": 19857, [(360, 1)] => Some(Refusal::Rule(6, 0));
+        "7: an object below the boundary past its segment": 19857, [(8784, 1)] => Some(Refusal::Rule(7, 2));
+        "8: two objects share a byte": 19857, [(8696, 240)] => Some(Refusal::Rule(8, 2));
+        "9: a byte that nothing has": 19857, [(112, 1)] => Some(Refusal::Rule(9, 1));
+        // Below boundary 7 the one object fills its segment of 100 bytes, behind which its buffer has 11.
+        "10: an entry below its class's sizes": 19714,
+            [(66, 7), (80, 1), (88, 111), (96, 0), (152, 100), (1912, 1), (8616, 0)]
+            => Some(Refusal::Rule(10, 2));
+    };
+    try_rows(&rt, rt.alloc(), &MOVING, &rows)
+}
+
+#[test]
+fn refuses_by_the_rules_of_moving_tables(rt: HostRuntime) -> Result<(), Fail> {
+    let rows = rows! {
+        "11: no room for the slack below the wall": 19857, [(96, 113)] => Some(Refusal::Rule(11, 0));
+        "11: a slack below the size of an object": 19857, [(96, 99)] => Some(Refusal::Rule(11, 0));
+        "12: an object across the wall": 19858, [(8616, 140), (8696, 240), (8776, 250)]
+            => Some(Refusal::Rule(12, 0));
+        "12: a gap above that is below the slack": 19857, [(8616, 100)] => Some(Refusal::Rule(12, 0));
+        "12: a greater class below a lesser one": 19857, [(8616, 129), (8696, 229)]
+            => Some(Refusal::Rule(12, 1));
+    };
+    try_rows(&rt, rt.alloc(), &MOVING, &rows)
+}

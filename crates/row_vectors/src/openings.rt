@@ -1,0 +1,128 @@
+//! A worked file, its changes, and what each opens to.
+use crate::images::{Change, disk};
+use plain_opening::{Refusal, open};
+use slot_codec::{CodecFault, Name};
+use slot_pair::SlotFault;
+use std::alloc::Global;
+use std::process::Abort;
+use std::test::Fail;
+
+/// A change of a file, and why it isn't opened, if it isn't.
+#[derive(Clone, Copy)]
+pub struct Row {
+    pub what: &'static str,
+    pub length: usize,
+    pub changes: &'static [Change],
+    pub refusal: Option<Refusal>,
+}
+
+macro_rules! rows {
+    ($($what:literal: $length:literal, $changes:expr => $refusal:expr;)*) => {
+        [$(Row { what: $what, length: $length, changes: &$changes, refusal: $refusal }),*]
+    };
+}
+
+/// Opens the file of each row, with the changes that all have in common before its own.
+pub fn try_rows(
+    rt: &impl Abort,
+    alloc: Global,
+    common: &[Change],
+    rows: &[Row],
+) -> Result<(), Fail> {
+    for row in rows {
+        let mut file = disk(alloc, row.length, common, row.changes)?;
+        let refusal = open(alloc, &mut file, 21, 1_048_576).err();
+        assert_eq!(rt; refusal, row.refusal, "{}", row.what);
+    }
+    Ok(())
+}
+
+#[test]
+fn refuses_what_no_slot_shows(rt: HostRuntime) -> Result<(), Fail> {
+    let rows = rows! {
+        "one object": 19608, [] => None;
+        "no object": 19603, [(80, 0), (120, 0)] => None;
+        "below a superblock": 63, [] => Some(Refusal::Slot(SlotFault::Short));
+        "below its head": 19602, [] => Some(Refusal::Slot(SlotFault::Short));
+        "no format gate": 19608, [(19602, 0)] => Some(Refusal::Slot(SlotFault::Unformatted));
+        "no open gate": 19608, [(9832, 0)] => Some(Refusal::Slot(SlotFault::NoGate));
+        "two open slots of one sequence": 19608, [(9833, 1), (9841, 1), (19601, 0xA5)]
+            => Some(Refusal::Slot(SlotFault::SameSequence));
+        "an empty table of a greater sequence": 19608, [(9833, 1), (9841, 2), (19601, 0xA5)] => None;
+        "another version": 19608, [(64, 2)] => Some(Refusal::Slot(SlotFault::Codec(CodecFault::Version, 64)));
+        "a byte behind a name": 19608, [(8554, 1)]
+            => Some(Refusal::Slot(SlotFault::Codec(CodecFault::Zeros, 8552)));
+        "one name twice": 19608, [(80, 2), (8632, 1), (8633, b'a')]
+            => Some(Refusal::Slot(SlotFault::Codec(CodecFault::Order, 8632)));
+    };
+    try_rows(&rt, rt.alloc(), &[], &rows)
+}
+
+#[test]
+fn refuses_by_the_first_rule_that_one_object_breaks(rt: HostRuntime) -> Result<(), Fail> {
+    let rows = rows! {
+        "1: an object of 1,048,577 bytes": 19608, [(8624, 1), (8626, 0x10)] => Some(Refusal::Rule(1, 0));
+        "2: an empty object at 1": 19608, [(8616, 1), (8624, 0)] => Some(Refusal::Rule(2, 0));
+        "3: an object past the end": 19608, [(8616, 1)] => Some(Refusal::Rule(3, 0));
+        "3: a file that was cut": 19607, [] => Some(Refusal::Rule(3, 0));
+        "3: a layout past the end": 19608, [(120, 6)] => Some(Refusal::Rule(3, 1));
+        "4: a boundary": 19608, [(66, 1)] => Some(Refusal::Rule(4, 0));
+        "4: a wall": 19608, [(88, 1)] => Some(Refusal::Rule(4, 0));
+        "4: a slack": 19608, [(96, 1)] => Some(Refusal::Rule(4, 0));
+        "5: a class too many": 19608, [(272, 1)] => Some(Refusal::Rule(5, 21));
+        "5: a greater class in a buffer": 19608, [(632, 1)] => Some(Refusal::Rule(5, 1));
+        "6: more in a buffer than it has": 19608, [(888, 1)] => Some(Refusal::Rule(6, 2));
+        "7: an object past its segment": 19608, [(120, 4)] => Some(Refusal::Rule(7, 0));
+        "9: a byte that nothing has": 19609, [(120, 6)] => Some(Refusal::Rule(9, 2));
+    };
+    try_rows(&rt, rt.alloc(), &[], &rows)
+}
+
+/// The changes to two objects: `a` of 100 bytes at 0 in class 6, whose capacity stands at 152, and `b`
+/// whose place stands at 8,696 and size at 8,704.
+const TWO: [Change; 6] = [
+    (80, 2),
+    (120, 0),
+    (152, 100),
+    (8624, 100),
+    (8632, 1),
+    (8633, b'b'),
+];
+
+#[test]
+fn refuses_by_the_first_rule_that_two_objects_break(rt: HostRuntime) -> Result<(), Fail> {
+    let rows = rows! {
+        "side by side in class 6": 19825, [(152, 200), (8696, 100), (8704, 100)] => None;
+        "8: two objects share bytes": 19825, [(152, 200), (8696, 50), (8704, 100)] => Some(Refusal::Rule(8, 1));
+        // Class 7, whose capacity stands at 160, has a buffer of 22 bytes.
+        "in class 6 and class 7": 19936, [(160, 200), (8696, 111), (8704, 200)] => None;
+        "10: an entry of 1 byte of class 7": 19936, [(160, 200), (8696, 111), (8704, 200), (2208, 1)]
+            => Some(Refusal::Rule(10, 7));
+    };
+    try_rows(&rt, rt.alloc(), &TWO, &rows)
+}
+
+#[test]
+fn gives_the_book_of_a_file(rt: HostRuntime) -> Result<(), Fail> {
+    let mut file = disk(rt.alloc(), 19608, &[], &[])?;
+    let Ok(opened) = open(rt.alloc(), &mut file, 21, 1_048_576) else {
+        return Err("a store")?;
+    };
+    assert_eq!(rt; opened.found.sequence, 1);
+    assert_eq!(rt; opened.table.records.len(), 1);
+    assert_eq!(rt; (opened.table.place(0), opened.table.size(0)), (0, 5));
+    assert_eq!(rt; opened.table.data_len, 5);
+    let (a, b) = (
+        Name::new(b"a").ok_or("a name")?,
+        Name::new(b"b").ok_or("a name")?,
+    );
+    assert_eq!(rt;
+        (opened.spot_of(&a), opened.spot_of(&b)),
+        (Some((0, 5)), None)
+    );
+    assert_eq!(rt;
+        (opened.table.cap(2), opened.table.is_buffered(0)),
+        (5, false)
+    );
+    Ok(())
+}

@@ -1,0 +1,67 @@
+//! The text of each fault.
+use slot_codec::{CodecFault, NoMemory};
+use slot_pair::SlotFault;
+use std::test::Fail;
+
+#[test]
+fn says_what_bytes_are_refused_for(rt: HostRuntime) -> Result<(), Fail> {
+    let rows = [
+        (
+            CodecFault::Magic,
+            "the file doesn't begin with the store's mark",
+        ),
+        (
+            CodecFault::Params,
+            "the divisor or the number of names is out of range",
+        ),
+        (CodecFault::Version, "the version isn't 1"),
+        (CodecFault::Kind, "the kind is neither settled nor moving"),
+        (CodecFault::Zeros, "a byte that must be zero isn't"),
+        (CodecFault::Count, "there are more records than names"),
+        (
+            CodecFault::NameBytes,
+            "the name isn't 1 to 63 bytes of printable ASCII",
+        ),
+        (
+            CodecFault::Order,
+            "the name isn't greater than the one before it",
+        ),
+        (CodecFault::Worn, "the sequence is worn out"),
+        (CodecFault::Range, "a number is 2^48 or more"),
+    ];
+    for (fault, text) in rows {
+        let said = format!(in rt.alloc(); "{fault}")?;
+        assert_eq!(rt; said.as_str(), text);
+    }
+    Ok(())
+}
+
+#[test]
+fn says_why_no_slot_is_in_use(rt: HostRuntime) -> Result<(), Fail> {
+    let rows = [
+        (SlotFault::Short, "the file is too short"),
+        (
+            SlotFault::Unformatted,
+            "the file isn't formatted to its end",
+        ),
+        (SlotFault::NoGate, "no slot's gate is open"),
+        (SlotFault::SameSequence, "both slots have one sequence"),
+        (
+            SlotFault::Codec(CodecFault::Version, 64),
+            "the version isn't 1, at 64",
+        ),
+        (SlotFault::Disk, "the disk failed"),
+    ];
+    for (fault, text) in rows {
+        let said = format!(in rt.alloc(); "{fault}")?;
+        assert_eq!(rt; said.as_str(), text);
+    }
+    Ok(())
+}
+
+#[test]
+fn says_that_memory_is_out(rt: HostRuntime) -> Result<(), Fail> {
+    let said = format!(in rt.alloc(); "{}", NoMemory)?;
+    assert_eq!(rt; said.as_str(), "out of memory");
+    Ok(())
+}

@@ -1,0 +1,79 @@
+//! What the words of the command line come to.
+use crate::images::image;
+use crate::runs::run;
+use std::test::Fail;
+
+#[test]
+fn ends_by_the_words(rt: HostRuntime) -> Result<(), Fail> {
+    let bytes = image(rt.alloc(), 19608, &[], &[])?;
+    let rows: [(&[&str], u8, &str); 16] = [
+        (&["get", "f", "b"], 6, "fault missing\n"),
+        (&["get", "g", "a"], 3, "fault no file\n"),
+        (&["get", "f"], 1, "fault words\n"),
+        (&["get", "", "a"], 1, "fault words\n"),
+        (&["get", "f", "a b"], 1, "fault words\n"),
+        (&["got", "f", "a"], 1, "fault words\n"),
+        (&["format", "f", "1", "16"], 1, "fault words\n"),
+        (&["format", "f", "09", "16"], 1, "fault words\n"),
+        (&["format", "f", "9", "+16"], 1, "fault words\n"),
+        (&["format", "f", "9", "65537"], 1, "fault words\n"),
+        (
+            &["work", "f", "18446744073709551616", "1"],
+            1,
+            "fault words\n",
+        ),
+        (&["work", "f", "0", "0"], 1, "fault words\n"),
+        (
+            &["work", "f", "18446744073709551615", "1000000"],
+            12,
+            "fault not built\n",
+        ),
+        (&["check", "f"], 12, "fault not built\n"),
+        (&["format", "f", "9", "16"], 5, "fault taken 19608\n"),
+        (&["--version"], 0, "costore 0.1.0\n"),
+    ];
+    for (words, status, puts) in rows {
+        let ran = run(rt.alloc(), words, &bytes)?;
+        assert_eq!(rt; ran.put.as_slice(), puts.as_bytes(), "{words:?}");
+        assert_eq!(rt; ran.status, status, "{words:?}");
+    }
+    Ok(())
+}
+
+/// The page of `--help`, word for word.
+const PAGE: [&str; 21] = [
+    "costore keeps named objects of bytes in one file, within a stated factor of its live bytes.",
+    "",
+    "commands:",
+    "  costore format FILE K NAMES       makes a store of FILE, which must be new or empty",
+    "  costore get FILE NAME             puts the bytes of the object NAME",
+    "  costore check FILE                puts one line about the store (not built yet)",
+    "  costore map FILE                  puts its segments and objects (not built yet)",
+    "  costore run FILE                  serves requests from standard input (not built yet)",
+    "  costore work FILE NUMBER COUNT    does the jobs of a number (not built yet)",
+    "  costore --help                    puts this page",
+    "  costore --version                 puts the version",
+    "",
+    "FILE is any text that isn't empty. NAME is 1 to 63 bytes of printable ASCII without blanks.",
+    "K is 2 to 64: a buffer has a k-th of its segment. NAMES is 16 to 65536: how many objects may be live.",
+    "NUMBER is 0 to 18446744073709551615, COUNT is 1 to 1000000. Numbers have no sign and no leading zero.",
+    "",
+    "status: 0 done, 1 faulty words, 3 no such file, 4 no store, 5 the file isn't empty, 6 no such object,",
+    "7 the disk failed, 9 the output failed, 10 out of memory, 12 not built yet.",
+    "At each status but 0, 9 and 10 one line that begins with fault is put last.",
+    "",
+    "example: costore format blocks 9 1024",
+];
+
+#[test]
+fn puts_the_whole_page(rt: HostRuntime) -> Result<(), Fail> {
+    let ran = run(rt.alloc(), &["--help"], &[])?;
+    assert_eq!(rt; ran.status, 0);
+    let mut page = Vec::new(rt.alloc());
+    for line in PAGE {
+        page.extend_from_slice(line.as_bytes())?;
+        page.push(b'\n')?;
+    }
+    assert_eq!(rt; ran.put.as_slice(), page.as_slice());
+    Ok(())
+}

@@ -1,0 +1,142 @@
+//! Writing the body of a slot: a header, and the records behind it.
+ghost use Rattle.std.specs.Prelude.{◌≡◌, ◌+◌, ◌*◌, ◌/◌, ◌^◌, ◌<◌, ◌≤◌, OnOk, IsTrue, drop, flat_map, length, take};
+ghost use Rattle.byte_ranges.specs.Ranges.{bytes_at};
+ghost use Rattle.slot_codec.specs.Spelling.{header_bytes, header_len, record_bytes, record_len};
+ghost use Rattle.disk_face.specs.Counts.{HasCause, counted};
+ghost use Rattle.disk_face.specs.Frames.{Calls};
+ghost use Rattle.disk_face.specs.Moments.{Rests};
+ghost use Rattle.slot_pair.specs.Saves.{HasTable};
+ghost use Rattle.disk_face.specs.Writes.{WritesWithin};
+
+use disk_face::{Disk, DiskFault};
+use slot_codec::{HEADER_LEN, Header, RECORD_LEN, Roll, write_header, write_record};
+
+/// How many records one write has at most.
+const RECORDS_A_WRITE: u64 = 512;
+
+/// Writes a header at a position and the records behind it, and syncs.
+pub fn write_table<D: Disk, R: Roll>(
+    disk: &mut D,
+    at: u64,
+    header: &Header,
+    roll: &R,
+    buf: &mut [u8],
+) -> Result<(), DiskFault>
+    requires ready { IsTrue (D.state disk.old).is_ready }
+    requires room { 40960 ≤ length buf.old }
+    requires fits { at + header_len + record_len * length (R.records roll.now) < 2 ^ 63 }
+    requires within { IsTrue (D.state disk.old).tells
+        → at + header_len + record_len * length (R.records roll.now) ≤ length (D.state disk.old).file }
+    ensures table { IsTrue (D.state disk.old).tells
+        → OnOk result (HasTable at header.now (R.records roll.now) (D.state disk.new).file) }
+    ensures rests { IsTrue (D.state disk.old).tells → OnOk result (Rests (D.state disk.new)) }
+    ensures writes { WritesWithin at (header_len + record_len * length (R.records roll.now))
+        (D.state disk.old) (D.state disk.new) }
+    ensures calls { Calls (2 + (length (R.records roll.now) + 511) / 512) (D.state disk.old)
+        (D.state disk.new) result }
+{
+    put_table(disk, at, header, roll, buf)?;
+    disk.sync()
+}
+
+/// Writes a header at a position and the records behind it.
+fn put_table<D: Disk, R: Roll>(
+    disk: &mut D,
+    at: u64,
+    header: &Header,
+    roll: &R,
+    buf: &mut [u8],
+) -> Result<(), DiskFault>
+    requires ready { IsTrue (D.state disk.old).is_ready }
+    requires room { 40960 ≤ length buf.old }
+    requires fits { at + header_len + record_len * length (R.records roll.now) < 2 ^ 63 }
+    requires within { IsTrue (D.state disk.old).tells
+        → at + header_len + record_len * length (R.records roll.now) ≤ length (D.state disk.old).file }
+    ensures table { IsTrue (D.state disk.old).tells
+        → OnOk result (HasTable at header.now (R.records roll.now) (D.state disk.new).file) }
+    ensures writes { WritesWithin at (header_len + record_len * length (R.records roll.now))
+        (D.state disk.old) (D.state disk.new) }
+    ensures calls { Calls (1 + (length (R.records roll.now) + 511) / 512) (D.state disk.old)
+        (D.state disk.new) result }
+{
+    put_header(disk, at, header, buf)?;
+    put_records(disk, at + HEADER_LEN as u64, roll, buf)
+}
+
+/// Writes a header at a position.
+fn put_header<D: Disk>(
+    disk: &mut D,
+    at: u64,
+    header: &Header,
+    buf: &mut [u8],
+) -> Result<(), DiskFault>
+    requires ready { IsTrue (D.state disk.old).is_ready }
+    requires room { header_len ≤ length buf.old }
+    requires within { IsTrue (D.state disk.old).tells → at + header_len ≤ length (D.state disk.old).file }
+    ensures header { IsTrue (D.state disk.old).tells
+        → OnOk result (bytes_at (D.state disk.new).file at header_len ≡ header_bytes header.now) }
+    ensures writes { WritesWithin at header_len (D.state disk.old) (D.state disk.new) }
+    ensures calls { (D.state disk.new).turn ≡ counted (D.state disk.old).turn 1 }
+    ensures cause { HasCause (D.state disk.old).faults (D.state disk.new).faults result }
+{
+    let n = spell_header(header, buf);
+    disk.write_at(at, &buf[..n])
+}
+
+/// Writes the records at a position, up to 512 in one write.
+fn put_records<D: Disk, R: Roll>(
+    disk: &mut D,
+    at: u64,
+    roll: &R,
+    buf: &mut [u8],
+) -> Result<(), DiskFault>
+    requires ready { IsTrue (D.state disk.old).is_ready }
+    requires room { 40960 ≤ length buf.old }
+    requires fits { at + record_len * length (R.records roll.now) < 2 ^ 63 }
+    requires within { IsTrue (D.state disk.old).tells
+        → at + record_len * length (R.records roll.now) ≤ length (D.state disk.old).file }
+    ensures records { IsTrue (D.state disk.old).tells
+        → OnOk result (bytes_at (D.state disk.new).file at (record_len * length (R.records roll.now))
+        ≡ flat_map record_bytes (R.records roll.now)) }
+    ensures writes { WritesWithin at (record_len * length (R.records roll.now)) (D.state disk.old)
+        (D.state disk.new) }
+    ensures calls { Calls ((length (R.records roll.now) + 511) / 512) (D.state disk.old) (D.state disk.new)
+        result }
+{
+    let count = roll.count();
+    'pieces: for piece in 0..(count + 511) / RECORDS_A_WRITE {
+        let first = RECORDS_A_WRITE * piece;
+        let n = (count - first).min(RECORDS_A_WRITE);
+        spell_records(roll, first, n, buf);
+        disk.write_at(
+            at + RECORD_LEN as u64 * first,
+            &buf[..RECORD_LEN * n as usize],
+        )?;
+    }
+    Ok(())
+}
+
+/// Spells a header, and answers how many bytes that are.
+fn spell_header(header: &Header, out: &mut [u8]) -> usize
+    requires { header_len ≤ length out.old }
+    ensures len { result ≡ header_len }
+    ensures text { take result out.new ≡ header_bytes header.now }
+{
+    write_header(header, &mut out[..HEADER_LEN]);
+    HEADER_LEN
+}
+
+/// Spells `n` records from record `first` on.
+fn spell_records<R: Roll>(roll: &R, first: u64, n: u64, out: &mut [u8])
+    requires fits { first + n < 2 ^ 63 }
+    requires some { first + n ≤ length (R.records roll.now) }
+    requires room { record_len * n ≤ length out.old }
+    ensures { take (record_len * n) out.new
+        ≡ flat_map record_bytes (take n (drop first (R.records roll.now))) }
+{
+    'records: for i in 0..n {
+        let record = roll.nth(first + i);
+        let at = RECORD_LEN * i as usize;
+        write_record(&record, &mut out[at..at + RECORD_LEN]);
+    }
+}

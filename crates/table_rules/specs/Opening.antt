@@ -1,0 +1,33 @@
+-- What a whole file stands for.
+use Rattle.std.specs.Prelude.{◌≡◌, ℕ, ◌-◌, List, length, Ok}
+use Rattle.slot_codec.specs.Spelling.{head_len}
+use Rattle.slot_codec.specs.Choice as choice
+use Rattle.store_terms.specs.Maps.{Map}
+use Rattle.segment_layout.specs.Books.{Book}
+use Rattle.table_rules.specs.Tables.{PlacedTable, map_of, book_of}
+use Rattle.table_rules.specs.Rules.{IsValid}
+
+-- the table of a file, as its rules see it
+abbrev pub placed_table : ℕ → ℕ → List ℕ → choice.Table → PlacedTable
+placed_table classes size_max file t =
+    record {
+      classes = classes;
+      size_max = size_max;
+      k = t.chosen.block.k;
+      data_len = length file - head_len t.chosen.block.names;
+      header = t.chosen.header;
+      records = t.records;
+    }
+
+-- No refusal applies to a file with this table, and it stands for this map and this book.
+pub record OpensBy (classes size_max : ℕ) (t : choice.Table) (file : List ℕ) (m : Map) (b : Book) : Type 0
+  where
+    pub read : choice.table_of file ≡ Ok t
+    pub valid : IsValid (placed_table classes size_max file t)
+    pub same_map : m ≡ map_of (head_len t.chosen.block.names) file t.records
+    pub same_book : b ≡ book_of (placed_table classes size_max file t)
+
+-- The file opens to this map and this book.
+pub record Opens (classes size_max : ℕ) (file : List ℕ) (m : Map) (b : Book) : Type 0 where
+  pub table : choice.Table
+  pub opens : OpensBy classes size_max table file m b
