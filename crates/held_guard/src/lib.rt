@@ -1,0 +1,7 @@
+//! The space that the last checkpoint holds though nothing stands there now. Nothing may be written
+//! there before the next checkpoint.
+#![tactic(auto)]
+
+mod guard;
+
+pub use guard::Guard;
