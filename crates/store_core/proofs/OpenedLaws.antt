@@ -1,0 +1,133 @@
+-- The store of a table that was checked against its layout.
+use Rattle.std.specs.Prelude.{◌≡◌, ℕ, ◌<◌, ◌≤◌, ◌^◌, List, [], false, vec_len, refl}
+use Rattle.std.proofs.Common.{arith, sym, ◌∙◌, subst}
+use Rattle.size_class.specs.Classes.{IsGrid, IsRow, zero_row}
+use Rattle.size_class.specs.Rows.{cells_of}
+use Rattle.size_class.specs.declared.TheConstants.{SIZE_MAX}
+use Rattle.slot_codec.specs.Readable.{IsSuperBlock}
+use Rattle.slot_codec.specs.Spelling.{head_len}
+use Rattle.segment_layout.specs.Books.{book_end}
+use Rattle.segment_layout.specs.Bounds.{Tight}
+use Rattle.segment_layout.specs.Layouts.{caps_of, divisor_of, grid_of}
+use Rattle.segment_layout.proofs.TightLaws.{tight}
+use Rattle.table_rules.specs.Rules.{IsValid}
+use Rattle.extent_table.specs.Extents.{IsTable}
+use Rattle.spot_terms.specs.Held.{IsFreed}
+use Rattle.spot_terms.specs.Laid.{settled_table}
+use Rattle.spot_terms.specs.Rises.{CellsRise}
+use Rattle.spot_terms.specs.LaidOut.{IsLaidOut, shown_book}
+use Rattle.spot_terms.proofs.GuardLaws.{freed_nothing}
+use Rattle.spot_terms.proofs.RiseLaws.{CellsRise-itself}
+use Rattle.spot_terms.proofs.ShownLaws.{book_shown}
+use Rattle.store_core.specs.declared.store.Store.TheInside.{Inside}
+use Rattle.store_core.specs.Connection.{IsOver, Kept, base_of, opened_store, state_of}
+use Rattle.store_core.specs.Inside.{IsWhole, kept_of}
+use Rattle.store_core.specs.Stores.{IsStore}
+use Rattle.store_core.proofs.EndLaws.{shown_balanced}
+use Rattle.store_core.proofs.StoreLaws.{kept_lies, now_lies}
+
+-- ---- tight
+
+pub tight_now : {classes : ℕ} (s : Kept) (file : List ℕ) → IsStore classes s → IsOver classes s file
+    → Tight s.in_use.block.k (book_end s.in_use.block.k s.book) (state_of s file).map
+tight_now {classes} s file h over = tight s.in_use.block.k (state_of s file).map
+    (shown_book classes SIZE_MAX s.in_use.block.k s.book.caps s.book.grid s.now)
+    (shown_balanced classes SIZE_MAX s.in_use.block.k s.book.caps s.book.grid s.now h.now (base_of s) file
+    (now_lies s file h over))
+
+pub tight_kept : {classes : ℕ} (s : Kept) (file : List ℕ) → IsStore classes s → IsOver classes s file
+    → Tight s.in_use.block.k (book_end s.in_use.block.k s.kept_book) (state_of s file).kept
+tight_kept {classes} s file h over =
+    let k = s.in_use.block.k in
+    let shown = shown_book classes SIZE_MAX k s.book.caps s.kept_book.grid s.kept in
+    subst (λ b. Tight k (book_end k b) (state_of s file).kept) (sym h.kept_book)
+    (tight k (state_of s file).kept shown
+    (shown_balanced classes SIZE_MAX k s.book.caps s.kept_book.grid s.kept h.kept (base_of s) file
+    (kept_lies s file h over)))
+
+-- ---- a new store
+
+-- What the fields of a new store are.
+pub record IsNew {C : ℕ} (s : Inside C) : Type 0 where
+  pub few : C ≤ 32
+  pub wide : SIZE_MAX < 2 ^ C
+  pub block : IsSuperBlock s.slots.block
+  pub kept : s.table.now ≡ s.table.kept
+  pub room : s.table.names ≡ s.slots.block.names
+  pub divisor : divisor_of s.layout ≡ s.slots.block.k
+  pub kept_divisor : divisor_of s.kept_layout ≡ s.slots.block.k
+  pub kept_caps : caps_of s.kept_layout ≡ caps_of s.layout
+  pub kept_grid : grid_of s.kept_layout ≡ grid_of s.layout
+  pub caps_full : IsRow C (caps_of s.layout)
+  pub grid_full : IsGrid C (grid_of s.layout)
+  pub valid : IsValid (settled_table C SIZE_MAX s.slots.block.k (caps_of s.layout) (grid_of s.layout) s.table.now)
+  pub table : IsTable s.table
+  pub spans : s.guard.spans ≡ []
+  pub guard_room : s.guard.room ≡ s.slots.block.names
+  pub moved : cells_of s.ledger.moved ≡ zero_row
+  pub asked : cells_of s.ledger.asked ≡ zero_row
+  pub base : s.base ≡ head_len s.slots.block.names
+  pub buf : vec_len s.buf ≡ 65536
+  pub unbroken : s.broken ≡ false
+
+module _ {C : ℕ} (s : Inside C) (n : IsNew s) where
+  laid : IsLaidOut C SIZE_MAX s.slots.block.k (caps_of s.layout) (grid_of s.layout) s.table.now
+  laid = record {
+    few = n.few;
+    top = n.wide;
+    caps_full = n.caps_full;
+    grid_full = n.grid_full;
+    named = n.table.now_named;
+    valid = n.valid;
+  }
+
+  new_store : IsStore C (kept_of s)
+  new_store =
+      let k = s.slots.block.k in
+      record {
+        block = n.block;
+        now = laid;
+        now_book = refl;
+        now_few = omega (arith, n.table.now_room, n.room);
+        now_in_range = n.table.now_in_range;
+        kept = subst (λ x. IsLaidOut C SIZE_MAX k (caps_of s.layout) (grid_of s.kept_layout) x) n.kept
+            (subst (λ g. IsLaidOut C SIZE_MAX k (caps_of s.layout) g s.table.now) (sym n.kept_grid) laid);
+        kept_book = refl;
+        kept_few = omega (arith, n.table.kept_room, n.room);
+        kept_in_range = n.table.kept_in_range;
+        fuller = subst (λ g. CellsRise g (grid_of s.layout)) (sym n.kept_grid) (CellsRise-itself (grid_of s.layout));
+      }
+
+  pub new_whole : IsWhole s
+  new_whole = record {
+    classes = n.few;
+    wide = n.wide;
+    base = n.base;
+    few = n.block.names_high;
+    buf = n.buf;
+    divisor = n.divisor;
+    kept_divisor = n.kept_divisor;
+    kept_caps = n.kept_caps;
+    room = n.room;
+    guard_room = n.guard_room;
+    table = n.table;
+    sound = λ sound. new_store;
+    freed = λ sound. subst (λ xs. IsFreed xs s.table.now s.table.kept) (sym n.spans)
+        (subst (λ x. IsFreed [] s.table.now x) n.kept (freed_nothing s.table.now));
+  }
+
+  pub new_view : kept_of s ≡ opened_store C s.slots s.table.now (caps_of s.layout) (grid_of s.layout)
+  new_view =
+      let k = s.slots.block.k in
+      let shown = book_shown C SIZE_MAX k (caps_of s.layout) (grid_of s.layout) s.table.now laid in
+      λ i. record {
+        in_use = s.slots;
+        now = s.table.now;
+        kept = sym n.kept i;
+        book = sym shown i;
+        kept_book = ((λ j. shown_book C SIZE_MAX k (caps_of s.layout) (n.kept_grid j) (sym n.kept j))
+            ∙ sym shown) i;
+        is_broken = n.unbroken i;
+        moved = n.moved i;
+        asked = n.asked i;
+      }

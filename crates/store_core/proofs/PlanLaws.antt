@@ -1,0 +1,157 @@
+-- What is known of a put or a removal that is served and quiet.
+use Rattle.std.specs.Prelude.{◌≡◌, ◌⊎◌, ℕ, ◌<◌, ◌≤◌, nat_le, nat_lt, Bool, true, false, not, ◌&&◌, if◌then◌else◌, List, ◌∷◌, ◌++◌, length, Option, Some, None, option_map, is_some, Ok, IsSome, refl}
+use Rattle.std.proofs.Common.{ap, sym, ◌∙◌, subst, inl, inr}
+use Rattle.std.proofs.lemmas.Bool.{leb-false, ltb-false}
+use Rattle.std.specs.FinMap as fin
+use Rattle.size_class.specs.declared.TheConstants.{SIZE_MAX}
+use Rattle.slot_codec.specs.Names.{IsName, is_name}
+use Rattle.store_terms.specs.Requests as ask
+use Rattle.store_terms.specs.Requests.{Change, Refused}
+use Rattle.segment_layout.specs.Books.{is_quiet, some_size}
+use Rattle.extent_table.specs.declared.spot.Spot.{Spot}
+use Rattle.spot_terms.specs.Quiet.{QuietTo, gone_items}
+use Rattle.spot_terms.proofs.QuietLaws.{quiet_then}
+use Rattle.store_core.specs.declared.answers.Refusal.{Refusal}
+use Rattle.store_core.specs.declared.answers.Refusal.TheVariants as why
+use Rattle.store_core.specs.Answers.{facts_at, refusal_for, refused_by}
+use Rattle.store_core.specs.Connection.{Kept, limits_of}
+use Rattle.store_core.specs.Plans.{AcceptsName, AnswersPlan, IsDelPlan, IsPutPlan}
+use Rattle.store_core.specs.Quiet.{IsCharged, charges_of, del_of, put_of, refused_change}
+use Rattle.store_core.specs.States.{first_refusal, object_tests, refusal, worn_test}
+use Rattle.store_core.proofs.ReadingLaws.{whole_if_served}
+
+-- a name that is accepted is the one that was asked for
+pub accepted : (o : Option Refusal) (name n : List ℕ) → AcceptsName o name (Ok n) → (o ≡ None) × (n ≡ name)
+accepted None name n is = (refl, let same : n ≡ name = (cc) in same)
+accepted (Some why) name n is = absurd (cc)
+
+-- ---- no test refuses
+
+-- the tests of a list all fail
+first_passed : (test : Bool) (why : Refused) (tests : List (Bool × Refused))
+    → first_refusal ((test, why) ∷ tests) ≡ None → (test ≡ false) × (first_refusal tests ≡ None)
+first_passed true why tests is = absurd (cc)
+first_passed false why tests is = (refl, is)
+
+not_refused : (o : Option Refused) → option_map refusal_for o ≡ None → o ≡ None
+not_refused None is = refl
+not_refused (Some why) is = absurd (cc)
+
+no_refusal : (s : Kept) (r : ask.Request) → refused_by s r ≡ None
+    → (s.is_broken ≡ false) × (refusal (limits_of s) (facts_at s r) r ≡ None)
+no_refusal s r is =
+    let whole = whole_if_served s.is_broken (option_map refusal_for (refusal (limits_of s) (facts_at s r) r)) is
+    in (
+      whole,
+      not_refused (refusal (limits_of s) (facts_at s r) r)
+          (subst (λ (b : Bool). (if b then Some why.Broken
+          else option_map refusal_for (refusal (limits_of s) (facts_at s r) r)) ≡ None) whole is),
+    )
+
+false_of_not : (b : Bool) → not b ≡ false → b ≡ true
+false_of_not true is = refl
+false_of_not false is = absurd (cc)
+
+pub record PutServed (s : Kept) (name object : List ℕ) : Type 0 where
+  pub whole : s.is_broken ≡ false
+  pub named : IsName name
+  pub small : length object ≤ SIZE_MAX
+  pub room : IsSome (fin.get s.now name) ⊎ (fin.len s.now < s.in_use.block.names)
+  pub calm : refusal (limits_of s) (facts_at s (ask.change (put_of name object))) (ask.change (put_of name object))
+      ≡ None
+
+pub put_served : (s : Kept) (name object : List ℕ) → refused_by s (ask.change (put_of name object)) ≡ None
+    → PutServed s name object
+put_served s name object is =
+    let f = facts_at s (ask.change (put_of name object)) in
+    let is_full = not f.is_live && nat_le s.in_use.block.names f.count in
+    let no = no_refusal s (ask.change (put_of name object)) is in
+    let a = first_passed (not (is_name name)) ask.bad_name
+    (object_tests (limits_of s) f (Some object) ++ worn_test f) no.1 in
+    let b = first_passed (nat_lt SIZE_MAX (length object)) ask.too_long
+    ((is_full, ask.full) ∷ worn_test f) a.1 in
+    let c = first_passed is_full ask.full (worn_test f) b.1 in
+    record {
+      whole = no.0;
+      named = false_of_not (is_name name) a.0;
+      small = short b.0;
+      room = either (fin.get s.now name) c.0;
+      calm = no.1;
+    }
+  where
+    short : nat_lt SIZE_MAX (length object) ≡ false → length object ≤ SIZE_MAX
+    short is = ltb-false SIZE_MAX (length object) is
+
+    either : (o : Option Spot) → not (is_some o) && nat_le s.in_use.block.names (fin.len s.now) ≡ false
+        → IsSome o ⊎ (fin.len s.now < s.in_use.block.names)
+    either (Some x) is = inl refl
+    either None is = inr (leb-false s.in_use.block.names (fin.len s.now) is)
+
+pub record DelServed (s : Kept) (name : List ℕ) : Type 0 where
+  pub whole : s.is_broken ≡ false
+  pub named : IsName name
+  pub calm : refusal (limits_of s) (facts_at s (ask.change (del_of name))) (ask.change (del_of name)) ≡ None
+
+pub del_served : (s : Kept) (name : List ℕ) → refused_by s (ask.change (del_of name)) ≡ None
+    → DelServed s name
+del_served s name is =
+    let no = no_refusal s (ask.change (del_of name)) is in
+    let f = facts_at s (ask.change (del_of name)) in
+    let a = first_passed (not (is_name name)) ask.bad_name
+    (object_tests (limits_of s) f None ++ worn_test f) no.1 in
+    record { whole = no.0; named = false_of_not (is_name name) a.0; calm = no.1 }
+
+-- ---- each charge finds room
+
+-- a change that is served and quiet isn't refused
+pub quiet_served : (s : Kept) (c : Change) → refused_by s (ask.change c) ≡ None
+    → is_quiet (charges_of s c) ≡ true → refused_change s c ≡ None
+quiet_served s c served quiet = rw served (rw quiet refl)
+
+pub charged_quietly : (s : Kept) (name object : List ℕ) (grid : List (List ℕ)) (place : ℕ)
+    → IsCharged s.in_use.block.k s.book.caps s.book.grid (fin.get s.now name) (length object) grid place
+    → QuietTo s.in_use.block.k s.book.caps s.book.grid
+    (gone_items s.in_use.block.k s.book.caps (fin.get s.now name) ++ some_size (length object)) grid
+charged_quietly s name object grid place c = quiet_then s.in_use.block.k s.book.caps s.book.grid c.mid grid
+    (gone_items s.in_use.block.k s.book.caps (fin.get s.now name)) (some_size (length object)) c.gone
+    c.placed.charged
+
+pub answers_plan : {A : Type 0} (o : Option Refusal) (plan : A) → o ≡ None → AnswersPlan o (Ok plan)
+answers_plan o plan is = subst (λ (x : Option Refusal). AnswersPlan x (Ok plan)) (sym is) refl
+
+-- the plans, from what was charged on a copy of the layout
+pub put_planned : (s : Kept) (name object n : List ℕ) (k k' : ℕ) (caps caps' : List ℕ)
+    (grid after : List (List ℕ)) (o : Option Spot) (place : ℕ)
+    → refused_by s (ask.change (put_of name object)) ≡ None → n ≡ name → k ≡ s.in_use.block.k
+    → caps ≡ s.book.caps → grid ≡ s.book.grid → o ≡ fin.get s.now n
+    → IsCharged k caps grid o (length object) after place → k' ≡ k → caps' ≡ caps
+    → IsPutPlan s name object n k' caps' after (record { place = place; size = length object })
+put_planned s name object n k k' caps caps' grid after o place served same ks cs gs os charged k'k c'c = record {
+  served = served;
+  same_name = same;
+  size = refl;
+  divisor = k'k ∙ ks;
+  same_caps = c'c ∙ cs;
+  charged = (let at : o ≡ fin.get s.now name = os ∙ ap (fin.get s.now) same in
+      subst (λ x. IsCharged s.in_use.block.k s.book.caps s.book.grid x (length object) after place) at
+      (subst (λ g. IsCharged s.in_use.block.k s.book.caps g o (length object) after place) gs
+      (subst (λ x. IsCharged s.in_use.block.k x grid o (length object) after place) cs
+      (subst (λ x. IsCharged x caps grid o (length object) after place) ks charged))));
+}
+
+pub del_planned : (s : Kept) (name n : List ℕ) (k k' : ℕ) (caps caps' : List ℕ)
+    (grid after : List (List ℕ)) (o : Option Spot) → refused_by s (ask.change (del_of name)) ≡ None
+    → n ≡ name → k ≡ s.in_use.block.k → caps ≡ s.book.caps → grid ≡ s.book.grid → o ≡ fin.get s.now n
+    → QuietTo k caps grid (gone_items k caps o) after → k' ≡ k → caps' ≡ caps
+    → IsDelPlan s name n k' caps' after
+del_planned s name n k k' caps caps' grid after o served same ks cs gs os charged k'k c'c = record {
+  served = served;
+  same_name = same;
+  divisor = k'k ∙ ks;
+  same_caps = c'c ∙ cs;
+  charged = (let at : o ≡ fin.get s.now name = os ∙ ap (fin.get s.now) same in
+      subst (λ x. QuietTo s.in_use.block.k s.book.caps s.book.grid (gone_items s.in_use.block.k s.book.caps x) after)
+      at (subst (λ g. QuietTo s.in_use.block.k s.book.caps g (gone_items s.in_use.block.k s.book.caps o) after) gs
+      (subst (λ x. QuietTo s.in_use.block.k x grid (gone_items s.in_use.block.k x o) after) cs
+      (subst (λ x. QuietTo x caps grid (gone_items x caps o) after) ks charged))));
+}

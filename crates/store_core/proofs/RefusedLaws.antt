@@ -1,0 +1,82 @@
+-- Changes that are refused.
+use Rattle.std.specs.Prelude.{◌≡◌, ℕ, Bool, true, false, if◌then◌else◌, List, Option, Some, None, option_map, Ok, Err, IfSome, IsNone, IsSome, refl}
+use Rattle.std.proofs.Common.{ap, ◌∙◌, subst}
+use Rattle.store_terms.specs.Requests as ask
+use Rattle.store_terms.specs.Requests.{Change, Refused}
+use Rattle.segment_layout.specs.Books.{is_quiet}
+use Rattle.store_core.specs.declared.answers.Refusal.{Refusal}
+use Rattle.store_core.specs.declared.answers.Refusal.TheVariants as why
+use Rattle.store_core.specs.Answers.{facts_at, refusal_for, refused_reply}
+use Rattle.store_core.specs.Connection.{Kept, limits_of, state_of}
+use Rattle.store_core.specs.Plans.{AnswersPlan}
+use Rattle.store_core.specs.Quiet.{charges_of, or_needs_flush, refused_change}
+use Rattle.store_core.specs.States.{Facts, Limits, State, Step, facts_of, refusal}
+use Rattle.store_core.specs.Stores.{IsStore}
+use Rattle.store_core.proofs.StepLaws.{facts_same, refused_step}
+
+-- where there is a plan, nothing is refused, and else something is
+pub planned : {A : Type 0} (o : Option Refusal) (plan : A) → AnswersPlan o (Ok plan) → o ≡ None
+planned None plan is = refl
+planned (Some why) plan is = absurd (cc)
+
+pub unplanned : (A : Type 0) (o : Option Refusal) (why : Refusal) → AnswersPlan {T = A} o (Err why)
+    → o ≡ Some why
+unplanned A None why is = absurd (cc)
+unplanned A (Some refused) why is = let same : refused ≡ why = (cc) in ap (λ (x : Refusal). Some x) same
+
+pub not_none : {A : Type 0} {P : Type 0} (o : Option A) (x : A) → o ≡ Some x → IsNone o → P
+not_none o x is none = absurd (let h = subst (λ y. IsNone y) is none in cc)
+
+pub not_some : {A : Type 0} {P : Type 0} (o : Option A) → o ≡ None → IsSome o → P
+not_some o is some = absurd (let h = subst (λ y. IsSome y) is some in cc)
+
+-- each refusal of a request has its reply
+pub refused_replied : (limits : Limits) (s : State) (r : ask.Request) (w : Refused)
+    → refusal limits (facts_of s r) r ≡ Some w
+    → IfSome (refused_reply (refusal_for w)) (λ reply. Step limits s r reply s)
+refused_replied limits s r w is = each w (refused_step limits s r w is)
+  where
+    each : (x : Refused) → Step limits s r (ask.refused x) s
+        → IfSome (refused_reply (refusal_for x)) (λ reply. Step limits s r reply s)
+    each ask.bad_name step = step
+    each ask.too_long step = step
+    each ask.missing step = step
+    each ask.full step = step
+    each ask.worn step = step
+
+-- that a change isn't quiet is no reply
+loud_replies : (quiet : Bool) (refused : Refusal) (P : ask.Reply → Type 0)
+    → or_needs_flush quiet None ≡ Some refused → IfSome (refused_reply refused) P
+loud_replies true refused P is = absurd (cc)
+loud_replies false refused P is =
+    let e : why.NeedsFlush ≡ refused = (cc) in subst (λ (x : Refusal). IfSome (refused_reply x) P) e tt
+
+-- a change that is refused is a step that leaves the state, if it has a reply
+pub refused_change_step : {classes : ℕ} (s : Kept) (file : List ℕ) (c : Change) (refused : Refusal)
+    → s.is_broken ≡ false → IsStore classes s → refused_change s c ≡ Some refused
+    → IfSome (refused_reply refused)
+    (λ reply. Step (limits_of s) (state_of s file) (ask.change c) reply (state_of s file))
+refused_change_step s file c refused whole h is =
+    by (refusal (limits_of s) (facts_at s r) r) refl (subst (λ (b : Bool).
+    or_needs_flush quiet (if b then Some why.Broken
+    else option_map refusal_for (refusal (limits_of s) (facts_at s r) r)) ≡ Some refused) whole is)
+  where
+    r : ask.Request
+    r = ask.change c
+
+    quiet : Bool
+    quiet = is_quiet (charges_of s c)
+
+    by : (o : Option Refused) → refusal (limits_of s) (facts_at s (ask.change c)) (ask.change c) ≡ o
+        → or_needs_flush (is_quiet (charges_of s c)) (option_map refusal_for o) ≡ Some refused
+        → IfSome (refused_reply refused)
+        (λ reply. Step (limits_of s) (state_of s file) (ask.change c) reply (state_of s file))
+    by None none loud = loud_replies (is_quiet (charges_of s c)) refused
+        (λ x. Step (limits_of s) (state_of s file) (ask.change c) x (state_of s file)) loud
+    by (Some w) found same =
+        let e : refusal_for w ≡ refused = (cc) in
+        subst (λ (x : Refusal). IfSome (refused_reply x)
+        (λ reply. Step (limits_of s) (state_of s file) (ask.change c) reply (state_of s file))) e
+        (refused_replied (limits_of s) (state_of s file) (ask.change c) w
+        (ap (λ (f : Facts). refusal (limits_of s) f (ask.change c))
+        (facts_same s file (ask.change c) h.now.named h.kept.named) ∙ found))

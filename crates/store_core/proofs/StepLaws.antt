@@ -1,0 +1,149 @@
+-- Steps that leave the state, and the facts on which refusals depend.
+use Rattle.std.specs.Prelude.{◌≡◌, ℕ, List, Option, Some, None, option_map, is_some, refl, Bool, false, if◌then◌else◌, Result, Ok, Err, IfSome, OnOk}
+use Rattle.std.proofs.Common.{arith, ap, sym, ◌∙◌, subst, inl, inr}
+use Rattle.std.specs.FinMap as fin
+use Rattle.store_terms.specs.Requests as ask
+use Rattle.store_terms.specs.Requests.{Refused, Reply, Request}
+use Rattle.extent_table.specs.declared.spot.Spot.{Spot}
+use Rattle.spot_terms.specs.Reads.{AreNamed, object_at}
+use Rattle.spot_terms.proofs.ReadLaws.{get-read_at}
+use Rattle.store_core.specs.Stores.{IsStore}
+use Rattle.store_core.specs.States.{Facts, Limits, State, Served, Step, accepted, facts_of, name_of, refusal, served, unchanged}
+use Rattle.store_core.specs.Connection.{IsOver, Kept, base_of, limits_of, state_of}
+use Rattle.store_core.specs.Answers.{AnswersRead, facts_at, refusal_for, refused_by, refused_reply, reply_of}
+use Rattle.store_core.specs.declared.answers.Refusal.{Refusal}
+use Rattle.store_core.specs.declared.answers.Refusal.TheVariants as why
+use Rattle.store_core.proofs.StateLaws.{len-read_at, listing-read_at, volume-read_at}
+use Rattle.store_core.proofs.StoreLaws.{kept_lies, now_lies}
+use Rattle.store_core.specs.Lines.{listing_of}
+use Rattle.extent_table.specs.Extents.{volume_of}
+
+-- what is served, by the refusal
+abbrev pub served_as : Limits → State → Request → Option Refused → Served
+served_as limits s r None = accepted limits s r
+served_as limits s r (Some why) = unchanged s (ask.refused why)
+
+pub served_by : (limits : Limits) (s : State) (r : Request) (o : Option Refused)
+    → refusal limits (facts_of s r) r ≡ o → served limits s r ≡ served_as limits s r o
+served_by limits s r o is = elim o as (λ x. refusal limits (facts_of s r) r ≡ x → served limits s r ≡ served_as limits s r x) [
+  | None ↦ λ e. rw e refl
+  | Some why ↦ λ e. rw e refl
+] is
+
+-- a request whose reply leaves the state and makes no checkpoint
+stays : (limits : Limits) (s : State) (r : Request) (reply : Reply) → served limits s r ≡ unchanged s reply
+    → Step limits s r reply s
+stays limits s r reply is = record {
+  replied = ap (λ (x : Served). x.reply) (sym is);
+  state = ap (λ (x : Served). record x.state { sequence = s.sequence }) (sym is);
+  low = omega (arith, ap (λ (x : Served). x.saves.least) is);
+  high = omega (arith, ap (λ (x : Served). x.saves.most) is);
+}
+
+-- a request that is refused
+pub refused_step : (limits : Limits) (s : State) (r : Request) (why : Refused)
+    → refusal limits (facts_of s r) r ≡ Some why → Step limits s r (ask.refused why) s
+refused_step limits s r why is = stays limits s r (ask.refused why) (served_by limits s r (Some why) is)
+
+-- a request that asks and changes nothing
+pub accepted_step : (limits : Limits) (s : State) (r : Request) (reply : Reply)
+    → refusal limits (facts_of s r) r ≡ None → accepted limits s r ≡ unchanged s reply
+    → Step limits s r reply s
+accepted_step limits s r reply is same = stays limits s r reply (served_by limits s r None is ∙ same)
+
+there_still : (base : ℕ) (file : List ℕ) (o : Option Spot)
+    → is_some (option_map (object_at base file) o) ≡ is_some o
+there_still base file None = refl
+there_still base file (Some s) = refl
+
+-- the facts of a state are those of the places
+pub facts_same : (s : Kept) (file : List ℕ) (r : Request) → AreNamed s.now → AreNamed s.kept
+    → facts_of (state_of s file) r ≡ facts_at s r
+facts_same s file r now kept = λ i. record {
+  is_live = (ap is_some (get-read_at (base_of s) file s.now now (name_of r))
+      ∙ there_still (base_of s) file (fin.get s.now (name_of r))) i;
+  is_kept = (ap is_some (get-read_at (base_of s) file s.kept kept (name_of r))
+      ∙ there_still (base_of s) file (fin.get s.kept (name_of r))) i;
+  count = len-read_at (base_of s) file s.now now i;
+  sequence = s.in_use.sequence;
+}
+
+-- ---- answers
+
+replies_refused : (limits : Limits) (s : State) (r : Request) (reply : Reply) (n : ℕ)
+    (result : Result ℕ Refusal) (why : Refused) → refusal limits (facts_of s r) r ≡ Some why
+    → result ≡ Err (refusal_for why)
+    → IfSome (reply_of (λ (m : ℕ). reply) result) (λ x. Step limits s r x s)
+replies_refused limits s r reply n result why is answer =
+    subst (λ (x : Result ℕ Refusal). IfSome (reply_of (λ (m : ℕ). reply) x) (λ x. Step limits s r x s)) (sym answer)
+    (each why (refused_step limits s r why is))
+  where
+    each : (w : Refused) → Step limits s r (ask.refused w) s
+        → IfSome (refused_reply (refusal_for w)) (λ x. Step limits s r x s)
+    each ask.bad_name step = step
+    each ask.too_long step = step
+    each ask.missing step = step
+    each ask.full step = step
+    each ask.worn step = step
+
+replies_read : (limits : Limits) (s : State) (r : Request) (reply : Reply) (n : ℕ) (result : Result ℕ Refusal)
+    → Step limits s r reply s → AnswersRead None n result
+    → IfSome (reply_of (λ (m : ℕ). reply) result) (λ x. Step limits s r x s)
+replies_read limits s r reply n result step (inl is) = subst
+    (λ (x : Result ℕ Refusal). IfSome (reply_of (λ (m : ℕ). reply) x) (λ x. Step limits s r x s)) (sym is) step
+replies_read limits s r reply n result step (inr (inl is)) = subst
+    (λ (x : Result ℕ Refusal). IfSome (reply_of (λ (m : ℕ). reply) x) (λ x. Step limits s r x s)) (sym is) tt
+replies_read limits s r reply n result step (inr (inr is)) = subst
+    (λ (x : Result ℕ Refusal). IfSome (reply_of (λ (m : ℕ). reply) x) (λ x. Step limits s r x s)) (sym is) tt
+
+-- a read is a step with the reply of its answer
+pub read_step : {classes : ℕ} (s after : Kept) (file now : List ℕ) (r : Request) (reply : Reply) (n : ℕ)
+    (result : Result ℕ Refusal) → s.is_broken ≡ false → IsStore classes s → after ≡ s → now ≡ file
+    → accepted (limits_of s) (state_of s file) r ≡ unchanged (state_of s file) reply
+    → AnswersRead (refused_by s r) n result
+    → IfSome (reply_of (λ (m : ℕ). reply) result)
+    (λ x. Step (limits_of s) (state_of s file) r x (state_of after now))
+read_step s after file now r reply n result whole sound same_store same_file serves answer =
+    subst (λ (x : Kept). IfSome (reply_of (λ (m : ℕ). reply) result)
+    (λ y. Step (limits_of s) (state_of s file) r y (state_of x now))) (sym same_store)
+    (subst (λ (x : List ℕ). IfSome (reply_of (λ (m : ℕ). reply) result)
+    (λ y. Step (limits_of s) (state_of s file) r y (state_of s x))) (sym same_file)
+    (elim (refusal (limits_of s) (facts_at s r) r)
+    as (λ o. refusal (limits_of s) (facts_at s r) r ≡ o → AnswersRead (option_map refusal_for o) n result
+    → IfSome (reply_of (λ (m : ℕ). reply) result)
+    (λ x. Step (limits_of s) (state_of s file) r x (state_of s file))) [
+      | None ↦ λ is a. replies_read (limits_of s) (state_of s file) r reply n result
+          (accepted_step (limits_of s) (state_of s file) r reply (facts ∙ is) serves) a
+      | Some why ↦ λ is a. replies_refused (limits_of s) (state_of s file) r reply n result why (facts ∙ is) a
+    ] refl (subst (λ (b : Bool). AnswersRead (if b then Some why.Broken
+    else option_map refusal_for (refusal (limits_of s) (facts_at s r) r)) n result) whole answer)))
+  where
+    facts : refusal (limits_of s) (facts_of (state_of s file) r) r ≡ refusal (limits_of s) (facts_at s r) r
+    facts = ap (λ (f : Facts). refusal (limits_of s) f r)
+        (facts_same s file r sound.now.named sound.kept.named)
+
+-- ---- lists and numbers
+
+-- what holds in any case holds at Ok
+pub always : {A E : Type 0} {P : Type 0} (result : Result A E) → P → OnOk result P
+always (Ok x) is = is
+always (Err e) is = tt
+
+pub list_step : {classes : ℕ} (s : Kept) (file : List ℕ) → IsStore classes s → IsOver classes s file
+    → Step (limits_of s) (state_of s file) ask.list (ask.listed (listing_of s.now)) (state_of s file)
+list_step s file h over = accepted_step (limits_of s) (state_of s file) ask.list (ask.listed (listing_of s.now))
+    refl (ap (λ (es : List (List ℕ × ℕ)). unchanged (state_of s file) (ask.listed es))
+    (listing-read_at (base_of s) file s.now h.now.named (now_lies s file h over)))
+
+pub stat_step : {classes : ℕ} (s : Kept) (file : List ℕ) (names bytes kept_names kept_bytes : ℕ)
+    → IsStore classes s → IsOver classes s file → names ≡ fin.len s.now → bytes ≡ volume_of s.now
+    → kept_names ≡ fin.len s.kept → kept_bytes ≡ volume_of s.kept
+    → Step (limits_of s) (state_of s file) ask.stat (ask.counts names bytes kept_names kept_bytes)
+    (state_of s file)
+stat_step s file names bytes kept_names kept_bytes h over n b kn kb =
+    accepted_step (limits_of s) (state_of s file) ask.stat (ask.counts names bytes kept_names kept_bytes) refl
+    (λ i. unchanged (state_of s file) (ask.counts
+    ((len-read_at (base_of s) file s.now h.now.named ∙ sym n) i)
+    ((volume-read_at (base_of s) file s.now h.now.named (now_lies s file h over) ∙ sym b) i)
+    ((len-read_at (base_of s) file s.kept h.kept.named ∙ sym kn) i)
+    ((volume-read_at (base_of s) file s.kept h.kept.named (kept_lies s file h over) ∙ sym kb) i)))

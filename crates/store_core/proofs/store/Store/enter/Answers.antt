@@ -1,0 +1,80 @@
+use Rattle.std.proofs.Common.{◌∙◌, ◌⊎◌, ◌<◌, ap, arith, lit<, subst, sym, IsSome, inl, inr}
+use Rattle.std.specs.FinMap as fin
+use Rattle.size_class.specs.Rows.{cells_of}
+use Rattle.segment_layout.specs.Layouts.{grid_of}
+use Rattle.extent_table.specs.Extents.{Spots}
+use Rattle.spot_terms.specs.Held.{FreesSpot}
+use Rattle.store_core.specs.Stores.{AreInRange}
+use Rattle.store_core.proofs.ChangeLaws.{can_free, place_ends, store_freed, store_put}
+use Rattle.store_core.proofs.EndLaws.{end_low}
+use Rattle.store_core.proofs.InsideLaws.{changed_whole, opened}
+use Rattle.store_core.proofs.StoreLaws.{small_if_there}
+use Rattle.store_core.proofs.store.Store.enter.Goals as goal
+
+pub free_spot-requires : goal.free_spot-requires
+free_spot-requires g c x now_is kept_is =
+    let t = c.args.self.now in
+    let o = opened c.self.inside t c.self.view_is c.self.invariant c.requires.whole in
+    can_free t o.store c.args.name.now c.self.inside.guard o.guard_room o.freed x
+    (ap (λ (m : Spots). fin.get m c.args.name.now) (sym o.now) ∙ sym c.get-now.ensures ∙ now_is)
+    (ap (λ (m : Spots). fin.get m c.args.name.now) (sym o.kept) ∙ sym c.old.ensures ∙ kept_is)
+
+pub add_gone-requires : goal.add_gone-requires
+add_gone-requires g c =
+    let t = c.args.self.now in
+    let o = opened c.self.inside t c.self.view_is c.self.invariant c.requires.whole in (
+      lit< tt,
+      (
+        c.self.invariant.classes,
+        (
+          c.self.invariant.wide,
+          small_if_there t o.store c.args.name.now c.get-now.result
+              (c.get-now.ensures ∙ ap (λ (m : Spots). fin.get m c.args.name.now) o.now),
+        ),
+      ),
+    )
+
+pub set-requires : goal.set-requires
+set-requires g c =
+    let t = c.args.self.now in
+    let name = c.args.name.now in
+    let o = opened c.self.inside t c.self.view_is c.self.invariant c.requires.whole in
+    let low = place_ends t o.store name c.args.spot.size c.args.spot.place (grid_of c.args.layout)
+    c.requires.charged in
+    record {
+      room = elim c.requires.room as (λ _. IsSome (fin.get c.self.inside.table.now name)
+          ⊎ (fin.len c.self.inside.table.now < c.self.inside.table.names)) [
+            | inl there ↦ inl (subst (λ (m : Spots). IsSome (fin.get m name)) (sym o.now) there)
+            | inr room ↦ inr (omega (arith, room, o.room, ap (λ (m : Spots). fin.len m) o.now))
+          ];
+      place = omega (arith, low, end_low t o.store);
+      size = omega (arith, c.requires.small);
+    }
+
+pub invariant_of-self : goal.invariant_of-self
+invariant_of-self g c =
+    let t = c.args.self.now in
+    let name = c.args.name.now in
+    let spot = c.args.spot in
+    let o = opened c.self.inside t c.self.view_is c.self.invariant c.requires.whole in
+    let after = c.set.ensures.now ∙ ap (λ (m : Spots). fin.insert m name spot) o.now in
+    changed_whole c.self.inside t c.self.view_is c.self.invariant c.set.new.self c.free_spot.new.guard
+    c.add_size.new.ledger c.args.layout (fin.insert t.now name spot) after c.set.ensures.kept
+    c.requires.caps (c.add_size.ensures.moved ∙ c.add_gone.ensures.moved) c.set.ensures.table
+    c.set.ensures.names c.free_spot.ensures.room c.requires.divisor
+    (store_put t o.store name spot.size spot.place (grid_of c.args.layout) c.requires.charged
+    c.requires.named c.requires.small (cells_of c.add_size.new.ledger.asked)
+    (omega (
+      arith,
+      c.set.ensures.table.now_room,
+      c.set.ensures.names,
+      o.room,
+      ap (λ (m : Spots). fin.len m) after,
+    ))
+    (subst AreInRange after c.set.ensures.table.now_in_range))
+    (store_freed t o.store name spot.size spot.place (grid_of c.args.layout) c.requires.charged
+    c.self.inside.guard.spans c.free_spot.new.guard.spans o.freed
+    (subst (λ x. FreesSpot x (fin.get t.kept name) c.self.inside.guard.spans c.free_spot.new.guard.spans)
+    (c.get-now.ensures ∙ ap (λ (m : Spots). fin.get m name) o.now)
+    (subst (λ x. FreesSpot c.get-now.result x c.self.inside.guard.spans c.free_spot.new.guard.spans)
+    (c.old.ensures ∙ ap (λ (m : Spots). fin.get m name) o.kept) c.free_spot.ensures.freed)))

@@ -1,0 +1,61 @@
+use Rattle.std.proofs.Common.{◌∙◌, ap, arith, lit<, subst, sym}
+use Rattle.std.specs.FinMap as fin
+use Rattle.size_class.specs.Rows.{cells_of}
+use Rattle.segment_layout.specs.Layouts.{grid_of}
+use Rattle.extent_table.specs.Extents.{Spots}
+use Rattle.spot_terms.specs.Held.{FreesSpot}
+use Rattle.spot_terms.proofs.FreedLaws.{freed_gone}
+use Rattle.store_core.specs.Stores.{AreInRange}
+use Rattle.store_core.proofs.ChangeLaws.{can_free, store_gone}
+use Rattle.store_core.proofs.InsideLaws.{changed_whole, opened}
+use Rattle.store_core.proofs.StoreLaws.{small_if_there}
+use Rattle.store_core.proofs.store.Store.leave.Goals as goal
+
+pub free_spot-requires : goal.free_spot-requires
+free_spot-requires g c x now_is kept_is =
+    let t = c.args.self.now in
+    let o = opened c.self.inside t c.self.view_is c.self.invariant c.requires.whole in
+    can_free t o.store c.args.name.now c.self.inside.guard o.guard_room o.freed x
+    (ap (λ (m : Spots). fin.get m c.args.name.now) (sym o.now) ∙ sym c.get-now.ensures ∙ now_is)
+    (ap (λ (m : Spots). fin.get m c.args.name.now) (sym o.kept) ∙ sym c.old.ensures ∙ kept_is)
+
+pub add_gone-requires : goal.add_gone-requires
+add_gone-requires g c =
+    let t = c.args.self.now in
+    let o = opened c.self.inside t c.self.view_is c.self.invariant c.requires.whole in (
+      lit< tt,
+      (
+        c.self.invariant.classes,
+        (
+          c.self.invariant.wide,
+          small_if_there t o.store c.args.name.now c.get-now.result
+              (c.get-now.ensures ∙ ap (λ (m : Spots). fin.get m c.args.name.now) o.now),
+        ),
+      ),
+    )
+
+pub invariant_of-self : goal.invariant_of-self
+invariant_of-self g c =
+    let t = c.args.self.now in
+    let name = c.args.name.now in
+    let o = opened c.self.inside t c.self.view_is c.self.invariant c.requires.whole in
+    let after = c.remove.ensures.now ∙ ap (λ (m : Spots). fin.remove m name) o.now in
+    changed_whole c.self.inside t c.self.view_is c.self.invariant c.remove.new.self c.free_spot.new.guard
+    c.add_gone.new.ledger c.args.layout (fin.remove t.now name) after c.remove.ensures.kept c.requires.caps
+    c.add_gone.ensures.moved c.remove.ensures.table c.remove.ensures.names c.free_spot.ensures.room
+    c.requires.divisor
+    (store_gone t o.store name (grid_of c.args.layout) c.requires.charged
+    (cells_of c.add_gone.new.ledger.asked)
+    (omega (
+      arith,
+      c.remove.ensures.table.now_room,
+      c.remove.ensures.names,
+      o.room,
+      ap (λ (m : Spots). fin.len m) after,
+    ))
+    (subst AreInRange after c.remove.ensures.table.now_in_range))
+    (freed_gone c.self.inside.guard.spans t.now t.kept o.freed name c.free_spot.new.guard.spans
+    (subst (λ x. FreesSpot x (fin.get t.kept name) c.self.inside.guard.spans c.free_spot.new.guard.spans)
+    (c.get-now.ensures ∙ ap (λ (m : Spots). fin.get m name) o.now)
+    (subst (λ x. FreesSpot c.get-now.result x c.self.inside.guard.spans c.free_spot.new.guard.spans)
+    (c.old.ensures ∙ ap (λ (m : Spots). fin.get m name) o.kept) c.free_spot.ensures.freed)))

@@ -1,0 +1,94 @@
+use Rattle.std.proofs.Common.{◌∙◌, ◌+◌, ap, arith, subst, IsTrue, length}
+use Rattle.byte_ranges.specs.Ranges.{overwritten}
+use Rattle.segment_layout.specs.Layouts.{caps_of, divisor_of, grid_of}
+use Rattle.store_core.specs.Quiet.{put_of}
+use Rattle.store_core.proofs.ChangeLaws.{apart_kept, place_ends}
+use Rattle.store_core.proofs.EffectLaws.{calls_err, calls_ok, position_fits, quiet_effects}
+use Rattle.store_core.proofs.InsideLaws.{opened}
+use Rattle.store_core.proofs.PlanLaws.{put_served}
+use Rattle.store_core.proofs.QuietLaws.{put_over, put_step, put_value}
+use Rattle.store_core.proofs.store.Store.put_planned.Goals as goal
+
+pub write_new-requires-clause-fits : goal.write_new-requires-clause-fits
+write_new-requires-clause-fits g c =
+    let t = c.args.self.now in
+    let plan = c.args.plan in
+    let size = length c.args.bytes.now in
+    let served = put_served t plan.name c.args.bytes.now c.requires.plan.served in
+    let o = opened c.self.inside t c.self.view_is c.self.invariant served.whole in
+    position_fits t c.self.inside.base plan.spot.place size c.requires.sound o.base
+    (place_ends t c.requires.sound plan.name size plan.spot.place (grid_of plan.layout)
+    c.requires.plan.charged)
+
+pub write_new-requires-clause-within : goal.write_new-requires-clause-within
+write_new-requires-clause-within g c told =
+    let t = c.args.self.now in
+    let plan = c.args.plan in
+    let size = length c.args.bytes.now in
+    let served = put_served t plan.name c.args.bytes.now c.requires.plan.served in
+    let o = opened c.self.inside t c.self.view_is c.self.invariant served.whole in
+    let over = c.requires.over served.whole told in
+    omega (
+      arith,
+      o.base,
+      over.same_length,
+      place_ends t c.requires.sound plan.name size plan.spot.place (grid_of plan.layout)
+          c.requires.plan.charged,
+    )
+
+pub returns-in-Ok-clause-quiet : goal.returns-in-Ok-clause-quiet
+returns-in-Ok-clause-quiet g c =
+    let t = c.args.self.now in
+    let plan = c.args.plan in
+    let size = length c.args.bytes.now in
+    let served = put_served t plan.name c.args.bytes.now c.requires.plan.served in
+    let o = opened c.self.inside t c.self.view_is c.self.invariant served.whole in
+    quiet_effects (put_of plan.name c.args.bytes.now) t c.enter.new.self (g.D.Disk.state c.args.disk.now)
+    (g.D.Disk.state c.write_new.new.disk) _ c.self.inside.base plan.spot.place size c.requires.sound o.base
+    (c.requires.over served.whole)
+    (apart_kept t c.requires.sound plan.name size plan.spot.place (grid_of plan.layout)
+    c.requires.plan.charged) c.write_new.ensures.writes (calls_ok _ _ c.in-Ok.ensures.calls)
+    (put_value t c.requires.sound plan.name c.args.bytes.now (divisor_of plan.layout) (caps_of plan.layout)
+    (grid_of plan.layout) plan.spot c.requires.plan c.enter.new.self c.enter.ensures)
+
+pub returns-in-Err-clause-quiet : goal.returns-in-Err-clause-quiet
+returns-in-Err-clause-quiet g c =
+    let t = c.args.self.now in
+    let plan = c.args.plan in
+    let size = length c.args.bytes.now in
+    let served = put_served t plan.name c.args.bytes.now c.requires.plan.served in
+    let o = opened c.self.inside t c.self.view_is c.self.invariant served.whole in
+    quiet_effects (put_of plan.name c.args.bytes.now) t _ (g.D.Disk.state c.args.disk.now)
+    (g.D.Disk.state c.write_new.new.disk) _ c.self.inside.base plan.spot.place size c.requires.sound o.base
+    (c.requires.over served.whole)
+    (apart_kept t c.requires.sound plan.name size plan.spot.place (grid_of plan.layout)
+    c.requires.plan.charged) c.write_new.ensures.writes (calls_err _ _ c.in-Err.ensures.calls) tt
+
+pub returns-in-Ok-clause-step : goal.returns-in-Ok-clause-step
+returns-in-Ok-clause-step g c told =
+    let t = c.args.self.now in
+    let plan = c.args.plan in
+    let file = (g.D.Disk.state c.args.disk.now).file in
+    let served = put_served t plan.name c.args.bytes.now c.requires.plan.served in
+    let o = opened c.self.inside t c.self.view_is c.self.invariant served.whole in
+    put_step t c.requires.sound plan.name c.args.bytes.now (divisor_of plan.layout) (caps_of plan.layout)
+    (grid_of plan.layout) plan.spot c.requires.plan file (g.D.Disk.state c.write_new.new.disk).file
+    (c.requires.over served.whole told)
+    (c.in-Ok.ensures.written told
+    ∙ ap (λ b. overwritten file (b + plan.spot.place) c.args.bytes.now) o.base)
+    c.enter.new.self c.enter.ensures
+
+pub returns-in-Ok-clause-over : goal.returns-in-Ok-clause-over
+returns-in-Ok-clause-over g c whole told =
+    let t = c.args.self.now in
+    let plan = c.args.plan in
+    let file = (g.D.Disk.state c.args.disk.now).file in
+    let served = put_served t plan.name c.args.bytes.now c.requires.plan.served in
+    let o = opened c.self.inside t c.self.view_is c.self.invariant served.whole in
+    let first = subst IsTrue c.write_new.ensures.writes.stays.told told in
+    put_over t c.requires.sound plan.name c.args.bytes.now (divisor_of plan.layout) (caps_of plan.layout)
+    (grid_of plan.layout) plan.spot c.requires.plan file (g.D.Disk.state c.write_new.new.disk).file
+    (c.requires.over served.whole first)
+    (c.in-Ok.ensures.written first
+    ∙ ap (λ b. overwritten file (b + plan.spot.place) c.args.bytes.now) o.base)
+    c.enter.new.self c.enter.ensures

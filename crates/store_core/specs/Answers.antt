@@ -1,0 +1,109 @@
+-- What a store answers: which refusal comes, and the reply that an answer stands for.
+use Rattle.std.specs.Prelude.{◌≡◌, ℕ, ◌⊎◌, Bool, true, false, if◌then◌else◌, Option, Some, None, option_map, List, Result, Ok, Err, IsOk, IfOk}
+use Rattle.std.specs.FinMap as fin
+use Rattle.slot_codec.specs.Names.{is_name}
+use Rattle.store_terms.specs.Requests as ask
+use Rattle.store_terms.specs.Requests.{Request, Reply, Refused}
+use Rattle.extent_table.specs.declared.spot.Spot.{Spot}
+use Rattle.store_core.specs.declared.answers.Refusal.{Refusal}
+use Rattle.store_core.specs.declared.answers.Refusal.TheVariants as why
+use Rattle.store_core.specs.declared.answers.Done.{Done}
+use Rattle.store_core.specs.States.{Facts, refusal, name_of}
+use Rattle.store_core.specs.Connection.{Kept, limits_of}
+
+-- ---- refusals
+
+abbrev pub refusal_for : Refused → Refusal
+refusal_for ask.bad_name = why.BadName
+refusal_for ask.too_long = why.TooLong
+refusal_for ask.missing = why.Missing
+refusal_for ask.full = why.Full
+refusal_for ask.worn = why.Worn
+
+-- what a refusal depends on, by the places of the objects alone: a disk that tells nothing has it too
+abbrev pub facts_at : Kept → Request → Facts
+facts_at s r = record {
+  is_live = fin.contains_key s.now (name_of r);
+  is_kept = fin.contains_key s.kept (name_of r);
+  count = fin.len s.now;
+  sequence = s.in_use.sequence;
+}
+
+-- the refusal of a request that no device has a part in: first that the store is broken
+abbrev pub refused_by : Kept → Request → Option Refusal
+refused_by s r = if s.is_broken then Some why.Broken
+    else option_map refusal_for (refusal (limits_of s) (facts_at s r) r)
+
+-- ---- answers
+
+-- the answer is the refusal; where there is none, it is this number
+abbrev pub AnswersNumber : Option Refusal → ℕ → Result ℕ Refusal → Type 0
+AnswersNumber None n result = result ≡ Ok n
+AnswersNumber (Some refused) n result = result ≡ Err refused
+
+-- the same of the place of an object
+abbrev pub AnswersSpot : Option Refusal → Option Spot → Result Spot Refusal → Type 0
+AnswersSpot None spot result = IfOk result (λ s. spot ≡ Some s) × IsOk result
+AnswersSpot (Some refused) spot result = result ≡ Err refused
+
+-- the answer is a name's bytes; that the store is broken comes first, and then that they are no name
+abbrev pub AnswersName : Kept → List ℕ → Result (List ℕ) Refusal → Type 0
+AnswersName s name result = result ≡ (if s.is_broken then Err why.Broken
+    else if is_name name then Ok name else Err why.BadName)
+
+-- the same, but that the disk or the sink may fail
+abbrev pub AnswersRead : Option Refusal → ℕ → Result ℕ Refusal → Type 0
+AnswersRead None n result = (result ≡ Ok n) ⊎ (result ≡ Err why.Disk) ⊎ (result ≡ Err why.Sink)
+AnswersRead (Some refused) n result = result ≡ Err refused
+
+-- the answer is the refusal; where there is none, it is Ok, or the sink failed
+abbrev pub AnswersList : {T : Type 0} → Option Refusal → Result T Refusal → Type 0
+AnswersList None result = IsOk result ⊎ (result ≡ Err why.Sink)
+AnswersList (Some refused) result = result ≡ Err refused
+
+-- the answer is the refusal; where there is none, the change was done with no checkpoint, or the disk failed
+abbrev pub AnswersChange : Option Refusal → Result Done Refusal → Type 0
+AnswersChange None result = (result ≡ Ok (record { kept = false })) ⊎ (result ≡ Err why.Disk)
+AnswersChange (Some refused) result = result ≡ Err refused
+
+abbrev pub is_disk : Refusal → Bool
+is_disk why.Disk = true
+is_disk why.Broken = false
+is_disk why.BadName = false
+is_disk why.TooLong = false
+is_disk why.Missing = false
+is_disk why.Full = false
+is_disk why.Worn = false
+is_disk why.Sink = false
+is_disk why.NeedsFlush = false
+
+abbrev pub is_disk_fault : {T : Type 0} → Result T Refusal → Bool
+is_disk_fault (Ok x) = false
+is_disk_fault (Err refused) = is_disk refused
+
+-- ---- replies
+
+-- the reply of a refusal; there is none where a device failed, or the store can't go on
+abbrev pub refused_reply : Refusal → Option Reply
+refused_reply why.BadName = Some (ask.refused ask.bad_name)
+refused_reply why.TooLong = Some (ask.refused ask.too_long)
+refused_reply why.Missing = Some (ask.refused ask.missing)
+refused_reply why.Full = Some (ask.refused ask.full)
+refused_reply why.Worn = Some (ask.refused ask.worn)
+refused_reply why.Broken = None
+refused_reply why.Disk = None
+refused_reply why.Sink = None
+refused_reply why.NeedsFlush = None
+
+-- the reply that an answer stands for, where Ok stands for a reply
+abbrev pub reply_of : {T : Type 0} → (T → Reply) → Result T Refusal → Option Reply
+reply_of at_ok (Ok x) = Some (at_ok x)
+reply_of at_ok (Err refused) = refused_reply refused
+
+abbrev pub done_reply : Done → Reply
+done_reply d = if d.kept then ask.kept else ask.done
+
+-- the size at a spot, or 0
+abbrev pub size_at : Option Spot → ℕ
+size_at None = 0
+size_at (Some s) = s.size

@@ -1,0 +1,46 @@
+-- How the value of a store is stored: as the tuple of its parts.
+use Rattle.std.specs.Prelude.{ℕ, Bool, List, refl}
+use Rattle.std.specs.FinMap as fin
+use Rattle.std.specs.FinSet as set
+use Rattle.std.specs.Coded.{Coded, code_by, coded×, coded_ℕ, coded_list, coded_bool}
+use Rattle.slot_codec.specs.Choice as choice
+use Rattle.slot_codec.specs.declared.codec.SuperBlock.{SuperBlock}
+use Rattle.store_terms.specs.Maps.{name_cmp}
+use Rattle.segment_layout.specs.Books.{Book}
+use Rattle.extent_table.specs.Extents.{Spots, spot_code}
+use Rattle.store_core.specs.Connection.{Kept}
+
+abbrev pub spots_code : Coded Spots
+spots_code = fin.code (coded_list coded_ℕ) spot_code
+
+abbrev pub book_code : Coded Book
+book_code = code_by (List ℕ × (List (List ℕ) × set.FinSet name_cmp))
+    (coded× (coded_list coded_ℕ) (coded× (coded_list (coded_list coded_ℕ)) (set.code (coded_list coded_ℕ))))
+    (λ b. (b.caps, (b.grid, b.buffered))) (λ p. record { caps = p.0; grid = p.1.0; buffered = p.1.1 })
+    (λ _. refl)
+
+abbrev pub block_code : Coded SuperBlock
+block_code = code_by (ℕ × ℕ) (coded× coded_ℕ coded_ℕ) (λ b. (b.k, b.names))
+    (λ p. record { k = p.0; names = p.1 }) (λ _. refl)
+
+abbrev pub in_use_code : Coded choice.InUse
+in_use_code = code_by (SuperBlock × (ℕ × (ℕ × Bool)))
+    (coded× block_code (coded× coded_ℕ (coded× coded_ℕ coded_bool)))
+    (λ u. (u.block, (u.slot, (u.sequence, u.other_open))))
+    (λ p. record { block = p.0; slot = p.1.0; sequence = p.1.1.0; other_open = p.1.1.1 }) (λ _. refl)
+
+abbrev pub kept_code : Coded Kept
+kept_code = code_by (choice.InUse × (Spots × (Spots × (Book × (Book × (Bool × (List ℕ × List ℕ)))))))
+    (coded× in_use_code (coded× spots_code (coded× spots_code (coded× book_code (coded× book_code
+    (coded× coded_bool (coded× (coded_list coded_ℕ) (coded_list coded_ℕ))))))))
+    (λ s. (s.in_use, (s.now, (s.kept, (s.book, (s.kept_book, (s.is_broken, (s.moved, s.asked))))))))
+    (λ p. record {
+      in_use = p.0;
+      now = p.1.0;
+      kept = p.1.1.0;
+      book = p.1.1.1.0;
+      kept_book = p.1.1.1.1.0;
+      is_broken = p.1.1.1.1.1.0;
+      moved = p.1.1.1.1.1.1.0;
+      asked = p.1.1.1.1.1.1.1;
+    }) (λ _. refl)

@@ -1,0 +1,11 @@
+pub mod States
+pub mod Connection
+pub mod Codes
+pub mod Stores
+pub mod Inside
+pub mod Answers
+pub mod Quiet
+pub mod Plans
+pub mod Changes
+pub mod Reads
+pub mod Lines

@@ -1,0 +1,75 @@
+//! Copying an object of the file to the sink.
+ghost use Rattle.std.specs.Prelude.{◌≡◌, ◌⊎◌, ◌+◌, ◌^◌, ◌<◌, ◌≤◌, Err, OnOk, OnErr, IsTrue, length};
+ghost use Rattle.byte_ranges.specs.Ranges.{bytes_at};
+ghost use Rattle.disk_face.specs.Frames.{Unchanged};
+ghost use Rattle.disk_face.specs.Streams.{Puts};
+ghost use Rattle.store_core.specs.Reads.{HasDiskCause, HasSinkCause};
+
+use crate::Refusal;
+use disk_face::{Disk, Sink, read};
+
+/// Puts `size` bytes of the file from position `at` on, in pieces of the buffer. Where a device
+/// fails, a front of them was put.
+pub(crate) fn put_bytes<D: Disk, O: Sink>(
+    disk: &mut D,
+    at: u64,
+    size: u64,
+    buf: &mut [u8],
+    sink: &mut O,
+) -> Result<(), Refusal>
+    requires ready { IsTrue (D.state disk.old).is_ready }
+    requires some { 0 < length buf.old }
+    requires range { at + size < 2 ^ 64 }
+    requires within { IsTrue (D.state disk.old).tells → at + size ≤ length (D.state disk.old).file }
+    ensures put { IsTrue (D.state disk.old).tells → IsTrue (O.state sink.old).tells
+        → Puts (O.state sink.old).given (O.state sink.new).given (bytes_at (D.state disk.old).file at size)
+        result }
+    ensures number { IsTrue (O.state sink.old).tells
+        → OnOk result (length (O.state sink.new).given ≡ length (O.state sink.old).given + size) }
+    ensures only { OnErr result ((result ≡ Err Refusal.Disk) ⊎ (result ≡ Err Refusal.Sink)) }
+    ensures frame { Unchanged (D.state disk.old) (D.state disk.new) }
+    ensures disk_cause { HasDiskCause (D.state disk.old) (D.state disk.new) result }
+    ensures sink_cause { HasSinkCause (O.state sink.old) (O.state sink.new) result }
+{
+    let mut done = 0;
+    'pieces: while done < size {
+        let n = (size - done).min(buf.len() as u64);
+        put_piece(disk, at + done, &mut buf[..n as usize], sink)?;
+        done += n;
+    }
+    Ok(())
+}
+
+/// Puts as many bytes as the piece has.
+fn put_piece<D: Disk, O: Sink>(
+    disk: &mut D,
+    at: u64,
+    piece: &mut [u8],
+    sink: &mut O,
+) -> Result<(), Refusal>
+    requires ready { IsTrue (D.state disk.old).is_ready }
+    requires within { IsTrue (D.state disk.old).tells
+        → at + length piece.old ≤ length (D.state disk.old).file }
+    ensures put { IsTrue (D.state disk.old).tells → IsTrue (O.state sink.old).tells
+        → Puts (O.state sink.old).given (O.state sink.new).given
+        (bytes_at (D.state disk.old).file at (length piece.old)) result }
+    ensures number { IsTrue (O.state sink.old).tells
+        → OnOk result (length (O.state sink.new).given ≡ length (O.state sink.old).given + length piece.old) }
+    ensures only { OnErr result ((result ≡ Err Refusal.Disk) ⊎ (result ≡ Err Refusal.Sink)) }
+    ensures frame { Unchanged (D.state disk.old) (D.state disk.new) }
+    ensures disk_cause { HasDiskCause (D.state disk.old) (D.state disk.new) result }
+    ensures sink_cause { HasSinkCause (O.state sink.old) (O.state sink.new) result }
+{
+    read(disk, at, piece).map_err(|_| Refusal::Disk)?;
+    put_whole(sink, piece)
+}
+
+/// Puts bytes at once.
+pub(crate) fn put_whole<O: Sink>(sink: &mut O, bytes: &[u8]) -> Result<(), Refusal>
+    ensures put { IsTrue (O.state sink.old).tells
+        → Puts (O.state sink.old).given (O.state sink.new).given bytes.now result }
+    ensures only { OnErr result (result ≡ Err Refusal.Sink) }
+    ensures cause { HasSinkCause (O.state sink.old) (O.state sink.new) result }
+{
+    sink.put(bytes).map_err(|_| Refusal::Sink)
+}

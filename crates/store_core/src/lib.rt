@@ -1,0 +1,18 @@
+//! The store: names and their objects on a disk, as they stand now and as they stood at the last
+//! checkpoint, to which it can go back.
+#![tactic(auto)]
+
+mod answers;
+mod charges;
+mod copy;
+mod held;
+pub mod laws;
+mod lines;
+mod lists;
+mod plan;
+mod quiet;
+mod reads;
+mod store;
+
+pub use answers::{Done, Gauge, Refusal, Stat};
+pub use store::Store;

@@ -1,0 +1,60 @@
+//! What there is in a store: its names, and how many bytes they have.
+ghost use Rattle.std.specs.Prelude.{◌≡◌, ℕ, List, false, true, ◌↔◌, IsErr, IsNone, IsSome, IsTrue, OnErr, OnOk, IfOk, Err};
+ghost use Rattle.std.specs.FinMap as fin;
+ghost use Rattle.disk_face.specs.Streams.{Puts};
+ghost use Rattle.extent_table.specs.Extents.{volume_of};
+ghost use Rattle.store_terms.specs.Requests as ask;
+ghost use Rattle.store_core.specs.Answers.{AnswersList, refused_by};
+ghost use Rattle.store_core.specs.Connection.{IsOver, limits_of, state_of};
+ghost use Rattle.store_core.specs.Lines.{lines_of, listing_of};
+ghost use Rattle.store_core.specs.Reads.{HasSinkCause};
+ghost use Rattle.store_core.specs.States.{Step};
+
+use crate::lines::put_lines;
+use crate::{Refusal, Stat, Store};
+use disk_face::Sink;
+
+impl<const C: usize> Store<C> {
+    /// Puts a line for each name, the name and the size of its object, by rising name. Where the sink
+    /// fails, a front of the lines was put.
+    pub fn list<O: Sink>(&self, sink: &mut O) -> Result<(), Refusal>
+        ensures answer { AnswersList (refused_by self.now ask.list) result }
+        ensures refused { IsSome (refused_by self.now ask.list) → IsTrue (O.state sink.old).tells
+            → (O.state sink.new).given ≡ (O.state sink.old).given }
+        ensures put { IsNone (refused_by self.now ask.list) → IsTrue (O.state sink.old).tells
+            → Puts (O.state sink.old).given (O.state sink.new).given (lines_of (listing_of self.now.now))
+            result }
+        ensures step { (file : List ℕ) → IsOver C self.now file → OnOk result
+            (Step (limits_of self.now) (state_of self.now file) ask.list (ask.listed (listing_of self.now.now))
+            (state_of self.now file)) }
+        ensures cause { HasSinkCause (O.state sink.old) (O.state sink.new) result }
+    {
+        if self.is_broken() {
+            return Err(Refusal::Broken);
+        }
+        put_lines(&self.table, sink)
+    }
+
+    /// How many names and bytes there are, now and at the last checkpoint.
+    pub fn stat(&self) -> Result<Stat, Refusal>
+        ensures broken { IsErr result ↔ (self.now.is_broken ≡ true) }
+        ensures refused { OnErr result (result ≡ Err Refusal.Broken) }
+        ensures names { IfOk result (λ s. s.names ≡ fin.len self.now.now) }
+        ensures bytes { IfOk result (λ s. s.bytes ≡ volume_of self.now.now) }
+        ensures kept_names { IfOk result (λ s. s.kept_names ≡ fin.len self.now.kept) }
+        ensures kept_bytes { IfOk result (λ s. s.kept_bytes ≡ volume_of self.now.kept) }
+        ensures step { (file : List ℕ) → IsOver C self.now file → IfOk result
+            (λ s. Step (limits_of self.now) (state_of self.now file) ask.stat
+            (ask.counts s.names s.bytes s.kept_names s.kept_bytes) (state_of self.now file)) }
+    {
+        if self.is_broken() {
+            return Err(Refusal::Broken);
+        }
+        Ok(Stat {
+            names: self.table.count(),
+            bytes: self.table.volume(),
+            kept_names: self.table.kept_count(),
+            kept_bytes: self.table.kept_volume(),
+        })
+    }
+}

@@ -1,0 +1,202 @@
+//! Putting and removing objects, and going back to the last checkpoint.
+ghost use Rattle.std.specs.Prelude.{◌≡◌, ◌⊎◌, ◌+◌, ◌<◌, ◌≤◌, ◌^◌, ◌||◌, ◌++◌, ◌↔◌, ℕ, List, true, false, fold, length, Some, None, Ok, Err, IfSome, IsErr, IsNone, IsSome, IsTrue, OnErr, OnOk};
+ghost use Rattle.std.specs.FinMap as fin;
+ghost use Rattle.byte_ranges.specs.Ranges.{overwritten};
+ghost use Rattle.disk_face.specs.Frames.{Calls};
+ghost use Rattle.disk_face.specs.Writes.{WritesWithin};
+ghost use Rattle.slot_codec.specs.Names.{IsName};
+ghost use Rattle.segment_layout.specs.Books.{some_size};
+ghost use Rattle.segment_layout.specs.Layouts.{caps_of, divisor_of, grid_of};
+ghost use Rattle.store_terms.specs.Requests as ask;
+ghost use Rattle.spot_terms.specs.LaidOut.{shown_book};
+ghost use Rattle.spot_terms.specs.Quiet.{QuietTo, gone_items};
+ghost use Rattle.store_core.specs.Quiet.{IsCharged, added, del_of, put_of, refused_change, sizes_at, writes_of};
+ghost use Rattle.store_core.specs.Plans.{IsDelPlan, IsPutPlan};
+
+use crate::held::{add_gone, add_size, free_spot};
+use crate::plan::{DelPlan, PutPlan};
+use crate::{Done, Refusal, Store};
+use data_area::write_object;
+use disk_face::{Disk, DiskFault};
+use extent_table::Spot;
+use segment_layout::Layout;
+use size_class::SIZE_MAX;
+use slot_codec::Name;
+
+impl<const C: usize> Store<C> {
+    ghost use Rattle.store_core.specs.Answers.{AnswersChange, done_reply, is_disk_fault, reply_of};
+    ghost use Rattle.store_core.specs.Changes.{ChangesQuietly, IsQuietChange, NothingChanged};
+    ghost use Rattle.store_core.specs.Connection.{IsConnected, IsOver, limits_of, state_of};
+    ghost use Rattle.store_core.specs.States.{Step};
+    ghost use Rattle.store_core.specs.Stores.{IsStore};
+
+    /// Puts an object under a name, in place of the one that it has. Where there is room in the
+    /// buffers its bytes are written once, and no checkpoint is saved; else nothing changes. After a
+    /// fault of the disk the store is broken, and the file opens to the last checkpoint.
+    pub fn put<D: Disk>(&mut self, disk: &mut D, name: &[u8], bytes: &[u8]) -> Result<Done, Refusal>
+        requires ready { IsTrue (D.state disk.old).is_ready }
+        requires over { IsConnected C self.old (D.state disk.old) }
+        ensures answer { AnswersChange (refused_change self.old (put_of name.now bytes.now)) result }
+        ensures refused { IsSome (refused_change self.old (put_of name.now bytes.now))
+            → NothingChanged self.old self.new (D.state disk.old) (D.state disk.new) }
+        ensures quiet { IsNone (refused_change self.old (put_of name.now bytes.now))
+            → IsQuietChange C (put_of name.now bytes.now) self.old self.new (D.state disk.old)
+            (D.state disk.new) result }
+        ensures step { self.old.is_broken ≡ false → IsTrue (D.state disk.old).tells
+            → IfSome (reply_of done_reply result) (λ reply. Step (limits_of self.old)
+            (state_of self.old (D.state disk.old).file) (ask.change (put_of name.now bytes.now)) reply
+            (state_of self.new (D.state disk.new).file)) }
+        ensures over { IsConnected C self.new (D.state disk.new) }
+        ensures broken { self.new.is_broken ≡ (self.old.is_broken || is_disk_fault result) }
+    {
+        match self.plan_put(name, bytes) {
+            Ok(plan) => self.put_planned(disk, plan, bytes),
+            Err(refusal) => Err(refusal),
+        }
+    }
+
+    /// Removes a name. Where its charge finds room in the buffers nothing is written, and no checkpoint
+    /// is saved; else nothing changes.
+    pub fn del<D: Disk>(&mut self, disk: &mut D, name: &[u8]) -> Result<Done, Refusal>
+        requires ready { IsTrue (D.state disk.old).is_ready }
+        requires over { IsConnected C self.old (D.state disk.old) }
+        ensures answer { AnswersChange (refused_change self.old (del_of name.now)) result }
+        ensures refused { IsSome (refused_change self.old (del_of name.now))
+            → NothingChanged self.old self.new (D.state disk.old) (D.state disk.new) }
+        ensures quiet { IsNone (refused_change self.old (del_of name.now))
+            → IsQuietChange C (del_of name.now) self.old self.new (D.state disk.old)
+            (D.state disk.new) result }
+        ensures step { self.old.is_broken ≡ false → IsTrue (D.state disk.old).tells
+            → IfSome (reply_of done_reply result) (λ reply. Step (limits_of self.old)
+            (state_of self.old (D.state disk.old).file) (ask.change (del_of name.now)) reply
+            (state_of self.new (D.state disk.new).file)) }
+        ensures over { IsConnected C self.new (D.state disk.new) }
+        ensures broken { self.new.is_broken ≡ (self.old.is_broken || is_disk_fault result) }
+    {
+        match self.plan_del(name) {
+            Ok(plan) => {
+                self.leave(&plan.name, plan.layout);
+                Ok(Done { kept: false })
+            }
+            Err(refusal) => Err(refusal),
+        }
+    }
+
+    /// Goes back to the last checkpoint: what stood then stands now.
+    pub fn back(&mut self) -> Result<(), Refusal>
+        ensures answer { IsErr result ↔ (self.old.is_broken ≡ true) }
+        ensures refused { OnErr result (result ≡ Err Refusal.Broken) }
+        ensures unchanged { OnErr result (self.new ≡ self.old) }
+        ensures back { OnOk result (self.new ≡ record self.old { now = self.old.kept; book = self.old.kept_book }) }
+        ensures step { (file : List ℕ) → IsOver C self.old file → OnOk result
+            (Step (limits_of self.old) (state_of self.old file) ask.back ask.done (state_of self.new file)) }
+        ensures over { (file : List ℕ) → IsOver C self.old file → OnOk result (IsOver C self.new file) }
+    {
+        if self.is_broken() {
+            return Err(Refusal::Broken);
+        }
+        self.table.back();
+        self.layout = self.kept_layout;
+        self.guard.clear();
+        Ok(())
+    }
+
+    /// Writes the new object and sets its name.
+    fn put_planned<D: Disk>(
+        &mut self,
+        disk: &mut D,
+        plan: PutPlan<C>,
+        bytes: &[u8],
+    ) -> Result<Done, Refusal>
+        requires ready { IsTrue (D.state disk.old).is_ready }
+        requires over { IsConnected C self.old (D.state disk.old) }
+        requires sound { IsStore C self.old }
+        requires plan { IsPutPlan self.old plan.name bytes.now plan.name (divisor_of plan.layout)
+            (caps_of plan.layout) (grid_of plan.layout) plan.spot }
+        ensures answer { AnswersChange None result }
+        ensures quiet { IsQuietChange C (put_of plan.entry.name bytes.now) self.old self.new
+            (D.state disk.old) (D.state disk.new) result }
+        ensures step { IsTrue (D.state disk.old).tells → OnOk result (Step (limits_of self.old)
+            (state_of self.old (D.state disk.old).file) (ask.change (put_of plan.entry.name bytes.now)) ask.done
+            (state_of self.new (D.state disk.new).file)) }
+        ensures over { IsConnected C self.new (D.state disk.new) }
+        ensures broken { self.new.is_broken ≡ is_disk_fault result }
+    {
+        match write_new(disk, self.base, plan.spot.place, bytes) {
+            Ok(()) => {
+                self.enter(&plan.name, plan.layout, plan.spot);
+                Ok(Done { kept: false })
+            }
+            Err(DiskFault) => {
+                self.broken = true;
+                Err(Refusal::Disk)
+            }
+        }
+    }
+
+    /// Sets where the object of a name stands, once it is charged and written.
+    fn enter(&mut self, name: &Name, layout: Layout<C>, spot: Spot)
+        requires whole { self.old.is_broken ≡ false }
+        requires named { IsName name.now }
+        requires room { IsSome (fin.get self.old.now name.now)
+            ⊎ (fin.len self.old.now < self.old.in_use.block.names) }
+        requires small { spot.size ≤ SIZE_MAX }
+        requires divisor { divisor_of layout ≡ self.old.in_use.block.k }
+        requires caps { caps_of layout ≡ self.old.book.caps }
+        requires charged { IsCharged self.old.in_use.block.k self.old.book.caps self.old.book.grid
+            (fin.get self.old.now name.now) spot.size (grid_of layout) spot.place }
+        ensures { self.new ≡ record self.old {
+          now = fin.insert self.old.now name.now spot;
+          book = shown_book C SIZE_MAX self.old.in_use.block.k self.old.book.caps (grid_of layout.entry)
+              (fin.insert self.old.now name.now spot);
+          asked = fold added self.old.asked
+              (sizes_at (fin.get self.old.now name.now) ++ some_size spot.size);
+        } }
+    {
+        let now = self.table.get(name);
+        free_spot(&mut self.guard, now, self.table.old(name));
+        add_gone(&mut self.ledger, now);
+        add_size(&mut self.ledger, spot.size);
+        self.table.set(name, spot);
+        self.layout = layout;
+    }
+
+    /// Takes a name out, once its object is charged.
+    fn leave(&mut self, name: &Name, layout: Layout<C>)
+        requires whole { self.old.is_broken ≡ false }
+        requires divisor { divisor_of layout ≡ self.old.in_use.block.k }
+        requires caps { caps_of layout ≡ self.old.book.caps }
+        requires charged { QuietTo self.old.in_use.block.k self.old.book.caps self.old.book.grid
+            (gone_items self.old.in_use.block.k self.old.book.caps (fin.get self.old.now name.now))
+            (grid_of layout) }
+        ensures { self.new ≡ record self.old {
+          now = fin.remove self.old.now name.now;
+          book = shown_book C SIZE_MAX self.old.in_use.block.k self.old.book.caps (grid_of layout.entry)
+              (fin.remove self.old.now name.now);
+          asked = fold added self.old.asked (sizes_at (fin.get self.old.now name.now));
+        } }
+    {
+        let now = self.table.get(name);
+        free_spot(&mut self.guard, now, self.table.old(name));
+        add_gone(&mut self.ledger, now);
+        self.table.remove(name);
+        self.layout = layout;
+    }
+}
+
+/// Writes a new object at its place; one without bytes isn't written.
+fn write_new<D: Disk>(disk: &mut D, base: u64, place: u64, bytes: &[u8]) -> Result<(), DiskFault>
+    requires ready { IsTrue (D.state disk.old).is_ready }
+    requires fits { base + place + length bytes.now < 2 ^ 63 }
+    requires within { IsTrue (D.state disk.old).tells
+        → base + place + length bytes.now ≤ length (D.state disk.old).file }
+    ensures written { IsTrue (D.state disk.old).tells → OnOk result ((D.state disk.new).file
+        ≡ overwritten (D.state disk.old).file (base + place) bytes.now) }
+    ensures writes { WritesWithin (base + place) (length bytes.now) (D.state disk.old) (D.state disk.new) }
+    ensures calls { Calls (writes_of (length bytes.now)) (D.state disk.old) (D.state disk.new) result }
+{
+    if bytes.is_empty() {
+        return Ok(());
+    }
+    write_object(disk, base, place, bytes)
+}
