@@ -1,5 +1,5 @@
 -- A flush begins: its items, with the pending one behind the room for what is lifted, are as Lift keeps them.
-use Rattle.std.specs.Prelude.{◌≡◌, ◌≢◌, ◌⊎◌, ℕ, zero, suc, ◌+◌, ◌-◌, ◌≤◌, ◌==◌, nat_le, nat_lt, not, Bool, ◌&&◌, cond, List, [], ◌∷◌, ◌++◌, length, Some, slice_get, Contains, sum_by, refl, Option, IfSome, None, ◌<◌, ◌^◌}
+use Rattle.std.specs.Prelude.{◌≡◌, ◌≢◌, ◌⊎◌, ℕ, zero, suc, ◌+◌, ◌-◌, ◌≤◌, ◌==◌, nat_le, nat_lt, not, Bool, ◌&&◌, cond, List, [], ◌∷◌, ◌++◌, length, Some, slice_get, Contains, sum_by, refl, Option, IfSome, None, ◌<◌, ◌^◌, filter, ◌/◌}
 use Rattle.std.proofs.Common.{arith, sym, ◌∙◌, ap, subst, inl, inr}
 use Rattle.std.proofs.lemmas.Bool.{cases_lt, cond-false, lt-ltb, le-ltb, lt-leb, and_left, and_right}
 use Rattle.std.proofs.lemmas.List.Sums.{sum_by-cons, sum_by_push}
@@ -9,13 +9,14 @@ use Rattle.size_class.specs.Classes.{width, class_of, IsRow}
 use Rattle.segment_layout.specs.Shapes.{buffer_of, end_of}
 use Rattle.flush_plan.specs.declared.item.Item.{Item}
 use Rattle.flush_plan.specs.declared.item.Numbers.{Numbers}
-use Rattle.flush_plan.specs.Plans.{class_total, is_below_wall, is_lifted, is_unlifted, ItemsApart, laid_length, lifted_bytes, numbers_of, stands_in_payload, unlifted_bytes, weight, object_of, AreBelow, AreSmall}
-use Rattle.flush_plan.specs.Phases.{AreItems, AreLifting, CanFlush, SuitsLayout}
+use Rattle.flush_plan.specs.Plans.{class_total, is_below_wall, is_lifted, is_unlifted, ItemsApart, laid_length, lifted_bytes, numbers_of, stands_in_payload, unlifted_bytes, weight, object_of, AreBelow, AreSmall, largest_of, total}
+use Rattle.flush_plan.specs.Phases.{AreItems, AreLifting, CanFlush, SuitsLayout, PaysFor, payload_bytes, phase_of}
 use Rattle.flush_plan.proofs.ListLaws.{cond_at_most, sum_by_none_in, sum_by_same_in}
 use Rattle.flush_plan.proofs.ItemLaws.{total_is}
 use Rattle.flush_plan.proofs.NumbersLaws.{item_ends, items_of_flush, reach_is, slack_over_pending, slack_over_sizes, wall_over_new_end, wall_over_old_end}
 use Rattle.flush_plan.specs.Begins.{Begins, IsPending, pending_size, with_pending}
 use Rattle.flush_plan.proofs.BoundLaws.{flush_below, small_of_flush}
+use Rattle.flush_plan.proofs.LargestLaws.{largest-from, largest-le, largest-of}
 
 -- what a list has that is one longer
 push_got : (xs : List Item) (y : Item) (i : ℕ) (a : Item) → slice_get (xs ++ y ∷ []) i ≡ Some a
@@ -120,6 +121,45 @@ module _ (k : ℕ) (caps : List ℕ) (b : ℕ) (items : List Item) (flush : CanF
     pub suits_all : b ≤ width → SuitsLayout k caps n all
     suits_all low = record { boundary = low; start = refl; end = omega (arith, laid_length_all) }
 
+    abbrev stands : Item → Bool
+    stands it = is_below_wall n it && stands_in_payload k caps it
+
+    -- the slack pays for what stands in payload segments
+    pub pays_all : PaysFor (phase_of k caps n pending.size all 0)
+        (payload_bytes (phase_of k caps n pending.size all 0))
+    pays_all = omega (arith, most, ap (λ bytes. bytes / k) same)
+      where
+        most : largest_of all 0 ≤ largest_of items pending.size
+        most = largest-le 0 (largest_of items pending.size) all (omega arith) (λ it has. elim (only it has) [
+          | inl old ↦ largest-of pending.size items it old
+          | inr is ↦ omega (arith, ap (λ (x : Item). x.size) is.0, largest-from pending.size items)
+        ])
+
+        each : (it : Item) → Contains items it
+            → cond (stands it) it.size 0 ≡ cond (stands_in_payload k caps it) it.size 0
+        each it has = ap (λ low. cond (low && stands_in_payload k caps it) it.size 0)
+            (lt-ltb it.place n.wall (omega (arith, below it has)))
+
+        last : cond (stands pending) pending.size 0 ≡ 0
+        last = elim (cases_lt 0 pending.size) [
+          | inl some ↦ cond-false (stands pending) pending.size 0
+              (and_left (is_below_wall n pending) (stands_in_payload k caps pending)
+              (le-ltb pending.place n.wall (omega (arith, behind (omega (arith, some))))))
+          | inr none ↦ omega (arith, none, cond_at_most (stands pending) pending.size)
+        ]
+
+        same : payload_bytes (phase_of k caps n pending.size all 0)
+            ≡ total (filter (stands_in_payload k caps) items)
+        same = omega (
+          arith,
+          total_is stands all,
+          sums stands,
+          last,
+          sum_by_same_in (λ it. cond (stands it) it.size 0)
+              (λ it. cond (stands_in_payload k caps it) it.size 0) items each,
+          total_is (stands_in_payload k caps) items,
+        )
+
     pub lifting_of_all : AreLifting k caps n pending.size all
     lifting_of_all =
         record {
@@ -169,6 +209,10 @@ module _ (k : ℕ) (caps : List ℕ) (b : ℕ) (items : List Item) (flush : CanF
 
     pub suits_begin : b ≤ width → SuitsLayout k caps n all
     suits_begin low = suits_all all sums only (λ x. class) (λ x. place) low
+
+    pub pays_begin : PaysFor (phase_of k caps n pending.size all 0)
+        (payload_bytes (phase_of k caps n pending.size all 0))
+    pays_begin = pays_all all sums only (λ x. class) (λ x. place)
 
     pub none_lifted : lifted_bytes n pending.size all ≡ 0
     none_lifted = lifted_none all sums only (λ x. class) (λ x. place)
@@ -243,6 +287,7 @@ pub record HasBegun (k : ℕ) (caps : List ℕ) (n : Numbers) (pending : ℕ) (a
   pub items : AreItems n all
   pub layout : SuitsLayout k caps n all
   pub lifting : AreLifting k caps n pending all
+  pub pays : PaysFor (phase_of k caps n pending all 0) (payload_bytes (phase_of k caps n pending all 0))
   pub classes : length caps ≡ width
   pub none : lifted_bytes n pending all ≡ 0
 
@@ -260,6 +305,7 @@ begun_alone k caps b items low flush =
       items = items_of_flush k caps b items flush 0;
       layout = suits_all k caps b items flush nothing items sums only (λ some. refl) behind low;
       lifting = lifting_of_all k caps b items flush nothing items sums only (λ some. refl) behind;
+      pays = pays_all k caps b items flush nothing items sums only (λ some. refl) behind;
       classes = flush.classes;
       none = lifted_none k caps b items flush nothing items sums only (λ some. refl) behind;
     }
@@ -271,6 +317,7 @@ begun_with k caps b items pending low flush h = record {
   items = items_begin k caps b items flush pending h.some h.class h.from h.place h.other;
   layout = suits_begin k caps b items flush pending h.some h.class h.from h.place h.other low;
   lifting = lift_begins k caps b items flush pending h.some h.class h.from h.place h.other;
+  pays = pays_begin k caps b items flush pending h.some h.class h.from h.place h.other;
   classes = flush.classes;
   none = none_lifted k caps b items flush pending h.some h.class h.from h.place h.other;
 }

@@ -16,7 +16,8 @@ use Rattle.flush_plan.proofs.ListLaws.{cond_at_most, sum_by_none_in}
 use Rattle.flush_plan.proofs.ItemLaws.{items_within, total_is}
 use Rattle.flush_plan.proofs.FinalLaws.{class_total_is}
 use Rattle.flush_plan.proofs.LiftLaws.{payload_parts}
-use Rattle.flush_plan.proofs.NumbersLaws.{item_ends, items_of_flush, largest-le, reach_is}
+use Rattle.flush_plan.proofs.NumbersLaws.{item_ends, items_of_flush, reach_is}
+use Rattle.flush_plan.proofs.LargestLaws.{largest-le}
 use Rattle.std.proofs.lemmas.List.{take_all}
 
 -- a sum of terms that are small

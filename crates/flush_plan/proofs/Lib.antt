@@ -4,6 +4,7 @@ pub mod FinalLaws
 pub mod FixtureLaws
 pub mod FrontLaws
 pub mod ItemLaws
+pub mod LargestLaws
 pub mod LayKeepsLaws
 pub mod LayLaws
 pub mod LayStepLaws

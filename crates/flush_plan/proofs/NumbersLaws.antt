@@ -1,8 +1,8 @@
 -- The numbers of a flush: where the wall and the reach stand, and that a flush may begin with them.
-use Rattle.std.specs.Prelude.{◌≡◌, ℕ, ◌+◌, ◌-◌, ◌*◌, ◌/◌, ◌<◌, ◌≤◌, nat_le, max, not, Bool, ◌&&◌, cond, List, [], ◌∷◌, length, slice_index, Contains, filter, sum_by}
+use Rattle.std.specs.Prelude.{◌≡◌, ℕ, ◌+◌, ◌-◌, ◌*◌, ◌/◌, ◌<◌, ◌≤◌, nat_le, max, not, Bool, ◌&&◌, cond, List, length, slice_index, Contains, filter, sum_by}
 use Rattle.std.proofs.Common.{arith, ap, inl, inr}
 use Rattle.std.proofs.lemmas.Bool.{both_ways, cases_lt, cases_Bool, cond-true, cond-false, leb-true, le-leb, and_parts, and_from, not_from_false, not_from_true}
-use Rattle.std.proofs.Math.Nat.{le-max_left, le-max_right, max-eq_left, max-eq_right, max-le, mul-le-mul_left, le_of_mul-le-mul_left, mul-div-le}
+use Rattle.std.proofs.Math.Nat.{le-max_left, le-max_right, max-eq_left, max-eq_right, mul-le-mul_left, le_of_mul-le-mul_left, mul-div-le}
 use Rattle.byte_ranges.specs.Lists.{sum_below}
 use Rattle.size_class.specs.Classes.{width}
 use Rattle.size_class.proofs.ClassLaws.{class_below}
@@ -15,20 +15,10 @@ use Rattle.flush_plan.specs.declared.item.Numbers.{Numbers}
 use Rattle.flush_plan.specs.Plans.{largest_of, numbers_of, stands_in_payload, total, weight}
 use Rattle.flush_plan.specs.Phases.{AreItems, CanFlush}
 use Rattle.flush_plan.specs.LooseReach.{ReachIsLoose}
-use Rattle.flush_plan.proofs.ListLaws.{contains_cases, contains_here, contains_later, sum_by_le_in, sum_by_same_in, sum_by_both}
+use Rattle.flush_plan.proofs.ListLaws.{sum_by_le_in, sum_by_same_in, sum_by_both}
 use Rattle.flush_plan.proofs.ItemLaws.{items_within, total_is}
 use Rattle.flush_plan.proofs.LiftLaws.{payload_parts, start_of-rises}
-
-pub largest-from : (a : ℕ) (items : List Item) → a ≤ largest_of items a
-largest-from a [] = omega arith
-largest-from a (x ∷ xs) = omega (arith, le-max_left a x.size, largest-from (max a x.size) xs)
-
-pub largest-of : (a : ℕ) (items : List Item) (it : Item) → Contains items it → it.size ≤ largest_of items a
-largest-of a [] it has = absurd (omega (arith, has.1))
-largest-of a (x ∷ xs) it has = elim (contains_cases x it xs has) [
-  | inl e ↦ omega (arith, ap (λ (y : Item). y.size) e, le-max_right a x.size, largest-from (max a x.size) xs)
-  | inr later ↦ largest-of (max a x.size) xs it later
-]
+use Rattle.flush_plan.proofs.LargestLaws.{largest-from, largest-le, largest-of}
 
 pub start_of-le_start : (k : ℕ) (caps : List ℕ) (b c : ℕ) → b ≤ c → c ≤ length caps
     → start_of k caps b ≤ start_of k caps c
@@ -226,13 +216,6 @@ loose_numbers j old new v w largest lo buffered pending tight_old tight_new fits
     let few : j * buffered ≤ v = le_of_mul-le-mul_left {m = j * buffered} {n = v} {k = j + 2}
     (omega (arith, mul-le-mul_left j fits_b, tight_old)) (omega arith) in
     omega (arith, ends, part, few, mul-le-mul_left j fits_d, mul-le-mul_left j fits_p, mul-le-mul_left j some)
-
-pub largest-le : (a w : ℕ) (items : List Item) → a ≤ w → ((it : Item) → Contains items it → it.size ≤ w)
-    → largest_of items a ≤ w
-largest-le a w [] low each = low
-largest-le a w (x ∷ xs) low each =
-    largest-le (max a x.size) w xs (max-le low (each x (contains_here x xs)))
-    (λ it has. each it (contains_later x it xs has))
 
 pub reach_is_loose : ReachIsLoose
 reach_is_loose k caps b items flush pending before after big tight_old tight_new each fits some fits_lo =

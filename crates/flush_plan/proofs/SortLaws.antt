@@ -1,5 +1,5 @@
 -- What the phases keep is kept in whatever order the items stand.
-use Rattle.std.specs.Prelude.{◌≡◌, ◌≢◌, ◌⊎◌, ℕ, ◌+◌, ◌-◌, ◌<◌, ◌≤◌, ◌==◌, Bool, cond, List, length, Some, slice_get, slice_index_or, Contains, sum_by, IsPermutation, refl}
+use Rattle.std.specs.Prelude.{◌≡◌, ◌≢◌, ◌⊎◌, ℕ, ◌+◌, ◌-◌, ◌<◌, ◌≤◌, ◌==◌, Bool, cond, List, length, Some, slice_get, slice_index_or, Contains, sum_by, IsPermutation, refl, filter, ◌/◌}
 use Rattle.std.specs.List.{swap}
 use Rattle.std.specs.List.Sorted.{IsNonDecreasingBy}
 use Rattle.std.proofs.Common.{arith, sym, ◌∙◌, ap, subst, inl, inr}
@@ -12,11 +12,12 @@ use Rattle.size_class.specs.Classes.{width}
 use Rattle.segment_layout.specs.Shapes.{buffer_of}
 use Rattle.flush_plan.specs.declared.item.Item.{Item}
 use Rattle.flush_plan.specs.declared.item.Numbers.{Numbers}
-use Rattle.flush_plan.specs.Plans.{class_total, final_place, is_lifted, is_unlifted, ItemsApart, ItemsCanResume, laid_length, lifted_bytes, sizes_over, unlifted_bytes}
-use Rattle.flush_plan.specs.Phases.{AreItems, AreLaying, AreLifting, IsLaying, IsLifting, IsPacking, Phase, SuitsLayout}
+use Rattle.flush_plan.specs.Plans.{class_total, final_place, is_lifted, is_unlifted, ItemsApart, ItemsCanResume, laid_length, lifted_bytes, sizes_over, unlifted_bytes, total}
+use Rattle.flush_plan.specs.Phases.{AreItems, AreLaying, AreLifting, IsLaying, IsLifting, IsPacking, Phase, SuitsLayout, stands_below}
 use Rattle.flush_plan.proofs.ItemLaws.{total_is}
 use Rattle.flush_plan.proofs.PackLaws.{is_over}
 use Rattle.flush_plan.proofs.FinalLaws.{is_earlier}
+use Rattle.flush_plan.proofs.LargestLaws.{largest-permuted}
 
 abbrev ApartInOrder : List Item → Type 0
 ApartInOrder xs = (i j : ℕ) (a b : Item) → i < j → slice_get xs i ≡ Some a → slice_get xs j ≡ Some b
@@ -114,6 +115,9 @@ module _ (xs ys : List Item) (perm : IsPermutation xs ys) where
       → sum_by (λ it. cond (q it) it.size 0) ys ≡ sum_by (λ it. cond (q it) it.size 0) xs
   weight_permuted q = sum_by-IsPermutation (λ it. cond (q it) it.size 0) xs ys perm
 
+  pub total_permuted : (q : Item → Bool) → total (filter q ys) ≡ total (filter q xs)
+  total_permuted q = total_is q ys ∙ weight_permuted q ∙ sym (total_is q xs)
+
   pub class_total_permuted : (c : ℕ) → class_total ys c ≡ class_total xs c
   class_total_permuted c = total_is (λ it. it.class == c) ys ∙ weight_permuted (λ it. it.class == c)
       ∙ sym (total_is (λ it. it.class == c) xs)
@@ -203,6 +207,12 @@ lifting_sorted p ys perm is =
       items = items_permuted p.items ys perm p.numbers is.items;
       layout = suits_permuted p.items ys perm p.k p.caps p.numbers is.layout;
       lifting = lifting_permuted p.items ys perm p.k p.caps p.numbers p.pending is.lifting;
+      pays = omega (
+        arith,
+        is.pays,
+        largest-permuted 0 p.items ys perm,
+        ap (λ bytes. bytes / p.k) (total_permuted p.items ys perm (stands_below p)),
+      );
       classes = is.classes;
       room = omega (arith, is.room, length_permutation p.items ys perm);
     }

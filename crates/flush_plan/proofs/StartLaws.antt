@@ -1,10 +1,10 @@
 -- Where each phase starts: Lift from a layout, Pack from places that can be resumed, Lay from what is packed.
-use Rattle.std.specs.Prelude.{◌≡◌, ℕ, ◌+◌, ◌*◌, ◌^◌, ◌<◌, ◌≤◌, List, length, slice_index, Contains, Option, IfSome, IsPermutation, Bool, cond, ◌==◌, ◌&&◌}
+use Rattle.std.specs.Prelude.{◌≡◌, ℕ, ◌+◌, ◌*◌, ◌^◌, ◌<◌, ◌≤◌, List, length, slice_index, Contains, Option, IfSome, IsPermutation, Bool, cond, ◌==◌, ◌&&◌, ◌/◌}
 use Rattle.std.specs.List.Sorted.{IsNonDecreasingBy}
-use Rattle.std.proofs.Common.{arith, sym, ◌∙◌, inl, inr}
+use Rattle.std.proofs.Common.{arith, sym, ◌∙◌, inl, inr, ap}
 use Rattle.flush_plan.specs.declared.item.Item.{Item}
 use Rattle.flush_plan.specs.declared.item.Numbers.{Numbers}
-use Rattle.flush_plan.specs.Phases.{phase_of, AreObjects, IsLaying, IsPackedWhole, Phase, SuitsLayout, lifted_in}
+use Rattle.flush_plan.specs.Phases.{phase_of, AreObjects, IsLaying, IsPackedWhole, Phase, SuitsLayout, lifted_in, stands_below}
 use Rattle.flush_plan.specs.Plans.{AreBelow, AreSmall, ItemsCanResume, class_total, is_lifted, laid_length, lifted_bytes, segments_length}
 use Rattle.flush_plan.specs.LaidSoFar.{ArePlaces, KeepsLaying}
 use Rattle.flush_plan.specs.LiftedSoFar.{AreStarts, KeepsLifting}
@@ -17,12 +17,13 @@ use Rattle.flush_plan.proofs.BeginLaws.{begun, begun_below, begun_small}
 use Rattle.flush_plan.proofs.SettledLaws.{class_total_none}
 use Rattle.flush_plan.proofs.ListLaws.{cond_at_most, sum_by_le_in}
 use Rattle.segment_layout.specs.Shapes.{end_of, start_of}
-use Rattle.flush_plan.proofs.SortLaws.{items_permuted, laying_sorted, lifted_permuted, lifting_permuted, resume_permuted, rising_from_sorted, suits_permuted}
+use Rattle.flush_plan.proofs.SortLaws.{items_permuted, laying_sorted, lifted_permuted, lifting_permuted, resume_permuted, rising_from_sorted, suits_permuted, total_permuted}
 use Rattle.flush_plan.proofs.PlaceLaws.{lay_from_start, order_from_sorted, segments_same, totals_low}
 use Rattle.flush_plan.proofs.PhaseLaws.{laying_begins, packing_resumes}
 use Rattle.flush_plan.proofs.LiftStepLaws.{lift_from_start}
 use Rattle.flush_plan.proofs.PackGoesLaws.{pack_resumes}
 use Rattle.flush_plan.proofs.ItemLaws.{total_is}
+use Rattle.flush_plan.proofs.LargestLaws.{largest-permuted}
 
 module _ (C : ℕ) (n : Numbers) (old new : List Item) (perm : IsPermutation old new) where
   back : (it : Item) → Contains new it → Contains old it
@@ -51,6 +52,14 @@ lift_starts C k caps n items pending sorted room starts fits boundary divisor ro
       items = are;
       layout = suits_permuted all sorted perm k caps n has.layout;
       lifting = lifting_permuted all sorted perm k caps n (pending_size pending) has.lifting;
+      pays = omega (
+        arith,
+        has.pays,
+        largest-permuted 0 all sorted perm,
+        ap (λ bytes. bytes / k)
+            (total_permuted all sorted perm (stands_below
+            (phase_of k caps n (pending_size pending) sorted room))),
+      );
       classes = has.classes;
       room = long;
     }) (below_permuted C n all sorted perm (begun_below C k caps n items pending row class begins))

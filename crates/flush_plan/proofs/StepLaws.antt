@@ -12,6 +12,7 @@ use Rattle.flush_plan.proofs.PhaseLaws.{laying_moved, lifting_moved, packing_mov
 use Rattle.flush_plan.proofs.WaitingLaws.{lay_fewer, lay_progress, lift_fewer, lift_progress, pack_fewer, pack_keeps_lifted, pack_progress}
 use Rattle.flush_plan.proofs.RowLaws.{below_stays, packed_few, packed_grows, packed_row}
 use Rattle.flush_plan.proofs.FrontLaws.{laid_behind, laid_moves, waiting_falls, waiting_row}
+use Rattle.flush_plan.proofs.LargestLaws.{largest-of, largest-relocated}
 
 moves_item : (p : Phase) (mv : Move) → AreItems p.numbers p.items → Contains p.items (mover mv) → IsMover p mv
 moves_item p mv are has = record {
@@ -45,6 +46,8 @@ pack_step p mv is next = record {
   safe = pack_safe p.k p.numbers p.items is.items is.resumes mv next is.reaches;
   far = pack_far p.k p.numbers p.items is.items is.resumes mv next;
   sides = pack_sides p.k p.numbers p.items is.items is.resumes mv next;
+  small = largest-of 0 p.items (mover mv) next.item;
+  largest = largest-relocated 0 mv.key mv.to p.items;
   row = packed_row p is mv next;
   grows = packed_grows p is mv next;
   few = packed_few p is mv next;
@@ -65,6 +68,8 @@ lay_step p mv is next =
       safe = lay_safe p.k p.numbers p.items q.items q.resumes is.laying mv next q.reaches;
       far = lay_far p.k p.numbers p.items q.items q.resumes is.laying mv next;
       sides = lay_sides p.k p.numbers p.items q.items q.resumes is.laying mv next;
+      small = largest-of 0 p.items (mover mv) next.item;
+      largest = largest-relocated 0 mv.key mv.to p.items;
       row = waiting_row p is mv next;
       falls = waiting_falls p is mv next;
       behind = laid_behind p is mv next;

@@ -1,11 +1,11 @@
 -- The phases of a flush: what each holds, and what is kept of its items.
-use Rattle.std.specs.Prelude.{◌≡◌, ◌⊎◌, ℕ, ◌+◌, ◌-◌, ◌<◌, ◌≤◌, ◌==◌, not, ◌&&◌, Bool, if◌then◌else◌, max, fold, List, filter, length, slice_get, Some, Contains, IsTrue}
+use Rattle.std.specs.Prelude.{◌≡◌, ◌⊎◌, ℕ, ◌+◌, ◌-◌, ◌/◌, ◌<◌, ◌≤◌, ◌==◌, not, ◌&&◌, Bool, if◌then◌else◌, max, fold, List, filter, length, slice_get, Some, Contains, IsTrue}
 use Rattle.size_class.specs.Classes.{class_of, width}
 use Rattle.segment_layout.specs.Shapes.{end_of, start_of}
 use Rattle.flush_plan.specs.declared.item.Item.{Item}
 use Rattle.flush_plan.specs.declared.item.Move.{Move}
 use Rattle.flush_plan.specs.declared.item.Numbers.{Numbers}
-use Rattle.flush_plan.specs.Plans.{HasRoom, is_below_wall, is_laid, is_lifted, is_packed, is_unlifted, IsBefore, IsInBuffer, ItemsApart, ItemsCanResume, IsLaid, IsPacked, laid_length, lifted_bytes, relocated, stands_in_payload, total, unlifted_bytes}
+use Rattle.flush_plan.specs.Plans.{HasRoom, is_below_wall, is_laid, is_lifted, is_packed, is_unlifted, IsBefore, IsInBuffer, ItemsApart, ItemsCanResume, IsLaid, IsPacked, laid_length, largest_of, lifted_bytes, relocated, stands_in_payload, total, unlifted_bytes}
 
 -- The value of a phase: the layout that the flush began with, its numbers, the size of the pending item, the
 -- items in any order, and how many the list that is handed back has room for.
@@ -73,10 +73,25 @@ pub record AreLifting (k : ℕ) (caps : List ℕ) (n : Numbers) (pending : ℕ) 
   pub wall : HasRoom k n items
   pub slack : (it : Item) → Contains items it → it.size ≤ n.slack
 
+-- the largest size, and the bytes below the wall that stand in payload segments
+abbrev pub largest_item : Phase → ℕ
+largest_item p = largest_of p.items 0
+
+abbrev pub stands_below : Phase → Item → Bool
+stands_below p it = is_below_wall p.numbers it && stands_in_payload p.k p.caps it
+
+abbrev pub payload_bytes : Phase → ℕ
+payload_bytes p = total (filter (stands_below p) p.items)
+
+-- the slack has room for the largest item, and for more than a k-th of so many bytes
+abbrev pub PaysFor : Phase → ℕ → Type 0
+PaysFor p bytes = largest_item p + (bytes / p.k + 1) ≤ p.numbers.slack
+
 pub record IsLifting (p : Phase) : Type 0 where
   pub items : AreItems p.numbers p.items
   pub layout : SuitsLayout p.k p.caps p.numbers p.items
   pub lifting : AreLifting p.k p.caps p.numbers p.pending p.items
+  pub pays : PaysFor p (payload_bytes p)
   pub classes : length p.caps ≡ width
   pub room : length p.items ≤ p.room
 

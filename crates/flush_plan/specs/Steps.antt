@@ -4,7 +4,7 @@ use Rattle.size_class.specs.Classes.{class_of}
 use Rattle.segment_layout.specs.Shapes.{end_of}
 use Rattle.flush_plan.specs.declared.item.Move.{Move}
 use Rattle.flush_plan.specs.Plans.{AreAside, first_unlaid, IsNextLay, IsNextLift, IsNextPack, IsSafe, mover}
-use Rattle.flush_plan.specs.Phases.{bytes_below, IsLaying, IsLifting, IsPacking, laid_end, laid_in, lifted_in, moved_by, packed_bytes, packed_in, Phase, to_lay, to_lift, to_pack, waiting_bytes}
+use Rattle.flush_plan.specs.Phases.{bytes_below, IsLaying, IsLifting, IsPacking, laid_end, laid_in, largest_item, lifted_in, moved_by, packed_bytes, packed_in, Phase, to_lay, to_lift, to_pack, waiting_bytes}
 
 -- the move takes one of the items, of at least 1 byte and of the class of its size, from the boundary on
 pub record IsMover (p : Phase) (mv : Move) : Type 0 where
@@ -38,6 +38,8 @@ pub record IsPackStep (p : Phase) (mv : Move) : Type 0 where
   pub safe : IsSafe p.numbers p.items mv
   pub far : mv.from + p.numbers.slack ≤ mv.to
   pub sides : AreAside p.items (mv.from + mv.size) (mv.to + mv.size)
+  pub small : mv.size ≤ largest_item p
+  pub largest : largest_item (moved_by mv p) ≡ largest_item p
   pub row : mv.to + mv.size + packed_bytes p ≡ p.numbers.wall
   pub grows : packed_bytes (moved_by mv p) ≡ packed_bytes p + mv.size
   pub few : packed_bytes p + mv.size ≤ bytes_below p
@@ -58,6 +60,8 @@ pub record IsLayStep (p : Phase) (mv : Move) : Type 0 where
   pub safe : IsSafe p.numbers p.items mv
   pub far : mv.to + p.numbers.slack ≤ first_unlaid p.k p.numbers p.items
   pub sides : AreAside p.items mv.to (first_unlaid p.k p.numbers p.items)
+  pub small : mv.size ≤ largest_item p
+  pub largest : largest_item (moved_by mv p) ≡ largest_item p
   pub row : first_unlaid p.k p.numbers p.items + waiting_bytes p ≡ p.numbers.wall
   pub falls : waiting_bytes (moved_by mv p) ≤ waiting_bytes p
   pub behind : laid_end p ≤ mv.to

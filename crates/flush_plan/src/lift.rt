@@ -3,7 +3,7 @@ ghost use Rattle.std.specs.Prelude.{◌≡◌, ℕ, ◌<◌, ◌≤◌, ◌↔�
 ghost use Rattle.size_class.specs.Rows.{cells_of};
 ghost use Rattle.segment_layout.specs.Layouts.{divisor_of, caps_of};
 ghost use Rattle.flush_plan.specs.Plans.{lifted_bytes};
-ghost use Rattle.flush_plan.specs.Phases.{IsLifted, IsLifting, lifted_in, moved_by, phase_of};
+ghost use Rattle.flush_plan.specs.Phases.{bytes_below, IsLifted, IsLifting, IsPacking, lifted_in, moved_by, PaysFor, phase_of};
 ghost use Rattle.flush_plan.specs.Steps.{IsLiftStep};
 ghost use Rattle.flush_plan.specs.Begins.{Begins, pending_size, with_pending};
 ghost use Rattle.flush_plan.specs.LiftedSoFar.{IsLiftedUp, KeepsLifting, StopsAt};
@@ -111,7 +111,9 @@ impl<const C: usize> Lifting<C> {
     /// Goes on with Pack.
     pub fn into_packing(self) -> Packing<C>
         requires end { IsLifted self }
-        ensures { result ≡ self.entry }
+        ensures same { result ≡ self.entry }
+        ensures packing { IsPacking result }
+        ensures pays { PaysFor result (bytes_below result) }
     {
         let Lifting {
             suffix,

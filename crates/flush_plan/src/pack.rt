@@ -4,7 +4,7 @@ ghost use Rattle.size_class.specs.Classes.{width};
 ghost use Rattle.segment_layout.specs.Shapes.{start_of};
 ghost use Rattle.segment_layout.specs.Layouts.{divisor_of, caps_of};
 ghost use Rattle.flush_plan.specs.Plans.{AreBelow, AreSmall, ItemsCanResume, laid_length};
-ghost use Rattle.flush_plan.specs.Phases.{AreObjects, IsPackedWhole, IsPacking, moved_by, phase_of};
+ghost use Rattle.flush_plan.specs.Phases.{AreObjects, bytes_below, IsLaying, IsPackedWhole, IsPacking, largest_item, moved_by, phase_of};
 ghost use Rattle.flush_plan.specs.Steps.{IsPackStep};
 ghost use Rattle.flush_plan.specs.PackedSoFar.{KeepsPacking, StopsAt};
 ghost use Rattle.flush_plan.specs.Suffixes.{value_of};
@@ -113,6 +113,9 @@ impl<const C: usize> Packing<C> {
         ensures items { IsPermutation self.entry.items result.items }
         ensures same { result ≡ phase_of self.entry.k self.entry.caps self.entry.numbers self.entry.pending
             result.items self.entry.room }
+        ensures laying { IsLaying result }
+        ensures largest { largest_item result ≡ largest_item self.entry }
+        ensures below { bytes_below result ≡ bytes_below self.entry }
     {
         let Packing {
             suffix,

@@ -1,13 +1,16 @@
-use Rattle.std.proofs.Common.{arith, rules, sym, subst, ◌+◌, ◌*◌, ◌^◌}
+use Rattle.std.proofs.Common.{arith, rules, sym, subst, ◌+◌, ◌*◌, ◌^◌, ap, ◌∙◌}
 use Rattle.std.specs.List.Sorted.{IsNonDecreasingBy}
 use Rattle.std.proofs.lemmas.List.Sorted.{IsNonDecreasingBy-from_sort_by_key}
 use Rattle.size_class.specs.Rows.{cells_of}
 use Rattle.size_class.proofs.RowLaws.{row_shape}
 use Rattle.flush_plan.specs.declared.item.Item.{Item}
-use Rattle.flush_plan.specs.Phases.{IsPackedWhole, phase_of}
+use Rattle.flush_plan.specs.Phases.{IsPackedWhole, phase_of, bytes_below, largest_item}
 use Rattle.flush_plan.specs.LaidSoFar.{KeepsLaying}
 use Rattle.flush_plan.specs.Suffixes.{value_of}
 use Rattle.flush_plan.proofs.StartLaws.{lay_starts, places_fit, sorted_below, sorted_totals}
+use Rattle.flush_plan.specs.Plans.{is_below_wall}
+use Rattle.flush_plan.proofs.LargestLaws.{largest-permuted}
+use Rattle.flush_plan.proofs.SortLaws.{total_permuted}
 use Rattle.flush_plan.proofs.pack.Packing.into_laying.Goals as goal
 
 pub volumes_of-volumes-requires : goal.volumes_of-volumes-requires
@@ -66,3 +69,18 @@ invariant_of-result g c =
     (sym c.sort_unstable_by_key.ensures.capacity)
     (lay_starts g.row.C p c.self.inside.left c.self.inside.top keeps whole sorted perm (cells_of volumes)
     (row_shape volumes) c.volumes_of-volumes.ensures order places c.places_of.ensures.places)
+
+pub returns-clause-laying : goal.returns-clause-laying
+unfolding invariant_of-result
+returns-clause-laying g c = (invariant_of-result g c).laying
+
+pub returns-clause-largest : goal.returns-clause-largest
+returns-clause-largest g c =
+    largest-permuted 0 (value_of c.self.inside.suffix).items c.sort_unstable_by_key.new.self.items
+    c.sort_unstable_by_key.ensures.permutation ∙ ap largest_item c.self.view_is
+
+pub returns-clause-below : goal.returns-clause-below
+returns-clause-below g c =
+    let p = value_of c.self.inside.suffix in
+    total_permuted p.items c.sort_unstable_by_key.new.self.items c.sort_unstable_by_key.ensures.permutation
+    (is_below_wall p.numbers) ∙ ap bytes_below c.self.view_is
