@@ -1,0 +1,10 @@
+pub mod Aside
+pub mod Calls
+pub mod Flights
+pub mod Hands
+pub mod Lays
+pub mod Lifts
+pub mod Moves
+pub mod Packs
+pub mod Saves
+pub mod Settling

@@ -1,0 +1,8 @@
+//! A flush on the disk: its moves and saves in a fixed order, so that every image opens.
+#![tactic(auto)]
+
+mod hands;
+mod save;
+mod step;
+
+pub use hands::Hands;

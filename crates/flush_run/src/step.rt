@@ -1,0 +1,142 @@
+//! One step of a flush: the target of a move is freed of what the checkpoint holds, and the object is
+//! moved there.
+ghost use Rattle.std.specs.Prelude.{◌≡◌, ◌⊎◌, ◌+◌, ◌-◌, ◌<◌, ◌≤◌, ◌^◌, ℕ, List, length, vec_len, min, slice_index, slice_set, OnOk, IfOk, IsTrue, IsFalse, Ok, Some};
+ghost use Rattle.std.specs.FinMap as fin;
+ghost use Rattle.disk_face.specs.Counts.{HasCause, counted};
+ghost use Rattle.disk_face.specs.Writes.{KeepsDisk};
+ghost use Rattle.slot_codec.specs.Choice.{InUse, slot_in_use};
+ghost use Rattle.slot_codec.specs.Reading.{all_in_range};
+ghost use Rattle.slot_codec.specs.Spelling.{head_len};
+ghost use Rattle.slot_pair.specs.Saves.{save_calls};
+ghost use Rattle.size_class.specs.Classes.{class_of};
+ghost use Rattle.size_class.specs.Rows.{cells_of};
+ghost use Rattle.extent_table.specs.Extents.{IsTable, records_of};
+ghost use Rattle.data_area.specs.Pieces.{pieces};
+ghost use Rattle.spot_terms.specs.Held.{IsFreed, is_at};
+ghost use Rattle.flush_plan.specs.declared.item.Move.{Move as AnyMove};
+ghost use Rattle.flush_run.specs.Flights.{Flies, Flight, InFlight, IsFreeSpace, LeavesOldOrNew};
+ghost use Rattle.flush_run.specs.Saves.{IsSaveable};
+ghost use Rattle.flush_run.specs.Moves.{CanMove, FreesTarget, HasMoved, HasMover};
+
+use crate::Hands;
+use crate::save::save_held;
+use data_area::move_object;
+use disk_face::{Disk, DiskFault};
+use extent_table::Table;
+use flush_plan::Move;
+use slot_codec::Header;
+use span_math::Span;
+
+/// Frees the target of a move: where the guard holds a byte of it, what stands now is saved, and the
+/// guard is emptied. Answers whether it saved.
+pub(crate) fn free_target<D: Disk, const C: usize>(
+    disk: &mut D,
+    header: &Header,
+    target: Span,
+    hands: &mut Hands<C>,
+) -> Result<bool, DiskFault>
+    requires ready { IsTrue (D.state disk.old).is_ready }
+    requires room { 40960 ≤ vec_len hands.old.buf }
+    requires fresh { hands.old.slots.sequence < 2 ^ 62 - 1 }
+    requires ranges { IsTrue (all_in_range header.now) }
+    requires table { IsTable hands.old.table }
+    requires names { hands.old.table.names ≤ hands.old.slots.block.names }
+    requires long { IsTrue (D.state disk.old).tells
+        → head_len hands.old.slots.block.names ≤ length (D.state disk.old).file }
+    requires in_use { IsTrue (D.state disk.old).tells
+        → slot_in_use (D.state disk.old).file ≡ Ok hands.old.slots }
+    ensures answer { IfOk result (λ saved. FreesTarget saved target hands.old.slots hands.new.slots
+        hands.old.table hands.new.table hands.old.guard.spans hands.new.guard.spans) }
+    ensures flies { (f : Flight) → IsTrue (D.state disk.old).tells
+        → IsSaveable f hands.old.slots hands.old.table.now header.now
+        → Flies f hands.old.slots hands.old.table (D.state disk.old)
+        → OnOk result (Flies f hands.new.slots hands.new.table (D.state disk.new)) }
+    ensures left { (f : Flight) → IsTrue (D.state disk.old).tells
+        → IsSaveable f hands.old.slots hands.old.table.now header.now
+        → Flies f hands.old.slots hands.old.table (D.state disk.old)
+        → LeavesOldOrNew f (D.state disk.old) (D.state disk.new) }
+    ensures most { (D.state disk.new).turn
+        ≤ (D.state disk.old).turn + save_calls (length (records_of hands.old.table.now)) }
+    ensures none { IfOk result (λ saved. IsFalse saved → (D.state disk.new).turn ≡ (D.state disk.old).turn) }
+    ensures frame { KeepsDisk (D.state disk.old) (D.state disk.new) }
+    ensures cause { HasCause (D.state disk.old).faults (D.state disk.new).faults result }
+    ensures layout { hands.new.layout ≡ hands.old.layout }
+    ensures ledger { hands.new.ledger ≡ hands.old.ledger }
+    ensures base { hands.new.base ≡ hands.old.base }
+    ensures buffer { vec_len hands.new.buf ≡ vec_len hands.old.buf }
+    ensures guard_room { hands.new.guard.room ≡ hands.old.guard.room }
+{
+    if !hands.guard.touches(target) {
+        return Ok(false);
+    }
+    save_held(disk, header, hands)?;
+    Ok(true)
+}
+
+/// Moves one object to a free target: its bytes are copied, the table has it at its new place, and
+/// the guard has its old one, if the checkpoint holds it.
+pub(crate) fn move_one<D: Disk, const C: usize>(
+    disk: &mut D,
+    mv: &Move,
+    hands: &mut Hands<C>,
+) -> Result<(), DiskFault>
+    requires ready { IsTrue (D.state disk.old).is_ready }
+    requires some { vec_len hands.old.buf ≡ 65536 }
+    requires fits { C ≤ 32 }
+    requires low { 1 ≤ mv.now.size }
+    requires class { class_of mv.now.size < C }
+    requires small { hands.old.base < 2 ^ 62 }
+    requires can { CanMove mv.now hands.old.table hands.old.guard.spans }
+    requires from_within { IsTrue (D.state disk.old).tells
+        → hands.old.base + mv.now.from + mv.now.size ≤ length (D.state disk.old).file }
+    requires to_within { IsTrue (D.state disk.old).tells
+        → hands.old.base + mv.now.to + mv.now.size ≤ length (D.state disk.old).file }
+    requires room { hands.old.table.names ≤ hands.old.guard.room }
+    ensures moved { OnOk result (HasMoved mv.now hands.old.table hands.new.table hands.old.guard.spans
+        hands.new.guard.spans) }
+    ensures flies { (f : Flight) (u : InUse) → IsTrue (D.state disk.old).tells → f.base ≡ hands.old.base
+        → IsFreeSpace hands.old.table.now hands.old.table.kept mv.now.to mv.now.size
+        → mv.now.to + mv.now.size ≤ f.reach → Flies f u hands.old.table (D.state disk.old)
+        → OnOk result (Flies f u hands.new.table (D.state disk.new)) }
+    ensures left { (f : Flight) (u : InUse) → IsTrue (D.state disk.old).tells → f.base ≡ hands.old.base
+        → IsFreeSpace hands.old.table.now hands.old.table.kept mv.now.to mv.now.size
+        → Flies f u hands.old.table (D.state disk.old)
+        → LeavesOldOrNew f (D.state disk.old) (D.state disk.new) }
+    ensures most { (D.state disk.new).turn ≤ (D.state disk.old).turn + pieces 65536 mv.now.size }
+    ensures ledger { OnOk result (cells_of hands.new.ledger.moved ≡ slice_set (cells_of hands.old.ledger.moved)
+        (class_of mv.now.size) (min (slice_index (cells_of hands.old.ledger.moved) (class_of mv.now.size)
+        + mv.now.size) (2 ^ 64 - 1))) }
+    ensures asked { cells_of hands.new.ledger.asked ≡ cells_of hands.old.ledger.asked }
+    ensures frame { KeepsDisk (D.state disk.old) (D.state disk.new) }
+    ensures cause { HasCause (D.state disk.old).faults (D.state disk.new).faults result }
+    ensures names { hands.new.table.names ≡ hands.old.table.names }
+    ensures slots { hands.new.slots ≡ hands.old.slots }
+    ensures layout { hands.new.layout ≡ hands.old.layout }
+    ensures base { hands.new.base ≡ hands.old.base }
+    ensures buffer { vec_len hands.new.buf ≡ vec_len hands.old.buf }
+    ensures guard_room { hands.new.guard.room ≡ hands.old.guard.room }
+{
+    let from = Span {
+        place: mv.from,
+        size: mv.size,
+    };
+    move_object(disk, hands.base, from, mv.to, &mut hands.buf, &mut hands.ledger)?;
+    let stood = stands_kept(&hands.table, mv);
+    hands.table.relocate(mv.key, mv.to);
+    if stood {
+        hands.guard.freed(from);
+    }
+    Ok(())
+}
+
+/// Whether the checkpoint holds the object of a move where it stands now.
+fn stands_kept(table: &Table, mv: &Move) -> bool
+    requires { HasMover table.now mv.now }
+    ensures { (name : List ℕ) → fin.get table.now.keys name ≡ Some mv.now.key
+        → result ≡ is_at (fin.get table.now.kept name) (record { place = mv.now.from; size = mv.now.size }) }
+{
+    match table.kept_spot(mv.key) {
+        Some(kept) => kept.place == mv.from && kept.size == mv.size,
+        None => false,
+    }
+}
