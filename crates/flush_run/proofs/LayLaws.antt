@@ -1,5 +1,5 @@
 -- Laying, move by move: what holds between two moves, and what one step leaves of it.
-use Rattle.std.specs.Prelude.{◌≡◌, ℕ, ◌+◌, ◌-◌, ◌^◌, ◌<◌, ◌≤◌, Bool, true, false, List, refl}
+use Rattle.std.specs.Prelude.{◌≡◌, ℕ, ◌+◌, ◌-◌, ◌^◌, ◌<◌, ◌≤◌, Bool, IsTrue, true, false, List, refl}
 use Rattle.std.proofs.Common.{arith, sym, ◌∙◌, ap, subst}
 use Rattle.slot_codec.specs.Choice as choice
 use Rattle.slot_codec.specs.declared.codec.Header.{Header}
@@ -25,7 +25,7 @@ use Rattle.flush_run.proofs.MadeMoveLaws.{hands_freed, hands_stepped, target_fre
 use Rattle.flush_run.specs.Lays.{LayFacts, LayNow}
 
 -- what stands now may be saved
-pub lay_saveable : (f : Flight) (caps : List ℕ) (grid : List (List ℕ)) (pay start total : ℕ) (u : choice.InUse) (e : Extents) (spans : List Span) (p : Phase) (next front q : ℕ) (header : Header) → LayNow f caps grid pay start total u e spans p next front q → ItemsCanResume p.k p.numbers p.items → header ≡ phase_header p caps grid → u.sequence + 1 < 2 ^ 62 - 2 ^ 18 → IsSaveable f u e.now header
+pub lay_saveable : (f : Flight) (caps : List ℕ) (grid : List (List ℕ)) (pay start total : ℕ) (u : choice.InUse) (e : Extents) (spans : List Span) (p : Phase) (next front q : ℕ) (header : Header) → LayNow f caps grid pay start total u e spans p next front q → ItemsCanResume p.k p.numbers p.items → header ≡ phase_header p caps grid → (IsTrue f.is_fresh → u.sequence + 1 < 2 ^ 62 - 2 ^ 18) → IsSaveable f u e.now header
 lay_saveable f caps grid pay start total u e spans p next front q header now resumes is fresh =
     subst (IsSaveable f u e.now) (sym is) (record { fresh = fresh; valid = moving_is_valid f u e caps grid spans p now.hands resumes; book = now.book })
 

@@ -18,8 +18,8 @@ use Rattle.flush_plan.specs.declared.item.Move.{Move}
 use Rattle.flush_plan.specs.Plans.{IsSafe}
 use Rattle.flush_plan.specs.Phases.{Phase, moved_by}
 use Rattle.held_guard.specs.Freed.{Joins}
-use Rattle.flush_run.specs.Flights.{Flight, InFlight, IsFreeSpace, IsOldOrNew}
-use Rattle.flush_run.proofs.FlightLaws.{content_is_old_or_new, write_held}
+use Rattle.flush_run.specs.Flights.{Flies, Flight, InFlight, IsFreeSpace, LeavesOldOrNew}
+use Rattle.flush_run.proofs.FlightLaws.{write_held}
 use Rattle.flush_run.proofs.FreeLaws.{target_is_free}
 use Rattle.flush_run.proofs.GuardedLaws.{hands_moved_off, hands_moved_past, hands_saved, room_for_span, saved_is_free}
 use Rattle.flush_run.specs.Hands.{IsHandsFor}
@@ -96,22 +96,31 @@ guard_room e mv spans table freed has stood =
     room_for_span e spans has.name has.spot table freed m.is (at_is (fin.get e.kept has.name) has.spot at)
 
 -- a copy to free space, whether or not it fails
-pub copy_left : (f : Flight) (u : choice.InUse) (e : Extents) (mv : Move) (base : ℕ) {a b : State} → IsTrue a.tells → f.base ≡ base → IsTable e → IsFreeSpace e.now e.kept mv.to mv.size → WritesWithin (base + mv.to) mv.size a b → InFlight f u e.now e.kept a.file a.may_leave
-    → Leaves a b (IsOldOrNew f) × IsOldOrNew f b.file
+pub copy_left : (f : Flight) (u : choice.InUse) (e : Extents) (mv : Move) (base : ℕ) {a b : State} → IsTrue a.tells
+    → f.base ≡ base → IsTable e → IsFreeSpace e.now e.kept mv.to mv.size → WritesWithin (base + mv.to) mv.size a b
+    → Flies f u e a → LeavesOldOrNew f a b
 copy_left f u e mv base {a} {b} told same table free w was =
-    let r = write_held f u e.now e.kept mv.to mv.size told table.now_named table.kept_named free (subst (λ x. WritesWithin (x + mv.to) mv.size a b) (sym same) w) was in
-    (r.1, content_is_old_or_new f u e.now e.kept r.0.t r.0.m r.0.b b.file r.0.checkpoint r.0.content)
+    let written = subst (λ x. WritesWithin (x + mv.to) mv.size a b) (sym same) w in
+    (write_held f u e.now e.kept mv.to mv.size told table.now_named table.kept_named free written was).1
 
 -- and one that is done, once the table has the object at its target
-pub copy_flight : (f : Flight) (u : choice.InUse) (e e' : Extents) (mv : Move) (base : ℕ) {a b : State} → IsTrue a.tells → f.base ≡ base → IsTable e → HasMover e mv → IsFreeSpace e.now e.kept mv.to mv.size → mv.to + mv.size ≤ f.reach → WritesWithin (base + mv.to) mv.size a b
-    → b.file ≡ overwritten a.file (base + mv.to) (bytes_at a.file (base + mv.from) mv.size) → ((name : List ℕ) (s : Spot) → MovesName e 0 mv name s → e' ≡ moved_table e name s mv.to) → InFlight f u e.now e.kept a.file a.may_leave
-    → InFlight f u e'.now e'.kept b.file b.may_leave
+pub copy_flight : (f : Flight) (u : choice.InUse) (e e' : Extents) (mv : Move) (base : ℕ) {a b : State}
+    → IsTrue a.tells → f.base ≡ base → IsTable e → HasMover e mv → IsFreeSpace e.now e.kept mv.to mv.size
+    → mv.to + mv.size ≤ f.reach → WritesWithin (base + mv.to) mv.size a b
+    → b.file ≡ overwritten a.file (base + mv.to) (bytes_at a.file (base + mv.from) mv.size)
+    → ((name : List ℕ) (s : Spot) → MovesName e 0 mv name s → e' ≡ moved_table e name s mv.to)
+    → Flies f u e a → Flies f u e' b
 copy_flight f u e e' mv base {a} {b} told same table has free high w copied moved was =
     let m = has.mover in
     let s = has.spot in
     let free_s : IsFreeSpace e.now e.kept mv.to s.size = subst (λ n. IsFreeSpace e.now e.kept mv.to n) (sym m.size) free in
     let w_s : WritesWithin (f.base + mv.to) s.size a b =
-    subst (λ x. WritesWithin (x + mv.to) s.size a b) (sym same) (subst (λ n. WritesWithin (base + mv.to) n a b) (sym m.size) w) in
-    let bytes : b.file ≡ overwritten a.file (f.base + mv.to) (bytes_at a.file (f.base + s.place) s.size) = copied ∙ (λ i. overwritten a.file (sym same i + mv.to) (bytes_at a.file (sym same i + sym m.from i) (sym m.size i))) in
+    subst (λ x. WritesWithin (x + mv.to) s.size a b) (sym same)
+    (subst (λ n. WritesWithin (base + mv.to) n a b) (sym m.size) w)
+    in
+    let bytes : b.file ≡ overwritten a.file (f.base + mv.to) (bytes_at a.file (f.base + s.place) s.size) =
+    copied ∙ (λ i. overwritten a.file (sym same i + mv.to) (bytes_at a.file (sym same i + sym m.from i) (sym m.size i)))
+    in
     subst (λ (x : Extents). InFlight f u x.now x.kept b.file b.may_leave) (sym (moved has.name s m))
-    (move_held f u e.now e.kept has.name s mv.to told table.now_named table.kept_named m.is free_s (omega (arith, high, m.size)) w_s bytes was)
+    (move_held f u e.now e.kept has.name s mv.to told table.now_named table.kept_named m.is free_s
+        (omega (arith, high, m.size)) w_s bytes was)

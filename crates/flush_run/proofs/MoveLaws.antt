@@ -24,9 +24,9 @@ use Rattle.extent_table.specs.Extents.{Spots}
 use Rattle.spot_terms.specs.Reads.{AreNamed, object_at}
 use Rattle.spot_terms.proofs.ReadLaws.{object_stays, read_at-alike, read_at-moved}
 use Rattle.spot_terms.proofs.OpenedLaws.{opens_long, opens_resized}
-use Rattle.flush_run.specs.Flights.{Flight, ImageInFlight, InFlight, IsCheckpoint, IsFreeSpace, IsOldOrNew}
-use Rattle.flush_run.proofs.FlightLaws.{base_of_slot, image_is_old_or_new, write_held}
-use Rattle.flush_run.specs.Moves.{moved_spot, AtRest}
+use Rattle.flush_run.specs.Flights.{Flight, ImageInFlight, InFlight, IsAtHand, IsCheckpoint, IsFreeSpace, IsOldOrNew, OpensEither}
+use Rattle.flush_run.proofs.FlightLaws.{image_is_old_or_new, write_held}
+use Rattle.flush_run.specs.Moves.{moved_spot}
 
 -- the copy of an object has its bytes
 copied : (base : ℕ) (a b : List ℕ) (s : Spot) (to : ℕ) → base + s.place + s.size ≤ length a → base + to + s.size ≤ length a → b ≡ overwritten a (base + to) (bytes_at a (base + s.place) s.size) → object_at base b (moved_spot s to) ≡ object_at base a s
@@ -48,31 +48,30 @@ moved_within reach now name t within high q x is =
     ]
 
 -- an object was copied to free space, and its name told to stand there
-pub move_held : (f : Flight) (u : choice.InUse) (now kept : Spots) (name : List ℕ) (s : Spot) (to : ℕ) {a b : State} → IsTrue a.tells → AreNamed now → AreNamed kept → fin.get now name ≡ Some s → IsFreeSpace now kept to s.size → to + s.size ≤ f.reach
-    → WritesWithin (f.base + to) s.size a b
+pub move_held : (f : Flight) (u : choice.InUse) (now kept : Spots) (name : List ℕ) (s : Spot) (to : ℕ) {a b : State}
+    → IsTrue a.tells → AreNamed now → AreNamed kept → fin.get now name ≡ Some s → IsFreeSpace now kept to s.size
+    → to + s.size ≤ f.reach → WritesWithin (f.base + to) s.size a b
     → b.file ≡ overwritten a.file (f.base + to) (bytes_at a.file (f.base + s.place) s.size)
     → InFlight f u now kept a.file a.may_leave
     → InFlight f u (fin.insert now name (moved_spot s to)) kept b.file b.may_leave
 move_held f u now kept name s to {a} {b} told named kept_named is free high w moved i =
     let j = (write_held f u now kept to s.size told named kept_named free w i).0 in
-    let from_low : f.base + s.place + s.size ≤ length a.file = omega (arith, i.content.same_length, i.content.within name s is) in
+    let from_low : f.base + s.place + s.size ≤ length a.file =
+    omega (arith, i.content.same_length, i.content.within name s is)
+    in
     let same : object_at f.base b.file (moved_spot s to) ≡ object_at f.base b.file s =
     copied f.base a.file b.file s to from_low (omega (arith, i.content.same_length, high)) moved
     ∙ sym (object_stays f.base to s.size a.file b.file s (w.others told) from_low (free.live name s is))
     in
     record {
-      t = j.t;
-      m = j.m;
-      b = j.b;
-      checkpoint = j.checkpoint;
       content = record {
+        base = j.content.base;
         slot = j.content.slot;
-        opens = j.content.opens;
         same_length = j.content.same_length;
         within = moved_within f.reach now name (moved_spot s to) i.content.within high;
         live = read_at-moved f.base b.file now name s (moved_spot s to) named is same ∙ j.content.live;
       };
-      images = j.images;
+      opens = j.opens;
     }
 
 -- ---- the file grows before a flush
@@ -92,33 +91,63 @@ image_grown f t kept m b old_reach content after before image grows c same i ste
       longest = elim step.either as (λ x. length image ≤ f.base + f.reach) [ inl e ↦ omega (arith, e, long) | inr e ↦ omega (arith, e) ];
     }
 
--- setting the length to the reach: at Ok the flight begins, and whatever was left meanwhile is old or new
-pub grow_held : (f : Flight) (u : choice.InUse) (now kept : Spots) (old_reach : ℕ) {a b : State} → AreNamed now → AtRest f u now kept old_reach a.file a.may_leave → Follows (ResizedImage (f.base + f.reach)) a.may_leave b.may_leave → Elapses a b b.may_leave → b.file ≡ resized a.file (f.base + f.reach)
-    → InFlight f u now kept b.file b.may_leave × Leaves a b (IsOldOrNew f)
-grow_held f u now kept old_reach {a} {b} named rest follows time is =
-    let i = rest.flight in
-    let n = f.base + f.reach in
-    let c : IsCheckpoint f i.t kept i.m i.b = record { either = i.checkpoint.either; base = i.checkpoint.base; records = i.checkpoint.records } in
-    let old_len : length a.file ≡ f.base + old_reach = i.content.same_length in
-    let new_len : length b.file ≡ n = ap length is ∙ length-resized a.file n in
-    let same : SameBelow (f.base + old_reach) a.file b.file = λ j h. sym (ap (λ (xs : List ℕ). slice_index xs j) is ∙ resized-index a.file n j (omega (arith, h, rest.grows)) (omega (arith, h, old_len))) in
-    let step : ResizedImage n a.file b.file = record { either = inr new_len; bytes = λ j h low high. sym (same j (omega (arith, low, old_len))) } in
-    let base = base_of_slot (record f { reach = old_reach }) u now kept i.t i.m i.b a.file i.checkpoint i.content in
-    let after : (image : List ℕ) → b.may_leave image → ImageInFlight f i.t i.m i.b b.file image = λ image left. let was = follows image left in
-    image_grown f i.t kept i.m i.b old_reach a.file b.file was.0 image rest.grows i.checkpoint (λ j h. same j (omega (arith, h))) (i.images was.0 was.1) was.2 in (
-      record {
-        t = i.t;
-        m = i.m;
-        b = i.b;
-        checkpoint = c;
-        content = record {
-          slot = same_in_use a.file b.file u i.content.slot (omega (arith, base, new_len)) (λ j h. same j (omega (arith, h, base)));
-          opens = opens_resized f.classes f.size_max i.t a.file b.file i.m i.b n i.content.opens step (omega (arith, c.base)) (room_more f.classes f.size_max i.t a.file i.m i.b n i.content.opens (omega (arith, old_len, rest.grows)));
-          same_length = new_len;
-          within = λ name s there. omega (arith, i.content.within name s there, rest.grows);
-          live = read_at-alike f.base a.file b.file now named (λ name s there. sym (bytes_at-same a.file b.file (f.base + s.place) s.size (omega (arith, old_len, i.content.within name s there)) (omega (arith, new_len, i.content.within name s there, rest.grows)) (λ j l h. same j (omega (arith, h, i.content.within name s there))))) ∙ i.content.live;
-        };
-        images = after;
-      },
-      Leaves-call (IsOldOrNew f) time (λ image left. image_is_old_or_new f i.t kept i.m i.b b.file image c (after image left)),
-    )
+-- what lies below the old length stays
+grown_below : (n m : ℕ) (a b : List ℕ) → length a ≡ m → m ≤ n → b ≡ resized a n → SameBelow m a b
+grown_below n m a b len grows is j h = sym (ap (λ (xs : List ℕ). slice_index xs j) is ∙ resized-index a n j (omega (arith, h, grows)) (omega (arith, h, len)))
+
+module _ (f : Flight) (old_reach : ℕ) (grows : old_reach ≤ f.reach) (a b : State)
+    (long : length a.file ≡ f.base + old_reach) (is : b.file ≡ resized a.file (f.base + f.reach))
+    where
+  new_len : length b.file ≡ f.base + f.reach
+  new_len = ap length is ∙ length-resized a.file (f.base + f.reach)
+
+  same : SameBelow (f.base + old_reach) a.file b.file
+  same = grown_below (f.base + f.reach) (f.base + old_reach) a.file b.file long (omega (arith, grows)) is
+
+  -- the content, once the file has the length of the reach
+  pub content_grown : (u : choice.InUse) (now : Spots) → AreNamed now
+      → IsAtHand (record f { reach = old_reach }) u now a.file → IsAtHand f u now b.file
+  content_grown u now named i = record {
+    base = i.base;
+    slot = same_in_use a.file b.file u i.slot (omega (arith, i.base, new_len)) (λ j h. same j (omega (arith, h, i.base)));
+    same_length = new_len;
+    within = λ name s there. omega (arith, i.within name s there, grows);
+    live = read_at-alike f.base a.file b.file now named
+        (λ name s there. sym (bytes_at-same a.file b.file (f.base + s.place) s.size
+            (omega (arith, long, i.within name s there)) (omega (arith, new_len, i.within name s there, grows))
+            (λ j l h. same j (omega (arith, h, i.within name s there)))))
+        ∙ i.live;
+  }
+
+  module _ (kept : Spots) (follows : Follows (ResizedImage (f.base + f.reach)) a.may_leave b.may_leave)
+      (o : OpensEither (record f { reach = old_reach }) kept a.file a.may_leave)
+      where
+    image_after : IsTrue f.is_at_rest → (image : List ℕ) → b.may_leave image → ImageInFlight f o.t o.m o.b b.file image
+    image_after rests image left =
+        let was = follows image left in
+        image_grown f o.t kept o.m o.b old_reach a.file b.file was.0 image grows o.checkpoint
+            (λ j h. same j (omega (arith, h))) (o.images rests was.0 was.1) was.2
+
+    checkpoint_grown : IsCheckpoint f o.t kept o.m o.b
+    checkpoint_grown = record { either = o.checkpoint.either; base = o.checkpoint.base; records = o.checkpoint.records }
+
+    -- what opens then
+    pub opens_grown : OpensEither f kept b.file b.may_leave
+    opens_grown =
+        let step : ResizedImage (f.base + f.reach) a.file b.file = record { either = inr new_len; bytes = λ j h low high. sym (same j (omega (arith, low, long))) } in
+        record {
+          t = o.t;
+          m = o.m;
+          b = o.b;
+          checkpoint = checkpoint_grown;
+          opens = opens_resized f.classes f.size_max o.t a.file b.file o.m o.b (f.base + f.reach) o.opens step
+              (omega (arith, o.checkpoint.base))
+              (room_more f.classes f.size_max o.t a.file o.m o.b (f.base + f.reach) o.opens (omega (arith, long, grows)));
+          images = image_after;
+        }
+
+    -- and what was left meanwhile
+    pub left_grown : Elapses a b b.may_leave → IsTrue f.is_at_rest → Leaves a b (IsOldOrNew f)
+    left_grown time rests =
+        Leaves-call (IsOldOrNew f) time
+            (λ image left. image_is_old_or_new f o.t kept o.m o.b b.file image checkpoint_grown (image_after rests image left))

@@ -1,5 +1,5 @@
 -- Packing, move by move: what holds between two moves, and what one step leaves of it.
-use Rattle.std.specs.Prelude.{◌≡◌, ℕ, ◌+◌, ◌-◌, ◌^◌, ◌<◌, ◌≤◌, Bool, true, false, List, Contains, refl}
+use Rattle.std.specs.Prelude.{◌≡◌, ℕ, ◌+◌, ◌-◌, ◌^◌, ◌<◌, ◌≤◌, Bool, IsTrue, true, false, List, Contains, refl}
 use Rattle.std.proofs.Common.{arith, sym, ◌∙◌, ap, subst}
 use Rattle.std.proofs.lemmas.List.Sorted.{Contains-permutation}
 use Rattle.slot_codec.specs.Choice as choice
@@ -29,7 +29,7 @@ pub found : (f : Flight) (u : choice.InUse) (e : Extents) (caps : List ℕ) (gri
 found f u e caps grid spans p mv h item = mover_of_item p.numbers.boundary e mv h.table.keys (Contains-permutation p.items (suffix_items p.numbers.boundary e) (mover mv) h.items item)
 
 -- what stands now may be saved
-pub pack_saveable : (f : Flight) (caps : List ℕ) (grid : List (List ℕ)) (pay total : ℕ) (u : choice.InUse) (e : Extents) (spans : List Span) (p : Phase) (top q : ℕ) (header : Header) → PackNow f caps grid pay total u e spans p top q → ItemsCanResume p.k p.numbers p.items → header ≡ phase_header p caps grid → u.sequence + 1 < 2 ^ 62 - 2 ^ 18 → IsSaveable f u e.now header
+pub pack_saveable : (f : Flight) (caps : List ℕ) (grid : List (List ℕ)) (pay total : ℕ) (u : choice.InUse) (e : Extents) (spans : List Span) (p : Phase) (top q : ℕ) (header : Header) → PackNow f caps grid pay total u e spans p top q → ItemsCanResume p.k p.numbers p.items → header ≡ phase_header p caps grid → (IsTrue f.is_fresh → u.sequence + 1 < 2 ^ 62 - 2 ^ 18) → IsSaveable f u e.now header
 pack_saveable f caps grid pay total u e spans p top q header now resumes is fresh =
     subst (IsSaveable f u e.now) (sym is) (record { fresh = fresh; valid = moving_is_valid f u e caps grid spans p now.hands resumes; book = now.book })
 

@@ -67,6 +67,6 @@ module _ (f : Flight) (u : choice.InUse) (e : Extents) (caps : List ℕ) (grid :
   -- The settled table may be saved at the reach of the flush, and the file cut to where its layout ends.
   pub end_is_saveable : end_of u.block.k (end_caps f u e caps grid p) ≤ f.reach → u.sequence + 1 < worn_from Settled → book_of (laid f.classes f.size_max u.block.k f.reach (moving_header b p.numbers.wall p.numbers.slack caps grid) e.now) ≡ f.new_book → IsSaveable f u e.now (end_header f u e caps grid p) × CanCut f u e.now (end_header f u e caps grid p) (end_of u.block.k (end_caps f u e caps grid p))
   end_is_saveable fits fresh book = (
-    record { fresh = fresh; valid = valid_longer (settled_at b t) f.reach (λ i low. omega (arith, end_valid.0.within i low, fits)) end_valid; book = end_book ∙ book },
+    record { fresh = λ here. fresh; valid = valid_longer (settled_at b t) f.reach (λ i low. omega (arith, end_valid.0.within i low, fits)) end_valid; book = end_book ∙ book },
     record { fits = fits; valid = end_valid },
   )

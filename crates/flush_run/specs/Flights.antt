@@ -1,5 +1,5 @@
 -- What holds between any two device calls of a flush.
-use Rattle.std.specs.Prelude.{◌≡◌, ◌⊎◌, ℕ, ◌+◌, ◌≤◌, List, length, Ok, Some}
+use Rattle.std.specs.Prelude.{◌≡◌, ◌⊎◌, ℕ, ◌+◌, ◌≤◌, Bool, IsTrue, List, length, Ok, Some}
 use Rattle.std.specs.FinMap as fin
 use Rattle.byte_ranges.specs.Ranges.{SameBelow}
 use Rattle.slot_codec.specs.Spelling.{head_len}
@@ -14,12 +14,15 @@ use Rattle.extent_table.specs.Extents.{Extents, Spots, records_of}
 use Rattle.spot_terms.specs.Reads.{LiesApart, read_at}
 
 -- What stays the same in a flush: the limits, where the data part begins, how far it reaches, and the map and the
--- book of before and of after.
+-- book of before and of after. Whether the sequence leaves room for all saves of the flush, so that what is saved
+-- on its way opens; and whether each image opened to the map and the book of before as the flush began.
 pub record Flight : Type 0 where
   pub classes : ℕ
   pub size_max : ℕ
   pub base : ℕ
   pub reach : ℕ
+  pub is_fresh : Bool
+  pub is_at_rest : Bool
   pub old_map : Map
   pub old_book : Book
   pub new_map : Map
@@ -43,10 +46,11 @@ pub record IsCheckpoint (f : Flight) (t : choice.Table) (kept : Spots) (m : Map)
   pub base : f.base ≡ head_len t.chosen.block.names
   pub records : t.records ≡ records_of kept
 
--- what the content has: the checkpoint, the reach, and each live object, which together are the map of after
-pub record FileInFlight (f : Flight) (in_use : choice.InUse) (now : Spots) (t : choice.Table) (m : Map) (b : Book) (file : List ℕ) : Type 0 where
+-- What the content has at any moment: the slot in use, the reach, and each live object, which together are the map
+-- of after.
+pub record IsAtHand (f : Flight) (in_use : choice.InUse) (now : Spots) (file : List ℕ) : Type 0 where
+  pub base : f.base ≡ head_len in_use.block.names
   pub slot : choice.slot_in_use file ≡ Ok in_use
-  pub opens : OpensBy f.classes f.size_max t file m b
   pub same_length : length file ≡ f.base + f.reach
   pub within : (name : List ℕ) (s : Spot) → fin.get now name ≡ Some s → s.place + s.size ≤ f.reach
   pub live : read_at f.base file now ≡ f.new_map
@@ -57,14 +61,20 @@ pub record ImageInFlight (f : Flight) (t : choice.Table) (m : Map) (b : Book) (f
   pub below : SameBelow f.base file image
   pub longest : length image ≤ f.base + f.reach
 
--- Between any two device calls of a flush, where its content is told.
-pub record InFlight (f : Flight) (in_use : choice.InUse) (now kept : Spots) (file : List ℕ) (may_leave : List ℕ → Type 0) : Type 0 where
+-- What opens: the content does by the checkpoint's table, and so does each image.
+pub record OpensEither (f : Flight) (kept : Spots) (file : List ℕ) (may_leave : List ℕ → Type 0) : Type 0 where
   pub t : choice.Table
   pub m : Map
   pub b : Book
   pub checkpoint : IsCheckpoint f t kept m b
-  pub content : FileInFlight f in_use now t m b file
-  pub images : (image : List ℕ) → may_leave image → ImageInFlight f t m b file image
+  pub opens : OpensBy f.classes f.size_max t file m b
+  pub images : IsTrue f.is_at_rest → (image : List ℕ) → may_leave image → ImageInFlight f t m b file image
+
+-- Between any two device calls of a flush, where its content is told.
+pub record InFlight (f : Flight) (in_use : choice.InUse) (now kept : Spots) (file : List ℕ)
+    (may_leave : List ℕ → Type 0) : Type 0 where
+  pub content : IsAtHand f in_use now file
+  pub opens : IsTrue f.is_fresh → OpensEither f kept file may_leave
 
 -- n bytes at a place hold nothing that is live, and nothing of the last checkpoint
 pub record IsFreeSpace (now kept : Spots) (place n : ℕ) : Type 0 where
@@ -75,7 +85,8 @@ pub record IsFreeSpace (now kept : Spots) (place n : ℕ) : Type 0 where
 abbrev pub Flies : Flight → choice.InUse → Extents → State → Type 0
 Flies f u e d = InFlight f u e.now e.kept d.file d.may_leave
 
--- since a moment a crash left only what opens to the map and the book of before, or of after, and so does the
--- content now
+-- Since a moment a crash left only what opens to the map and the book of before, or of after; and so does the
+-- content now.
 abbrev pub LeavesOldOrNew : Flight → State → State → Type 0
-LeavesOldOrNew f first now = Leaves first now (IsOldOrNew f) × IsOldOrNew f now.file
+LeavesOldOrNew f first now = IsTrue f.is_fresh → (IsTrue f.is_at_rest → Leaves first now (IsOldOrNew f))
+    × IsOldOrNew f now.file

@@ -1,11 +1,10 @@
--- A move of an object, a growing file and a sync within a flush.
+-- A move of an object within a flush: whom it takes, and what it leaves of the table and the guard.
 use Rattle.std.specs.Prelude.{◌≡◌, ℕ, ◌+◌, ◌-◌, ◌≤◌, Bool, List, length, Some, ◌<◌, false, ◌⊎◌, ◌==◌, true, Any, All, [], ◌∷◌, ◌^◌, ◌&&◌}
 use Rattle.std.proofs.Common.{◌∙◌}
 use Rattle.std.specs.FinMap as fin
 use Rattle.slot_codec.specs.Choice as choice
 use Rattle.extent_table.specs.declared.spot.Spot.{Spot}
 use Rattle.extent_table.specs.Extents.{Spots, Extents, IsTable}
-use Rattle.flush_run.specs.Flights.{Flight, InFlight}
 use Rattle.size_class.specs.Classes.{class_of}
 use Rattle.span_math.specs.declared.span.Span.{Span}
 use Rattle.held_guard.specs.Freed.{Joins}
@@ -18,11 +17,6 @@ use Rattle.span_math.specs.Spans.{IsApart, SharesByte}
 -- where an object stands after it was moved
 abbrev pub moved_spot : Spot → ℕ → Spot
 moved_spot s to = record s { place = to }
-
--- what holds before the flush: as in flight, but for the length and the live objects
-pub record AtRest (f : Flight) (in_use : choice.InUse) (now kept : Spots) (old_reach : ℕ) (file : List ℕ) (may_leave : List ℕ → Type 0) : Type 0 where
-  pub flight : InFlight (record f { reach = old_reach }) in_use now kept file may_leave
-  pub grows : old_reach ≤ f.reach
 
 -- the mover of a move: the name that has its key, where it stands
 pub record MovesName (e : Extents) (b : ℕ) (mv : Move) (name : List ℕ) (s : Spot) : Type 0 where

@@ -1,5 +1,5 @@
 -- A save within a flush: what it leaves opens to the old pair or to the new one.
-use Rattle.std.specs.Prelude.{◌≡◌, ℕ, ◌+◌, ◌-◌, ◌<◌, ◌≤◌, List, length, Ok}
+use Rattle.std.specs.Prelude.{◌≡◌, ℕ, ◌+◌, ◌-◌, ◌<◌, ◌≤◌, List, length, Ok, IsTrue}
 use Rattle.std.proofs.Common.{◌∙◌}
 use Rattle.std.specs.FinMap as fin
 use Rattle.disk_face.specs.Moments.{Only}
@@ -19,9 +19,9 @@ use Rattle.flush_run.specs.Flights.{Flight}
 abbrev pub saved_table : choice.InUse → Header → Spots → choice.Table
 saved_table u h now = record { chosen = next_chosen u h (length (records_of now)); records = records_of now }
 
--- What a header that is saved in flight has to be: not worn, and valid for what stands now, with the book of after.
+-- What a header that is saved in flight has to be: not worn where the flight is fresh, and valid for what stands now, with the book of after.
 pub record IsSaveable (f : Flight) (u : choice.InUse) (now : Spots) (h : Header) : Type 0 where
-  pub fresh : u.sequence + 1 < worn_from h.kind
+  pub fresh : IsTrue f.is_fresh → u.sequence + 1 < worn_from h.kind
   pub valid : IsValid (laid f.classes f.size_max u.block.k f.reach h now)
   pub book : book_of (laid f.classes f.size_max u.block.k f.reach h now) ≡ f.new_book
 

@@ -4,7 +4,7 @@ ghost use Rattle.disk_face.specs.Counts.{HasCause, counted};
 ghost use Rattle.disk_face.specs.Frames.{Calls};
 ghost use Rattle.disk_face.specs.Writes.{KeepsDisk};
 ghost use Rattle.slot_codec.specs.Choice.{slot_in_use};
-ghost use Rattle.slot_codec.specs.Reading.{all_in_range};
+ghost use Rattle.slot_codec.specs.Reading.{all_in_range, worn_from};
 ghost use Rattle.slot_codec.specs.Spelling.{head_len};
 ghost use Rattle.slot_pair.specs.Saves.{next_in_use, save_calls};
 ghost use Rattle.extent_table.specs.Extents.{IsTable, records_of};
@@ -37,6 +37,7 @@ pub(crate) fn save_held<D: Disk, const C: usize>(
         → Flies f hands.old.slots hands.old.table (D.state disk.old)
         → OnOk result (Flies f hands.new.slots hands.new.table (D.state disk.new)) }
     ensures opened { (f : Flight) → IsTrue (D.state disk.old).tells
+        → hands.old.slots.sequence + 1 < worn_from header.now.kind
         → IsSaveable f hands.old.slots hands.old.table.now header.now
         → Flies f hands.old.slots hands.old.table (D.state disk.old)
         → OnOk result (SavedOpen f hands.old.slots hands.old.table.now header.now

@@ -13,10 +13,10 @@ pub save-requires-clause-count : goal.save-requires-clause-count
 save-requires-clause-count g c = omega (arith, records_of-few c.args.hands.now.table.now, c.requires.table.now_room, c.requires.names)
 
 pub returns-in_err-save-clause-left : goal.returns-in_err-save-clause-left
-returns-in_err-save-clause-left g c f told s was = save_held f _ _ _ _ s (c.save.ensures.left told) was
+returns-in_err-save-clause-left g c f told s was fresh = save_held f _ _ _ _ s (c.save.ensures.left told) was fresh
 
 pub returns-clause-left : goal.returns-clause-left
-returns-clause-left g c f told s was = save_held f _ _ _ _ s (c.save.ensures.left told) was
+returns-clause-left g c f told s was fresh = save_held f _ _ _ _ s (c.save.ensures.left told) was fresh
 
 pub returns-clause-flies : goal.returns-clause-flies
 returns-clause-flies g c f told s was =
@@ -24,7 +24,7 @@ returns-clause-flies g c f told s was =
     let u = c.args.hands.now.slots in
     let now = c.args.hands.now.table.now in
     let saved =
-        save_held-done f _ _ _ _ s (c.save.ensures.left told) (c.in_ok-save.ensures.saved told s.fresh)
+        save_held-done f _ _ _ _ s (c.save.ensures.left told) (c.in_ok-save.ensures.saved told)
             (c.in_ok-save.ensures.in_use told) (c.in_ok-save.ensures.rests told) was
         in
     subst (λ v. InFlight f v c.keep.new.self.now c.keep.new.self.kept d.file d.may_leave) (sym c.in_ok-save.ensures.pair)
@@ -32,6 +32,6 @@ returns-clause-flies g c f told s was =
     (subst (λ n. InFlight f (next_in_use u) n now d.file d.may_leave) (sym c.keep.ensures.now) saved))
 
 pub returns-clause-opened : goal.returns-clause-opened
-returns-clause-opened g c f told s was =
-    save_held-opened f _ _ _ _ s (c.save.ensures.left told) (c.in_ok-save.ensures.saved told s.fresh)
+returns-clause-opened g c f told fresh s was =
+    save_held-opened f _ _ _ _ s (c.save.ensures.left told) (c.in_ok-save.ensures.saved told fresh)
         (c.in_ok-save.ensures.in_use told) (c.in_ok-save.ensures.rests told) was
