@@ -45,5 +45,5 @@ calls_of old new = sum_below width (λ c. class_calls c (row_rise old new c))
 -- The calls so far: at most so many further ones, those of the bytes that were moved, and those of the saves, where no number of
 -- the ledger stands at its last value.
 pub record CallsSoFar (first now : ℕ) (old new : List ℕ) (more saves count : ℕ) : Type 0 where
-  pub later : (c : ℕ) → slice_index old c ≤ slice_index new c
+  pub later : IsOpenRow new → (c : ℕ) → slice_index old c ≤ slice_index new c
   pub most : IsOpenRow new → now ≤ first + more + move_calls (risen old new) + saves * save_calls count

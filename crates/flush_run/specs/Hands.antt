@@ -9,7 +9,7 @@ use Rattle.span_math.specs.declared.span.Span.{Span}
 use Rattle.segment_layout.specs.Shapes.{end_of, start_of}
 use Rattle.table_rules.specs.Rules.{KeepsPlaces}
 use Rattle.extent_table.specs.declared.spot.Spot.{Spot}
-use Rattle.extent_table.specs.Extents.{Extents, IsTable, Keys}
+use Rattle.extent_table.specs.Extents.{Extents, IsTable, Keys, Spots}
 use Rattle.spot_terms.specs.Held.{IsFreed}
 use Rattle.spot_terms.specs.Laid.{laid, moving_header}
 use Rattle.flush_plan.specs.declared.item.Item.{Item}
@@ -52,7 +52,6 @@ pub record IsHandsFor (f : Flight) (u : choice.InUse) (e : Extents) (caps : List
   pub kept_empty : (name : List ℕ) (s : Spot) → fin.get e.kept name ≡ Some s → s.size ≡ 0 → s.place ≡ 0
   pub kept_apart : (a b : List ℕ) (s t : Spot) → fin.get e.kept a ≡ Some s → fin.get e.kept b ≡ Some t → (a ≡ b) ⊎ (s.size ≡ 0) ⊎ (t.size ≡ 0) ⊎ (s.place + s.size ≤ t.place) ⊎ (t.place + t.size ≤ s.place)
 
--- at the start of a flush the kept objects end at or before the old layout's end
-pub record IsHandsAtStart (f : Flight) (u : choice.InUse) (e : Extents) (caps : List ℕ) (grid : List (List ℕ)) (spans : List Span) (p : Phase) : Type 0 where
-  pub hands : IsHandsFor f u e caps grid spans p
-  pub low : (name : List ℕ) (s : Spot) → fin.get e.kept name ≡ Some s → s.place + s.size ≤ end_of u.block.k caps
+-- each object ends at or before a place
+abbrev pub AllEndBy : Spots → ℕ → Type 0
+AllEndBy spots end = (name : List ℕ) (s : Spot) → fin.get spots name ≡ Some s → s.place + s.size ≤ end

@@ -2,9 +2,8 @@ pub mod Aside
 pub mod Calls
 pub mod Flights
 pub mod Hands
-pub mod Lays
-pub mod Lifts
+pub mod Loops
 pub mod Moves
-pub mod Packs
+pub mod Parts
 pub mod Saves
 pub mod Settling

@@ -1,8 +1,7 @@
 //! One save within a flush.
-ghost use Rattle.std.specs.Prelude.{◌≡◌, ◌+◌, ◌-◌, ◌<◌, ◌≤◌, ◌^◌, [], length, vec_len, OnOk, IsTrue, Ok};
+ghost use Rattle.std.specs.Prelude.{◌≡◌, ◌+◌, ◌-◌, ◌<◌, ◌≤◌, ◌^◌, [], length, vec_len, OnErr, OnOk, IsTrue, Ok};
 ghost use Rattle.disk_face.specs.Counts.{HasCause, counted};
 ghost use Rattle.disk_face.specs.Frames.{Calls};
-ghost use Rattle.disk_face.specs.Writes.{KeepsDisk};
 ghost use Rattle.slot_codec.specs.Choice.{slot_in_use};
 ghost use Rattle.slot_codec.specs.Reading.{all_in_range, worn_from};
 ghost use Rattle.slot_codec.specs.Spelling.{head_len};
@@ -10,6 +9,7 @@ ghost use Rattle.slot_pair.specs.Saves.{next_in_use, save_calls};
 ghost use Rattle.extent_table.specs.Extents.{IsTable, records_of};
 ghost use Rattle.flush_run.specs.Flights.{Flies, Flight, LeavesOldOrNew};
 ghost use Rattle.flush_run.specs.Saves.{IsSaveable, SavedOpen};
+ghost use Rattle.flush_run.specs.Parts.{KeepsOn, parts_of};
 
 use crate::Hands;
 use disk_face::{Disk, DiskFault};
@@ -51,12 +51,9 @@ pub(crate) fn save_held<D: Disk, const C: usize>(
     ensures guard { OnOk result (hands.new.guard.spans ≡ []) }
     ensures calls { Calls (save_calls (length (records_of hands.old.table.now))) (D.state disk.old)
         (D.state disk.new) result }
-    ensures frame { KeepsDisk (D.state disk.old) (D.state disk.new) }
-    ensures layout { hands.new.layout ≡ hands.old.layout }
+    ensures same_pair { OnErr result (hands.new.slots ≡ hands.old.slots) }
+    ensures keeps { KeepsOn (D.state disk.old) (D.state disk.new) (parts_of hands.old) (parts_of hands.new) }
     ensures ledger { hands.new.ledger ≡ hands.old.ledger }
-    ensures base { hands.new.base ≡ hands.old.base }
-    ensures buffer { vec_len hands.new.buf ≡ vec_len hands.old.buf }
-    ensures guard_room { hands.new.guard.room ≡ hands.old.guard.room }
 {
     hands.slots.save(disk, header, &hands.table, &mut hands.buf)?;
     hands.table.keep();

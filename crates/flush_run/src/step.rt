@@ -1,9 +1,8 @@
 //! One step of a flush: the target of a move is freed of what the checkpoint holds, and the object is
 //! moved there.
-ghost use Rattle.std.specs.Prelude.{◌≡◌, ◌⊎◌, ◌+◌, ◌-◌, ◌<◌, ◌≤◌, ◌^◌, ℕ, List, length, vec_len, min, slice_index, slice_set, OnOk, IfOk, IsTrue, IsFalse, Ok, Some};
+ghost use Rattle.std.specs.Prelude.{◌≡◌, ◌⊎◌, ◌+◌, ◌-◌, ◌<◌, ◌≤◌, ◌^◌, ℕ, List, length, vec_len, min, slice_index, slice_set, OnOk, OnErr, IfOk, IsTrue, IsFalse, Ok, Some};
 ghost use Rattle.std.specs.FinMap as fin;
 ghost use Rattle.disk_face.specs.Counts.{HasCause, counted};
-ghost use Rattle.disk_face.specs.Writes.{KeepsDisk};
 ghost use Rattle.slot_codec.specs.Choice.{InUse, slot_in_use};
 ghost use Rattle.slot_codec.specs.Reading.{all_in_range};
 ghost use Rattle.slot_codec.specs.Spelling.{head_len};
@@ -17,6 +16,7 @@ ghost use Rattle.flush_plan.specs.declared.item.Move.{Move as AnyMove};
 ghost use Rattle.flush_run.specs.Flights.{Flies, Flight, InFlight, IsFreeSpace, LeavesOldOrNew};
 ghost use Rattle.flush_run.specs.Saves.{IsSaveable};
 ghost use Rattle.flush_run.specs.Moves.{CanMove, FreesTarget, HasMoved, HasMover};
+ghost use Rattle.flush_run.specs.Parts.{KeepsOn, parts_of};
 
 use crate::Hands;
 use crate::save::save_held;
@@ -58,13 +58,11 @@ pub(crate) fn free_target<D: Disk, const C: usize>(
     ensures most { (D.state disk.new).turn
         ≤ (D.state disk.old).turn + save_calls (length (records_of hands.old.table.now)) }
     ensures none { IfOk result (λ saved. IsFalse saved → (D.state disk.new).turn ≡ (D.state disk.old).turn) }
-    ensures frame { KeepsDisk (D.state disk.old) (D.state disk.new) }
+    ensures keeps { KeepsOn (D.state disk.old) (D.state disk.new) (parts_of hands.old) (parts_of hands.new) }
+    ensures moved { cells_of hands.new.ledger.moved ≡ cells_of hands.old.ledger.moved }
+    ensures later { hands.old.slots.sequence ≤ hands.new.slots.sequence }
+    ensures one { hands.new.slots.sequence ≤ hands.old.slots.sequence + 1 }
     ensures cause { HasCause (D.state disk.old).faults (D.state disk.new).faults result }
-    ensures layout { hands.new.layout ≡ hands.old.layout }
-    ensures ledger { hands.new.ledger ≡ hands.old.ledger }
-    ensures base { hands.new.base ≡ hands.old.base }
-    ensures buffer { vec_len hands.new.buf ≡ vec_len hands.old.buf }
-    ensures guard_room { hands.new.guard.room ≡ hands.old.guard.room }
 {
     if !hands.guard.touches(target) {
         return Ok(false);
@@ -106,15 +104,10 @@ pub(crate) fn move_one<D: Disk, const C: usize>(
     ensures ledger { OnOk result (cells_of hands.new.ledger.moved ≡ slice_set (cells_of hands.old.ledger.moved)
         (class_of mv.now.size) (min (slice_index (cells_of hands.old.ledger.moved) (class_of mv.now.size)
         + mv.now.size) (2 ^ 64 - 1))) }
-    ensures asked { cells_of hands.new.ledger.asked ≡ cells_of hands.old.ledger.asked }
-    ensures frame { KeepsDisk (D.state disk.old) (D.state disk.new) }
-    ensures cause { HasCause (D.state disk.old).faults (D.state disk.new).faults result }
-    ensures names { hands.new.table.names ≡ hands.old.table.names }
+    ensures unmoved { OnErr result (cells_of hands.new.ledger.moved ≡ cells_of hands.old.ledger.moved) }
+    ensures keeps { KeepsOn (D.state disk.old) (D.state disk.new) (parts_of hands.old) (parts_of hands.new) }
     ensures slots { hands.new.slots ≡ hands.old.slots }
-    ensures layout { hands.new.layout ≡ hands.old.layout }
-    ensures base { hands.new.base ≡ hands.old.base }
-    ensures buffer { vec_len hands.new.buf ≡ vec_len hands.old.buf }
-    ensures guard_room { hands.new.guard.room ≡ hands.old.guard.room }
+    ensures cause { HasCause (D.state disk.old).faults (D.state disk.new).faults result }
 {
     let from = Span {
         place: mv.from,
