@@ -69,7 +69,7 @@ calls_save first now after old new more saves count n so_far few is = record {
 }
 
 -- a move, whose bytes the ledger adds
-module _ (old new new' : List ℕ) (size : ℕ) (long : class_of size < length new)
+module _ (new new' : List ℕ) (size : ℕ) (long : class_of size < length new)
     (is : new' ≡ slice_set new (class_of size) (min (slice_index new (class_of size) + size) (2 ^ 64 - 1)))
     where
   abbrev d : ℕ
@@ -102,7 +102,7 @@ module _ (old new new' : List ℕ) (size : ℕ) (long : class_of size < length n
   pub row_stays : (c : ℕ) → c < class_of size → slice_index new' c ≡ slice_index new c
   row_stays c low = elsewhere c (λ e. omega (arith, e, low))
 
-  module _ (some : 1 ≤ size) (wide : class_of size < width) {first now : ℕ} {more saves count : ℕ}
+  module _ (some : 1 ≤ size) (wide : class_of size < width) {old : List ℕ} {first now : ℕ} {more saves count : ℕ}
       (so_far : CallsSoFar first now old new more saves count)
       where
     -- the bound of the moved bytes rises by the calls of this move

@@ -91,6 +91,7 @@ module _ {classes : ℕ} {f : Flight} {caps : List ℕ} {grid : List (List ℕ)}
         let goal : mv.to + mv.size ≤ f.reach = omega (arith, safe.high, hands.same_reach) in
         record {
           low = m.some;
+          few = omega (arith, small, g.limit);
           class = in_class;
           small = omega (arith, g.same_base, hands.base, hands.block.names_high);
           can = record {
@@ -106,6 +107,14 @@ module _ {classes : ℕ} {f : Flight} {caps : List ℕ} {grid : List (List ℕ)}
           from = ends;
           to = goal;
         }
+
+    -- a move leaves what the checkpoint holds
+    pub kept_stays : {e2 : Extents} {spans2 : List Span} → HasMoved mv x.table e2 x.spans spans2
+        → e2.kept ≡ x.table.kept
+    kept_stays {e2} moved =
+        let q = found in
+        let h = has_mover x.table p.numbers.boundary mv q in
+        ap (λ (e : Extents). e.kept) (moved.now q.name q.spot h.mover)
 
     -- a move to free space was made
     pub goes_moved : (x2 : Parts) (d2 : State) → IsFreeSpace x.table.now x.table.kept mv.to mv.size

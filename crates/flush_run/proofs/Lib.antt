@@ -8,6 +8,8 @@ pub mod GuardedLaws
 pub mod HeldLaws
 pub mod ItemLaws
 pub mod LaidPlaceLaws
+pub mod LeftLaws
+pub mod LiftLaws
 pub mod MadeLaws
 pub mod MadeMoveLaws
 pub mod MoveLaws

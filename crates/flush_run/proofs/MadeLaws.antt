@@ -1,5 +1,5 @@
 -- What the moves of a phase have made, after one more, or one that failed.
-use Rattle.std.specs.Prelude.{◌≡◌, ℕ, ◌+◌, ◌<◌, ◌≤◌, ◌==◌, cond, List, [], ◌∷◌, filter, map, sum_by, slice_index, refl}
+use Rattle.std.specs.Prelude.{◌≡◌, ℕ, ◌+◌, ◌<◌, ◌≤◌, ◌==◌, cond, List, [], ◌∷◌, filter, map, sum_by, slice_index, IsTrue, refl}
 use Rattle.std.proofs.Common.{arith, sym, ◌∙◌, ap, inl, inr}
 use Rattle.std.proofs.lemmas.Bool.{cases_Bool, cond-false, cond-true}
 use Rattle.std.proofs.lemmas.List.Sums.{sum_by-cons}
@@ -36,6 +36,24 @@ KeepsOn-then one two = record {
   asked = two.asked ∙ one.asked;
   buffer = two.buffer ∙ one.buffer;
   base = two.base ∙ one.base;
+}
+
+pub keeps_none : (a : State) (x : Parts) → IsTrue a.is_ready → KeepsOn a a x x
+keeps_none a x ready = record {
+  disk = record {
+    no_turn_back = omega arith;
+    stays = record { ready = ready; told = refl; images_told = refl; same_mount = refl };
+  };
+  later = omega arith;
+  names = refl;
+  block = refl;
+  divisor = refl;
+  caps = refl;
+  grid = refl;
+  room = refl;
+  asked = refl;
+  buffer = refl;
+  base = refl;
 }
 
 -- ---- a moved object keeps its class and its size

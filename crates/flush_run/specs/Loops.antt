@@ -9,8 +9,9 @@ use Rattle.spot_terms.specs.Laid.{laid, moving_header}
 use Rattle.spot_terms.specs.SaveCounts.{LayCount, PackCount, Pays}
 use Rattle.flush_plan.specs.declared.item.Move.{Move}
 use Rattle.flush_plan.specs.Plans.{class_total}
-use Rattle.flush_plan.specs.Phases.{Phase, bytes_below, laid_end, largest_item, packed_bytes, to_lay, to_pack, waiting_bytes}
-use Rattle.flush_run.specs.Flights.{Flies, Flight}
+use Rattle.flush_plan.specs.Phases.{Phase, bytes_below, laid_end, laid_in, largest_item, lifted_in, packed_bytes, packed_in, to_lay, to_lift, to_pack, waiting_bytes}
+use Rattle.flush_run.specs.Calls.{CallsSoFar}
+use Rattle.flush_run.specs.Flights.{Flies, Flight, LeavesOldOrNew}
 use Rattle.flush_run.specs.Hands.{AllEndBy, IsHandsFor}
 use Rattle.flush_run.specs.Moves.{CanMove}
 use Rattle.flush_run.specs.Parts.{KeepsOn, Parts}
@@ -28,7 +29,7 @@ pub record Goes (classes : ℕ) (f : Flight) (caps : List ℕ) (grid : List (Lis
       ≡ f.new_book
   pub same_base : f.base ≡ x.base
   pub wide : f.size_max < 2 ^ classes
-  pub limit : f.size_max ≤ 2 ^ 31
+  pub limit : f.size_max ≤ 2 ^ 20
   pub guard : x.table.names ≤ x.room
   pub flies : IsTrue d.tells → Flies f x.in_use x.table d
 
@@ -78,6 +79,7 @@ pub record LaysPaid (pay total q : ℕ) (x : Parts) (p : Phase) : Type 0 where
 -- What a step may count on.
 pub record CanStep (classes : ℕ) (f : Flight) (x : Parts) (mv : Move) : Type 0 where
   pub low : 1 ≤ mv.size
+  pub few : mv.size ≤ 2 ^ 20
   pub class : class_of mv.size < classes
   pub small : x.base < 2 ^ 62
   pub can : CanMove mv x.table x.spans
@@ -103,3 +105,49 @@ pub record HasMade (waits : Phase → ℕ) (done : Phase → ℕ → ℕ) (first
   pub rises : (c : ℕ) → slice_index x.moved c + done p0 c ≤ slice_index x0.moved c + done p c
   pub lower : (c : ℕ) → c < p0.numbers.boundary → slice_index x.moved c ≡ slice_index x0.moved c
   pub same : SamePlan p0 p
+
+-- ---- what holds at the heads of the loops
+
+pub record LiftsSince (classes : ℕ) (f : Flight) (caps : List ℕ) (grid : List (List ℕ)) (first now : State)
+    (x : Parts) (p : Phase) : Type 0 where
+  pub lifts : Lifts classes f caps grid x p now
+  pub left : IsTrue first.tells → LeavesOldOrNew f first now
+
+pub record InLift (classes : ℕ) (first now : State) (x0 x : Parts) (p0 p : Phase) : Type 0 where
+  pub made : HasMade to_lift lifted_in first now x0 x p0 p
+  pub calm : now.faults ≡ first.faults
+  pub slots : x.in_use ≡ x0.in_use
+  pub calls : CallsSoFar first.turn now.turn x0.moved x.moved 0 0 x0.table.names
+  pub all : (f : Flight) → Lifts classes f x0.caps x0.grid x0 p0 first
+      → LiftsSince classes f x0.caps x0.grid first now x p
+
+pub record PacksSince (classes : ℕ) (f : Flight) (caps : List ℕ) (grid : List (List ℕ)) (first now : State)
+    (x : Parts) (p : Phase) : Type 0 where
+  pub packs : Packs classes f caps grid x p now
+  pub left : IsTrue first.tells → LeavesOldOrNew f first now
+
+pub record InPack (classes : ℕ) (first now : State) (x0 x : Parts) (p0 p : Phase) : Type 0 where
+  pub made : HasMade to_pack packed_in first now x0 x p0 p
+  pub calm : now.faults ≡ first.faults
+  pub lifted : (c : ℕ) → lifted_in p c ≡ lifted_in p0 c
+  pub calls : CallsSoFar first.turn now.turn x0.moved x.moved 0 (x.in_use.sequence - x0.in_use.sequence)
+      x0.table.names
+  pub all : (f : Flight) → Packs classes f x0.caps x0.grid x0 p0 first
+      → PacksSince classes f x0.caps x0.grid first now x p
+  pub paid : (f : Flight) → Packs classes f x0.caps x0.grid x0 p0 first → (pay total q : ℕ)
+      → PacksPaid pay total q x0 p0 → PacksPaid pay total q x p
+
+pub record LaysSince (classes : ℕ) (f : Flight) (caps : List ℕ) (grid : List (List ℕ)) (first now : State)
+    (x : Parts) (p : Phase) : Type 0 where
+  pub lays : Lays classes f caps grid x p now
+  pub left : IsTrue first.tells → LeavesOldOrNew f first now
+
+pub record InLay (classes : ℕ) (first now : State) (x0 x : Parts) (p0 p : Phase) : Type 0 where
+  pub made : HasMade to_lay laid_in first now x0 x p0 p
+  pub calm : now.faults ≡ first.faults
+  pub calls : CallsSoFar first.turn now.turn x0.moved x.moved 0 (x.in_use.sequence - x0.in_use.sequence)
+      x0.table.names
+  pub all : (f : Flight) → Lays classes f x0.caps x0.grid x0 p0 first
+      → LaysSince classes f x0.caps x0.grid first now x p
+  pub paid : (f : Flight) → Lays classes f x0.caps x0.grid x0 p0 first → (pay total q : ℕ)
+      → LaysPaid pay total q x0 p0 → LaysPaid pay total q x p

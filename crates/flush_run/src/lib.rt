@@ -2,6 +2,7 @@
 #![tactic(auto)]
 
 mod hands;
+mod lift;
 mod save;
 mod step;
 
