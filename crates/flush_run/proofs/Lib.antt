@@ -8,12 +8,14 @@ pub mod GuardedLaws
 pub mod HeldLaws
 pub mod ItemLaws
 pub mod LaidPlaceLaws
+pub mod LayLaws
 pub mod LeftLaws
 pub mod LiftLaws
 pub mod MadeLaws
 pub mod MadeMoveLaws
 pub mod MoveLaws
 pub mod MoverLaws
+pub mod PackLaws
 pub mod PaidLaws
 pub mod ResumeLaws
 pub mod SavedLaws

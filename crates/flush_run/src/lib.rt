@@ -2,7 +2,9 @@
 #![tactic(auto)]
 
 mod hands;
+mod lay;
 mod lift;
+mod pack;
 mod save;
 mod step;
 
