@@ -136,6 +136,9 @@ module _ {classes : ℕ} {f : Flight} {caps : List ℕ} {grid : List (List ℕ)}
               hands.table.now_named q.name q.spot (moved_spot q.spot mv.to) q.mover.is refl q.mover.high
               ∙ g.book;
           same_base = g.same_base ∙ sym base;
+          same_classes = g.same_classes;
+          same_max = g.same_max;
+          whole = g.whole;
           wide = g.wide;
           limit = g.limit;
           guard = room;
@@ -167,6 +170,9 @@ module _ {classes : ℕ} {f : Flight} {caps : List ℕ} {grid : List (List ℕ)}
                 (same_now saved a i)))
             ∙ g.book;
         same_base = g.same_base ∙ sym base;
+        same_classes = g.same_classes;
+        same_max = g.same_max;
+        whole = g.whole;
         wide = g.wide;
         limit = g.limit;
         guard = room;

@@ -5,6 +5,7 @@ pub mod FlightLaws
 pub mod FreeLaws
 pub mod GoesLaws
 pub mod GuardedLaws
+pub mod HeaderLaws
 pub mod HeldLaws
 pub mod ItemLaws
 pub mod LaidPlaceLaws

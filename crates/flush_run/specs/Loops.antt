@@ -1,9 +1,10 @@
 -- What holds in a flush between any two moves, and what its three loops make.
-use Rattle.std.specs.Prelude.{◌≡◌, ℕ, ◌+◌, ◌-◌, ◌<◌, ◌≤◌, ◌^◌, List, slice_index, IsTrue}
+use Rattle.std.specs.Prelude.{◌≡◌, ℕ, ◌+◌, ◌-◌, ◌<◌, ◌≤◌, ◌^◌, List, slice_index, IsTrue, true}
 use Rattle.disk_face.specs.States.{State}
 use Rattle.size_class.specs.Classes.{class_of}
 use Rattle.slot_codec.specs.declared.codec.Header.{Header}
-use Rattle.segment_layout.specs.Shapes.{end_of}
+use Rattle.size_class.specs.declared.TheConstants.{SIZE_MAX}
+use Rattle.segment_layout.specs.Shapes.{end_of, is_boundary}
 use Rattle.table_rules.specs.Tables.{book_of}
 use Rattle.spot_terms.specs.Laid.{laid, moving_header}
 use Rattle.spot_terms.specs.SaveCounts.{LayCount, PackCount, Pays}
@@ -28,6 +29,9 @@ pub record Goes (classes : ℕ) (f : Flight) (caps : List ℕ) (grid : List (Lis
   pub book : book_of (laid f.classes f.size_max x.in_use.block.k f.reach (phase_header p caps grid) x.table.now)
       ≡ f.new_book
   pub same_base : f.base ≡ x.base
+  pub same_classes : f.classes ≡ classes
+  pub same_max : f.size_max ≡ SIZE_MAX
+  pub whole : is_boundary grid p.numbers.boundary ≡ true
   pub wide : f.size_max < 2 ^ classes
   pub limit : f.size_max ≤ 2 ^ 20
   pub guard : x.table.names ≤ x.room

@@ -1,5 +1,5 @@
 -- The end of a flush: the settled table is saved, and the file is cut to where its layout ends.
-use Rattle.std.specs.Prelude.{◌≡◌, ◌⊎◌, ℕ, ◌+◌, ◌-◌, ◌≤◌, List, length, Ok, ◌<◌, ◌^◌, Contains, IsTrue}
+use Rattle.std.specs.Prelude.{◌≡◌, ◌⊎◌, ℕ, ◌+◌, ◌-◌, ◌≤◌, List, [], length, Ok, ◌<◌, ◌^◌, Contains, IsTrue}
 use Rattle.std.proofs.Common.{◌∙◌}
 use Rattle.disk_face.specs.Moments.{Only}
 use Rattle.slot_codec.specs.Choice as choice
@@ -9,6 +9,12 @@ use Rattle.table_rules.specs.Opening.{OpensBy}
 use Rattle.table_rules.specs.Rules.{IsValid}
 use Rattle.extent_table.specs.Extents.{Spots, records_of, Extents}
 use Rattle.spot_terms.specs.Laid.{laid, settled_header, new_caps}
+use Rattle.size_class.specs.declared.TheConstants.{SIZE_MAX}
+use Rattle.disk_face.specs.States.{State}
+use Rattle.spot_terms.specs.LaidOut.{IsLaidOut, shown_book}
+use Rattle.extent_table.specs.Extents.{IsTable}
+use Rattle.segment_layout.specs.Shapes.{end_of}
+use Rattle.flush_run.specs.Parts.{Parts}
 use Rattle.flush_run.specs.Flights.{Flight}
 use Rattle.slot_codec.specs.declared.codec.Kind.TheVariants.{Moving}
 use Rattle.segment_layout.specs.Shapes.{settled_grid}
@@ -47,3 +53,14 @@ end_header f u e caps grid p = settled_header (end_caps f u e caps grid p) (sett
 -- each item lies in its new payload segment
 abbrev pub ItemsLaid : ℕ → List ℕ → List Item → Type 0
 ItemsLaid k caps items = (it : Item) → Contains items it → IsTrue (stands_in_payload k caps it)
+
+-- What a flush leaves: nothing else is held than what stands now, the layout holds it, its book is that of after,
+-- and the file opens to both and ends where the layout does.
+pub record FlushEnds (classes : ℕ) (f : Flight) (x : Parts) (d : State) : Type 0 where
+  pub table : IsTable x.table
+  pub kept : x.table.kept ≡ x.table.now
+  pub empty : x.spans ≡ []
+  pub divisor : x.divisor ≡ x.in_use.block.k
+  pub laid : IsLaidOut classes SIZE_MAX x.in_use.block.k x.caps x.grid x.table.now
+  pub book : shown_book classes SIZE_MAX x.in_use.block.k x.caps x.grid x.table.now ≡ f.new_book
+  pub file : IsTrue d.tells → IsSettled f x.in_use x.table.now (end_of x.in_use.block.k x.caps) d.file d.may_leave

@@ -2,10 +2,13 @@
 #![tactic(auto)]
 
 mod hands;
+mod headers;
 mod lay;
 mod lift;
 mod pack;
 mod save;
+mod settle;
 mod step;
 
 pub use hands::Hands;
+pub use headers::settled_header;

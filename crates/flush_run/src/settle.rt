@@ -1,0 +1,61 @@
+//! The end of a flush: the settled table is saved, and the file is cut to where its layout ends.
+ghost use Rattle.std.specs.Prelude.{◌≡◌, ◌+◌, ◌-◌, ◌<◌, ◌≤◌, ◌^◌, ℕ, List, [], length, vec_len, OnErr, OnOk, IsTrue, Ok};
+ghost use Rattle.disk_face.specs.Counts.{HasCause};
+ghost use Rattle.disk_face.specs.Frames.{Calls};
+ghost use Rattle.slot_codec.specs.Choice.{slot_in_use};
+ghost use Rattle.slot_codec.specs.Reading.{all_in_range, worn_from};
+ghost use Rattle.slot_codec.specs.Spelling.{head_len};
+ghost use Rattle.slot_pair.specs.Saves.{next_in_use, save_calls};
+ghost use Rattle.extent_table.specs.Extents.{IsTable, records_of};
+ghost use Rattle.flush_run.specs.Flights.{Flies, Flight, LeavesOldOrNew};
+ghost use Rattle.flush_run.specs.Saves.{IsSaveable};
+ghost use Rattle.flush_run.specs.Settling.{CanCut, IsSettled};
+ghost use Rattle.flush_run.specs.Parts.{KeepsOn, parts_of};
+
+use crate::Hands;
+use crate::save::save_held;
+use disk_face::{Disk, DiskFault};
+use slot_codec::Header;
+
+/// Saves the settled table, cuts the file to a length, and syncs. At Ok a crash leaves only the
+/// content, which opens to the map and the book of after.
+pub(crate) fn settle_held<D: Disk, const C: usize>(
+    disk: &mut D,
+    header: &Header,
+    len: u64,
+    hands: &mut Hands<C>,
+) -> Result<(), DiskFault>
+    requires ready { IsTrue (D.state disk.old).is_ready }
+    requires room { 40960 ≤ vec_len hands.old.buf }
+    requires fresh { hands.old.slots.sequence + 1 < worn_from header.now.kind }
+    requires ranges { IsTrue (all_in_range header.now) }
+    requires table { IsTable hands.old.table }
+    requires names { hands.old.table.names ≤ hands.old.slots.block.names }
+    requires long { IsTrue (D.state disk.old).tells
+        → head_len hands.old.slots.block.names ≤ length (D.state disk.old).file }
+    requires in_use { IsTrue (D.state disk.old).tells
+        → slot_in_use (D.state disk.old).file ≡ Ok hands.old.slots }
+    ensures settled { (f : Flight) (end : ℕ) → IsTrue (D.state disk.old).tells → f.base + end ≡ len
+        → IsSaveable f hands.old.slots hands.old.table.now header.now
+        → CanCut f hands.old.slots hands.old.table.now header.now end
+        → Flies f hands.old.slots hands.old.table (D.state disk.old)
+        → OnOk result (IsSettled f hands.new.slots hands.new.table.now end (D.state disk.new).file
+        (D.state disk.new).may_leave) }
+    ensures left { (f : Flight) (end : ℕ) → IsTrue (D.state disk.old).tells → f.base + end ≡ len
+        → IsSaveable f hands.old.slots hands.old.table.now header.now
+        → CanCut f hands.old.slots hands.old.table.now header.now end
+        → Flies f hands.old.slots hands.old.table (D.state disk.old)
+        → LeavesOldOrNew f (D.state disk.old) (D.state disk.new) }
+    ensures pair { OnOk result (hands.new.slots ≡ next_in_use hands.old.slots) }
+    ensures same_pair { OnErr result ((hands.old.slots.sequence ≤ hands.new.slots.sequence)) }
+    ensures table { OnOk result (hands.new.table ≡ record hands.old.table { kept = hands.old.table.now }) }
+    ensures guard { OnOk result (hands.new.guard.spans ≡ []) }
+    ensures calls { Calls (save_calls (length (records_of hands.old.table.now)) + 2) (D.state disk.old)
+        (D.state disk.new) result }
+    ensures keeps { KeepsOn (D.state disk.old) (D.state disk.new) (parts_of hands.old) (parts_of hands.new) }
+    ensures ledger { hands.new.ledger ≡ hands.old.ledger }
+{
+    save_held(disk, header, hands)?;
+    disk.set_len(len)?;
+    disk.sync()
+}
