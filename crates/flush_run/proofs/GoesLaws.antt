@@ -118,10 +118,10 @@ module _ {classes : ℕ} {f : Flight} {caps : List ℕ} {grid : List (List ℕ)}
 
     -- a move to free space was made
     pub goes_moved : (x2 : Parts) (d2 : State) → IsFreeSpace x.table.now x.table.kept mv.to mv.size
-        → HasMoved mv x.table x2.table x.spans x2.spans → x2.in_use ≡ x.in_use → x2.base ≡ x.base
+        → HasMoved mv x.table x2.table x.spans x2.spans → x2.in_use ≡ x.in_use → x2.base ≡ x.base → x2.divisor ≡ x.divisor
         → x2.table.names ≤ x2.room → (IsTrue d2.tells → Flies f x.in_use x2.table d2)
         → Goes classes f caps grid x2 (moved_by mv p) d2
-    goes_moved x2 d2 free moved slots base room flies =
+    goes_moved x2 d2 free moved slots base divisor room flies =
         let q = found in
         let h = has_mover x.table p.numbers.boundary mv q in
         let same : x2.table ≡ moved_table x.table q.name q.spot mv.to = moved.now q.name q.spot h.mover in
@@ -136,6 +136,7 @@ module _ {classes : ℕ} {f : Flight} {caps : List ℕ} {grid : List (List ℕ)}
               hands.table.now_named q.name q.spot (moved_spot q.spot mv.to) q.mover.is refl q.mover.high
               ∙ g.book;
           same_base = g.same_base ∙ sym base;
+          divisor = divisor ∙ g.divisor;
           same_classes = g.same_classes;
           same_max = g.same_max;
           whole = g.whole;
@@ -160,9 +161,9 @@ module _ {classes : ℕ} {f : Flight} {caps : List ℕ} {grid : List (List ℕ)}
       same_now true b = ap (λ (e : Extents). e.now) b.table
       same_now false b = ap (λ (e : Extents). e.now) b.table
 
-      pub goes_freed : x2.base ≡ x.base → x2.table.names ≤ x2.room
+      pub goes_freed : x2.base ≡ x.base → x2.divisor ≡ x.divisor → x2.table.names ≤ x2.room
           → (IsTrue d2.tells → Flies f x2.in_use x2.table d2) → Goes classes f caps grid x2 p d2
-      goes_freed base room flies = record {
+      goes_freed base divisor room flies = record {
         hands = hands_freed f x.in_use x2.in_use x.table x2.table caps grid x.spans x2.spans p hands mv safe
             (omega (arith, m.some)) target place size saved a;
         book =
@@ -170,6 +171,7 @@ module _ {classes : ℕ} {f : Flight} {caps : List ℕ} {grid : List (List ℕ)}
                 (same_now saved a i)))
             ∙ g.book;
         same_base = g.same_base ∙ sym base;
+        divisor = divisor ∙ g.divisor;
         same_classes = g.same_classes;
         same_max = g.same_max;
         whole = g.whole;

@@ -62,11 +62,11 @@ module _ (f : Flight) (u : choice.InUse) (e : Extents) (caps : List ℕ) (grid :
   within_width : b ≤ width
   within_width = omega (arith, h.boundary, h.few)
 
-  full : length new ≡ width
+  pub full : length new ≡ width
   full = length-settled_caps b caps volumes h.caps_full.full (length-volumes_of_sizes (sizes (records_of e.now))) within_width
 
   -- the new capacities are the totals of the items
-  new_cap : (d : ℕ) → b ≤ d → slice_index new d ≡ class_total p.items d
+  pub new_cap : (d : ℕ) → b ≤ d → slice_index new d ≡ class_total p.items d
   new_cap d low =
       caps-settled_above b d caps volumes h.caps_full.full within_width low
       ∙ volumes_of_sizes-index (sizes (records_of e.now)) d

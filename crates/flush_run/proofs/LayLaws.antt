@@ -88,7 +88,7 @@ module _ {classes : ℕ} {first now : State} {x0 x : Parts} {p0 p : Phase} (i : 
 
       -- once its target is free
       pub lay_goes : Goes classes f x0.caps x0.grid x1 p d1
-      lay_goes = goes_freed s.lays.goes step.item step.safe x1 d1 target place size saved a keeps.base
+      lay_goes = goes_freed s.lays.goes step.item step.safe x1 d1 target place size saved a keeps.base keeps.divisor
           (omega (arith, keeps.names, keeps.room, s.lays.goes.guard)) flies
 
       pub lay_space : IsFreeSpace x1.table.now x1.table.kept mv.to mv.size
@@ -109,7 +109,7 @@ module _ {classes : ℕ} {first now : State} {x0 x : Parts} {p0 p : Phase} (i : 
             let q = ap (λ (u : choice.InUse). u.sequence) slots in
             record {
               lays = subst (λ r. Lays classes f x0.caps x0.grid x2 r b) (sym after) (record {
-                goes = goes_moved lay_goes step.item step.safe x2 b lay_space moved slots more.base
+                goes = goes_moved lay_goes step.item step.safe x2 b lay_space moved slots more.base more.divisor
                     (omega (arith, more.names, more.room, lay_goes.guard)) flies2;
                 saves = record {
                   settled = omega (arith, s.lays.saves.settled, q, one, step.fewer);

@@ -1,6 +1,7 @@
 pub mod AsideLaws
 pub mod CallLaws
 pub mod CanMoveLaws
+pub mod EndLaws
 pub mod FlightLaws
 pub mod FreeLaws
 pub mod GoesLaws

@@ -65,7 +65,7 @@ module _ {classes : ℕ} {first now : State} {x0 x : Parts} {p0 p : Phase} (i : 
         let same : x2.table.kept ≡ x.table.kept = kept_stays s.lifts.goes step.item step.safe moved in
         record {
           lifts = subst (λ q. Lifts classes f x0.caps x0.grid x2 q b) (sym after) (record {
-            goes = goes_moved s.lifts.goes step.item step.safe x2 b lift_space moved slots keeps.base
+            goes = goes_moved s.lifts.goes step.item step.safe x2 b lift_space moved slots keeps.base keeps.divisor
                 (omega (arith, keeps.names, keeps.room, s.lifts.goes.guard)) flies;
             low = subst (λ k. AllEndBy k (end_of p.k p.caps)) (sym same) s.lifts.low;
           });

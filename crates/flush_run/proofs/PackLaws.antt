@@ -89,7 +89,7 @@ module _ {classes : ℕ} {first now : State} {x0 x : Parts} {p0 p : Phase} (i : 
 
       -- once its target is free
       pub pack_goes : Goes classes f x0.caps x0.grid x1 p d1
-      pack_goes = goes_freed s.packs.goes step.item step.safe x1 d1 target place size saved a keeps.base
+      pack_goes = goes_freed s.packs.goes step.item step.safe x1 d1 target place size saved a keeps.base keeps.divisor
           (omega (arith, keeps.names, keeps.room, s.packs.goes.guard)) flies
 
       pub pack_space : IsFreeSpace x1.table.now x1.table.kept mv.to mv.size
@@ -110,7 +110,7 @@ module _ {classes : ℕ} {first now : State} {x0 x : Parts} {p0 p : Phase} (i : 
             let q = ap (λ (u : choice.InUse). u.sequence) slots in
             record {
               packs = subst (λ r. Packs classes f x0.caps x0.grid x2 r b) (sym after) (record {
-                goes = goes_moved pack_goes step.item step.safe x2 b pack_space moved slots more.base
+                goes = goes_moved pack_goes step.item step.safe x2 b pack_space moved slots more.base more.divisor
                     (omega (arith, more.names, more.room, pack_goes.guard)) flies2;
                 saves = record {
                   settled = omega (arith, s.packs.saves.settled, q, one, step.fewer);

@@ -29,6 +29,7 @@ pub record Goes (classes : ℕ) (f : Flight) (caps : List ℕ) (grid : List (Lis
   pub book : book_of (laid f.classes f.size_max x.in_use.block.k f.reach (phase_header p caps grid) x.table.now)
       ≡ f.new_book
   pub same_base : f.base ≡ x.base
+  pub divisor : x.divisor ≡ p.k
   pub same_classes : f.classes ≡ classes
   pub same_max : f.size_max ≡ SIZE_MAX
   pub whole : is_boundary grid p.numbers.boundary ≡ true

@@ -53,3 +53,15 @@ pub record KeepsOn (first now : State) (x0 x : Parts) : Type 0 where
   pub asked : x.asked ≡ x0.asked
   pub buffer : x.buffer ≡ x0.buffer
   pub base : x.base ≡ x0.base
+
+-- What the end of a flush leaves: the same, but that the layout is laid out anew.
+pub record KeepsSettling (first now : State) (x0 x : Parts) : Type 0 where
+  pub disk : KeepsDisk first now
+  pub later : first.faults ≤ now.faults
+  pub names : x.table.names ≡ x0.table.names
+  pub block : x.in_use.block ≡ x0.in_use.block
+  pub divisor : x.divisor ≡ x0.divisor
+  pub room : x.room ≡ x0.room
+  pub asked : x.asked ≡ x0.asked
+  pub buffer : x.buffer ≡ x0.buffer
+  pub base : x.base ≡ x0.base

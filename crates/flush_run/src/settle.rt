@@ -9,12 +9,17 @@ ghost use Rattle.slot_pair.specs.Saves.{next_in_use, save_calls};
 ghost use Rattle.extent_table.specs.Extents.{IsTable, records_of};
 ghost use Rattle.flush_run.specs.Flights.{Flies, Flight, LeavesOldOrNew};
 ghost use Rattle.flush_run.specs.Saves.{IsSaveable};
-ghost use Rattle.flush_run.specs.Settling.{CanCut, IsSettled};
-ghost use Rattle.flush_run.specs.Parts.{KeepsOn, parts_of};
+ghost use Rattle.segment_layout.specs.Layouts.{caps_of, grid_of};
+ghost use Rattle.size_class.specs.Rows.{cells_of};
+ghost use Rattle.flush_run.specs.Loops.{Lays};
+ghost use Rattle.flush_run.specs.Settling.{CanCut, FlushEnds, IsSettled};
+ghost use Rattle.flush_run.specs.Parts.{KeepsOn, KeepsSettling, parts_of};
 
 use crate::Hands;
+use crate::headers::settled_header;
 use crate::save::save_held;
 use disk_face::{Disk, DiskFault};
+use flush_plan::Settled;
 use slot_codec::Header;
 
 /// Saves the settled table, cuts the file to a length, and syncs. At Ok a crash leaves only the
@@ -58,4 +63,39 @@ pub(crate) fn settle_held<D: Disk, const C: usize>(
     save_held(disk, header, hands)?;
     disk.set_len(len)?;
     disk.sync()
+}
+
+/// Lays the layout out anew for what was laid, saves it as a settled table, cuts the file to where the
+/// layout ends, and syncs.
+pub(crate) fn settle<D: Disk, const C: usize>(
+    disk: &mut D,
+    settled: &Settled<C>,
+    hands: &mut Hands<C>,
+) -> Result<(), DiskFault>
+    requires ready { IsTrue (D.state disk.old).is_ready }
+    requires buffer { vec_len hands.old.buf ≡ 65536 }
+    requires fits { C ≤ 32 }
+    requires start { (f : Flight) × Lays C f (caps_of hands.old.layout) (grid_of hands.old.layout)
+        (parts_of hands.old) settled.now.phase (D.state disk.old) }
+    ensures ends { (f : Flight) → Lays C f (caps_of hands.old.layout) (grid_of hands.old.layout)
+        (parts_of hands.old) settled.now.phase (D.state disk.old)
+        → OnOk result (FlushEnds C f (parts_of hands.new) (D.state disk.new)) }
+    ensures left { (f : Flight) → Lays C f (caps_of hands.old.layout) (grid_of hands.old.layout)
+        (parts_of hands.old) settled.now.phase (D.state disk.old) → IsTrue (D.state disk.old).tells
+        → LeavesOldOrNew f (D.state disk.old) (D.state disk.new) }
+    ensures pair { OnOk result (hands.new.slots ≡ next_in_use hands.old.slots) }
+    ensures later { hands.old.slots.sequence ≤ hands.new.slots.sequence }
+    ensures calls { Calls (save_calls (length (records_of hands.old.table.now)) + 2) (D.state disk.old)
+        (D.state disk.new) result }
+    ensures keeps { KeepsSettling (D.state disk.old) (D.state disk.new) (parts_of hands.old)
+        (parts_of hands.new) }
+    ensures spots { OnOk result (hands.new.table.now ≡ hands.old.table.now) }
+    ensures moved { cells_of hands.new.ledger.moved ≡ cells_of hands.old.ledger.moved }
+{
+    let numbers = settled.numbers();
+    hands.layout.settle(numbers.boundary, &settled.volumes());
+    let header = settled_header(&hands.layout);
+    let len = hands.base + hands.layout.end();
+    settle_held(disk, &header, len, hands)?;
+    Ok(())
 }
