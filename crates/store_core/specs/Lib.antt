@@ -7,5 +7,6 @@ pub mod Answers
 pub mod Quiet
 pub mod Plans
 pub mod Changes
+pub mod Keeps
 pub mod Reads
 pub mod Lines

@@ -12,7 +12,7 @@ use size_class::SIZE_MAX;
 use slot_codec::Name;
 
 /// From this sequence on nothing is put or removed, and no checkpoint is saved.
-const WORN_FROM: u64 = 1 << 61;
+pub(crate) const WORN_FROM: u64 = 1 << 61;
 
 /// A quiet put: the layout after its charges, and where the new object stands.
 #[derive(Drop)]
