@@ -19,3 +19,4 @@ pub mod OpenedLaws
 pub mod HeaderLaws
 pub mod KeepLaws
 pub mod KeepEffectLaws
+pub mod FlushedLaws

@@ -8,5 +8,6 @@ pub mod Quiet
 pub mod Plans
 pub mod Changes
 pub mod Keeps
+pub mod Flushed
 pub mod Reads
 pub mod Lines
