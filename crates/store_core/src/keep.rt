@@ -1,13 +1,16 @@
 //! Keeping what stands now as the checkpoint.
-ghost use Rattle.std.specs.Prelude.{◌≡◌, ◌<◌, ◌≤◌, ◌^◌, ◌||◌, false, IfSome, IsNone, IsSome, IsTrue, None, OnOk};
+ghost use Rattle.std.specs.Prelude.{◌≡◌, ◌<◌, ◌≤◌, ◌^◌, ◌||◌, false, [], IfSome, IsNone, IsSome, IsTrue, None, OnOk};
 ghost use Rattle.slot_codec.specs.Reading.{all_in_range};
 ghost use Rattle.segment_layout.specs.Layouts.{caps_of, grid_of};
+ghost use Rattle.extent_table.specs.Extents.{IsTable};
 ghost use Rattle.spot_terms.specs.Laid as laid;
 ghost use Rattle.store_terms.specs.Requests as ask;
 
 use crate::plan::WORN_FROM;
 use crate::{Done, Refusal, Store};
 use disk_face::{Disk, DiskFault};
+use extent_table::Table;
+use held_guard::Guard;
 use segment_layout::Layout;
 use slot_codec::{Header, Kind};
 
@@ -62,8 +65,7 @@ impl<const C: usize> Store<C> {
         let hands = &mut self.hands;
         match hands.slots.save(disk, &next, &hands.table, &mut hands.buf) {
             Ok(_) => {
-                hands.table.keep();
-                hands.guard.clear();
+                keep_spots(&mut hands.table, &mut hands.guard);
                 self.kept_layout = hands.layout;
                 Ok(Done { kept: true })
             }
@@ -73,6 +75,19 @@ impl<const C: usize> Store<C> {
             }
         }
     }
+}
+
+/// What stands now is kept, and no other space is held.
+fn keep_spots(table: &mut Table, guard: &mut Guard)
+    ensures now { table.new.now ≡ table.old.now }
+    ensures kept { table.new.kept ≡ table.old.now }
+    ensures names { table.new.names ≡ table.old.names }
+    ensures table { IsTable table.new }
+    ensures empty { guard.new.spans ≡ [] }
+    ensures room { guard.new.room ≡ guard.old.room }
+{
+    table.keep();
+    guard.clear();
 }
 
 /// The header of a settled table of a layout; a save gives it its sequence and its count.

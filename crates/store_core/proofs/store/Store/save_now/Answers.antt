@@ -37,18 +37,18 @@ returns-in-Err-clause-kept g c =
     }) (calls_err _ _ c.in-Err.ensures.calls)
 
 pub invariant_of-self : goal.invariant_of-self
-invariant_of-self g c = kept_whole c.self.inside c.self.invariant c.keep.new.self c.clear.new.self
-    c.save.new.self _ c.in-Ok.ensures.pair c.keep.ensures.now c.keep.ensures.kept c.keep.ensures.table
-    c.keep.ensures.names c.clear.ensures.empty c.clear.ensures.room (search rules)
+invariant_of-self g c = kept_whole c.self.inside c.self.invariant c.keep_spots.new.table c.keep_spots.new.guard
+    c.save.new.self _ c.in-Ok.ensures.pair c.keep_spots.ensures.now c.keep_spots.ensures.kept
+    c.keep_spots.ensures.table c.keep_spots.ensures.names c.keep_spots.ensures.empty c.keep_spots.ensures.room (search rules)
 
 pub returns-in-Ok-clause-kept : goal.returns-in-Ok-clause-kept
 returns-in-Ok-clause-kept g c =
     keep_done c.self.inside c.args.self.now c.self.view_is c.self.invariant c.requires.whole c.requires.fresh
     c.header_of-next.result c.header_of-next.ensures.header c.requires.over c.save.ensures.left
     c.save.ensures.frame c.in-Ok.ensures.saved c.in-Ok.ensures.in_use _
-    (kept_view c.self.inside c.self.invariant c.keep.new.self c.clear.new.self c.save.new.self
-    (with_items c.self.inside.hands.buf c.save.new.buf) c.in-Ok.ensures.pair c.keep.ensures.now
-    c.keep.ensures.kept) _ c.in-Ok.ensures.rests
+    (kept_view c.self.inside c.self.invariant c.keep_spots.new.table c.keep_spots.new.guard c.save.new.self
+    (with_items c.self.inside.hands.buf c.save.new.buf) c.in-Ok.ensures.pair c.keep_spots.ensures.now
+    c.keep_spots.ensures.kept) _ c.in-Ok.ensures.rests
     (calls_ok _ _ c.in-Ok.ensures.calls)
 
 pub returns-in-Ok-clause-step : goal.returns-in-Ok-clause-step
@@ -56,15 +56,15 @@ returns-in-Ok-clause-step g c =
     keep_step c.self.inside c.args.self.now c.self.view_is c.self.invariant c.requires.whole c.requires.fresh
     c.header_of-next.result c.header_of-next.ensures.header c.requires.over c.save.ensures.left
     c.save.ensures.frame c.in-Ok.ensures.saved c.in-Ok.ensures.in_use _
-    (kept_view c.self.inside c.self.invariant c.keep.new.self c.clear.new.self c.save.new.self
-    (with_items c.self.inside.hands.buf c.save.new.buf) c.in-Ok.ensures.pair c.keep.ensures.now
-    c.keep.ensures.kept)
+    (kept_view c.self.inside c.self.invariant c.keep_spots.new.table c.keep_spots.new.guard c.save.new.self
+    (with_items c.self.inside.hands.buf c.save.new.buf) c.in-Ok.ensures.pair c.keep_spots.ensures.now
+    c.keep_spots.ensures.kept)
 
 pub returns-in-Ok-clause-over : goal.returns-in-Ok-clause-over
 returns-in-Ok-clause-over g c unbroken =
     keep_over c.self.inside c.args.self.now c.self.view_is c.self.invariant c.requires.whole c.requires.fresh
     c.header_of-next.result c.header_of-next.ensures.header c.requires.over c.save.ensures.left
     c.save.ensures.frame c.in-Ok.ensures.saved c.in-Ok.ensures.in_use _
-    (kept_view c.self.inside c.self.invariant c.keep.new.self c.clear.new.self c.save.new.self
-    (with_items c.self.inside.hands.buf c.save.new.buf) c.in-Ok.ensures.pair c.keep.ensures.now
-    c.keep.ensures.kept)
+    (kept_view c.self.inside c.self.invariant c.keep_spots.new.table c.keep_spots.new.guard c.save.new.self
+    (with_items c.self.inside.hands.buf c.save.new.buf) c.in-Ok.ensures.pair c.keep_spots.ensures.now
+    c.keep_spots.ensures.kept)
