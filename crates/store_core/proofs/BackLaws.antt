@@ -62,26 +62,29 @@ step_back s file = record { replied = refl; state = refl; low = omega arith; hig
 
 -- the fields after it show what stood at the checkpoint
 module _ {C : ℕ} (s : Inside C) (whole : IsWhole s) (table : Extents) (guard : Freed)
-    (now : table.now ≡ s.table.kept) (kept : table.kept ≡ s.table.kept) where
+    (now : table.now ≡ s.hands.table.kept) (kept : table.kept ≡ s.hands.table.kept) where
   abbrev back_inside : Inside C
-  back_inside = record s { table = table; layout = s.kept_layout; guard = guard }
+  back_inside = record s { hands = record s.hands { table = table; layout = s.kept_layout; guard = guard } }
 
   pub back_view : kept_of back_inside ≡ gone_back (kept_of s)
   back_view = λ i. record (kept_of s) {
     now = now i;
     kept = kept i;
-    book = shown_book C SIZE_MAX s.slots.block.k (whole.kept_caps i) (grid_of s.kept_layout) (now i);
-    kept_book = shown_book C SIZE_MAX s.slots.block.k (whole.kept_caps i) (grid_of s.kept_layout) (kept i);
+    book = shown_book C SIZE_MAX s.hands.slots.block.k (whole.kept_caps i) (grid_of s.kept_layout) (now i);
+    kept_book = shown_book C SIZE_MAX s.hands.slots.block.k (whole.kept_caps i) (grid_of s.kept_layout)
+        (kept i);
   }
 
-  pub back_whole : IsTable table → table.names ≡ s.table.names → guard.spans ≡ []
-      → guard.room ≡ s.guard.room → IsWhole back_inside
+  pub back_whole : IsTable table → table.names ≡ s.hands.table.names → guard.spans ≡ []
+      → guard.room ≡ s.hands.guard.room → IsWhole back_inside
   back_whole is_table names spans room = record {
     classes = whole.classes;
     wide = whole.wide;
     base = whole.base;
     few = whole.few;
     buf = whole.buf;
+    no_items = whole.no_items;
+    items_room = whole.items_room;
     divisor = whole.kept_divisor;
     kept_divisor = whole.kept_divisor;
     kept_caps = refl;

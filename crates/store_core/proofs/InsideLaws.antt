@@ -19,12 +19,12 @@ use Rattle.store_core.proofs.ChangeLaws.{with_now}
 -- What the fields of a store that isn't broken are to what contracts see of it.
 pub record IsOpened {C : ℕ} (s : Inside C) (t : Kept) : Type 0 where
   pub store : IsStore C t
-  pub freed : IsFreed s.guard.spans t.now t.kept
-  pub now : s.table.now ≡ t.now
-  pub kept : s.table.kept ≡ t.kept
-  pub guard_room : s.guard.room ≡ t.in_use.block.names
-  pub room : s.table.names ≡ t.in_use.block.names
-  pub base : s.base ≡ base_of t
+  pub freed : IsFreed s.hands.guard.spans t.now t.kept
+  pub now : s.hands.table.now ≡ t.now
+  pub kept : s.hands.table.kept ≡ t.kept
+  pub guard_room : s.hands.guard.room ≡ t.in_use.block.names
+  pub room : s.hands.table.names ≡ t.in_use.block.names
+  pub base : s.hands.base ≡ base_of t
 
 pub opened : {C : ℕ} (s : Inside C) (t : Kept) → kept_of s ≡ t → IsWhole s → t.is_broken ≡ false → IsOpened s t
 opened {C} s t is whole unbroken =
@@ -33,8 +33,8 @@ opened {C} s t is whole unbroken =
     let sound = ap (λ (x : Kept). x.is_broken) is ∙ unbroken in
     record {
       store = subst (IsStore C) is (whole.sound sound);
-      freed = subst (λ x. IsFreed s.guard.spans x t.kept) now
-          (subst (λ x. IsFreed s.guard.spans s.table.now x) kept (whole.freed sound));
+      freed = subst (λ x. IsFreed s.hands.guard.spans x t.kept) now
+          (subst (λ x. IsFreed s.hands.guard.spans s.hands.table.now x) kept (whole.freed sound));
       now = now;
       kept = kept;
       guard_room = whole.guard_room ∙ ap (λ (x : Kept). x.in_use.block.names) is;
@@ -45,25 +45,27 @@ opened {C} s t is whole unbroken =
 -- The table, the guard, the ledger and the layout are new, and contracts saw the store as t.
 module _ {C : ℕ} (s : Inside C) (t : Kept) (is : kept_of s ≡ t) (whole : IsWhole s) (table : Extents)
     (guard : Freed) (ledger : Ledger C) (layout : Layout C) (now : Spots) (same_now : table.now ≡ now)
-    (kept : table.kept ≡ s.table.kept) (caps : caps_of layout ≡ t.book.caps)
-    (moved : cells_of ledger.moved ≡ cells_of s.ledger.moved) where
+    (kept : table.kept ≡ s.hands.table.kept) (caps : caps_of layout ≡ t.book.caps)
+    (moved : cells_of ledger.moved ≡ cells_of s.hands.ledger.moved) where
   abbrev changed_inside : Inside C
-  changed_inside = record s { table = table; layout = layout; guard = guard; ledger = ledger }
+  changed_inside = record s {
+    hands = record s.hands { table = table; layout = layout; guard = guard; ledger = ledger };
+  }
 
-  caps_stay : caps_of layout ≡ caps_of s.layout
+  caps_stay : caps_of layout ≡ caps_of s.hands.layout
   caps_stay = caps ∙ ap (λ (x : Kept). x.book.caps) (sym is)
 
   pub changed_view : kept_of changed_inside ≡ with_now C t now (grid_of layout) (cells_of ledger.asked)
   changed_view = (λ i. record (kept_of s) {
     now = same_now i;
     kept = kept i;
-    book = shown_book C SIZE_MAX s.slots.block.k (caps_stay i) (grid_of layout) (same_now i);
-    kept_book = shown_book C SIZE_MAX s.slots.block.k (caps_stay i) (grid_of s.kept_layout) (kept i);
+    book = shown_book C SIZE_MAX s.hands.slots.block.k (caps_stay i) (grid_of layout) (same_now i);
+    kept_book = shown_book C SIZE_MAX s.hands.slots.block.k (caps_stay i) (grid_of s.kept_layout) (kept i);
     moved = moved i;
     asked = cells_of ledger.asked;
   }) ∙ ap (λ (x : Kept). with_now C x now (grid_of layout) (cells_of ledger.asked)) is
 
-  pub changed_whole : IsTable table → table.names ≡ s.table.names → guard.room ≡ s.guard.room
+  pub changed_whole : IsTable table → table.names ≡ s.hands.table.names → guard.room ≡ s.hands.guard.room
       → divisor_of layout ≡ t.in_use.block.k
       → IsStore C (with_now C t now (grid_of layout) (cells_of ledger.asked))
       → IsFreed guard.spans now t.kept → IsWhole changed_inside
@@ -73,6 +75,8 @@ module _ {C : ℕ} (s : Inside C) (t : Kept) (is : kept_of s ≡ t) (whole : IsW
     base = whole.base;
     few = whole.few;
     buf = whole.buf;
+    no_items = whole.no_items;
+    items_room = whole.items_room;
     divisor = divisor ∙ ap (λ (x : Kept). x.in_use.block.k) (sym is);
     kept_divisor = whole.kept_divisor;
     kept_caps = whole.kept_caps ∙ sym caps_stay;

@@ -1,5 +1,5 @@
 -- The store of a table that was checked against its layout.
-use Rattle.std.specs.Prelude.{◌≡◌, ℕ, ◌<◌, ◌≤◌, ◌^◌, List, [], false, vec_len, refl}
+use Rattle.std.specs.Prelude.{◌≡◌, ℕ, ◌<◌, ◌≤◌, ◌^◌, List, [], false, vec_capacity, vec_len, refl}
 use Rattle.std.proofs.Common.{arith, sym, ◌∙◌, subst}
 use Rattle.size_class.specs.Classes.{IsGrid, IsRow, zero_row}
 use Rattle.size_class.specs.Rows.{cells_of}
@@ -51,27 +51,31 @@ tight_kept {classes} s file h over =
 pub record IsNew {C : ℕ} (s : Inside C) : Type 0 where
   pub few : C ≤ 32
   pub wide : SIZE_MAX < 2 ^ C
-  pub block : IsSuperBlock s.slots.block
-  pub kept : s.table.now ≡ s.table.kept
-  pub room : s.table.names ≡ s.slots.block.names
-  pub divisor : divisor_of s.layout ≡ s.slots.block.k
-  pub kept_divisor : divisor_of s.kept_layout ≡ s.slots.block.k
-  pub kept_caps : caps_of s.kept_layout ≡ caps_of s.layout
-  pub kept_grid : grid_of s.kept_layout ≡ grid_of s.layout
-  pub caps_full : IsRow C (caps_of s.layout)
-  pub grid_full : IsGrid C (grid_of s.layout)
-  pub valid : IsValid (settled_table C SIZE_MAX s.slots.block.k (caps_of s.layout) (grid_of s.layout) s.table.now)
-  pub table : IsTable s.table
-  pub spans : s.guard.spans ≡ []
-  pub guard_room : s.guard.room ≡ s.slots.block.names
-  pub moved : cells_of s.ledger.moved ≡ zero_row
-  pub asked : cells_of s.ledger.asked ≡ zero_row
-  pub base : s.base ≡ head_len s.slots.block.names
-  pub buf : vec_len s.buf ≡ 65536
+  pub block : IsSuperBlock s.hands.slots.block
+  pub kept : s.hands.table.now ≡ s.hands.table.kept
+  pub room : s.hands.table.names ≡ s.hands.slots.block.names
+  pub divisor : divisor_of s.hands.layout ≡ s.hands.slots.block.k
+  pub kept_divisor : divisor_of s.kept_layout ≡ s.hands.slots.block.k
+  pub kept_caps : caps_of s.kept_layout ≡ caps_of s.hands.layout
+  pub kept_grid : grid_of s.kept_layout ≡ grid_of s.hands.layout
+  pub caps_full : IsRow C (caps_of s.hands.layout)
+  pub grid_full : IsGrid C (grid_of s.hands.layout)
+  pub valid : IsValid (settled_table C SIZE_MAX s.hands.slots.block.k (caps_of s.hands.layout)
+      (grid_of s.hands.layout) s.hands.table.now)
+  pub table : IsTable s.hands.table
+  pub spans : s.hands.guard.spans ≡ []
+  pub guard_room : s.hands.guard.room ≡ s.hands.slots.block.names
+  pub moved : cells_of s.hands.ledger.moved ≡ zero_row
+  pub asked : cells_of s.hands.ledger.asked ≡ zero_row
+  pub base : s.hands.base ≡ head_len s.hands.slots.block.names
+  pub buf : vec_len s.hands.buf ≡ 65536
+  pub no_items : vec_len s.items ≡ 0
+  pub items_room : s.hands.slots.block.names ≤ vec_capacity s.items
   pub unbroken : s.broken ≡ false
 
 module _ {C : ℕ} (s : Inside C) (n : IsNew s) where
-  laid : IsLaidOut C SIZE_MAX s.slots.block.k (caps_of s.layout) (grid_of s.layout) s.table.now
+  laid : IsLaidOut C SIZE_MAX s.hands.slots.block.k (caps_of s.hands.layout) (grid_of s.hands.layout)
+      s.hands.table.now
   laid = record {
     few = n.few;
     top = n.wide;
@@ -83,19 +87,21 @@ module _ {C : ℕ} (s : Inside C) (n : IsNew s) where
 
   new_store : IsStore C (kept_of s)
   new_store =
-      let k = s.slots.block.k in
+      let k = s.hands.slots.block.k in
       record {
         block = n.block;
         now = laid;
         now_book = refl;
         now_few = omega (arith, n.table.now_room, n.room);
         now_in_range = n.table.now_in_range;
-        kept = subst (λ x. IsLaidOut C SIZE_MAX k (caps_of s.layout) (grid_of s.kept_layout) x) n.kept
-            (subst (λ g. IsLaidOut C SIZE_MAX k (caps_of s.layout) g s.table.now) (sym n.kept_grid) laid);
+        kept = subst (λ x. IsLaidOut C SIZE_MAX k (caps_of s.hands.layout) (grid_of s.kept_layout) x) n.kept
+            (subst (λ g. IsLaidOut C SIZE_MAX k (caps_of s.hands.layout) g s.hands.table.now) (sym n.kept_grid)
+            laid);
         kept_book = refl;
         kept_few = omega (arith, n.table.kept_room, n.room);
         kept_in_range = n.table.kept_in_range;
-        fuller = subst (λ g. CellsRise g (grid_of s.layout)) (sym n.kept_grid) (CellsRise-itself (grid_of s.layout));
+        fuller = subst (λ g. CellsRise g (grid_of s.hands.layout)) (sym n.kept_grid)
+            (CellsRise-itself (grid_of s.hands.layout));
       }
 
   pub new_whole : IsWhole s
@@ -105,6 +111,8 @@ module _ {C : ℕ} (s : Inside C) (n : IsNew s) where
     base = n.base;
     few = n.block.names_high;
     buf = n.buf;
+    no_items = n.no_items;
+    items_room = n.items_room;
     divisor = n.divisor;
     kept_divisor = n.kept_divisor;
     kept_caps = n.kept_caps;
@@ -112,20 +120,22 @@ module _ {C : ℕ} (s : Inside C) (n : IsNew s) where
     guard_room = n.guard_room;
     table = n.table;
     sound = λ sound. new_store;
-    freed = λ sound. subst (λ xs. IsFreed xs s.table.now s.table.kept) (sym n.spans)
-        (subst (λ x. IsFreed [] s.table.now x) n.kept (freed_nothing s.table.now));
+    freed = λ sound. subst (λ xs. IsFreed xs s.hands.table.now s.hands.table.kept) (sym n.spans)
+        (subst (λ x. IsFreed [] s.hands.table.now x) n.kept (freed_nothing s.hands.table.now));
   }
 
-  pub new_view : kept_of s ≡ opened_store C s.slots s.table.now (caps_of s.layout) (grid_of s.layout)
+  pub new_view : kept_of s ≡ opened_store C s.hands.slots s.hands.table.now (caps_of s.hands.layout)
+      (grid_of s.hands.layout)
   new_view =
-      let k = s.slots.block.k in
-      let shown = book_shown C SIZE_MAX k (caps_of s.layout) (grid_of s.layout) s.table.now laid in
+      let k = s.hands.slots.block.k in
+      let shown = book_shown C SIZE_MAX k (caps_of s.hands.layout) (grid_of s.hands.layout) s.hands.table.now
+      laid in
       λ i. record {
-        in_use = s.slots;
-        now = s.table.now;
+        in_use = s.hands.slots;
+        now = s.hands.table.now;
         kept = sym n.kept i;
         book = sym shown i;
-        kept_book = ((λ j. shown_book C SIZE_MAX k (caps_of s.layout) (n.kept_grid j) (sym n.kept j))
+        kept_book = ((λ j. shown_book C SIZE_MAX k (caps_of s.hands.layout) (n.kept_grid j) (sym n.kept j))
             ∙ sym shown) i;
         is_broken = n.unbroken i;
         moved = n.moved i;

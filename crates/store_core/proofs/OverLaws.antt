@@ -108,12 +108,12 @@ module _ {classes : ℕ} (s : Kept) (h : IsStore classes s) (file : List ℕ) (o
   abbrev base : ℕ
   base = base_of s
 
-  head_is : head_len t.chosen.block.names ≡ base
+  pub head_is : head_len t.chosen.block.names ≡ base
   head_is = ap (λ (b : SuperBlock). head_len b.names) (same_block s file t over.checkpoint)
 
   module _ (b : List ℕ) (same : SameOnTable base s.kept file b) where
     -- a file that is alike on the table of the checkpoint has this checkpoint
-    opens_again : OpensBy classes SIZE_MAX t b (kept_map s file) s.kept_book
+    pub opens_again : OpensBy classes SIZE_MAX t b (kept_map s file) s.kept_book
     opens_again =
         let o = over.checkpoint.opens in
         let long : base ≤ length b = omega (arith, over.same_length, same.same_length) in

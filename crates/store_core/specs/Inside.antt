@@ -1,5 +1,5 @@
 -- What a store's contracts see of its fields, and what holds of them.
-use Rattle.std.specs.Prelude.{◌≡◌, ℕ, ◌<◌, ◌≤◌, ◌^◌, false, vec_len}
+use Rattle.std.specs.Prelude.{◌≡◌, ℕ, ◌<◌, ◌≤◌, ◌^◌, false, vec_capacity, vec_len}
 use Rattle.size_class.specs.Rows.{cells_of}
 use Rattle.size_class.specs.declared.TheConstants.{SIZE_MAX}
 use Rattle.slot_codec.specs.Spelling.{head_len}
@@ -14,15 +14,16 @@ use Rattle.store_core.specs.Stores.{IsStore}
 abbrev pub kept_of : {C : ℕ} → Inside C → Kept
 kept_of {C} s =
     record {
-      in_use = s.slots;
-      now = s.table.now;
-      kept = s.table.kept;
-      book = shown_book C SIZE_MAX s.slots.block.k (caps_of s.layout) (grid_of s.layout) s.table.now;
-      kept_book = shown_book C SIZE_MAX s.slots.block.k (caps_of s.layout) (grid_of s.kept_layout)
-          s.table.kept;
+      in_use = s.hands.slots;
+      now = s.hands.table.now;
+      kept = s.hands.table.kept;
+      book = shown_book C SIZE_MAX s.hands.slots.block.k (caps_of s.hands.layout) (grid_of s.hands.layout)
+          s.hands.table.now;
+      kept_book = shown_book C SIZE_MAX s.hands.slots.block.k (caps_of s.hands.layout) (grid_of s.kept_layout)
+          s.hands.table.kept;
       is_broken = s.broken;
-      moved = cells_of s.ledger.moved;
-      asked = cells_of s.ledger.asked;
+      moved = cells_of s.hands.ledger.moved;
+      asked = cells_of s.hands.ledger.asked;
     }
 
 -- What holds of each store; and while it isn't broken, that its parts belong together: the guard has what the
@@ -30,14 +31,16 @@ kept_of {C} s =
 pub record IsWhole {C : ℕ} (s : Inside C) : Type 0 where
   pub classes : C ≤ 32
   pub wide : SIZE_MAX < 2 ^ C
-  pub base : s.base ≡ head_len s.slots.block.names
-  pub few : s.slots.block.names ≤ 65536
-  pub buf : vec_len s.buf ≡ 65536
-  pub divisor : divisor_of s.layout ≡ s.slots.block.k
-  pub kept_divisor : divisor_of s.kept_layout ≡ s.slots.block.k
-  pub kept_caps : caps_of s.kept_layout ≡ caps_of s.layout
-  pub room : s.table.names ≡ s.slots.block.names
-  pub guard_room : s.guard.room ≡ s.slots.block.names
-  pub table : IsTable s.table
+  pub base : s.hands.base ≡ head_len s.hands.slots.block.names
+  pub few : s.hands.slots.block.names ≤ 65536
+  pub buf : vec_len s.hands.buf ≡ 65536
+  pub no_items : vec_len s.items ≡ 0
+  pub items_room : s.hands.slots.block.names ≤ vec_capacity s.items
+  pub divisor : divisor_of s.hands.layout ≡ s.hands.slots.block.k
+  pub kept_divisor : divisor_of s.kept_layout ≡ s.hands.slots.block.k
+  pub kept_caps : caps_of s.kept_layout ≡ caps_of s.hands.layout
+  pub room : s.hands.table.names ≡ s.hands.slots.block.names
+  pub guard_room : s.hands.guard.room ≡ s.hands.slots.block.names
+  pub table : IsTable s.hands.table
   pub sound : s.broken ≡ false → IsStore C (kept_of s)
-  pub freed : s.broken ≡ false → IsFreed s.guard.spans s.table.now s.table.kept
+  pub freed : s.broken ≡ false → IsFreed s.hands.guard.spans s.hands.table.now s.hands.table.kept

@@ -7,5 +7,7 @@ pub mod Answers
 pub mod Quiet
 pub mod Plans
 pub mod Changes
+pub mod Keeps
+pub mod Flushed
 pub mod Reads
 pub mod Lines

@@ -1,5 +1,5 @@
 //! What holds of stores and of requests, as contracts of functions that do nothing.
-ghost use Rattle.std.specs.Prelude.{◌≡◌, ℕ, ◌*◌, ◌<◌, ◌≤◌, ◌^◌, List, [], IfOk, Some, vec_len};
+ghost use Rattle.std.specs.Prelude.{◌≡◌, ℕ, ◌*◌, ◌<◌, ◌≤◌, ◌^◌, List, [], IfOk, Some, vec_capacity, vec_len};
 ghost use Rattle.store_terms.specs.Requests as ask;
 ghost use Rattle.store_terms.specs.Requests.{Change, Refused, Request};
 ghost use Rattle.segment_layout.specs.Books.{book_end, is_quiet, next_book};
@@ -19,6 +19,8 @@ ghost use Rattle.store_core.specs.States.{Limits, Run, State, Step, facts_of, re
 use crate::Store;
 use data_area::Ledger;
 use extent_table::Table;
+use flush_plan::Item;
+use flush_run::Hands;
 use held_guard::Guard;
 use segment_layout::Layout;
 use size_class::{Row, SIZE_MAX};
@@ -88,18 +90,22 @@ pub fn store_of<const C: usize>(
     is_table(&table);
     let guard = Guard::with_room(alloc, block.names)?;
     let buf = copy_buffer(alloc)?;
+    let items = item_list(alloc, block.names)?;
     Ok(Store {
-        table,
-        layout,
-        kept_layout: layout,
-        guard,
-        slots,
-        ledger: Ledger {
-            moved: Row::zero(),
-            asked: Row::zero(),
+        hands: Hands {
+            table,
+            layout,
+            guard,
+            slots,
+            ledger: Ledger {
+                moved: Row::zero(),
+                asked: Row::zero(),
+            },
+            buf,
+            base: head_len(block.names),
         },
-        buf,
-        base: head_len(block.names),
+        kept_layout: layout,
+        items,
         broken: false,
     })
 }
@@ -110,6 +116,17 @@ fn copy_buffer(alloc: Global) -> Result<Vec<u8>, NoMemory>
 {
     match vec![in alloc; 0; COPIED] {
         Ok(buf) => Ok(buf),
+        Err(_) => Err(NoMemory),
+    }
+}
+
+/// A list with room for an item of each name.
+fn item_list(alloc: Global, names: u64) -> Result<Vec<Item>, NoMemory>
+    ensures empty { IfOk result (λ items. vec_len items ≡ 0) }
+    ensures room { IfOk result (λ items. names ≤ vec_capacity items) }
+{
+    match Vec::with_capacity(alloc, names as usize) {
+        Ok(items) => Ok(items),
         Err(_) => Err(NoMemory),
     }
 }

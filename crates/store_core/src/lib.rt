@@ -6,6 +6,7 @@ mod answers;
 mod charges;
 mod copy;
 mod held;
+mod keep;
 pub mod laws;
 mod lines;
 mod lists;

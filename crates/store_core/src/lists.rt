@@ -32,7 +32,7 @@ impl<const C: usize> Store<C> {
         if self.is_broken() {
             return Err(Refusal::Broken);
         }
-        put_lines(&self.table, sink)
+        put_lines(&self.hands.table, sink)
     }
 
     /// How many names and bytes there are, now and at the last checkpoint.
@@ -51,10 +51,10 @@ impl<const C: usize> Store<C> {
             return Err(Refusal::Broken);
         }
         Ok(Stat {
-            names: self.table.count(),
-            bytes: self.table.volume(),
-            kept_names: self.table.kept_count(),
-            kept_bytes: self.table.kept_volume(),
+            names: self.hands.table.count(),
+            bytes: self.hands.table.volume(),
+            kept_names: self.hands.table.kept_count(),
+            kept_bytes: self.hands.table.kept_volume(),
         })
     }
 }

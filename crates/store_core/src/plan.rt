@@ -12,7 +12,7 @@ use size_class::SIZE_MAX;
 use slot_codec::Name;
 
 /// From this sequence on nothing is put or removed, and no checkpoint is saved.
-const WORN_FROM: u64 = 1 << 61;
+pub(crate) const WORN_FROM: u64 = 1 << 61;
 
 /// A quiet put: the layout after its charges, and where the new object stands.
 #[derive(Drop)]
@@ -44,8 +44,8 @@ impl<const C: usize> Store<C> {
     {
         let name = self.accept_put(name, bytes)?;
         let size = bytes.len() as u64;
-        let mut layout = self.layout;
-        match charge_put(&mut layout, self.table.get(&name), size) {
+        let mut layout = self.hands.layout;
+        match charge_put(&mut layout, self.hands.table.get(&name), size) {
             Some(place) => Ok(PutPlan {
                 name,
                 layout,
@@ -63,8 +63,8 @@ impl<const C: usize> Store<C> {
         ensures sound { self.now.is_broken ≡ false → IsStore C self.now }
     {
         let name = self.accept_del(name)?;
-        let mut layout = self.layout;
-        if charge_gone(&mut layout, self.table.get(&name)) {
+        let mut layout = self.hands.layout;
+        if charge_gone(&mut layout, self.hands.table.get(&name)) {
             Ok(DelPlan { name, layout })
         } else {
             Err(Refusal::NeedsFlush)
@@ -81,7 +81,7 @@ impl<const C: usize> Store<C> {
         if bytes.len() as u64 > SIZE_MAX {
             return Err(Refusal::TooLong);
         }
-        if self.table.get(&name).is_none() && !self.table.room() {
+        if self.hands.table.get(&name).is_none() && !self.hands.table.room() {
             return Err(Refusal::Full);
         }
         self.unworn(name)
@@ -93,7 +93,7 @@ impl<const C: usize> Store<C> {
         ensures sound { self.now.is_broken ≡ false → IsStore C self.now }
     {
         let name = self.name_of(name)?;
-        if self.table.get(&name).is_none() {
+        if self.hands.table.get(&name).is_none() {
             return Err(Refusal::Missing);
         }
         self.unworn(name)
@@ -104,7 +104,7 @@ impl<const C: usize> Store<C> {
         ensures worn { 2 ^ 61 ≤ self.now.in_use.sequence → result ≡ Err Refusal.Worn }
         ensures fresh { self.now.in_use.sequence < 2 ^ 61 → result ≡ Ok name }
     {
-        if self.slots.sequence() >= WORN_FROM {
+        if self.hands.slots.sequence() >= WORN_FROM {
             return Err(Refusal::Worn);
         }
         Ok(name)

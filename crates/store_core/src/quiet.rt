@@ -95,9 +95,9 @@ impl<const C: usize> Store<C> {
         if self.is_broken() {
             return Err(Refusal::Broken);
         }
-        self.table.back();
-        self.layout = self.kept_layout;
-        self.guard.clear();
+        self.hands.table.back();
+        self.hands.layout = self.kept_layout;
+        self.hands.guard.clear();
         Ok(())
     }
 
@@ -122,7 +122,7 @@ impl<const C: usize> Store<C> {
         ensures over { IsConnected C self.new (D.state disk.new) }
         ensures broken { self.new.is_broken ≡ is_disk_fault result }
     {
-        match write_new(disk, self.base, plan.spot.place, bytes) {
+        match write_new(disk, self.hands.base, plan.spot.place, bytes) {
             Ok(()) => {
                 self.enter(&plan.name, plan.layout, plan.spot);
                 Ok(Done { kept: false })
@@ -153,12 +153,12 @@ impl<const C: usize> Store<C> {
               (sizes_at (fin.get self.old.now name.now) ++ some_size spot.size);
         } }
     {
-        let now = self.table.get(name);
-        free_spot(&mut self.guard, now, self.table.old(name));
-        add_gone(&mut self.ledger, now);
-        add_size(&mut self.ledger, spot.size);
-        self.table.set(name, spot);
-        self.layout = layout;
+        let now = self.hands.table.get(name);
+        free_spot(&mut self.hands.guard, now, self.hands.table.old(name));
+        add_gone(&mut self.hands.ledger, now);
+        add_size(&mut self.hands.ledger, spot.size);
+        self.hands.table.set(name, spot);
+        self.hands.layout = layout;
     }
 
     /// Takes a name out, once its object is charged.
@@ -176,11 +176,11 @@ impl<const C: usize> Store<C> {
           asked = fold added self.old.asked (sizes_at (fin.get self.old.now name.now));
         } }
     {
-        let now = self.table.get(name);
-        free_spot(&mut self.guard, now, self.table.old(name));
-        add_gone(&mut self.ledger, now);
-        self.table.remove(name);
-        self.layout = layout;
+        let now = self.hands.table.get(name);
+        free_spot(&mut self.hands.guard, now, self.hands.table.old(name));
+        add_gone(&mut self.hands.ledger, now);
+        self.hands.table.remove(name);
+        self.hands.layout = layout;
     }
 }
 

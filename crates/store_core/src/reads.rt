@@ -114,7 +114,13 @@ impl<const C: usize> Store<C> {
         ensures disk_cause { HasDiskCause (D.state disk.old) (D.state disk.new) result }
         ensures sink_cause { HasSinkCause (O.state sink.old) (O.state sink.new) result }
     {
-        put_bytes(disk, self.base + spot.place, spot.size, &mut self.buf, sink)?;
+        put_bytes(
+            disk,
+            self.hands.base + spot.place,
+            spot.size,
+            &mut self.hands.buf,
+            sink,
+        )?;
         Ok(spot.size)
     }
 
@@ -125,7 +131,7 @@ impl<const C: usize> Store<C> {
         ensures sound { self.now.is_broken ≡ false → IsStore C self.now }
     {
         let name = self.name_of(name)?;
-        self.table.get(&name).ok_or(Refusal::Missing)
+        self.hands.table.get(&name).ok_or(Refusal::Missing)
     }
 
     /// Where an object of the last checkpoint stood.
@@ -135,7 +141,7 @@ impl<const C: usize> Store<C> {
         ensures sound { self.now.is_broken ≡ false → IsStore C self.now }
     {
         let name = self.name_of(name)?;
-        self.table.old(&name).ok_or(Refusal::Missing)
+        self.hands.table.old(&name).ok_or(Refusal::Missing)
     }
 
     /// The name of these bytes.

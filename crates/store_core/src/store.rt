@@ -5,28 +5,22 @@ ghost use Rattle.segment_layout.specs.Books.{book_end};
 
 use crate::Gauge;
 use data_area::Ledger;
-use extent_table::Table;
-use held_guard::Guard;
+use flush_plan::Item;
+use flush_run::Hands;
 use segment_layout::Layout;
-use slot_pair::SlotPair;
 use std::marker::Model;
 
 /// A store over its disk: where the objects stand now, and where they stood at the last checkpoint.
 /// Contracts see it as `Kept`.
 ///
-/// The layouts are those of now and of the last checkpoint, and the guard has the space that the
-/// checkpoint holds though nothing stands there now. `base` is where the data part begins in the
-/// file, and `buf` the buffer that objects are copied through.
+/// The hands have the parts of now, which a flush works with: the table, the layout, the guard, the
+/// slots, the ledger and the buffer. `kept_layout` is the layout of the last checkpoint, and `items` has
+/// room for an item of each name, and is empty between two calls.
 #[derive(Drop)]
 pub struct Store<const C: usize> {
-    pub(crate) table: Table,
-    pub(crate) layout: Layout<C>,
+    pub(crate) hands: Hands<C>,
     pub(crate) kept_layout: Layout<C>,
-    pub(crate) guard: Guard,
-    pub(crate) slots: SlotPair,
-    pub(crate) ledger: Ledger<C>,
-    pub(crate) buf: Vec<u8>,
-    pub(crate) base: u64,
+    pub(crate) items: Vec<Item>,
     pub(crate) broken: bool,
 }
 
@@ -63,8 +57,8 @@ impl<const C: usize> Store<C> {
         ensures sequence { result.sequence ≡ self.now.in_use.sequence }
     {
         Gauge {
-            length: self.layout.end(),
-            sequence: self.slots.sequence(),
+            length: self.hands.layout.end(),
+            sequence: self.hands.slots.sequence(),
         }
     }
 
@@ -73,6 +67,6 @@ impl<const C: usize> Store<C> {
         ensures moved { cells_of result.moved ≡ self.now.moved }
         ensures asked { cells_of result.asked ≡ self.now.asked }
     {
-        self.ledger
+        self.hands.ledger
     }
 }

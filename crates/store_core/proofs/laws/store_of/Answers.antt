@@ -1,4 +1,5 @@
-use Rattle.std.proofs.Common.{◌∙◌, ap, false, refl, subst, sym}
+use Rattle.std.proofs.Common.{◌∙◌, ◌≤◌, ap, false, refl, subst, sym}
+use Rattle.std.specs.Prelude.{vec_capacity}
 use Rattle.size_class.specs.declared.TheConstants.{SIZE_MAX}
 use Rattle.slot_codec.specs.Readable.{IsSuperBlock}
 use Rattle.slot_codec.specs.Spelling.{head_len}
@@ -12,14 +13,17 @@ use Rattle.store_core.proofs.laws.store_of.Goals as goal
 
 abbrev new_inside : (g : _) (c : goal.After-head_len g) → Inside g.row.C
 new_inside g c = record {
-  table = c.args.table;
-  layout = c.args.layout;
+  hands = record {
+    table = c.args.table;
+    layout = c.args.layout;
+    guard = c.in_ok-guard.guard;
+    slots = c.args.slots;
+    ledger = record { moved = c.zero.result; asked = c.zero-2.result };
+    buf = c.in_ok-buf.buf;
+    base = c.head_len.result;
+  };
   kept_layout = c.args.layout;
-  guard = c.in_ok-guard.guard;
-  slots = c.args.slots;
-  ledger = record { moved = c.zero.result; asked = c.zero-2.result };
-  buf = c.in_ok-buf.buf;
-  base = c.head_len.result;
+  items = c.in_ok-items.items;
   broken = false;
 }
 
@@ -47,6 +51,9 @@ is_new g c =
       asked = c.zero-2.ensures;
       base = c.head_len.ensures ∙ ap (λ (b : SuperBlock). head_len b.names) same;
       buf = c.in_ok-buf.ensures;
+      no_items = c.in_ok-items.ensures.empty;
+      items_room = subst (λ (b : SuperBlock). b.names ≤ vec_capacity c.in_ok-items.items) same
+          c.in_ok-items.ensures.room;
       unbroken = refl;
     }
 

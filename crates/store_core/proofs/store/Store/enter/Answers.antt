@@ -1,4 +1,4 @@
-use Rattle.std.proofs.Common.{◌∙◌, ◌⊎◌, ◌<◌, ap, arith, lit<, subst, sym, IsSome, inl, inr}
+use Rattle.std.proofs.Common.{◌∙◌, ◌⊎◌, ◌<◌, ap, arith, lit<, subst, sym, IsSome, inl, inr, rules}
 use Rattle.std.specs.FinMap as fin
 use Rattle.size_class.specs.Rows.{cells_of}
 use Rattle.segment_layout.specs.Layouts.{grid_of}
@@ -7,7 +7,7 @@ use Rattle.spot_terms.specs.Held.{FreesSpot}
 use Rattle.store_core.specs.Stores.{AreInRange}
 use Rattle.store_core.proofs.ChangeLaws.{can_free, place_ends, store_freed, store_put}
 use Rattle.store_core.proofs.EndLaws.{end_low}
-use Rattle.store_core.proofs.InsideLaws.{changed_whole, opened}
+use Rattle.store_core.proofs.InsideLaws.{changed_view, changed_whole, opened}
 use Rattle.store_core.proofs.StoreLaws.{small_if_there}
 use Rattle.store_core.proofs.store.Store.enter.Goals as goal
 
@@ -15,7 +15,7 @@ pub free_spot-requires : goal.free_spot-requires
 free_spot-requires g c x now_is kept_is =
     let t = c.args.self.now in
     let o = opened c.self.inside t c.self.view_is c.self.invariant c.requires.whole in
-    can_free t o.store c.args.name.now c.self.inside.guard o.guard_room o.freed x
+    can_free t o.store c.args.name.now c.self.inside.hands.guard o.guard_room o.freed x
     (ap (λ (m : Spots). fin.get m c.args.name.now) (sym o.now) ∙ sym c.get-now.ensures ∙ now_is)
     (ap (λ (m : Spots). fin.get m c.args.name.now) (sym o.kept) ∙ sym c.old.ensures ∙ kept_is)
 
@@ -42,8 +42,8 @@ set-requires g c =
     let low = place_ends t o.store name c.args.spot.size c.args.spot.place (grid_of c.args.layout)
     c.requires.charged in
     record {
-      room = elim c.requires.room as (λ _. IsSome (fin.get c.self.inside.table.now name)
-          ⊎ (fin.len c.self.inside.table.now < c.self.inside.table.names)) [
+      room = elim c.requires.room as (λ _. IsSome (fin.get c.self.inside.hands.table.now name)
+          ⊎ (fin.len c.self.inside.hands.table.now < c.self.inside.hands.table.names)) [
             | inl there ↦ inl (subst (λ (m : Spots). IsSome (fin.get m name)) (sym o.now) there)
             | inr room ↦ inr (omega (arith, room, o.room, ap (λ (m : Spots). fin.len m) o.now))
           ];
@@ -73,8 +73,19 @@ invariant_of-self g c =
     ))
     (subst AreInRange after c.set.ensures.table.now_in_range))
     (store_freed t o.store name spot.size spot.place (grid_of c.args.layout) c.requires.charged
-    c.self.inside.guard.spans c.free_spot.new.guard.spans o.freed
-    (subst (λ x. FreesSpot x (fin.get t.kept name) c.self.inside.guard.spans c.free_spot.new.guard.spans)
+    c.self.inside.hands.guard.spans c.free_spot.new.guard.spans o.freed
+    (subst (λ x. FreesSpot x (fin.get t.kept name) c.self.inside.hands.guard.spans c.free_spot.new.guard.spans)
     (c.get-now.ensures ∙ ap (λ (m : Spots). fin.get m name) o.now)
-    (subst (λ x. FreesSpot c.get-now.result x c.self.inside.guard.spans c.free_spot.new.guard.spans)
+    (subst (λ x. FreesSpot c.get-now.result x c.self.inside.hands.guard.spans c.free_spot.new.guard.spans)
     (c.old.ensures ∙ ap (λ (m : Spots). fin.get m name) o.kept) c.free_spot.ensures.freed)))
+
+pub returns : goal.returns
+returns g c =
+    let t = c.args.self.now in
+    let name = c.args.name.now in
+    let o = opened c.self.inside t c.self.view_is c.self.invariant c.requires.whole in
+    let after = c.set.ensures.now ∙ ap (λ (m : Spots). fin.insert m name c.args.spot) o.now in
+    let view = changed_view c.self.inside t c.self.view_is c.self.invariant c.set.new.self
+    c.free_spot.new.guard c.add_size.new.ledger c.args.layout (fin.insert t.now name c.args.spot) after c.set.ensures.kept
+    c.requires.caps (c.add_size.ensures.moved ∙ c.add_gone.ensures.moved) in
+    search rules

@@ -15,7 +15,7 @@ pub free_spot-requires : goal.free_spot-requires
 free_spot-requires g c x now_is kept_is =
     let t = c.args.self.now in
     let o = opened c.self.inside t c.self.view_is c.self.invariant c.requires.whole in
-    can_free t o.store c.args.name.now c.self.inside.guard o.guard_room o.freed x
+    can_free t o.store c.args.name.now c.self.inside.hands.guard o.guard_room o.freed x
     (ap (λ (m : Spots). fin.get m c.args.name.now) (sym o.now) ∙ sym c.get-now.ensures ∙ now_is)
     (ap (λ (m : Spots). fin.get m c.args.name.now) (sym o.kept) ∙ sym c.old.ensures ∙ kept_is)
 
@@ -54,8 +54,8 @@ invariant_of-self g c =
       ap (λ (m : Spots). fin.len m) after,
     ))
     (subst AreInRange after c.remove.ensures.table.now_in_range))
-    (freed_gone c.self.inside.guard.spans t.now t.kept o.freed name c.free_spot.new.guard.spans
-    (subst (λ x. FreesSpot x (fin.get t.kept name) c.self.inside.guard.spans c.free_spot.new.guard.spans)
+    (freed_gone c.self.inside.hands.guard.spans t.now t.kept o.freed name c.free_spot.new.guard.spans
+    (subst (λ x. FreesSpot x (fin.get t.kept name) c.self.inside.hands.guard.spans c.free_spot.new.guard.spans)
     (c.get-now.ensures ∙ ap (λ (m : Spots). fin.get m name) o.now)
-    (subst (λ x. FreesSpot c.get-now.result x c.self.inside.guard.spans c.free_spot.new.guard.spans)
+    (subst (λ x. FreesSpot c.get-now.result x c.self.inside.hands.guard.spans c.free_spot.new.guard.spans)
     (c.old.ensures ∙ ap (λ (m : Spots). fin.get m name) o.kept) c.free_spot.ensures.freed)))

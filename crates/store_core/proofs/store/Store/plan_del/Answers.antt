@@ -25,9 +25,10 @@ charge_gone-requires g c =
 pub returns-then-charge_gone-clause-plan : goal.returns-then-charge_gone-clause-plan
 returns-then-charge_gone-clause-plan g c =
     let yes_served = accepted _ _ _ c.in_ok-name.ensures.answer in
-    del_planned c.args.self.now c.args.name.now c.in_ok-name.name (divisor_of c.self.inside.layout)
-    (divisor_of c.charge_gone.new.layout) (caps_of c.self.inside.layout) (caps_of c.charge_gone.new.layout)
-    (grid_of c.self.inside.layout) (grid_of c.charge_gone.new.layout) c.get.result yes_served.0
+    del_planned c.args.self.now c.args.name.now c.in_ok-name.name (divisor_of c.self.inside.hands.layout)
+    (divisor_of c.charge_gone.new.layout) (caps_of c.self.inside.hands.layout)
+    (caps_of c.charge_gone.new.layout)
+    (grid_of c.self.inside.hands.layout) (grid_of c.charge_gone.new.layout) c.get.result yes_served.0
     yes_served.1 (c.self.invariant.divisor ∙ ap (λ (x : Kept). x.in_use.block.k) c.self.view_is)
     (ap (λ (x : Kept). x.book.caps) c.self.view_is) (ap (λ (x : Kept). x.book.grid) c.self.view_is)
     (c.get.ensures ∙ ap (λ (x : Kept). fin.get x.now c.in_ok-name.name) c.self.view_is)

@@ -30,9 +30,10 @@ pub returns-in-Some-clause-plan : goal.returns-in-Some-clause-plan
 returns-in-Some-clause-plan g c =
     let s = c.args.self.now in
     let yes_served = accepted _ _ _ c.in_ok-name.ensures.answer in
-    put_planned s c.args.name.now c.args.bytes.now c.in_ok-name.name (divisor_of c.self.inside.layout)
-    (divisor_of c.charge_put.new.layout) (caps_of c.self.inside.layout) (caps_of c.charge_put.new.layout)
-    (grid_of c.self.inside.layout) (grid_of c.charge_put.new.layout) c.get.result c.in-Some.place
+    put_planned s c.args.name.now c.args.bytes.now c.in_ok-name.name (divisor_of c.self.inside.hands.layout)
+    (divisor_of c.charge_put.new.layout) (caps_of c.self.inside.hands.layout)
+    (caps_of c.charge_put.new.layout)
+    (grid_of c.self.inside.hands.layout) (grid_of c.charge_put.new.layout) c.get.result c.in-Some.place
     yes_served.0 yes_served.1
     (c.self.invariant.divisor ∙ ap (λ (x : Kept). x.in_use.block.k) c.self.view_is)
     (ap (λ (x : Kept). x.book.caps) c.self.view_is) (ap (λ (x : Kept). x.book.grid) c.self.view_is)

@@ -16,7 +16,7 @@ write_new-requires-clause-fits g c =
     let size = length c.args.bytes.now in
     let served = put_served t plan.name c.args.bytes.now c.requires.plan.served in
     let o = opened c.self.inside t c.self.view_is c.self.invariant served.whole in
-    position_fits t c.self.inside.base plan.spot.place size c.requires.sound o.base
+    position_fits t c.self.inside.hands.base plan.spot.place size c.requires.sound o.base
     (place_ends t c.requires.sound plan.name size plan.spot.place (grid_of plan.layout)
     c.requires.plan.charged)
 
@@ -44,7 +44,8 @@ returns-in-Ok-clause-quiet g c =
     let served = put_served t plan.name c.args.bytes.now c.requires.plan.served in
     let o = opened c.self.inside t c.self.view_is c.self.invariant served.whole in
     quiet_effects (put_of plan.name c.args.bytes.now) t c.enter.new.self (g.D.Disk.state c.args.disk.now)
-    (g.D.Disk.state c.write_new.new.disk) _ c.self.inside.base plan.spot.place size c.requires.sound o.base
+    (g.D.Disk.state c.write_new.new.disk) _ c.self.inside.hands.base plan.spot.place size c.requires.sound
+    o.base
     (c.requires.over served.whole)
     (apart_kept t c.requires.sound plan.name size plan.spot.place (grid_of plan.layout)
     c.requires.plan.charged) c.write_new.ensures.writes (calls_ok _ _ c.in-Ok.ensures.calls)
@@ -59,7 +60,8 @@ returns-in-Err-clause-quiet g c =
     let served = put_served t plan.name c.args.bytes.now c.requires.plan.served in
     let o = opened c.self.inside t c.self.view_is c.self.invariant served.whole in
     quiet_effects (put_of plan.name c.args.bytes.now) t _ (g.D.Disk.state c.args.disk.now)
-    (g.D.Disk.state c.write_new.new.disk) _ c.self.inside.base plan.spot.place size c.requires.sound o.base
+    (g.D.Disk.state c.write_new.new.disk) _ c.self.inside.hands.base plan.spot.place size c.requires.sound
+    o.base
     (c.requires.over served.whole)
     (apart_kept t c.requires.sound plan.name size plan.spot.place (grid_of plan.layout)
     c.requires.plan.charged) c.write_new.ensures.writes (calls_err _ _ c.in-Err.ensures.calls) tt

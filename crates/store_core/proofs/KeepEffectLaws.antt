@@ -1,0 +1,251 @@
+-- What a keep does to the disk and to what a crash may leave, and the fields of the store after it.
+use Rattle.std.specs.Prelude.{◌≡◌, ℕ, ◌+◌, ◌<◌, ◌^◌, true, false, List, [], length, Result, Ok, Err, IsTrue, vec_len, refl}
+use Rattle.std.proofs.Common.{arith, ap, sym, ◌∙◌, subst, inl, inr}
+use Rattle.std.specs.FinMap as fin
+use Rattle.std.specs.Global.{Vec}
+use Rattle.disk_face.specs.States as disk
+use Rattle.disk_face.specs.Frames.{Calls}
+use Rattle.disk_face.specs.Moments.{Leaves, Rests}
+use Rattle.disk_face.specs.Writes.{KeepsDisk}
+use Rattle.disk_face.proofs.MomentLaws.{Leaves-weaken}
+use Rattle.size_class.specs.declared.TheConstants.{SIZE_MAX}
+use Rattle.held_guard.specs.Freed.{Freed}
+use Rattle.slot_codec.specs.Choice as choice
+use Rattle.slot_codec.specs.Reading.{worn_from}
+use Rattle.slot_codec.specs.Spelling.{head_len}
+use Rattle.slot_codec.specs.declared.codec.Header.{Header}
+use Rattle.slot_codec.proofs.ChoiceLaws.{table_chosen}
+use Rattle.slot_pair.specs.Saves.{IsSaved, LeavesEither, SaveLeaves, next_chosen, next_in_use, save_calls}
+use Rattle.store_terms.specs.Requests as ask
+use Rattle.segment_layout.specs.Layouts.{caps_of, grid_of}
+use Rattle.extent_table.specs.Extents.{Extents, IsTable, records_of}
+use Rattle.spot_terms.specs.Held.{IsFreed}
+use Rattle.spot_terms.specs.LaidOut.{shown_book}
+use Rattle.spot_terms.proofs.GuardLaws.{freed_nothing}
+use Rattle.store_core.specs.declared.answers.Refusal.{Refusal}
+use Rattle.store_core.specs.declared.answers.Done.{Done}
+use Rattle.store_core.specs.declared.store.Store.TheInside.{Inside}
+use Rattle.store_core.specs.Connection.{IsConnected, IsOver, Kept, RestsOnTable, SameOnTable, base_of, limits_of, state_of}
+use Rattle.store_core.specs.Inside.{IsWhole, kept_of}
+use Rattle.store_core.specs.Keeps.{IsEitherImage, KeepsNow, kept_now}
+use Rattle.store_core.specs.States.{Step}
+use Rattle.store_core.specs.Stores.{IsStore}
+use Rattle.store_core.proofs.InsideLaws.{opened}
+use Rattle.store_core.proofs.KeepLaws.{header_now, kept_opens, length-records_of, now_opens, over_kept, step_kept, store_kept, table_now}
+use Rattle.store_core.proofs.OverLaws.{same_itself}
+
+-- ---- what a save leaves
+
+module _ {classes : ℕ} (s : Kept) (h : IsStore classes s) (fresh : s.in_use.sequence < 2 ^ 61) where
+  abbrev base : ℕ
+  base = base_of s
+
+  module _ {a d : disk.State} (over : IsOver classes s a.file)
+      (left : SaveLeaves s.in_use (header_now s) (records_of s.now) a d) where
+    chosen : choice.chosen a.file ≡ Ok over.table.chosen
+    chosen = (table_chosen a.file over.table over.checkpoint.opens.read).0
+
+    -- each image that a save may leave is of the last checkpoint, or of now
+    either_image : RestsOnTable base s.kept a → (image : List ℕ)
+        → LeavesEither s.in_use over.table.chosen (header_now s) (records_of s.now) a.may_leave a.file image
+        → IsEitherImage classes s a.file image
+    either_image rests image (inr new) = record {
+      same_length = sym new.data_part.same_length;
+      opens = inr (record {
+        table = table_now s;
+        opens = now_opens s h a.file over image new.table new.data_part;
+      });
+    }
+    either_image rests image (inl old) = record {
+      same_length = sym old.data_part.same_length ∙ was.same_length;
+      opens = inl (record {
+        table = over.table;
+        opens = kept_opens s h a.file over old.before image was old.table old.data_part;
+      });
+    }
+      where
+        was : SameOnTable base s.kept a.file old.before
+        was = elim old.was as (λ _. SameOnTable base s.kept a.file old.before) [
+          | inl left ↦ rests old.before left
+          | inr same ↦ subst (SameOnTable base s.kept a.file) (sym same) (same_itself base s.kept a.file)
+        ]
+
+    pub left_either : RestsOnTable base s.kept a → Leaves a d (IsEitherImage classes s a.file)
+    left_either rests = Leaves-weaken (IsEitherImage classes s a.file) (either_image rests)
+        (left.images over.table.chosen chosen (omega (arith, fresh)) (λ image is. record {
+          long = omega (arith, over.same_length, (rests image is).same_length);
+          bytes = (rests image is).below;
+        }))
+
+    pub content_either : IsEitherImage classes s a.file d.file
+    content_either = record {
+      same_length = sym left.data_part.same_length;
+      opens = elim (left.old_or_new over.table.chosen chosen (omega (arith, fresh))) [
+        | inl keeps ↦ inl (record {
+          table = over.table;
+          opens = kept_opens s h a.file over a.file d.file (same_itself base s.kept a.file) keeps
+              left.data_part;
+        })
+        | inr saved ↦ inr (record {
+          table = table_now s;
+          opens = now_opens s h a.file over d.file saved left.data_part;
+        })
+      ];
+    }
+
+  -- ---- what a keep does
+
+  calls_of_names : {A E : Type 0} {a d : disk.State} (result : Result A E)
+      → Calls (save_calls (length (records_of s.now))) a d result
+      → Calls (save_calls (fin.len s.now)) a d result
+  calls_of_names {A} {E} {a} {d} result =
+      subst (λ (n : ℕ). Calls (save_calls n) a d result) (length-records_of s.now h.now.named)
+
+  module _ {a d : disk.State} (over : IsTrue a.tells → IsOver classes s a.file)
+      (left : IsTrue a.tells → SaveLeaves s.in_use (header_now s) (records_of s.now) a d) (frame : KeepsDisk a d)
+    where
+      pub keeps_saved : (answer : Done) (new : Kept) → new ≡ kept_now s
+          → (IsTrue a.tells → IsSaved (table_now s).chosen (records_of s.now) d.file)
+          → (IsTrue a.tells → Rests d)
+          → Calls {E = Refusal} (save_calls (length (records_of s.now))) a d (Ok answer)
+          → KeepsNow classes s new a d (Ok answer)
+      keeps_saved answer new is saved rests calls = record {
+        value = is;
+        failed = tt;
+        saved = λ told. record {
+          table = table_now s;
+          opens = now_opens s h a.file (over told) d.file (saved told) (left told).data_part;
+        };
+        content = λ told. content_either (over told) (left told);
+        left = λ told on_table. left_either (over told) (left told) on_table;
+        rests = rests;
+        on_table = λ told image is_left. subst (SameOnTable (base_of new) new.kept d.file)
+            (sym (rests told image is_left))
+            (same_itself (base_of new) new.kept d.file);
+        calls = calls_of_names (Ok answer) calls;
+        frame = frame;
+      }
+
+      pub keeps_failed : (refused : Refusal) (new : Kept) → new ≡ record s { is_broken = true }
+          → Calls {T = Done} (save_calls (length (records_of s.now))) a d (Err refused)
+          → KeepsNow classes s new a d (Err refused)
+      keeps_failed refused new is calls = record {
+        value = tt;
+        failed = is;
+        saved = λ told. tt;
+        content = λ told. content_either (over told) (left told);
+        left = λ told on_table. left_either (over told) (left told) on_table;
+        rests = λ told. tt;
+        on_table = λ told. tt;
+        calls = calls_of_names (Err refused) calls;
+        frame = frame;
+      }
+
+-- ---- the fields
+
+module _ {C : ℕ} (s : Inside C) (whole : IsWhole s) (table : Extents) (guard : Freed) (slots : choice.InUse)
+    (buf : Vec ℕ) (same_slots : slots ≡ next_in_use s.hands.slots) (now : table.now ≡ s.hands.table.now)
+    (kept : table.kept ≡ s.hands.table.now) where
+  abbrev kept_inside : Inside C
+  kept_inside = record s {
+    hands = record s.hands { table = table; guard = guard; slots = slots; buf = buf };
+    kept_layout = s.hands.layout;
+  }
+
+  pub kept_view : kept_of kept_inside ≡ kept_now (kept_of s)
+  kept_view = λ i. record (kept_of s) {
+    in_use = same_slots i;
+    now = now i;
+    kept = kept i;
+    book = shown_book C SIZE_MAX (same_slots i).block.k (caps_of s.hands.layout) (grid_of s.hands.layout)
+        (now i);
+    kept_book = shown_book C SIZE_MAX (same_slots i).block.k (caps_of s.hands.layout) (grid_of s.hands.layout)
+        (kept i);
+  }
+
+  pub kept_whole : IsTable table → table.names ≡ s.hands.table.names → guard.spans ≡ []
+      → guard.room ≡ s.hands.guard.room → vec_len buf ≡ 65536 → IsWhole kept_inside
+  kept_whole is_table names spans room full =
+      let names_stay : slots.block.names ≡ s.hands.slots.block.names =
+      ap (λ (u : choice.InUse). u.block.names) same_slots in
+      let k_stays : slots.block.k ≡ s.hands.slots.block.k = ap (λ (u : choice.InUse). u.block.k) same_slots in
+      record {
+        classes = whole.classes;
+        wide = whole.wide;
+        base = whole.base ∙ ap head_len (sym names_stay);
+        few = omega (arith, whole.few, names_stay);
+        buf = full;
+        no_items = whole.no_items;
+        items_room = omega (arith, whole.items_room, names_stay);
+        divisor = whole.divisor ∙ sym k_stays;
+        kept_divisor = whole.divisor ∙ sym k_stays;
+        kept_caps = refl;
+        room = names ∙ whole.room ∙ sym names_stay;
+        guard_room = room ∙ whole.guard_room ∙ sym names_stay;
+        table = is_table;
+        sound = λ sound. subst (IsStore C) (sym kept_view) (store_kept (kept_of s) (whole.sound sound));
+        freed = λ sound. subst (λ xs. IsFreed xs table.now table.kept) (sym spans)
+            (subst (λ x. IsFreed [] x table.kept) (kept ∙ sym now) (freed_nothing table.kept));
+      }
+
+-- ---- what contracts see
+
+-- What holds of the fields and of the header that was saved, holds of what contracts see and of its header.
+seen : {C : ℕ} (P : Kept → Header → Type 0) (s : Inside C) (t : Kept) → kept_of s ≡ t → (h : Header)
+    → h ≡ header_now (kept_of s) → P (kept_of s) h → P t (header_now t)
+seen P s t is h same p = subst (λ x. P x (header_now x)) is (subst (P (kept_of s)) same p)
+
+module _ {C : ℕ} (s : Inside C) (t : Kept) (is : kept_of s ≡ t) (whole : IsWhole s)
+    (unbroken : t.is_broken ≡ false) (fresh : t.in_use.sequence < 2 ^ 61) (h : Header)
+    (same : h ≡ header_now (kept_of s)) {a d : disk.State} (connected : IsConnected C t a)
+    (leaves : IsTrue a.tells → SaveLeaves s.hands.slots h (records_of s.hands.table.now) a d)
+    (frame : KeepsDisk a d) where
+  store : IsStore C t
+  store = (opened s t is whole unbroken).store
+
+  left_seen : IsTrue a.tells → SaveLeaves t.in_use (header_now t) (records_of t.now) a d
+  left_seen told = seen (λ x h. SaveLeaves x.in_use h (records_of x.now) a d) s t is h same (leaves told)
+
+  calls_seen : {A : Type 0} (result : Result A Refusal)
+      → Calls (save_calls (length (records_of s.hands.table.now))) a d result
+      → Calls (save_calls (length (records_of t.now))) a d result
+  calls_seen result = subst (λ (x : Kept). Calls (save_calls (length (records_of x.now))) a d result) is
+
+  pub keep_failed : (refused : Refusal) (new : Kept) → new ≡ record (kept_of s) { is_broken = true }
+      → Calls {T = Done} (save_calls (length (records_of s.hands.table.now))) a d (Err refused)
+      → KeepsNow C t new a d (Err refused)
+  keep_failed refused new new_is calls = keeps_failed t store fresh (connected unbroken) left_seen frame refused
+      new (new_is ∙ ap (λ (x : Kept). record x { is_broken = true }) is) (calls_seen (Err refused) calls)
+
+  module _ (saved : IsTrue a.tells → s.hands.slots.sequence + 1 < worn_from h.kind
+      → IsSaved (next_chosen s.hands.slots h (length (records_of s.hands.table.now)))
+      (records_of s.hands.table.now) d.file)
+      (in_use : IsTrue a.tells → choice.slot_in_use d.file ≡ Ok (next_in_use s.hands.slots)) (new : Kept)
+      (new_is : new ≡ kept_now (kept_of s)) where
+    saved_seen : IsTrue a.tells → IsSaved (table_now t).chosen (records_of t.now) d.file
+    saved_seen told = seen (λ x h. x.in_use.sequence + 1 < worn_from h.kind
+        → IsSaved (next_chosen x.in_use h (length (records_of x.now))) (records_of x.now) d.file) s t is h same
+        (saved told) (omega (arith, fresh))
+
+    new_seen : new ≡ kept_now t
+    new_seen = new_is ∙ ap kept_now is
+
+    pub keep_done : (answer : Done) → (IsTrue a.tells → Rests d)
+        → Calls {E = Refusal} (save_calls (length (records_of s.hands.table.now))) a d (Ok answer)
+        → KeepsNow C t new a d (Ok answer)
+    keep_done answer rests calls = keeps_saved t store fresh (connected unbroken) left_seen frame answer new
+        new_seen saved_seen rests (calls_seen (Ok answer) calls)
+
+    pub keep_step : IsTrue a.tells
+        → Step (limits_of t) (state_of t a.file) ask.keep ask.kept (state_of new d.file)
+    keep_step told = subst (λ (x : Kept). Step (limits_of t) (state_of t a.file) ask.keep ask.kept
+        (state_of x d.file)) (sym new_seen)
+        (step_kept t store a.file (connected unbroken told) d.file (saved_seen told) (left_seen told).data_part
+        fresh)
+
+    pub keep_over : IsTrue d.tells → IsOver C new d.file
+    keep_over told =
+        let first = subst IsTrue frame.stays.told told in
+        subst (λ (x : Kept). IsOver C x d.file) (sym new_seen)
+        (over_kept t store a.file (connected unbroken first) d.file (saved_seen first)
+        (left_seen first).data_part (in_use first ∙ ap (λ (x : Kept). Ok (next_in_use x.in_use)) is))

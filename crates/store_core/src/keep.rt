@@ -1,0 +1,109 @@
+//! Keeping what stands now as the checkpoint.
+ghost use Rattle.std.specs.Prelude.{◌≡◌, ◌<◌, ◌≤◌, ◌^◌, ◌||◌, false, [], IfSome, IsNone, IsSome, IsTrue, None, OnOk};
+ghost use Rattle.slot_codec.specs.Reading.{all_in_range};
+ghost use Rattle.segment_layout.specs.Layouts.{caps_of, grid_of};
+ghost use Rattle.extent_table.specs.Extents.{IsTable};
+ghost use Rattle.spot_terms.specs.Laid as laid;
+ghost use Rattle.store_terms.specs.Requests as ask;
+
+use crate::plan::WORN_FROM;
+use crate::{Done, Refusal, Store};
+use disk_face::{Disk, DiskFault};
+use extent_table::Table;
+use held_guard::Guard;
+use segment_layout::Layout;
+use slot_codec::{Header, Kind};
+
+impl<const C: usize> Store<C> {
+    ghost use Rattle.store_core.specs.Answers.{done_reply, is_disk_fault, refused_by, reply_of};
+    ghost use Rattle.store_core.specs.Changes.{NothingChanged};
+    ghost use Rattle.store_core.specs.Connection.{IsConnected, limits_of, state_of};
+    ghost use Rattle.store_core.specs.Keeps.{AnswersKeep, KeepsNow};
+    ghost use Rattle.store_core.specs.States.{Step};
+
+    /// Saves a checkpoint of what stands now, to which the store goes back from then on. After a fault
+    /// of the disk the store is broken, and the file opens to the last checkpoint or to what stands now.
+    pub fn keep<D: Disk>(&mut self, disk: &mut D) -> Result<Done, Refusal>
+        requires ready { IsTrue (D.state disk.old).is_ready }
+        requires over { IsConnected C self.old (D.state disk.old) }
+        ensures answer { AnswersKeep (refused_by self.old ask.keep) result }
+        ensures refused { IsSome (refused_by self.old ask.keep)
+            → NothingChanged self.old self.new (D.state disk.old) (D.state disk.new) }
+        ensures kept { IsNone (refused_by self.old ask.keep)
+            → KeepsNow C self.old self.new (D.state disk.old) (D.state disk.new) result }
+        ensures step { self.old.is_broken ≡ false → IsTrue (D.state disk.old).tells
+            → IfSome (reply_of done_reply result) (λ reply. Step (limits_of self.old)
+            (state_of self.old (D.state disk.old).file) ask.keep reply
+            (state_of self.new (D.state disk.new).file)) }
+        ensures over { IsConnected C self.new (D.state disk.new) }
+        ensures broken { self.new.is_broken ≡ (self.old.is_broken || is_disk_fault result) }
+    {
+        if self.is_broken() {
+            return Err(Refusal::Broken);
+        }
+        if self.hands.slots.sequence() >= WORN_FROM {
+            return Err(Refusal::Worn);
+        }
+        self.save_now(disk)
+    }
+
+    /// Saves a checkpoint of what stands now.
+    fn save_now<D: Disk>(&mut self, disk: &mut D) -> Result<Done, Refusal>
+        requires ready { IsTrue (D.state disk.old).is_ready }
+        requires over { IsConnected C self.old (D.state disk.old) }
+        requires whole { self.old.is_broken ≡ false }
+        requires fresh { self.old.in_use.sequence < 2 ^ 61 }
+        ensures answer { AnswersKeep None result }
+        ensures kept { KeepsNow C self.old self.new (D.state disk.old) (D.state disk.new) result }
+        ensures step { IsTrue (D.state disk.old).tells → OnOk result (Step (limits_of self.old)
+            (state_of self.old (D.state disk.old).file) ask.keep ask.kept
+            (state_of self.new (D.state disk.new).file)) }
+        ensures over { IsConnected C self.new (D.state disk.new) }
+        ensures broken { self.new.is_broken ≡ is_disk_fault result }
+    {
+        let next = header_of(&self.hands.layout);
+        let hands = &mut self.hands;
+        match hands.slots.save(disk, &next, &hands.table, &mut hands.buf) {
+            Ok(_) => {
+                keep_spots(&mut hands.table, &mut hands.guard);
+                self.kept_layout = hands.layout;
+                Ok(Done { kept: true })
+            }
+            Err(DiskFault) => {
+                self.broken = true;
+                Err(Refusal::Disk)
+            }
+        }
+    }
+}
+
+/// What stands now is kept, and no other space is held.
+fn keep_spots(table: &mut Table, guard: &mut Guard)
+    ensures now { table.new.now ≡ table.old.now }
+    ensures kept { table.new.kept ≡ table.old.now }
+    ensures names { table.new.names ≡ table.old.names }
+    ensures table { IsTable table.new }
+    ensures empty { guard.new.spans ≡ [] }
+    ensures room { guard.new.room ≡ guard.old.room }
+{
+    table.keep();
+    guard.clear();
+}
+
+/// The header of a settled table of a layout; a save gives it its sequence and its count.
+pub(crate) fn header_of<const C: usize>(layout: &Layout<C>) -> Header
+    requires fits { C ≤ 32 }
+    ensures header { result ≡ laid.settled_header (caps_of layout.now) (grid_of layout.now) }
+    ensures ranges { IsTrue (all_in_range result) }
+{
+    Header {
+        kind: Kind::Settled,
+        boundary: 0,
+        sequence: 0,
+        count: 0,
+        wall: 0,
+        slack: 0,
+        caps: layout.caps().cells(),
+        used: layout.used().cells(),
+    }
+}
