@@ -1,0 +1,2 @@
+pub mod ChargedLaws
+pub mod GatherLaws
