@@ -240,12 +240,12 @@ module _ (k : ℕ) (caps : List ℕ) where
   placed_grid grid after size (Some place) p = p.charged.after_is
 
 -- the class that is answered is the trigger
-pub outcome_class : (k k' : ℕ) (caps caps' : List ℕ) (grid mid after : List (List ℕ)) (old : Option Spot) (size : ℕ)
-    (gone : Bool) (first class : ℕ) (place : Option ℕ) (found : Bool) → k' ≡ k → caps' ≡ caps
-    → mid ≡ between k caps grid old → gone ≡ is_quiet (gone_charged k caps grid old)
-    → (n : ℕ) → n ≡ size_at old → first ≡ lesser 31 (n, gone) → found ≡ is_some place → class ≡ lesser first (size, found)
-    → PlacesNew k' caps' mid size after place → class ≡ trigger (charged_by k caps grid old size)
-outcome_class k k' caps caps' grid mid after old size gone first class place found same_k same_caps same_mid quiet
+pub outcome_class : (k k' : ℕ) (caps caps' : List ℕ) (grid middle after : List (List ℕ)) (old : Option Spot) (size : ℕ)
+    (went : Bool) (first class : ℕ) (place : Option ℕ) (found : Bool) → k' ≡ k → caps' ≡ caps
+    → middle ≡ between k caps grid old → went ≡ is_quiet (gone_charged k caps grid old)
+    → (n : ℕ) → n ≡ size_at old → first ≡ lesser 31 (n, went) → found ≡ is_some place → class ≡ lesser first (size, found)
+    → PlacesNew k' caps' middle size after place → class ≡ trigger (charged_by k caps grid old size)
+outcome_class k k' caps caps' grid middle after old size went first class place found same_k same_caps same_mid quiet
     n is_size is_first is_found is placed =
     let p : PlacesNew k caps (between k caps grid old) size after place =
     subst (λ x. PlacesNew x caps (between k caps grid old) size after place) same_k

@@ -1,2 +1,4 @@
 pub mod ChargedLaws
 pub mod GatherLaws
+pub mod GoneAboveLaws
+pub mod BelowLaws
