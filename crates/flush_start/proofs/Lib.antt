@@ -2,3 +2,4 @@ pub mod ChargedLaws
 pub mod GatherLaws
 pub mod GoneAboveLaws
 pub mod BelowLaws
+pub mod SuffixLaws
