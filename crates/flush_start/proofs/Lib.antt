@@ -3,3 +3,5 @@ pub mod GatherLaws
 pub mod GoneAboveLaws
 pub mod BelowLaws
 pub mod SuffixLaws
+pub mod StartLaws
+pub mod CanFlushLaws

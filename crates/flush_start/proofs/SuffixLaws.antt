@@ -61,7 +61,7 @@ module _ (b : ℕ) (e : Extents) where
   abbrev es : List (List ℕ × Spot)
   es = fin.entries e.now
 
-  stands_at : (n : ℕ) (x : List ℕ × Spot) → slice_get es n ≡ Some x → fin.get e.now x.0 ≡ Some x.1
+  pub stands_at : (n : ℕ) (x : List ℕ × Spot) → slice_get es n ≡ Some x → fin.get e.now x.0 ≡ Some x.1
   stands_at n x at = fin.get-entries e.now x.0 ∙ found_by_name es n x (fin.entries_sorted e.now) at
 
   pub got_item : (i : ℕ) (it : Item) → slice_get (suffix_items b e) i ≡ Some it → ItemOf b e it
