@@ -5,3 +5,6 @@ pub mod BelowLaws
 pub mod SuffixLaws
 pub mod StartLaws
 pub mod CanFlushLaws
+pub mod SizedLaws
+pub mod EndLaws
+pub mod ReachLaws
