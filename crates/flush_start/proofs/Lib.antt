@@ -8,3 +8,4 @@ pub mod CanFlushLaws
 pub mod SizedLaws
 pub mod EndLaws
 pub mod ReachLaws
+pub mod HandsLaws

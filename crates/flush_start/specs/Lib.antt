@@ -3,3 +3,4 @@ pub mod Gathering
 pub mod Below
 pub mod Starts
 pub mod Sized
+pub mod Begun
