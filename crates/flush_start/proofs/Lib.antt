@@ -9,3 +9,4 @@ pub mod SizedLaws
 pub mod EndLaws
 pub mod ReachLaws
 pub mod HandsLaws
+pub mod NextBookLaws
