@@ -10,3 +10,4 @@ pub mod EndLaws
 pub mod ReachLaws
 pub mod HandsLaws
 pub mod NextBookLaws
+pub mod LiftStartLaws

@@ -88,7 +88,7 @@ module _ (classes size_max : ℕ) (caps : List ℕ) (grid kept_grid : List (List
   same_charges : charge_change k m book c ≡ charged
   same_charges = λ i. charge_all k caps grid (old_is i ++ item_is c.object i)
 
-  abbrev names : Names
+  abbrev pub names : Names
   names = buffered_after book c charged
 
   pub next_is : (next_book k m book c).book ≡ record {
@@ -138,7 +138,7 @@ module _ (classes size_max : ℕ) (caps : List ℕ) (grid kept_grid : List (List
   settled = settled_table classes size_max k caps grid e.now
 
   -- what is said of the table, if it lies by these capacities
-  abbrev begun : ℕ → ℕ → ℕ → Spots → PlacedTable
+  abbrev pub begun : ℕ → ℕ → ℕ → Spots → PlacedTable
   begun wall slack reach now = laid classes size_max k reach (begun_header b wall slack caps after) now
 
   -- whether another name stands in a buffer is as it was
