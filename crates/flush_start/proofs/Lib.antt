@@ -11,3 +11,4 @@ pub mod ReachLaws
 pub mod HandsLaws
 pub mod NextBookLaws
 pub mod LiftStartLaws
+pub mod LooseLaws
