@@ -1,6 +1,6 @@
 -- The items of a table from which a flush may begin: the plan of a flush may begin with them.
-use Rattle.std.specs.Prelude.{◌≡◌, ◌⊎◌, ℕ, ◌+◌, ◌^◌, ◌<◌, ◌≤◌, nat_le, nat_lt, ◌&&◌, List, length, Some, None, Contains, IsTrue, refl, true, false}
-use Rattle.std.proofs.Common.{arith, sym, ◌∙◌, ap, subst, inl, inr}
+use Rattle.std.specs.Prelude.{◌≡◌, ◌⊎◌, ℕ, ◌+◌, ◌<◌, ◌≤◌, nat_le, nat_lt, List, Some, None, IsTrue, refl, true, false}
+use Rattle.std.proofs.Common.{arith, ap, subst, inl, inr}
 use Rattle.std.proofs.lemmas.Bool.{and_from, and_parts, le-leb, lt-ltb, ltb-true}
 use Rattle.std.specs.FinMap as fin
 use Rattle.size_class.specs.Classes.{class_of}
@@ -17,14 +17,14 @@ use Rattle.spot_terms.proofs.EnterLaws.{by_name}
 use Rattle.spot_terms.proofs.GoneLaws.{apart_by_name}
 use Rattle.spot_terms.proofs.SegmentLaws.{lies_parts}
 use Rattle.flush_plan.specs.declared.item.Item.{Item}
-use Rattle.flush_plan.specs.Begins.{Begins, IsPending}
+use Rattle.flush_plan.specs.Begins.{Begins}
 use Rattle.flush_plan.specs.Phases.{CanFlush}
 use Rattle.flush_plan.specs.Plans.{IsInBuffer, ItemsApart, numbers_of, stands_in_payload}
 use Rattle.flush_plan.proofs.NumbersLaws.{reach_is}
 use Rattle.flush_run.specs.Hands.{spot_item, suffix_items}
 use Rattle.flush_start.specs.Gathering.{is_from, item_at}
 use Rattle.flush_start.specs.Starts.{CanStart, IsWith}
-use Rattle.flush_start.proofs.SuffixLaws.{ItemOf, has_item, key_other, keys_differ, pairs_of, stands_at}
+use Rattle.flush_start.proofs.SuffixLaws.{has_item, key_other, keys_differ, pairs_of, stands_at}
 
 module _ (classes size_max : ℕ) (caps : List ℕ) (grid kept_grid : List (List ℕ)) (b : ℕ) (u : choice.InUse)
     (e : Extents) (spans : List Span) (h : CanStart classes size_max caps grid kept_grid b u e spans) where
@@ -47,12 +47,15 @@ module _ (classes size_max : ℕ) (caps : List ℕ) (grid kept_grid : List (List
         | inr (j, low, wide, here) ↦
             let q = lies_parts (buffer_start k caps j) (buffer_start k caps j + taken_in grid j) (record_of (name, s))
             here in
-            inr (j, record {
-              within = wide;
-              class = low;
-              low = q.0;
-              high = omega (arith, q.1, h.below.filled.rows j wide);
-            })
+            inr (
+              j,
+              record {
+                within = wide;
+                class = low;
+                low = q.0;
+                high = omega (arith, q.1, h.below.filled.rows j wide);
+              },
+            )
       ]
 
   each_apart : (x y : List ℕ × Spot) → fin.get e.now x.0 ≡ Some x.1 → fin.get e.now y.0 ≡ Some y.1 → 1 ≤ x.1.size

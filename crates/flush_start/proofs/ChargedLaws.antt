@@ -1,18 +1,17 @@
 -- What came of the charges of a change: of each item, of both, and the least class of what found no room.
-use Rattle.std.specs.Prelude.{◌≡◌, ◌⊎◌, ℕ, ◌+◌, ◌^◌, ◌<◌, ◌≤◌, nat_lt, min, Bool, true, false, ◌&&◌, cond, List, [], ◌∷◌, ◌++◌, fold, Option, Some, None, IfSome, is_some, refl}
-use Rattle.std.specs.List.{list_all}
+use Rattle.std.specs.Prelude.{◌≡◌, ◌⊎◌, ℕ, ◌^◌, ◌<◌, ◌≤◌, nat_lt, min, Bool, true, false, ◌&&◌, List, [], ◌∷◌, fold, Option, Some, None, IfSome, is_some, refl}
 use Rattle.std.proofs.Common.{arith, sym, ◌∙◌, ap, subst, inl, inr}
-use Rattle.std.proofs.lemmas.Bool.{cases_Bool, cases_lt, cond-false, cond-true, lt-ltb}
+use Rattle.std.proofs.lemmas.Bool.{cases_Bool, cases_lt, cond-false, cond-true}
 use Rattle.std.proofs.lemmas.List.Folds.{list_all-append}
 use Rattle.std.proofs.lemmas.List.Sums.{fold-append}
 use Rattle.std.specs.FinMap as fin
-use Rattle.size_class.specs.Classes.{class_of, width}
+use Rattle.size_class.specs.Classes.{class_of}
 use Rattle.segment_layout.specs.Shapes.{buffer_for, with_entry}
 use Rattle.segment_layout.specs.Books.{Charged, charge_all, entered_at, is_quiet, some_size, trigger}
 use Rattle.extent_table.specs.declared.spot.Spot.{Spot}
-use Rattle.spot_terms.specs.Quiet.{PlacedTo, QuietTo, gone_items, is_in_payload}
+use Rattle.spot_terms.specs.Quiet.{gone_items, is_in_payload}
 use Rattle.spot_terms.proofs.LaidOutLaws.{class_in_use}
-use Rattle.spot_terms.proofs.QuietLaws.{charge_all-split, found_one, some_size-some}
+use Rattle.spot_terms.proofs.QuietLaws.{charge_all-split, some_size-some}
 use Rattle.flush_start.specs.Charging.{PlacesNew, between, charged_by, gone_charged, lesser, new_charged, size_at}
 
 -- the class of a size is one of those in use
@@ -239,6 +238,25 @@ module _ (k : ℕ) (caps : List ℕ) where
   placed_grid grid after size None p = p.1 ∙ sym (loud_grid grid (some_size size) (new_tried grid size) p.0)
   placed_grid grid after size (Some place) p = p.charged.after_is
 
+-- the layout that the new object finds is the one that the old one's charge left
+placed_between : (k k' : ℕ) (caps caps' : List ℕ) (grid middle after : List (List ℕ)) (old : Option Spot) (size : ℕ)
+    (place : Option ℕ) → k' ≡ k → caps' ≡ caps → middle ≡ between k caps grid old
+    → PlacesNew k' caps' middle size after place → PlacesNew k caps (between k caps grid old) size after place
+placed_between k k' caps caps' grid middle after old size place same_k same_caps same_mid placed =
+    subst (λ x. PlacesNew x caps (between k caps grid old) size after place) same_k
+    (subst (λ x. PlacesNew k' x (between k caps grid old) size after place) same_caps
+    (subst (λ x. PlacesNew k' caps' x size after place) same_mid placed))
+
+-- the change is quiet where both found room
+pub outcome_quiet : (k k' : ℕ) (caps caps' : List ℕ) (grid middle after : List (List ℕ)) (old : Option Spot) (size : ℕ)
+    (went : Bool) (place : Option ℕ) → k' ≡ k → caps' ≡ caps → middle ≡ between k caps grid old
+    → went ≡ is_quiet (gone_charged k caps grid old) → PlacesNew k' caps' middle size after place
+    → is_quiet (charged_by k caps grid old size) ≡ (went && is_some place)
+outcome_quiet k k' caps caps' grid middle after old size went place same_k same_caps same_mid quiet placed =
+    both_quiet k caps grid old size
+    ∙ (λ i. sym quiet i && sym (placed_quiet k caps (between k caps grid old) after size place
+    (placed_between k k' caps caps' grid middle after old size place same_k same_caps same_mid placed)) i)
+
 -- the class that is answered is the trigger
 pub outcome_class : (k k' : ℕ) (caps caps' : List ℕ) (grid middle after : List (List ℕ)) (old : Option Spot) (size : ℕ)
     (went : Bool) (first class : ℕ) (place : Option ℕ) (found : Bool) → k' ≡ k → caps' ≡ caps
@@ -247,10 +265,7 @@ pub outcome_class : (k k' : ℕ) (caps caps' : List ℕ) (grid middle after : Li
     → PlacesNew k' caps' middle size after place → class ≡ trigger (charged_by k caps grid old size)
 outcome_class k k' caps caps' grid middle after old size went first class place found same_k same_caps same_mid quiet
     n is_size is_first is_found is placed =
-    let p : PlacesNew k caps (between k caps grid old) size after place =
-    subst (λ x. PlacesNew x caps (between k caps grid old) size after place) same_k
-    (subst (λ x. PlacesNew k' x (between k caps grid old) size after place) same_caps
-    (subst (λ x. PlacesNew k' caps' x size after place) same_mid placed)) in
+    let p = placed_between k k' caps caps' grid middle after old size place same_k same_caps same_mid placed in
     is ∙ (λ i. lesser ((is_first ∙ (λ j. lesser 31 (is_size j, quiet j))) i)
     (size, (is_found ∙ placed_quiet k caps (between k caps grid old) after size place p) i))
     ∙ sym (trigger_is k caps grid old size)

@@ -1,6 +1,6 @@
 -- A name whose object is of a class from b on is gone, and nothing is charged: what a table keeps of the
 -- classes below b doesn't see it.
-use Rattle.std.specs.Prelude.{◌≡◌, ℕ, ◌+◌, ◌<◌, ◌≤◌, ◌==◌, nat_lt, Bool, true, false, ◌&&◌, cond, List, length, sum_by, Some, None}
+use Rattle.std.specs.Prelude.{◌≡◌, ℕ, ◌<◌, ◌≤◌, ◌==◌, nat_lt, Bool, false, ◌&&◌, cond, List, length, sum_by, Some, None}
 use Rattle.std.proofs.Common.{arith, sym, ◌∙◌, ap, subst, inl, inr}
 use Rattle.std.proofs.lemmas.Bool.{and_parts, cases_Bool, cond-false, cond-true, eqb-true}
 use Rattle.std.specs.FinMap as fin

@@ -1,15 +1,14 @@
 -- What a flush holds where it begins: with nothing pending, and with a pending object behind the room for what
 -- is lifted.
-use Rattle.std.specs.Prelude.{◌≡◌, ◌⊎◌, ℕ, ◌+◌, ◌^◌, ◌<◌, ◌≤◌, nat_le, nat_lt, true, false, ◌&&◌, List, [], ◌∷◌, ◌++◌, length, Option, Some, None, IsPermutation, refl}
+use Rattle.std.specs.Prelude.{◌≡◌, ◌⊎◌, ℕ, ◌+◌, ◌≤◌, nat_le, nat_lt, true, List, [], ◌∷◌, ◌++◌, Some, None, IsPermutation, refl}
 use Rattle.std.proofs.Common.{arith, sym, ◌∙◌, ap, subst, inl, inr}
 use Rattle.std.proofs.lemmas.Bool.{and_from, cases_Bool, le-leb, lt-ltb}
 use Rattle.std.proofs.lemmas.List.Sorted.{IsPermutation-sym, IsPermutation-trans}
 use Rattle.std.specs.FinMap as fin
-use Rattle.size_class.specs.Classes.{class_of, width}
+use Rattle.size_class.specs.Classes.{class_of}
 use Rattle.slot_codec.specs.Choice as choice
 use Rattle.slot_codec.specs.Names.{IsName}
 use Rattle.slot_codec.specs.Spelling.{head_len}
-use Rattle.slot_codec.specs.declared.codec.Header.{Header}
 use Rattle.slot_codec.specs.declared.codec.Record.{Record}
 use Rattle.store_terms.specs.Weights.{same_name}
 use Rattle.store_terms.proofs.MapLaws.{same_name-is}
@@ -20,7 +19,7 @@ use Rattle.table_rules.specs.Suffixes.{KeepsBelow}
 use Rattle.table_rules.specs.Tables.{HasFullRows, PlacedTable}
 use Rattle.table_rules.proofs.SuffixLaws.{valid_for_suffix}
 use Rattle.extent_table.specs.declared.spot.Spot.{Spot}
-use Rattle.extent_table.specs.Extents.{Extents, IsTable, Spots, record_of}
+use Rattle.extent_table.specs.Extents.{Extents, IsTable, Spots}
 use Rattle.spot_terms.specs.Held.{IsFreed}
 use Rattle.spot_terms.specs.Joins.{IsAlone}
 use Rattle.spot_terms.specs.Laid.{laid, moving_header, settled_header}

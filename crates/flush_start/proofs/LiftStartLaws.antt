@@ -1,7 +1,8 @@
 -- Lifting may begin after a change that isn't quiet: a removal, a put whose object found room, and a put whose
 -- object waits.
-use Rattle.std.specs.Prelude.{◌≡◌, ◌⊎◌, ℕ, ◌+◌, ◌<◌, ◌≤◌, false, List, [], ◌∷◌, ◌++◌, length, Option, Some, None, IsPermutation, refl}
+use Rattle.std.specs.Prelude.{◌≡◌, ℕ, ◌+◌, ◌<◌, ◌≤◌, ◌^◌, false, List, [], ◌∷◌, ◌++◌, length, Option, Some, None, IsPermutation, is_some, refl}
 use Rattle.std.proofs.Common.{arith, sym, ◌∙◌, ap, subst}
+use Rattle.std.proofs.lemmas.Bool.{cond-false}
 use Rattle.std.specs.FinMap as fin
 use Rattle.size_class.specs.Classes.{class_of}
 use Rattle.slot_codec.specs.Choice as choice
@@ -9,7 +10,7 @@ use Rattle.slot_codec.specs.Names.{IsName}
 use Rattle.slot_codec.specs.Spelling.{head_len}
 use Rattle.span_math.specs.declared.span.Span.{Span}
 use Rattle.store_terms.specs.Maps.{Map}
-use Rattle.store_terms.specs.Requests.{Change, changed}
+use Rattle.store_terms.proofs.MapLaws.{name_order}
 use Rattle.segment_layout.specs.Books.{Book, is_quiet, next_book}
 use Rattle.segment_layout.specs.Shapes.{end_of}
 use Rattle.table_rules.specs.Tables.{book_of}
@@ -35,13 +36,14 @@ use Rattle.flush_start.specs.Gathering.{item_at}
 use Rattle.flush_start.specs.Sized.{IsSizedBy}
 use Rattle.flush_start.specs.Starts.{CanStart, IsLoud, IsWith, IsWithout, WasBefore}
 use Rattle.flush_start.proofs.CanFlushLaws.{begins_pending}
-use Rattle.flush_start.proofs.ChargedLaws.{new_some}
+use Rattle.flush_start.proofs.ChargedLaws.{class_low, new_some}
 use Rattle.flush_start.proofs.GoneAboveLaws.{left_over}
 use Rattle.flush_start.proofs.HandsLaws.{hands_alone, hands_pending, pending_free}
 use Rattle.flush_start.proofs.NextBookLaws.{begun, book_begun, buffered_pending, buffered_placed, buffered_removed, names}
 use Rattle.flush_start.proofs.ReachLaws.{kept_end, reach_past_wall, wall_past_end}
 use Rattle.flush_start.proofs.SizedLaws.{sized_gone, sized_put}
-use Rattle.flush_start.proofs.StartLaws.{after_gone, after_missed, loud_low, new_high, placed_apart_kept, placed_apart_now, placed_within, started_with, started_without}
+use Rattle.flush_start.proofs.SuffixLaws.{few_items}
+use Rattle.flush_start.proofs.StartLaws.{after_gone, after_missed, new_high, placed_apart_kept, placed_apart_now, placed_within, started_with, started_without}
 
 module _ (f : Flight) (caps : List ℕ) (grid kept_grid : List (List ℕ)) (u : choice.InUse) (e : Extents)
     (spans : List Span) (h : WasBefore f.classes f.size_max caps grid kept_grid u e spans)
@@ -192,6 +194,13 @@ module _ (f : Flight) (caps : List ℕ) (grid kept_grid : List (List ℕ)) (u : 
       pub pending_high : b ≤ class_of size
       pending_high = new_high f.classes f.size_max caps grid kept_grid u e spans h name size after b small l missed
 
+      -- its class is one that the layout has
+      pub pending_class : class_of size < f.classes
+      pending_class = class_low f.classes f.size_max size h.both.now_laid.top pending_some small
+
+      pub pending_short : size ≤ 2 ^ 31
+      pending_short = omega (arith, small, h.small)
+
       pub pending_new : fin.get gone.now name ≡ None
       pending_new = ap (λ (x : Spots). fin.get x name) without.now ∙ get-remove_here e.now name
 
@@ -203,29 +212,44 @@ module _ (f : Flight) (caps : List ℕ) (grid kept_grid : List (List ℕ)) (u : 
         module _ (key : ℕ) (put : Extents) (joins : IsWith name (record { place = place; size = size }) key gone put)
             (all : List Item) (room : ℕ)
             (perm : IsPermutation (suffix_items b gone ++ item_at key (record { place = place; size = size }) ∷ []) all)
-            where
-          pub pending_begins : Begins k caps (numbers gone size) (suffix_items b gone)
-              (Some (item_at key (record { place = place; size = size })))
-          pending_begins = begins_pending f.classes f.size_max caps after kept_grid b u gone freed pending_starts name
-              (record { place = place; size = size }) key put pending_new joins pending_some small pending_high
-              (omega (arith, ends, reach))
+          where
+            -- there is room for it in a list for as many items as there may be names
+            pub pending_room : length (suffix_items b gone) < gone.names
+            pending_room = omega (
+              arith,
+              few_items b gone,
+              joins.table.now_room,
+              joins.names,
+              ap (λ (x : Spots). fin.len x) joins.now,
+              fin.len-insert name_order gone.now name (record { place = place; size = size }),
+              cond-false (fin.contains_key gone.now name) (fin.len gone.now) (fin.len gone.now + 1) not_there,
+            )
+              where
+                not_there : fin.contains_key gone.now name ≡ false
+                not_there = ap is_some pending_new
 
-          pub pending_hands : IsHandsFor f u put caps after freed
-              (phase_of k caps (numbers gone size) size all room)
-          pending_hands = hands_pending f caps after kept_grid b u gone freed pending_starts base name is pending_new
-              (record { place = place; size = size }) key pending_some small pending_high reach ends put joins all room
-              perm
+            pub pending_begins : Begins k caps (numbers gone size) (suffix_items b gone)
+                (Some (item_at key (record { place = place; size = size })))
+            pending_begins = begins_pending f.classes f.size_max caps after kept_grid b u gone freed pending_starts name
+                (record { place = place; size = size }) key put pending_new joins pending_some small pending_high
+                (omega (arith, ends, reach))
 
-          pub pending_lifts : (m : Map) → IsSizedBy m e.now → IsNext m
-              → LiftNow f caps after (end_of k caps) u put freed (phase_of k caps (numbers gone size) size all room)
-          pending_lifts m sized book = record {
-            hands = pending_hands;
-            low = subst (λ (x : Spots). AllEndBy x (end_of k caps)) (sym joins.kept)
-                (kept_end f.classes f.size_max caps after kept_grid b u gone freed pending_starts);
-            book = book_put m sized (record { place = place; size = size }) key put joins refl pending_starts.low
-                joins.table.now_named pending_starts.below.grid_full.full (numbers gone size).wall
-                (numbers gone size).slack
-                (buffered_pending f.classes f.size_max caps grid kept_grid u e spans h m sized
-                (record { name = name; object = Some object }) after b l pending_starts.low (numbers gone size).wall
-                (numbers gone size).slack f.reach (record { place = place; size = size }) pending_high) ∙ book;
-          }
+            pub pending_hands : IsHandsFor f u put caps after freed
+                (phase_of k caps (numbers gone size) size all room)
+            pending_hands = hands_pending f caps after kept_grid b u gone freed pending_starts base name is pending_new
+                (record { place = place; size = size }) key pending_some small pending_high reach ends put joins all room
+                perm
+
+            pub pending_lifts : (m : Map) → IsSizedBy m e.now → IsNext m
+                → LiftNow f caps after (end_of k caps) u put freed (phase_of k caps (numbers gone size) size all room)
+            pending_lifts m sized book = record {
+              hands = pending_hands;
+              low = subst (λ (x : Spots). AllEndBy x (end_of k caps)) (sym joins.kept)
+                  (kept_end f.classes f.size_max caps after kept_grid b u gone freed pending_starts);
+              book = book_put m sized (record { place = place; size = size }) key put joins refl pending_starts.low
+                  joins.table.now_named pending_starts.below.grid_full.full (numbers gone size).wall
+                  (numbers gone size).slack
+                  (buffered_pending f.classes f.size_max caps grid kept_grid u e spans h m sized
+                  (record { name = name; object = Some object }) after b l pending_starts.low (numbers gone size).wall
+                  (numbers gone size).slack f.reach (record { place = place; size = size }) pending_high) ∙ book;
+            }

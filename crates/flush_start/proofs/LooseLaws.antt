@@ -1,21 +1,20 @@
 -- The reach of a flush is loose: for the maps before and after a change that isn't quiet, where the book before
 -- it is balanced.
-use Rattle.std.specs.Prelude.{◌≡◌, ◌⊎◌, ℕ, ◌+◌, ◌<◌, ◌≤◌, cond, false, max, List, [], ◌∷◌, ◌++◌, length, filter, map, sum_by, Option, Some, None, Contains, refl}
+use Rattle.std.specs.Prelude.{◌≡◌, ℕ, ◌+◌, ◌≤◌, cond, false, max, List, [], ◌∷◌, ◌++◌, length, filter, Option, Some, None, refl}
 use Rattle.std.proofs.Common.{arith, sym, ◌∙◌, ap, subst, inl, inr}
 use Rattle.std.proofs.Math.Nat.{le-max_left, le-max_right}
 use Rattle.std.proofs.lemmas.List.Sorted.{IsPermutation-refl}
 use Rattle.std.specs.FinMap as fin
-use Rattle.size_class.specs.Classes.{class_of, width}
+use Rattle.size_class.specs.Classes.{width}
 use Rattle.slot_codec.specs.Choice as choice
 use Rattle.slot_codec.specs.Names.{IsName}
 use Rattle.slot_codec.specs.Spelling.{head_len}
 use Rattle.span_math.specs.declared.span.Span.{Span}
 use Rattle.store_terms.specs.Maps.{Map, largest, volume}
 use Rattle.store_terms.specs.Requests.{Change, changed}
-use Rattle.store_terms.specs.Weights.{size_at as map_size_at}
 use Rattle.store_terms.proofs.MapLaws.{get-insert_here, largest-each, largest-remove, sum_by-map, volume-remove}
 use Rattle.segment_layout.specs.Balance.{IsBalanced}
-use Rattle.segment_layout.specs.Books.{Book, is_quiet, next_book, volumes}
+use Rattle.segment_layout.specs.Books.{Book, is_quiet, next_book}
 use Rattle.segment_layout.specs.Bounds.{Loose, Tight}
 use Rattle.segment_layout.specs.Shapes.{end_of, settled_caps}
 use Rattle.segment_layout.proofs.BookLaws.{sum_by-filter}
@@ -32,7 +31,7 @@ use Rattle.flush_plan.specs.declared.item.Item.{Item}
 use Rattle.flush_plan.specs.declared.item.Numbers.{Numbers}
 use Rattle.flush_plan.specs.Begins.{Begins, pending_size, with_pending}
 use Rattle.flush_plan.specs.Phases.{phase_of}
-use Rattle.flush_plan.specs.Plans.{laid_length, numbers_of, stands_in_payload, total, weight}
+use Rattle.flush_plan.specs.Plans.{numbers_of, stands_in_payload, total}
 use Rattle.flush_plan.proofs.BeginLaws.{begun}
 use Rattle.flush_plan.proofs.ItemLaws.{total_is}
 use Rattle.flush_plan.proofs.ListLaws.{cond_at_most, sum_by_le_in}
@@ -40,7 +39,7 @@ use Rattle.flush_plan.proofs.NumbersLaws.{reach_is_loose}
 use Rattle.flush_run.specs.Flights.{Flight}
 use Rattle.flush_run.specs.Hands.{IsHandsFor, spot_item, suffix_items}
 use Rattle.flush_run.proofs.LaidPlaceLaws.{end_is}
-use Rattle.flush_start.specs.Charging.{between, gone_charged, new_charged, size_at}
+use Rattle.flush_start.specs.Charging.{between, new_charged, size_at}
 use Rattle.flush_start.specs.Gathering.{is_from, item_at}
 use Rattle.flush_start.specs.Sized.{IsSizedBy, object_size}
 use Rattle.flush_start.specs.Starts.{CanStart, IsLoud, IsWith, IsWithout, WasBefore}

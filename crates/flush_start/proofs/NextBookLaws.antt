@@ -1,27 +1,25 @@
 -- The book of a flush is the next one of the change, from where it begins on.
-use Rattle.std.specs.Prelude.{◌≡◌, ℕ, ◌+◌, ◌-◌, ◌<◌, ◌≤◌, nat_lt, Bool, true, false, not, ◌&&◌, if◌then◌else◌, List, [], ◌∷◌, ◌++◌, length, drop, Option, Some, None, option_map, refl}
+use Rattle.std.specs.Prelude.{◌≡◌, ℕ, ◌-◌, ◌<◌, ◌≤◌, nat_lt, Bool, true, false, not, ◌&&◌, if◌then◌else◌, List, [], ◌∷◌, ◌++◌, length, drop, Option, Some, None, option_map, refl}
 use Rattle.std.proofs.Common.{arith, sym, ◌∙◌, ap, subst, inl, inr}
-use Rattle.std.proofs.lemmas.Bool.{cases_Bool, cases_lt, cond-false, cond-true, lt-ltb, ltb-true}
+use Rattle.std.proofs.lemmas.Bool.{cases_Bool, cases_lt, cond-false, cond-true, lt-ltb}
 use Rattle.std.specs.FinMap as fin
 use Rattle.std.specs.FinSet as set
 use Rattle.size_class.specs.Classes.{class_of}
 use Rattle.size_class.proofs.ClassLaws.{class_below}
 use Rattle.slot_codec.specs.Choice as choice
-use Rattle.slot_codec.specs.declared.codec.Record.{Record}
 use Rattle.span_math.specs.declared.span.Span.{Span}
 use Rattle.store_terms.specs.Maps.{Map}
 use Rattle.store_terms.specs.Requests.{Change, changed}
 use Rattle.store_terms.specs.Weights.{same_name}
 use Rattle.store_terms.proofs.MapLaws.{name_order, same_name-is}
-use Rattle.segment_layout.specs.Books.{Book, Charged, Names, entered_at, below_class, buffered_after, charge_all, charge_change, found_room, is_new_buffered, is_quiet, item_of, new_item, next_book, old_item, reshaped, some_size, trigger, volumes, volumes_of_sizes}
-use Rattle.segment_layout.specs.Shapes.{boundary_of, buffer_for, buffer_start, settled_caps, settled_grid, start_of, with_entry}
+use Rattle.segment_layout.specs.Books.{Book, Charged, Names, entered_at, below_class, buffered_after, charge_all, charge_change, found_room, is_new_buffered, is_quiet, item_of, new_item, next_book, old_item, reshaped, some_size, trigger, volumes}
+use Rattle.segment_layout.specs.Shapes.{boundary_of, buffer_for, buffer_start, settled_caps, settled_grid, start_of}
 use Rattle.segment_layout.proofs.ChargeLaws.{room_of_buffer}
 use Rattle.segment_layout.proofs.ChargingLaws.{last_found}
-use Rattle.segment_layout.proofs.NextLaws.{after_here, after_other, names_after}
-use Rattle.table_rules.specs.Suffixes.{suffix_at}
-use Rattle.table_rules.specs.Tables.{PlacedTable, book_of, is_buffered, lies_in_payload, sizes}
+use Rattle.segment_layout.proofs.NextLaws.{after_here, after_other}
+use Rattle.table_rules.specs.Tables.{PlacedTable, book_of, is_buffered, lies_in_payload}
 use Rattle.extent_table.specs.declared.spot.Spot.{Spot}
-use Rattle.extent_table.specs.Extents.{Extents, Spots, record_of, records_of}
+use Rattle.extent_table.specs.Extents.{Extents, Spots, record_of}
 use Rattle.spot_terms.specs.Buffered.{AreBuffered, passes}
 use Rattle.spot_terms.specs.Laid.{laid, moving_header, settled_table}
 use Rattle.spot_terms.specs.LaidOut.{shown_book}
@@ -30,7 +28,7 @@ use Rattle.spot_terms.specs.Reads.{AreNamed, read_at}
 use Rattle.spot_terms.proofs.BufferedLaws.{contains-chosen}
 use Rattle.spot_terms.proofs.NextBookLaws.{suffix_book}
 use Rattle.spot_terms.proofs.NextQuietLaws.{old_item-is}
-use Rattle.spot_terms.proofs.QuietLaws.{charge_all-split, found_one, quiet_one, some_size-some}
+use Rattle.spot_terms.proofs.QuietLaws.{charge_all-split, found_one, some_size-some}
 use Rattle.spot_terms.proofs.SegmentLaws.{buffer_start-rises, lies_parts}
 use Rattle.flush_start.specs.Begun.{begun_header}
 use Rattle.flush_start.specs.Charging.{between, charged_by, gone_charged, new_charged}
@@ -256,8 +254,7 @@ module _ (classes size_max : ℕ) (caps : List ℕ) (grid kept_grid : List (List
             ∙ one_tried mid size one.0 one.1 in
             let tried : charged.tried ≡ (gone_charged k caps grid old).tried ++ (size, true) ∷ [] =
             ap (λ (x : Charged). x.tried) (charge_all-split k caps grid (gone_items k caps old) (some_size size))
-            ∙ ap (λ ts. (gone_charged k caps grid old).tried ++ ts) second in
-            (
+            ∙ ap (λ ts. (gone_charged k caps grid old).tried ++ ts) second in (
               (λ i. found_room (item i) (drop (length (tried i) - length (item i)) (tried i)))
                   ∙ last_found (gone_charged k caps grid old).tried size true,
               outside (omega (

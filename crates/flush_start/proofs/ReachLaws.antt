@@ -1,5 +1,5 @@
 -- How far a flush reaches: the numbers of its items are small, since these are few.
-use Rattle.std.specs.Prelude.{◌≡◌, ℕ, ◌+◌, ◌*◌, ◌/◌, ◌^◌, ◌<◌, ◌≤◌, ◌==◌, max, not, List, [], ◌∷◌, filter, Some, Contains}
+use Rattle.std.specs.Prelude.{◌≡◌, ℕ, ◌+◌, ◌^◌, ◌<◌, ◌≤◌, ◌==◌, max, not, List, ◌∷◌, filter, Some, Contains}
 use Rattle.std.proofs.Common.{arith, ap, inl, inr}
 use Rattle.std.proofs.Math.Nat.{div-le_self, max-le}
 use Rattle.std.proofs.lemmas.Bool.{cases_lt}
@@ -21,7 +21,7 @@ use Rattle.spot_terms.proofs.LaidOutLaws.{laid_ends}
 use Rattle.spot_terms.proofs.SegmentLaws.{lies_parts}
 use Rattle.flush_plan.specs.declared.item.Item.{Item}
 use Rattle.flush_plan.specs.declared.item.Numbers.{Numbers}
-use Rattle.flush_plan.specs.Plans.{class_total, in_class, laid_length, largest_of, numbers_of, object_of, stands_in_payload, total, weight}
+use Rattle.flush_plan.specs.Plans.{class_total, in_class, laid_length, numbers_of, object_of, stands_in_payload, total}
 use Rattle.flush_plan.proofs.BoundLaws.{segments_at_most, weight_fits}
 use Rattle.flush_plan.proofs.FinalLaws.{class_total_is}
 use Rattle.flush_plan.proofs.ItemLaws.{total_is}

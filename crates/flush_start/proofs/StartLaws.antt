@@ -1,5 +1,5 @@
 -- After the change a flush may begin: where the name is gone, and where its new object stands in a buffer.
-use Rattle.std.specs.Prelude.{◌≡◌, ◌⊎◌, ℕ, ◌+◌, ◌<◌, ◌≤◌, Bool, true, false, List, [], Option, Some, None, refl}
+use Rattle.std.specs.Prelude.{◌≡◌, ℕ, ◌+◌, ◌<◌, ◌≤◌, true, false, List, Option, Some, None, refl}
 use Rattle.std.proofs.Common.{arith, sym, ◌∙◌, ap, subst, inl, inr}
 use Rattle.std.proofs.lemmas.Bool.{cases_Bool, cases_lt}
 use Rattle.std.specs.FinMap as fin
@@ -9,7 +9,7 @@ use Rattle.slot_codec.specs.Names.{IsName}
 use Rattle.slot_codec.specs.declared.codec.Record.{Record}
 use Rattle.span_math.specs.declared.span.Span.{Span}
 use Rattle.segment_layout.specs.Books.{charge_all, is_quiet, some_size, trigger}
-use Rattle.segment_layout.specs.Shapes.{boundary_of, end_of, is_boundary}
+use Rattle.segment_layout.specs.Shapes.{end_of, is_boundary}
 use Rattle.segment_layout.proofs.ShapeLaws.{boundary_of-is, boundary_of-le}
 use Rattle.extent_table.specs.declared.spot.Spot.{Spot}
 use Rattle.extent_table.specs.Extents.{Extents, Spots}

@@ -1,6 +1,6 @@
 -- The items of a table: each is a live object of the suffix, no two share a key, and one more name is one more
 -- item.
-use Rattle.std.specs.Prelude.{◌≡◌, ◌≢◌, ℕ, zero, suc, ◌<◌, ◌≤◌, ◌==◌, nat_le, nat_lt, Bool, true, false, ◌&&◌, cond, T, List, [], ◌∷◌, ◌++◌, length, map, filter, slice_get, Option, Some, None, option_map, is_some, Contains, IsPermutation, refl}
+use Rattle.std.specs.Prelude.{◌≡◌, ◌≢◌, ℕ, zero, suc, ◌<◌, ◌≤◌, nat_le, nat_lt, Bool, true, false, T, List, [], ◌∷◌, ◌++◌, length, map, filter, slice_get, Option, Some, None, is_some, Contains, IsPermutation, refl}
 use Rattle.std.proofs.Common.{arith, sym, ◌∙◌, ap, subst, inl, inr}
 use Rattle.std.proofs.lemmas.Bool.{and_parts, cases_Bool, cond-false, cond-true, leb-true, ltb-true}
 use Rattle.std.proofs.lemmas.List.{length-map, map-append}
@@ -18,7 +18,7 @@ use Rattle.slot_codec.specs.Names.{name_cmp}
 use Rattle.store_terms.specs.Weights.{same_name}
 use Rattle.store_terms.proofs.MapLaws.{name_order, same_name-is, same_name-itself}
 use Rattle.extent_table.specs.declared.spot.Spot.{Spot}
-use Rattle.extent_table.specs.Extents.{Extents, HasKeys, IsTable, Keys, Spots}
+use Rattle.extent_table.specs.Extents.{Extents, HasKeys, Keys, Spots}
 use Rattle.extent_table.specs.Rising.{below_each, of_mapped}
 use Rattle.spot_terms.proofs.EntryLaws.{first_of_both, get-insert_here, second_of_both}
 use Rattle.spot_terms.proofs.ReadLaws.{found_by_name}

@@ -1,5 +1,5 @@
 //! The charges of a put and of a removal, each tried whether or not the other found room.
-ghost use Rattle.std.specs.Prelude.{◌≡◌, ◌<◌, ◌≤◌, ◌^◌, IfSome, IsFalse, IsNone, Some, false};
+ghost use Rattle.std.specs.Prelude.{◌≡◌, ◌<◌, ◌≤◌, ◌^◌, ◌&&◌, IfSome, IsFalse, IsNone, Some, false, is_some};
 ghost use Rattle.segment_layout.specs.Books.{is_quiet, trigger};
 ghost use Rattle.segment_layout.specs.Layouts.{caps_of, divisor_of, grid_of};
 ghost use Rattle.flush_start.specs.Charging.{PlacesNew, between, charged_by, gone_charged, lesser, size_at};
@@ -39,6 +39,8 @@ pub fn charge_change<const C: usize>(
     ensures place { PlacesNew (divisor_of layout.old) (caps_of layout.old)
         (between (divisor_of layout.old) (caps_of layout.old) (grid_of layout.old) old) size
         (grid_of layout.new) result.place }
+    ensures quiet { is_quiet (charged_by (divisor_of layout.old) (caps_of layout.old) (grid_of layout.old) old
+        size) ≡ (result.gone && is_some result.place) }
     ensures class { result.class
         ≡ trigger (charged_by (divisor_of layout.old) (caps_of layout.old) (grid_of layout.old) old size) }
     ensures in_use { is_quiet (charged_by (divisor_of layout.old) (caps_of layout.old) (grid_of layout.old) old

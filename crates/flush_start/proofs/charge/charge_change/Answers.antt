@@ -1,8 +1,18 @@
 use Rattle.std.proofs.Common.{arith}
 use Rattle.size_class.specs.declared.TheConstants.{SIZE_MAX}
 use Rattle.segment_layout.specs.Layouts.{caps_of, divisor_of, grid_of}
-use Rattle.flush_start.proofs.ChargedLaws.{outcome_class, small_at, trigger_low}
+use Rattle.flush_start.proofs.ChargedLaws.{outcome_class, outcome_quiet, small_at, trigger_low}
 use Rattle.flush_start.proofs.charge.charge_change.Goals as goal
+
+pub returns-clause-quiet : goal.returns-clause-quiet
+returns-clause-quiet g c =
+    let k = divisor_of c.args.layout.now in
+    let caps = caps_of c.args.layout.now in
+    let gone = c.charge_gone-gone in
+    let new = c.charge_new-place in
+    outcome_quiet k (divisor_of gone.new.layout) caps (caps_of gone.new.layout) (grid_of c.args.layout.now)
+    (grid_of gone.new.layout) (grid_of new.new.layout) c.args.old c.args.size gone.result new.result
+    gone.ensures.divisor gone.ensures.caps gone.ensures.grid gone.ensures.quiet new.ensures.place
 
 pub returns-clause-in_use : goal.returns-clause-in_use
 returns-clause-in_use g c loud =
