@@ -48,7 +48,8 @@ module _ (classes size_max k : ℕ) (caps : List ℕ) (b : ℕ) where
     filled = laid_filled classes size_max k caps grid spots h;
     named = h.named;
     below = below_of_places b (settled_table classes size_max k caps grid spots)
-        (full_rows classes size_max k caps grid spots h) (laid_places classes size_max k caps grid spots h) h.few
+        (full_rows classes size_max k caps grid spots h) (laid_places classes size_max k caps grid spots h)
+        h.few
         low;
     stand = laid_stand classes size_max k caps grid spots h;
   }
@@ -83,7 +84,8 @@ module _ (classes size_max k : ℕ) (caps : List ℕ) (b : ℕ) where
         (omega (arith, low, room.from_class)) h.few
 
     -- what stands does so once more bytes are charged
-    stands_after : (size j : ℕ) → 1 ≤ size → buffer_for k caps grid (class_of size) size ≡ Some j → (r : Record)
+    stands_after : (size j : ℕ) → 1 ≤ size → buffer_for k caps grid (class_of size) size ≡ Some j
+        → (r : Record)
         → Stands table r
         → Stands (settled_table classes size_max k caps (with_entry grid j (class_of size) size) spots) r
     stands_after size j some found r (inl here) = inl here
@@ -141,7 +143,8 @@ module _ (classes size_max k : ℕ) (caps : List ℕ) (b : ℕ) where
           → IsLaidBelow classes size_max k caps (with_entry grid j (class_of s.size) s.size) b
           (fin.remove spots name)
       gone_found s there some j found =
-          let after = settled_table classes size_max k caps (with_entry grid j (class_of s.size) s.size) spots in
+          let after = settled_table classes size_max k caps (with_entry grid j (class_of s.size) s.size)
+          spots in
           record {
             few = h.few;
             top = h.top;
@@ -173,7 +176,8 @@ module _ (classes size_max k : ℕ) (caps : List ℕ) (b : ℕ) where
             grid_full = grid_after size j some found;
             filled = filled_by_charge k caps grid size j h.filled some found;
             named = AreNamed-insert spots name s h.named is;
-            below = entered_below classes size_max k _ (settled_header caps grid) b spots h.named h.filled name is
+            below = entered_below classes size_max k _ (settled_header caps grid) b spots h.named h.filled
+                name is
                 new size j some found small h.below h.stand;
             stand = each_inserted (λ (r : Record). 0 < r.size → Stands after r) spots name s h.named is
                 (λ full. inr stands_new)
@@ -194,7 +198,8 @@ module _ (classes size_max k : ℕ) (caps : List ℕ) (b : ℕ) where
                     (record_of (name, charged_spot k caps grid size j)) (omega arith)
                     (omega (
                       arith,
-                      taken-with_entry_same grid j (class_of size) size (in_grid b table h.filled size j some found)
+                      taken-with_entry_same grid j (class_of size) size
+                          (in_grid b table h.filled size j some found)
                           (in_row b table h.filled size j some found),
                     )),
               )
@@ -209,7 +214,8 @@ module _ (classes size_max k : ℕ) (caps : List ℕ) (b : ℕ) where
         grid_full = h.grid_full;
         filled = h.filled;
         named = AreNamed-insert spots name empty_spot h.named is;
-        below = empty_below classes size_max k _ (settled_header caps grid) b spots h.named name is new h.below;
+        below = empty_below classes size_max k _ (settled_header caps grid) b spots h.named name is new
+            h.below;
         stand = each_inserted (λ (r : Record). 0 < r.size → Stands table r) spots name empty_spot h.named is
             (λ full. absurd (omega (arith, full))) h.stand;
       }
@@ -221,10 +227,12 @@ module _ (classes size_max k : ℕ) (caps : List ℕ) (b : ℕ) (grid : List (Li
   -- A name goes. What its object charges was tried; where it found no room, the object's class is b or more.
   pub below_gone : (is_quiet (gone_charged k caps grid (fin.get spots name)) ≡ false
       → b ≤ class_of (size_at (fin.get spots name)))
-      → IsLaidBelow classes size_max k caps (between k caps grid (fin.get spots name)) b (fin.remove spots name)
+      → IsLaidBelow classes size_max k caps (between k caps grid (fin.get spots name)) b
+      (fin.remove spots name)
   below_gone missed = by (fin.get spots name) refl
       (λ o e. subst (λ x. is_quiet (gone_charged k caps grid x) ≡ false → b ≤ class_of (size_at x)) e missed)
-      (λ o e more. subst (λ x. IsLaidBelow classes size_max k caps (between k caps grid x) b (fin.remove spots name))
+      (λ o e more. subst (λ x. IsLaidBelow classes size_max k caps (between k caps grid x) b
+      (fin.remove spots name))
       (sym e) more)
     where
       by : (o : Option Spot) → fin.get spots name ≡ o
@@ -232,24 +240,30 @@ module _ (classes size_max k : ℕ) (caps : List ℕ) (b : ℕ) (grid : List (Li
           → is_quiet (gone_charged k caps grid x) ≡ false → b ≤ class_of (size_at x))
           → ((x : Option Spot) → fin.get spots name ≡ x
           → IsLaidBelow classes size_max k caps (between k caps grid x) b (fin.remove spots name)
-          → IsLaidBelow classes size_max k caps (between k caps grid (fin.get spots name)) b (fin.remove spots name))
-          → IsLaidBelow classes size_max k caps (between k caps grid (fin.get spots name)) b (fin.remove spots name)
+          → IsLaidBelow classes size_max k caps (between k caps grid (fin.get spots name)) b
+          (fin.remove spots name))
+          → IsLaidBelow classes size_max k caps (between k caps grid (fin.get spots name)) b
+          (fin.remove spots name)
       by None none high goal = goal None none
           (subst (λ x. IsLaidBelow classes size_max k caps grid b x) (sym (remove-absent spots name none)) h)
       by (Some s) there high goal =
           let items = gone_items k caps (Some s) in
           goal (Some s) there (elim (cases_lt 0 s.size)
-          as (λ _. IsLaidBelow classes size_max k caps (between k caps grid (Some s)) b (fin.remove spots name)) [
+          as (λ _. IsLaidBelow classes size_max k caps (between k caps grid (Some s)) b
+          (fin.remove spots name)) [
             | inr none ↦
                 let empty : s.size ≡ 0 = omega (arith, none) in
                 stays (gone_elsewhere k caps s (inl empty))
                 (gone_free classes size_max k caps b grid spots h name s there (inr empty))
             | inl some ↦ elim (cases_Bool (is_in_payload k caps s))
-                as (λ _. IsLaidBelow classes size_max k caps (between k caps grid (Some s)) b (fin.remove spots name)) [
+                as (λ _. IsLaidBelow classes size_max k caps (between k caps grid (Some s)) b
+                (fin.remove spots name)) [
                   | inr off ↦ stays (gone_elsewhere k caps s
-                      (inr (λ here. absurd (let bad : false ≡ true = sym off ∙ in_payload_is k caps s here in cc))))
+                      (inr (λ here. absurd (let bad : false ≡ true = sym off
+                      ∙ in_payload_is k caps s here in cc))))
                       (gone_free classes size_max k caps b grid spots h name s there (inl off))
-                  | inl here ↦ tried (gone_here k caps s (omega (arith, some)) (in_payload_from k caps s here))
+                  | inl here ↦ tried (gone_here k caps s (omega (arith, some))
+                      (in_payload_from k caps s here))
                       (omega (arith, some))
                 ]
           ])
@@ -265,9 +279,11 @@ module _ (classes size_max k : ℕ) (caps : List ℕ) (b : ℕ) (grid : List (Li
           tried : gone_items k caps (Some s) ≡ s.size ∷ [] → 1 ≤ s.size
               → IsLaidBelow classes size_max k caps (between k caps grid (Some s)) b (fin.remove spots name)
           tried one some = elim (cases_Bool (is_quiet (gone_charged k caps grid (Some s))))
-              as (λ _. IsLaidBelow classes size_max k caps (between k caps grid (Some s)) b (fin.remove spots name)) [
+              as (λ _. IsLaidBelow classes size_max k caps (between k caps grid (Some s)) b
+              (fin.remove spots name)) [
                 | inr loud ↦ subst (λ g. IsLaidBelow classes size_max k caps g b (fin.remove spots name))
-                    (sym (loud_grid k caps grid (gone_items k caps (Some s)) (gone_tried k caps grid (Some s)) loud))
+                    (sym (loud_grid k caps grid (gone_items k caps (Some s))
+                    (gone_tried k caps grid (Some s)) loud))
                     (gone_high classes size_max k caps b grid spots h name s there (high (Some s) there loud))
                 | inl quiet ↦
                     let q : QuietTo k caps grid (s.size ∷ []) (between k caps grid (Some s)) =
@@ -300,7 +316,8 @@ module _ (classes size_max k : ℕ) (caps : List ℕ) (b : ℕ) (grid : List (Li
             (subst (λ xs. QuietTo k caps grid xs after) (some_size-some k caps size some) p.charged) in
             subst (λ g. IsLaidBelow classes size_max k caps g b
             (fin.insert spots name (record { place = place; size = size }))) (sym f.2)
-            (subst (λ (at : ℕ). IsLaidBelow classes size_max k caps (with_entry grid f.0 (class_of size) size) b
+            (subst (λ (at : ℕ). IsLaidBelow classes size_max k caps
+            (with_entry grid f.0 (class_of size) size) b
             (fin.insert spots name (record { place = at; size = size }))) (sym (p.behind f.0 some f.1))
             (new_found classes size_max k caps b grid spots h name is new size f.0 small some f.1))
       ]

@@ -39,13 +39,15 @@ module _ (classes size_max : ℕ) (caps : List ℕ) (grid kept_grid : List (List
       → IsTrue (stands_in_payload k caps (spot_item e.keys (name, s)))
       ⊎ ((j : ℕ) × IsInBuffer k caps j (spot_item e.keys (name, s)))
   stands_in name s there some =
-      elim (by_name (λ (r : Record). 0 < r.size → Stands (settled_table classes size_max k caps grid e.now) r) e.now
+      elim (by_name (λ (r : Record). 0 < r.size → Stands (settled_table classes size_max k caps grid e.now)
+      r) e.now
       h.below.named h.below.stand name s there (omega (arith, some)))
       as (λ _. IsTrue (stands_in_payload k caps (spot_item e.keys (name, s)))
       ⊎ ((j : ℕ) × IsInBuffer k caps j (spot_item e.keys (name, s)))) [
         | inl here ↦ inl here
         | inr (j, low, wide, here) ↦
-            let q = lies_parts (buffer_start k caps j) (buffer_start k caps j + taken_in grid j) (record_of (name, s))
+            let q = lies_parts (buffer_start k caps j) (buffer_start k caps j + taken_in grid j)
+            (record_of (name, s))
             here in
             inr (
               j,
@@ -58,7 +60,8 @@ module _ (classes size_max : ℕ) (caps : List ℕ) (grid kept_grid : List (List
             )
       ]
 
-  each_apart : (x y : List ℕ × Spot) → fin.get e.now x.0 ≡ Some x.1 → fin.get e.now y.0 ≡ Some y.1 → 1 ≤ x.1.size
+  each_apart : (x y : List ℕ × Spot) → fin.get e.now x.0 ≡ Some x.1 → fin.get e.now y.0 ≡ Some y.1
+      → 1 ≤ x.1.size
       → 1 ≤ y.1.size → same_name x.0 y.0 ≡ false → ItemsApart (spot_item e.keys x) (spot_item e.keys y)
   each_apart x y x_is y_is x_some y_some differ = record {
     keys = keys_differ e h.table.keys x.0 y.0 x.1 y.1 x_is y_is differ;
@@ -76,9 +79,11 @@ module _ (classes size_max : ℕ) (caps : List ℕ) (grid kept_grid : List (List
   pub can_flush : CanFlush k caps b items
   can_flush = record {
     classes = h.below.caps_full.full;
-    apart = λ i j x y less at also. pairs_of ItemsApart (spot_item e.keys) (λ z. is_from b z.1) (fin.entries e.now)
+    apart = λ i j x y less at also. pairs_of ItemsApart (spot_item e.keys) (λ z. is_from b z.1)
+        (fin.entries e.now)
         (fin.entries_sorted e.now) (λ v w m n v_at w_at v_in w_in differ.
-        each_apart v w (stands_at b e m v v_at) (stands_at b e n w w_at) (some_of v.1 v_in) (some_of w.1 w_in) differ)
+        each_apart v w (stands_at b e m v v_at) (stands_at b e n w w_at) (some_of v.1 v_in)
+        (some_of w.1 w_in) differ)
         i j x y less at also;
     some = λ it has. let o = has_item b e it has in
         omega (arith, o.some, ap (λ (x : Item). x.size) o.is);
@@ -109,7 +114,8 @@ module _ (classes size_max : ℕ) (caps : List ℕ) (grid kept_grid : List (List
       class = refl;
       from = high;
       place = omega (arith, place, reach_is k caps b items can_flush s.size);
-      other = λ it has. key_other b e after name s key new joins.now joins.keys (from_of s some high) joins.table.keys it
+      other = λ it has. key_other b e after name s key new joins.now joins.keys (from_of s some high)
+          joins.table.keys it
           has;
     },
   )

@@ -144,7 +144,8 @@ module _ (k : ℕ) (caps : List ℕ) where
     new = is_quiet (new_charged k caps mid size)
 
     pub both_grid : (charged_by k caps grid old size).grid ≡ (new_charged k caps mid size).grid
-    both_grid = ap (λ (c : Charged). c.grid) (charge_all-split k caps grid (gone_items k caps old) (some_size size))
+    both_grid = ap (λ (c : Charged). c.grid) (charge_all-split k caps grid (gone_items k caps old)
+        (some_size size))
 
     pub both_quiet : is_quiet (charged_by k caps grid old size) ≡ (gone && new)
     both_quiet =
@@ -158,9 +159,11 @@ module _ (k : ℕ) (caps : List ℕ) where
     trigger_is =
         ap trigger (charge_all-split k caps grid (gone_items k caps old) (some_size size))
         ∙ fold-append lesser 31 (gone_charged k caps grid old).tried (new_charged k caps mid size).tried
-        ∙ one_lesser mid (some_size size) size (fold lesser 31 (gone_charged k caps grid old).tried) (one_of size)
+        ∙ one_lesser mid (some_size size) size (fold lesser 31 (gone_charged k caps grid old).tried)
+        (one_of size)
         (new_tried mid size)
-        ∙ ap (λ a. lesser a (size, new)) (one_lesser grid (gone_items k caps old) (size_at old) 31 (one_gone old)
+        ∙ ap (λ a. lesser a (size, new)) (one_lesser grid (gone_items k caps old) (size_at old) 31
+        (one_gone old)
         (gone_tried grid old))
 
     -- what found no room is of the trigger's class or of a greater one
@@ -189,7 +192,8 @@ module _ (k : ℕ) (caps : List ℕ) where
     trigger_new loud = omega (
       arith,
       trigger_is,
-      cond-false new (lesser 31 (size_at old, gone)) (min (lesser 31 (size_at old, gone)) (class_of size)) loud,
+      cond-false new (lesser 31 (size_at old, gone)) (min (lesser 31 (size_at old, gone)) (class_of size))
+          loud,
     )
 
     pub gone_some : gone ≡ false → 1 ≤ size_at old
@@ -210,7 +214,8 @@ module _ (k : ℕ) (caps : List ℕ) where
     ]
 
     -- so the trigger is a class in use
-    pub trigger_low : (classes size_max : ℕ) → size_max < 2 ^ classes → size_at old ≤ size_max → size ≤ size_max
+    pub trigger_low : (classes size_max : ℕ) → size_max < 2 ^ classes → size_at old ≤ size_max
+        → size ≤ size_max
         → is_quiet (charged_by k caps grid old size) ≡ false
         → trigger (charged_by k caps grid old size) < classes
     trigger_low classes size_max wide old_small small loud = elim (one_missed loud) [
@@ -239,7 +244,8 @@ module _ (k : ℕ) (caps : List ℕ) where
   placed_grid grid after size (Some place) p = p.charged.after_is
 
 -- the layout that the new object finds is the one that the old one's charge left
-placed_between : (k k' : ℕ) (caps caps' : List ℕ) (grid middle after : List (List ℕ)) (old : Option Spot) (size : ℕ)
+placed_between : (k k' : ℕ) (caps caps' : List ℕ) (grid middle after : List (List ℕ)) (old : Option Spot)
+    (size : ℕ)
     (place : Option ℕ) → k' ≡ k → caps' ≡ caps → middle ≡ between k caps grid old
     → PlacesNew k' caps' middle size after place → PlacesNew k caps (between k caps grid old) size after place
 placed_between k k' caps caps' grid middle after old size place same_k same_caps same_mid placed =
@@ -248,7 +254,8 @@ placed_between k k' caps caps' grid middle after old size place same_k same_caps
     (subst (λ x. PlacesNew k' caps' x size after place) same_mid placed))
 
 -- the change is quiet where both found room
-pub outcome_quiet : (k k' : ℕ) (caps caps' : List ℕ) (grid middle after : List (List ℕ)) (old : Option Spot) (size : ℕ)
+pub outcome_quiet : (k k' : ℕ) (caps caps' : List ℕ) (grid middle after : List (List ℕ)) (old : Option Spot)
+    (size : ℕ)
     (went : Bool) (place : Option ℕ) → k' ≡ k → caps' ≡ caps → middle ≡ between k caps grid old
     → went ≡ is_quiet (gone_charged k caps grid old) → PlacesNew k' caps' middle size after place
     → is_quiet (charged_by k caps grid old size) ≡ (went && is_some place)
@@ -258,14 +265,18 @@ outcome_quiet k k' caps caps' grid middle after old size went place same_k same_
     (placed_between k k' caps caps' grid middle after old size place same_k same_caps same_mid placed)) i)
 
 -- the class that is answered is the trigger
-pub outcome_class : (k k' : ℕ) (caps caps' : List ℕ) (grid middle after : List (List ℕ)) (old : Option Spot) (size : ℕ)
+pub outcome_class : (k k' : ℕ) (caps caps' : List ℕ) (grid middle after : List (List ℕ)) (old : Option Spot)
+    (size : ℕ)
     (went : Bool) (first class : ℕ) (place : Option ℕ) (found : Bool) → k' ≡ k → caps' ≡ caps
     → middle ≡ between k caps grid old → went ≡ is_quiet (gone_charged k caps grid old)
-    → (n : ℕ) → n ≡ size_at old → first ≡ lesser 31 (n, went) → found ≡ is_some place → class ≡ lesser first (size, found)
+    → (n : ℕ) → n ≡ size_at old → first ≡ lesser 31 (n, went) → found ≡ is_some place → class
+    ≡ lesser first (size, found)
     → PlacesNew k' caps' middle size after place → class ≡ trigger (charged_by k caps grid old size)
-outcome_class k k' caps caps' grid middle after old size went first class place found same_k same_caps same_mid quiet
+outcome_class k k' caps caps' grid middle after old size went first class place found same_k same_caps
+    same_mid quiet
     n is_size is_first is_found is placed =
-    let p = placed_between k k' caps caps' grid middle after old size place same_k same_caps same_mid placed in
+    let p = placed_between k k' caps caps' grid middle after old size place same_k same_caps same_mid
+    placed in
     is ∙ (λ i. lesser ((is_first ∙ (λ j. lesser 31 (is_size j, quiet j))) i)
     (size, (is_found ∙ placed_quiet k caps (between k caps grid old) after size place p) i))
     ∙ sym (trigger_is k caps grid old size)

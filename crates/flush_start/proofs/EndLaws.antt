@@ -1,4 +1,5 @@
--- The end of a layout: its book is balanced, so that it is in proportion to the bytes that it holds, and these
+-- The end of a layout: its book is balanced, so that it is in proportion to the bytes that it holds, and
+-- these
 -- are few.
 use Rattle.std.specs.Prelude.{◌≡◌, ℕ, ◌+◌, ◌-◌, ◌*◌, ◌^◌, ◌≤◌, false, T, List, [], ◌∷◌, map, replicate, slice_index_or, refl}
 use Rattle.std.proofs.Common.{arith, sym, subst}
@@ -37,7 +38,8 @@ less_not_tied Less is = refl
 less_not_tied Equal is = absurd is
 less_not_tied Greater is = refl
 
-absent : (q : List ℕ) (es : List (List ℕ × Spot)) → T (below_all name_cmp q es) → IsAbsent q (map record_of es)
+absent : (q : List ℕ) (es : List (List ℕ × Spot)) → T (below_all name_cmp q es)
+    → IsAbsent q (map record_of es)
 absent q [] low = tt
 absent q (e ∷ es) low = (
   less_not_tied (name_cmp q e.0) (first_of_both (is_lt (name_cmp q e.0)) (below_all name_cmp q es) low),
@@ -77,7 +79,8 @@ module _ (classes size_max k : ℕ) (caps : List ℕ) (grid : List (List ℕ)) (
   shown_balanced base file within =
       subst (IsBalanced k (read_at base file spots)) (book_shown classes size_max k caps grid spots h)
       (balanced_of_table (settled_table classes size_max k caps grid spots) base file
-      (full_rows classes size_max k caps grid spots h) (laid_places classes size_max k caps grid spots h) h.few
+      (full_rows classes size_max k caps grid spots h) (laid_places classes size_max k caps grid spots h)
+      h.few
       (names_differ_all spots h.named) (records_lie base file spots h.named within))
 
   -- a file of zeros is long enough

@@ -11,7 +11,7 @@ use Rattle.extent_table.specs.declared.spot.Spot.{Spot}
 use Rattle.extent_table.specs.Extents.{Extents}
 use Rattle.flush_plan.specs.declared.item.Item.{Item}
 use Rattle.flush_run.specs.Hands.{key_or_zero, spot_item, suffix_items}
-use Rattle.flush_start.specs.Gathering.{is_from, item_if}
+use Rattle.flush_start.specs.Gathering.{is_from, item_at, item_if}
 
 -- the items of the first n live names
 abbrev first_items : ℕ → Extents → ℕ → List Item
@@ -52,7 +52,8 @@ module _ (b : ℕ) (e : Extents) where
       )
 
   -- one name more
-  pub gathered_more : (n : ℕ) (items after : List Item) (room capacity capacity' : ℕ) (name : List ℕ) (s : Spot)
+  pub gathered_more : (n : ℕ) (items after : List Item) (room capacity capacity' : ℕ) (name : List ℕ)
+      (s : Spot)
       (key : ℕ) → IsGathered b n e items room capacity → n < fin.len e.now
       → slice_get (fin.entries e.now) n ≡ Some (name, s) → fin.get e.keys name ≡ Some key
       → after ≡ items ++ item_if b key s → capacity' ≡ capacity → IsGathered b (n + 1) e after room capacity'
@@ -66,19 +67,21 @@ module _ (b : ℕ) (e : Extents) where
       es = fin.entries e.now
 
       one : map (spot_item e.keys) (filter p ((name, s) ∷ [])) ≡ item_if b key s
-      one = elim (cases_Bool (is_from b s)) as (λ _. map (spot_item e.keys) (filter p ((name, s) ∷ [])) ≡ item_if b key s) [
-        | inl is_in ↦
-            ap (map (spot_item e.keys)) (cond-true (is_from b s) ((name, s) ∷ []) [] is_in)
-            ∙ ap (λ o. record (spot_item e.keys (name, s)) { key = key_or_zero o } ∷ []) keyed
-            ∙ sym (cond-true (is_from b s) (record (spot_item e.keys (name, s)) { key = key } ∷ []) [] is_in)
-        | inr out ↦
-            ap (map (spot_item e.keys)) (cond-false (is_from b s) ((name, s) ∷ []) [] out)
-            ∙ sym (cond-false (is_from b s) (record (spot_item e.keys (name, s)) { key = key } ∷ []) [] out)
-      ]
+      one = elim (cases_Bool (is_from b s)) as (λ _. map (spot_item e.keys) (filter p ((name, s) ∷ []))
+          ≡ item_if b key s) [
+            | inl is_in ↦
+                ap (map (spot_item e.keys)) (cond-true (is_from b s) ((name, s) ∷ []) [] is_in)
+                ∙ ap (λ o. record (item_at key s) { key = key_or_zero o } ∷ []) keyed
+                ∙ sym (cond-true (is_from b s) (item_at key s ∷ []) [] is_in)
+            | inr out ↦
+                ap (map (spot_item e.keys)) (cond-false (is_from b s) ((name, s) ∷ []) [] out)
+                ∙ sym (cond-false (is_from b s) (item_at key s ∷ []) [] out)
+          ]
 
       longer : take (n + 1) (fin.entries e.now) ≡ take n (fin.entries e.now) ++ (name, s) ∷ []
       longer = take_more (fin.entries e.now) n (name, s) (slice_get_within (fin.entries e.now) n (name, s) at)
-          ∙ ap (λ x. take n (fin.entries e.now) ++ x ∷ []) (get_or_from_slice_get (fin.entries e.now) n (name, s) (name, s) at)
+          ∙ ap (λ x. take n (fin.entries e.now) ++ x ∷ [])
+          (get_or_from_slice_get (fin.entries e.now) n (name, s) (name, s) at)
 
       one_more : map (spot_item e.keys) (filter p (take (n + 1) (fin.entries e.now)))
           ≡ map (spot_item e.keys) (filter p (take n (fin.entries e.now))) ++ item_if b key s

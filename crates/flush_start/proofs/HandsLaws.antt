@@ -1,4 +1,5 @@
--- What a flush holds where it begins: with nothing pending, and with a pending object behind the room for what
+-- What a flush holds where it begins: with nothing pending, and with a pending object behind the room for
+-- what
 -- is lifted.
 use Rattle.std.specs.Prelude.{◌≡◌, ◌⊎◌, ℕ, ◌+◌, ◌≤◌, nat_le, nat_lt, true, List, [], ◌∷◌, ◌++◌, Some, None, IsPermutation, refl}
 use Rattle.std.proofs.Common.{arith, sym, ◌∙◌, ap, subst, inl, inr}
@@ -43,7 +44,8 @@ use Rattle.flush_start.proofs.ReachLaws.{all_end, kept_end, reach_low, reach_pas
 use Rattle.flush_start.proofs.SuffixLaws.{items_with}
 
 -- what a table keeps of the classes below a boundary isn't seen in the other numbers of its header
-pub below_begun : (classes size_max k len more b wall slack : ℕ) (caps : List ℕ) (grid : List (List ℕ)) (spots : Spots)
+pub below_begun : (classes size_max k len more b wall slack : ℕ) (caps : List ℕ) (grid : List (List ℕ))
+    (spots : Spots)
     → KeepsBelow b (laid classes size_max k len (settled_header caps grid) spots)
     → KeepsBelow b (laid classes size_max k more (begun_header b wall slack caps grid) spots)
 below_begun classes size_max k len more b wall slack caps grid spots keeps = record {
@@ -53,11 +55,15 @@ below_begun classes size_max k len more b wall slack caps grid spots keeps = rec
   rows = keeps.rows;
   stands = keeps.stands;
   apart = keeps.apart;
-  balance = λ c low. record { buffers = (keeps.balance c low).buffers; payload = (keeps.balance c low).payload };
+  balance = λ c low. record {
+    buffers = (keeps.balance c low).buffers;
+    payload = (keeps.balance c low).payload;
+  };
   full = λ c low. record { entry = (keeps.full c low).entry; full = (keeps.full c low).full };
 }
 
-module _ (f : Flight) (caps : List ℕ) (grid kept_grid : List (List ℕ)) (b : ℕ) (u : choice.InUse) (e : Extents)
+module _ (f : Flight) (caps : List ℕ) (grid kept_grid : List (List ℕ)) (b : ℕ) (u : choice.InUse)
+    (e : Extents)
     (spans : List Span) (h : CanStart f.classes f.size_max caps grid kept_grid b u e spans)
     (base : f.base ≡ head_len u.block.names) where
   abbrev k : ℕ
@@ -96,23 +102,33 @@ module _ (f : Flight) (caps : List ℕ) (grid kept_grid : List (List ℕ)) (b : 
       reach_past_wall f.classes f.size_max caps grid kept_grid b u e spans h pending small,
     );
     same_reach = omega (arith, reach);
-    in_range = omega (arith, reach, reach_low f.classes f.size_max caps grid kept_grid b u e spans h pending small);
+    in_range = omega (
+      arith,
+      reach,
+      reach_low f.classes f.size_max caps grid kept_grid b u e spans h pending
+          small,
+    );
     items = perm;
     rules = rules;
     lower = lower;
     freed = freed;
-    kept_empty = subst (λ (m : Spots). (name : List ℕ) (s : Spot) → fin.get m name ≡ Some s → s.size ≡ 0 → s.place ≡ 0)
+    kept_empty = subst (λ (m : Spots). (name : List ℕ) (s : Spot) → fin.get m name ≡ Some s → s.size ≡ 0
+        → s.place ≡ 0)
         (sym kept) (by_name (λ (r : Record). r.size ≡ 0 → r.place ≡ 0) e.kept h.kept.named kept_below.empty);
-    kept_apart = subst (λ (m : Spots). (a c : List ℕ) (s t : Spot) → fin.get m a ≡ Some s → fin.get m c ≡ Some t
-        → (a ≡ c) ⊎ (s.size ≡ 0) ⊎ (t.size ≡ 0) ⊎ (s.place + s.size ≤ t.place) ⊎ (t.place + t.size ≤ s.place)) (sym kept)
+    kept_apart = subst (λ (m : Spots). (a c : List ℕ) (s t : Spot) → fin.get m a ≡ Some s → fin.get m c
+        ≡ Some t
+        → (a ≡ c) ⊎ (s.size ≡ 0) ⊎ (t.size ≡ 0) ⊎ (s.place + s.size ≤ t.place)
+        ⊎ (t.place + t.size ≤ s.place)) (sym kept)
         (λ a c s t is there. elim (cases_Bool (same_name a c))
-        as (λ _. (a ≡ c) ⊎ (s.size ≡ 0) ⊎ (t.size ≡ 0) ⊎ (s.place + s.size ≤ t.place) ⊎ (t.place + t.size ≤ s.place)) [
+        as (λ _. (a ≡ c) ⊎ (s.size ≡ 0) ⊎ (t.size ≡ 0) ⊎ (s.place + s.size ≤ t.place)
+        ⊎ (t.place + t.size ≤ s.place)) [
           | inl same ↦ inl (same_name-is a c same)
           | inr differ ↦ inr (apart_by_name e.kept h.kept.named kept_below.apart a c s t is there differ)
         ]);
   }
     where
-      kept_below : KeepsBelow f.classes (laid f.classes f.size_max k (end_of k caps) (settled_header caps kept_grid) e.kept)
+      kept_below : KeepsBelow f.classes (laid f.classes f.size_max k (end_of k caps)
+          (settled_header caps kept_grid) e.kept)
       kept_below = laid_below f.classes f.size_max k caps kept_grid e.kept h.kept
 
       rows : HasFullRows (begun pending after.now)
@@ -124,14 +140,16 @@ module _ (f : Flight) (caps : List ℕ) (grid kept_grid : List (List ℕ)) (b : 
 
       rules : KeepsPlaces (laid f.classes f.size_max k f.reach
           (moving_header b (numbers pending).wall (numbers pending).slack caps grid) after.now)
-      rules = valid_for_suffix b (begun pending after.now) rows (omega (arith, h.low, h.below.few)) h.boundary below
+      rules = valid_for_suffix b (begun pending after.now) rows (omega (arith, h.low, h.below.few))
+          h.boundary below
 
   -- ---- with nothing pending
 
   pub hands_alone : f.reach ≡ (numbers 0).reach → (all : List Item) (room : ℕ) → IsPermutation items all
       → IsHandsFor f u e caps grid spans (phase_of k caps (numbers 0) 0 all room)
   hands_alone reach all room perm = hands_of 0 (omega arith) reach e h.table refl refl h.freed
-      (below_begun f.classes f.size_max k (end_of k caps) f.reach b (numbers 0).wall (numbers 0).slack caps grid e.now
+      (below_begun f.classes f.size_max k (end_of k caps) f.reach b (numbers 0).wall (numbers 0).slack caps
+      grid e.now
       h.below.below)
       (λ name s there. omega (
         arith,
@@ -143,7 +161,8 @@ module _ (f : Flight) (caps : List ℕ) (grid kept_grid : List (List ℕ)) (b : 
 
   -- ---- with a pending object
 
-  module _ (name : List ℕ) (is : IsName name) (new : fin.get e.now name ≡ None) (s : Spot) (key : ℕ) (some : 1 ≤ s.size)
+  module _ (name : List ℕ) (is : IsName name) (new : fin.get e.now name ≡ None) (s : Spot) (key : ℕ)
+      (some : 1 ≤ s.size)
       (small : s.size ≤ f.size_max) (high : b ≤ class_of s.size) (reach : f.reach ≡ (numbers s.size).reach)
       (place : s.place + s.size ≡ f.reach) where
     -- it stands behind all that stands and all that is kept
@@ -188,7 +207,8 @@ module _ (f : Flight) (caps : List ℕ) (grid kept_grid : List (List ℕ)) (b : 
         (freed_past_new spans e.now e.kept name s new (λ x there. pending_free.held name x there) h.freed)))
         (subst (λ (m : Spots). KeepsBelow b (begun s.size m)) (sym joins.now)
         (pending_below f.classes f.size_max k f.reach
-        (begun_header b (numbers s.size).wall (numbers s.size).slack caps grid) b e.now h.below.named name is new s some
+        (begun_header b (numbers s.size).wall (numbers s.size).slack caps grid) b e.now h.below.named name
+        is new s some
         small high alone (below_begun f.classes f.size_max k (end_of k caps) f.reach b (numbers s.size).wall
         (numbers s.size).slack caps grid e.now h.below.below)))
         (subst (λ (m : Spots). AllEndBy m f.reach) (sym joins.now) lower) all room
@@ -197,12 +217,19 @@ module _ (f : Flight) (caps : List ℕ) (grid kept_grid : List (List ℕ)) (b : 
         (items_with b e after name s key new joins.now joins.keys in_suffix))
       where
         in_suffix : is_from b s ≡ true
-        in_suffix = and_from (nat_lt 0 s.size) (nat_le b (class_of s.size)) (lt-ltb 0 s.size (omega (arith, some)))
+        in_suffix = and_from (nat_lt 0 s.size) (nat_le b (class_of s.size))
+            (lt-ltb 0 s.size (omega (arith, some)))
             (le-leb b (class_of s.size) high)
 
         lower : AllEndBy (fin.insert e.now name s) f.reach
         lower q x there = elim (inserted e.now name q s x there) as (λ _. x.place + x.size ≤ f.reach) [
-          | inl here ↦ omega (arith, place, ap (λ (y : Spot). y.place) here.1, ap (λ (y : Spot). y.size) here.1)
+          | inl here ↦ omega (
+            arith,
+            place,
+            ap (λ (y : Spot). y.place) here.1,
+            ap (λ (y : Spot). y.size)
+                here.1,
+          )
           | inr old ↦ omega (
             arith,
             all_end f.classes f.size_max caps grid kept_grid b u e spans h q x old.1,

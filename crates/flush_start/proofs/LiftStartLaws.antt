@@ -1,4 +1,5 @@
--- Lifting may begin after a change that isn't quiet: a removal, a put whose object found room, and a put whose
+-- Lifting may begin after a change that isn't quiet: a removal, a put whose object found room, and a put
+-- whose
 -- object waits.
 use Rattle.std.specs.Prelude.{◌≡◌, ℕ, ◌+◌, ◌<◌, ◌≤◌, ◌^◌, false, List, [], ◌∷◌, ◌++◌, length, Option, Some, None, IsPermutation, is_some, refl}
 use Rattle.std.proofs.Common.{arith, sym, ◌∙◌, ap, subst}
@@ -70,14 +71,16 @@ module _ (f : Flight) (caps : List ℕ) (grid kept_grid : List (List ℕ)) (u : 
   module _ (l : IsLoud k caps grid old 0 after b) where
     -- a flush may begin once the name is gone
     pub removed_starts : CanStart f.classes f.size_max caps after kept_grid b u gone freed
-    removed_starts = started_without f.classes f.size_max caps grid kept_grid u e spans h name 0 after b (omega arith) l
+    removed_starts = started_without f.classes f.size_max caps grid kept_grid u e spans h name 0 after b
+        (omega arith) l
         gone without freed frees
         (after_gone f.classes f.size_max caps grid kept_grid u e spans h name 0 after b (omega arith) l refl)
 
     module _ (reach : f.reach ≡ (numbers gone 0).reach) (all : List Item) (room : ℕ)
         (perm : IsPermutation (suffix_items b gone) all) where
       pub removed_hands : IsHandsFor f u gone caps after freed (phase_of k caps (numbers gone 0) 0 all room)
-      removed_hands = hands_alone f caps after kept_grid b u gone freed removed_starts base reach all room perm
+      removed_hands = hands_alone f caps after kept_grid b u gone freed removed_starts base reach all room
+          perm
 
       pub removed_lifts : (m : Map) → IsSizedBy m e.now
           → (next_book k m before (record { name = name; object = None })).book ≡ f.new_book
@@ -87,14 +90,17 @@ module _ (f : Flight) (caps : List ℕ) (grid kept_grid : List (List ℕ)) (u : 
         low = kept_end f.classes f.size_max caps after kept_grid b u gone freed removed_starts;
         book = subst (λ (x : Spots). book_of (laid f.classes f.size_max k f.reach
             (moving_header b (numbers gone 0).wall (numbers gone 0).slack caps after) x)
-            ≡ (next_book k m before (record { name = name; object = None })).book) (sym without.now) begun_book ∙ book;
+            ≡ (next_book k m before (record { name = name; object = None })).book) (sym without.now)
+            begun_book ∙ book;
       }
         where
           begun_book : book_of (laid f.classes f.size_max k f.reach
-              (moving_header b (numbers gone 0).wall (numbers gone 0).slack caps after) (fin.remove e.now name))
+              (moving_header b (numbers gone 0).wall (numbers gone 0).slack caps after)
+              (fin.remove e.now name))
               ≡ (next_book k m before (record { name = name; object = None })).book
           begun_book = book_begun f.classes f.size_max caps grid kept_grid u e spans h m sized
-              (record { name = name; object = None }) after b l (numbers gone 0).wall (numbers gone 0).slack f.reach
+              (record { name = name; object = None }) after b l (numbers gone 0).wall (numbers gone 0).slack
+              f.reach
               (fin.remove e.now name) removed_starts.low
               (subst (λ (x : Spots). AreNamed x) without.now removed_starts.below.named)
               (sized_gone m e.now name sized) removed_starts.below.grid_full.full
@@ -119,7 +125,8 @@ module _ (f : Flight) (caps : List ℕ) (grid kept_grid : List (List ℕ)) (u : 
     put_now s key put joins = joins.now ∙ ap (λ (x : Spots). fin.insert x name s) without.now
         ∙ insert-remove e.now name s
 
-    book_put : (m : Map) (sized : IsSizedBy m e.now) (s : Spot) (key : ℕ) (put : Extents) → IsWith name s key gone put
+    book_put : (m : Map) (sized : IsSizedBy m e.now) (s : Spot) (key : ℕ) (put : Extents)
+        → IsWith name s key gone put
         → s.size ≡ size → b < f.classes → AreNamed put.now → length after ≡ 32 → (wall slack : ℕ)
         → AreBuffered b (begun f.classes f.size_max caps grid kept_grid u e spans h m sized
         (record { name = name; object = Some object }) after b l wall slack f.reach (fin.insert e.now name s))
@@ -128,11 +135,13 @@ module _ (f : Flight) (caps : List ℕ) (grid kept_grid : List (List ℕ)) (u : 
         → book_of (laid f.classes f.size_max k f.reach (moving_header b wall slack caps after) put.now)
         ≡ (next_book k m before (record { name = name; object = Some object })).book
     book_put m sized s key put joins same low named long wall slack are =
-        subst (λ (x : Spots). book_of (laid f.classes f.size_max k f.reach (moving_header b wall slack caps after) x)
+        subst (λ (x : Spots). book_of (laid f.classes f.size_max k f.reach
+        (moving_header b wall slack caps after) x)
         ≡ (next_book k m before (record { name = name; object = Some object })).book)
         (sym (put_now s key put joins))
         (book_begun f.classes f.size_max caps grid kept_grid u e spans h m sized
-        (record { name = name; object = Some object }) after b l wall slack f.reach (fin.insert e.now name s) low
+        (record { name = name; object = Some object }) after b l wall slack f.reach
+        (fin.insert e.now name s) low
         (subst (λ (x : Spots). AreNamed x) (put_now s key put joins) named)
         (sized_put m e.now name object s (sym same) sized) long are)
 
@@ -141,17 +150,20 @@ module _ (f : Flight) (caps : List ℕ) (grid kept_grid : List (List ℕ)) (u : 
     module _ (place key : ℕ) (placed : PlacedTo k caps mid size after place) (put : Extents)
         (joins : IsWith name (record { place = place; size = size }) key gone put) where
       pub placed_starts : CanStart f.classes f.size_max caps after kept_grid b u put freed
-      placed_starts = started_with f.classes f.size_max caps grid kept_grid u e spans h name size after b small l gone
+      placed_starts = started_with f.classes f.size_max caps grid kept_grid u e spans h name size after b
+          small l gone
           without freed frees is place key placed put joins
 
       -- Its bytes are free, and end within the reach.
       pub placed_free : IsFreeSpace gone.now gone.kept place size
       placed_free = record {
         live = subst (λ (x : Spots). (q : List ℕ) (s : Spot) → fin.get x q ≡ Some s → LiesApart place size s)
-            (sym without.now) (λ q s there. placed_apart_now f.classes f.size_max caps grid kept_grid u e spans h name
+            (sym without.now) (λ q s there. placed_apart_now f.classes f.size_max caps grid kept_grid u e
+            spans h name
             size place after placed q s (left_over e.now name q s there).1);
         held = subst (λ (x : Spots). (q : List ℕ) (s : Spot) → fin.get x q ≡ Some s → LiesApart place size s)
-            (sym without.kept) (placed_apart_kept f.classes f.size_max caps grid kept_grid u e spans h name size place
+            (sym without.kept) (placed_apart_kept f.classes f.size_max caps grid kept_grid u e spans h name
+            size place
             after placed);
       }
 
@@ -174,7 +186,8 @@ module _ (f : Flight) (caps : List ℕ) (grid kept_grid : List (List ℕ)) (u : 
           hands = placed_hands;
           low = kept_end f.classes f.size_max caps after kept_grid b u put freed placed_starts;
           book = book_put m sized (record { place = place; size = size }) key put joins refl placed_starts.low
-              placed_starts.below.named placed_starts.below.grid_full.full (numbers put 0).wall (numbers put 0).slack
+              placed_starts.below.named placed_starts.below.grid_full.full (numbers put 0).wall
+              (numbers put 0).slack
               (buffered_placed f.classes f.size_max caps grid kept_grid u e spans h m sized
               (record { name = name; object = Some object }) after b l placed_starts.low (numbers put 0).wall
               (numbers put 0).slack f.reach place placed) ∙ book;
@@ -184,7 +197,8 @@ module _ (f : Flight) (caps : List ℕ) (grid kept_grid : List (List ℕ)) (u : 
 
     module _ (missed : is_quiet (new_charged k caps mid size) ≡ false) where
       pub pending_starts : CanStart f.classes f.size_max caps after kept_grid b u gone freed
-      pending_starts = started_without f.classes f.size_max caps grid kept_grid u e spans h name size after b small l
+      pending_starts = started_without f.classes f.size_max caps grid kept_grid u e spans h name size after
+          b small l
           gone without freed frees
           (after_missed f.classes f.size_max caps grid kept_grid u e spans h name size after b small l missed)
 
@@ -192,7 +206,8 @@ module _ (f : Flight) (caps : List ℕ) (grid kept_grid : List (List ℕ)) (u : 
       pending_some = new_some k caps grid old size missed
 
       pub pending_high : b ≤ class_of size
-      pending_high = new_high f.classes f.size_max caps grid kept_grid u e spans h name size after b small l missed
+      pending_high = new_high f.classes f.size_max caps grid kept_grid u e spans h name size after b small l
+          missed
 
       -- its class is one that the layout has
       pub pending_class : class_of size < f.classes
@@ -206,12 +221,15 @@ module _ (f : Flight) (caps : List ℕ) (grid kept_grid : List (List ℕ)) (u : 
 
       module _ (place : ℕ) (reach : f.reach ≡ (numbers gone size).reach) (ends : place + size ≡ f.reach) where
         pub pending_is_free : IsFreeSpace gone.now gone.kept place size
-        pending_is_free = pending_free f caps after kept_grid b u gone freed pending_starts base name is pending_new
+        pending_is_free = pending_free f caps after kept_grid b u gone freed pending_starts base name is
+            pending_new
             (record { place = place; size = size }) 0 pending_some small pending_high reach ends
 
-        module _ (key : ℕ) (put : Extents) (joins : IsWith name (record { place = place; size = size }) key gone put)
+        module _ (key : ℕ) (put : Extents) (joins : IsWith name (record { place = place; size = size }) key
+            gone put)
             (all : List Item) (room : ℕ)
-            (perm : IsPermutation (suffix_items b gone ++ item_at key (record { place = place; size = size }) ∷ []) all)
+            (perm : IsPermutation (suffix_items b gone
+            ++ item_at key (record { place = place; size = size }) ∷ []) all)
           where
             -- there is room for it in a list for as many items as there may be names
             pub pending_room : length (suffix_items b gone) < gone.names
@@ -230,26 +248,34 @@ module _ (f : Flight) (caps : List ℕ) (grid kept_grid : List (List ℕ)) (u : 
 
             pub pending_begins : Begins k caps (numbers gone size) (suffix_items b gone)
                 (Some (item_at key (record { place = place; size = size })))
-            pending_begins = begins_pending f.classes f.size_max caps after kept_grid b u gone freed pending_starts name
-                (record { place = place; size = size }) key put pending_new joins pending_some small pending_high
+            pending_begins = begins_pending f.classes f.size_max caps after kept_grid b u gone freed
+                pending_starts name
+                (record { place = place; size = size }) key put pending_new joins pending_some small
+                pending_high
                 (omega (arith, ends, reach))
 
             pub pending_hands : IsHandsFor f u put caps after freed
                 (phase_of k caps (numbers gone size) size all room)
-            pending_hands = hands_pending f caps after kept_grid b u gone freed pending_starts base name is pending_new
-                (record { place = place; size = size }) key pending_some small pending_high reach ends put joins all room
+            pending_hands = hands_pending f caps after kept_grid b u gone freed pending_starts base name is
+                pending_new
+                (record { place = place; size = size }) key pending_some small pending_high reach ends put
+                joins all room
                 perm
 
             pub pending_lifts : (m : Map) → IsSizedBy m e.now → IsNext m
-                → LiftNow f caps after (end_of k caps) u put freed (phase_of k caps (numbers gone size) size all room)
+                → LiftNow f caps after (end_of k caps) u put freed
+                (phase_of k caps (numbers gone size) size all room)
             pending_lifts m sized book = record {
               hands = pending_hands;
               low = subst (λ (x : Spots). AllEndBy x (end_of k caps)) (sym joins.kept)
                   (kept_end f.classes f.size_max caps after kept_grid b u gone freed pending_starts);
-              book = book_put m sized (record { place = place; size = size }) key put joins refl pending_starts.low
+              book = book_put m sized (record { place = place; size = size }) key put joins refl
+                  pending_starts.low
                   joins.table.now_named pending_starts.below.grid_full.full (numbers gone size).wall
                   (numbers gone size).slack
                   (buffered_pending f.classes f.size_max caps grid kept_grid u e spans h m sized
-                  (record { name = name; object = Some object }) after b l pending_starts.low (numbers gone size).wall
-                  (numbers gone size).slack f.reach (record { place = place; size = size }) pending_high) ∙ book;
+                  (record { name = name; object = Some object }) after b l pending_starts.low
+                  (numbers gone size).wall
+                  (numbers gone size).slack f.reach (record { place = place; size = size }) pending_high)
+                  ∙ book;
             }

@@ -1,4 +1,5 @@
--- The reach of a flush is loose: for the maps before and after a change that isn't quiet, where the book before
+-- The reach of a flush is loose: for the maps before and after a change that isn't quiet, where the book
+-- before
 -- it is balanced.
 use Rattle.std.specs.Prelude.{◌≡◌, ℕ, ◌+◌, ◌≤◌, cond, false, max, List, [], ◌∷◌, ◌++◌, length, filter, Option, Some, None, refl}
 use Rattle.std.proofs.Common.{arith, sym, ◌∙◌, ap, subst, inl, inr}
@@ -83,17 +84,21 @@ module _ (classes size_max : ℕ) (caps : List ℕ) (grid kept_grid : List (List
   loose_from : (pending : ℕ) (before after x : Map) → IsSizedBy x e.now
       → volume x ≤ max (volume before) (volume after) → largest x ≤ max (largest before) (largest after)
       → pending ≤ max (largest before) (largest after) → 1 ≤ max (largest before) (largest after)
-      → Tight divisor (end_of divisor caps) before → Tight divisor (numbers_of divisor caps b all_items pending).end after
+      → Tight divisor (end_of divisor caps) before
+      → Tight divisor (numbers_of divisor caps b all_items pending).end after
       → Loose divisor (numbers_of divisor caps b all_items pending).reach before after
   loose_from pending before after x sized few low fits some tight_old tight_new =
-      reach_is_loose divisor caps b all_items (can_flush classes size_max caps grid kept_grid b u e spans h) pending before after
+      reach_is_loose divisor caps b all_items (can_flush classes size_max caps grid kept_grid b u e spans h)
+      pending before after
       h.block.divisor_low tight_old tight_new
       (λ it has. let o = has_item b e it has in
-      omega (arith, ap (λ (y : Item). y.size) o.is, sized_low x e.now sized o.name o.spot o.stands, low)) fits some
+      omega (arith, ap (λ (y : Item). y.size) o.is, sized_low x e.now sized o.name o.spot o.stands, low))
+      fits some
       (omega (
         arith,
         total_is (stands_in_payload divisor caps) all_items,
-        sum_by_le_in (λ (it : Item). cond (stands_in_payload divisor caps it) it.size 0) (λ it. it.size) all_items
+        sum_by_le_in (λ (it : Item). cond (stands_in_payload divisor caps it) it.size 0) (λ it. it.size)
+            all_items
             (λ it has. cond_at_most (stands_in_payload divisor caps it) it.size),
         items_in_volume b e,
         sized_volume x e.now sized,
@@ -106,7 +111,8 @@ module _ (f : Flight) (caps : List ℕ) (grid kept_grid : List (List ℕ)) (u : 
     (spans : List Span) (h : WasBefore f.classes f.size_max caps grid kept_grid u e spans)
     (base : f.base ≡ head_len u.block.names) (name : List ℕ) (after : List (List ℕ)) (b : ℕ) (gone : Extents)
     (without : IsWithout name e gone) (freed : List Span)
-    (frees : FreesSpot (fin.get e.now name) (fin.get e.kept name) spans freed) (m : Map) (sized : IsSizedBy m e.now)
+    (frees : FreesSpot (fin.get e.now name) (fin.get e.kept name) spans freed) (m : Map)
+    (sized : IsSizedBy m e.now)
     (balanced : IsBalanced u.block.k m (shown_book f.classes f.size_max u.block.k caps grid e.now)) where
   abbrev k : ℕ
   k = u.block.k
@@ -127,41 +133,48 @@ module _ (f : Flight) (caps : List ℕ) (grid kept_grid : List (List ℕ)) (u : 
   tight_before = tight k m before balanced
 
   -- the new end is tight for the map after the change
-  tight_after : (object : Option (List ℕ)) (l : IsLoud k caps grid old (object_size object) after b) (x : Extents)
+  tight_after : (object : Option (List ℕ)) (l : IsLoud k caps grid old (object_size object) after b)
+      (x : Extents)
       → IsSizedBy (changed (record { name = name; object = object }) m) x.now → (items : List Item)
-      (pending : Option Item) → Begins k caps (numbers_of k caps b items (pending_size pending)) items pending → b ≤ width
+      (pending : Option Item) → Begins k caps (numbers_of k caps b items (pending_size pending)) items
+      pending → b ≤ width
       → IsHandsFor f u x caps after freed (phase_of k caps (numbers_of k caps b items (pending_size pending))
       (pending_size pending) (with_pending items pending) 0)
-      → Tight k (numbers_of k caps b items (pending_size pending)).end (changed (record { name = name; object = object }) m)
+      → Tight k (numbers_of k caps b items (pending_size pending)).end
+      (changed (record { name = name; object = object }) m)
   tight_after object l x has items pending begins low hands =
       let c : Change = record { name = name; object = object } in
       let n = numbers_of k caps b items (pending_size pending) in
       let p = phase_of k caps n (pending_size pending) (with_pending items pending) 0 in
       let next = next_book k m before c in
       let end : end_of k next.book.caps ≡ n.end =
-      ap (λ (y : Book). end_of k y.caps) (next_is f.classes f.size_max caps grid kept_grid u e spans h m sized c after b l)
-      ∙ ap (λ vs. end_of k (settled_caps b caps vs)) (sized_volumes (changed c m) x.now has hands.table.now_named)
+      ap (λ (y : Book). end_of k y.caps) (next_is f.classes f.size_max caps grid kept_grid u e spans h m
+      sized c after b l)
+      ∙ ap (λ vs. end_of k (settled_caps b caps vs))
+      (sized_volumes (changed c m) x.now has hands.table.now_named)
       ∙ end_is f u x caps after freed p hands
       ∙ sym (begun k caps n items pending low begins).layout.end in
-      subst (λ y. Tight k y (changed c m)) end (tight k (changed c m) next.book (balanced_next k m before c balanced))
+      subst (λ y. Tight k y (changed c m)) end (tight k (changed c m) next.book
+      (balanced_next k m before c balanced))
 
   -- something has at least 1 byte
   some_byte : (size : ℕ) (m' : Map) → IsLoud k caps grid old size after b
       → (1 ≤ size → size ≤ largest m') → 1 ≤ max (largest m) (largest m')
-  some_byte size m' l new = elim (one_missed k caps grid old size l.loud) as (λ _. 1 ≤ max (largest m) (largest m')) [
-    | inl missed ↦ omega (
-      arith,
-      gone_some k caps grid old size missed,
-      old_low,
-      le-max_left (largest m) (largest m'),
-    )
-    | inr missed ↦ omega (
-      arith,
-      new_some k caps grid old size missed,
-      new (new_some k caps grid old size missed),
-      le-max_right (largest m) (largest m'),
-    )
-  ]
+  some_byte size m' l new = elim (one_missed k caps grid old size l.loud) as (λ _. 1 ≤ max (largest m)
+      (largest m')) [
+        | inl missed ↦ omega (
+          arith,
+          gone_some k caps grid old size missed,
+          old_low,
+          le-max_left (largest m) (largest m'),
+        )
+        | inr missed ↦ omega (
+          arith,
+          new_some k caps grid old size missed,
+          new (new_some k caps grid old size missed),
+          le-max_right (largest m) (largest m'),
+        )
+      ]
     where
       old_low : size_at (fin.get e.now name) ≤ largest m
       old_low = by (fin.get e.now name) refl
@@ -174,9 +187,11 @@ module _ (f : Flight) (caps : List ℕ) (grid kept_grid : List (List ℕ)) (u : 
   pub removed_loose : IsLoud k caps grid old 0 after b → f.reach ≡ (numbers gone 0).reach
       → Loose k f.reach m (fin.remove m name)
   removed_loose l reach =
-      let start = removed_starts f caps grid kept_grid u e spans h base name after b gone without freed frees l in
+      let start = removed_starts f caps grid kept_grid u e spans h base name after b gone without freed
+      frees l in
       let items = suffix_items b gone in
-      let has : IsSizedBy (fin.remove m name) gone.now = subst (λ (x : Spots). IsSizedBy (fin.remove m name) x)
+      let has : IsSizedBy (fin.remove m name) gone.now = subst
+      (λ (x : Spots). IsSizedBy (fin.remove m name) x)
       (sym without.now) (sized_gone m e.now name sized) in
       subst (λ y. Loose k y m (fin.remove m name)) (sym reach)
       (loose_from f.classes f.size_max caps after kept_grid b u gone freed start 0 m (fin.remove m name)
@@ -186,7 +201,8 @@ module _ (f : Flight) (caps : List ℕ) (grid kept_grid : List (List ℕ)) (u : 
       (tight_after None l gone has items None
       (begins_alone f.classes f.size_max caps after kept_grid b u gone freed start)
       (omega (arith, start.low, start.below.few))
-      (removed_hands f caps grid kept_grid u e spans h base name after b gone without freed frees l reach items 0
+      (removed_hands f caps grid kept_grid u e spans h base name after b gone without freed frees l reach
+      items 0
       (IsPermutation-refl items))))
 
   module _ (is : IsName name) (object : List ℕ) (small : length object ≤ f.size_max)
@@ -208,7 +224,8 @@ module _ (f : Flight) (caps : List ℕ) (grid kept_grid : List (List ℕ)) (u : 
         → IsWith name (record { place = place; size = length object }) key gone put
         → f.reach ≡ (numbers put 0).reach → Loose k f.reach m m'
     placed_loose place key placed put joins reach =
-        let start = placed_starts f caps grid kept_grid u e spans h base name after b gone without freed frees is object
+        let start = placed_starts f caps grid kept_grid u e spans h base name after b gone without freed
+        frees is object
         small l place key placed put joins in
         let items = suffix_items b put in
         let has = sized_after (record { place = place; size = length object }) key put joins refl in
@@ -219,31 +236,38 @@ module _ (f : Flight) (caps : List ℕ) (grid kept_grid : List (List ℕ)) (u : 
         (tight_after (Some object) l put has items None
         (begins_alone f.classes f.size_max caps after kept_grid b u put freed start)
         (omega (arith, start.low, start.below.few))
-        (placed_hands f caps grid kept_grid u e spans h base name after b gone without freed frees is object small l place
+        (placed_hands f caps grid kept_grid u e spans h base name after b gone without freed frees is object
+        small l place
         key placed put joins reach items 0 (IsPermutation-refl items))))
 
     -- a put whose object waits
     pub pending_loose : is_quiet (new_charged k caps mid (length object)) ≡ false → (place : ℕ)
-        → f.reach ≡ (numbers gone (length object)).reach → place + length object ≡ f.reach → (key : ℕ) (put : Extents)
+        → f.reach ≡ (numbers gone (length object)).reach → place + length object ≡ f.reach
+        → (key : ℕ) (put : Extents)
         → IsWith name (record { place = place; size = length object }) key gone put → Loose k f.reach m m'
     pending_loose missed place reach ends key put joins =
-        let start = pending_starts f caps grid kept_grid u e spans h base name after b gone without freed frees is object
+        let start = pending_starts f caps grid kept_grid u e spans h base name after b gone without freed
+        frees is object
         small l missed in
         let items = suffix_items b gone in
         let it = item_at key (record { place = place; size = length object }) in
         let has = sized_after (record { place = place; size = length object }) key put joins refl in
-        let rest : IsSizedBy (fin.remove m name) gone.now = subst (λ (x : Spots). IsSizedBy (fin.remove m name) x)
+        let rest : IsSizedBy (fin.remove m name) gone.now = subst
+        (λ (x : Spots). IsSizedBy (fin.remove m name) x)
         (sym without.now) (sized_gone m e.now name sized) in
         let all = items ++ it ∷ [] in
         subst (λ y. Loose k y m m') (sym reach)
-        (loose_from f.classes f.size_max caps after kept_grid b u gone freed start (length object) m m' (fin.remove m name)
+        (loose_from f.classes f.size_max caps after kept_grid b u gone freed start (length object) m m'
+        (fin.remove m name)
         rest (omega (arith, volume-remove m name, le-max_left (volume m) (volume m')))
         (omega (arith, largest-remove m name, le-max_left (largest m) (largest m')))
         (omega (arith, object_low, le-max_right (largest m) (largest m')))
         (some_byte (length object) m' l (λ some. object_low)) tight_before
         (tight_after (Some object) l put has items (Some it)
-        (pending_begins f caps grid kept_grid u e spans h base name after b gone without freed frees is object small l
+        (pending_begins f caps grid kept_grid u e spans h base name after b gone without freed frees is
+        object small l
         missed place reach ends key put joins all 0 (IsPermutation-refl all))
         (omega (arith, start.low, start.below.few))
-        (pending_hands f caps grid kept_grid u e spans h base name after b gone without freed frees is object small l
+        (pending_hands f caps grid kept_grid u e spans h base name after b gone without freed frees is
+        object small l
         missed place reach ends key put joins all 0 (IsPermutation-refl all))))

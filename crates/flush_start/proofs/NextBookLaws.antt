@@ -49,7 +49,8 @@ same_item None (Some y) same = absurd (cc)
 same_item (Some v) None same = absurd (cc)
 same_item (Some v) (Some y) same = let e : length v ≡ length y = cc in ap some_size e
 
-module _ (classes size_max : ℕ) (caps : List ℕ) (grid kept_grid : List (List ℕ)) (u : choice.InUse) (e : Extents)
+module _ (classes size_max : ℕ) (caps : List ℕ) (grid kept_grid : List (List ℕ)) (u : choice.InUse)
+    (e : Extents)
     (spans : List Span) (h : WasBefore classes size_max caps grid kept_grid u e spans) (m : Map)
     (sized : IsSizedBy m e.now) (c : Change) (after : List (List ℕ)) (b : ℕ)
     (l : IsLoud u.block.k caps grid (fin.get e.now c.name) (object_size c.object) after b) where
@@ -79,7 +80,8 @@ module _ (classes size_max : ℕ) (caps : List ℕ) (grid kept_grid : List (List
       let file = blank classes size_max k caps grid e.now h.both.now_laid in
       let within = in_blank classes size_max k caps grid e.now h.both.now_laid in
       let zeros = read_at 0 file e.now in
-      ap (λ xs. if set.contains book.buffered c.name then [] else xs) (same_item (fin.get m c.name) (fin.get zeros c.name)
+      ap (λ xs. if set.contains book.buffered c.name then [] else xs)
+      (same_item (fin.get m c.name) (fin.get zeros c.name)
       (sized c.name ∙ sym (sized_read 0 file e.now h.both.now_laid.named within c.name)))
       ∙ old_item-is classes size_max k caps grid e.now h.both.now_laid 0 file within c.name
 
@@ -140,17 +142,21 @@ module _ (classes size_max : ℕ) (caps : List ℕ) (grid kept_grid : List (List
   begun wall slack reach now = laid classes size_max k reach (begun_header b wall slack caps after) now
 
   -- whether another name stands in a buffer is as it was
-  other_gone : (q : List ℕ) → same_name q c.name ≡ false → fin.get e.now q ≡ None → set.contains names q ≡ false
+  other_gone : (q : List ℕ) → same_name q c.name ≡ false → fin.get e.now q ≡ None → set.contains names q
+      ≡ false
   other_gone q other none =
       after_other book.buffered c.name q (is_new_buffered c charged) other
-      ∙ contains-chosen (is_buffered settled) e.now h.both.now_laid.named q ∙ ap (passes (is_buffered settled) q) none
+      ∙ contains-chosen (is_buffered settled) e.now h.both.now_laid.named q
+      ∙ ap (passes (is_buffered settled) q) none
 
   other_same : b < classes → (q : List ℕ) → same_name q c.name ≡ false → (s : Spot) → fin.get e.now q ≡ Some s
       → class_of s.size < b
-      → set.contains names q ≡ (nat_lt 0 s.size && not (lies_in_payload settled (class_of s.size) (record_of (q, s))))
+      → set.contains names q ≡ (nat_lt 0 s.size && not
+      (lies_in_payload settled (class_of s.size) (record_of (q, s))))
   other_same fits q other s there low =
       after_other book.buffered c.name q (is_new_buffered c charged) other
-      ∙ contains-chosen (is_buffered settled) e.now h.both.now_laid.named q ∙ ap (passes (is_buffered settled) q) there
+      ∙ contains-chosen (is_buffered settled) e.now h.both.now_laid.named q
+      ∙ ap (passes (is_buffered settled) q) there
       ∙ ap (λ x. (nat_lt 0 s.size && x) && not (lies_in_payload settled (class_of s.size) (record_of (q, s))))
       (lt-ltb (class_of s.size) classes (omega (arith, low, fits))) ∙ dropped (nat_lt 0 s.size) _
     where
@@ -163,15 +169,18 @@ module _ (classes size_max : ℕ) (caps : List ℕ) (grid kept_grid : List (List
   here_is = after_here book.buffered c.name (is_new_buffered c charged)
 
   none_buffered : c.object ≡ None → is_new_buffered c charged ≡ false
-  none_buffered none = ap (λ o. found_room (item_of o) (drop (length charged.tried - length (item_of o)) charged.tried))
+  none_buffered none = ap (λ o. found_room (item_of o)
+      (drop (length charged.tried - length (item_of o)) charged.tried))
       none
 
   -- ---- the book of the table
 
   -- a table of these spots has the next book, if its names in buffers are these
-  pub book_begun : (wall slack reach : ℕ) (now : Spots) → b < classes → AreNamed now → IsSizedBy (changed c m) now
+  pub book_begun : (wall slack reach : ℕ) (now : Spots) → b < classes → AreNamed now
+      → IsSizedBy (changed c m) now
       → length after ≡ 32 → AreBuffered b (begun wall slack reach now) now names
-      → book_of (laid classes size_max k reach (moving_header b wall slack caps after) now) ≡ (next_book k m book c).book
+      → book_of (laid classes size_max k reach (moving_header b wall slack caps after) now)
+      ≡ (next_book k m book c).book
   book_begun wall slack reach now fits named has long are =
       suffix_book b (begun wall slack reach now) now (changed c m) names h.both.now_laid.caps_full.full long
       (omega (arith, fits, h.both.now_laid.few)) named refl (sized_has (changed c m) now has) are
@@ -196,7 +205,8 @@ module _ (classes size_max : ℕ) (caps : List ℕ) (grid kept_grid : List (List
       ];
     }
       where
-        get_other : (q : List ℕ) → same_name q c.name ≡ false → fin.get (fin.remove e.now c.name) q ≡ fin.get e.now q
+        get_other : (q : List ℕ) → same_name q c.name ≡ false → fin.get (fin.remove e.now c.name) q
+            ≡ fin.get e.now q
         get_other q other = fin.get-remove name_order e.now c.name q
             ∙ cond-false (same_name q c.name) None (fin.get e.now q) other
 
@@ -223,7 +233,8 @@ module _ (classes size_max : ℕ) (caps : List ℕ) (grid kept_grid : List (List
       ];
     }
       where
-        get_other : (q : List ℕ) → same_name q c.name ≡ false → fin.get (fin.insert e.now c.name s) q ≡ fin.get e.now q
+        get_other : (q : List ℕ) → same_name q c.name ≡ false → fin.get (fin.insert e.now c.name s) q
+            ≡ fin.get e.now q
         get_other q other = fin.get-insert name_order e.now c.name s q
             ∙ cond-false (same_name q c.name) (Some s) (fin.get e.now q) other
 
@@ -234,7 +245,8 @@ module _ (classes size_max : ℕ) (caps : List ℕ) (grid kept_grid : List (List
 
     -- it found room, and stands there
     pub buffered_placed : (place : ℕ) → PlacedTo k caps mid size after place
-        → AreBuffered b (begun wall slack reach (fin.insert e.now c.name (record { place = place; size = size })))
+        → AreBuffered b (begun wall slack reach (fin.insert e.now c.name
+        (record { place = place; size = size })))
         (fin.insert e.now c.name (record { place = place; size = size })) names
     buffered_placed place placed = buffered_put (record { place = place; size = size }) (λ low. found)
       where
@@ -242,7 +254,8 @@ module _ (classes size_max : ℕ) (caps : List ℕ) (grid kept_grid : List (List
         spot = record { place = place; size = size }
 
         full : 1 ≤ size → (is_new_buffered c charged ≡ true)
-            × (lies_in_payload settled (class_of size) (record_of (c.name, record { place = place; size = size })) ≡ false)
+            × (lies_in_payload settled (class_of size)
+            (record_of (c.name, record { place = place; size = size })) ≡ false)
         full some =
             let q : QuietTo k caps mid (size ∷ []) after = subst (λ xs. QuietTo k caps mid xs after)
             (some_size-some k caps size some) placed.charged in
@@ -253,7 +266,8 @@ module _ (classes size_max : ℕ) (caps : List ℕ) (grid kept_grid : List (List
             ap (λ xs. (charge_all k caps mid xs).tried) (some_size-some k caps size some)
             ∙ one_tried mid size one.0 one.1 in
             let tried : charged.tried ≡ (gone_charged k caps grid old).tried ++ (size, true) ∷ [] =
-            ap (λ (x : Charged). x.tried) (charge_all-split k caps grid (gone_items k caps old) (some_size size))
+            ap (λ (x : Charged). x.tried) (charge_all-split k caps grid (gone_items k caps old)
+            (some_size size))
             ∙ ap (λ ts. (gone_charged k caps grid old).tried ++ ts) second in (
               (λ i. found_room (item i) (drop (length (tried i) - length (item i)) (tried i)))
                   ∙ last_found (gone_charged k caps grid old).tried size true,
@@ -267,10 +281,12 @@ module _ (classes size_max : ℕ) (caps : List ℕ) (grid kept_grid : List (List
           where
             one_tried : (g : List (List ℕ)) (w j : ℕ) → buffer_for k caps g (class_of w) w ≡ Some j
                 → (charge_all k caps g (w ∷ [])).tried ≡ (w, true) ∷ []
-            one_tried g w j is = ap (λ (o : Option ℕ). (entered_at (record { grid = g; tried = [] }) w o).tried) is
+            one_tried g w j is = ap (λ (o : Option ℕ). (entered_at (record { grid = g; tried = [] }) w
+                o).tried) is
 
             outside : buffer_start k caps (class_of size) ≤ place → 1 ≤ size
-                → lies_in_payload settled (class_of size) (record_of (c.name, record { place = place; size = size }))
+                → lies_in_payload settled (class_of size)
+                (record_of (c.name, record { place = place; size = size }))
                 ≡ false
             outside behind some = elim (cases_Bool (lies_in_payload settled (class_of size)
                 (record_of (c.name, record { place = place; size = size })))) [
@@ -285,7 +301,8 @@ module _ (classes size_max : ℕ) (caps : List ℕ) (grid kept_grid : List (List
                 ]
 
         found : is_new_buffered c charged
-            ≡ (nat_lt 0 size && not (lies_in_payload settled (class_of size) (record_of (c.name, record { place = place; size = size }))))
+            ≡ (nat_lt 0 size && not (lies_in_payload settled (class_of size)
+            (record_of (c.name, record { place = place; size = size }))))
         found = elim (cases_lt 0 size) [
           | inl some ↦
               let f = full (omega (arith, some)) in

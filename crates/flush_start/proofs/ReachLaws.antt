@@ -61,7 +61,8 @@ module _ (classes size_max : ℕ) (caps : List ℕ) (grid kept_grid : List (List
           (omega (arith, none)),
     )
     | inl some ↦ elim (by_name (λ (r : Record). 0 < r.size
-        → Stands (settled_table classes size_max k caps grid e.now) r) e.now h.below.named h.below.stand name s there
+        → Stands (settled_table classes size_max k caps grid e.now) r) e.now h.below.named h.below.stand
+        name s there
         some) as (λ _. s.place + s.size ≤ end_of k caps) [
           | inl here ↦
               let c = class_of s.size in
@@ -72,7 +73,8 @@ module _ (classes size_max : ℕ) (caps : List ℕ) (grid kept_grid : List (List
               )
           | inr (j, low, wide, here) ↦ omega (
             arith,
-            (lies_parts (buffer_start k caps j) (buffer_start k caps j + taken_in grid j) (record_of (name, s))
+            (lies_parts (buffer_start k caps j) (buffer_start k caps j + taken_in grid j)
+                (record_of (name, s))
                 here).1,
             h.below.filled.rows j wide,
             start_of-le k caps j (omega (arith, wide, h.below.caps_full.full)),

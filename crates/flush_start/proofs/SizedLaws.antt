@@ -1,4 +1,5 @@
--- A map whose objects have the sizes that spots say: its volumes are those of the spots, and so they are after
+-- A map whose objects have the sizes that spots say: its volumes are those of the spots, and so they are
+-- after
 -- a change of both.
 use Rattle.std.specs.Prelude.{◌≡◌, ℕ, ◌+◌, Bool, true, false, cond, T, ◌&&◌, List, [], ◌∷◌, length, map, sum_by, Option, Some, None, option_map, refl}
 use Rattle.std.proofs.Common.{sym, ◌∙◌, ap, subst}
@@ -28,7 +29,8 @@ module _ {X Y : Type 0} (f : X → Y) where
   abbrev with_image : List ℕ × X → List ℕ × Y
   with_image e = (e.0, f e.1)
 
-  through : (b : Bool) (x : X) (o : Option X) → cond b (Some (f x)) (option_map f o) ≡ option_map f (cond b (Some x) o)
+  through : (b : Bool) (x : X) (o : Option X) → cond b (Some (f x)) (option_map f o)
+      ≡ option_map f (cond b (Some x) o)
   through true x o = refl
   through false x o = refl
 
@@ -112,7 +114,8 @@ sized_gone m spots name sized q =
     ∙ by (same_name q name)
     ∙ sym (ap (option_map spot_size) (fin.get-remove name_order spots name q))
   where
-    by : (b : Bool) → option_map length (cond b None (fin.get m q)) ≡ option_map spot_size (cond b None (fin.get spots q))
+    by : (b : Bool) → option_map length (cond b None (fin.get m q))
+        ≡ option_map spot_size (cond b None (fin.get spots q))
     by true = refl
     by false = sized q
 

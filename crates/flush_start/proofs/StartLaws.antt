@@ -31,7 +31,8 @@ use Rattle.flush_start.specs.Starts.{CanStart, IsLoud, IsWith, IsWithout, WasBef
 use Rattle.flush_start.proofs.BelowLaws.{below_gone, below_new, laid_is_below}
 use Rattle.flush_start.proofs.ChargedLaws.{both_grid, gone_tried, loud_grid, new_tried, trigger_gone, trigger_low, trigger_new}
 
-module _ (classes size_max : ℕ) (caps : List ℕ) (grid kept_grid : List (List ℕ)) (u : choice.InUse) (e : Extents)
+module _ (classes size_max : ℕ) (caps : List ℕ) (grid kept_grid : List (List ℕ)) (u : choice.InUse)
+    (e : Extents)
     (spans : List Span) (h : WasBefore classes size_max caps grid kept_grid u e spans) (name : List ℕ) where
   abbrev k : ℕ
   k = u.block.k
@@ -55,7 +56,8 @@ module _ (classes size_max : ℕ) (caps : List ℕ) (grid kept_grid : List (List
   rises_mid = elim (cases_Bool (is_quiet (gone_charged k caps grid old))) as (λ _. CellsRise grid mid) [
     | inl quiet ↦ quiet_rises classes k caps grid mid (gone_items k caps old) h.both.now_laid.few
         h.both.now_laid.grid_full (record { quiet = quiet; after_is = refl })
-    | inr loud ↦ subst (CellsRise grid) (sym (loud_grid k caps grid (gone_items k caps old) (gone_tried k caps grid old)
+    | inr loud ↦ subst (CellsRise grid) (sym (loud_grid k caps grid (gone_items k caps old)
+        (gone_tried k caps grid old)
         loud)) (CellsRise-itself grid)
   ]
 
@@ -80,7 +82,8 @@ module _ (classes size_max : ℕ) (caps : List ℕ) (grid kept_grid : List (List
 
     pub placed_within : place + size ≤ end_of k caps
     placed_within = elim (cases_lt 0 size) as (λ _. place + size ≤ end_of k caps) [
-      | inl some ↦ place_within k caps mid after size place h.both.now_laid.caps_full.full (omega (arith, some)) placed
+      | inl some ↦ place_within k caps mid after size place h.both.now_laid.caps_full.full
+          (omega (arith, some)) placed
       | inr none ↦ omega (arith, none, placed.empty (omega (arith, none)))
     ]
 
@@ -119,7 +122,8 @@ module _ (classes size_max : ℕ) (caps : List ℕ) (grid kept_grid : List (List
 
     below_mid : IsLaidBelow classes size_max k caps mid b (fin.remove e.now name)
     below_mid = below_gone classes size_max k caps b grid e.now
-        (laid_is_below classes size_max k caps b grid e.now h.both.now_laid (omega (arith, loud_low))) name gone_high
+        (laid_is_below classes size_max k caps b grid e.now h.both.now_laid (omega (arith, loud_low))) name
+        gone_high
 
     -- where no new object comes, or it found no room, the grid is the one that the old object's charge left
     pub after_gone : size ≡ 0 → after ≡ mid
@@ -151,7 +155,8 @@ module _ (classes size_max : ℕ) (caps : List ℕ) (grid kept_grid : List (List
       }
 
       -- The new object found room, and stands there.
-      pub started_with : IsName name → (place key : ℕ) → PlacedTo k caps mid size after place → (put : Extents)
+      pub started_with : IsName name → (place key : ℕ) → PlacedTo k caps mid size after place
+          → (put : Extents)
           → IsWith name (record { place = place; size = size }) key gone put
           → CanStart classes size_max caps after kept_grid b u put freed
       started_with is place key placed put joins =

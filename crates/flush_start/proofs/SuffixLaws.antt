@@ -1,4 +1,5 @@
--- The items of a table: each is a live object of the suffix, no two share a key, and one more name is one more
+-- The items of a table: each is a live object of the suffix, no two share a key, and one more name is one
+-- more
 -- item.
 use Rattle.std.specs.Prelude.{◌≡◌, ◌≢◌, ℕ, zero, suc, ◌<◌, ◌≤◌, nat_le, nat_lt, Bool, true, false, T, List, [], ◌∷◌, ◌++◌, length, map, filter, slice_get, Option, Some, None, is_some, Contains, IsPermutation, refl}
 use Rattle.std.proofs.Common.{arith, sym, ◌∙◌, ap, subst, inl, inr}
@@ -32,15 +33,19 @@ use Rattle.flush_start.specs.Gathering.{is_from, item_at}
 from_filter : {X : Type 0} (p : X → Bool) (xs : List X) (i : ℕ) (x : X) → slice_get (filter p xs) i ≡ Some x
     → (n : ℕ) × (slice_get xs n ≡ Some x) × (p x ≡ true)
 from_filter p [] i x is = absurd (cc)
-from_filter p (y ∷ ys) i x is = elim (cases_Bool (p y)) as (λ _. (n : ℕ) × (slice_get (y ∷ ys) n ≡ Some x) × (p x ≡ true)) [
-  | inl pass ↦ here pass (λ k more. from_filter p ys k x more) i (sym (ap (λ l. slice_get l i) (cond-true (p y) (y ∷ filter p ys) (filter p ys) pass)) ∙ is)
-  | inr fail ↦
-      let r = from_filter p ys i x (sym (ap (λ l. slice_get l i) (cond-false (p y) (y ∷ filter p ys) (filter p ys) fail)) ∙ is) in
-      (suc r.0, r.1, r.2)
-]
+from_filter p (y ∷ ys) i x is = elim (cases_Bool (p y)) as (λ _. (n : ℕ) × (slice_get (y ∷ ys) n ≡ Some x)
+    × (p x ≡ true)) [
+      | inl pass ↦ here pass (λ k more. from_filter p ys k x more) i
+          (sym (ap (λ l. slice_get l i) (cond-true (p y) (y ∷ filter p ys) (filter p ys) pass)) ∙ is)
+      | inr fail ↦
+          let r = from_filter p ys i x (sym (ap (λ l. slice_get l i)
+          (cond-false (p y) (y ∷ filter p ys) (filter p ys) fail)) ∙ is) in
+          (suc r.0, r.1, r.2)
+    ]
   where
     here : p y ≡ true → ((k : ℕ) → slice_get (filter p ys) k ≡ Some x
-        → (n : ℕ) × (slice_get ys n ≡ Some x) × (p x ≡ true)) → (k : ℕ) → slice_get (y ∷ filter p ys) k ≡ Some x
+        → (n : ℕ) × (slice_get ys n ≡ Some x) × (p x ≡ true)) → (k : ℕ) → slice_get (y ∷ filter p ys) k
+        ≡ Some x
         → (n : ℕ) × (slice_get (y ∷ ys) n ≡ Some x) × (p x ≡ true)
     here pass later zero at = (0, at, ap p (sym (same_Some y x at)) ∙ pass)
     here pass later (suc k) at = let r = later k at in (suc r.0, r.1, r.2)
@@ -100,11 +105,13 @@ not_tied Less h = refl
 not_tied Equal h = absurd (cc)
 not_tied Greater h = absurd (cc)
 
--- Of a relation that holds between the images of entries with two names, the images of what passed are pairwise
+-- Of a relation that holds between the images of entries with two names, the images of what passed are
+-- pairwise
 -- related.
 pub pairs_of : {Y : Type 0} (R : Y → Y → Type 0) (f : List ℕ × Spot → Y) (p : List ℕ × Spot → Bool)
     (xs : List (List ℕ × Spot)) → T (is_sorted name_cmp xs)
-    → ((x y : List ℕ × Spot) (m n : ℕ) → slice_get xs m ≡ Some x → slice_get xs n ≡ Some y → p x ≡ true → p y ≡ true
+    → ((x y : List ℕ × Spot) (m n : ℕ) → slice_get xs m ≡ Some x → slice_get xs n ≡ Some y → p x ≡ true
+    → p y ≡ true
     → same_name x.0 y.0 ≡ false → R (f x) (f y))
     → (i j : ℕ) (a b : Y) → i < j → slice_get (map f (filter p xs)) i ≡ Some a
     → slice_get (map f (filter p xs)) j ≡ Some b → R a b
@@ -116,10 +123,12 @@ pairs_of {Y} R f p (x ∷ xs) sorted each i j a b less at also =
     elim (cases_Bool (p x)) as (λ _. R a b) [
       | inr fail ↦
           let same = ap (map f) (cond-false (p x) (x ∷ tail) tail fail) in
-          rest i j a b less (sym (ap (λ l. slice_get l i) same) ∙ at) (sym (ap (λ l. slice_get l j) same) ∙ also)
+          rest i j a b less (sym (ap (λ l. slice_get l i) same) ∙ at)
+          (sym (ap (λ l. slice_get l j) same) ∙ also)
       | inl pass ↦
           let same = ap (map f) (cond-true (p x) (x ∷ tail) tail pass) in
-          first pass i j less (sym (ap (λ l. slice_get l i) same) ∙ at) (sym (ap (λ l. slice_get l j) same) ∙ also) rest
+          first pass i j less (sym (ap (λ l. slice_get l i) same) ∙ at)
+          (sym (ap (λ l. slice_get l j) same) ∙ also) rest
     ]
   where
     first : p x ≡ true → (i j : ℕ) → i < j → slice_get (f x ∷ map f (filter p xs)) i ≡ Some a
@@ -137,7 +146,8 @@ pairs_of {Y} R f p (x ∷ xs) sorted each i j a b less at also =
     first pass (suc i) (suc j) less at also rest = rest i j a b (omega (arith, less)) at also
 
 -- two live names have two keys
-pub keys_differ : (e : Extents) → HasKeys e.now e.keys → (q r : List ℕ) (s t : Spot) → fin.get e.now q ≡ Some s
+pub keys_differ : (e : Extents) → HasKeys e.now e.keys → (q r : List ℕ) (s t : Spot) → fin.get e.now q
+    ≡ Some s
     → fin.get e.now r ≡ Some t → same_name q r ≡ false
     → key_or_zero (fin.get e.keys q) ≢ key_or_zero (fin.get e.keys r)
 keys_differ e keys q r s t stands also differ same =
@@ -167,14 +177,16 @@ put_splits : (k : List ℕ) (v : Spot) (xs : List (List ℕ × Spot)) → find n
 put_splits k v [] none = record { front = []; back = []; before = refl; after = refl }
 put_splits k v (x ∷ xs) none = by (name_cmp k x.0) refl (put_splits k v xs)
   where
-    by : (o : Ordering) → name_cmp k x.0 ≡ o → (find name_cmp k xs ≡ None → Splits k v xs) → Splits k v (x ∷ xs)
+    by : (o : Ordering) → name_cmp k x.0 ≡ o → (find name_cmp k xs ≡ None → Splits k v xs)
+        → Splits k v (x ∷ xs)
     by Less is later = record {
       front = [];
       back = x ∷ xs;
       before = refl;
       after = ap (λ o. by_order o ((k, v) ∷ x ∷ xs) ((x.0, v) ∷ xs) (x ∷ put name_cmp k v xs)) is;
     }
-    by Equal is later = absurd (let e : Some x.1 ≡ None = sym (cond-true (same_name k x.0) (Some x.1) (find name_cmp k xs)
+    by Equal is later = absurd (let e : Some x.1 ≡ None = sym
+        (cond-true (same_name k x.0) (Some x.1) (find name_cmp k xs)
         (ap is_eq is)) ∙ none in cc)
     by Greater is later =
         let r = later (sym (cond-false (same_name k x.0) (Some x.1) (find name_cmp k xs) (ap is_eq is))
@@ -217,7 +229,8 @@ module _ (b : ℕ) (e after : Extents) (name : List ℕ) (s : Spot) (key : ℕ) 
       other : same_name x.0 name ≡ false
       other = elim (cases_Bool (same_name x.0 name)) [
         | inr differ ↦ differ
-        | inl same ↦ absurd (let e : None ≡ Some x.1 = sym new ∙ ap (fin.get e.now) (sym (same_name-is x.0 name same))
+        | inl same ↦ absurd (let e : None ≡ Some x.1 = sym new
+            ∙ ap (fin.get e.now) (sym (same_name-is x.0 name same))
             ∙ stands_at b e i x at in cc)
       ]
 
@@ -258,13 +271,15 @@ module _ (b : ℕ) (e after : Extents) (name : List ℕ) (s : Spot) (key : ℕ) 
       let o = has_item b e it there in
       let other : same_name o.name name ≡ false = elim (cases_Bool (same_name o.name name)) [
         | inr differ ↦ differ
-        | inl tie ↦ absurd (let x : None ≡ Some o.spot = sym new ∙ ap (fin.get e.now) (sym (same_name-is o.name name tie))
+        | inl tie ↦ absurd (let x : None ≡ Some o.spot = sym new
+            ∙ ap (fin.get e.now) (sym (same_name-is o.name name tie))
             ∙ o.stands in cc)
       ] in
       keys_differ after has o.name name o.spot s
       (ap (λ (m : Spots). fin.get m o.name) now ∙ fin.get-insert name_order e.now name s o.name
       ∙ cond-false (same_name o.name name) (Some s) (fin.get e.now o.name) other ∙ o.stands)
       (ap (λ (m : Spots). fin.get m name) now ∙ get-insert_here e.now name s) other
-      (ap key_or_zero (ap (λ (m : Keys). fin.get m o.name) keys ∙ fin.get-insert name_order e.keys name key o.name
+      (ap key_or_zero (ap (λ (m : Keys). fin.get m o.name) keys
+      ∙ fin.get-insert name_order e.keys name key o.name
       ∙ cond-false (same_name o.name name) (Some key) (fin.get e.keys o.name) other)
       ∙ ap (λ (x : Item). x.key) o.is ∙ same ∙ sym (ap (λ (x : Item). x.key) new_item))

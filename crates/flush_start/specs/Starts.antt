@@ -15,7 +15,8 @@ use Rattle.flush_start.specs.Below.{IsLaidBelow}
 use Rattle.flush_start.specs.Charging.{charged_by}
 
 -- Before the change the layout holds what stands and what was kept, and the spans are those that were freed.
-pub record WasBefore (classes size_max : ℕ) (caps : List ℕ) (grid kept_grid : List (List ℕ)) (u : choice.InUse)
+pub record WasBefore (classes size_max : ℕ) (caps : List ℕ) (grid kept_grid : List (List ℕ))
+    (u : choice.InUse)
     (e : Extents) (spans : List Span) : Type 0 where
   pub block : IsSuperBlock u.block
   pub table : IsTable e

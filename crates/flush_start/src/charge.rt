@@ -39,12 +39,14 @@ pub fn charge_change<const C: usize>(
     ensures place { PlacesNew (divisor_of layout.old) (caps_of layout.old)
         (between (divisor_of layout.old) (caps_of layout.old) (grid_of layout.old) old) size
         (grid_of layout.new) result.place }
-    ensures quiet { is_quiet (charged_by (divisor_of layout.old) (caps_of layout.old) (grid_of layout.old) old
-        size) ≡ (result.gone && is_some result.place) }
+    ensures quiet { is_quiet
+        (charged_by (divisor_of layout.old) (caps_of layout.old) (grid_of layout.old) old size)
+        ≡ (result.gone && is_some result.place) }
     ensures class { result.class
         ≡ trigger (charged_by (divisor_of layout.old) (caps_of layout.old) (grid_of layout.old) old size) }
-    ensures in_use { is_quiet (charged_by (divisor_of layout.old) (caps_of layout.old) (grid_of layout.old) old
-        size) ≡ false → result.class < C }
+    ensures in_use { is_quiet
+        (charged_by (divisor_of layout.old) (caps_of layout.old) (grid_of layout.old) old size) ≡ false
+        → result.class < C }
     ensures divisor { divisor_of layout.new ≡ divisor_of layout.old }
     ensures caps { caps_of layout.new ≡ caps_of layout.old }
 {
@@ -103,8 +105,8 @@ fn charge_spot<const C: usize>(layout: &mut Layout<C>, spot: Spot) -> bool
     requires wide { SIZE_MAX < 2 ^ C }
     requires some { 1 ≤ spot.size }
     requires small { spot.size ≤ SIZE_MAX }
-    ensures quiet { result
-        ≡ is_quiet (gone_charged (divisor_of layout.old) (caps_of layout.old) (grid_of layout.old) (Some spot)) }
+    ensures quiet { result ≡ is_quiet
+        (gone_charged (divisor_of layout.old) (caps_of layout.old) (grid_of layout.old) (Some spot)) }
     ensures grid { grid_of layout.new
         ≡ between (divisor_of layout.old) (caps_of layout.old) (grid_of layout.old) (Some spot) }
     ensures divisor { divisor_of layout.new ≡ divisor_of layout.old }

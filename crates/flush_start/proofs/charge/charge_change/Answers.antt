@@ -23,10 +23,12 @@ returns-clause-in_use g c loud =
     let new = c.charge_new-place in
     omega (
       arith,
-      outcome_class k (divisor_of gone.new.layout) caps (caps_of gone.new.layout) grid (grid_of gone.new.layout)
+      outcome_class k (divisor_of gone.new.layout) caps (caps_of gone.new.layout) grid
+          (grid_of gone.new.layout)
           (grid_of new.new.layout) c.args.old c.args.size gone.result c.or_missed-first.result
           c.or_missed-class.result new.result c.is_some.result gone.ensures.divisor gone.ensures.caps
-          gone.ensures.grid gone.ensures.quiet c.size_of.result c.size_of.ensures c.or_missed-first.ensures c.is_some.ensures c.or_missed-class.ensures
+          gone.ensures.grid gone.ensures.quiet c.size_of.result c.size_of.ensures c.or_missed-first.ensures
+          c.is_some.ensures c.or_missed-class.ensures
           new.ensures.place,
       trigger_low k caps grid c.args.old c.args.size g.row.C SIZE_MAX c.requires.wide
           (small_at c.args.old SIZE_MAX c.requires.old_small) c.requires.small loud,

@@ -10,7 +10,8 @@ add_item-requires-clause-room c =
     let e = c.args.table.now in
     omega (
       arith,
-      gathered_few c.args.b e c.names.n c.names.all.items (vec_capacity c.args.items) (vec_capacity c.names.all)
+      gathered_few c.args.b e c.names.n c.names.all.items (vec_capacity c.args.items)
+          (vec_capacity c.names.all)
           c.names.invariant,
       c.names.invariant.same_room,
       c.names-test.true,
@@ -24,7 +25,8 @@ add_item-requires-clause-small c =
     let now = c.args.table.now.now in
     let e = c.in_order-key.result in
     c.requires.small e.1 e.2 (fin.get-entries now e.1
-    ∙ found_by_name (fin.entries now) c.names.n (e.1, e.2) (fin.entries_sorted now) c.in_order-key.ensures.entry)
+    ∙ found_by_name (fin.entries now) c.names.n (e.1, e.2) (fin.entries_sorted now)
+    c.in_order-key.ensures.entry)
 
 pub names-preserved : goal.names-preserved
 names-preserved c =
