@@ -10,6 +10,8 @@ use Rattle.size_class.specs.Classes.{class_of}
 use Rattle.slot_codec.specs.Choice as choice
 use Rattle.slot_codec.specs.Names.{IsName}
 use Rattle.slot_codec.specs.Spelling.{head_len}
+use Rattle.slot_codec.specs.declared.codec.Header.{Header}
+use Rattle.slot_codec.specs.declared.codec.Kind.TheVariants.{Moving}
 use Rattle.slot_codec.specs.declared.codec.Record.{Record}
 use Rattle.store_terms.specs.Weights.{same_name}
 use Rattle.store_terms.proofs.MapLaws.{same_name-is}
@@ -37,11 +39,24 @@ use Rattle.flush_plan.specs.Plans.{numbers_of}
 use Rattle.flush_run.specs.Flights.{Flight, IsFreeSpace}
 use Rattle.flush_run.specs.Hands.{IsHandsFor, suffix_items}
 use Rattle.flush_run.specs.Lifts.{AllEndBy}
-use Rattle.flush_start.specs.Begun.{begun_header}
 use Rattle.flush_start.specs.Gathering.{is_from, item_at}
 use Rattle.flush_start.specs.Starts.{CanStart, IsWith}
 use Rattle.flush_start.proofs.ReachLaws.{all_end, kept_end, reach_low, reach_past_wall, wall_past_end}
 use Rattle.flush_start.proofs.SuffixLaws.{items_with}
+
+-- the header of a table whose suffix, from class b on, isn't laid out anew yet
+abbrev pub begun_header : ℕ → ℕ → ℕ → List ℕ → List (List ℕ) → Header
+begun_header b wall slack caps grid =
+    record {
+      kind = Moving;
+      boundary = b;
+      sequence = 0;
+      count = 0;
+      wall = wall;
+      slack = slack;
+      caps = caps;
+      used = grid;
+    }
 
 -- what a table keeps of the classes below a boundary isn't seen in the other numbers of its header
 pub below_begun : (classes size_max k len more b wall slack : ℕ) (caps : List ℕ) (grid : List (List ℕ))

@@ -34,7 +34,6 @@ use Rattle.flush_run.specs.Hands.{IsHandsFor, suffix_items}
 use Rattle.flush_run.specs.Lifts.{AllEndBy, LiftNow}
 use Rattle.flush_start.specs.Charging.{between, new_charged}
 use Rattle.flush_start.specs.Gathering.{item_at}
-use Rattle.flush_start.specs.Sized.{IsSizedBy}
 use Rattle.flush_start.specs.Starts.{CanStart, IsLoud, IsWith, IsWithout, WasBefore}
 use Rattle.flush_start.proofs.CanFlushLaws.{begins_pending}
 use Rattle.flush_start.proofs.ChargedLaws.{class_low, new_some}
@@ -42,7 +41,7 @@ use Rattle.flush_start.proofs.GoneAboveLaws.{left_over}
 use Rattle.flush_start.proofs.HandsLaws.{hands_alone, hands_pending, pending_free}
 use Rattle.flush_start.proofs.NextBookLaws.{begun, book_begun, buffered_pending, buffered_placed, buffered_removed, names}
 use Rattle.flush_start.proofs.ReachLaws.{kept_end, reach_past_wall, wall_past_end}
-use Rattle.flush_start.proofs.SizedLaws.{sized_gone, sized_put}
+use Rattle.flush_start.proofs.SizedLaws.{IsSizedBy, sized_gone, sized_put}
 use Rattle.flush_start.proofs.SuffixLaws.{few_items}
 use Rattle.flush_start.proofs.StartLaws.{after_gone, after_missed, new_high, placed_apart_kept, placed_apart_now, placed_within, started_with, started_without}
 

@@ -21,7 +21,16 @@ use Rattle.extent_table.proofs.ExtentLaws.{records_of-all}
 use Rattle.spot_terms.specs.Buffered.{HasSizes}
 use Rattle.spot_terms.specs.Reads.{AreNamed, EndWithin, object_at, read_at}
 use Rattle.spot_terms.proofs.ReadLaws.{get-read_at}
-use Rattle.flush_start.specs.Sized.{IsSizedBy}
+
+-- A map has the same names as spots, and under each an object of the size that its spot says.
+abbrev pub IsSizedBy : Map → Spots → Type 0
+IsSizedBy m spots = (q : List ℕ) → option_map length (fin.get m q)
+    ≡ option_map (λ (s : Spot). s.size) (fin.get spots q)
+
+-- the size of a new object, or 0 where there is none
+abbrev pub object_size : Option (List ℕ) → ℕ
+object_size None = 0
+object_size (Some object) = length object
 
 -- ---- the entries with their values' images
 

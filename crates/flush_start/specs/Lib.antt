@@ -2,5 +2,3 @@ pub mod Charging
 pub mod Gathering
 pub mod Below
 pub mod Starts
-pub mod Sized
-pub mod Begun
