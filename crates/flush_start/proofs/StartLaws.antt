@@ -1,5 +1,5 @@
 -- After the change a flush may begin: where the name is gone, and where its new object stands in a buffer.
-use Rattle.std.specs.Prelude.{◌≡◌, ℕ, ◌+◌, ◌<◌, ◌≤◌, true, false, List, Option, Some, None, refl}
+use Rattle.std.specs.Prelude.{◌≡◌, ℕ, ◌+◌, ◌<◌, ◌≤◌, true, false, List, Option, Some, None, refl, ◌&&◌, is_some, Bool}
 use Rattle.std.proofs.Common.{arith, sym, ◌∙◌, ap, subst, inl, inr}
 use Rattle.std.proofs.lemmas.Bool.{cases_Bool, cases_lt}
 use Rattle.std.specs.FinMap as fin
@@ -9,7 +9,7 @@ use Rattle.slot_codec.specs.Names.{IsName}
 use Rattle.slot_codec.specs.declared.codec.Record.{Record}
 use Rattle.span_math.specs.declared.span.Span.{Span}
 use Rattle.segment_layout.specs.Books.{charge_all, is_quiet, some_size, trigger}
-use Rattle.segment_layout.specs.Shapes.{end_of, is_boundary}
+use Rattle.segment_layout.specs.Shapes.{boundary_of, end_of, is_boundary}
 use Rattle.segment_layout.proofs.ShapeLaws.{boundary_of-is, boundary_of-le}
 use Rattle.extent_table.specs.declared.spot.Spot.{Spot}
 use Rattle.extent_table.specs.Extents.{Extents, Spots}
@@ -30,6 +30,18 @@ use Rattle.flush_start.specs.Charging.{between, charged_by, gone_charged, new_ch
 use Rattle.flush_start.specs.Starts.{CanStart, IsLoud, IsWith, IsWithout, WasBefore}
 use Rattle.flush_start.proofs.BelowLaws.{below_gone, below_new, laid_is_below}
 use Rattle.flush_start.proofs.ChargedLaws.{both_grid, gone_tried, loud_grid, new_tried, trigger_gone, trigger_low, trigger_new}
+
+-- what the answer of the charges says: with the boundary of its class it is such a change
+pub outcome_loud : (k : ℕ) (caps : List ℕ) (grid after : List (List ℕ)) (old : Option Spot) (size : ℕ)
+    (gone : Bool) (place : Option ℕ) (class b : ℕ) → after ≡ (charged_by k caps grid old size).grid
+    → is_quiet (charged_by k caps grid old size) ≡ (gone && is_some place) → (gone && is_some place) ≡ false
+    → class ≡ trigger (charged_by k caps grid old size) → b ≡ boundary_of after class
+    → IsLoud k caps grid old size after b
+outcome_loud k caps grid after old size gone place class b is quiet loud trigger_class boundary = record {
+  after_is = is;
+  loud = quiet ∙ loud;
+  boundary = boundary ∙ ap (boundary_of after) trigger_class;
+}
 
 module _ (classes size_max : ℕ) (caps : List ℕ) (grid kept_grid : List (List ℕ)) (u : choice.InUse)
     (e : Extents)
