@@ -1,0 +1,14 @@
+pub mod ChargedLaws
+pub mod GatherLaws
+pub mod GoneAboveLaws
+pub mod BelowLaws
+pub mod SuffixLaws
+pub mod StartLaws
+pub mod CanFlushLaws
+pub mod SizedLaws
+pub mod EndLaws
+pub mod ReachLaws
+pub mod HandsLaws
+pub mod NextBookLaws
+pub mod LiftStartLaws
+pub mod LooseLaws

@@ -1,0 +1,4 @@
+pub mod Charging
+pub mod Gathering
+pub mod Below
+pub mod Starts
