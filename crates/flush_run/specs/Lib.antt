@@ -5,5 +5,6 @@ pub mod Hands
 pub mod Loops
 pub mod Moves
 pub mod Parts
+pub mod Runs
 pub mod Saves
 pub mod Settling

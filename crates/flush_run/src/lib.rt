@@ -6,9 +6,11 @@ mod headers;
 mod lay;
 mod lift;
 mod pack;
+mod run;
 mod save;
 mod settle;
 mod step;
 
 pub use hands::Hands;
 pub use headers::settled_header;
+pub use run::{Halted, resume, run};
