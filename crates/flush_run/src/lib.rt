@@ -6,11 +6,12 @@ mod headers;
 mod lay;
 mod lift;
 mod pack;
-mod run;
+
 mod save;
 mod settle;
 mod step;
+mod whole;
 
 pub use hands::Hands;
 pub use headers::settled_header;
-pub use run::{Halted, resume, run};
+pub use whole::{Halted, resume, run};
