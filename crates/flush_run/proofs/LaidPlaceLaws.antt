@@ -44,7 +44,7 @@ sum_gap {X = X} d f g (x ∷ xs) zero each low = omega (arith, sum_by-cons f x x
     rest (y ∷ ys) = omega (arith, sum_by-cons f y ys, sum_by-cons g y ys, each y, rest ys)
 sum_gap d f g (x ∷ xs) (suc i) each low = omega (arith, sum_by-cons f x xs, sum_by-cons g x xs, each x, sum_gap d f g xs i each (omega (arith, low)))
 
-fewer_pass : (p q : Bool) (n : ℕ) → cond (p && q) n 0 ≤ cond p n 0
+pub fewer_pass : (p q : Bool) (n : ℕ) → cond (p && q) n 0 ≤ cond p n 0
 fewer_pass true true n = omega arith
 fewer_pass true false n = omega arith
 fewer_pass false q n = omega arith

@@ -17,7 +17,7 @@ use Rattle.flush_run.specs.Parts.{KeepsOn, Parts}
 
 -- ---- one step after another
 
-KeepsDisk-then : {a b c : State} → KeepsDisk a b → KeepsDisk b c → KeepsDisk a c
+pub KeepsDisk-then : {a b c : State} → KeepsDisk a b → KeepsDisk b c → KeepsDisk a c
 KeepsDisk-then ab bc = record {
   no_turn_back = omega (arith, ab.no_turn_back, bc.no_turn_back);
   stays = Stays-trans ab.stays bc.stays;
