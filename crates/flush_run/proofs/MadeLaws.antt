@@ -1,7 +1,8 @@
 -- What the moves of a phase have made, after one more, or one that failed.
-use Rattle.std.specs.Prelude.{◌≡◌, ℕ, ◌+◌, ◌<◌, ◌≤◌, ◌==◌, cond, List, [], ◌∷◌, filter, map, sum_by, slice_index, IsTrue, refl}
+use Rattle.std.specs.Prelude.{◌≡◌, ℕ, ◌+◌, ◌<◌, ◌≤◌, ◌==◌, cond, List, [], ◌∷◌, filter, length, map, sum_by, slice_index, IsTrue, refl}
 use Rattle.std.proofs.Common.{arith, sym, ◌∙◌, ap, inl, inr}
 use Rattle.std.proofs.lemmas.Bool.{cases_Bool, cond-false, cond-true}
+use Rattle.std.proofs.lemmas.List.{length-map}
 use Rattle.std.proofs.lemmas.List.Sums.{sum_by-cons}
 use Rattle.disk_face.specs.States.{State}
 use Rattle.disk_face.specs.Writes.{KeepsDisk}
@@ -79,7 +80,7 @@ totals_stay key to c items =
 
 pub same_plan : (p : Phase) → SamePlan p p
 same_plan p =
-    record { k = refl; caps = refl; numbers = refl; pending = refl; room = refl; totals = λ c. refl }
+    record { k = refl; caps = refl; numbers = refl; pending = refl; room = refl; count = refl; totals = λ c. refl }
 
 pub same_plan_moved : (p0 p : Phase) (mv : Move) → SamePlan p0 p → SamePlan p0 (moved_by mv p)
 same_plan_moved p0 p mv s = record {
@@ -88,6 +89,7 @@ same_plan_moved p0 p mv s = record {
   numbers = s.numbers;
   pending = s.pending;
   room = s.room;
+  count = length-map p.items (moved_item mv.key mv.to) ∙ s.count;
   totals = λ c. totals_stay mv.key mv.to c p.items ∙ s.totals c;
 }
 
@@ -126,6 +128,7 @@ module _ {waits : Phase → ℕ} {done : Phase → ℕ → ℕ} {first a : State
       numbers = ap (λ (q : Phase). q.numbers) after ∙ s.numbers;
       pending = ap (λ (q : Phase). q.pending) after ∙ s.pending;
       room = ap (λ (q : Phase). q.room) after ∙ s.room;
+      count = ap (λ (q : Phase). length q.items) after ∙ s.count;
       totals = λ c. ap (λ (q : Phase). class_total q.items c) after ∙ s.totals c;
     });
   }
@@ -148,6 +151,7 @@ module _ {waits : Phase → ℕ} {done : Phase → ℕ → ℕ} {first a : State
       numbers = ap (λ (q : Phase). q.numbers) after ∙ s.numbers;
       pending = ap (λ (q : Phase). q.pending) after ∙ s.pending;
       room = ap (λ (q : Phase). q.room) after ∙ s.room;
+      count = ap (λ (q : Phase). length q.items) after ∙ s.count;
       totals = λ c. ap (λ (q : Phase). class_total q.items c) after ∙ s.totals c;
     });
   }

@@ -6,10 +6,11 @@ use Rattle.std.proofs.lemmas.List.{length-map}
 use Rattle.std.proofs.lemmas.List.Sums.{count_by-le-length, length-filter, sum_by-cons}
 use Rattle.std.proofs.lemmas.Bool.{cond-false}
 use Rattle.std.proofs.lemmas.List.Sorted.{IsPermutation-sym, IsPermutation-trans, length_permutation}
-use Rattle.disk_face.specs.Counts.{counted}
 use Rattle.disk_face.specs.States.{State}
 use Rattle.slot_codec.specs.Choice as choice
-use Rattle.slot_pair.specs.Saves.{next_in_use, save_calls}
+use Rattle.slot_codec.specs.declared.codec.Header.{Header}
+use Rattle.slot_pair.specs.Saves.{save_calls}
+use Rattle.spot_terms.specs.Laid.{moving_header}
 use Rattle.size_class.specs.Classes.{class_of}
 use Rattle.extent_table.specs.declared.spot.Spot.{Spot}
 use Rattle.extent_table.specs.Extents.{records_of}
@@ -21,16 +22,17 @@ use Rattle.segment_layout.specs.Shapes.{end_of}
 use Rattle.flush_plan.specs.declared.item.Numbers.{Numbers}
 use Rattle.flush_plan.specs.Plans.{class_total, is_below_wall, is_laid}
 use Rattle.flush_plan.proofs.ItemLaws.{total_is}
-use Rattle.flush_plan.specs.Phases.{PaysFor, Phase, bytes_below, is_unlaid, is_unpacked, laid_end, laid_in, largest_item, lifted_in, packed_bytes, packed_in, phase_of, to_lay, to_pack, waiting_bytes}
+use Rattle.flush_plan.specs.Phases.{IsLifting, PaysFor, Phase, bytes_below, is_unlaid, is_unpacked, laid_end, laid_in, largest_item, lifted_in, packed_bytes, packed_in, phase_of, to_lay, to_lift, to_pack, waiting_bytes}
 use Rattle.flush_plan.proofs.SortLaws.{class_total_permuted}
 use Rattle.flush_plan.proofs.WaitingLaws.{laid_at_most, lifted_and_packed}
 use Rattle.flush_run.specs.Calls.{CallsSoFar}
 use Rattle.flush_run.specs.Flights.{Flight}
 use Rattle.flush_run.specs.Hands.{AllEndBy, IsHandsFor, spot_item, suffix_items}
-use Rattle.flush_run.specs.Loops.{Goes, HasMade, Lays, LaysPaid, Lifts, Packs, PacksPaid}
+use Rattle.flush_run.specs.Loops.{Goes, HasMade, Lays, LaysPaid, Lifts, Packs, PacksPaid, phase_header}
 use Rattle.flush_run.specs.Parts.{KeepsOn, KeepsSettling, Parts}
-use Rattle.flush_run.specs.Runs.{HasFinished}
+use Rattle.flush_run.specs.Runs.{HasFinished, HasRun}
 use Rattle.flush_run.proofs.CallLaws.{calls_save, calls_then, calls_wider}
+use Rattle.flush_run.proofs.PaidLaws.{lays_end, packs_end}
 use Rattle.flush_run.proofs.LaidPlaceLaws.{fewer_pass}
 use Rattle.flush_run.proofs.MadeLaws.{KeepsDisk-then, KeepsOn-then}
 
@@ -330,3 +332,114 @@ module _ {first a : State} {x0 x1 : Parts} {p0 p1 : Phase} (m1 : HasMade to_pack
           → CallsSoFar first.turn d.turn x0.moved x3.moved 2 (x3.in_use.sequence - x0.in_use.sequence) x0.table.names
       finished_calls one = subst (λ n. CallsSoFar first.turn d.turn x0.moved x3.moved 2 n x0.table.names)
           (omega (arith, one, m1.later, m2.later)) all_calls
+
+-- ---- the same in the layout of the parts
+
+pub lays_in : {classes : ℕ} {f : Flight} {caps caps2 : List ℕ} {grid grid2 : List (List ℕ)} {x : Parts} {l q : Phase}
+    {d : State} → Lays classes f caps grid x l d → caps2 ≡ caps → grid2 ≡ grid → q ≡ l
+    → Lays classes f caps2 grid2 x q d
+lays_in {classes} {f} {caps} {caps2} {grid} {grid2} {x} {l} {q} {d} h cs gs same =
+    subst (λ r. Lays classes f caps2 grid2 x r d) (sym same)
+    (subst (λ (c : List ℕ). Lays classes f c grid2 x l d) (sym cs)
+    (subst (λ (g : List (List ℕ)). Lays classes f caps g x l d) (sym gs) h))
+
+pub goes_in : {classes : ℕ} {f : Flight} {caps caps2 : List ℕ} {grid grid2 : List (List ℕ)} {x : Parts} {l q : Phase}
+    {d : State} → Goes classes f caps grid x l d → caps2 ≡ caps → grid2 ≡ grid → q ≡ l
+    → Goes classes f caps2 grid2 x q d
+goes_in {classes} {f} {caps} {caps2} {grid} {grid2} {x} {l} {q} {d} h cs gs same =
+    subst (λ r. Goes classes f caps2 grid2 x r d) (sym same)
+    (subst (λ (c : List ℕ). Goes classes f c grid2 x l d) (sym cs)
+    (subst (λ (g : List (List ℕ)). Goes classes f caps g x l d) (sym gs) h))
+
+-- the header of Pack is that of Lay
+pub header_again : (header : Header) (p l : Phase) (n : Numbers) (caps caps2 : List ℕ) (grid grid2 : List (List ℕ))
+    → header ≡ moving_header n.boundary n.wall n.slack caps grid → n ≡ p.numbers → l.numbers ≡ p.numbers
+    → caps2 ≡ caps → grid2 ≡ grid → header ≡ phase_header l caps2 grid2
+header_again header p l n caps caps2 grid grid2 is same numbers cs gs =
+    is ∙ (λ i. moving_header ((same ∙ sym numbers) i).boundary ((same ∙ sym numbers) i).wall
+        ((same ∙ sym numbers) i).slack (sym cs i) (sym gs i))
+
+-- as many saves as moves, and one more
+pub saves_few : {first a b : State} {x0 x1 x2 : Parts} {p0 p1 l0 l1 : Phase} {q : ℕ}
+    → HasMade to_pack packed_in first a x0 x1 p0 p1 → HasMade to_lay laid_in a b x1 x2 l0 l1
+    → IsPermutation p1.items l0.items → q ≡ x2.in_use.sequence + 1
+    → q ≤ x0.in_use.sequence + to_pack p0 + length p0.items + 1
+saves_few {p1 = p1} {l0} m1 m2 perm is =
+    omega (arith, is, m1.few, m2.few, to_lay_few l0, length_permutation p1.items l0.items perm, m1.same.count)
+
+-- twice k saves at most
+pub saves_paid : {x1 x2 : Parts} {p1 l1 : Phase} (k : ℕ) {pay total q s : ℕ} → PacksPaid pay total q x1 p1
+    → LaysPaid pay total x1.in_use.sequence x2 l1 → total < k * pay → s ≡ x2.in_use.sequence + 1
+    → s ≤ q + 2 * k
+saves_paid {x1} {x2} {p1} {l1} k {pay} {total} {q} paid laid enough is =
+    omega (arith, is, packs_end k pay total q x1 p1 paid enough,
+        lays_end k pay total x1.in_use.sequence x2 l1 laid enough)
+
+-- ---- with Lift before it
+
+module _ {first a : State} {x0 x1 : Parts} {p0 p1 : Phase} (m1 : HasMade to_lift lifted_in first a x0 x1 p0 p1) where
+  lifted_few : (c : ℕ) → slice_index x1.moved c ≤ slice_index x0.moved c + lifted_in p1 c
+  lifted_few c = omega (arith, m1.rises c)
+
+  -- Lift failed
+  pub run_lifts : CallsSoFar first.turn a.turn x0.moved x1.moved 16 0 x0.table.names
+      → HasRun p0.numbers.boundary p0.items first a x0 x1
+  run_lifts most = record {
+    keeps = settling_of m1.keeps;
+    later = m1.later;
+    lower = m1.lower;
+    few = λ c. omega (arith, lifted_few c, lifted_and_packed p1 c, m1.same.totals c);
+    most = calls_wider first.turn a.turn a.turn x0.moved x1.moved 16 18 0
+        (x1.in_use.sequence - x0.in_use.sequence + 1) x0.table.names most (omega arith) (omega arith);
+  }
+
+  module _ (d : State) (x2 : Parts) {q : Phase} (slots : x1.in_use ≡ x0.in_use) (same : q ≡ p1)
+      (calls : CallsSoFar first.turn a.turn x0.moved x1.moved 0 0 x0.table.names)
+      where
+    -- what came after it
+    pub run_all : HasFinished q a d x1 x2 → HasRun p0.numbers.boundary p0.items first d x0 x2
+    run_all h =
+        let again = subst (λ n. CallsSoFar a.turn d.turn x1.moved x2.moved 18 (x2.in_use.sequence - x1.in_use.sequence + 1) n)
+            m1.keeps.names h.most in
+        let both = calls_then first.turn a.turn d.turn x0.moved x1.moved x2.moved 0 18 0
+            (x2.in_use.sequence - x1.in_use.sequence + 1) x0.table.names calls again in
+        let at : q.numbers.boundary ≡ p0.numbers.boundary =
+        ap (λ (p : Phase). p.numbers.boundary) same ∙ ap (λ (n : Numbers). n.boundary) m1.same.numbers
+        in
+        record {
+          keeps = settling_after m1.keeps h.keeps;
+          later = omega (arith, m1.later, h.later);
+          lower = λ c low. h.lower c (omega (arith, low, at)) ∙ m1.lower c low;
+          few = λ c. omega (arith, lifted_few c, h.few c, ap (λ (p : Phase). lifted_in p c) same,
+              ap (λ (p : Phase). class_total p.items c) same, m1.same.totals c);
+          most = calls_wider first.turn d.turn d.turn x0.moved x2.moved (0 + 18) 18
+              (0 + (x2.in_use.sequence - x1.in_use.sequence + 1)) (x2.in_use.sequence - x0.in_use.sequence + 1)
+              x0.table.names both (omega (arith, ap (λ (u : choice.InUse). u.sequence) slots)) (omega arith);
+        }
+
+    pub run_calls : CallsSoFar a.turn d.turn x1.moved x2.moved 2 (x2.in_use.sequence - x1.in_use.sequence) x1.table.names
+        → CallsSoFar first.turn d.turn x0.moved x2.moved 2 (x2.in_use.sequence - x0.in_use.sequence) x0.table.names
+    run_calls more =
+        let again = subst (λ n. CallsSoFar a.turn d.turn x1.moved x2.moved 2 (x2.in_use.sequence - x1.in_use.sequence) n)
+            m1.keeps.names more in
+        let both = calls_then first.turn a.turn d.turn x0.moved x1.moved x2.moved 0 2 0
+            (x2.in_use.sequence - x1.in_use.sequence) x0.table.names calls again in
+        subst (λ n. CallsSoFar first.turn d.turn x0.moved x2.moved 2 n x0.table.names)
+            (omega (arith, ap (λ (u : choice.InUse). u.sequence) slots)) both
+
+-- Pack may begin where Lift ended
+pub run_packs : {classes : ℕ} {f : Flight} {caps : List ℕ} {grid : List (List ℕ)} (x0 : Parts) {x1 : Parts}
+    {p q : Phase} {d : State} → Lifts classes f caps grid x1 p d → x1.in_use ≡ x0.in_use → x1.caps ≡ caps → x1.grid ≡ grid → q ≡ p
+    → x0.in_use.sequence < 2 ^ 62 - 2 ^ 18
+    → (IsTrue f.is_fresh → x0.in_use.sequence + 2 ^ 18 ≤ 2 ^ 62 - 2 ^ 18) → Packs classes f x1.caps x1.grid x1 q d
+run_packs x0 h slots cs gs same fresh moving =
+    let at = ap (λ (u : choice.InUse). u.sequence) slots in
+    packs_begin (goes_in h.goes cs gs same) (omega (arith, at, fresh)) (λ here. omega (arith, at, moving here))
+
+-- and its saves are paid
+pub run_paid : {classes : ℕ} {f : Flight} {caps : List ℕ} {grid : List (List ℕ)} {x : Parts} {p q : Phase} {d : State}
+    → Lifts classes f caps grid x p d → IsLifting p → q ≡ p → PaysFor q (bytes_below q)
+    → PacksPaid (bytes_below q / q.k + 1) (bytes_below q) x.in_use.sequence x q
+run_paid {x = x} {p} {q} h lifting same pays =
+    packs_paid x q pays (subst (λ (r : Phase). AllEndBy x.table.kept (end_of r.k r.caps)) (sym same) h.low)
+        (subst (λ (r : Phase). end_of r.k r.caps + r.numbers.slack ≤ r.numbers.wall) (sym same) lifting.lifting.old_end)

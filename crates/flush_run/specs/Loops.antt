@@ -1,5 +1,5 @@
 -- What holds in a flush between any two moves, and what its three loops make.
-use Rattle.std.specs.Prelude.{◌≡◌, ℕ, ◌+◌, ◌-◌, ◌<◌, ◌≤◌, ◌^◌, List, slice_index, IsTrue, true}
+use Rattle.std.specs.Prelude.{◌≡◌, ℕ, ◌+◌, ◌-◌, ◌<◌, ◌≤◌, ◌^◌, List, length, slice_index, IsTrue, true}
 use Rattle.disk_face.specs.States.{State}
 use Rattle.size_class.specs.Classes.{class_of}
 use Rattle.slot_codec.specs.declared.codec.Header.{Header}
@@ -91,13 +91,14 @@ pub record CanStep (classes : ℕ) (f : Flight) (x : Parts) (mv : Move) : Type 0
   pub from : mv.from + mv.size ≤ f.reach
   pub to : mv.to + mv.size ≤ f.reach
 
--- a phase with the same numbers, where each class has as many bytes
+-- a phase with the same numbers and as many items, where each class has as many bytes
 pub record SamePlan (p0 p : Phase) : Type 0 where
   pub k : p.k ≡ p0.k
   pub caps : p.caps ≡ p0.caps
   pub numbers : p.numbers ≡ p0.numbers
   pub pending : p.pending ≡ p0.pending
   pub room : p.room ≡ p0.room
+  pub count : length p.items ≡ length p0.items
   pub totals : (c : ℕ) → class_total p.items c ≡ class_total p0.items c
 
 -- What moves of a phase have made, whether or not one failed at last: each was saved for once at most; the bytes
