@@ -103,7 +103,7 @@ module _ {classes : ℕ} {f : Flight} {caps : List ℕ} {grid : List (List ℕ)}
           omega (arith, length-map (filter q es) (spot_item x.table.keys), length-filter q es,
               count_by-le-length q es, fin.len-entries x.table.now)
 
-to_pack_few : (p : Phase) → to_pack p ≤ length p.items
+pub to_pack_few : (p : Phase) → to_pack p ≤ length p.items
 to_pack_few p =
     let q = is_unpacked p.numbers p.items in
     omega (arith, length-filter q p.items, count_by-le-length q p.items)

@@ -50,7 +50,10 @@ pub fn run<D: Disk, const C: usize>(
     ensures room { IfOk result (λ settled. settled.phase.room ≡ phase.entry.room) }
     ensures cause { HasCause (D.state disk.old).faults (D.state disk.new).faults result }
 {
-    lift_and_finish(disk, phase, hands).map_err(|fault| Halted(fault))
+    match lift_and_finish(disk, phase, hands) {
+        Ok(settled) => Ok(settled),
+        Err(fault) => Err(Halted(fault)),
+    }
 }
 
 /// Goes on with a flush that was interrupted: Pack, Lay and the settled table, whatever the places of
@@ -78,7 +81,10 @@ pub fn resume<D: Disk, const C: usize>(
     ensures room { IfOk result (λ settled. settled.phase.room ≡ phase.entry.room) }
     ensures cause { HasCause (D.state disk.old).faults (D.state disk.new).faults result }
 {
-    finish(disk, phase, hands).map_err(|fault| Halted(fault))
+    match finish(disk, phase, hands) {
+        Ok(settled) => Ok(settled),
+        Err(fault) => Err(Halted(fault)),
+    }
 }
 
 /// Lift, Pack, Lay and the settled table.
@@ -107,7 +113,8 @@ fn lift_and_finish<D: Disk, const C: usize>(
 {
     let mut lifts = phase;
     lift_all(disk, &mut lifts, hands)?;
-    finish(disk, lifts.into_packing(), hands)
+    let settled = finish(disk, lifts.into_packing(), hands)?;
+    Ok(settled)
 }
 
 /// Pack, Lay and the settled table.
