@@ -1,5 +1,5 @@
 //! The numbers that a table is checked against.
-ghost use Rattle.std.specs.Prelude.{◌≡◌, ◌≤◌, ◌<◌, ◌+◌, ◌*◌, ◌^◌, ◌&&◌, ℕ, IsTrue, nat_le, nat_lt, slice_index, sum};
+ghost use Rattle.std.specs.Prelude.{◌≡◌, ◌≤◌, ◌<◌, ◌+◌, ◌*◌, ◌^◌, ◌&&◌, ℕ, IsTrue, length, nat_le, nat_lt, slice_index, sum};
 ghost use Rattle.size_class.specs.Classes.{cell, class_of, row, width};
 ghost use Rattle.slot_codec.specs.Reading.{all_in_range};
 ghost use Rattle.segment_layout.specs.Shapes.{buffer_of, buffer_start, start_of, taken_in};
@@ -69,18 +69,28 @@ fn starts_of(k: u64, caps: &[u64; 32]) -> [u64; 33]
 /// How many bytes of each buffer are taken.
 fn taken_of(used: &[[u64; 32]; 32]) -> [u64; 32]
     requires small { (j : ℕ) → AreSmall (row used.now j) }
-    ensures { (j : ℕ) → j < width → slice_index result j ≡ taken_in used.now j }
+    ensures sums { (j : ℕ) → j < width → slice_index result j ≡ taken_in used.now j }
+    ensures rows { (j : ℕ) → j < width → length (row used.now j) ≡ width }
 {
     let mut taken = [0; 32];
     'buffers: for j in 0..32usize {
-        taken[j] = sum_of(&used[j]);
+        taken[j] = row_sum(&used[j]);
     }
     taken
 }
 
+/// The sum of a row of small numbers.
+fn row_sum(cells: &[u64; 32]) -> u64
+    requires small { AreSmall cells.now }
+    ensures same { result ≡ sum cells.now }
+    ensures long { length cells.now ≡ width }
+{
+    sum_of(cells)
+}
+
 /// The sum of a row.
 fn sum_of(cells: &[u64; 32]) -> u64
-    requires small { AreSmall cells.now }
+    requires fits { sum cells.now < 2 ^ 64 }
     ensures { result ≡ sum cells.now }
 {
     cells.iter().sum()

@@ -1,7 +1,7 @@
 //! The records of a table by rank.
 ghost use Rattle.std.specs.Prelude.{◌≡◌, ◌<◌, ◌≤◌, ◌^◌, length};
 ghost use Rattle.size_class.specs.Classes.{class_of};
-ghost use Rattle.extent_table.specs.Extents.{records_of};
+ghost use Rattle.extent_table.specs.Extents.{IsTable, records_of};
 ghost use Rattle.table_check.specs.Placed.{ranked};
 
 use extent_table::{Spot, Table};
@@ -11,6 +11,7 @@ use slot_codec::Roll;
 pub(crate) fn count(table: &Table) -> u64
     ensures value { result ≡ length (records_of table.now.now) }
     ensures few { result ≤ 65536 }
+    ensures table { IsTable table.now }
 {
     let _live = Table::count(table);
     Roll::count(table)
