@@ -59,10 +59,17 @@ fn list_below_wall(table: &Table, frame: &Frame, order: &mut Vec<u32>)
 {
     order.clear();
     'ranks: for rank in 0..count(table) {
-        if frame.is_below_wall(spot_at(table, rank)) {
+        if is_below_wall(table, frame, rank) {
             order.push_reserved(rank as u32);
         }
     }
+}
+
+/// Whether a record is of the suffix and begins below the wall.
+fn is_below_wall(table: &Table, frame: &Frame, rank: u64) -> bool
+    ensures { result ≡ is_below_wall (placed table.now frame.now) (ranked table.now rank) }
+{
+    frame.is_below_wall(spot_at(table, rank))
 }
 
 /// Orders ranks by the places of their records.
