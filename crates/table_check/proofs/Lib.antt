@@ -1,2 +1,4 @@
 pub mod NumberLaws
 pub mod RankLaws
+pub mod OverlapLaws
+pub mod LiveLaws

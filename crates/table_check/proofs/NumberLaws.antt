@@ -8,6 +8,7 @@ use Rattle.std.proofs.lemmas.List.{get_or_past, take_all}
 use Rattle.std.proofs.lemmas.List.Elements.{All-from_get_or}
 use Rattle.std.proofs.lemmas.List.Sums.{AllPass-from_list_all, sum_by-le}
 use Rattle.std.proofs.lemmas.Nat.{one_shl}
+use Rattle.std.proofs.lemmas.Option.{slice_get-get_or}
 use Rattle.byte_ranges.specs.Lists.{below}
 use Rattle.size_class.specs.Classes.{width, class_of, row}
 use Rattle.size_class.proofs.ClassLaws.{class_below, class_high, power_next, power_rises}
@@ -17,6 +18,9 @@ use Rattle.segment_layout.specs.Shapes.{buffer_of, end_of, start_of, taken_in}
 use Rattle.segment_layout.proofs.ShapeLaws.{buffer_of-zero, end_of-high, end_of-next}
 use Rattle.extent_table.specs.Extents.{Extents, IsTable, records_of}
 use Rattle.extent_table.proofs.ExtentLaws.{records_of-few}
+use Rattle.extent_table.proofs.SaveLaws.{records_in_range}
+use Rattle.table_rules.specs.Tables.{no_record}
+use Rattle.table_check.specs.Placed.{ranked}
 use Rattle.table_check.specs.Frames.{AreSmall, IsFrame}
 
 pub class_of-zero : class_of 0 ≡ 0
@@ -121,3 +125,8 @@ shifted c h = one_shl c 64 (omega arith)
 pub shifted_twice : (c : ℕ) → c < 32 → (2 * 2 ^ c) % 2 ^ 64 ≡ 2 ^ (c + 1)
 shifted_twice c h = (let e : 2 * 2 ^ c ≡ 1 * 2 ^ (c + 1) = omega (arith, power_next c) in
     ap (λ n. n % 2 ^ 64) e) ∙ one_shl (c + 1) 64 (omega arith)
+
+pub small_sizes : (e : Extents) → IsTable e → (k : ℕ) → k < length (records_of e.now)
+    → (ranked e k).size < 2 ^ 48
+small_sizes e table k low = (records_in_range e table).size k (ranked e k)
+    (slice_get-get_or (records_of e.now) k no_record low)

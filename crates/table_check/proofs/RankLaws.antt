@@ -20,7 +20,7 @@ counting_more first (suc n) =
     ∙ ap (λ xs. first ∷ xs) (counting_more (first + 1) n)
     ∙ ap (λ x. first ∷ counting_from (first + 1) n ++ x ∷ []) e
 
-below_next : (n : ℕ) → below (n + 1) ≡ below n ++ n ∷ []
+pub below_next : (n : ℕ) → below (n + 1) ≡ below n ++ n ∷ []
 unfolding below
 below_next n = counting_more 0 n ∙ (let e : 0 + n ≡ n = omega arith in
     ap (λ x. counting_from 0 n ++ x ∷ []) e)

@@ -1,5 +1,5 @@
 -- The live bytes of a table's first records, by class.
-use Rattle.std.specs.Prelude.{◌≡◌, ℕ, ◌<◌, ◌&&◌, Bool, List, [], length, take, filter, slice_index}
+use Rattle.std.specs.Prelude.{◌≡◌, ℕ, ◌<◌, ◌&&◌, Bool, List, [], length, filter, slice_index}
 use Rattle.size_class.specs.Classes.{width, cell, row}
 use Rattle.slot_codec.specs.declared.codec.Record.{Record}
 use Rattle.extent_table.specs.declared.spot.Spot.{Spot}
@@ -16,8 +16,15 @@ in_buffer t j c r = is_of c r && lies_in_buffer t j r
 abbrev pub at_spot : Spot → Record
 at_spot s = record { name = []; place = s.place; size = s.size }
 
--- the live bytes of these records
-pub record IsLive (t : PlacedTable) (records : List Record) (payload : List ℕ) (buffers : List (List ℕ)) : Type 0 where
-  pub settled : (c : ℕ) → c < width → slice_index payload c ≡ size_sum (filter (in_payload t c) records)
-  pub buffered : (j c : ℕ) → j < width → c < width
-      → cell buffers j c ≡ size_sum (filter (in_buffer t j c) records)
+-- a grid has 32 rows of 32
+abbrev pub IsFull : List (List ℕ) → Type 0
+IsFull grid = (length grid ≡ width) × ((j : ℕ) → j < width → length (row grid j) ≡ width)
+
+-- The live bytes of these records.
+pub record IsLive (t : PlacedTable) (records : List Record) (payload : List ℕ) (buffers : List (List ℕ)) : Type 0
+  where
+    pub long : length payload ≡ width
+    pub full : IsFull buffers
+    pub settled : (c : ℕ) → c < width → slice_index payload c ≡ size_sum (filter (in_payload t c) records)
+    pub buffered : (j c : ℕ) → j < width → c < width
+        → cell buffers j c ≡ size_sum (filter (in_buffer t j c) records)

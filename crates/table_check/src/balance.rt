@@ -1,11 +1,11 @@
 //! The rule of live and dead bytes.
-ghost use Rattle.std.specs.Prelude.{◌≡◌, ◌≤◌, ◌<◌, ◌+◌, ◌^◌, ◌*◌, ◌↔◌, ℕ, IsTrue, IsNone, IfSome, [], cond, slice_index};
+ghost use Rattle.std.specs.Prelude.{◌≡◌, ◌≤◌, ◌<◌, ◌+◌, ◌^◌, ◌*◌, ◌↔◌, ℕ, IsTrue, IsNone, IfSome, [], cond, length, slice_index};
 ghost use Rattle.byte_ranges.specs.Lists.{sum_below};
 ghost use Rattle.size_class.specs.Classes.{cell, width};
 ghost use Rattle.table_rules.specs.Tables.{dead_in_buffer, live_in_buffer, table_boundary};
 ghost use Rattle.table_rules.specs.Rules.{AllHold, Balances, balances};
 ghost use Rattle.table_check.specs.Firsts.{BreaksAt};
-ghost use Rattle.table_check.specs.Live.{IsLive, at_spot, in_buffer, in_payload};
+ghost use Rattle.table_check.specs.Live.{IsFull, IsLive, at_spot, in_buffer, in_payload};
 ghost use Rattle.table_check.specs.Placed.{framed, placed, ranked};
 
 use crate::frame::Frame;
@@ -65,6 +65,7 @@ fn was_entered(table: &Table, frame: &Frame, live: &Live, c: u8) -> bool
 }
 
 /// The bytes that entries of a class have taken in all buffers for objects that are gone.
+#[tactic(auto, using(crate::proofs::LiveLaws::sum_below_next, crate::proofs::LiveLaws::sum_below_none))]
 fn dead_bytes(table: &Table, frame: &Frame, live: &Live, c: u8) -> u64
     requires class { c < 32 }
     requires live { IsLive (placed table.now frame.now) (placed table.now frame.now).records live.now.payload
@@ -103,8 +104,10 @@ fn add_to_payload(payload: &mut [u64; 32], frame: &Frame, s: Spot)
     requires some { 0 < s.size }
     requires low { s.place < 2 ^ 48 }
     requires small { s.size < 2 ^ 48 }
-    requires fits { (c : ℕ) → slice_index payload.old c + s.size < 2 ^ 64 }
-    ensures { (c : ℕ) → c < width → slice_index payload.new c ≡ slice_index payload.old c
+    requires long { length payload.old ≡ width }
+    requires fits { (c : ℕ) → c < width → slice_index payload.old c + s.size < 2 ^ 64 }
+    ensures long { length payload.new ≡ width }
+    ensures added { (c : ℕ) → c < width → slice_index payload.new c ≡ slice_index payload.old c
         + cond (in_payload (framed frame.now []) c (at_spot s)) s.size 0 }
 {
     let class = class_at(s.size);
@@ -118,8 +121,10 @@ fn add_to_buffers(buffers: &mut [[u64; 32]; 32], frame: &Frame, s: Spot)
     requires some { 0 < s.size }
     requires low { s.place < 2 ^ 48 }
     requires small { s.size < 2 ^ 48 }
-    requires fits { (j c : ℕ) → cell buffers.old j c + s.size < 2 ^ 64 }
-    ensures { (j c : ℕ) → j < width → c < width → cell buffers.new j c ≡ cell buffers.old j c
+    requires full { IsFull buffers.old }
+    requires fits { (j c : ℕ) → j < width → c < width → cell buffers.old j c + s.size < 2 ^ 64 }
+    ensures full { IsFull buffers.new }
+    ensures added { (j c : ℕ) → j < width → c < width → cell buffers.new j c ≡ cell buffers.old j c
         + cond (in_buffer (framed frame.now []) j c (at_spot s)) s.size 0 }
 {
     let class = class_at(s.size);
