@@ -5,7 +5,7 @@ use Rattle.std.proofs.lemmas.Bool.{and_from, cases_Bool, cases_eq, cases_lt, con
 use Rattle.std.proofs.lemmas.List.{get_or-replicate, map-append}
 use Rattle.std.proofs.lemmas.List.Elements.{All-from_get_or, filter_more}
 use Rattle.std.proofs.lemmas.List.Sums.{sum_by-append, sum_by-cons, sum_by-le, sum_by_more}
-use Rattle.byte_ranges.specs.Lists.{below, sum_below}
+use Rattle.byte_ranges.specs.Lists.{below, counting_from, sum_below}
 use Rattle.byte_ranges.proofs.ListLaws.{zeros_at}
 use Rattle.size_class.specs.Classes.{width, class_of, cell, row}
 use Rattle.slot_codec.specs.declared.codec.Record.{Record}
@@ -18,7 +18,7 @@ use Rattle.extent_table.specs.declared.spot.Spot.{Spot}
 use Rattle.table_check.specs.declared.frame.Frame.{Frame}
 use Rattle.table_check.specs.Live.{IsFull, IsLive, at_spot, in_buffer, in_payload}
 use Rattle.table_check.specs.Placed.{framed}
-use Rattle.table_check.proofs.RankLaws.{below_next}
+use Rattle.table_check.proofs.RankLaws.{below_next, counting_more}
 
 -- ---- a sum over the first records, and its bound
 
@@ -153,3 +153,33 @@ module _ (f : Frame) (rs : List Record) (s : Spot) (r : Record) (place : s.place
       ≡ cond (in_buffer (framed f rs) j c r) r.size 0
   same_buffer j c = λ i. cond (in_buffer (framed f []) j c
       (at_spot (record { place = place i; size = size i }))) (size i) 0
+
+-- ---- the bytes of each class
+
+-- the volumes of these records
+pub record VolumesSoFar (rs : List Record) (volumes : List ℕ) : Type 0 where
+  pub long : length volumes ≡ width
+  pub each : (c : ℕ) → c < width → slice_index volumes c ≡ size_sum (filter (λ r. is_of c r) rs)
+
+pub volumes_none : VolumesSoFar [] (replicate 32 0)
+volumes_none = record { long = refl; each = λ c wide. zeros_at 32 c }
+
+module _ (rs : List Record) (n : ℕ) (low : n < length rs) (volumes : List ℕ)
+    (so_far : VolumesSoFar (take n rs) volumes) where
+  pub volumes_small : length rs ≤ 65536
+      → ((k : ℕ) → k < length rs → (slice_index_or rs k no_record).size < 2 ^ 48)
+      → (c : ℕ) → c < width → slice_index volumes c ≤ 65535 * (2 ^ 48 - 1)
+  volumes_small few small c wide =
+      omega (arith, so_far.each c wide, size_sum-small (λ r. is_of c r) rs n (omega arith) small)
+
+-- a sum over the classes from a boundary on, with one class more
+pub from_next : (f : ℕ → ℕ) (b c : ℕ) → b ≤ c
+    → sum_by f (counting_from b (c + 1 - b)) ≡ sum_by f (counting_from b (c - b)) + f c
+from_next f b c h =
+    let one : c + 1 - b ≡ c - b + 1 = omega arith in
+    let at : b + (c - b) ≡ c = omega arith in
+    ap (λ n. sum_by f (counting_from b n)) one
+    ∙ ap (sum_by f) (counting_more b (c - b))
+    ∙ sum_by-append f (counting_from b (c - b)) ((b + (c - b)) ∷ [])
+    ∙ (let e : sum_by f ((b + (c - b)) ∷ []) ≡ f c = sum_by-cons f (b + (c - b)) []
+    ∙ add-zero (f (b + (c - b))) ∙ ap f at in ap (λ x. sum_by f (counting_from b (c - b)) + x) e)

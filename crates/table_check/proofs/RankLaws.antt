@@ -12,7 +12,7 @@ use Rattle.std.proofs.lemmas.Map.Keys.{IsDistinct-IsPermutation, IsDistinct-from
 use Rattle.byte_ranges.specs.Lists.{below, counting_from}
 use Rattle.table_check.specs.Orders.{passing}
 
-counting_more : (first n : ℕ) → counting_from first (n + 1) ≡ counting_from first n ++ (first + n) ∷ []
+pub counting_more : (first n : ℕ) → counting_from first (n + 1) ≡ counting_from first n ++ (first + n) ∷ []
 counting_more first zero = λ i. (let e : first ≡ first + 0 = omega arith in e i) ∷ []
 counting_more first (suc n) =
     let e : first + 1 + n ≡ first + suc n = omega arith in
