@@ -2,3 +2,4 @@ pub mod NumberLaws
 pub mod RankLaws
 pub mod OverlapLaws
 pub mod LiveLaws
+pub mod SuffixLaws

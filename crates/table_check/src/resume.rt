@@ -114,7 +114,7 @@ fn first_narrow_gap(table: &Table, frame: &Frame, order: &[u32]) -> u64
 /// Whether there is no gap between a record that is packed and the wall, or one of at least the slack.
 fn is_gap_wide(frame: &Frame, end: u64, above: u128) -> bool
     requires end { end < 2 ^ 49 }
-    requires above { above < 2 ^ 100 }
+    requires above { above < 2 ^ 120 }
     ensures { IsTrue result ↔ ((end + above ≡ frame.now.header.wall)
         ⊎ (end + above + frame.now.header.slack ≤ frame.now.header.wall)) }
 {
