@@ -3,3 +3,4 @@ pub mod RankLaws
 pub mod OverlapLaws
 pub mod LiveLaws
 pub mod SuffixLaws
+pub mod RuleLaws

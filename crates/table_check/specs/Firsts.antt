@@ -1,20 +1,7 @@
 -- The first rule that is broken, rule by rule.
 use Rattle.std.specs.Prelude.{◌≡◌, ℕ, ◌<◌, ◌≤◌}
 use Rattle.table_rules.specs.Tables.{PlacedTable}
-use Rattle.table_rules.specs.Rules.{Rule, RuleAt, AllHold, number_of, places_of, size_fits, empty_at_zero, ends_within, kind_fits, nothing_above, row_fits, lower_stands, buffers_full}
-use Rattle.table_check.specs.declared.places.PlaceRule.{PlaceRule}
-use Rattle.table_check.specs.declared.places.PlaceRule.TheVariants.{SizeFits, EmptyAtZero, EndsWithin, KindFits, NothingAbove, RowFits, LowerStands, BuffersFull}
-
--- the rule of the definitions that a rule of the program is
-abbrev pub named : PlaceRule → Rule
-named SizeFits = size_fits
-named EmptyAtZero = empty_at_zero
-named EndsWithin = ends_within
-named KindFits = kind_fits
-named NothingAbove = nothing_above
-named RowFits = row_fits
-named LowerStands = lower_stands
-named BuffersFull = buffers_full
+use Rattle.table_rules.specs.Rules.{Rule, RuleAt, AllHold, number_of, places_of}
 
 -- a rule is broken at a place, and at no lesser one
 pub record BreaksAt (rule : Rule) (t : PlacedTable) (at : ℕ) : Type 0 where

@@ -5,3 +5,5 @@ pub mod Live
 pub mod Orders
 pub mod Placed
 pub mod Suffixes
+pub mod PlaceRules
+pub mod Tried

@@ -1,12 +1,13 @@
 //! Whether a table that was read keeps the rules of its kind, and the layout that it gives.
-ghost use Rattle.std.specs.Prelude.{◌≡◌, ◌≤◌, ◌<◌, ◌^◌, ◌↔◌, IsTrue, IsOk, IfOk, IfErr, IsNone, IfSome, OnOk, None, Some, length, vec_capacity};
+ghost use Rattle.std.specs.Prelude.{◌≡◌, ◌≤◌, ◌<◌, ◌^◌, ◌↔◌, IsTrue, IsOk, IfOk, IfErr, IsNone, IfSome, length, vec_capacity};
 ghost use Rattle.std.specs.FinMap as fin;
 ghost use Rattle.slot_codec.specs.Reading.{all_in_range};
 ghost use Rattle.slot_codec.specs.declared.codec.Kind.TheVariants.{Settled, Moving};
 ghost use Rattle.segment_layout.specs.Layouts.{caps_of, divisor_of, grid_of};
-ghost use Rattle.table_rules.specs.Rules.{FirstBroken, IsValid};
+ghost use Rattle.table_rules.specs.Rules.{AllHold, FirstBroken, IsValid, last_of, number_of};
 ghost use Rattle.table_check.specs.Checked.{checked, of_kind};
-ghost use Rattle.table_check.specs.Firsts.{HoldBelow};
+ghost use Rattle.table_check.specs.Firsts.{BreaksAt, HoldBelow};
+ghost use Rattle.table_check.specs.Tried.{named};
 ghost use Rattle.table_check.specs.Placed.{placed};
 ghost use Rattle.extent_table.specs.Extents.{records_of};
 
@@ -14,13 +15,23 @@ use crate::TableFault;
 use crate::apart::first_overlap;
 use crate::balance::first_unbalanced;
 use crate::frame::{Frame, framed};
-use crate::places::{PlaceRule, first_of};
+use crate::places::{PlaceRule, first_place};
 use crate::resume::first_misplaced;
-use crate::room::has_room;
+use crate::room::first_without_room;
 use extent_table::Table;
 use segment_layout::Layout;
 use size_class::{Grid, Row, SIZE_MAX};
 use slot_codec::{Header, Kind};
+
+/// A rule, as it is tried: place by place, or all at once.
+#[derive(Clone, Copy, Debug, PartialEq, Eq)]
+pub(crate) enum Rule {
+    AtPlaces(PlaceRule),
+    Apart,
+    Balanced,
+    Room,
+    Resume,
+}
 
 /// Tries a table under a header as a settled one, whatever kind the header has, against a divisor and
 /// the length of the data part, in bytes. At Ok it keeps all rules of a settled table, and its layout
@@ -47,8 +58,10 @@ pub fn check_settled<const C: usize>(
     ensures capacity { vec_capacity order.new ≡ vec_capacity order.old }
 {
     let frame = framed(C as u8, SIZE_MAX, k, length, with_kind(Kind::Settled, header));
-    check(table, &frame, order)?;
-    Ok(layout_of(table, &frame))
+    match first_broken(table, &frame, order) {
+        Some(fault) => Err(fault),
+        None => Ok(layout_of(table, &frame)),
+    }
 }
 
 /// Tries a table under a header as a moving one, as `check_settled` does a settled one. At Ok the
@@ -75,8 +88,10 @@ pub fn check_moving<const C: usize>(
     ensures capacity { vec_capacity order.new ≡ vec_capacity order.old }
 {
     let frame = framed(C as u8, SIZE_MAX, k, length, with_kind(Kind::Moving, header));
-    check(table, &frame, order)?;
-    Ok(layout_of(table, &frame))
+    match first_broken(table, &frame, order) {
+        Some(fault) => Err(fault),
+        None => Ok(layout_of(table, &frame)),
+    }
 }
 
 /// The header, with its kind set.
@@ -103,70 +118,66 @@ fn layout_of<const C: usize>(table: &Table, frame: &Frame) -> Layout<C>
 }
 
 /// The first rule that is broken, and the least place at which it is.
-fn check(table: &Table, frame: &Frame, order: &mut Vec<u32>) -> Result<(), TableFault>
+fn first_broken(table: &Table, frame: &Frame, order: &mut Vec<u32>) -> Option<TableFault>
     requires room { length (records_of table.now.now) ≤ vec_capacity order.old }
-    ensures ok { OnOk result (IsValid (placed table.now frame.now)) }
-    ensures broken { IfErr result (λ fault. FirstBroken (placed table.now frame.now) fault.rule fault.at) }
+    ensures valid { IsNone result → IsValid (placed table.now frame.now) }
+    ensures first { IfSome result (λ fault. FirstBroken (placed table.now frame.now) fault.rule fault.at) }
     ensures capacity { vec_capacity order.new ≡ vec_capacity order.old }
 {
-    check_header(table, frame)?;
-    check_places(table, frame, order)?;
+    'rules: for number in 1..last_rule(frame) + 1 {
+        if let Some(at) = first_of(table, frame, order, rule_of(number)) {
+            return Some(TableFault { rule: number, at });
+        }
+    }
+    None
+}
+
+/// The number of the last rule that a table of the header's kind is to keep.
+fn last_rule(frame: &Frame) -> u8
+    ensures { result ≡ last_of frame.now.header.kind }
+{
     match frame.header.kind {
-        Kind::Settled => Ok(()),
-        Kind::Moving => check_resume(table, frame, order),
+        Kind::Settled => 10,
+        Kind::Moving => 12,
     }
 }
 
-/// Tries the rules 1 to 6.
-fn check_header(table: &Table, frame: &Frame) -> Result<(), TableFault>
-    ensures ok { OnOk result (HoldBelow 7 (placed table.now frame.now)) }
-    ensures broken { IfErr result (λ fault. FirstBroken (placed table.now frame.now) fault.rule fault.at) }
+/// The rule of a number.
+fn rule_of(number: u8) -> Rule
+    requires low { 1 ≤ number }
+    requires high { number ≤ 12 }
+    ensures { number_of (named result) ≡ number }
 {
-    told(1, first_of(table, frame, PlaceRule::SizeFits))?;
-    told(2, first_of(table, frame, PlaceRule::EmptyAtZero))?;
-    told(3, first_of(table, frame, PlaceRule::EndsWithin))?;
-    told(4, first_of(table, frame, PlaceRule::KindFits))?;
-    told(5, first_of(table, frame, PlaceRule::NothingAbove))?;
-    told(6, first_of(table, frame, PlaceRule::RowFits))
-}
-
-/// Tries the rules 7 to 10.
-fn check_places(table: &Table, frame: &Frame, order: &mut Vec<u32>) -> Result<(), TableFault>
-    requires lower { HoldBelow 7 (placed table.now frame.now) }
-    requires room { length (records_of table.now.now) ≤ vec_capacity order.old }
-    ensures ok { OnOk result (HoldBelow 11 (placed table.now frame.now)) }
-    ensures broken { IfErr result (λ fault. FirstBroken (placed table.now frame.now) fault.rule fault.at) }
-    ensures capacity { vec_capacity order.new ≡ vec_capacity order.old }
-{
-    told(7, first_of(table, frame, PlaceRule::LowerStands))?;
-    told(8, first_overlap(table, frame, order))?;
-    told(9, first_unbalanced(table, frame))?;
-    told(10, first_of(table, frame, PlaceRule::BuffersFull))
-}
-
-/// Tries the rules 11 and 12, of a moving table alone.
-fn check_resume(table: &Table, frame: &Frame, order: &mut Vec<u32>) -> Result<(), TableFault>
-    requires moving { frame.now.header.kind ≡ Moving }
-    requires lower { HoldBelow 11 (placed table.now frame.now) }
-    requires room { length (records_of table.now.now) ≤ vec_capacity order.old }
-    ensures ok { OnOk result (HoldBelow 13 (placed table.now frame.now)) }
-    ensures broken { IfErr result (λ fault. FirstBroken (placed table.now frame.now) fault.rule fault.at) }
-    ensures capacity { vec_capacity order.new ≡ vec_capacity order.old }
-{
-    if !has_room(table, frame) {
-        return Err(TableFault { rule: 11, at: 0 });
+    match number {
+        1 => Rule::AtPlaces(PlaceRule::SizeFits),
+        2 => Rule::AtPlaces(PlaceRule::EmptyAtZero),
+        3 => Rule::AtPlaces(PlaceRule::EndsWithin),
+        4 => Rule::AtPlaces(PlaceRule::KindFits),
+        5 => Rule::AtPlaces(PlaceRule::NothingAbove),
+        6 => Rule::AtPlaces(PlaceRule::RowFits),
+        7 => Rule::AtPlaces(PlaceRule::LowerStands),
+        8 => Rule::Apart,
+        9 => Rule::Balanced,
+        10 => Rule::AtPlaces(PlaceRule::BuffersFull),
+        11 => Rule::Room,
+        _ => Rule::Resume,
     }
-    told(12, first_misplaced(table, frame, order))
 }
 
-/// The fault of a rule's first place, if there is one.
-fn told(rule: u8, first: Option<u64>) -> Result<(), TableFault>
-    ensures none { OnOk result (first ≡ None) }
-    ensures number { IfErr result (λ fault. fault.rule ≡ rule) }
-    ensures place { IfErr result (λ fault. first ≡ Some fault.at) }
+/// The least place at which a rule is broken, where the rules before it hold.
+fn first_of(table: &Table, frame: &Frame, order: &mut Vec<u32>, rule: Rule) -> Option<u64>
+    requires due { number_of (named rule) ≤ last_of frame.now.header.kind }
+    requires lower { HoldBelow (number_of (named rule)) (placed table.now frame.now) }
+    requires room { length (records_of table.now.now) ≤ vec_capacity order.old }
+    ensures none { IsNone result → AllHold (named rule) (placed table.now frame.now) }
+    ensures first { IfSome result (λ at. BreaksAt (named rule) (placed table.now frame.now) at) }
+    ensures capacity { vec_capacity order.new ≡ vec_capacity order.old }
 {
-    match first {
-        Some(at) => Err(TableFault { rule, at }),
-        None => Ok(()),
+    match rule {
+        Rule::AtPlaces(rule) => first_place(table, frame, rule),
+        Rule::Apart => first_overlap(table, frame, order),
+        Rule::Balanced => first_unbalanced(table, frame),
+        Rule::Room => first_without_room(table, frame),
+        Rule::Resume => first_misplaced(table, frame, order),
     }
 }

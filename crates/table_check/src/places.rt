@@ -3,8 +3,9 @@ ghost use Rattle.std.specs.Prelude.{◌≡◌, ◌⊎◌, ◌≤◌, ◌<◌, �
 ghost use Rattle.size_class.specs.Classes.{cell, width};
 ghost use Rattle.segment_layout.specs.Shapes.{buffer_of, taken_in};
 ghost use Rattle.table_rules.specs.Tables.{StandsInBuffer, table_boundary, last_end};
-ghost use Rattle.table_rules.specs.Rules.{AllHold, BuffersFull, EmptyAtZero, EndsWithin, KindFits, LowerStands, NothingAbove, RowFits, RuleAt, SizeFits, places_of};
-ghost use Rattle.table_check.specs.Firsts.{BreaksAt, named};
+ghost use Rattle.table_rules.specs.Rules.{AllHold, BuffersFull, EmptyAtZero, EndsWithin, KindFits, LowerStands, NothingAbove, RowFits, RuleAt, SizeFits, number_of, places_of};
+ghost use Rattle.table_check.specs.Firsts.{BreaksAt};
+ghost use Rattle.table_check.specs.PlaceRules.{named};
 ghost use Rattle.table_check.specs.Placed.{placed, ranked};
 
 use crate::frame::Frame;
@@ -26,8 +27,8 @@ pub(crate) enum PlaceRule {
 }
 
 /// The least place at which a rule is broken.
-pub(crate) fn first_of(table: &Table, frame: &Frame, rule: PlaceRule) -> Option<u64>
-    requires boundary { table_boundary (placed table.now frame.now) ≤ 32 }
+pub(crate) fn first_place(table: &Table, frame: &Frame, rule: PlaceRule) -> Option<u64>
+    requires boundary { 4 < number_of (named rule) → table_boundary (placed table.now frame.now) ≤ 32 }
     ensures none { IsNone result → AllHold (named rule) (placed table.now frame.now) }
     ensures first { IfSome result (λ at. BreaksAt (named rule) (placed table.now frame.now) at) }
 {
@@ -54,7 +55,7 @@ fn places_of(table: &Table, frame: &Frame, rule: PlaceRule) -> u64
 
 /// Whether a rule holds at a place.
 fn holds(table: &Table, frame: &Frame, rule: PlaceRule, at: u64) -> bool
-    requires boundary { table_boundary (placed table.now frame.now) ≤ 32 }
+    requires boundary { 4 < number_of (named rule) → table_boundary (placed table.now frame.now) ≤ 32 }
     requires within { at < places_of (named rule) (placed table.now frame.now) }
     ensures { IsTrue result ↔ RuleAt (named rule) (placed table.now frame.now) at }
 {

@@ -1,18 +1,34 @@
 //! Whether a moving table leaves the room that a flush needs to go on.
-ghost use Rattle.std.specs.Prelude.{◌≡◌, ◌≤◌, ◌<◌, ◌+◌, ◌^◌, ◌*◌, ◌↔◌, ℕ, IsTrue, length, slice_index};
+ghost use Rattle.std.specs.Prelude.{◌≡◌, ◌≤◌, ◌<◌, ◌+◌, ◌^◌, ◌*◌, ◌↔◌, ℕ, IsTrue, IsNone, IfSome, length, slice_index};
 ghost use Rattle.size_class.specs.Classes.{width};
+ghost use Rattle.slot_codec.specs.declared.codec.Kind.TheVariants.{Moving};
 ghost use Rattle.extent_table.specs.Extents.{records_of};
 ghost use Rattle.table_rules.specs.Tables.{is_suffix, live, new_end, table_boundary};
-ghost use Rattle.table_rules.specs.Rules.{RoomToResume};
+ghost use Rattle.table_rules.specs.Rules.{AllHold, RoomToResume, room_to_resume};
+ghost use Rattle.table_check.specs.Firsts.{BreaksAt};
 ghost use Rattle.table_check.specs.Placed.{placed, ranked};
 
 use crate::frame::Frame;
 use crate::spots::{class_at, count, spot_at};
 use extent_table::Table;
 
+/// The place 0, where a moving table doesn't leave the room.
+pub(crate) fn first_without_room(table: &Table, frame: &Frame) -> Option<u64>
+    requires moving { frame.now.header.kind ≡ Moving }
+    requires boundary { table_boundary (placed table.now frame.now) ≤ 32 }
+    ensures none { IsNone result → AllHold room_to_resume (placed table.now frame.now) }
+    ensures first { IfSome result (λ at. BreaksAt room_to_resume (placed table.now frame.now) at) }
+{
+    if has_room(table, frame) {
+        None
+    } else {
+        Some(0)
+    }
+}
+
 /// The layout with the suffix laid out anew ends at least the slack below the wall, and the slack is
 /// at least the size of each suffix record.
-pub(crate) fn has_room(table: &Table, frame: &Frame) -> bool
+fn has_room(table: &Table, frame: &Frame) -> bool
     requires boundary { table_boundary (placed table.now frame.now) ≤ 32 }
     ensures { IsTrue result ↔ RoomToResume (placed table.now frame.now) }
 {
