@@ -95,8 +95,11 @@ pub record BuffersSoFar (t : PlacedTable) (r : Record) (j : ℕ) (old new : List
 pub live_none : (t : PlacedTable) → IsLive t [] (replicate 32 0) (replicate 32 (replicate 32 0))
 live_none t = record {
   long = refl;
-  full = (refl, λ j wide. ap (λ (xs : List ℕ). length xs)
-      (get_or-replicate {A = List ℕ} 32 j (replicate 32 0) [] wide));
+  full = (
+    refl,
+    λ j wide. ap (λ (xs : List ℕ). length xs)
+        (get_or-replicate {A = List ℕ} 32 j (replicate 32 0) [] wide),
+  );
   settled = λ c wide. zeros_at 32 c;
   buffered = λ j c wide high. ap (λ xs. slice_index xs c)
       (get_or-replicate {A = List ℕ} 32 j (replicate 32 0) [] wide) ∙ zeros_at 32 c;

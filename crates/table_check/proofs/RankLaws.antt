@@ -138,8 +138,13 @@ module _ (p : ℕ → Bool) where
     distinct = IsDistinct-IsPermutation (λ a b. a == b) flips (passing p n) order same
         (IsDistinct-from_apart (λ a b. a == b) (passing p n) (λ i j d less high.
         ne_eqb (slice_index_or (passing p n) i d) (slice_index_or (passing p n) j d) (λ e.
-        absurd (omega (arith, rise 0 n i j less high, e,
-        get_or_default_zero (passing p n) i d (omega arith), get_or_default_zero (passing p n) j d high)))))
+        absurd (omega (
+          arith,
+          rise 0 n i j less high,
+          e,
+          get_or_default_zero (passing p n) i d (omega arith),
+          get_or_default_zero (passing p n) j d high,
+        )))))
       where
         flips : (a b : ℕ) → (a == b) ≡ (b == a)
         flips a b = elim (eqb_tells a b) [

@@ -57,7 +57,13 @@ pub fn check_settled<const C: usize>(
         fault.rule fault.at) }
     ensures capacity { vec_capacity order.new ≡ vec_capacity order.old }
 {
-    let frame = framed(C as u8, SIZE_MAX, k, length, with_kind(Kind::Settled, header));
+    let frame = framed(
+        C as u8,
+        SIZE_MAX,
+        k,
+        length,
+        with_kind(Kind::Settled, header),
+    );
     match first_broken(table, &frame, order) {
         Some(fault) => Err(fault),
         None => Ok(layout_of(table, &frame)),
@@ -87,7 +93,13 @@ pub fn check_moving<const C: usize>(
         fault.rule fault.at) }
     ensures capacity { vec_capacity order.new ≡ vec_capacity order.old }
 {
-    let frame = framed(C as u8, SIZE_MAX, k, length, with_kind(Kind::Moving, header));
+    let frame = framed(
+        C as u8,
+        SIZE_MAX,
+        k,
+        length,
+        with_kind(Kind::Moving, header),
+    );
     match first_broken(table, &frame, order) {
         Some(fault) => Err(fault),
         None => Ok(layout_of(table, &frame)),

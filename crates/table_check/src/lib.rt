@@ -12,6 +12,8 @@ mod places;
 mod resume;
 mod room;
 mod spots;
+#[cfg(test)]
+mod tests;
 
 pub use check::{check_moving, check_settled};
 pub use fault::TableFault;

@@ -12,7 +12,7 @@ ghost use Rattle.table_check.specs.Suffixes.{HasWideGap, IsInOrder, StandsBeside
 use crate::frame::Frame;
 use crate::order::order_below_wall;
 use crate::spots::{class_at, count, spot_at};
-use extent_table::Table;
+use extent_table::{Spot, Table};
 
 /// The least record that doesn't stand where a flush can go on with it.
 pub(crate) fn first_misplaced(table: &Table, frame: &Frame, order: &mut Vec<u32>) -> Option<u64>
@@ -103,7 +103,7 @@ fn first_narrow_gap(table: &Table, frame: &Frame, order: &[u32]) -> u64
         left -= 1;
         let rank = u64::from(order[left]);
         let s = spot_at(table, rank);
-        if !is_gap_wide(frame, s.place + s.size, above) {
+        if !is_gap_wide(frame, s, above) {
             least = least.min(rank);
         }
         above += u128::from(s.size);
@@ -112,13 +112,14 @@ fn first_narrow_gap(table: &Table, frame: &Frame, order: &[u32]) -> u64
 }
 
 /// Whether there is no gap between a record that is packed and the wall, or one of at least the slack.
-fn is_gap_wide(frame: &Frame, end: u64, above: u128) -> bool
-    requires end { end < 2 ^ 49 }
+fn is_gap_wide(frame: &Frame, s: Spot, above: u128) -> bool
+    requires low { s.place < 2 ^ 48 }
+    requires small { s.size < 2 ^ 48 }
     requires above { above < 2 ^ 120 }
-    ensures { IsTrue result ↔ ((end + above ≡ frame.now.header.wall)
-        ⊎ (end + above + frame.now.header.slack ≤ frame.now.header.wall)) }
+    ensures { IsTrue result ↔ ((s.place + s.size + above ≡ frame.now.header.wall)
+        ⊎ (s.place + s.size + above + frame.now.header.slack ≤ frame.now.header.wall)) }
 {
-    let packed = u128::from(end) + above;
+    let packed = u128::from(s.place + s.size) + above;
     let wall = u128::from(frame.header.wall);
     packed == wall || packed + u128::from(frame.header.slack) <= wall
 }

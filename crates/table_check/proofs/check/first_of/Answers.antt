@@ -13,8 +13,11 @@ first_place-requires c = record {
       let f = c.args.frame.now in
       let n = number_of (named c.args.rule) in
       let is : n ≡ number_of (places.named c.in-AtPlaces.rule) = ap (λ r. number_of (named r)) c.in-AtPlaces.is in
-      omega (arith, boundary_bounded (placed c.args.table.now f) n (omega (arith, is, late)) c.requires.lower,
-      f.shape.few);
+      omega (
+        arith,
+        boundary_bounded (placed c.args.table.now f) n (omega (arith, is, late)) c.requires.lower,
+        f.shape.few,
+      );
 }
 
 pub first_unbalanced-requires : goal.first_unbalanced-requires
@@ -22,23 +25,35 @@ first_unbalanced-requires c = record {
   boundary =
       let f = c.args.frame.now in
       let is : number_of (named c.args.rule) ≡ 9 = ap (λ r. number_of (named r)) c.in-Balanced.is in
-      omega (arith, boundary_bounded (placed c.args.table.now f) (number_of (named c.args.rule))
-      (omega (arith, is)) c.requires.lower, f.shape.few);
+      omega (
+        arith,
+        boundary_bounded (placed c.args.table.now f) (number_of (named c.args.rule))
+            (omega (arith, is)) c.requires.lower,
+        f.shape.few,
+      );
 }
 
 pub first_without_room-requires-clause-boundary : goal.first_without_room-requires-clause-boundary
 first_without_room-requires-clause-boundary c =
     let f = c.args.frame.now in
     let is : number_of (named c.args.rule) ≡ 11 = ap (λ r. number_of (named r)) c.in-Room.is in
-    omega (arith, boundary_bounded (placed c.args.table.now f) (number_of (named c.args.rule))
-    (omega (arith, is)) c.requires.lower, f.shape.few)
+    omega (
+      arith,
+      boundary_bounded (placed c.args.table.now f) (number_of (named c.args.rule))
+          (omega (arith, is)) c.requires.lower,
+      f.shape.few,
+    )
 
 pub first_misplaced-requires-clause-boundary : goal.first_misplaced-requires-clause-boundary
 first_misplaced-requires-clause-boundary c =
     let f = c.args.frame.now in
     let is : number_of (named c.args.rule) ≡ 12 = ap (λ r. number_of (named r)) c.in-Resume.is in
-    omega (arith, boundary_bounded (placed c.args.table.now f) (number_of (named c.args.rule))
-    (omega (arith, is)) c.requires.lower, f.shape.few)
+    omega (
+      arith,
+      boundary_bounded (placed c.args.table.now f) (number_of (named c.args.rule))
+          (omega (arith, is)) c.requires.lower,
+      f.shape.few,
+    )
 
 pub first_misplaced-requires-clause-apart : goal.first_misplaced-requires-clause-apart
 first_misplaced-requires-clause-apart c =
