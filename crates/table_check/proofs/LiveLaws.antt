@@ -1,18 +1,14 @@
 -- Live bytes of one record more.
-use Rattle.std.specs.Prelude.{◌≡◌, ◌≢◌, ◌⊎◌, ℕ, zero, suc, ◌+◌, ◌-◌, ◌*◌, ◌^◌, ◌<◌, ◌≤◌, ◌==◌, nat_lt, ◌&&◌, Bool, true, false, cond, List, [], ◌∷◌, length, filter, take, sum_by, sum, map, slice_index, slice_index_or, slice_set, replicate, refl}
-use Rattle.std.proofs.Common.{arith, ap, sym, ◌∙◌, inl, inr, subst, add-zero}
-use Rattle.std.proofs.lemmas.Bool.{and_from, cases_Bool, cases_eq, cases_lt, cond-true, cond-false, eq-eqb, ne_eqb, le-ltb, lt-ltb, leb-true, ltb-true}
+use Rattle.std.specs.Prelude.{◌≡◌, ℕ, zero, suc, ◌+◌, ◌-◌, ◌*◌, ◌^◌, ◌<◌, ◌≤◌, ◌&&◌, Bool, true, false, cond, List, [], ◌∷◌, length, filter, take, sum_by, sum, map, slice_index, slice_index_or, replicate, refl}
+use Rattle.std.proofs.Common.{arith, ap, sym, ◌∙◌, inl, inr, add-zero}
+use Rattle.std.proofs.lemmas.Bool.{cases_Bool, cond-true, cond-false}
 use Rattle.std.proofs.lemmas.List.{get_or-replicate, map-append}
-use Rattle.std.proofs.lemmas.List.Elements.{All-from_get_or, filter_more}
-use Rattle.std.proofs.lemmas.List.Sums.{sum_by-append, sum_by-cons, sum_by-le, sum_by_more}
+use Rattle.std.proofs.lemmas.List.Elements.{filter_more}
+use Rattle.std.proofs.lemmas.List.Sums.{sum_by-append, sum_by-cons}
 use Rattle.byte_ranges.specs.Lists.{below, counting_from, sum_below}
 use Rattle.byte_ranges.proofs.ListLaws.{zeros_at}
-use Rattle.size_class.specs.Classes.{width, class_of, cell, row}
+use Rattle.size_class.specs.Classes.{width, cell}
 use Rattle.slot_codec.specs.declared.codec.Record.{Record}
-use Rattle.slot_codec.specs.Readable.{AreInRange}
-use Rattle.segment_layout.specs.Shapes.{with_entry}
-use Rattle.segment_layout.proofs.BookLaws.{sum_by-filter}
-use Rattle.segment_layout.proofs.ShapeLaws.{cell-with_entry_class, cell-with_entry_row, cell-with_entry_same, row-with_entry_other, row-with_entry_same}
 use Rattle.table_rules.specs.Tables.{PlacedTable, is_of, lies_in_buffer, lies_in_payload, no_record, size_sum}
 use Rattle.extent_table.specs.declared.spot.Spot.{Spot}
 use Rattle.table_check.specs.declared.frame.Frame.{Frame}

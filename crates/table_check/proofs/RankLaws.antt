@@ -1,8 +1,8 @@
 -- The ranks that pass a test, and what holds of them in whatever order they stand.
-use Rattle.std.specs.Prelude.{◌≡◌, ◌≢◌, ◌⊎◌, ℕ, zero, suc, ◌+◌, ◌-◌, ◌<◌, ◌≤◌, ◌==◌, Bool, true, false, cond, List, [], ◌∷◌, ◌++◌, length, filter, slice_index, slice_index_or, Contains, All, IsPermutation, sum_by, take, drop, refl}
+use Rattle.std.specs.Prelude.{◌≡◌, ◌≢◌, ℕ, zero, suc, ◌+◌, ◌<◌, ◌≤◌, ◌==◌, Bool, true, false, cond, List, [], ◌∷◌, ◌++◌, length, filter, slice_index, slice_index_or, IsPermutation, refl}
 use Rattle.std.specs.List.{IsDistinct}
-use Rattle.std.proofs.Common.{arith, ap, sym, ◌∙◌, inl, inr, subst}
-use Rattle.std.proofs.lemmas.Bool.{cases_Bool, cases_lt, cases_order, cond-true, cond-false, eqb-false, ne_eqb, eq-eqb, false≢true}
+use Rattle.std.proofs.Common.{arith, ap, sym, ◌∙◌, inl, inr}
+use Rattle.std.proofs.lemmas.Bool.{cases_lt, cond-true, cond-false, eqb-false, ne_eqb, eq-eqb, false≢true}
 use Rattle.std.proofs.lemmas.Bool.Decides.{eqb_tells}
 use Rattle.std.proofs.lemmas.Grind.{get_or_default_zero}
 use Rattle.std.proofs.lemmas.List.{append-nil}

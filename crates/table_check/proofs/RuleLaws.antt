@@ -1,6 +1,6 @@
 -- What the rules before a rule give.
-use Rattle.std.specs.Prelude.{◌≡◌, ℕ, ◌+◌, ◌<◌, ◌≤◌, ◌^◌, List, [], slice_index, refl}
-use Rattle.std.proofs.Common.{arith, ap, sym, subst, inl, inr}
+use Rattle.std.specs.Prelude.{◌≡◌, ℕ, ◌<◌, ◌≤◌, ◌^◌, List, [], slice_index}
+use Rattle.std.proofs.Common.{arith, ap, inl, inr}
 use Rattle.std.proofs.lemmas.Bool.{cases_lt}
 use Rattle.std.proofs.lemmas.List.{get_or_past}
 use Rattle.size_class.specs.Classes.{row}
@@ -13,7 +13,7 @@ use Rattle.slot_codec.specs.declared.codec.Kind.TheVariants.{Settled, Moving}
 use Rattle.segment_layout.specs.Shapes.{IsShape}
 use Rattle.segment_layout.proofs.LayoutLaws.{taken_nothing}
 use Rattle.table_rules.specs.Tables.{HasFullRows, PlacedTable, boundary_of_kind, table_boundary}
-use Rattle.table_rules.specs.Rules.{AllHold, IsValid, KeepsPlaces, KindFits, kind_fits, last_of, number_of}
+use Rattle.table_rules.specs.Rules.{IsValid, KeepsPlaces, KindFits, kind_fits, last_of}
 use Rattle.table_rules.proofs.TableLaws.{zero_cell}
 use Rattle.table_rules.proofs.FirstLaws.{keeps_valid}
 use Rattle.table_check.specs.declared.frame.Frame.{Frame}

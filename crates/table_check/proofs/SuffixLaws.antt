@@ -1,6 +1,6 @@
 -- The least record of an order at which something doesn't hold, and the records of the suffix below the wall
 -- in the order of their places.
-use Rattle.std.specs.Prelude.{◌≡◌, ◌≢◌, ◌⊎◌, ℕ, zero, suc, ◌+◌, ◌-◌, ◌*◌, ◌^◌, ◌<◌, ◌≤◌, nat_lt, nat_le, ◌&&◌, Bool, true, false, cond, min, List, [], ◌∷◌, length, filter, take, drop, sum_by, slice_index, slice_index_or, IsTrue, refl}
+use Rattle.std.specs.Prelude.{◌≡◌, ◌⊎◌, ℕ, suc, ◌+◌, ◌*◌, ◌^◌, ◌<◌, ◌≤◌, nat_lt, nat_le, ◌&&◌, Bool, true, false, cond, min, List, [], ◌∷◌, length, take, drop, sum_by, slice_index, slice_index_or, IsTrue, refl}
 use Rattle.std.proofs.Common.{arith, ap, sym, ◌∙◌, inl, inr, subst}
 use Rattle.std.proofs.lemmas.Bool.{and_parts, cases_Bool, cases_eq, cases_lt, cond-true, cond-false, false≢true, le-ltb, lt-ltb, ltb-true}
 use Rattle.std.proofs.lemmas.List.{drop_all, get_or-drop, get_or-take, length-drop, length-take-le}
@@ -12,7 +12,7 @@ use Rattle.slot_codec.specs.declared.codec.Kind.TheVariants.{Moving}
 use Rattle.slot_codec.specs.declared.codec.Record.{Record}
 use Rattle.segment_layout.proofs.BookLaws.{sum_by-filter, sum_by_none}
 use Rattle.segment_layout.proofs.SumLaws.{sum_by_same_places}
-use Rattle.table_rules.specs.Tables.{Apart, PlacedTable, end_of_record, is_below_wall, is_suffix, nth, no_record, packed_end, size_sum, sizes_above, table_boundary}
+use Rattle.table_rules.specs.Tables.{Apart, PlacedTable, end_of_record, is_below_wall, is_suffix, no_record, packed_end, sizes_above, table_boundary}
 use Rattle.table_rules.specs.Rules.{AllHold, apart_from_earlier, moving_places, places_to_resume}
 use Rattle.extent_table.specs.Extents.{Extents, records_of}
 use Rattle.table_check.specs.declared.frame.Frame.{Frame}

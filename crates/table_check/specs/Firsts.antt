@@ -1,5 +1,5 @@
 -- The first rule that is broken, rule by rule.
-use Rattle.std.specs.Prelude.{◌≡◌, ℕ, ◌<◌, ◌≤◌}
+use Rattle.std.specs.Prelude.{ℕ, ◌<◌, ◌≤◌}
 use Rattle.table_rules.specs.Tables.{PlacedTable}
 use Rattle.table_rules.specs.Rules.{Rule, RuleAt, AllHold, number_of, places_of}
 

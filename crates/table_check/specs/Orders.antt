@@ -1,5 +1,5 @@
 -- Ranks in the order of their records' places.
-use Rattle.std.specs.Prelude.{◌≡◌, ℕ, ◌<◌, nat_lt, Bool, List, filter, IsPermutation}
+use Rattle.std.specs.Prelude.{ℕ, nat_lt, Bool, List, filter, IsPermutation}
 use Rattle.std.specs.List.Sorted.{IsNonDecreasingBy}
 use Rattle.byte_ranges.specs.Lists.{below}
 use Rattle.extent_table.specs.Extents.{Extents}

@@ -2,7 +2,7 @@
 use Rattle.std.specs.Prelude.{ℕ, List, slice_index_or}
 use Rattle.slot_codec.specs.declared.codec.Record.{Record}
 use Rattle.table_rules.specs.Tables.{PlacedTable, no_record}
-use Rattle.extent_table.specs.Extents.{Extents, Spots, records_of}
+use Rattle.extent_table.specs.Extents.{Extents, records_of}
 use Rattle.table_check.specs.declared.frame.Frame.{Frame}
 
 -- records under these numbers

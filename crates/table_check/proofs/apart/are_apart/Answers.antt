@@ -1,4 +1,4 @@
-use Rattle.std.proofs.Common.{sym, subst, ◌≡◌, List, ℕ}
+use Rattle.std.proofs.Common.{sym, subst, ◌≡◌}
 use Rattle.table_check.proofs.OverlapLaws.{NeighboursApart, apart_from_near, near_from_apart}
 use Rattle.table_check.proofs.apart.are_apart.Goals as goal
 

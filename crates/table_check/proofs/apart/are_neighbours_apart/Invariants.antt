@@ -1,4 +1,4 @@
-use Rattle.std.proofs.Common.{◌≡◌, ◌≤◌, ◌<◌, ◌+◌, ◌-◌, ◌^◌, ℕ, length}
+use Rattle.std.proofs.Common.{◌≡◌, ◌≤◌, ◌<◌, ◌+◌, ◌-◌, ℕ}
 use Rattle.std.specs.Prelude.{slice_index}
 use Rattle.table_rules.specs.Tables.{end_of_record}
 use Rattle.table_check.specs.Placed.{ranked}

@@ -1,6 +1,5 @@
-use Rattle.std.proofs.Common.{arith, subst, sym, ◌∙◌, ◌≡◌, ◌<◌, ◌+◌, ◌*◌, ◌^◌, ◌-◌, ℕ, ◌≤◌, take}
+use Rattle.std.proofs.Common.{arith, subst, sym, ◌<◌, ◌+◌, take}
 use Rattle.extent_table.specs.Extents.{records_of}
-use Rattle.size_class.specs.Classes.{cell, width}
 use Rattle.table_check.specs.Live.{IsLive}
 use Rattle.table_check.specs.Placed.{placed, ranked}
 use Rattle.table_check.proofs.LiveLaws.{buffers_small, live_empty, live_more, live_none, payload_small, same_buffer, same_payload}

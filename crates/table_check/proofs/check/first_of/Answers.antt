@@ -1,5 +1,4 @@
-use Rattle.std.proofs.Common.{arith, ap, ◌≡◌, ◌<◌, ◌≤◌, ℕ}
-use Rattle.table_rules.specs.Tables.{table_boundary}
+use Rattle.std.proofs.Common.{arith, ap, ◌≡◌}
 use Rattle.table_rules.specs.Rules.{apart_from_earlier, number_of}
 use Rattle.table_check.specs.PlaceRules as places
 use Rattle.table_check.specs.Placed.{placed}

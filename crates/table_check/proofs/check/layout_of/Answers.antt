@@ -1,5 +1,4 @@
-use Rattle.std.proofs.Common.{lit<, subst, sym}
-use Rattle.size_class.specs.Rows.{cells_of, rows_of}
+use Rattle.std.proofs.Common.{lit<, subst}
 use Rattle.segment_layout.specs.Shapes.{IsShape}
 use Rattle.extent_table.specs.Extents.{records_of}
 use Rattle.table_check.proofs.RuleLaws.{shape_of_frame}

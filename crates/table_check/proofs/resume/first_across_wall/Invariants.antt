@@ -1,7 +1,6 @@
 use Rattle.std.proofs.Common.{◌<◌, ℕ}
 use Rattle.table_check.specs.Placed.{placed}
 use Rattle.table_check.specs.Suffixes.{StandsBesideWall}
-use Rattle.table_check.proofs.SuffixLaws.{PassSoFar}
 use Rattle.table_check.proofs.resume.first_across_wall.Given as goal
 
 abbrev pub invariant-records : goal.invariant-records

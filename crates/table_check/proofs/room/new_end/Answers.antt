@@ -1,4 +1,4 @@
-use Rattle.std.proofs.Common.{arith, ap, ◌∙◌, ◌≡◌, ◌≤◌, ◌<◌, ◌+◌, ℕ}
+use Rattle.std.proofs.Common.{arith, ap, ◌∙◌, ◌≡◌, ◌≤◌, ◌+◌}
 use Rattle.std.specs.Prelude.{slice_index}
 use Rattle.segment_layout.specs.Shapes.{buffer_of}
 use Rattle.table_rules.specs.Tables.{live, table_boundary}

@@ -1,4 +1,4 @@
-use Rattle.std.proofs.Common.{arith, ap, sym, ◌∙◌}
+use Rattle.std.proofs.Common.{arith, ap}
 use Rattle.size_class.specs.Classes.{class_of}
 use Rattle.size_class.proofs.ClassLaws.{class_below}
 use Rattle.table_check.proofs.NumberLaws.{class_of-great, class_of-zero}

@@ -1,4 +1,3 @@
-use Rattle.std.proofs.Common.{arith}
 use Rattle.extent_table.proofs.SaveLaws.{records_in_range}
 use Rattle.table_check.proofs.spots.spot_at.Goals as goal
 
