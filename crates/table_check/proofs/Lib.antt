@@ -1,6 +1,8 @@
-pub mod NumberLaws
-pub mod RankLaws
-pub mod OverlapLaws
 pub mod LiveLaws
-pub mod SuffixLaws
+pub mod NumberLaws
+pub mod OverlapLaws
+pub mod PassLaws
+pub mod RankLaws
 pub mod RuleLaws
+pub mod SuffixLaws
+pub mod WallLaws

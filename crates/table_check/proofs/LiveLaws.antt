@@ -124,7 +124,12 @@ module _ (t : PlacedTable) (rs : List Record) (n : ℕ) (low : n < length rs) (p
   live_more more after long full in_row in_rows = record {
     long = long;
     full = full;
-    settled = λ c wide. omega (arith, in_row c wide, live.settled c wide, size_sum_more (in_payload t c) rs n low);
+    settled = λ c wide. omega (
+      arith,
+      in_row c wide,
+      live.settled c wide,
+      size_sum_more (in_payload t c) rs n low,
+    );
     buffered = λ j c wide high. omega (
       arith,
       in_rows j c wide high,
@@ -145,8 +150,8 @@ module _ (f : Frame) (rs : List Record) (s : Spot) (r : Record) (place : s.place
     (size : s.size ≡ r.size) where
   pub same_payload : (c : ℕ) → cond (in_payload (framed f []) c (at_spot s)) s.size 0
       ≡ cond (in_payload (framed f rs) c r) r.size 0
-  same_payload c = λ i. cond (in_payload (framed f []) c (at_spot (record { place = place i; size = size i })))
-      (size i) 0
+  same_payload c = λ i. cond (in_payload (framed f []) c
+      (at_spot (record { place = place i; size = size i }))) (size i) 0
 
   pub same_buffer : (j c : ℕ) → cond (in_buffer (framed f []) j c (at_spot s)) s.size 0
       ≡ cond (in_buffer (framed f rs) j c r) r.size 0

@@ -80,7 +80,8 @@ module _ (h : Header) (ranges : IsTrue (all_in_range h)) where
   parts =
       let last = and_parts (is_in_range h.wall && is_in_range h.slack && list_all is_in_range h.caps)
       (list_all (list_all is_in_range) h.used) ranges in
-      let middle = and_parts (is_in_range h.wall && is_in_range h.slack) (list_all is_in_range h.caps) last.0 in
+      let middle = and_parts (is_in_range h.wall && is_in_range h.slack) (list_all is_in_range h.caps)
+      last.0 in
       let first = and_parts (is_in_range h.wall) (is_in_range h.slack) middle.0 in
       (first.0, first.1, middle.1, last.1)
 

@@ -41,7 +41,8 @@ module _ (e : Extents) (n : ℕ) (order : List ℕ) (by : IsByPlace e (has_bytes
                     (subst (λ y. end_of_record (ranked e (slice_index order a.0)) ≤ (ranked e y).place) b.2
                     (far near a.0 b.0 before b.1)))))
                 | inr behind ↦ elim (cases_lt b.0 a.0) [
-                  | inl after ↦ inr (inr (inr (subst (λ x. end_of_record (ranked e i) ≤ (ranked e x).place) a.2
+                  | inl after ↦ inr (inr (inr (subst
+                      (λ x. end_of_record (ranked e i) ≤ (ranked e x).place) a.2
                       (subst (λ y. end_of_record (ranked e y) ≤ (ranked e (slice_index order a.0)).place) b.2
                       (far near b.0 a.0 after a.1)))))
                   | inr same ↦ let one : a.0 ≡ b.0 = omega (arith, behind, same) in
@@ -52,7 +53,8 @@ module _ (e : Extents) (n : ℕ) (order : List ℕ) (by : IsByPlace e (has_bytes
       ]
 
   -- two records that share no byte, the first of which begins no later
-  in_turn : (r s : ℕ) → 0 < (ranked e r).size → 0 < (ranked e s).size → (ranked e r).place ≤ (ranked e s).place
+  in_turn : (r s : ℕ) → 0 < (ranked e r).size → 0 < (ranked e s).size
+      → (ranked e r).place ≤ (ranked e s).place
       → Apart (ranked e r) (ranked e s) ⊎ Apart (ranked e s) (ranked e r)
       → end_of_record (ranked e r) ≤ (ranked e s).place
   in_turn r s some more order (inl apart) = omega (arith, some, more, order, apart)

@@ -116,7 +116,8 @@ module _ (p : ℕ → Bool) where
   -- ---- in any order
 
   module _ (n : ℕ) (order : List ℕ) (same : IsPermutation (passing p n) order) where
-    pub each_passes : (q : ℕ) → q < length order → (slice_index order q < n) × (p (slice_index order q) ≡ true)
+    pub each_passes : (q : ℕ) → q < length order
+        → (slice_index order q < n) × (p (slice_index order q) ≡ true)
     unfolding below from
     each_passes q h = All-permutation (λ i. (i < n) × (p i ≡ true)) (passing p n) order same
         (λ k d low.

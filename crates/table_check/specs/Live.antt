@@ -21,10 +21,10 @@ abbrev pub IsFull : List (List ℕ) → Type 0
 IsFull grid = (length grid ≡ width) × ((j : ℕ) → j < width → length (row grid j) ≡ width)
 
 -- The live bytes of these records.
-pub record IsLive (t : PlacedTable) (records : List Record) (payload : List ℕ) (buffers : List (List ℕ)) : Type 0
-  where
-    pub long : length payload ≡ width
-    pub full : IsFull buffers
-    pub settled : (c : ℕ) → c < width → slice_index payload c ≡ size_sum (filter (in_payload t c) records)
-    pub buffered : (j c : ℕ) → j < width → c < width
-        → cell buffers j c ≡ size_sum (filter (in_buffer t j c) records)
+pub record IsLive (t : PlacedTable) (records : List Record) (payload : List ℕ) (buffers : List (List ℕ))
+    : Type 0 where
+  pub long : length payload ≡ width
+  pub full : IsFull buffers
+  pub settled : (c : ℕ) → c < width → slice_index payload c ≡ size_sum (filter (in_payload t c) records)
+  pub buffered : (j c : ℕ) → j < width → c < width
+      → cell buffers j c ≡ size_sum (filter (in_buffer t j c) records)

@@ -133,8 +133,8 @@ fn nothing_above(table: &Table, frame: &Frame, c: u8) -> bool
 /// Whether a buffer has no entry of a greater class, nor from the boundary on of any.
 fn has_no_entry_above(table: &Table, frame: &Frame, j: u8) -> bool
     requires class { j < 32 }
-    ensures { IsTrue result ↔ ((d : ℕ) → d < width → (table_boundary (placed table.now frame.now) ≤ j) ⊎ (j < d)
-        → cell frame.now.header.used j d ≡ 0) }
+    ensures { IsTrue result ↔ ((d : ℕ) → d < width
+        → (table_boundary (placed table.now frame.now) ≤ j) ⊎ (j < d) → cell frame.now.header.used j d ≡ 0) }
 {
     'classes: for d in 0..32u8 {
         if (frame.boundary() <= j || j < d) && frame.entry(j, d) != 0 {

@@ -46,7 +46,8 @@ records-preserved c =
     elim c.if-s-gt0.branch [
       | then-s-gt0 w ↦
           subst (λ after. IsLive (placed e f) (take (n + 1) rs) after.payload after.buffers) (sym w.live-is)
-          (live_more (placed e f) rs n (omega (arith, c.count-rank-end.ensures.value)) live.payload live.buffers
+          (live_more (placed e f) rs n (omega (arith, c.count-rank-end.ensures.value)) live.payload
+          live.buffers
           c.records.invariant w.add_to_payload.new.payload w.add_to_buffers.new.buffers
           w.add_to_payload.ensures.long w.add_to_buffers.ensures.full
           (λ d wide. omega (
@@ -61,6 +62,7 @@ records-preserved c =
           )))
       | else-s-gt0 w ↦
           subst (λ after. IsLive (placed e f) (take (n + 1) rs) after.payload after.buffers) (sym w.live-is)
-          (live_empty (placed e f) rs n (omega (arith, c.count-rank-end.ensures.value)) live.payload live.buffers
+          (live_empty (placed e f) rs n (omega (arith, c.count-rank-end.ensures.value)) live.payload
+          live.buffers
           c.records.invariant (omega (arith, w.if-s-gt0.false, c.spot_at-s.ensures.size)))
     ]

@@ -11,7 +11,8 @@ first_place-requires c = record {
   boundary = λ late.
       let f = c.args.frame.now in
       let n = number_of (named c.args.rule) in
-      let is : n ≡ number_of (places.named c.in-AtPlaces.rule) = ap (λ r. number_of (named r)) c.in-AtPlaces.is in
+      let is : n ≡ number_of (places.named c.in-AtPlaces.rule) =
+      ap (λ r. number_of (named r)) c.in-AtPlaces.is in
       omega (
         arith,
         boundary_bounded (placed c.args.table.now f) n (omega (arith, is, late)) c.requires.lower,

@@ -8,7 +8,7 @@ use Rattle.table_check.proofs.order.list_below_wall.Goals.{then-is_below_wall, e
 
 pub ranks-init : goal.ranks-init
 ranks-init c = record {
-  listed = c.clear.ensures.items ∙ sym (passing_none (λ i. is_below_wall (placed c.args.table.now c.args.frame.now) (ranked c.args.table.now i)));
+  listed = c.clear.ensures.items ∙ sym (passing_none _);
   few = omega arith;
   capacity = refl;
 }
@@ -23,7 +23,12 @@ ranks-preserved c =
           record {
             listed = ap (λ v. v.items) w.order-is ∙ w.push_reserved.ensures.items
                 ∙ ap (λ xs. xs ++ n ∷ []) c.ranks.invariant.listed ∙ sym (passing_yes p n is);
-            few = omega (arith, ap (λ v. vec_len v) w.order-is, w.push_reserved.ensures.len, c.ranks.invariant.few);
+            few = omega (
+              arith,
+              ap (λ v. vec_len v) w.order-is,
+              w.push_reserved.ensures.len,
+              c.ranks.invariant.few,
+            );
             capacity = ap (λ v. v.cap) w.order-is ∙ w.push_reserved.ensures.capacity
                 ∙ c.ranks.invariant.capacity;
           }

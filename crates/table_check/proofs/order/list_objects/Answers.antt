@@ -25,7 +25,12 @@ ranks-preserved c =
           record {
             listed = ap (λ v. v.items) w.order-is ∙ w.push_reserved.ensures.items
                 ∙ ap (λ xs. xs ++ n ∷ []) c.ranks.invariant.listed ∙ sym (passing_yes (has_bytes e) n is);
-            few = omega (arith, ap (λ v. vec_len v) w.order-is, w.push_reserved.ensures.len, c.ranks.invariant.few);
+            few = omega (
+              arith,
+              ap (λ v. vec_len v) w.order-is,
+              w.push_reserved.ensures.len,
+              c.ranks.invariant.few,
+            );
             capacity = ap (λ v. v.cap) w.order-is ∙ w.push_reserved.ensures.capacity
                 ∙ c.ranks.invariant.capacity;
           }

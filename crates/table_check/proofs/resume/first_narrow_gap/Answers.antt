@@ -30,7 +30,8 @@ records-preserved c =
     ∙ ap (λ i. (ranked e i).place) c.from-rank.ensures in
     let size : c.spot_at-s.result.size ≡ r.size = c.spot_at-s.ensures.size
     ∙ ap (λ i. (ranked e i).size) c.from-rank.ensures in
-    let end : c.spot_at-s.result.place + c.spot_at-s.result.size ≡ end_of_record r = omega (arith, place, size) in
+    let end : c.spot_at-s.result.place + c.spot_at-s.result.size ≡ end_of_record r =
+    omega (arith, place, size) in
     let small : r.size < 281474976710656 = omega (arith, size, c.spot_at-s.ensures.small) in
     let more : bytes + c.from-above.result ≡ bytes + r.size = omega (arith, size, c.from-above.ensures) in
     elim c.if-not-is_gap_wide.branch [

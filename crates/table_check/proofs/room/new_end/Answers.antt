@@ -11,7 +11,8 @@ classes-preserved c =
     let t = placed c.args.table.now c.args.frame.now in
     let d = c.classes.c in
     let from : table_boundary t ≤ d = omega (arith, c.boundary-c.ensures, c.classes.auto) in
-    let here : slice_index c.volumes_of-volumes.result d ≡ live t d = c.volumes_of-volumes.ensures d c.classes-test.true in
+    let here : slice_index c.volumes_of-volumes.result d ≡ live t d =
+    c.volumes_of-volumes.ensures d c.classes-test.true in
     let first : c.from.result ≡ live t d = c.from.ensures ∙ here in
     let second : c.from-in-classes.result ≡ buffer_of t.k (live t d) =
     c.from-in-classes.ensures ∙ ap (buffer_of t.k) here in

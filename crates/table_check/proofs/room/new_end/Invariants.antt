@@ -10,6 +10,7 @@ abbrev pub invariant-classes : goal.invariant-classes
 invariant-classes l = record {
   so_far : l.end ≡ start_of l.frame.k l.frame.header.caps (table_boundary (placed l.table l.frame))
       + sum_by (λ c. live (placed l.table l.frame) c + buffer_of l.frame.k (live (placed l.table l.frame) c))
-      (counting_from (table_boundary (placed l.table l.frame)) (l.c - table_boundary (placed l.table l.frame)));
+      (counting_from (table_boundary (placed l.table l.frame))
+      (l.c - table_boundary (placed l.table l.frame)));
   small : l.end ≤ 2 ^ 54 + l.c * 2 ^ 65;
 }
