@@ -1,0 +1,116 @@
+//! Worked stores that are worn, or whose disk fails.
+use crate::requests::{Ask, QUIET, Reply, Row, try_rows};
+use crate::trials::{Trial, store_on};
+use crate::worked::{HUNDRED, at_one};
+use disk_fuse::Fuse;
+use disk_mem::MemDisk;
+use std::alloc::Global;
+use std::process::Abort;
+use std::test::Fail;
+use store_core::{Refusal, Stat};
+
+macro_rules! rows {
+    ($($ask:expr => $reply:expr, $puts:expr, $calls:literal;)*) => {
+        [$(Row { ask: $ask, reply: $reply, puts: $puts, calls: $calls }),*]
+    };
+}
+
+macro_rules! no {
+    ($refusal:ident) => {
+        Reply::Refused(Refusal::$refusal)
+    };
+}
+
+/// One name of 100 bytes, now and at the checkpoint.
+const ONE: Reply = Reply::Stat(Stat {
+    names: 1,
+    bytes: 100,
+    kept_names: 1,
+    kept_bytes: 100,
+});
+
+/// The store whose last sequence is this one, by eight bytes of the header in slot 1.
+fn at_sequence(alloc: Global, sequence: u64) -> Result<Trial<MemDisk>, Fail> {
+    let mut trial = at_one(alloc, MemDisk::new(alloc))?;
+    let mut bytes = trial.file(alloc)?;
+    if bytes.len() < 9_849 {
+        return Err("a file")?;
+    }
+    bytes[9_841..9_849].copy_from_slice(&sequence.to_le_bytes());
+    store_on(alloc, MemDisk::from_bytes(alloc, &bytes)?)
+}
+
+#[test]
+fn refuses_changes_of_a_worn_file(rt: HostRuntime) -> Result<(), Fail> {
+    let mut trial = at_sequence(rt.alloc(), 1 << 61)?;
+    let rows = rows! {
+        Ask::Put("b", b"x") => no!(Worn), b"", 0;
+        Ask::Put("a", b"") => no!(Worn), b"", 0;
+        Ask::Del("a") => no!(Worn), b"", 0;
+        Ask::Del("q") => no!(Missing), b"", 0;
+        Ask::Put("a b", b"") => no!(BadName), b"", 0;
+        Ask::PutZeros("b", 1_048_577) => no!(TooLong), b"", 0;
+        Ask::Get("a") => Reply::Number(100), HUNDRED, 0;
+        Ask::Back => Reply::Nothing, b"", 0;
+        Ask::Stat => ONE, b"", 0;
+    };
+    try_rows(&rt, rt.alloc(), &mut trial, &rows)?;
+    assert_eq!(rt; trial.store().gauge().sequence, 1 << 61);
+    let mut trial = at_sequence(rt.alloc(), (1 << 61) - 1)?;
+    let rows = rows! {
+        Ask::Put("b", b"x") => QUIET, b"", 1;
+        Ask::Del("b") => QUIET, b"", 0;
+        Ask::Del("a") => no!(NeedsFlush), b"", 0;
+    };
+    try_rows(&rt, rt.alloc(), &mut trial, &rows)
+}
+
+/// A store whose disk failed at a put: it answers Broken to all, and makes no more calls.
+fn try_broken(
+    rt: &impl Abort,
+    alloc: Global,
+    trial: &mut Trial<Fuse<MemDisk>>,
+) -> Result<(), Fail> {
+    let rows = rows! {
+        Ask::Put("b", b"x") => no!(Disk), b"", 1;
+        Ask::Put("b", b"x") => no!(Broken), b"", 0;
+        Ask::Put("a b", b"") => no!(Broken), b"", 0;
+        Ask::Del("a") => no!(Broken), b"", 0;
+        Ask::Get("a") => no!(Broken), b"", 0;
+        Ask::Old("a") => no!(Broken), b"", 0;
+        Ask::Size("a") => no!(Broken), b"", 0;
+        Ask::OldSize("a") => no!(Broken), b"", 0;
+        Ask::List => no!(Broken), b"", 0;
+        Ask::Stat => no!(Broken), b"", 0;
+        Ask::Back => no!(Broken), b"", 0;
+    };
+    try_rows(rt, alloc, trial, &rows)
+}
+
+#[test]
+fn is_broken_by_a_failed_write_alone(rt: HostRuntime) -> Result<(), Fail> {
+    // The first of the other calls fails too: the read of an object, which breaks nothing.
+    let trial = at_one(rt.alloc(), MemDisk::new(rt.alloc()))?;
+    let (changes, reads) = (vec![in rt.alloc(); 1]?, vec![in rt.alloc(); 1]?);
+    let mut trial = trial.failing(changes, reads);
+    let rows = rows! {
+        Ask::Get("a") => no!(Disk), b"", 0;
+        Ask::Get("a") => Reply::Number(100), HUNDRED, 0;
+        Ask::Put("z", b"") => QUIET, b"", 0;
+        Ask::Back => Reply::Nothing, b"", 0;
+    };
+    try_rows(&rt, rt.alloc(), &mut trial, &rows)?;
+    assert!(rt; !trial.store().is_broken());
+    try_broken(&rt, rt.alloc(), &mut trial)?;
+    assert!(rt; trial.store().is_broken());
+    assert_eq!(rt; trial.store().gauge().length, 111);
+    assert_eq!(rt; trial.store().gauge().sequence, 2);
+    // Opening the file again leads on.
+    let mut trial = store_on(rt.alloc(), trial.into_disk())?;
+    let rows = rows! {
+        Ask::Stat => ONE, b"", 0;
+        Ask::Get("a") => Reply::Number(100), HUNDRED, 0;
+        Ask::Put("b", b"x") => QUIET, b"", 1;
+    };
+    try_rows(&rt, rt.alloc(), &mut trial, &rows)
+}
