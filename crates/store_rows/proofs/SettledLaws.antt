@@ -133,7 +133,7 @@ pub set_next : (spots after : Spots) (last : Option (List ℕ)) (rs : List Recor
 set_next spots after last rs n r name so_far low is named same up inserted =
     let next = set_more spots last (take n rs) r so_far (subst IsName same named) up in
     let more : take n rs ++ r ∷ [] ≡ take (n + 1) rs =
-        ap (λ (x : Record). take n rs ++ x ∷ []) is ∙ sym (take_more rs n r low) in
+    ap (λ (x : Record). take n rs ++ x ∷ []) is ∙ sym (take_more rs n r low) in
     subst (λ x. SetSoFar x (Some name) (take (n + 1) rs)) (sym inserted)
     (subst (λ x. SetSoFar (fin.insert spots r.name (spot_of r)) (Some x) (take (n + 1) rs)) (sym same)
     (subst (λ x. SetSoFar (fin.insert spots r.name (spot_of r)) (Some r.name) x) more next))
@@ -169,18 +169,18 @@ over_opened o s file is slot read same valid =
     let caps = o.table.header.caps in
     let grid = o.table.header.used in
     let settled : numbered 0 0 t ≡ settled_table t.classes t.size_max t.k caps grid s.now =
-        settled_is t s.now valid is.settled is.same_end is.same_records in
+    settled_is t s.now valid is.settled is.same_end is.same_records in
     let few : t.classes ≡ classes = ap (λ (x : PlacedTable). x.classes) same in
     let most : t.size_max ≡ SIZE_MAX = ap (λ (x : PlacedTable). x.size_max) same in
     let divisor : t.k ≡ k = ap (λ (x : PlacedTable). x.k) same in
     let table : settled_table t.classes t.size_max t.k caps grid s.now
-        ≡ settled_table classes SIZE_MAX k caps grid s.now =
-        λ i. settled_table (few i) (most i) (divisor i) caps grid s.now in
+    ≡ settled_table classes SIZE_MAX k caps grid s.now =
+    λ i. settled_table (few i) (most i) (divisor i) caps grid s.now in
     let in_use : s.in_use ≡ in_use_of o.found = ap (λ (x : Kept). x.in_use) is.same_store in
     let kept : s.kept ≡ s.now = ap (λ (x : Kept). x.kept) is.same_store in
     let book : s.book ≡ book_at classes SIZE_MAX k caps grid s.now = ap (λ (x : Kept). x.book) is.same_store in
     let kept_book : s.kept_book ≡ book_at classes SIZE_MAX k caps grid s.now =
-        ap (λ (x : Kept). x.kept_book) is.same_store in
+    ap (λ (x : Kept). x.kept_book) is.same_store in
     let laid : IsLaidOut classes SIZE_MAX k caps grid s.now = record {
       few = omega arith;
       top = lit< tt;
@@ -190,7 +190,7 @@ over_opened o s file is slot read same valid =
       valid = subst IsValid (settled ∙ table) (valid_numbered 0 0 t valid);
     } in
     let shown : s.book ≡ shown_book classes SIZE_MAX k caps grid s.now =
-        book ∙ book_shown classes SIZE_MAX k caps grid s.now laid in
+    book ∙ book_shown classes SIZE_MAX k caps grid s.now laid in
     let opens : OpensBy classes SIZE_MAX (table_seen o) file (kept_map s file) s.kept_book = record {
       read = read;
       valid = subst IsValid same valid;
@@ -199,9 +199,9 @@ over_opened o s file is slot read same valid =
     } in
     let same_divisor : end_of t.k caps ≡ end_of k caps = ap (λ x. end_of x caps) divisor in
     let same_end : end_of s.in_use.block.k s.book.caps ≡ end_of k caps =
-        λ i. end_of (in_use i).block.k (shown i).caps in
+    λ i. end_of (in_use i).block.k (shown i).caps in
     let same_base : head_len s.in_use.block.names ≡ head_len o.found.block.names =
-        ap (λ (u : choice.InUse). head_len u.block.names) in_use in
+    ap (λ (u : choice.InUse). head_len u.block.names) in_use in
     record {
       table = table_seen o;
       checkpoint = record {

@@ -125,7 +125,11 @@ pub fn opens_to(alloc: Global, file: &[u8], checkpoint: &Checkpoint) -> Result<b
         return Ok(false);
     };
     let same_header = opened.table.header == checkpoint.header;
-    Ok(opened.found.block == BLOCK && same_header && has_objects(&opened.table, file, checkpoint.objects))
+    Ok(
+        opened.found.block == BLOCK
+            && same_header
+            && has_objects(&opened.table, file, checkpoint.objects),
+    )
 }
 
 /// Whether a table has these objects and no others, and a file their bytes.

@@ -1,25 +1,13 @@
 //! Worked stores that are worn, or whose disk fails.
-use crate::requests::{Ask, QUIET, Reply, Row, try_rows};
+use crate::requests::{Ask, Looks, QUIET, Reply, Row, refused, rows, try_looks, try_rows};
 use crate::trials::{Trial, store_on};
-use crate::worked::{HUNDRED, at_one};
+use crate::worked::{HUNDRED, UNCHANGED, at_one};
 use disk_fuse::Fuse;
 use disk_mem::MemDisk;
 use std::alloc::Global;
 use std::process::Abort;
 use std::test::Fail;
-use store_core::{Refusal, Stat};
-
-macro_rules! rows {
-    ($($ask:expr => $reply:expr, $puts:expr, $calls:literal;)*) => {
-        [$(Row { ask: $ask, reply: $reply, puts: $puts, calls: $calls }),*]
-    };
-}
-
-macro_rules! no {
-    ($refusal:ident) => {
-        Reply::Refused(Refusal::$refusal)
-    };
-}
+use store_core::{Gauge, Refusal, Stat};
 
 /// One name of 100 bytes, now and at the checkpoint.
 const ONE: Reply = Reply::Stat(Stat {
@@ -44,23 +32,32 @@ fn at_sequence(alloc: Global, sequence: u64) -> Result<Trial<MemDisk>, Fail> {
 fn refuses_changes_of_a_worn_file(rt: HostRuntime) -> Result<(), Fail> {
     let mut trial = at_sequence(rt.alloc(), 1 << 61)?;
     let rows = rows! {
-        Ask::Put("b", b"x") => no!(Worn), b"", 0;
-        Ask::Put("a", b"") => no!(Worn), b"", 0;
-        Ask::Del("a") => no!(Worn), b"", 0;
-        Ask::Del("q") => no!(Missing), b"", 0;
-        Ask::Put("a b", b"") => no!(BadName), b"", 0;
-        Ask::PutZeros("b", 1_048_577) => no!(TooLong), b"", 0;
+        Ask::Put("b", b"x") => refused!(Worn), b"", 0;
+        Ask::Put("a", b"") => refused!(Worn), b"", 0;
+        Ask::Del("a") => refused!(Worn), b"", 0;
+        Ask::Del("q") => refused!(Missing), b"", 0;
+        Ask::Put("a b", b"") => refused!(BadName), b"", 0;
+        Ask::PutZeros("b", 1_048_577) => refused!(TooLong), b"", 0;
         Ask::Get("a") => Reply::Number(100), HUNDRED, 0;
         Ask::Back => Reply::Nothing, b"", 0;
         Ask::Stat => ONE, b"", 0;
     };
     try_rows(&rt, rt.alloc(), &mut trial, &rows)?;
-    assert_eq!(rt; trial.store().gauge().sequence, 1 << 61);
+    let gauge = Gauge {
+        length: 111,
+        sequence: 1 << 61,
+    };
+    let worn = Looks {
+        turns: 0,
+        gauge,
+        ..UNCHANGED
+    };
+    try_looks(&rt, &trial, &worn)?;
     let mut trial = at_sequence(rt.alloc(), (1 << 61) - 1)?;
     let rows = rows! {
         Ask::Put("b", b"x") => QUIET, b"", 1;
         Ask::Del("b") => QUIET, b"", 0;
-        Ask::Del("a") => no!(NeedsFlush), b"", 0;
+        Ask::Del("a") => refused!(NeedsFlush), b"", 0;
     };
     try_rows(&rt, rt.alloc(), &mut trial, &rows)
 }
@@ -72,17 +69,17 @@ fn try_broken(
     trial: &mut Trial<Fuse<MemDisk>>,
 ) -> Result<(), Fail> {
     let rows = rows! {
-        Ask::Put("b", b"x") => no!(Disk), b"", 1;
-        Ask::Put("b", b"x") => no!(Broken), b"", 0;
-        Ask::Put("a b", b"") => no!(Broken), b"", 0;
-        Ask::Del("a") => no!(Broken), b"", 0;
-        Ask::Get("a") => no!(Broken), b"", 0;
-        Ask::Old("a") => no!(Broken), b"", 0;
-        Ask::Size("a") => no!(Broken), b"", 0;
-        Ask::OldSize("a") => no!(Broken), b"", 0;
-        Ask::List => no!(Broken), b"", 0;
-        Ask::Stat => no!(Broken), b"", 0;
-        Ask::Back => no!(Broken), b"", 0;
+        Ask::Put("b", b"x") => refused!(Disk), b"", 1;
+        Ask::Put("b", b"x") => refused!(Broken), b"", 0;
+        Ask::Put("a b", b"") => refused!(Broken), b"", 0;
+        Ask::Del("a") => refused!(Broken), b"", 0;
+        Ask::Get("a") => refused!(Broken), b"", 0;
+        Ask::Old("a") => refused!(Broken), b"", 0;
+        Ask::Size("a") => refused!(Broken), b"", 0;
+        Ask::OldSize("a") => refused!(Broken), b"", 0;
+        Ask::List => refused!(Broken), b"", 0;
+        Ask::Stat => refused!(Broken), b"", 0;
+        Ask::Back => refused!(Broken), b"", 0;
     };
     try_rows(rt, alloc, trial, &rows)
 }
@@ -94,17 +91,20 @@ fn is_broken_by_a_failed_write_alone(rt: HostRuntime) -> Result<(), Fail> {
     let (changes, reads) = (vec![in rt.alloc(); 1]?, vec![in rt.alloc(); 1]?);
     let mut trial = trial.failing(changes, reads);
     let rows = rows! {
-        Ask::Get("a") => no!(Disk), b"", 0;
+        Ask::Get("a") => refused!(Disk), b"", 0;
         Ask::Get("a") => Reply::Number(100), HUNDRED, 0;
         Ask::Put("z", b"") => QUIET, b"", 0;
         Ask::Back => Reply::Nothing, b"", 0;
     };
     try_rows(&rt, rt.alloc(), &mut trial, &rows)?;
-    assert!(rt; !trial.store().is_broken());
+    try_looks(&rt, &trial, &UNCHANGED)?;
     try_broken(&rt, rt.alloc(), &mut trial)?;
-    assert!(rt; trial.store().is_broken());
-    assert_eq!(rt; trial.store().gauge().length, 111);
-    assert_eq!(rt; trial.store().gauge().sequence, 2);
+    let broken = Looks {
+        turns: 20,
+        is_broken: true,
+        ..UNCHANGED
+    };
+    try_looks(&rt, &trial, &broken)?;
     // Opening the file again leads on.
     let mut trial = store_on(rt.alloc(), trial.into_disk())?;
     let rows = rows! {

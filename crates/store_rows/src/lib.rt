@@ -10,9 +10,9 @@ mod moments;
 #[cfg(test)]
 mod openings;
 #[cfg(test)]
-mod requests;
+mod quiet;
 #[cfg(test)]
-mod rows;
+mod requests;
 #[cfg(test)]
 mod trials;
 #[cfg(test)]

@@ -1,6 +1,6 @@
 //! What a crash may leave at each moment of a quiet put: the last checkpoint alone.
-use crate::checkpoints::{BASE, Checkpoint, opens_to};
-use crate::requests::{Ask, QUIET, Reply, Row, try_rows};
+use crate::checkpoints::{Checkpoint, opens_to};
+use crate::requests::{Ask, QUIET, Reply, Row, refused, rows, try_rows};
 use crate::trials::Trial;
 use crate::worked::{ONE, TWO, at_one, at_two};
 use disk_mem::{Choice, MemDisk};
@@ -8,12 +8,6 @@ use std::alloc::Global;
 use std::process::Abort;
 use std::test::Fail;
 use store_core::Refusal;
-
-macro_rules! rows {
-    ($($ask:expr => $reply:expr, $puts:expr, $calls:literal;)*) => {
-        [$(Row { ask: $ask, reply: $reply, puts: $puts, calls: $calls }),*]
-    };
-}
 
 /// The images of a turn that are tried: what the last sync left, what reads gave, and the written bytes
 /// and those of the write that is next as other ones.
@@ -45,6 +39,19 @@ fn try_images(
     Ok(())
 }
 
+/// The bytes with which images of these turns end.
+fn try_ends(
+    rt: &impl Abort,
+    trial: &Trial<MemDisk>,
+    ends: &[(u64, Choice, &[u8])],
+) -> Result<(), Fail> {
+    for (turn, choice, end) in ends {
+        let image = trial.image(*turn, *choice)?;
+        assert!(rt; image.ends_with(end), "turn {turn}, {choice:?}");
+    }
+    Ok(())
+}
+
 #[test]
 fn leaves_the_checkpoint_alone(rt: HostRuntime) -> Result<(), Fail> {
     let mut trial = at_one(rt.alloc(), MemDisk::new(rt.alloc()))?;
@@ -54,15 +61,16 @@ fn leaves_the_checkpoint_alone(rt: HostRuntime) -> Result<(), Fail> {
         Ask::Del("b") => QUIET, b"", 0;
     };
     try_rows(&rt, rt.alloc(), &mut trial, &rows)?;
-    assert_eq!(rt; trial.turns(), 21);
     try_images(&rt, rt.alloc(), &trial, 19, &ONE)?;
     // Within the first put its 10 bytes may be any, and no others; after it they are what reads give.
-    let (part, whole) = (trial.image(19, Choice::Torn(0x5A))?, trial.image(20, Choice::Newest)?);
-    assert!(rt; part.ends_with(b"9ZZZZZZZZZZ\0"));
-    assert!(rt; whole.ends_with(b"9abcdefghij\0"));
-    assert!(rt; trial.image(21, Choice::Newest)?.ends_with(b"9abcdefghijk"));
-    assert!(rt; trial.image(21, Choice::Durable)?.ends_with(b"9\0\0\0\0\0\0\0\0\0\0\0"));
-    Ok(())
+    let ends: [(u64, Choice, &[u8]); 5] = [
+        (19, Choice::Torn(0x5A), b"9ZZZZZZZZZZ\0"),
+        (20, Choice::Newest, b"9abcdefghij\0"),
+        (20, Choice::Torn(0x5A), b"9ZZZZZZZZZZZ"),
+        (21, Choice::Newest, b"9abcdefghijk"),
+        (21, Choice::Durable, b"9\0\0\0\0\0\0\0\0\0\0\0"),
+    ];
+    try_ends(&rt, &trial, &ends)
 }
 
 #[test]
@@ -71,22 +79,21 @@ fn keeps_what_the_checkpoint_holds(rt: HostRuntime) -> Result<(), Fail> {
     let rows = rows! {
         Ask::Get("q") => Reply::Number(4), b"wxyz", 0;
         Ask::Del("q") => QUIET, b"", 0;
-        Ask::Get("q") => Reply::Refused(Refusal::Missing), b"", 0;
+        Ask::Get("q") => refused!(Missing), b"", 0;
         Ask::Old("q") => Reply::Number(4), b"wxyz", 0;
         // The bytes of `q` are held: 7 are left of the buffer.
-        Ask::Put("q", b"abcdefgh") => Reply::Refused(Refusal::NeedsFlush), b"", 0;
+        Ask::Put("q", b"abcdefgh") => refused!(NeedsFlush), b"", 0;
         Ask::Put("q", b"abcd") => QUIET, b"", 1;
         Ask::Put("r", b"efg") => QUIET, b"", 1;
-        Ask::Put("s", b"h") => Reply::Refused(Refusal::NeedsFlush), b"", 0;
+        Ask::Put("s", b"h") => refused!(NeedsFlush), b"", 0;
         Ask::Get("q") => Reply::Number(4), b"abcd", 0;
         Ask::Old("q") => Reply::Number(4), b"wxyz", 0;
         Ask::OldSize("q") => Reply::Number(4), b"", 0;
         Ask::List => Reply::Nothing, b"p 100\nq 4\nr 3\n", 0;
     };
     try_rows(&rt, rt.alloc(), &mut trial, &rows)?;
-    assert_eq!(rt; trial.turns(), 22);
     try_images(&rt, rt.alloc(), &trial, 20, &TWO)?;
-    assert!(rt; trial.image(22, Choice::Newest)?.ends_with(b"9wxyzabcdefg"));
+    try_ends(&rt, &trial, &[(22, Choice::Newest, b"9wxyzabcdefg")])?;
     let rows = rows! {
         Ask::Back => Reply::Nothing, b"", 0;
         Ask::Get("q") => Reply::Number(4), b"wxyz", 0;

@@ -5,7 +5,24 @@ use disk_mem::MemSink;
 use std::alloc::Global;
 use std::process::Abort;
 use std::test::Fail;
-use store_core::{Done, Refusal, Stat};
+use store_core::{Done, Gauge, Refusal, Stat};
+
+/// Requests, with their answers, the bytes that they put and their changing calls.
+macro_rules! rows {
+    ($($ask:expr => $reply:expr, $puts:expr, $calls:literal;)*) => {
+        [$(Row { ask: $ask, reply: $reply, puts: $puts, calls: $calls }),*]
+    };
+}
+
+/// An answer that is a refusal.
+macro_rules! refused {
+    ($refusal:ident) => {
+        Reply::Refused(Refusal::$refusal)
+    };
+}
+
+pub(crate) use refused;
+pub(crate) use rows;
 
 /// A request.
 #[derive(Clone, Copy, Debug)]
@@ -100,14 +117,59 @@ pub fn try_rows<D: Disk>(
     trial: &mut Trial<D>,
     rows: &[Row],
 ) -> Result<(), Fail> {
+    let mut sink = MemSink::with_room(alloc, 1 << 16, Vec::new(alloc))?;
+    try_rows_to(rt, alloc, trial, rows, &mut sink)
+}
+
+/// Makes each request in turn, with one sink for all.
+pub fn try_rows_to<D: Disk>(
+    rt: &impl Abort,
+    alloc: Global,
+    trial: &mut Trial<D>,
+    rows: &[Row],
+    sink: &mut MemSink,
+) -> Result<(), Fail> {
     for n in 0..rows.len() {
         let row = &rows[n];
-        let mut sink = MemSink::with_room(alloc, 4096, Vec::new(alloc))?;
-        let after = trial.turns().saturating_add(row.calls);
-        let reply = answer(alloc, trial, row.ask, &mut sink)?;
+        let (put, turns) = (sink.bytes().len(), trial.turns());
+        let reply = answer(alloc, trial, row.ask, sink)?;
         assert_eq!(rt; reply, row.reply, "row {n}: {:?}", row.ask);
-        assert_eq!(rt; sink.bytes(), row.puts, "row {n}: {:?}", row.ask);
+        assert_eq!(rt;
+            sink.bytes().get(put..),
+            Some(row.puts),
+            "row {n}: {:?}",
+            row.ask
+        );
+        let after = turns.saturating_add(row.calls);
         assert_eq!(rt; trial.turns(), after, "row {n}: {:?}", row.ask);
     }
+    Ok(())
+}
+
+/// What a store and its disk say of themselves, without a request.
+#[derive(Clone, Copy, Debug, PartialEq, Eq)]
+pub struct Looks {
+    /// How many changing calls of the disk have ended.
+    pub turns: u64,
+    pub gauge: Gauge,
+    pub is_broken: bool,
+    /// The bytes put and removed, by class, since the store was made.
+    pub asked: [u64; 32],
+    /// The bytes moved, by class.
+    pub moved: [u64; 32],
+}
+
+/// Looks at a store.
+pub fn try_looks<D: Disk>(rt: &impl Abort, trial: &Trial<D>, expected: &Looks) -> Result<(), Fail> {
+    let store = trial.store();
+    let ledger = store.ledger();
+    let looks = Looks {
+        turns: trial.turns(),
+        gauge: store.gauge(),
+        is_broken: store.is_broken(),
+        asked: ledger.asked.cells(),
+        moved: ledger.moved.cells(),
+    };
+    assert_eq!(rt; looks, *expected);
     Ok(())
 }

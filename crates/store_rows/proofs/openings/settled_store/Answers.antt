@@ -16,14 +16,30 @@ store_of-requires c =
     let layout = c.in_ok-layout.ensures in
     let divisor = c.requires.divisor in
     let valid : IsValid (settled_table classes SIZE_MAX c.args.opened.now.found.block.k
-        (caps_of c.in_ok-layout.layout) (grid_of c.in_ok-layout.layout) c.in_ok-table.table.now) =
-        subst IsValid (λ i. settled_table (c.requires.classes i) (c.requires.largest i) (divisor i)
-        (sym layout.caps i) (sym layout.grid i) c.in_ok-table.table.now)
-        (valid_settled t c.in_ok-table.table.now c.requires.valid layout.settled layout.same_end
-        (c.in_ok-table.ensures.records ∙ c.deref.ensures.value)) in
-    (lit< tt, (lit< tt, (lit≤ tt, (lit< tt, (c.in_ok-slots.ensures.ranges, (ap (λ (u : InUse). u.block)
-    c.in_ok-slots.ensures.same,
-    (sym c.in_ok-table.ensures.kept, (c.in_ok-table.ensures.names, (layout.divisor ∙ divisor, valid)))))))))
+    (caps_of c.in_ok-layout.layout) (grid_of c.in_ok-layout.layout) c.in_ok-table.table.now) =
+    subst IsValid (λ i. settled_table (c.requires.classes i) (c.requires.largest i) (divisor i)
+    (sym layout.caps i) (sym layout.grid i) c.in_ok-table.table.now)
+    (valid_settled t c.in_ok-table.table.now c.requires.valid layout.settled layout.same_end
+    (c.in_ok-table.ensures.records ∙ c.deref.ensures.value)) in (
+      lit< tt,
+      (
+        lit< tt,
+        (
+          lit≤ tt,
+          (
+            lit< tt,
+            (
+              c.in_ok-slots.ensures.ranges,
+              (
+                ap (λ (u : InUse). u.block)
+                    c.in_ok-slots.ensures.same,
+                (sym c.in_ok-table.ensures.kept, (c.in_ok-table.ensures.names, (layout.divisor ∙ divisor, valid))),
+              ),
+            ),
+          ),
+        ),
+      ),
+    )
 
 pub returns : goal.returns
 returns c =
