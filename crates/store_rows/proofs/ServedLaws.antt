@@ -1,5 +1,5 @@
 -- A store and its disk go on together.
-use Rattle.std.specs.Prelude.{◌≡◌, List, ℕ, Option, Some, None, Result, IsNone, IsSome, IsTrue, false}
+use Rattle.std.specs.Prelude.{◌≡◌, List, ℕ, Option, Some, None, Result, IsNone, IsSome, IsTrue}
 use Rattle.std.proofs.Common.{rules, sym, subst}
 use Rattle.disk_face.specs.States as disk
 use Rattle.disk_face.specs.Frames.{Stays}

@@ -1,7 +1,7 @@
 -- What a settled table and its store are to a file.
 use Rattle.std.specs.Prelude.{◌≡◌, ◌⊎◌, ℕ, ◌+◌, ◌^◌, ◌<◌, ◌≤◌, true, List, [], ◌∷◌, ◌++◌, length, take, slice_index, slice_index_or, Option, Some, Ok}
 use Rattle.std.specs.FinMap as fin
-use Rattle.std.proofs.Common.{arith, ◌∙◌, ap, sym, subst, inl, inr, lit<, lit≤}
+use Rattle.std.proofs.Common.{arith, ◌∙◌, ap, sym, subst, inl, inr, lit<}
 use Rattle.std.proofs.lemmas.Bool.{cases_lt}
 use Rattle.std.proofs.lemmas.List.{get_or_past, take_more}
 use Rattle.size_class.specs.Classes.{IsGrid, IsRow, cell, row, width}
@@ -13,7 +13,7 @@ use Rattle.slot_codec.specs.declared.codec.Kind.{Kind}
 use Rattle.slot_codec.specs.declared.codec.Kind.TheVariants.{Settled}
 use Rattle.slot_codec.specs.declared.codec.Record.{Record}
 use Rattle.slot_pair.specs.Finding.{in_use_of}
-use Rattle.segment_layout.specs.Shapes.{IsShape, buffer_of, end_of, taken_in}
+use Rattle.segment_layout.specs.Shapes.{IsShape, end_of}
 use Rattle.segment_layout.proofs.LayoutLaws.{taken_nothing}
 use Rattle.table_rules.specs.Opening.{OpensBy, placed_table}
 use Rattle.table_rules.specs.Rules.{IsValid, KindFits}
@@ -23,11 +23,11 @@ use Rattle.plain_layout.specs.Plain.{placed}
 use Rattle.plain_opening.specs.Opened.{table_seen}
 use Rattle.plain_opening.specs.declared.opened.Opened.{Opened}
 use Rattle.extent_table.specs.Extents.{Spots, records_of}
-use Rattle.spot_terms.specs.Laid.{book_at, numbered, settled_header, settled_table}
+use Rattle.spot_terms.specs.Laid.{book_at, numbered, settled_table}
 use Rattle.spot_terms.specs.LaidOut.{IsLaidOut, shown_book}
 use Rattle.spot_terms.specs.Orders.{SetSoFar, spot_of}
 use Rattle.spot_terms.specs.Reads.{AreNamed}
-use Rattle.spot_terms.proofs.LaidLaws.{book_numbered, valid_numbered}
+use Rattle.spot_terms.proofs.LaidLaws.{valid_numbered}
 use Rattle.spot_terms.proofs.OrderLaws.{set_more}
 use Rattle.spot_terms.proofs.ShownLaws.{book_shown}
 use Rattle.spot_terms.proofs.OpenedLaws.{opens_long}

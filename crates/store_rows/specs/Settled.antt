@@ -1,5 +1,5 @@
 -- The store of a file with a settled table.
-use Rattle.std.specs.Prelude.{◌≡◌, ℕ, ◌≤◌, IsTrue}
+use Rattle.std.specs.Prelude.{◌≡◌, ℕ, IsTrue}
 use Rattle.disk_face.specs.States as disk
 use Rattle.size_class.specs.Classes.{IsGrid, IsRow}
 use Rattle.slot_codec.specs.declared.codec.Kind.TheVariants.{Settled}

@@ -1,7 +1,10 @@
 //! Worked stores that are worn, or whose disk fails.
+ghost use Rattle.std.specs.Prelude.{IsTrue};
+
 use crate::requests::{Ask, Looks, QUIET, Reply, Row, refused, rows, try_looks, try_rows};
 use crate::trials::{Trial, store_on};
 use crate::worked::{HUNDRED, UNCHANGED, at_one};
+use disk_face::Disk;
 use disk_fuse::Fuse;
 use disk_mem::MemDisk;
 use std::alloc::Global;
@@ -28,9 +31,8 @@ fn at_sequence(alloc: Global, sequence: u64) -> Result<Trial<MemDisk>, Fail> {
     store_on(alloc, MemDisk::from_bytes(alloc, &bytes)?)
 }
 
-#[test]
-fn refuses_changes_of_a_worn_file(rt: HostRuntime) -> Result<(), Fail> {
-    let mut trial = at_sequence(rt.alloc(), 1 << 61)?;
+/// Changes of a file whose sequence is 2^61, and what is still served.
+fn try_worn(rt: &impl Abort, alloc: Global, trial: &mut Trial<MemDisk>) -> Result<(), Fail> {
     let rows = rows! {
         Ask::Put("b", b"x") => refused!(Worn), b"", 0;
         Ask::Put("a", b"") => refused!(Worn), b"", 0;
@@ -42,17 +44,28 @@ fn refuses_changes_of_a_worn_file(rt: HostRuntime) -> Result<(), Fail> {
         Ask::Back => Reply::Nothing, b"", 0;
         Ask::Stat => ONE, b"", 0;
     };
-    try_rows(&rt, rt.alloc(), &mut trial, &rows)?;
-    let gauge = Gauge {
+    try_rows(rt, alloc, trial, &rows)?;
+    try_looks(rt, trial, &WORN)
+}
+
+/// What the worn store says of itself.
+const WORN: Looks = Looks {
+    turns: 0,
+    gauge: Gauge {
         length: 111,
         sequence: 1 << 61,
-    };
-    let worn = Looks {
-        turns: 0,
-        gauge,
-        ..UNCHANGED
-    };
-    try_looks(&rt, &trial, &worn)?;
+    },
+    ..UNCHANGED
+};
+
+#[test]
+fn refuses_changes_of_a_worn_file(rt: HostRuntime) -> Result<(), Fail> {
+    let mut worn = at_sequence(rt.alloc(), 1 << 61)?;
+    try_worn(&rt, rt.alloc(), &mut worn)
+}
+
+#[test]
+fn serves_changes_up_to_there(rt: HostRuntime) -> Result<(), Fail> {
     let mut trial = at_sequence(rt.alloc(), (1 << 61) - 1)?;
     let rows = rows! {
         Ask::Put("b", b"x") => QUIET, b"", 1;
@@ -84,33 +97,50 @@ fn try_broken(
     try_rows(rt, alloc, trial, &rows)
 }
 
-#[test]
-fn is_broken_by_a_failed_write_alone(rt: HostRuntime) -> Result<(), Fail> {
-    // The first of the other calls fails too: the read of an object, which breaks nothing.
-    let trial = at_one(rt.alloc(), MemDisk::new(rt.alloc()))?;
-    let (changes, reads) = (vec![in rt.alloc(); 1]?, vec![in rt.alloc(); 1]?);
-    let mut trial = trial.failing(changes, reads);
+/// What the broken store says of itself.
+const BROKEN: Looks = Looks {
+    turns: 20,
+    is_broken: true,
+    ..UNCHANGED
+};
+
+/// A store whose disk fails the first read of an object, which breaks nothing, and the first write.
+fn try_failing(
+    rt: &impl Abort,
+    alloc: Global,
+    trial: &mut Trial<Fuse<MemDisk>>,
+) -> Result<(), Fail> {
     let rows = rows! {
         Ask::Get("a") => refused!(Disk), b"", 0;
         Ask::Get("a") => Reply::Number(100), HUNDRED, 0;
         Ask::Put("z", b"") => QUIET, b"", 0;
         Ask::Back => Reply::Nothing, b"", 0;
     };
-    try_rows(&rt, rt.alloc(), &mut trial, &rows)?;
-    try_looks(&rt, &trial, &UNCHANGED)?;
-    try_broken(&rt, rt.alloc(), &mut trial)?;
-    let broken = Looks {
-        turns: 20,
-        is_broken: true,
-        ..UNCHANGED
-    };
-    try_looks(&rt, &trial, &broken)?;
-    // Opening the file again leads on.
-    let mut trial = store_on(rt.alloc(), trial.into_disk())?;
+    try_rows(rt, alloc, trial, &rows)?;
+    try_looks(rt, trial, &UNCHANGED)?;
+    try_broken(rt, alloc, trial)?;
+    try_looks(rt, trial, &BROKEN)
+}
+
+/// Opening the file again leads on.
+fn try_again<D: Disk + Drop>(rt: &impl Abort, alloc: Global, disk: D) -> Result<(), Fail>
+    requires ready { IsTrue (D.state disk).is_ready }
+    requires tells { IsTrue (D.state disk).tells }
+{
+    let mut trial = store_on(alloc, disk)?;
     let rows = rows! {
         Ask::Stat => ONE, b"", 0;
         Ask::Get("a") => Reply::Number(100), HUNDRED, 0;
         Ask::Put("b", b"x") => QUIET, b"", 1;
     };
-    try_rows(&rt, rt.alloc(), &mut trial, &rows)
+    try_rows(rt, alloc, &mut trial, &rows)
+}
+
+#[test]
+fn is_broken_by_a_failed_write_alone(rt: HostRuntime) -> Result<(), Fail> {
+    let trial = at_one(rt.alloc(), MemDisk::new(rt.alloc()))?;
+    let (changes, reads) = (vec![in rt.alloc(); 1]?, vec![in rt.alloc(); 1]?);
+    let mut trial = trial.failing(changes, reads);
+    try_failing(&rt, rt.alloc(), &mut trial)?;
+    try_again(&rt, rt.alloc(), trial.into_disk())
 }

@@ -52,16 +52,15 @@ fn try_ends(
     Ok(())
 }
 
-#[test]
-fn leaves_the_checkpoint_alone(rt: HostRuntime) -> Result<(), Fail> {
-    let mut trial = at_one(rt.alloc(), MemDisk::new(rt.alloc()))?;
+/// Two quiet puts and a removal, where the checkpoint has one object.
+fn try_one(rt: &impl Abort, alloc: Global, trial: &mut Trial<MemDisk>) -> Result<(), Fail> {
     let rows = rows! {
         Ask::Put("b", b"abcdefghij") => QUIET, b"", 1;
         Ask::Put("c", b"k") => QUIET, b"", 1;
         Ask::Del("b") => QUIET, b"", 0;
     };
-    try_rows(&rt, rt.alloc(), &mut trial, &rows)?;
-    try_images(&rt, rt.alloc(), &trial, 19, &ONE)?;
+    try_rows(rt, alloc, trial, &rows)?;
+    try_images(rt, alloc, trial, 19, &ONE)?;
     // Within the first put its 10 bytes may be any, and no others; after it they are what reads give.
     let ends: [(u64, Choice, &[u8]); 5] = [
         (19, Choice::Torn(0x5A), b"9ZZZZZZZZZZ\0"),
@@ -70,12 +69,11 @@ fn leaves_the_checkpoint_alone(rt: HostRuntime) -> Result<(), Fail> {
         (21, Choice::Newest, b"9abcdefghijk"),
         (21, Choice::Durable, b"9\0\0\0\0\0\0\0\0\0\0\0"),
     ];
-    try_ends(&rt, &trial, &ends)
+    try_ends(rt, trial, &ends)
 }
 
-#[test]
-fn keeps_what_the_checkpoint_holds(rt: HostRuntime) -> Result<(), Fail> {
-    let mut trial = at_two(rt.alloc(), MemDisk::new(rt.alloc()))?;
+/// A removal and puts, where the checkpoint has an object in a buffer.
+fn try_two(rt: &impl Abort, alloc: Global, trial: &mut Trial<MemDisk>) -> Result<(), Fail> {
     let rows = rows! {
         Ask::Get("q") => Reply::Number(4), b"wxyz", 0;
         Ask::Del("q") => QUIET, b"", 0;
@@ -91,13 +89,25 @@ fn keeps_what_the_checkpoint_holds(rt: HostRuntime) -> Result<(), Fail> {
         Ask::OldSize("q") => Reply::Number(4), b"", 0;
         Ask::List => Reply::Nothing, b"p 100\nq 4\nr 3\n", 0;
     };
-    try_rows(&rt, rt.alloc(), &mut trial, &rows)?;
-    try_images(&rt, rt.alloc(), &trial, 20, &TWO)?;
-    try_ends(&rt, &trial, &[(22, Choice::Newest, b"9wxyzabcdefg")])?;
+    try_rows(rt, alloc, trial, &rows)?;
+    try_images(rt, alloc, trial, 20, &TWO)?;
+    try_ends(rt, trial, &[(22, Choice::Newest, b"9wxyzabcdefg")])?;
     let rows = rows! {
         Ask::Back => Reply::Nothing, b"", 0;
         Ask::Get("q") => Reply::Number(4), b"wxyz", 0;
         Ask::List => Reply::Nothing, b"p 100\nq 4\n", 0;
     };
-    try_rows(&rt, rt.alloc(), &mut trial, &rows)
+    try_rows(rt, alloc, trial, &rows)
+}
+
+#[test]
+fn leaves_the_checkpoint_alone(rt: HostRuntime) -> Result<(), Fail> {
+    let mut trial = at_one(rt.alloc(), MemDisk::new(rt.alloc()))?;
+    try_one(&rt, rt.alloc(), &mut trial)
+}
+
+#[test]
+fn keeps_what_the_checkpoint_holds(rt: HostRuntime) -> Result<(), Fail> {
+    let mut trial = at_two(rt.alloc(), MemDisk::new(rt.alloc()))?;
+    try_two(&rt, rt.alloc(), &mut trial)
 }

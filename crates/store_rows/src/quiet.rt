@@ -1,6 +1,4 @@
 //! Worked requests on the store of one object, whose buffer has room for 11 bytes.
-ghost use Rattle.std.specs.Prelude.{◌≡◌, IsTrue, length};
-
 use crate::requests::{
     Ask, Looks, QUIET, Reply, Row, refused, rows, try_looks, try_rows, try_rows_to,
 };
@@ -170,28 +168,34 @@ const CHANGED: Looks = Looks {
     ..UNCHANGED
 };
 
-/// All of these over a disk.
-fn try_store<D: Disk + Drop>(rt: &impl Abort, alloc: Global, disk: D) -> Result<(), Fail>
-    requires ready { IsTrue (D.state disk).is_ready }
-    requires tells { IsTrue (D.state disk).tells }
-    requires empty { length (D.state disk).file ≡ 0 }
-{
-    let mut trial = at_one(alloc, disk)?;
-    try_looks(rt, &trial, &UNCHANGED)?;
+/// The changes, and what they leave of the file: `b` was put at 100 of the data part, and then its 1 byte
+/// at 110.
+fn try_file<D: Disk>(rt: &impl Abort, alloc: Global, trial: &mut Trial<D>) -> Result<(), Fail> {
     let before = trial.file(alloc)?;
-    try_changes(rt, alloc, &mut trial)?;
-    try_looks(rt, &trial, &CHANGED)?;
-    // `b` was put at 100 of the data part, and then its 1 byte at 110.
+    try_changes(rt, alloc, trial)?;
     let after = trial.file(alloc)?;
-    try_end(rt, &before, &after, b"abcdefghijx")?;
-    try_refusals(rt, alloc, &mut trial)?;
-    try_full(rt, alloc, &mut trial)?;
-    try_sinks(rt, alloc, &mut trial)?;
-    try_looks(rt, &trial, &CHANGED)
+    try_end(rt, &before, &after, b"abcdefghijx")
+}
+
+/// All of these, and what the store says of itself.
+fn try_store<D: Disk>(rt: &impl Abort, alloc: Global, trial: &mut Trial<D>) -> Result<(), Fail> {
+    try_looks(rt, trial, &UNCHANGED)?;
+    try_file(rt, alloc, trial)?;
+    try_looks(rt, trial, &CHANGED)?;
+    try_refusals(rt, alloc, trial)?;
+    try_full(rt, alloc, trial)?;
+    try_sinks(rt, alloc, trial)?;
+    try_looks(rt, trial, &CHANGED)
 }
 
 #[test]
 fn serves_quiet_requests(rt: HostRuntime) -> Result<(), Fail> {
-    try_store(&rt, rt.alloc(), PlainDisk::with_room(rt.alloc(), 19_714)?)?;
-    try_store(&rt, rt.alloc(), MemDisk::new(rt.alloc()))
+    let mut plain = at_one(rt.alloc(), PlainDisk::with_room(rt.alloc(), 19_714)?)?;
+    try_store(&rt, rt.alloc(), &mut plain)
+}
+
+#[test]
+fn serves_them_on_a_recorded_disk(rt: HostRuntime) -> Result<(), Fail> {
+    let mut recorded = at_one(rt.alloc(), MemDisk::new(rt.alloc()))?;
+    try_store(&rt, rt.alloc(), &mut recorded)
 }
