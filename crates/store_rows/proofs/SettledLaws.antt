@@ -37,47 +37,50 @@ use Rattle.store_rows.specs.Settled.{IsStoreOf, classes}
 -- ---- the layout
 
 module _ (t : PlacedTable) (valid : IsValid t) (settled : t.header.kind ≡ Settled)
-    (long : length t.header.caps ≡ width) (wide : IsGrid width t.header.used) where
+    (full : HasFullRows t) where
   bound : table_boundary t ≡ t.classes
   bound = ap (λ (kind : Kind). boundary_of_kind t.classes kind t.header.boundary) settled
 
-  pub row_of_classes : IsRow t.classes t.header.caps
-  row_of_classes = record {
-    full = long;
-    zero_above = λ c high. elim (cases_lt c width) [
-      | inl low ↦ (valid.0.places.above c low).0 (omega (arith, bound, high))
-      | inr past ↦ get_or_past t.header.caps c 0 (omega (arith, long, past))
-    ];
-  }
+  -- no entry in a row of a class past those in use, and none of a class past its row's
+  none_within : (j c : ℕ) → j < width → c < width → (t.classes ≤ j) ⊎ (j < c) → cell t.header.used j c ≡ 0
+  none_within j c low within (inl high) =
+      (valid.0.places.above j low).1 c within (inl (omega (arith, bound, high)))
+  none_within j c low within (inr less) = (valid.0.places.above j low).1 c within (inr less)
 
   none_beyond : (j c : ℕ) → (t.classes ≤ j) ⊎ (j < c) → cell t.header.used j c ≡ 0
   none_beyond j c out = elim (cases_lt j width) [
-    | inr past ↦ wide.zero_above j c past
+    | inr past ↦ full.grid_full.zero_above j c past
     | inl low ↦ elim (cases_lt c width) [
-      | inr beyond ↦ (wide.rows j low).zero_above c beyond
-      | inl within ↦ (valid.0.places.above j low).1 c within (elim out as (λ _. (table_boundary t ≤ j) ⊎ (j < c)) [
-        | inl high ↦ inl (omega (arith, bound, high))
-        | inr less ↦ inr less
-      ])
+      | inr beyond ↦ (full.grid_full.rows j low).zero_above c beyond
+      | inl within ↦ none_within j c low within out
     ]
   ]
 
-  pub grid_of_classes : IsGrid t.classes t.header.used
-  grid_of_classes = record {
-    full = wide.full;
-    rows = λ j low. record {
-      full = (wide.rows j low).full;
-      zero_above = λ c high. elim (cases_lt j t.classes) [
-        | inl less ↦ none_beyond j c (inr (omega (arith, less, high)))
-        | inr above ↦ none_beyond j c (inl above)
-      ];
-    };
-    zero_above = λ j c high. none_beyond j c (inl high);
+  pub row_of_classes : (n : ℕ) → t.classes ≡ n → IsRow n t.header.caps
+  row_of_classes n few = record {
+    full = full.caps_full;
+    zero_above = λ c high. elim (cases_lt c width) [
+      | inl low ↦ (valid.0.places.above c low).0 (omega (arith, bound, few, high))
+      | inr past ↦ get_or_past t.header.caps c 0 (omega (arith, full.caps_full, past))
+    ];
   }
 
-  pub shape_of_classes : 2 ≤ t.k → t.k ≤ 64 → ((c : ℕ) → slice_index t.header.caps c < 2 ^ 48)
-      → IsShape t.classes t.k t.header.caps t.header.used
-  shape_of_classes low high small = record {
+  pub grid_of_classes : (n : ℕ) → t.classes ≡ n → IsGrid n t.header.used
+  grid_of_classes n few = record {
+    full = full.grid_full.full;
+    rows = λ j low. record {
+      full = (full.grid_full.rows j low).full;
+      zero_above = λ c high. elim (cases_lt j n) [
+        | inl less ↦ none_beyond j c (inr (omega (arith, less, high)))
+        | inr above ↦ none_beyond j c (inl (omega (arith, few, above)))
+      ];
+    };
+    zero_above = λ j c high. none_beyond j c (inl (omega (arith, few, high)));
+  }
+
+  pub shape_of_classes : (n : ℕ) → 2 ≤ t.k → t.k ≤ 64 → ((c : ℕ) → slice_index t.header.caps c < 2 ^ 48)
+      → IsShape n t.k t.header.caps t.header.used
+  shape_of_classes n low high small = record {
     k_low = low;
     k_high = high;
     caps_high = small;
@@ -178,7 +181,6 @@ over_opened o s file is slot read same valid =
     λ i. settled_table (few i) (most i) (divisor i) caps grid s.now in
     let in_use : s.in_use ≡ in_use_of o.found = ap (λ (x : Kept). x.in_use) is.same_store in
     let kept : s.kept ≡ s.now = ap (λ (x : Kept). x.kept) is.same_store in
-    let book : s.book ≡ book_at classes SIZE_MAX k caps grid s.now = ap (λ (x : Kept). x.book) is.same_store in
     let kept_book : s.kept_book ≡ book_at classes SIZE_MAX k caps grid s.now =
     ap (λ (x : Kept). x.kept_book) is.same_store in
     let laid : IsLaidOut classes SIZE_MAX k caps grid s.now = record {
@@ -190,11 +192,12 @@ over_opened o s file is slot read same valid =
       valid = subst IsValid (settled ∙ table) (valid_numbered 0 0 t valid);
     } in
     let shown : s.book ≡ shown_book classes SIZE_MAX k caps grid s.now =
-    book ∙ book_shown classes SIZE_MAX k caps grid s.now laid in
+    ap (λ (x : Kept). x.book) is.same_store ∙ book_shown classes SIZE_MAX k caps grid s.now laid in
+    let same_records : records_of s.kept ≡ o.table.records.items = ap records_of kept ∙ is.same_records in
     let opens : OpensBy classes SIZE_MAX (table_seen o) file (kept_map s file) s.kept_book = record {
       read = read;
       valid = subst IsValid same valid;
-      same_map = λ i. map_of (head_len (in_use i).block.names) file ((ap records_of kept ∙ is.same_records) i);
+      same_map = λ i. map_of (head_len (in_use i).block.names) file (same_records i);
       same_book = kept_book ∙ sym (ap book_of (settled ∙ table)) ∙ ap book_of same;
     } in
     let same_divisor : end_of t.k caps ≡ end_of k caps = ap (λ x. end_of x caps) divisor in
@@ -206,7 +209,7 @@ over_opened o s file is slot read same valid =
       table = table_seen o;
       checkpoint = record {
         slot = slot ∙ ap Ok (sym in_use);
-        records = sym (ap records_of kept ∙ is.same_records);
+        records = sym same_records;
         opens = opens;
       };
       same_length = omega (

@@ -63,7 +63,8 @@ fn layout_of(table: &plain_layout::Table) -> Result<Layout<21>, Fail>
     ensures caps { IfOk result (λ layout. caps_of layout ≡ table.now.header.caps) }
     ensures grid { IfOk result (λ layout. grid_of layout ≡ table.now.header.used) }
     ensures settled { IfOk result (λ layout. table.now.header.kind ≡ Settled) }
-    ensures same_end { IfOk result (λ layout. end_of table.now.k table.now.header.caps ≡ table.now.data_len) }
+    ensures same_end { IfOk result (λ layout. end_of table.now.k table.now.header.caps
+        ≡ table.now.data_len) }
     ensures caps_full { IfOk result (λ layout. IsRow classes table.now.header.caps) }
     ensures grid_full { IfOk result (λ layout. IsGrid classes table.now.header.used) }
 {

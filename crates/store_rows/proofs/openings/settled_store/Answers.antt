@@ -14,13 +14,15 @@ pub store_of-requires : goal.store_of-requires
 store_of-requires c =
     let t = placed c.args.opened.now.table in
     let layout = c.in_ok-layout.ensures in
-    let divisor = c.requires.divisor in
     let valid : IsValid (settled_table classes SIZE_MAX c.args.opened.now.found.block.k
     (caps_of c.in_ok-layout.layout) (grid_of c.in_ok-layout.layout) c.in_ok-table.table.now) =
-    subst IsValid (λ i. settled_table (c.requires.classes i) (c.requires.largest i) (divisor i)
+    subst IsValid (λ i. settled_table (c.requires.classes i) (c.requires.largest i) (c.requires.divisor i)
     (sym layout.caps i) (sym layout.grid i) c.in_ok-table.table.now)
     (valid_settled t c.in_ok-table.table.now c.requires.valid layout.settled layout.same_end
-    (c.in_ok-table.ensures.records ∙ c.deref.ensures.value)) in (
+    (c.in_ok-table.ensures.records ∙ c.deref.ensures.value)) in
+    let names = c.in_ok-table.ensures.names in
+    let divisor = layout.divisor ∙ c.requires.divisor in
+    let block = ap (λ (u : InUse). u.block) c.in_ok-slots.ensures.same in (
       lit< tt,
       (
         lit< tt,
@@ -31,9 +33,8 @@ store_of-requires c =
             (
               c.in_ok-slots.ensures.ranges,
               (
-                ap (λ (u : InUse). u.block)
-                    c.in_ok-slots.ensures.same,
-                (sym c.in_ok-table.ensures.kept, (c.in_ok-table.ensures.names, (layout.divisor ∙ divisor, valid))),
+                block,
+                (sym c.in_ok-table.ensures.kept, (names, (divisor, valid))),
               ),
             ),
           ),
