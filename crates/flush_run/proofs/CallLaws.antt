@@ -64,70 +64,80 @@ pub calls_save : (first now after : ℕ) (old new : List ℕ) (more saves count 
 calls_save first now after old new more saves count n so_far few is = record {
   later = so_far.later;
   most = λ free.
-      omega (arith, so_far.most free, is, add-mul saves 1 (save_calls count),
-          div_rise 512 (n + 511) (count + 511) (omega arith) (omega (arith, few)));
+      omega (
+        arith,
+        so_far.most free,
+        is,
+        add-mul saves 1 (save_calls count),
+        div_rise 512 (n + 511) (count + 511) (omega arith) (omega (arith, few)),
+      );
 }
 
 -- a move, whose bytes the ledger adds
 module _ (new new' : List ℕ) (size : ℕ) (long : class_of size < length new)
     (is : new' ≡ slice_set new (class_of size) (min (slice_index new (class_of size) + size) (2 ^ 64 - 1)))
-    where
-  abbrev d : ℕ
-  d = class_of size
+  where
+    abbrev d : ℕ
+    d = class_of size
 
-  here : slice_index new' d ≡ min (slice_index new d + size) (2 ^ 64 - 1)
-  here = ap (λ (xs : List ℕ). slice_index xs d) is
-      ∙ get_or-set_same new d (min (slice_index new d + size) (2 ^ 64 - 1)) 0 long
+    here : slice_index new' d ≡ min (slice_index new d + size) (2 ^ 64 - 1)
+    here = ap (λ (xs : List ℕ). slice_index xs d) is
+        ∙ get_or-set_same new d (min (slice_index new d + size) (2 ^ 64 - 1)) 0 long
 
-  elsewhere : (c : ℕ) → c ≢ d → slice_index new' c ≡ slice_index new c
-  elsewhere c other = ap (λ (xs : List ℕ). slice_index xs c) is
-      ∙ get_or-set_other new d c (min (slice_index new d + size) (2 ^ 64 - 1)) 0 other
+    elsewhere : (c : ℕ) → c ≢ d → slice_index new' c ≡ slice_index new c
+    elsewhere c other = ap (λ (xs : List ℕ). slice_index xs c) is
+        ∙ get_or-set_other new d c (min (slice_index new d + size) (2 ^ 64 - 1)) 0 other
 
-  open_before : IsOpenRow new' → (c : ℕ) → slice_index new c ≤ slice_index new' c
-  open_before free c = elim (cases_eq c d) [
-    | inl same ↦
-        subst (λ x. slice_index new x ≤ slice_index new' x) (sym same) (let f = free d in omega (arith, here, f))
-    | inr other ↦ omega (arith, elsewhere c other)
-  ]
+    open_before : IsOpenRow new' → (c : ℕ) → slice_index new c ≤ slice_index new' c
+    open_before free c = elim (cases_eq c d) [
+      | inl same ↦
+          subst (λ x. slice_index new x ≤ slice_index new' x) (sym same) (let f = free d in omega (arith, here, f))
+      | inr other ↦ omega (arith, elsewhere c other)
+    ]
 
-  -- the row rises by the size in its class, and nowhere else
-  pub row_rises : (c : ℕ) → slice_index new' c ≤ slice_index new c + cond (class_of size == c) size 0
-  row_rises c = elim (cases_eq c d) [
-    | inl same ↦
-        subst (λ x. slice_index new' x ≤ slice_index new x + cond (class_of size == x) size 0) (sym same)
-        (omega (arith, here, cond-true (class_of size == d) size 0 (eq-eqb (class_of size) d refl)))
-    | inr other ↦ omega (arith, elsewhere c other)
-  ]
+    -- the row rises by the size in its class, and nowhere else
+    pub row_rises : (c : ℕ) → slice_index new' c ≤ slice_index new c + cond (class_of size == c) size 0
+    row_rises c = elim (cases_eq c d) [
+      | inl same ↦
+          subst (λ x. slice_index new' x ≤ slice_index new x + cond (class_of size == x) size 0) (sym same)
+          (omega (arith, here, cond-true (class_of size == d) size 0 (eq-eqb (class_of size) d refl)))
+      | inr other ↦ omega (arith, elsewhere c other)
+    ]
 
-  pub row_stays : (c : ℕ) → c < class_of size → slice_index new' c ≡ slice_index new c
-  row_stays c low = elsewhere c (λ e. omega (arith, e, low))
+    pub row_stays : (c : ℕ) → c < class_of size → slice_index new' c ≡ slice_index new c
+    row_stays c low = elsewhere c (λ e. omega (arith, e, low))
 
-  module _ (some : 1 ≤ size) (wide : class_of size < width) {old : List ℕ} {first now : ℕ} {more saves count : ℕ}
-      (so_far : CallsSoFar first now old new more saves count)
+    module _ (some : 1 ≤ size) (wide : class_of size < width) {old : List ℕ} {first now : ℕ} {more saves count : ℕ}
+        (so_far : CallsSoFar first now old new more saves count)
       where
-    -- the bound of the moved bytes rises by the calls of this move
-    calls_rise : IsOpenRow new' → calls_of old new + pieces 65536 size ≤ calls_of old new'
-    calls_rise free =
-        let before : IsOpenRow new = λ c. omega (arith, open_before free c, free c) in
-        let f = λ (c : ℕ). class_calls c (row_rise old new' c) in
-        let g = λ (c : ℕ). class_calls c (row_rise old new c) in
-        let exact : row_rise old new' d ≡ row_rise old new d + size =
-        (let low = so_far.later before d in omega (arith, here, free d, low)) in
-        let others : (c : ℕ) → c ≢ d → f c ≡ g c =
-        λ c other. ap (λ x. class_calls c (x - slice_index old c)) (elsewhere c other) in
-        omega (arith, sum_below_one width d f g wide others, ap (class_calls d) exact,
-            class_calls_sum d (row_rise old new d) size, pieces_of_object size some)
+        -- the bound of the moved bytes rises by the calls of this move
+        calls_rise : IsOpenRow new' → calls_of old new + pieces 65536 size ≤ calls_of old new'
+        calls_rise free =
+            let before : IsOpenRow new = λ c. omega (arith, open_before free c, free c) in
+            let f = λ (c : ℕ). class_calls c (row_rise old new' c) in
+            let g = λ (c : ℕ). class_calls c (row_rise old new c) in
+            let exact : row_rise old new' d ≡ row_rise old new d + size =
+            (let low = so_far.later before d in omega (arith, here, free d, low)) in
+            let others : (c : ℕ) → c ≢ d → f c ≡ g c =
+            λ c other. ap (λ x. class_calls c (x - slice_index old c)) (elsewhere c other) in
+            omega (
+              arith,
+              sum_below_one width d f g wide others,
+              ap (class_calls d) exact,
+              class_calls_sum d (row_rise old new d) size,
+              pieces_of_object size some,
+            )
 
-    pub calls_move : (after : ℕ) → after ≤ now + pieces 65536 size
-        → CallsSoFar first after old new' more saves count
-    calls_move after upto = record {
-      later = λ free c.
-          let before : IsOpenRow new = λ c. omega (arith, open_before free c, free c) in
-          omega (arith, so_far.later before c, open_before free c);
-      most = λ free.
-          let before : IsOpenRow new = λ c. omega (arith, open_before free c, free c) in
-          omega (arith, so_far.most before, upto, calls_rise free, risen_calls old new, risen_calls old new');
-    }
+        pub calls_move : (after : ℕ) → after ≤ now + pieces 65536 size
+            → CallsSoFar first after old new' more saves count
+        calls_move after upto = record {
+          later = λ free c.
+              let before : IsOpenRow new = λ c. omega (arith, open_before free c, free c) in
+              omega (arith, so_far.later before c, open_before free c);
+          most = λ free.
+              let before : IsOpenRow new = λ c. omega (arith, open_before free c, free c) in
+              omega (arith, so_far.most before, upto, calls_rise free, risen_calls old new, risen_calls old new');
+        }
 
 -- one phase after another
 pub calls_then : (a b c : ℕ) (r0 r1 r2 : List ℕ) (more more' saves saves' count : ℕ)
@@ -146,7 +156,15 @@ calls_then a b c r0 r1 r2 more more' saves saves' count one two = record {
       let e : row_rise r0 r1 d + row_rise r1 r2 d ≡ row_rise r0 r2 d =
       omega (arith, one.later before d, two.later free d) in
       omega (arith, class_calls_sum d (row_rise r0 r1 d) (row_rise r1 r2 d), ap (class_calls d) e) in
-      omega (arith, one.most before, two.most free, risen_calls r0 r1, risen_calls r1 r2, risen_calls r0 r2,
-          sum_below_add width f g, sum_below_le width (λ d. f d + g d) h each,
-          add-mul saves saves' (save_calls count));
+      omega (
+        arith,
+        one.most before,
+        two.most free,
+        risen_calls r0 r1,
+        risen_calls r1 r2,
+        risen_calls r0 r2,
+        sum_below_add width f g,
+        sum_below_le width (λ d. f d + g d) h each,
+        add-mul saves saves' (save_calls count),
+      );
 }

@@ -85,7 +85,7 @@ opens_written f now kept place n {a} {b} named free outside w o = record {
   images = λ rests image is.
       let was = w.images image is in
       image_written f o.t now kept o.m o.b a.file b.file was.0 image place n o.checkpoint named free was.2 outside
-          (o.images rests was.0 was.1);
+      (o.images rests was.0 was.1);
 }
 
 -- what was left meanwhile is old or new
@@ -95,10 +95,10 @@ pub left_written : (f : Flight) (now kept : Spots) (place n : ℕ) {a b : State}
     → Leaves a b (IsOldOrNew f)
 left_written f now kept place n {a} {b} named free outside w o rests =
     Leaves-weaken (IsOldOrNew f)
-        (λ image re. image_is_old_or_new f o.t kept o.m o.b b.file image o.checkpoint
-            (image_written f o.t now kept o.m o.b a.file b.file re.0 image place n o.checkpoint named free re.2
-                outside (o.images rests re.0 re.1)))
-        w.since
+    (λ image re. image_is_old_or_new f o.t kept o.m o.b b.file image o.checkpoint
+    (image_written f o.t now kept o.m o.b a.file b.file re.0 image place n o.checkpoint named free re.2
+    outside (o.images rests re.0 re.1)))
+    w.since
 
 -- Writes in free space, whether or not they fail: the flight goes on, and what was left meanwhile is old or new.
 pub write_held : (f : Flight) (u : choice.InUse) (now kept : Spots) (place n : ℕ) {a b : State} → IsTrue a.tells

@@ -43,8 +43,8 @@ module _ (f : Flight) (u : choice.InUse) (now : Spots) (h : Header) (file : List
       in
       let map : map_of (head_len u.block.names) file rs ≡ f.new_map = ap (λ x. map_of x file rs) (sym i.base) ∙ i.live in
       opens_as f.classes f.size_max (saved_table u h now) image (map_of (head_len u.block.names) file rs) f.new_map
-          (book_of at) f.new_book map s.book
-          (new_image_opens f.classes f.size_max (saved_table u h now) file image valid saved same)
+      (book_of at) f.new_book map s.book
+      (new_image_opens f.classes f.size_max (saved_table u h now) file image valid saved same)
 
   saved_is_new : (image : List ℕ) → IsSaveable f u now h
       → IsSaved (next_chosen u h (length (records_of now))) (records_of now) image
@@ -98,7 +98,7 @@ module _ (f : Flight) (u : choice.InUse) (now : Spots) (h : Header) (file : List
           kept_is_old old.before image before.opens before.longest old.table old.data_part
       | inr same ↦
           kept_is_old old.before image (subst (λ x. OpensBy f.classes f.size_max o.t x o.m o.b) (sym same) o.opens)
-              (omega (arith, i.same_length, ap length same)) old.table old.data_part
+          (omega (arith, i.same_length, ap length same)) old.table old.data_part
     ]
 
     -- each image is like the content below the data part
@@ -127,7 +127,7 @@ save_held f u now kept h {a} {b} s left i fresh =
       λ rests. Leaves-weaken (IsOldOrNew f)
           (either_is_old_or_new f u now h a.file i.content kept a.may_leave o rests s)
           (left.images o.t.chosen chosen (s.fresh fresh)
-              (images_alike f u now h a.file i.content kept a.may_leave o rests)),
+          (images_alike f u now h a.file i.content kept a.may_leave o rests)),
       content_either f u now h a.file i.content kept a.may_leave o b.file s
           (left.old_or_new o.t.chosen chosen (s.fresh fresh)) left.data_part,
     )

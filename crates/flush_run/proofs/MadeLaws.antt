@@ -29,6 +29,7 @@ KeepsOn-then one two = record {
   disk = KeepsDisk-then one.disk two.disk;
   later = omega (arith, one.later, two.later);
   names = two.names ∙ one.names;
+  keys = two.keys ∙ one.keys;
   block = two.block ∙ one.block;
   divisor = two.divisor ∙ one.divisor;
   caps = two.caps ∙ one.caps;
@@ -47,6 +48,7 @@ keeps_none a x ready = record {
   };
   later = omega arith;
   names = refl;
+  keys = refl;
   block = refl;
   divisor = refl;
   caps = refl;
@@ -110,48 +112,48 @@ made_none waits done a x p keeps = record {
 module _ {waits : Phase → ℕ} {done : Phase → ℕ → ℕ} {first a : State} {x0 x : Parts} {p0 p : Phase}
     (h : HasMade waits done first a x0 x p0 p) (mv : Move)
     (fewer : waits (moved_by mv p) + 1 ≡ waits p) (progress : GrowsBy mv (done p) (done (moved_by mv p)))
-    where
-  -- a move that failed, maybe after a save
-  pub made_part : {b : State} {x2 : Parts} {p2 : Phase} → p2 ≡ moved_by mv p → KeepsOn a b x x2
-      → x.in_use.sequence ≤ x2.in_use.sequence → x2.in_use.sequence ≤ x.in_use.sequence + 1 → x2.moved ≡ x.moved
-      → HasMade waits done first b x0 x2 p0 p2
-  made_part {b} {x2} {p2} after keeps later one row = record {
-    keeps = KeepsOn-then h.keeps keeps;
-    later = omega (arith, h.later, later);
-    few = omega (arith, h.few, one, fewer, ap waits after);
-    rises = λ c.
-        omega (arith, h.rises c, ap (λ (r : List ℕ). slice_index r c) row, progress c, ap (λ q. done q c) after);
-    lower = λ c low. ap (λ (r : List ℕ). slice_index r c) row ∙ h.lower c low;
-    same = (let s = same_plan_moved p0 p mv h.same in record {
-      k = ap (λ (q : Phase). q.k) after ∙ s.k;
-      caps = ap (λ (q : Phase). q.caps) after ∙ s.caps;
-      numbers = ap (λ (q : Phase). q.numbers) after ∙ s.numbers;
-      pending = ap (λ (q : Phase). q.pending) after ∙ s.pending;
-      room = ap (λ (q : Phase). q.room) after ∙ s.room;
-      count = ap (λ (q : Phase). length q.items) after ∙ s.count;
-      totals = λ c. ap (λ (q : Phase). class_total q.items c) after ∙ s.totals c;
-    });
-  }
+  where
+    -- a move that failed, maybe after a save
+    pub made_part : {b : State} {x2 : Parts} {p2 : Phase} → p2 ≡ moved_by mv p → KeepsOn a b x x2
+        → x.in_use.sequence ≤ x2.in_use.sequence → x2.in_use.sequence ≤ x.in_use.sequence + 1 → x2.moved ≡ x.moved
+        → HasMade waits done first b x0 x2 p0 p2
+    made_part {b} {x2} {p2} after keeps later one row = record {
+      keeps = KeepsOn-then h.keeps keeps;
+      later = omega (arith, h.later, later);
+      few = omega (arith, h.few, one, fewer, ap waits after);
+      rises = λ c.
+          omega (arith, h.rises c, ap (λ (r : List ℕ). slice_index r c) row, progress c, ap (λ q. done q c) after);
+      lower = λ c low. ap (λ (r : List ℕ). slice_index r c) row ∙ h.lower c low;
+      same = (let s = same_plan_moved p0 p mv h.same in record {
+        k = ap (λ (q : Phase). q.k) after ∙ s.k;
+        caps = ap (λ (q : Phase). q.caps) after ∙ s.caps;
+        numbers = ap (λ (q : Phase). q.numbers) after ∙ s.numbers;
+        pending = ap (λ (q : Phase). q.pending) after ∙ s.pending;
+        room = ap (λ (q : Phase). q.room) after ∙ s.room;
+        count = ap (λ (q : Phase). length q.items) after ∙ s.count;
+        totals = λ c. ap (λ (q : Phase). class_total q.items c) after ∙ s.totals c;
+      });
+    }
 
-  -- a move that was made
-  pub made_step : {b : State} {x2 : Parts} {p2 : Phase} → p2 ≡ moved_by mv p → KeepsOn a b x x2
-      → x.in_use.sequence ≤ x2.in_use.sequence → x2.in_use.sequence ≤ x.in_use.sequence + 1
-      → ((c : ℕ) → slice_index x2.moved c ≤ slice_index x.moved c + cond (mv.class == c) mv.size 0)
-      → ((c : ℕ) → c < p0.numbers.boundary → slice_index x2.moved c ≡ slice_index x.moved c)
-      → HasMade waits done first b x0 x2 p0 p2
-  made_step {b} {x2} {p2} after keeps later one rises lower = record {
-    keeps = KeepsOn-then h.keeps keeps;
-    later = omega (arith, h.later, later);
-    few = omega (arith, h.few, one, fewer, ap waits after);
-    rises = λ c. omega (arith, h.rises c, rises c, progress c, ap (λ q. done q c) after);
-    lower = λ c low. lower c low ∙ h.lower c low;
-    same = (let s = same_plan_moved p0 p mv h.same in record {
-      k = ap (λ (q : Phase). q.k) after ∙ s.k;
-      caps = ap (λ (q : Phase). q.caps) after ∙ s.caps;
-      numbers = ap (λ (q : Phase). q.numbers) after ∙ s.numbers;
-      pending = ap (λ (q : Phase). q.pending) after ∙ s.pending;
-      room = ap (λ (q : Phase). q.room) after ∙ s.room;
-      count = ap (λ (q : Phase). length q.items) after ∙ s.count;
-      totals = λ c. ap (λ (q : Phase). class_total q.items c) after ∙ s.totals c;
-    });
-  }
+    -- a move that was made
+    pub made_step : {b : State} {x2 : Parts} {p2 : Phase} → p2 ≡ moved_by mv p → KeepsOn a b x x2
+        → x.in_use.sequence ≤ x2.in_use.sequence → x2.in_use.sequence ≤ x.in_use.sequence + 1
+        → ((c : ℕ) → slice_index x2.moved c ≤ slice_index x.moved c + cond (mv.class == c) mv.size 0)
+        → ((c : ℕ) → c < p0.numbers.boundary → slice_index x2.moved c ≡ slice_index x.moved c)
+        → HasMade waits done first b x0 x2 p0 p2
+    made_step {b} {x2} {p2} after keeps later one rises lower = record {
+      keeps = KeepsOn-then h.keeps keeps;
+      later = omega (arith, h.later, later);
+      few = omega (arith, h.few, one, fewer, ap waits after);
+      rises = λ c. omega (arith, h.rises c, rises c, progress c, ap (λ q. done q c) after);
+      lower = λ c low. lower c low ∙ h.lower c low;
+      same = (let s = same_plan_moved p0 p mv h.same in record {
+        k = ap (λ (q : Phase). q.k) after ∙ s.k;
+        caps = ap (λ (q : Phase). q.caps) after ∙ s.caps;
+        numbers = ap (λ (q : Phase). q.numbers) after ∙ s.numbers;
+        pending = ap (λ (q : Phase). q.pending) after ∙ s.pending;
+        room = ap (λ (q : Phase). q.room) after ∙ s.room;
+        count = ap (λ (q : Phase). length q.items) after ∙ s.count;
+        totals = λ c. ap (λ (q : Phase). class_total q.items c) after ∙ s.totals c;
+      });
+    }

@@ -123,4 +123,4 @@ copy_flight f u e e' mv base {a} {b} told same table has free high w copied move
     in
     subst (λ (x : Extents). InFlight f u x.now x.kept b.file b.may_leave) (sym (moved has.name s m))
     (move_held f u e.now e.kept has.name s mv.to told table.now_named table.kept_named m.is free_s
-        (omega (arith, high, m.size)) w_s bytes was)
+    (omega (arith, high, m.size)) w_s bytes was)

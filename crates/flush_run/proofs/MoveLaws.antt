@@ -97,57 +97,57 @@ grown_below n m a b len grows is j h = sym (ap (λ (xs : List ℕ). slice_index 
 
 module _ (f : Flight) (old_reach : ℕ) (grows : old_reach ≤ f.reach) (a b : State)
     (long : length a.file ≡ f.base + old_reach) (is : b.file ≡ resized a.file (f.base + f.reach))
-    where
-  new_len : length b.file ≡ f.base + f.reach
-  new_len = ap length is ∙ length-resized a.file (f.base + f.reach)
+  where
+    new_len : length b.file ≡ f.base + f.reach
+    new_len = ap length is ∙ length-resized a.file (f.base + f.reach)
 
-  same : SameBelow (f.base + old_reach) a.file b.file
-  same = grown_below (f.base + f.reach) (f.base + old_reach) a.file b.file long (omega (arith, grows)) is
+    same : SameBelow (f.base + old_reach) a.file b.file
+    same = grown_below (f.base + f.reach) (f.base + old_reach) a.file b.file long (omega (arith, grows)) is
 
-  -- the content, once the file has the length of the reach
-  pub content_grown : (u : choice.InUse) (now : Spots) → AreNamed now
-      → IsAtHand (record f { reach = old_reach }) u now a.file → IsAtHand f u now b.file
-  content_grown u now named i = record {
-    base = i.base;
-    slot = same_in_use a.file b.file u i.slot (omega (arith, i.base, new_len)) (λ j h. same j (omega (arith, h, i.base)));
-    same_length = new_len;
-    within = λ name s there. omega (arith, i.within name s there, grows);
-    live = read_at-alike f.base a.file b.file now named
-        (λ name s there. sym (bytes_at-same a.file b.file (f.base + s.place) s.size
-            (omega (arith, long, i.within name s there)) (omega (arith, new_len, i.within name s there, grows))
-            (λ j l h. same j (omega (arith, h, i.within name s there)))))
-        ∙ i.live;
-  }
+    -- the content, once the file has the length of the reach
+    pub content_grown : (u : choice.InUse) (now : Spots) → AreNamed now
+        → IsAtHand (record f { reach = old_reach }) u now a.file → IsAtHand f u now b.file
+    content_grown u now named i = record {
+      base = i.base;
+      slot = same_in_use a.file b.file u i.slot (omega (arith, i.base, new_len)) (λ j h. same j (omega (arith, h, i.base)));
+      same_length = new_len;
+      within = λ name s there. omega (arith, i.within name s there, grows);
+      live = read_at-alike f.base a.file b.file now named
+          (λ name s there. sym (bytes_at-same a.file b.file (f.base + s.place) s.size
+          (omega (arith, long, i.within name s there)) (omega (arith, new_len, i.within name s there, grows))
+          (λ j l h. same j (omega (arith, h, i.within name s there)))))
+          ∙ i.live;
+    }
 
-  module _ (kept : Spots) (follows : Follows (ResizedImage (f.base + f.reach)) a.may_leave b.may_leave)
-      (o : OpensEither (record f { reach = old_reach }) kept a.file a.may_leave)
+    module _ (kept : Spots) (follows : Follows (ResizedImage (f.base + f.reach)) a.may_leave b.may_leave)
+        (o : OpensEither (record f { reach = old_reach }) kept a.file a.may_leave)
       where
-    image_after : IsTrue f.is_at_rest → (image : List ℕ) → b.may_leave image → ImageInFlight f o.t o.m o.b b.file image
-    image_after rests image left =
-        let was = follows image left in
-        image_grown f o.t kept o.m o.b old_reach a.file b.file was.0 image grows o.checkpoint
+        image_after : IsTrue f.is_at_rest → (image : List ℕ) → b.may_leave image → ImageInFlight f o.t o.m o.b b.file image
+        image_after rests image left =
+            let was = follows image left in
+            image_grown f o.t kept o.m o.b old_reach a.file b.file was.0 image grows o.checkpoint
             (λ j h. same j (omega (arith, h))) (o.images rests was.0 was.1) was.2
 
-    checkpoint_grown : IsCheckpoint f o.t kept o.m o.b
-    checkpoint_grown = record { either = o.checkpoint.either; base = o.checkpoint.base; records = o.checkpoint.records }
+        checkpoint_grown : IsCheckpoint f o.t kept o.m o.b
+        checkpoint_grown = record { either = o.checkpoint.either; base = o.checkpoint.base; records = o.checkpoint.records }
 
-    -- what opens then
-    pub opens_grown : OpensEither f kept b.file b.may_leave
-    opens_grown =
-        let step : ResizedImage (f.base + f.reach) a.file b.file = record { either = inr new_len; bytes = λ j h low high. sym (same j (omega (arith, low, long))) } in
-        record {
-          t = o.t;
-          m = o.m;
-          b = o.b;
-          checkpoint = checkpoint_grown;
-          opens = opens_resized f.classes f.size_max o.t a.file b.file o.m o.b (f.base + f.reach) o.opens step
-              (omega (arith, o.checkpoint.base))
-              (room_more f.classes f.size_max o.t a.file o.m o.b (f.base + f.reach) o.opens (omega (arith, long, grows)));
-          images = image_after;
-        }
+        -- what opens then
+        pub opens_grown : OpensEither f kept b.file b.may_leave
+        opens_grown =
+            let step : ResizedImage (f.base + f.reach) a.file b.file = record { either = inr new_len; bytes = λ j h low high. sym (same j (omega (arith, low, long))) } in
+            record {
+              t = o.t;
+              m = o.m;
+              b = o.b;
+              checkpoint = checkpoint_grown;
+              opens = opens_resized f.classes f.size_max o.t a.file b.file o.m o.b (f.base + f.reach) o.opens step
+                  (omega (arith, o.checkpoint.base))
+                  (room_more f.classes f.size_max o.t a.file o.m o.b (f.base + f.reach) o.opens (omega (arith, long, grows)));
+              images = image_after;
+            }
 
-    -- and what was left meanwhile
-    pub left_grown : Elapses a b b.may_leave → IsTrue f.is_at_rest → Leaves a b (IsOldOrNew f)
-    left_grown time rests =
-        Leaves-call (IsOldOrNew f) time
+        -- and what was left meanwhile
+        pub left_grown : Elapses a b b.may_leave → IsTrue f.is_at_rest → Leaves a b (IsOldOrNew f)
+        left_grown time rests =
+            Leaves-call (IsOldOrNew f) time
             (λ image left. image_is_old_or_new f o.t kept o.m o.b b.file image checkpoint_grown (image_after rests image left))

@@ -45,6 +45,7 @@ pub record KeepsOn (first now : State) (x0 x : Parts) : Type 0 where
   pub disk : KeepsDisk first now
   pub later : first.faults ≤ now.faults
   pub names : x.table.names ≡ x0.table.names
+  pub keys : x.table.keys ≡ x0.table.keys
   pub block : x.in_use.block ≡ x0.in_use.block
   pub divisor : x.divisor ≡ x0.divisor
   pub caps : x.caps ≡ x0.caps
@@ -59,6 +60,7 @@ pub record KeepsSettling (first now : State) (x0 x : Parts) : Type 0 where
   pub disk : KeepsDisk first now
   pub later : first.faults ≤ now.faults
   pub names : x.table.names ≡ x0.table.names
+  pub keys : x.table.keys ≡ x0.table.keys
   pub block : x.in_use.block ≡ x0.in_use.block
   pub divisor : x.divisor ≡ x0.divisor
   pub room : x.room ≡ x0.room

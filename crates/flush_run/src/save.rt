@@ -55,7 +55,9 @@ pub(crate) fn save_held<D: Disk, const C: usize>(
     ensures keeps { KeepsOn (D.state disk.old) (D.state disk.new) (parts_of hands.old) (parts_of hands.new) }
     ensures ledger { hands.new.ledger ≡ hands.old.ledger }
 {
-    hands.slots.save(disk, header, &hands.table, &mut hands.buf)?;
+    hands
+        .slots
+        .save(disk, header, &hands.table, &mut hands.buf)?;
     hands.table.keep();
     hands.guard.clear();
     Ok(())

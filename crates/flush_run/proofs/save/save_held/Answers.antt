@@ -24,9 +24,9 @@ returns-clause-flies g c f told s was =
     let u = c.args.hands.now.slots in
     let now = c.args.hands.now.table.now in
     let saved =
-        save_held-done f _ _ _ _ s (c.save.ensures.left told) (c.in_ok-save.ensures.saved told)
-            (c.in_ok-save.ensures.in_use told) (c.in_ok-save.ensures.rests told) was
-        in
+    save_held-done f _ _ _ _ s (c.save.ensures.left told) (c.in_ok-save.ensures.saved told)
+    (c.in_ok-save.ensures.in_use told) (c.in_ok-save.ensures.rests told) was
+    in
     subst (λ v. InFlight f v c.keep.new.self.now c.keep.new.self.kept d.file d.may_leave) (sym c.in_ok-save.ensures.pair)
     (subst (λ k. InFlight f (next_in_use u) c.keep.new.self.now k d.file d.may_leave) (sym c.keep.ensures.kept)
     (subst (λ n. InFlight f (next_in_use u) n now d.file d.may_leave) (sym c.keep.ensures.now) saved))
@@ -34,4 +34,4 @@ returns-clause-flies g c f told s was =
 pub returns-clause-opened : goal.returns-clause-opened
 returns-clause-opened g c f told fresh s was =
     save_held-opened f _ _ _ _ s (c.save.ensures.left told) (c.in_ok-save.ensures.saved told fresh)
-        (c.in_ok-save.ensures.in_use told) (c.in_ok-save.ensures.rests told) was
+    (c.in_ok-save.ensures.in_use told) (c.in_ok-save.ensures.rests told) was

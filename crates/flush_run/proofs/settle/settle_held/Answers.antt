@@ -54,7 +54,7 @@ returns-clause-left g c f end told len s cut was fresh =
     let left = c.save_held.ensures.left f told s was fresh in (
       λ rests. Leaves-trans (left.0 rests)
           (Leaves-trans (cut_held f u now h end cut saved follows c.set_len.ensures.frame.time)
-              (sync_held f u now h end a cut saved follows c.sync.ensures.frame.time)),
+          (sync_held f u now h end a cut saved follows c.sync.ensures.frame.time)),
       content_is_new f u now h end cut a.file a.may_leave saved e.file (inr is),
     )
 
@@ -77,5 +77,5 @@ returns-clause-settled g c f end told len s cut was =
     subst (λ v. IsSettled f v c.save_held.new.hands.table.now end e.file e.may_leave) (sym c.in_ok-save_held.ensures.pair)
     (subst (λ (x : _). IsSettled f (next_in_use u) x.now end e.file e.may_leave) (sym c.in_ok-save_held.ensures.table)
     (settled f u now h end cut a.file a.may_leave saved e.file e.may_leave is
-        (subst (λ (x : List ℕ). Only x e.may_leave) (sym (c.sync.ensures.frame.same_file told2)) only))))
+    (subst (λ (x : List ℕ). Only x e.may_leave) (sym (c.sync.ensures.frame.same_file told2)) only))))
     c.sync.ensures.rests

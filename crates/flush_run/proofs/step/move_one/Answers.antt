@@ -11,14 +11,18 @@ returns-in_err-move_object-clause-left g c f u told base free was =
 pub freed-requires-clause-room : goal.freed-requires-clause-room
 freed-requires-clause-room g c =
     let h = c.args.hands.now in
-    omega (arith, move_room c.args.mv.now h.table h.guard.spans c.requires.can
-        (λ name keyed. sym c.if-stood.true ∙ c.stands_kept-stood.ensures name keyed), c.requires.room)
+    omega (
+      arith,
+      move_room c.args.mv.now h.table h.guard.spans c.requires.can
+          (λ name keyed. sym c.if-stood.true ∙ c.stands_kept-stood.ensures name keyed),
+      c.requires.room,
+    )
 
 pub freed-requires-clause-apart : goal.freed-requires-clause-apart
 freed-requires-clause-apart g c =
     let h = c.args.hands.now in
     move_apart c.args.mv.now h.table h.guard.spans c.requires.can
-        (λ name keyed. sym c.if-stood.true ∙ c.stands_kept-stood.ensures name keyed)
+    (λ name keyed. sym c.if-stood.true ∙ c.stands_kept-stood.ensures name keyed)
 
 pub returns-then-stood-clause-moved : goal.returns-then-stood-clause-moved
 returns-then-stood-clause-moved g c =
@@ -37,8 +41,8 @@ returns-then-stood-clause-flies g c f u told base free high was =
     let h = c.args.hands.now in
     let r = c.relocate.ensures in
     copy_flight f u h.table c.relocate.new.self c.args.mv.now h.base told base c.requires.can.table
-        c.requires.can.mover free high c.move_object.ensures.writes (c.in_ok-move_object.ensures.moved told)
-        (relocated_is h.table c.relocate.new.self c.args.mv.now r.now r.kept r.keys r.names) was
+    c.requires.can.mover free high c.move_object.ensures.writes (c.in_ok-move_object.ensures.moved told)
+    (relocated_is h.table c.relocate.new.self c.args.mv.now r.now r.kept r.keys r.names) was
 
 pub returns-then-stood-clause-left : goal.returns-then-stood-clause-left
 returns-then-stood-clause-left g c f u told base free was =
@@ -61,8 +65,8 @@ returns-else-stood-clause-flies g c f u told base free high was =
     let h = c.args.hands.now in
     let r = c.relocate.ensures in
     copy_flight f u h.table c.relocate.new.self c.args.mv.now h.base told base c.requires.can.table
-        c.requires.can.mover free high c.move_object.ensures.writes (c.in_ok-move_object.ensures.moved told)
-        (relocated_is h.table c.relocate.new.self c.args.mv.now r.now r.kept r.keys r.names) was
+    c.requires.can.mover free high c.move_object.ensures.writes (c.in_ok-move_object.ensures.moved told)
+    (relocated_is h.table c.relocate.new.self c.args.mv.now r.now r.kept r.keys r.names) was
 
 pub returns-else-stood-clause-left : goal.returns-else-stood-clause-left
 returns-else-stood-clause-left g c f u told base free was =
