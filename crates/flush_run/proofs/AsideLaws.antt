@@ -1,5 +1,5 @@
 -- The saves of a phase: what stands aside for the items stands aside for the table, so that each save that a touched target calls for is paid.
-use Rattle.std.specs.Prelude.{◌≡◌, ◌⊎◌, ℕ, ◌+◌, ◌≤◌, nat_lt, true, List, length, Contains}
+use Rattle.std.specs.Prelude.{◌≡◌, ℕ, ◌+◌, ◌≤◌, nat_lt, true, List, length, Contains}
 use Rattle.std.proofs.Common.{arith, sym, ◌∙◌, ap, subst, inl, inr}
 use Rattle.std.proofs.lemmas.Bool.{and_from, cases_lt, lt-ltb}
 use Rattle.std.proofs.lemmas.List.Sorted.{Contains-permutation, IsPermutation-sym}
@@ -22,7 +22,6 @@ use Rattle.flush_run.specs.Flights.{Flight}
 use Rattle.flush_run.proofs.FreeLaws.{suffix_item}
 use Rattle.flush_run.specs.Hands.{IsHandsFor, spot_item, suffix_items}
 use Rattle.flush_run.specs.Aside.{ItemsAside}
-use Rattle.flush_run.proofs.SettleLaws.{settled}
 
 module _ (f : Flight) (u : choice.InUse) (e : Extents) (caps : List ℕ) (grid : List (List ℕ)) (spans : List Span) (p : Phase) (h : IsHandsFor f u e caps grid spans p) where
   abbrev moving : PlacedTable

@@ -1,5 +1,5 @@
 -- The end of a flush: the layout that is laid out anew holds what stands now, and its book is that of after.
-use Rattle.std.specs.Prelude.{◌≡◌, ℕ, ◌+◌, ◌-◌, ◌^◌, ◌<◌, ◌≤◌, List, [], length, slice_index, IsTrue, refl}
+use Rattle.std.specs.Prelude.{◌≡◌, ℕ, ◌+◌, ◌^◌, ◌<◌, ◌≤◌, List, [], length, slice_index, IsTrue}
 use Rattle.std.proofs.Common.{arith, sym, ◌∙◌, ap, subst, inl, inr}
 use Rattle.std.proofs.lemmas.Bool.{cases_lt}
 use Rattle.std.proofs.lemmas.List.{ext_get_or, get_or_past}
@@ -10,8 +10,7 @@ use Rattle.slot_codec.specs.Choice as choice
 use Rattle.slot_codec.specs.declared.codec.Header.{Header}
 use Rattle.slot_pair.specs.Saves.{next_in_use}
 use Rattle.segment_layout.specs.Books.{volumes_of_sizes}
-use Rattle.segment_layout.specs.Shapes.{end_of, settled_caps, settled_grid, start_of}
-use Rattle.segment_layout.proofs.BookLaws.{length-volumes_of_sizes}
+use Rattle.segment_layout.specs.Shapes.{end_of, settled_caps, settled_grid}
 use Rattle.segment_layout.proofs.ShapeLaws.{IsGrid-settled, caps-settled_above, caps-settled_below, length-settled_caps, start_of-le}
 use Rattle.table_rules.specs.Tables.{book_of, sizes}
 use Rattle.extent_table.specs.Extents.{Extents, IsTable, Spots, records_of}

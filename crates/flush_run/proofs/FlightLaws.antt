@@ -6,11 +6,10 @@ use Rattle.std.specs.FinMap as fin
 use Rattle.byte_ranges.specs.Ranges.{SameOutside}
 use Rattle.disk_face.specs.Moments.{Leaves}
 use Rattle.disk_face.proofs.MomentLaws.{Leaves-weaken}
-use Rattle.disk_face.specs.Writes.{WritesWithin, IsRewritten}
+use Rattle.disk_face.specs.Writes.{WritesWithin}
 use Rattle.slot_codec.specs.Spelling.{head_len}
 use Rattle.slot_codec.specs.Choice as choice
-use Rattle.slot_codec.proofs.ChoiceLaws.{same_in_use, in_use_long, chosen_parts, table_chosen}
-use Rattle.slot_codec.proofs.StepLaws.{from_ok}
+use Rattle.slot_codec.proofs.ChoiceLaws.{same_in_use, in_use_long}
 use Rattle.store_terms.specs.Maps.{Map}
 use Rattle.segment_layout.specs.Books.{Book}
 use Rattle.table_rules.specs.Tables.{no_record, end_of_record}

@@ -24,7 +24,6 @@ use Rattle.flush_plan.specs.Plans.{IsSafe}
 use Rattle.flush_plan.specs.Phases.{Phase}
 use Rattle.flush_run.specs.Flights.{Flight, IsFreeSpace}
 use Rattle.flush_run.specs.Hands.{IsHandsFor, spot_item, suffix_items}
-use Rattle.flush_run.proofs.SettleLaws.{settled}
 
 from_get : {X : Type 0} (xs : List X) (i : ℕ) (x : X) → slice_get xs i ≡ Some x → Contains xs x
 from_get xs i x is = (i, slice_get_within xs i x is, get_or_from_slice_get xs i x x is)

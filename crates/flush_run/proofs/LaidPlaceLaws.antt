@@ -27,7 +27,6 @@ use Rattle.flush_run.specs.Flights.{Flight}
 use Rattle.flush_run.specs.Hands.{IsHandsFor}
 use Rattle.flush_run.proofs.ResumeLaws.{live_is_total}
 use Rattle.flush_run.specs.Settling.{ItemsLaid, end_caps}
-use Rattle.flush_run.proofs.SettleLaws.{settled}
 
 -- a sum over numbers in order, with one more at its end
 sum_last : (g : ℕ → ℕ) (b n : ℕ) → sum_by g (counting_from b (suc n)) ≡ sum_by g (counting_from b n) + g (b + n)

@@ -11,7 +11,7 @@ use Rattle.slot_codec.specs.declared.codec.Header.{Header}
 use Rattle.slot_codec.proofs.ChoiceLaws.{in_use_long}
 use Rattle.slot_pair.specs.Saves.{save_calls}
 use Rattle.span_math.specs.declared.span.Span.{Span}
-use Rattle.extent_table.specs.Extents.{Extents, records_of}
+use Rattle.extent_table.specs.Extents.{records_of}
 use Rattle.extent_table.proofs.ExtentLaws.{records_of-few}
 use Rattle.spot_terms.specs.Laid.{moving_header}
 use Rattle.flush_plan.specs.declared.item.Move.{Move}

@@ -2,10 +2,8 @@
 use Rattle.std.specs.Prelude.{◌≡◌, ℕ, ◌+◌, ◌≤◌, List, length, Option, Some, None, IsNone, IsTrue, refl}
 use Rattle.std.proofs.Common.{arith, sym, subst}
 use Rattle.disk_face.specs.States.{State}
-use Rattle.disk_face.specs.Counts.{counted}
 use Rattle.disk_face.proofs.MomentLaws.{Leaves-none, Leaves-trans}
-use Rattle.data_area.specs.Pieces.{pieces}
-use Rattle.flush_run.specs.Flights.{Flies, Flight, IsOldOrNew, LeavesOldOrNew}
+use Rattle.flush_run.specs.Flights.{Flight, IsOldOrNew, LeavesOldOrNew}
 use Rattle.flush_run.specs.Loops.{CanStep, Goes}
 use Rattle.flush_run.specs.Parts.{KeepsOn, Parts}
 use Rattle.flush_plan.specs.Phases.{Phase}

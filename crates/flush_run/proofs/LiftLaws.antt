@@ -1,12 +1,11 @@
 -- Lift, move by move: the answers of its loop.
-use Rattle.std.specs.Prelude.{◌≡◌, ◌⊎◌, ℕ, ◌+◌, ◌-◌, ◌^◌, ◌≤◌, ◌==◌, cond, List, length, min, slice_index, slice_set, IsTrue, refl}
-use Rattle.std.proofs.Common.{arith, sym, ◌∙◌, ap, subst, inl, inr}
+use Rattle.std.specs.Prelude.{◌≡◌, ℕ, ◌+◌, ◌-◌, ◌^◌, ◌≤◌, ◌==◌, cond, List, length, min, slice_index, slice_set, IsTrue, refl}
+use Rattle.std.proofs.Common.{arith, sym, ap, subst, inl}
 use Rattle.disk_face.specs.States.{State}
 use Rattle.data_area.specs.Pieces.{pieces}
 use Rattle.size_class.specs.Classes.{class_of}
 use Rattle.size_class.proofs.ClassLaws.{class_below}
 use Rattle.slot_codec.specs.Choice as choice
-use Rattle.extent_table.specs.Extents.{Extents}
 use Rattle.segment_layout.specs.Shapes.{end_of}
 use Rattle.flush_plan.specs.declared.item.Move.{Move}
 use Rattle.flush_plan.specs.Phases.{Phase, lifted_in, moved_by, to_lift}
@@ -15,7 +14,7 @@ use Rattle.flush_run.specs.Calls.{CallsSoFar}
 use Rattle.flush_run.specs.Flights.{Flies, Flight, IsFreeSpace, LeavesOldOrNew}
 use Rattle.flush_run.specs.Hands.{AllEndBy}
 use Rattle.flush_run.specs.Loops.{CanStep, HasMade, InLift, Lifts, LiftsSince}
-use Rattle.flush_run.specs.Moves.{HasMoved, moved_table}
+use Rattle.flush_run.specs.Moves.{HasMoved}
 use Rattle.flush_run.specs.Parts.{KeepsOn, Parts}
 use Rattle.flush_run.proofs.CallLaws.{calls_move, calls_none, calls_wider, row_rises, row_stays}
 use Rattle.flush_run.proofs.FreeLaws.{live_apart}

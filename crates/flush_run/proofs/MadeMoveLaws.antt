@@ -1,11 +1,10 @@
 -- What freeing the target of a move answers, and what it leaves of the parts that a flush holds.
 use Rattle.disk_face.specs.States.{State}
-use Rattle.std.specs.Prelude.{◌≡◌, ◌⊎◌, ℕ, ◌+◌, ◌<◌, ◌≤◌, ◌==◌, Bool, true, false, List, [], ◌∷◌, ◌++◌, length, Option, Some, None, IsSomeAnd, IsTrue}
+use Rattle.std.specs.Prelude.{◌≡◌, ℕ, ◌+◌, ◌<◌, ◌≤◌, ◌==◌, Bool, true, false, List, length, Option, Some, None, IsSomeAnd, IsTrue}
 use Rattle.std.specs.FinMap as fin
 use Rattle.std.proofs.lemmas.Bool.{and_from, and_parts, cases_Bool, eq-eqb, eqb-true}
 use Rattle.std.proofs.Common.{arith, subst, sym, ap, ◌∙◌, inl, inr}
 use Rattle.byte_ranges.specs.Ranges.{bytes_at, overwritten}
-use Rattle.disk_face.specs.Moments.{Leaves}
 use Rattle.disk_face.specs.Writes.{WritesWithin}
 use Rattle.slot_codec.specs.Choice as choice
 use Rattle.slot_pair.specs.Saves.{next_in_use}

@@ -11,12 +11,12 @@ use Rattle.slot_codec.specs.declared.codec.Header.{Header}
 use Rattle.slot_codec.proofs.ChoiceLaws.{in_use_long}
 use Rattle.slot_pair.specs.Saves.{save_calls}
 use Rattle.span_math.specs.declared.span.Span.{Span}
-use Rattle.extent_table.specs.Extents.{Extents, records_of}
+use Rattle.extent_table.specs.Extents.{records_of}
 use Rattle.extent_table.proofs.ExtentLaws.{records_of-few}
 use Rattle.spot_terms.specs.Laid.{moving_header}
 use Rattle.flush_plan.specs.declared.item.Move.{Move}
 use Rattle.flush_plan.specs.declared.item.Numbers.{Numbers}
-use Rattle.flush_plan.specs.Phases.{Phase, packed_in, lifted_in, moved_by, to_pack}
+use Rattle.flush_plan.specs.Phases.{Phase, packed_in, moved_by, to_pack}
 use Rattle.flush_plan.specs.Steps.{IsPackStep}
 use Rattle.flush_run.specs.Calls.{CallsSoFar}
 use Rattle.flush_run.specs.Flights.{Flies, Flight, IsFreeSpace, LeavesOldOrNew}

@@ -8,7 +8,7 @@ use Rattle.extent_table.specs.Extents.{Extents, Spots}
 use Rattle.spot_terms.specs.SaveCounts.{LayCount, PackCount, Pays}
 use Rattle.spot_terms.proofs.SaveCountLaws.{lay_ends, lay_moves, pack_ends, pack_moves}
 use Rattle.flush_plan.specs.declared.item.Move.{Move}
-use Rattle.flush_plan.specs.Phases.{Phase, bytes_below, laid_end, largest_item, moved_by, packed_bytes, waiting_bytes}
+use Rattle.flush_plan.specs.Phases.{Phase, laid_end, largest_item, moved_by, packed_bytes, waiting_bytes}
 use Rattle.flush_plan.specs.Steps.{IsLayStep, IsPackStep}
 use Rattle.flush_run.specs.Flights.{Flight}
 use Rattle.flush_run.specs.Loops.{Goes, LaysPaid, PacksPaid}

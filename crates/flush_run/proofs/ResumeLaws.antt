@@ -28,7 +28,6 @@ use Rattle.flush_plan.specs.Phases.{Phase}
 use Rattle.flush_run.specs.Flights.{Flight}
 use Rattle.flush_run.proofs.FreeLaws.{suffix_item}
 use Rattle.flush_run.specs.Hands.{IsHandsFor, spot_item, suffix_items}
-use Rattle.flush_run.proofs.SettleLaws.{settled}
 
 zero_either : (b : Bool) → ◌≡◌ {A = ℕ} (cond b 0 0) 0
 zero_either true = refl

@@ -1,5 +1,5 @@
 -- The settled table at the end of a flush may be saved, and the file cut to its end.
-use Rattle.std.specs.Prelude.{◌≡◌, ℕ, ◌+◌, ◌<◌, ◌≤◌, ◌^◌, List, Contains, IsTrue}
+use Rattle.std.specs.Prelude.{◌≡◌, ℕ, ◌+◌, ◌<◌, ◌≤◌, ◌^◌, List, IsTrue}
 use Rattle.std.proofs.Common.{arith, sym, ◌∙◌, ap, subst}
 use Rattle.std.proofs.lemmas.List.Sorted.{Contains-permutation, IsPermutation-sym}
 use Rattle.size_class.specs.Classes.{class_of, width, IsGrid, IsRow}
@@ -24,7 +24,6 @@ use Rattle.flush_run.proofs.FreeLaws.{suffix_item}
 use Rattle.flush_run.specs.Hands.{IsHandsFor, spot_item, suffix_items}
 use Rattle.flush_run.specs.Saves.{IsSaveable}
 use Rattle.flush_run.specs.Settling.{CanCut, begun_table, end_caps, end_header, ItemsLaid}
-use Rattle.flush_run.proofs.SettleLaws.{settled}
 
 pub grid_wider : (C : ℕ) (grid : List (List ℕ)) → C ≤ width → IsGrid C grid → IsGrid width grid
 grid_wider C grid few g = record {

@@ -1,5 +1,5 @@
 -- What a flush holds in memory after a move: the same facts, with the object at its new place.
-use Rattle.std.specs.Prelude.{◌≡◌, ℕ, ◌<◌, ◌≤◌, false, List, Some, refl}
+use Rattle.std.specs.Prelude.{◌≡◌, ℕ, false, List, Some, refl}
 use Rattle.std.proofs.Common.{arith, inl, inr}
 use Rattle.std.specs.FinMap as fin
 use Rattle.slot_codec.specs.Choice as choice

@@ -1,10 +1,9 @@
 -- A flush from its first move to its last sync: how its loops follow each other.
-use Rattle.std.specs.Prelude.{◌≡◌, ℕ, ◌+◌, ◌-◌, ◌*◌, ◌/◌, ◌<◌, ◌≤◌, ◌^◌, Bool, ◌&&◌, not, cond, nat_le, nat_lt, List, [], ◌∷◌, filter, length, map, slice_index, sum_by, IsPermutation, IsTrue, refl}
+use Rattle.std.specs.Prelude.{◌≡◌, ℕ, ◌+◌, ◌-◌, ◌*◌, ◌/◌, ◌<◌, ◌≤◌, ◌^◌, Bool, ◌&&◌, not, cond, nat_le, nat_lt, List, [], ◌∷◌, filter, length, slice_index, sum_by, IsPermutation, IsTrue}
 use Rattle.std.proofs.Common.{arith, sym, ◌∙◌, ap, subst}
 use Rattle.std.specs.FinMap as fin
 use Rattle.std.proofs.lemmas.List.{length-map}
 use Rattle.std.proofs.lemmas.List.Sums.{count_by-le-length, length-filter, sum_by-cons}
-use Rattle.std.proofs.lemmas.Bool.{cond-false}
 use Rattle.std.proofs.lemmas.List.Sorted.{IsPermutation-sym, IsPermutation-trans, length_permutation}
 use Rattle.disk_face.specs.States.{State}
 use Rattle.slot_codec.specs.Choice as choice
@@ -16,7 +15,7 @@ use Rattle.extent_table.specs.declared.spot.Spot.{Spot}
 use Rattle.extent_table.specs.Extents.{records_of}
 use Rattle.extent_table.proofs.ExtentLaws.{records_of-few}
 use Rattle.spot_terms.specs.SaveCounts.{LayCount, PackCount, Pays}
-use Rattle.spot_terms.proofs.SaveCountLaws.{lay_start, pack_moves, pack_start, pays_for}
+use Rattle.spot_terms.proofs.SaveCountLaws.{lay_start, pack_moves, pack_start}
 use Rattle.flush_plan.specs.declared.item.Item.{Item}
 use Rattle.segment_layout.specs.Shapes.{end_of}
 use Rattle.flush_plan.specs.declared.item.Numbers.{Numbers}

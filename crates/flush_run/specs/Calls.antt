@@ -1,12 +1,11 @@
 -- The device calls and the moved bytes of a flush.
-use Rattle.std.specs.Prelude.{◌≡◌, ℕ, ◌+◌, ◌-◌, ◌*◌, ◌/◌, ◌^◌, ◌<◌, ◌≤◌, List, slice_index, ◌≢◌, map}
+use Rattle.std.specs.Prelude.{◌≡◌, ℕ, ◌+◌, ◌-◌, ◌*◌, ◌/◌, ◌^◌, ◌<◌, ◌≤◌, List, slice_index, map}
 use Rattle.byte_ranges.specs.Lists.{sum_below, below}
 use Rattle.disk_face.specs.Counts.{last}
 use Rattle.size_class.specs.Classes.{width}
 use Rattle.slot_pair.specs.Saves.{save_calls}
 use Rattle.store_terms.specs.Maps.{Map}
 use Rattle.segment_layout.specs.Books.{volumes}
-use Rattle.std.proofs.Common.{◌∙◌}
 
 -- at most so many calls move these bytes, with a buffer of 65,536
 abbrev pub move_calls : List ℕ → ℕ

@@ -6,7 +6,7 @@ use Rattle.slot_codec.specs.Choice as choice
 use Rattle.slot_codec.specs.Readable.{IsSuperBlock}
 use Rattle.slot_codec.specs.Spelling.{head_len}
 use Rattle.span_math.specs.declared.span.Span.{Span}
-use Rattle.segment_layout.specs.Shapes.{end_of, start_of}
+use Rattle.segment_layout.specs.Shapes.{start_of}
 use Rattle.table_rules.specs.Rules.{KeepsPlaces}
 use Rattle.extent_table.specs.declared.spot.Spot.{Spot}
 use Rattle.extent_table.specs.Extents.{Extents, IsTable, Keys, Spots}

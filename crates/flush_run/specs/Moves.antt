@@ -1,16 +1,14 @@
 -- A move of an object within a flush: whom it takes, and what it leaves of the table and the guard.
-use Rattle.std.specs.Prelude.{◌≡◌, ℕ, ◌+◌, ◌-◌, ◌≤◌, Bool, List, length, Some, ◌<◌, false, ◌⊎◌, ◌==◌, true, Any, All, [], ◌∷◌, ◌^◌, ◌&&◌}
-use Rattle.std.proofs.Common.{◌∙◌}
+use Rattle.std.specs.Prelude.{◌≡◌, ℕ, ◌+◌, ◌≤◌, Bool, List, Some, ◌<◌, false, ◌⊎◌, true, Any, All, [], ◌^◌}
 use Rattle.std.specs.FinMap as fin
 use Rattle.slot_codec.specs.Choice as choice
 use Rattle.extent_table.specs.declared.spot.Spot.{Spot}
-use Rattle.extent_table.specs.Extents.{Spots, Extents, IsTable}
+use Rattle.extent_table.specs.Extents.{Extents, IsTable}
 use Rattle.size_class.specs.Classes.{class_of}
 use Rattle.span_math.specs.declared.span.Span.{Span}
 use Rattle.held_guard.specs.Freed.{Joins}
 use Rattle.spot_terms.specs.Held.{IsFreed, IsSpanOf, is_at}
 use Rattle.flush_plan.specs.declared.item.Move.{Move}
-use Rattle.flush_plan.specs.Plans.{mover}
 use Rattle.slot_pair.specs.Saves.{next_in_use}
 use Rattle.span_math.specs.Spans.{IsApart, SharesByte}
 

@@ -1,7 +1,5 @@
 -- A save within a flush: what it leaves opens to the old pair or to the new one.
-use Rattle.std.specs.Prelude.{◌≡◌, ℕ, ◌+◌, ◌-◌, ◌<◌, ◌≤◌, List, length, Ok, IsTrue}
-use Rattle.std.proofs.Common.{◌∙◌}
-use Rattle.std.specs.FinMap as fin
+use Rattle.std.specs.Prelude.{◌≡◌, ℕ, ◌+◌, ◌<◌, List, length, Ok, IsTrue}
 use Rattle.disk_face.specs.Moments.{Only}
 use Rattle.slot_codec.specs.Spelling.{head_len}
 use Rattle.slot_codec.specs.Reading.{worn_from}

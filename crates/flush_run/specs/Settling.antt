@@ -1,6 +1,5 @@
 -- The end of a flush: the settled table is saved, and the file is cut to where its layout ends.
-use Rattle.std.specs.Prelude.{◌≡◌, ◌⊎◌, ℕ, ◌+◌, ◌-◌, ◌≤◌, List, [], length, Ok, ◌<◌, ◌^◌, Contains, IsTrue}
-use Rattle.std.proofs.Common.{◌∙◌}
+use Rattle.std.specs.Prelude.{◌≡◌, ℕ, ◌+◌, ◌≤◌, List, [], length, Ok, Contains, IsTrue}
 use Rattle.disk_face.specs.Moments.{Only}
 use Rattle.slot_codec.specs.Choice as choice
 use Rattle.slot_codec.specs.Spelling.{head_len}

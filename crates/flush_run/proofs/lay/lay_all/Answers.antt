@@ -1,8 +1,7 @@
-use Rattle.std.proofs.Common.{arith, refl, sym, subst, ap, ◌∙◌}
+use Rattle.std.proofs.Common.{arith, refl, sym, subst, ◌∙◌}
 use Rattle.flush_run.specs.Loops.{Lays, LaysPaid}
 use Rattle.flush_run.specs.Parts.{parts_of}
 use Rattle.flush_run.proofs.LeftLaws.{left_then, none_of, source_within, still_told, target_within, told_before}
-use Rattle.flush_run.proofs.MadeLaws.{KeepsOn-then}
 use Rattle.flush_run.proofs.LayLaws.{lay_begins, lay_calls, lay_can, lay_fresh, lay_goes, lay_head, lay_made, lay_most, lay_most_saved, lay_names, lay_next, lay_part, lay_part_saved, lay_pays, lay_saveable, lay_slot, lay_space}
 use Rattle.flush_run.proofs.lay.lay_all.Goals as goal
 

@@ -1,7 +1,6 @@
-use Rattle.std.proofs.Common.{arith, refl, sym, subst, ◌∙◌}
+use Rattle.std.proofs.Common.{arith, sym, subst, ◌∙◌}
 use Rattle.flush_run.specs.Loops.{Lifts}
 use Rattle.flush_run.specs.Parts.{parts_of}
-use Rattle.flush_run.proofs.CallLaws.{calls_wider}
 use Rattle.flush_run.proofs.LeftLaws.{left_then, none_of, source_within, still_told, target_within, told_before}
 use Rattle.flush_run.proofs.LiftLaws.{lift_begins, lift_calls, lift_can, lift_made, lift_most, lift_next, lift_part, lift_space}
 use Rattle.flush_run.proofs.lift.lift_all.Goals as goal

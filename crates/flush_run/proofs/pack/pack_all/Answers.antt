@@ -3,7 +3,6 @@ use Rattle.flush_plan.specs.Phases.{lifted_in}
 use Rattle.flush_run.specs.Loops.{Packs, PacksPaid}
 use Rattle.flush_run.specs.Parts.{parts_of}
 use Rattle.flush_run.proofs.LeftLaws.{left_then, none_of, source_within, still_told, target_within, told_before}
-use Rattle.flush_run.proofs.MadeLaws.{KeepsOn-then}
 use Rattle.flush_run.proofs.PackLaws.{pack_begins, pack_calls, pack_can, pack_fresh, pack_goes, pack_head, pack_made, pack_most, pack_most_saved, pack_names, pack_next, pack_part, pack_part_saved, pack_pays, pack_saveable, pack_slot, pack_space}
 use Rattle.flush_run.proofs.pack.pack_all.Goals as goal
 

@@ -1,5 +1,5 @@
-use Rattle.std.proofs.Common.{arith, refl, sym, subst, ap, ◌∙◌}
-use Rattle.std.specs.Prelude.{◌≡◌, ◌+◌, ◌≤◌, ◌<◌, ◌^◌, ℕ, List, slice_index}
+use Rattle.std.proofs.Common.{arith, refl, ap, ◌∙◌}
+use Rattle.std.specs.Prelude.{◌+◌, ℕ, List, slice_index}
 use Rattle.segment_layout.specs.Shapes.{is_boundary}
 use Rattle.flush_run.proofs.LeftLaws.{told_before}
 use Rattle.segment_layout.specs.Layouts.{grid_of}

@@ -1,4 +1,4 @@
-use Rattle.std.proofs.Common.{arith, refl, sym, subst, ap, ◌∙◌}
+use Rattle.std.proofs.Common.{arith, refl, ap, ◌∙◌}
 use Rattle.slot_codec.specs.Choice as choice
 use Rattle.flush_plan.specs.Phases.{Phase}
 use Rattle.flush_run.proofs.LeftLaws.{left_then, still_told}

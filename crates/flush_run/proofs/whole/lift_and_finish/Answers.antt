@@ -1,4 +1,4 @@
-use Rattle.std.proofs.Common.{arith, refl, sym, subst, ap, ◌∙◌}
+use Rattle.std.proofs.Common.{arith, subst, ap}
 use Rattle.std.specs.Prelude.{◌+◌, ◌*◌, ◌/◌, ◌<◌}
 use Rattle.slot_codec.specs.Choice as choice
 use Rattle.spot_terms.proofs.SaveCountLaws.{pays_for}

@@ -1,4 +1,4 @@
-use Rattle.std.proofs.Common.{arith, refl}
+use Rattle.std.proofs.Common.{arith}
 use Rattle.flush_run.proofs.WholeLaws.{items_few, packs_begin, to_pack_few}
 use Rattle.flush_run.proofs.whole.resume.Goals as goal
 
