@@ -1,4 +1,5 @@
--- What the guard can be told of an object that moves: there is room for the span of its source, which is apart
+-- What the guard can be told of an object that moves: there is room for the span of its source, which is
+-- apart
 -- from all that was freed.
 use Rattle.std.specs.Prelude.{◌≡◌, ◌⊎◌, ℕ, ◌+◌, ◌<◌, ◌≤◌, true, false, List, length, slice_index_or, Some}
 use Rattle.std.proofs.Common.{arith, sym, ◌∙◌, ap, inl, inr}
@@ -24,7 +25,8 @@ module _ (mv : Move) (e : Extents) (spans : List Span) (can : CanMove mv e spans
     m = can.mover
 
     held : is_at (fin.get e.kept m.name) m.spot ≡ true
-    held = ap (is_at (fin.get e.kept m.name)) (sym (source_is e mv m.name m.spot m.mover)) ∙ sym (stood m.name m.mover.keyed)
+    held = ap (is_at (fin.get e.kept m.name)) (sym (source_is e mv m.name m.spot m.mover))
+        ∙ sym (stood m.name m.mover.keyed)
 
     kept_there : fin.get e.kept m.name ≡ Some m.spot
     kept_there = at_is (fin.get e.kept m.name) m.spot held
@@ -44,14 +46,17 @@ module _ (mv : Move) (e : Extents) (spans : List Span) (can : CanMove mv e spans
         elim (cases_Bool (same_name o.0 m.name)) as (λ _. IsOff b) [
           | inl same ↦
               let q : o.0 ≡ m.name = same_name-is o.0 m.name same in
-              let x : m.spot ≡ o.1 = same_Some m.spot o.1 (sym kept_there ∙ ap (fin.get e.kept) (sym q) ∙ o.2) in
+              let x : m.spot ≡ o.1 = same_Some m.spot o.1 (sym kept_there ∙ ap (fin.get e.kept) (sym q)
+              ∙ o.2) in
               absurd (let bad : true ≡ false = sym o.3 ∙ (λ j. is_freed e.now (q j, sym x j))
               ∙ stood_there spans e.now e.kept m.name m.spot m.mover.is in cc)
           | inr other ↦ elim (can.kept_apart o.0 m.name o.1 m.spot o.2 kept_there) as (λ _. IsOff b) [
-            | inl name ↦ absurd (let tied : same_name o.0 m.name ≡ true = ap (same_name o.0) (sym name) ∙ same_name-itself o.0 in cc)
+            | inl name ↦ absurd (let tied : same_name o.0 m.name ≡ true = ap (same_name o.0) (sym name)
+                ∙ same_name-itself o.0 in cc)
             | inr (inl none) ↦ inl (omega (arith, none, o.4.1))
             | inr (inr (inl none)) ↦ absurd (omega (arith, none, m.mover.size, m.mover.some))
             | inr (inr (inr (inl low))) ↦ inr (inr (inl (omega (arith, low, o.4.0, o.4.1, m.mover.from))))
-            | inr (inr (inr (inr high))) ↦ inr (inr (inr (omega (arith, high, o.4.0, m.mover.from, m.mover.size))))
+            | inr (inr (inr (inr high))) ↦ inr
+                (inr (inr (omega (arith, high, o.4.0, m.mover.from, m.mover.size))))
           ]
         ]

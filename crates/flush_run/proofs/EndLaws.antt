@@ -73,7 +73,11 @@ module _ {classes : ℕ} {f : Flight} {caps : List ℕ} {grid : List (List ℕ)}
           few = hands.few;
           top = top;
           caps_full = end_row f x.in_use x.table caps grid x.spans p hands top lie;
-          grid_full = IsGrid-settled f.classes b grid hands.grid_full (omega (arith, hands.boundary, hands.few));
+          grid_full = IsGrid-settled f.classes b grid hands.grid_full (omega (
+            arith,
+            hands.boundary,
+            hands.few,
+          ));
           named = hands.table.now_named;
           valid = end_valid f x.in_use x.table caps grid x.spans p hands top lie;
         }
@@ -99,7 +103,14 @@ module _ {classes : ℕ} {f : Flight} {caps : List ℕ} {grid : List (List ℕ)}
     cap_low : (c : ℕ) → c < width → slice_index new c < 2 ^ 48
     cap_low c wide =
         let long = full f x.in_use x.table caps grid x.spans p hands in
-        omega (arith, start_of-le k new c (omega (arith, wide, long)), fits, hands.wall, hands.same_reach, hands.in_range)
+        omega (
+          arith,
+          start_of-le k new c (omega (arith, wide, long)),
+          fits,
+          hands.wall,
+          hands.same_reach,
+          hands.in_range,
+        )
 
     module _ (volumes : List ℕ) (row : IsRow classes volumes)
         (sums : (c : ℕ) → c < classes → slice_index volumes c ≡ class_total p.items c)
@@ -136,7 +147,8 @@ module _ {classes : ℕ} {f : Flight} {caps : List ℕ} {grid : List (List ℕ)}
             each i low = elim (cases_lt i b) [
               | inl lower ↦ caps-settled_below b i caps volumes hands.caps_full.full within lower
                   ∙ sym (caps-settled_below b i caps live hands.caps_full.full within lower)
-              | inr upper ↦ caps-settled_above b i caps volumes hands.caps_full.full within upper ∙ volume_is i upper
+              | inr upper ↦ caps-settled_above b i caps volumes hands.caps_full.full within upper
+                  ∙ volume_is i upper
             ]
 
     -- ---- the header and the length
@@ -144,7 +156,8 @@ module _ {classes : ℕ} {f : Flight} {caps : List ℕ} {grid : List (List ℕ)}
     module _ {caps2 : List ℕ} {grid2 : List (List ℕ)} {header : Header} {given volumes : List ℕ} {m : Numbers}
         (row : IsRow classes volumes) (same : volumes ≡ given)
         (sums : (c : ℕ) → c < classes → slice_index given c ≡ class_total p.items c) (numbers : m ≡ p.numbers)
-        (caps_at : caps2 ≡ settled_caps m.boundary caps volumes) (grid_at : grid2 ≡ settled_grid m.boundary grid)
+        (caps_at : caps2 ≡ settled_caps m.boundary caps volumes) (grid_at : grid2
+        ≡ settled_grid m.boundary grid)
         (header_is : header ≡ settled_header caps2 grid2)
       where
         sums_here : (c : ℕ) → c < classes → slice_index volumes c ≡ class_total p.items c
@@ -169,7 +182,8 @@ module _ {classes : ℕ} {f : Flight} {caps : List ℕ} {grid : List (List ℕ)}
         can_cut = subst (λ (cs : List ℕ). CanCut f x.in_use x.table.now header (end_of k cs)) (sym caps_new)
             (subst (λ h. CanCut f x.in_use x.table.now h (end_of k new)) (sym header_new) saveable.1)
 
-        pub len_is : (divisor base len : ℕ) → divisor ≡ x.divisor → base ≡ x.base → len ≡ base + end_of divisor caps2
+        pub len_is : (divisor base len : ℕ) → divisor ≡ x.divisor → base ≡ x.base
+            → len ≡ base + end_of divisor caps2
             → f.base + end_of k caps2 ≡ len
         len_is divisor base len same at is =
             (let e : end_of divisor caps2 ≡ end_of k caps2 =
@@ -203,12 +217,17 @@ module _ {classes : ℕ} {f : Flight} {caps : List ℕ} {grid : List (List ℕ)}
               divisor = divisor ∙ g.divisor ∙ hands.divisor ∙ sym same_k;
               laid =
                   subst (λ n. IsLaidOut classes SIZE_MAX n x2.caps x2.grid x2.table.now) (sym same_k)
-                  (subst (λ (cs : List ℕ). IsLaidOut classes SIZE_MAX k cs x2.grid x2.table.now) (sym whole_row)
-                  (subst (λ (gs : List (List ℕ)). IsLaidOut classes SIZE_MAX k new gs x2.table.now) (sym whole_grid)
-                  (subst (λ (s : Spots). IsLaidOut classes SIZE_MAX k new (settled_grid b grid) s) (sym now) laid_out)));
-              book = (λ i. shown_book classes SIZE_MAX (same_k i) (whole_row i) (whole_grid i) (now i)) ∙ book_is;
+                  (subst (λ (cs : List ℕ). IsLaidOut classes SIZE_MAX k cs x2.grid x2.table.now)
+                  (sym whole_row)
+                  (subst (λ (gs : List (List ℕ)). IsLaidOut classes SIZE_MAX k new gs x2.table.now)
+                  (sym whole_grid)
+                  (subst (λ (s : Spots). IsLaidOut classes SIZE_MAX k new (settled_grid b grid) s)
+                  (sym now) laid_out)));
+              book = (λ i. shown_book classes SIZE_MAX (same_k i) (whole_row i) (whole_grid i) (now i))
+                  ∙ book_is;
               file = λ told.
                   (let same_end : end_of k caps2 ≡ end_of x2.in_use.block.k x2.caps =
                   (λ i. end_of (sym same_k i) (sym caps_kept i)) in
-                  subst (λ n. IsSettled f x2.in_use x2.table.now n d2.file d2.may_leave) same_end (file told));
+                  subst (λ n. IsSettled f x2.in_use x2.table.now n d2.file d2.may_leave) same_end
+                  (file told));
             }

@@ -50,7 +50,8 @@ module _ {classes : ℕ} {f : Flight} {caps : List ℕ} {grid : List (List ℕ)}
     hands = g.hands
 
     -- what stands now may be saved
-    pub goes_saveable : (header : Header) → ItemsCanResume p.k p.numbers p.items → header ≡ phase_header p caps grid
+    pub goes_saveable : (header : Header) → ItemsCanResume p.k p.numbers p.items
+        → header ≡ phase_header p caps grid
         → (IsTrue f.is_fresh → x.in_use.sequence + 1 < 2 ^ 62 - 2 ^ 18)
         → IsSaveable f x.in_use x.table.now header
     goes_saveable header resumes is fresh =
@@ -66,12 +67,14 @@ module _ {classes : ℕ} {f : Flight} {caps : List ℕ} {grid : List (List ℕ)}
       abbrev found : FoundMover x.table p.numbers.boundary mv
       found =
           mover_of_item p.numbers.boundary x.table mv hands.table.keys
-          (Contains-permutation p.items (suffix_items p.numbers.boundary x.table) (mover mv) hands.items m.has)
+          (Contains-permutation p.items (suffix_items p.numbers.boundary x.table)
+          (mover mv) hands.items m.has)
 
       small : mv.size ≤ f.size_max
       small =
           let q = found in
-          (let s = by_name (λ (r : Record). r.size ≤ f.size_max) x.table.now hands.table.now_named hands.rules.sizes
+          (let s = by_name
+          (λ (r : Record). r.size ≤ f.size_max) x.table.now hands.table.now_named hands.rules.sizes
           q.name q.spot q.mover.is in
           omega (arith, s, q.mover.size))
 
@@ -79,7 +82,13 @@ module _ {classes : ℕ} {f : Flight} {caps : List ℕ} {grid : List (List ℕ)}
       in_class = elim (cases_lt (class_of mv.size) classes) [
         | inl low ↦ low
         | inr high ↦ absurd
-            (omega (arith, power_rises classes (class_of mv.size) high, class_low mv.size m.some, small, g.wide))
+            (omega (
+              arith,
+              power_rises classes (class_of mv.size) high,
+              class_low mv.size m.some,
+              small,
+              g.wide,
+            ))
       ]
 
       pub can_step : CanStep classes f x mv
@@ -101,7 +110,8 @@ module _ {classes : ℕ} {f : Flight} {caps : List ℕ} {grid : List (List ℕ)}
               source = omega (arith, ends, hands.in_range);
               target = omega (arith, goal, hands.in_range);
               high = omega (arith, small, g.limit);
-              apart = elim (safe.apart (mover mv) m.has) [ inl before ↦ inr before | inr behind ↦ inl behind ];
+              apart = elim (safe.apart (mover mv) m.has)
+                  [ inl before ↦ inr before | inr behind ↦ inl behind ];
               kept_apart = hands.kept_apart;
             };
             from = ends;
@@ -118,21 +128,24 @@ module _ {classes : ℕ} {f : Flight} {caps : List ℕ} {grid : List (List ℕ)}
 
       -- a move to free space was made
       pub goes_moved : (x2 : Parts) (d2 : State) → IsFreeSpace x.table.now x.table.kept mv.to mv.size
-          → HasMoved mv x.table x2.table x.spans x2.spans → x2.in_use ≡ x.in_use → x2.base ≡ x.base → x2.divisor ≡ x.divisor
+          → HasMoved mv x.table x2.table x.spans x2.spans → x2.in_use ≡ x.in_use → x2.base ≡ x.base
+          → x2.divisor ≡ x.divisor
           → x2.table.names ≤ x2.room → (IsTrue d2.tells → Flies f x.in_use x2.table d2)
           → Goes classes f caps grid x2 (moved_by mv p) d2
       goes_moved x2 d2 free moved slots base divisor room flies =
           let q = found in
           let h = has_mover x.table p.numbers.boundary mv q in
           let same : x2.table ≡ moved_table x.table q.name q.spot mv.to = moved.now q.name q.spot h.mover in
-          let after = hands_stepped f x.in_use x.table x2.table caps grid x.spans x2.spans p mv q.name q.spot hands safe
+          let after = hands_stepped f x.in_use x.table x2.table caps grid x.spans x2.spans p mv q.name q.spot
+          hands safe
           q.mover free moved in
           record {
             hands = subst (λ u. IsHandsFor f u x2.table caps grid x2.spans (moved_by mv p)) (sym slots) after;
             book =
                 (λ i. book_of (laid f.classes f.size_max (slots i).block.k f.reach (phase_header p caps grid)
                 (ap (λ (e : Extents). e.now) same i)))
-                ∙ moved_book f.classes f.size_max x.in_use.block.k f.reach (phase_header p caps grid) x.table.now
+                ∙ moved_book f.classes f.size_max x.in_use.block.k f.reach
+                (phase_header p caps grid) x.table.now
                 hands.table.now_named q.name q.spot (moved_spot q.spot mv.to) q.mover.is refl q.mover.high
                 ∙ g.book;
             same_base = g.same_base ∙ sym base;
@@ -147,7 +160,8 @@ module _ {classes : ℕ} {f : Flight} {caps : List ℕ} {grid : List (List ℕ)}
           }
 
       -- the target of a move was freed
-      module _ (x2 : Parts) (d2 : State) (target : Span) (place : target.place ≡ mv.to) (size : target.size ≡ mv.size)
+      module _ (x2 : Parts) (d2 : State) (target : Span) (place : target.place ≡ mv.to) (size : target.size
+          ≡ mv.size)
           (saved : Bool)
           (a : FreesTarget saved target x.in_use x2.in_use x.table x2.table x.spans x2.spans)
         where
@@ -164,10 +178,12 @@ module _ {classes : ℕ} {f : Flight} {caps : List ℕ} {grid : List (List ℕ)}
           pub goes_freed : x2.base ≡ x.base → x2.divisor ≡ x.divisor → x2.table.names ≤ x2.room
               → (IsTrue d2.tells → Flies f x2.in_use x2.table d2) → Goes classes f caps grid x2 p d2
           goes_freed base divisor room flies = record {
-            hands = hands_freed f x.in_use x2.in_use x.table x2.table caps grid x.spans x2.spans p hands mv safe
+            hands = hands_freed f x.in_use x2.in_use x.table x2.table caps grid x.spans x2.spans p hands mv
+                safe
                 (omega (arith, m.some)) target place size saved a;
             book =
-                (λ i. book_of (laid f.classes f.size_max (same_block saved a i) f.reach (phase_header p caps grid)
+                (λ i. book_of (laid f.classes f.size_max (same_block saved a i) f.reach
+                (phase_header p caps grid)
                 (same_now saved a i)))
                 ∙ g.book;
             same_base = g.same_base ∙ sym base;
@@ -182,5 +198,6 @@ module _ {classes : ℕ} {f : Flight} {caps : List ℕ} {grid : List (List ℕ)}
           }
 
           pub space_freed : IsFreeSpace x2.table.now x2.table.kept mv.to mv.size
-          space_freed = target_freed f x.in_use x2.in_use x.table x2.table caps grid x.spans x2.spans p hands mv safe
+          space_freed =
+              target_freed f x.in_use x2.in_use x.table x2.table caps grid x.spans x2.spans p hands mv safe
               (omega (arith, m.some)) target place size saved a

@@ -10,7 +10,8 @@ use Rattle.flush_plan.specs.Phases.{Phase}
 use Rattle.flush_plan.specs.declared.item.Move.{Move}
 use Rattle.flush_run.proofs.FlightLaws.{content_is_old_or_new}
 
-pub left_then : {f : Flight} {a b c : State} → LeavesOldOrNew f a b → LeavesOldOrNew f b c → LeavesOldOrNew f a c
+pub left_then : {f : Flight} {a b c : State} → LeavesOldOrNew f a b → LeavesOldOrNew f b c
+    → LeavesOldOrNew f a c
 left_then one two fresh = (λ rests. Leaves-trans ((one fresh).0 rests) ((two fresh).0 rests), (two fresh).1)
 
 module _ {classes : ℕ} {f : Flight} {caps : List ℕ} {grid : List (List ℕ)} {x : Parts} {p : Phase} {d : State}

@@ -38,7 +38,8 @@ abbrev pub RowMoves : Move → List ℕ → List ℕ → Type 0
 RowMoves mv old new = new
     ≡ slice_set old (class_of mv.size) (min (slice_index old (class_of mv.size) + mv.size) (2 ^ 64 - 1))
 
-module _ {classes : ℕ} {first now : State} {x0 x : Parts} {p0 p : Phase} (i : InLift classes first now x0 x p0 p)
+module _ {classes : ℕ} {first now : State} {x0 x : Parts} {p0 p : Phase}
+    (i : InLift classes first now x0 x p0 p)
     {mv : Move} (step : IsLiftStep p mv)
   where
     module _ {f : Flight} (start : Lifts classes f x0.caps x0.grid x0 p0 first) where
@@ -64,7 +65,8 @@ module _ {classes : ℕ} {first now : State} {x0 x : Parts} {p0 p : Phase} (i : 
           let same : x2.table.kept ≡ x.table.kept = kept_stays s.lifts.goes step.item step.safe moved in
           record {
             lifts = subst (λ q. Lifts classes f x0.caps x0.grid x2 q b) (sym after) (record {
-              goes = goes_moved s.lifts.goes step.item step.safe x2 b lift_space moved slots keeps.base keeps.divisor
+              goes = goes_moved s.lifts.goes step.item step.safe x2 b lift_space moved slots keeps.base
+                  keeps.divisor
                   (omega (arith, keeps.names, keeps.room, s.lifts.goes.guard)) flies;
               low = subst (λ k. AllEndBy k (end_of p.k p.caps)) (sym same) s.lifts.low;
             });
@@ -79,12 +81,14 @@ module _ {classes : ℕ} {first now : State} {x0 x : Parts} {p0 p : Phase} (i : 
         let here = class_below mv.size in
         let rises = row_rises x.moved x2.moved mv.size (omega (arith, here, long)) row in
         made_step i.made mv step.fewer step.progress after keeps (omega (arith, q)) (omega (arith, q))
-        (λ c. subst (λ k. slice_index x2.moved c ≤ slice_index x.moved c + cond (k == c) mv.size 0) (sym step.item.class)
+        (λ c. subst (λ k. slice_index x2.moved c ≤ slice_index x.moved c + cond (k == c) mv.size 0)
+        (sym step.item.class)
         (rises c))
         (λ c low. row_stays x.moved x2.moved mv.size (omega (arith, here, long)) row c
         (omega (arith, low, step.item.from, step.item.class, ap (λ n. n.boundary) i.made.same.numbers)))
 
-    pub lift_calls : (b : State) (new : List ℕ) → b.turn ≤ now.turn + pieces 65536 mv.size → length x.moved ≡ 32
+    pub lift_calls : (b : State) (new : List ℕ) → b.turn ≤ now.turn + pieces 65536 mv.size → length x.moved
+        ≡ 32
         → RowMoves mv x.moved new → CallsSoFar first.turn b.turn x0.moved new 0 0 x0.table.names
     lift_calls b new more long row =
         calls_move x.moved new mv.size (omega (arith, class_below mv.size, long)) row step.item.some

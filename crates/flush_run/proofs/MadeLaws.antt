@@ -82,7 +82,16 @@ totals_stay key to c items =
 
 pub same_plan : (p : Phase) → SamePlan p p
 same_plan p =
-    record { k = refl; caps = refl; numbers = refl; pending = refl; room = refl; count = refl; totals = λ c. refl }
+    record {
+      k = refl;
+      caps = refl;
+      numbers = refl;
+      pending = refl;
+      room = refl;
+      count = refl;
+      totals =
+          λ c. refl;
+    }
 
 pub same_plan_moved : (p0 p : Phase) (mv : Move) → SamePlan p0 p → SamePlan p0 (moved_by mv p)
 same_plan_moved p0 p mv s = record {
@@ -98,7 +107,8 @@ same_plan_moved p0 p mv s = record {
 -- ---- one move more
 
 -- where nothing is made yet
-pub made_none : (waits : Phase → ℕ) (done : Phase → ℕ → ℕ) (a : State) (x : Parts) (p : Phase) → KeepsOn a a x x
+pub made_none : (waits : Phase → ℕ) (done : Phase → ℕ → ℕ) (a : State) (x : Parts) (p : Phase)
+    → KeepsOn a a x x
     → HasMade waits done a a x x p p
 made_none waits done a x p keeps = record {
   keeps = keeps;
@@ -115,14 +125,21 @@ module _ {waits : Phase → ℕ} {done : Phase → ℕ → ℕ} {first a : State
   where
     -- a move that failed, maybe after a save
     pub made_part : {b : State} {x2 : Parts} {p2 : Phase} → p2 ≡ moved_by mv p → KeepsOn a b x x2
-        → x.in_use.sequence ≤ x2.in_use.sequence → x2.in_use.sequence ≤ x.in_use.sequence + 1 → x2.moved ≡ x.moved
+        → x.in_use.sequence ≤ x2.in_use.sequence → x2.in_use.sequence ≤ x.in_use.sequence + 1
+        → x2.moved ≡ x.moved
         → HasMade waits done first b x0 x2 p0 p2
     made_part {b} {x2} {p2} after keeps later one row = record {
       keeps = KeepsOn-then h.keeps keeps;
       later = omega (arith, h.later, later);
       few = omega (arith, h.few, one, fewer, ap waits after);
       rises = λ c.
-          omega (arith, h.rises c, ap (λ (r : List ℕ). slice_index r c) row, progress c, ap (λ q. done q c) after);
+          omega (
+            arith,
+            h.rises c,
+            ap (λ (r : List ℕ). slice_index r c) row,
+            progress c,
+            ap (λ q. done q c) after,
+          );
       lower = λ c low. ap (λ (r : List ℕ). slice_index r c) row ∙ h.lower c low;
       same = (let s = same_plan_moved p0 p mv h.same in record {
         k = ap (λ (q : Phase). q.k) after ∙ s.k;

@@ -17,7 +17,8 @@ use Rattle.flush_run.specs.Parts.{Parts}
 use Rattle.flush_run.proofs.AsideLaws.{lay_save, pack_save}
 
 module _ {classes : ℕ} {f : Flight} {caps : List ℕ} {grid : List (List ℕ)} {x : Parts} {p : Phase} {d : State}
-    (g : Goes classes f caps grid x p d) {mv : Move} (x2 : Parts) (target : Span) (place : target.place ≡ mv.to)
+    (g : Goes classes f caps grid x p d) {mv : Move} (x2 : Parts) (target : Span) (place : target.place
+    ≡ mv.to)
     (size : target.size ≡ mv.size)
   where
     -- ---- Pack
@@ -36,7 +37,8 @@ module _ {classes : ℕ} {f : Flight} {caps : List ℕ} {grid : List (List ℕ)}
       next_at = omega (arith, step.row, step.grows)
 
       count_now : PackCount pay slack wall total x.table.kept (mv.to + mv.size) (x.in_use.sequence - q)
-      count_now = subst (λ t. PackCount pay slack wall total x.table.kept t (x.in_use.sequence - q)) top_at paid.count
+      count_now = subst (λ t. PackCount pay slack wall total x.table.kept t
+          (x.in_use.sequence - q)) top_at paid.count
 
       counted : (saved : Bool) → FreesTarget saved target x.in_use x2.in_use x.table x2.table x.spans x2.spans
           → PackCount pay slack wall total x2.table.kept mv.to (x2.in_use.sequence - q)
@@ -54,7 +56,8 @@ module _ {classes : ℕ} {f : Flight} {caps : List ℕ} {grid : List (List ℕ)}
           let kept : x.table.now ≡ x2.table.kept = sym (ap (λ (e : Extents). e.kept) a.table) in
           subst (λ (k : Spots). PackCount pay slack wall total k mv.to (x2.in_use.sequence - q)) kept
           (subst (λ s. PackCount pay slack wall total x.table.now mv.to s) n
-          (pack_moves pay slack wall total x.table.now (mv.to + mv.size) ((x.in_use.sequence - q) + 1) mv.to more
+          (pack_moves pay slack wall total x.table.now (mv.to + mv.size)
+          ((x.in_use.sequence - q) + 1) mv.to more
           (omega arith)))
       counted false a =
           let n : x.in_use.sequence - q ≡ x2.in_use.sequence - q =
@@ -63,10 +66,12 @@ module _ {classes : ℕ} {f : Flight} {caps : List ℕ} {grid : List (List ℕ)}
           let kept : x.table.kept ≡ x2.table.kept = sym (ap (λ (e : Extents). e.kept) a.table) in
           subst (λ (k : Spots). PackCount pay slack wall total k mv.to (x2.in_use.sequence - q)) kept
           (subst (λ s. PackCount pay slack wall total x.table.kept mv.to s) n
-          (pack_moves pay slack wall total x.table.kept (mv.to + mv.size) (x.in_use.sequence - q) mv.to count_now
+          (pack_moves pay slack wall total x.table.kept (mv.to + mv.size)
+          (x.in_use.sequence - q) mv.to count_now
           (omega arith)))
 
-      no_earlier : (saved : Bool) → FreesTarget saved target x.in_use x2.in_use x.table x2.table x.spans x2.spans
+      no_earlier : (saved : Bool)
+          → FreesTarget saved target x.in_use x2.in_use x.table x2.table x.spans x2.spans
           → q ≤ x2.in_use.sequence
       no_earlier true a = omega (arith, ap (λ (u : choice.InUse). u.sequence) a.pair, paid.later)
       no_earlier false a = omega (arith, ap (λ (u : choice.InUse). u.sequence) a.pair, paid.later)
@@ -76,9 +81,12 @@ module _ {classes : ℕ} {f : Flight} {caps : List ℕ} {grid : List (List ℕ)}
           → x3.in_use ≡ x2.in_use → x3.table.kept ≡ x2.table.kept → PacksPaid pay total q x3 (moved_by mv p)
       pack_paid saved a x3 slots kept = record {
         count =
-            subst (λ (k : Spots). PackCount pay slack wall total k (wall - packed_bytes (moved_by mv p)) (x3.in_use.sequence - q)) (sym kept)
-            (subst (λ (u : choice.InUse). PackCount pay slack wall total x2.table.kept (wall - packed_bytes (moved_by mv p)) (u.sequence - q)) (sym slots)
-            (subst (λ t. PackCount pay slack wall total x2.table.kept t (x2.in_use.sequence - q)) (sym next_at) (counted saved a)));
+            subst (λ (k : Spots). PackCount pay slack wall total k (wall - packed_bytes (moved_by mv p))
+            (x3.in_use.sequence - q)) (sym kept)
+            (subst (λ (u : choice.InUse). PackCount pay slack wall total x2.table.kept (wall - packed_bytes
+            (moved_by mv p)) (u.sequence - q)) (sym slots)
+            (subst (λ t. PackCount pay slack wall total x2.table.kept t (x2.in_use.sequence - q))
+            (sym next_at) (counted saved a)));
         later = omega (arith, no_earlier saved a, ap (λ (u : choice.InUse). u.sequence) slots);
         pays = subst (Pays pay slack) (sym step.largest) paid.pays;
         below = omega (arith, step.below, paid.below);
@@ -96,35 +104,46 @@ module _ {classes : ℕ} {f : Flight} {caps : List ℕ} {grid : List (List ℕ)}
       abbrev front2 : ℕ
       front2 = p.numbers.wall - waiting_bytes (moved_by mv p)
 
-      laid_count : (saved : Bool) → FreesTarget saved target x.in_use x2.in_use x.table x2.table x.spans x2.spans
+      laid_count : (saved : Bool)
+          → FreesTarget saved target x.in_use x2.in_use x.table x2.table x.spans x2.spans
           → LayCount pay begin x2.table.kept (laid_end (moved_by mv p)) front2 (x2.in_use.sequence - q)
       laid_count true a =
           let t = a.touched in
           let more =
-          lay_save f x.in_use x.table caps grid x.spans p g.hands pay (largest_item p) begin (laid_end p) front
+          lay_save f x.in_use x.table caps grid x.spans p g.hands pay (largest_item p) begin
+          (laid_end p) front
           (x.in_use.sequence - q) mv t.1 target paid.pays paid.count (t.0, t.2, t.3) t.4 place size
           step.behind step.small (omega (arith, step.far, step.row)) (omega (arith, paid.below)) step.safe.low
-          (λ it has. elim (step.sides it has) [ inl low ↦ inl low | inr high ↦ inr (omega (arith, high, step.row)) ])
+          (λ it has. elim (step.sides it has) [
+            | inl low ↦ inl low
+            | inr high ↦ inr
+                (omega (arith, high, step.row))
+          ])
           in
           let n : (x.in_use.sequence - q) + 1 ≡ x2.in_use.sequence - q =
           omega (arith, ap (λ (u : choice.InUse). u.sequence) a.pair, paid.later)
           in
           let kept : x.table.now ≡ x2.table.kept = sym (ap (λ (e : Extents). e.kept) a.table) in
-          subst (λ (k : Spots). LayCount pay begin k (laid_end (moved_by mv p)) front2 (x2.in_use.sequence - q)) kept
+          subst (λ (k : Spots). LayCount pay begin k (laid_end (moved_by mv p)) front2
+          (x2.in_use.sequence - q)) kept
           (subst (λ s. LayCount pay begin x.table.now (laid_end (moved_by mv p)) front2 s) n
-          (lay_moves pay begin x.table.now mv.to front ((x.in_use.sequence - q) + 1) (laid_end (moved_by mv p)) front2
+          (lay_moves pay begin x.table.now mv.to front ((x.in_use.sequence - q) + 1)
+          (laid_end (moved_by mv p)) front2
           more (omega (arith, step.laid)) (omega (arith, step.falls))))
       laid_count false a =
           let n : x.in_use.sequence - q ≡ x2.in_use.sequence - q =
           omega (arith, ap (λ (u : choice.InUse). u.sequence) a.pair)
           in
           let kept : x.table.kept ≡ x2.table.kept = sym (ap (λ (e : Extents). e.kept) a.table) in
-          subst (λ (k : Spots). LayCount pay begin k (laid_end (moved_by mv p)) front2 (x2.in_use.sequence - q)) kept
+          subst (λ (k : Spots). LayCount pay begin k (laid_end (moved_by mv p)) front2
+          (x2.in_use.sequence - q)) kept
           (subst (λ s. LayCount pay begin x.table.kept (laid_end (moved_by mv p)) front2 s) n
-          (lay_moves pay begin x.table.kept (laid_end p) front (x.in_use.sequence - q) (laid_end (moved_by mv p)) front2
+          (lay_moves pay begin x.table.kept (laid_end p) front (x.in_use.sequence - q)
+          (laid_end (moved_by mv p)) front2
           paid.count (omega (arith, step.laid, step.behind)) (omega (arith, step.falls))))
 
-      not_earlier : (saved : Bool) → FreesTarget saved target x.in_use x2.in_use x.table x2.table x.spans x2.spans
+      not_earlier : (saved : Bool)
+          → FreesTarget saved target x.in_use x2.in_use x.table x2.table x.spans x2.spans
           → q ≤ x2.in_use.sequence
       not_earlier true a = omega (arith, ap (λ (u : choice.InUse). u.sequence) a.pair, paid.later)
       not_earlier false a = omega (arith, ap (λ (u : choice.InUse). u.sequence) a.pair, paid.later)
@@ -134,8 +153,10 @@ module _ {classes : ℕ} {f : Flight} {caps : List ℕ} {grid : List (List ℕ)}
           → x3.in_use ≡ x2.in_use → x3.table.kept ≡ x2.table.kept → LaysPaid pay total q x3 (moved_by mv p)
       lay_paid saved a x3 slots kept = record {
         count =
-            subst (λ (k : Spots). LayCount pay begin k (laid_end (moved_by mv p)) front2 (x3.in_use.sequence - q)) (sym kept)
-            (subst (λ (u : choice.InUse). LayCount pay begin x2.table.kept (laid_end (moved_by mv p)) front2 (u.sequence - q)) (sym slots)
+            subst (λ (k : Spots). LayCount pay begin k (laid_end (moved_by mv p)) front2
+            (x3.in_use.sequence - q)) (sym kept)
+            (subst (λ (u : choice.InUse). LayCount pay begin x2.table.kept (laid_end (moved_by mv p)) front2
+            (u.sequence - q)) (sym slots)
             (laid_count saved a));
         later = omega (arith, not_earlier saved a, ap (λ (u : choice.InUse). u.sequence) slots);
         pays = subst (Pays pay p.numbers.slack) (sym step.largest) paid.pays;
@@ -146,7 +167,8 @@ module _ {classes : ℕ} {f : Flight} {caps : List ℕ} {grid : List (List ℕ)}
 pub packs_end : (k pay total q : ℕ) (x : Parts) (p : Phase) → PacksPaid pay total q x p → total < k * pay
     → x.in_use.sequence < q + k
 packs_end k pay total q x p paid enough =
-    let n = pack_ends pay p.numbers.slack p.numbers.wall total k x.table.kept (p.numbers.wall - packed_bytes p)
+    let n = pack_ends pay p.numbers.slack p.numbers.wall total k x.table.kept
+    (p.numbers.wall - packed_bytes p)
     (x.in_use.sequence - q) paid.count enough in
     omega (arith, n, paid.later)
 

@@ -41,7 +41,8 @@ module _ {classes : ℕ} {f : Flight} {caps : List ℕ} {grid : List (List ℕ)}
     (g : Goes classes f caps grid x p d)
   where
     hands_permuted : (items : List Item) → IsPermutation p.items items
-        → IsHandsFor f x.in_use x.table caps grid x.spans (phase_of p.k p.caps p.numbers p.pending items p.room)
+        → IsHandsFor f x.in_use x.table caps grid x.spans
+        (phase_of p.k p.caps p.numbers p.pending items p.room)
     hands_permuted items perm = record {
       block = g.hands.block;
       base = g.hands.base;
@@ -98,7 +99,8 @@ module _ {classes : ℕ} {f : Flight} {caps : List ℕ} {grid : List (List ℕ)}
         suffix_few : length (suffix_items p.numbers.boundary x.table) ≤ fin.len x.table.now
         suffix_few =
             let es = fin.entries x.table.now in
-            let q = λ (e : List ℕ × Spot). nat_lt 0 e.1.size && nat_le p.numbers.boundary (class_of e.1.size) in
+            let q = λ (e : List ℕ × Spot). nat_lt 0 e.1.size && nat_le p.numbers.boundary
+            (class_of e.1.size) in
             omega (
               arith,
               length-map (filter q es) (spot_item x.table.keys),
@@ -132,7 +134,8 @@ module _ {classes : ℕ} {f : Flight} {caps : List ℕ} {grid : List (List ℕ)}
       };
     }
 
-pub lays_begin : {classes : ℕ} {f : Flight} {caps : List ℕ} {grid : List (List ℕ)} {x : Parts} {p : Phase} {d : State}
+pub lays_begin : {classes : ℕ} {f : Flight} {caps : List ℕ} {grid : List (List ℕ)} {x : Parts} {p : Phase}
+    {d : State}
     → Packs classes f caps grid x p d → (l : Phase) → IsPermutation p.items l.items
     → l ≡ phase_of p.k p.caps p.numbers p.pending l.items p.room → Lays classes f caps grid x l d
 lays_begin {p = p} k l perm same =
@@ -175,9 +178,11 @@ packs_paid x p pays low far =
     let none : 0 ≡ q - q = omega arith in
     let top = p.numbers.wall - packed_bytes p in
     record {
-      count = subst (λ n. PackCount pay p.numbers.slack p.numbers.wall (bytes_below p) x.table.kept top n) none
+      count = subst (λ n. PackCount pay p.numbers.slack p.numbers.wall
+          (bytes_below p) x.table.kept top n) none
           (pack_moves pay p.numbers.slack p.numbers.wall (bytes_below p) x.table.kept p.numbers.wall 0 top
-          (pack_start pay p.numbers.slack p.numbers.wall (bytes_below p) (end_of p.k p.caps) x.table.kept low far)
+          (pack_start pay p.numbers.slack p.numbers.wall (bytes_below p)
+          (end_of p.k p.caps) x.table.kept low far)
           (omega arith));
       later = omega arith;
       pays = record { gap = pays };
@@ -192,8 +197,10 @@ lays_paid x p l pay total q paid numbers largest below =
     let s = x.in_use.sequence in
     let none : 0 ≡ s - s = omega arith in
     record {
-      count = subst (λ n. LayCount pay (l.numbers.wall - total) x.table.kept (laid_end l) (l.numbers.wall - waiting_bytes l) n)
-          none (lay_start pay (l.numbers.wall - total) x.table.kept (laid_end l) (l.numbers.wall - waiting_bytes l));
+      count = subst (λ n. LayCount pay (l.numbers.wall - total) x.table.kept (laid_end l)
+          (l.numbers.wall - waiting_bytes l) n)
+          none (lay_start pay (l.numbers.wall - total) x.table.kept (laid_end l)
+          (l.numbers.wall - waiting_bytes l));
       later = omega arith;
       pays = subst (λ w. Pays pay l.numbers.slack w) (sym largest)
           (subst (λ (n : Numbers). Pays pay n.slack (largest_item p)) (sym numbers) paid.pays);
@@ -231,7 +238,8 @@ settling_after one two = record {
   base = two.base ∙ one.base;
 }
 
-module _ {first a : State} {x0 x1 : Parts} {p0 p1 : Phase} (m1 : HasMade to_pack packed_in first a x0 x1 p0 p1)
+module _ {first a : State} {x0 x1 : Parts} {p0 p1 : Phase}
+    (m1 : HasMade to_pack packed_in first a x0 x1 p0 p1)
     (lifted : (c : ℕ) → lifted_in p1 c ≡ lifted_in p0 c)
   where
     packed_few : (c : ℕ) → slice_index x1.moved c + lifted_in p0 c + packed_in p0 c
@@ -247,7 +255,8 @@ module _ {first a : State} {x0 x1 : Parts} {p0 p1 : Phase} (m1 : HasMade to_pack
       lower = m1.lower;
       few = λ c. omega (arith, packed_few c);
       most = calls_wider first.turn a.turn a.turn x0.moved x1.moved 16 18
-          (x1.in_use.sequence - x0.in_use.sequence + 1) (x1.in_use.sequence - x0.in_use.sequence + 1) x0.table.names
+          (x1.in_use.sequence - x0.in_use.sequence + 1)
+          (x1.in_use.sequence - x0.in_use.sequence + 1) x0.table.names
           most (omega arith) (omega arith);
     }
 
@@ -268,7 +277,8 @@ module _ {first a : State} {x0 x1 : Parts} {p0 p1 : Phase} (m1 : HasMade to_pack
         )
 
         low_numbers : l0.numbers.boundary ≡ p0.numbers.boundary
-        low_numbers = ap (λ (p : Phase). p.numbers.boundary) same ∙ ap (λ (n : Numbers). n.boundary) m1.same.numbers
+        low_numbers = ap (λ (p : Phase). p.numbers.boundary) same
+            ∙ ap (λ (n : Numbers). n.boundary) m1.same.numbers
 
         lower_both : (c : ℕ) → c < p0.numbers.boundary → slice_index x2.moved c ≡ slice_index x0.moved c
         lower_both c low = m2.lower c (omega (arith, low, low_numbers)) ∙ m1.lower c low
@@ -281,10 +291,12 @@ module _ {first a : State} {x0 x1 : Parts} {p0 p1 : Phase} (m1 : HasMade to_pack
         pub finished_lays : CallsSoFar a.turn b.turn x1.moved x2.moved 16
             (x2.in_use.sequence - x1.in_use.sequence + 1) x1.table.names → HasFinished p0 first b x0 x2
         finished_lays most =
-            let again = subst (λ n. CallsSoFar a.turn b.turn x1.moved x2.moved 16 (x2.in_use.sequence - x1.in_use.sequence + 1) n)
+            let again = subst (λ n. CallsSoFar a.turn b.turn x1.moved x2.moved 16
+            (x2.in_use.sequence - x1.in_use.sequence + 1) n)
             m1.keeps.names most in
             let both = calls_then first.turn a.turn b.turn x0.moved x1.moved x2.moved 0 16
-            (x1.in_use.sequence - x0.in_use.sequence) (x2.in_use.sequence - x1.in_use.sequence + 1) x0.table.names calls1 again in
+            (x1.in_use.sequence - x0.in_use.sequence)
+            (x2.in_use.sequence - x1.in_use.sequence + 1) x0.table.names calls1 again in
             record {
               keeps = settling_of (KeepsOn-then m1.keeps m2.keeps);
               later = omega (arith, m1.later, m2.later);
@@ -296,33 +308,39 @@ module _ {first a : State} {x0 x1 : Parts} {p0 p1 : Phase} (m1 : HasMade to_pack
                   (omega (arith, m1.later, m2.later)) (omega arith);
             }
 
-        module _ (calls2 : CallsSoFar a.turn b.turn x1.moved x2.moved 0 (x2.in_use.sequence - x1.in_use.sequence)
+        module _ (calls2 : CallsSoFar a.turn b.turn x1.moved x2.moved 0
+            (x2.in_use.sequence - x1.in_use.sequence)
             x1.table.names) {d : State} {x3 : Parts} (keeps : KeepsSettling b d x2 x3)
             (later : x2.in_use.sequence ≤ x3.in_use.sequence) (row : x3.moved ≡ x2.moved)
             (few : fin.len x2.table.now ≤ x2.table.names)
             (more : d.turn ≤ b.turn + save_calls (length (records_of x2.table.now)) + 2)
           where
-            before : CallsSoFar first.turn b.turn x0.moved x2.moved 0 (x2.in_use.sequence - x0.in_use.sequence)
+            before : CallsSoFar first.turn b.turn x0.moved x2.moved 0
+                (x2.in_use.sequence - x0.in_use.sequence)
                 x0.table.names
             before =
-                let again = subst (λ n. CallsSoFar a.turn b.turn x1.moved x2.moved 0 (x2.in_use.sequence - x1.in_use.sequence) n)
+                let again = subst (λ n. CallsSoFar a.turn b.turn x1.moved x2.moved 0
+                (x2.in_use.sequence - x1.in_use.sequence) n)
                 m1.keeps.names calls2 in
                 subst (λ n. CallsSoFar first.turn b.turn x0.moved x2.moved 0 n x0.table.names)
                 (omega (arith, m1.later, m2.later))
                 (calls_then first.turn a.turn b.turn x0.moved x1.moved x2.moved 0 0
-                (x1.in_use.sequence - x0.in_use.sequence) (x2.in_use.sequence - x1.in_use.sequence) x0.table.names calls1 again)
+                (x1.in_use.sequence - x0.in_use.sequence)
+                (x2.in_use.sequence - x1.in_use.sequence) x0.table.names calls1 again)
 
             records_few : length (records_of x2.table.now) ≤ x0.table.names
             records_few = omega (arith, records_of-few x2.table.now, few, m2.keeps.names, m1.keeps.names)
 
             -- with the save of the settled table, the cut and the sync
-            all_calls : CallsSoFar first.turn d.turn x0.moved x3.moved 2 (x2.in_use.sequence - x0.in_use.sequence + 1)
+            all_calls : CallsSoFar first.turn d.turn x0.moved x3.moved 2
+                (x2.in_use.sequence - x0.in_use.sequence + 1)
                 x0.table.names
             all_calls =
                 let n = length (records_of x2.table.now) in
                 let saved = calls_save first.turn b.turn (b.turn + save_calls n) x0.moved x2.moved 0
                 (x2.in_use.sequence - x0.in_use.sequence) x0.table.names n before records_few (omega arith) in
-                subst (λ r. CallsSoFar first.turn d.turn x0.moved r 2 (x2.in_use.sequence - x0.in_use.sequence + 1) x0.table.names)
+                subst (λ r. CallsSoFar first.turn d.turn x0.moved r 2
+                (x2.in_use.sequence - x0.in_use.sequence + 1) x0.table.names)
                 (sym row)
                 (calls_wider first.turn (b.turn + save_calls n) d.turn x0.moved x2.moved 0 2
                 (x2.in_use.sequence - x0.in_use.sequence + 1) (x2.in_use.sequence - x0.in_use.sequence + 1)
@@ -335,19 +353,23 @@ module _ {first a : State} {x0 x1 : Parts} {p0 p1 : Phase} (m1 : HasMade to_pack
               lower = λ c low. ap (λ (r : List ℕ). slice_index r c) row ∙ lower_both c low;
               few = λ c. omega (arith, few_both c, ap (λ (r : List ℕ). slice_index r c) row);
               most = calls_wider first.turn d.turn d.turn x0.moved x3.moved 2 18
-                  (x2.in_use.sequence - x0.in_use.sequence + 1) (x3.in_use.sequence - x0.in_use.sequence + 1) x0.table.names
+                  (x2.in_use.sequence - x0.in_use.sequence + 1)
+                  (x3.in_use.sequence - x0.in_use.sequence + 1) x0.table.names
                   all_calls (omega (arith, later)) (omega arith);
             }
 
             -- and where none failed
             pub finished_calls : x3.in_use.sequence ≡ x2.in_use.sequence + 1
-                → CallsSoFar first.turn d.turn x0.moved x3.moved 2 (x3.in_use.sequence - x0.in_use.sequence) x0.table.names
-            finished_calls one = subst (λ n. CallsSoFar first.turn d.turn x0.moved x3.moved 2 n x0.table.names)
+                → CallsSoFar first.turn d.turn x0.moved x3.moved 2
+                (x3.in_use.sequence - x0.in_use.sequence) x0.table.names
+            finished_calls one =
+                subst (λ n. CallsSoFar first.turn d.turn x0.moved x3.moved 2 n x0.table.names)
                 (omega (arith, one, m1.later, m2.later)) all_calls
 
 -- ---- the same in the layout of the parts
 
-pub lays_in : {classes : ℕ} {f : Flight} {caps caps2 : List ℕ} {grid grid2 : List (List ℕ)} {x : Parts} {l q : Phase}
+pub lays_in : {classes : ℕ} {f : Flight} {caps caps2 : List ℕ} {grid grid2 : List (List ℕ)} {x : Parts}
+    {l q : Phase}
     {d : State} → Lays classes f caps grid x l d → caps2 ≡ caps → grid2 ≡ grid → q ≡ l
     → Lays classes f caps2 grid2 x q d
 lays_in {classes} {f} {caps} {caps2} {grid} {grid2} {x} {l} {q} {d} h cs gs same =
@@ -355,7 +377,8 @@ lays_in {classes} {f} {caps} {caps2} {grid} {grid2} {x} {l} {q} {d} h cs gs same
     (subst (λ (c : List ℕ). Lays classes f c grid2 x l d) (sym cs)
     (subst (λ (g : List (List ℕ)). Lays classes f caps g x l d) (sym gs) h))
 
-pub goes_in : {classes : ℕ} {f : Flight} {caps caps2 : List ℕ} {grid grid2 : List (List ℕ)} {x : Parts} {l q : Phase}
+pub goes_in : {classes : ℕ} {f : Flight} {caps caps2 : List ℕ} {grid grid2 : List (List ℕ)} {x : Parts}
+    {l q : Phase}
     {d : State} → Goes classes f caps grid x l d → caps2 ≡ caps → grid2 ≡ grid → q ≡ l
     → Goes classes f caps2 grid2 x q d
 goes_in {classes} {f} {caps} {caps2} {grid} {grid2} {x} {l} {q} {d} h cs gs same =
@@ -364,7 +387,8 @@ goes_in {classes} {f} {caps} {caps2} {grid} {grid2} {x} {l} {q} {d} h cs gs same
     (subst (λ (g : List (List ℕ)). Goes classes f caps g x l d) (sym gs) h))
 
 -- the header of Pack is that of Lay
-pub header_again : (header : Header) (p l : Phase) (n : Numbers) (caps caps2 : List ℕ) (grid grid2 : List (List ℕ))
+pub header_again : (header : Header) (p l : Phase) (n : Numbers) (caps caps2 : List ℕ) (grid grid2 : List
+    (List ℕ))
     → header ≡ moving_header n.boundary n.wall n.slack caps grid → n ≡ p.numbers → l.numbers ≡ p.numbers
     → caps2 ≡ caps → grid2 ≡ grid → header ≡ phase_header l caps2 grid2
 header_again header p l n caps caps2 grid grid2 is same numbers cs gs =
@@ -393,7 +417,8 @@ saves_paid {x1} {x2} {p1} {l1} k {pay} {total} {q} paid laid enough is =
 
 -- ---- with Lift before it
 
-module _ {first a : State} {x0 x1 : Parts} {p0 p1 : Phase} (m1 : HasMade to_lift lifted_in first a x0 x1 p0 p1) where
+module _ {first a : State} {x0 x1 : Parts} {p0 p1 : Phase}
+    (m1 : HasMade to_lift lifted_in first a x0 x1 p0 p1) where
   lifted_few : (c : ℕ) → slice_index x1.moved c ≤ slice_index x0.moved c + lifted_in p1 c
   lifted_few c = omega (arith, m1.rises c)
 
@@ -415,7 +440,8 @@ module _ {first a : State} {x0 x1 : Parts} {p0 p1 : Phase} (m1 : HasMade to_lift
       -- what came after it
       pub run_all : HasFinished q a d x1 x2 → HasRun p0.numbers.boundary p0.items first d x0 x2
       run_all h =
-          let again = subst (λ n. CallsSoFar a.turn d.turn x1.moved x2.moved 18 (x2.in_use.sequence - x1.in_use.sequence + 1) n)
+          let again = subst (λ n. CallsSoFar a.turn d.turn x1.moved x2.moved 18
+          (x2.in_use.sequence - x1.in_use.sequence + 1) n)
           m1.keeps.names h.most in
           let both = calls_then first.turn a.turn d.turn x0.moved x1.moved x2.moved 0 18 0
           (x2.in_use.sequence - x1.in_use.sequence + 1) x0.table.names calls again in
@@ -435,14 +461,19 @@ module _ {first a : State} {x0 x1 : Parts} {p0 p1 : Phase} (m1 : HasMade to_lift
               m1.same.totals c,
             );
             most = calls_wider first.turn d.turn d.turn x0.moved x2.moved (0 + 18) 18
-                (0 + (x2.in_use.sequence - x1.in_use.sequence + 1)) (x2.in_use.sequence - x0.in_use.sequence + 1)
-                x0.table.names both (omega (arith, ap (λ (u : choice.InUse). u.sequence) slots)) (omega arith);
+                (0 + (x2.in_use.sequence - x1.in_use.sequence + 1))
+                (x2.in_use.sequence - x0.in_use.sequence + 1)
+                x0.table.names both (omega (arith, ap (λ (u : choice.InUse). u.sequence) slots))
+                (omega arith);
           }
 
-      pub run_calls : CallsSoFar a.turn d.turn x1.moved x2.moved 2 (x2.in_use.sequence - x1.in_use.sequence) x1.table.names
-          → CallsSoFar first.turn d.turn x0.moved x2.moved 2 (x2.in_use.sequence - x0.in_use.sequence) x0.table.names
+      pub run_calls : CallsSoFar a.turn d.turn x1.moved x2.moved 2
+          (x2.in_use.sequence - x1.in_use.sequence) x1.table.names
+          → CallsSoFar first.turn d.turn x0.moved x2.moved 2
+          (x2.in_use.sequence - x0.in_use.sequence) x0.table.names
       run_calls more =
-          let again = subst (λ n. CallsSoFar a.turn d.turn x1.moved x2.moved 2 (x2.in_use.sequence - x1.in_use.sequence) n)
+          let again = subst (λ n. CallsSoFar a.turn d.turn x1.moved x2.moved 2
+          (x2.in_use.sequence - x1.in_use.sequence) n)
           m1.keeps.names more in
           let both = calls_then first.turn a.turn d.turn x0.moved x1.moved x2.moved 0 2 0
           (x2.in_use.sequence - x1.in_use.sequence) x0.table.names calls again in
@@ -451,17 +482,25 @@ module _ {first a : State} {x0 x1 : Parts} {p0 p1 : Phase} (m1 : HasMade to_lift
 
 -- Pack may begin where Lift ended
 pub run_packs : {classes : ℕ} {f : Flight} {caps : List ℕ} {grid : List (List ℕ)} (x0 : Parts) {x1 : Parts}
-    {p q : Phase} {d : State} → Lifts classes f caps grid x1 p d → x1.in_use ≡ x0.in_use → x1.caps ≡ caps → x1.grid ≡ grid → q ≡ p
+    {p q : Phase} {d : State} → Lifts classes f caps grid x1 p d → x1.in_use ≡ x0.in_use → x1.caps ≡ caps
+    → x1.grid ≡ grid → q ≡ p
     → x0.in_use.sequence < 2 ^ 62 - 2 ^ 18
-    → (IsTrue f.is_fresh → x0.in_use.sequence + 2 ^ 18 ≤ 2 ^ 62 - 2 ^ 18) → Packs classes f x1.caps x1.grid x1 q d
+    → (IsTrue f.is_fresh → x0.in_use.sequence + 2 ^ 18 ≤ 2 ^ 62 - 2 ^ 18)
+    → Packs classes f x1.caps x1.grid x1 q d
 run_packs x0 h slots cs gs same fresh moving =
     let at = ap (λ (u : choice.InUse). u.sequence) slots in
-    packs_begin (goes_in h.goes cs gs same) (omega (arith, at, fresh)) (λ here. omega (arith, at, moving here))
+    packs_begin (goes_in h.goes cs gs same) (omega (arith, at, fresh)) (λ here. omega (
+      arith,
+      at,
+      moving here,
+    ))
 
 -- and its saves are paid
-pub run_paid : {classes : ℕ} {f : Flight} {caps : List ℕ} {grid : List (List ℕ)} {x : Parts} {p q : Phase} {d : State}
+pub run_paid : {classes : ℕ} {f : Flight} {caps : List ℕ} {grid : List (List ℕ)} {x : Parts} {p q : Phase}
+    {d : State}
     → Lifts classes f caps grid x p d → IsLifting p → q ≡ p → PaysFor q (bytes_below q)
     → PacksPaid (bytes_below q / q.k + 1) (bytes_below q) x.in_use.sequence x q
 run_paid {x = x} {p} {q} h lifting same pays =
     packs_paid x q pays (subst (λ (r : Phase). AllEndBy x.table.kept (end_of r.k r.caps)) (sym same) h.low)
-    (subst (λ (r : Phase). end_of r.k r.caps + r.numbers.slack ≤ r.numbers.wall) (sym same) lifting.lifting.old_end)
+    (subst (λ (r : Phase). end_of r.k r.caps + r.numbers.slack ≤ r.numbers.wall)
+    (sym same) lifting.lifting.old_end)

@@ -1,4 +1,5 @@
--- The saves of a phase: what stands aside for the items stands aside for the table, so that each save that a touched target calls for is paid.
+-- The saves of a phase: what stands aside for the items stands aside for the table, so that each save that a
+-- touched target calls for is paid.
 use Rattle.std.specs.Prelude.{◌⊎◌, ℕ, ◌+◌, ◌≤◌, List, Contains}
 use Rattle.flush_plan.specs.declared.item.Item.{Item}
 

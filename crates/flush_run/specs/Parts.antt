@@ -9,7 +9,8 @@ use Rattle.segment_layout.specs.Layouts.{caps_of, divisor_of, grid_of}
 use Rattle.extent_table.specs.Extents.{Extents}
 use Rattle.flush_run.specs.declared.hands.Hands.{Hands}
 
--- the slot in use, the table, the layout, the guard's spans and room, the bytes moved and asked for, the length of
+-- the slot in use, the table, the layout, the guard's spans and room, the bytes moved and asked for, the
+-- length of
 -- the buffer, and where the data part begins
 pub record Parts : Type 0 where
   pub in_use : choice.InUse
@@ -39,7 +40,8 @@ parts_of h = record {
   base = h.base;
 }
 
--- What every step of a flush leaves: the disk stays the disk that it is, and of the parts only the slot in use, the
+-- What every step of a flush leaves: the disk stays the disk that it is, and of the parts only the slot in
+-- use, the
 -- table, the guard's spans and the bytes moved change.
 pub record KeepsOn (first now : State) (x0 x : Parts) : Type 0 where
   pub disk : KeepsDisk first now

@@ -101,7 +101,8 @@ pub(crate) fn move_one<D: Disk, const C: usize>(
         → Flies f u hands.old.table (D.state disk.old)
         → LeavesOldOrNew f (D.state disk.old) (D.state disk.new) }
     ensures most { (D.state disk.new).turn ≤ (D.state disk.old).turn + pieces 65536 mv.now.size }
-    ensures ledger { OnOk result (cells_of hands.new.ledger.moved ≡ slice_set (cells_of hands.old.ledger.moved)
+    ensures ledger { OnOk result (cells_of hands.new.ledger.moved
+        ≡ slice_set (cells_of hands.old.ledger.moved)
         (class_of mv.now.size) (min (slice_index (cells_of hands.old.ledger.moved) (class_of mv.now.size)
         + mv.now.size) (2 ^ 64 - 1))) }
     ensures table { OnErr result (hands.new.table ≡ hands.old.table) }

@@ -44,14 +44,16 @@ returns-in_err-free_target-clause-left g c f start told =
 pub returns-in_err-free_target-clause-made : goal.returns-in_err-free_target-clause-made
 returns-in_err-free_target-clause-made g c =
     let t = c.free_target.ensures in
-    lay_part_saved c.moves.invariant c.in-Some.ensures.step c.in-Some.ensures.moved t.keeps t.moved t.later t.one
+    lay_part_saved c.moves.invariant c.in-Some.ensures.step c.in-Some.ensures.moved t.keeps t.moved t.later
+    t.one
 
 pub returns-in_err-free_target-clause-most : goal.returns-in_err-free_target-clause-most
 returns-in_err-free_target-clause-most g c =
     let i = c.moves.invariant in
     let t = c.free_target.ensures in
     lay_most_saved i c.in-Some.ensures.step (g.D.Disk.state c.free_target.new.disk)
-    (parts_of c.free_target.new.hands) (i.all c.requires.start.0 c.requires.start.1).lays.goes.hands.table.now_room
+    (parts_of c.free_target.new.hands)
+    (i.all c.requires.start.0 c.requires.start.1).lays.goes.hands.table.now_room
     t.most t.moved t.later
 
 pub move_one-requires : goal.move_one-requires
@@ -61,8 +63,10 @@ move_one-requires g c =
     let step = c.in-Some.ensures.step in
     let t = c.free_target.ensures in
     let save = lay_saveable i start step _ c.requires.moving in
-    let goes = lay_goes i start step c.requires.moving _ refl refl _ c.in_ok-free_target.ensures.answer t.keeps (c.in_ok-free_target.ensures.flies c.requires.start.0) in
-    let r = lay_can i start step c.requires.moving _ refl refl _ c.in_ok-free_target.ensures.answer t.keeps (c.in_ok-free_target.ensures.flies c.requires.start.0) in (
+    let goes = lay_goes i start step c.requires.moving _ refl refl _ c.in_ok-free_target.ensures.answer
+    t.keeps (c.in_ok-free_target.ensures.flies c.requires.start.0) in
+    let r = lay_can i start step c.requires.moving _ refl refl _ c.in_ok-free_target.ensures.answer t.keeps
+    (c.in_ok-free_target.ensures.flies c.requires.start.0) in (
       omega arith,
       (
         t.keeps.disk.stays.ready,
@@ -96,8 +100,10 @@ returns-in_err-move_one-clause-left g c f start told =
     let t = c.free_target.ensures in
     let here = still_told i.made.keeps told in
     let save = lay_saveable i start step _ c.requires.moving in
-    let goes = lay_goes i start step c.requires.moving _ refl refl _ c.in_ok-free_target.ensures.answer t.keeps (c.in_ok-free_target.ensures.flies f) in
-    let space = lay_space i start step c.requires.moving _ refl refl _ c.in_ok-free_target.ensures.answer t.keeps (c.in_ok-free_target.ensures.flies f) in
+    let goes = lay_goes i start step c.requires.moving _ refl refl _ c.in_ok-free_target.ensures.answer
+    t.keeps (c.in_ok-free_target.ensures.flies f) in
+    let space = lay_space i start step c.requires.moving _ refl refl _ c.in_ok-free_target.ensures.answer
+    t.keeps (c.in_ok-free_target.ensures.flies f) in
     let there = still_told t.keeps here in
     left_then (s.left told)
     (left_then (t.left f here save (s.lays.goes.flies here))
@@ -116,7 +122,8 @@ returns-in_err-move_one-clause-most g c =
     let step = c.in-Some.ensures.step in
     let t = c.free_target.ensures in
     let save = lay_saveable i start step _ c.requires.moving in
-    let r = lay_can i start step c.requires.moving _ refl refl _ c.in_ok-free_target.ensures.answer t.keeps (c.in_ok-free_target.ensures.flies c.requires.start.0) in
+    let r = lay_can i start step c.requires.moving _ refl refl _ c.in_ok-free_target.ensures.answer t.keeps
+    (c.in_ok-free_target.ensures.flies c.requires.start.0) in
     lay_most i step (parts_of c.free_target.new.hands) (g.D.Disk.state c.free_target.new.disk) _
     (i.all c.requires.start.0 start).lays.goes.hands.table.now_room t.most _
     c.in_ok-free_target.ensures.answer c.in_ok-free_target.ensures.none (g.D.Disk.state c.move_one.new.disk)
@@ -137,15 +144,20 @@ moves-preserved g c =
       calm = c.in_ok-move_one.ensures.cause.calm ∙ c.in_ok-free_target.ensures.cause.calm ∙ i.calm;
       calls = lay_calls i step (parts_of c.free_target.new.hands) (g.D.Disk.state c.free_target.new.disk) _
           (i.all c.requires.start.0 c.requires.start.1).lays.goes.hands.table.now_room t.most _ answer
-          c.in_ok-free_target.ensures.none (g.D.Disk.state c.move_one.new.disk) (parts_of c.move_one.new.hands)
+          c.in_ok-free_target.ensures.none (g.D.Disk.state c.move_one.new.disk)
+          (parts_of c.move_one.new.hands)
           t.moved m.slots m.most long row;
       all = λ f start.
           let s = i.all f start in
           let save = lay_saveable i start step _ c.requires.moving in
-          let goes = lay_goes i start step c.requires.moving _ refl refl _ answer t.keeps (c.in_ok-free_target.ensures.flies f) in
-          let space = lay_space i start step c.requires.moving _ refl refl _ answer t.keeps (c.in_ok-free_target.ensures.flies f) in
-          let r = lay_can i start step c.requires.moving _ refl refl _ answer t.keeps (c.in_ok-free_target.ensures.flies f) in
-          lay_next i start step c.requires.moving _ refl refl _ answer t.keeps (c.in_ok-free_target.ensures.flies f) c.in-Some.ensures.moved t.one m.keeps m.slots
+          let goes = lay_goes i start step c.requires.moving _ refl refl _ answer t.keeps
+          (c.in_ok-free_target.ensures.flies f) in
+          let space = lay_space i start step c.requires.moving _ refl refl _ answer t.keeps
+          (c.in_ok-free_target.ensures.flies f) in
+          let r = lay_can i start step c.requires.moving _ refl refl _ answer t.keeps
+          (c.in_ok-free_target.ensures.flies f) in
+          lay_next i start step c.requires.moving _ refl refl _ answer t.keeps
+          (c.in_ok-free_target.ensures.flies f) c.in-Some.ensures.moved t.one m.keeps m.slots
           c.in_ok-move_one.ensures.moved
           (λ told3.
           let back = told_before m.keeps told3 in
@@ -159,14 +171,16 @@ moves-preserved g c =
       paid = λ f start pay total q paid.
           let s = i.all f start in
           let save = lay_saveable i start step _ c.requires.moving in
-          lay_pays i start step c.requires.moving _ refl refl _ answer t.keeps (c.in_ok-free_target.ensures.flies f) c.in-Some.ensures.moved t.one m.keeps m.slots
+          lay_pays i start step c.requires.moving _ refl refl _ answer t.keeps
+          (c.in_ok-free_target.ensures.flies f) c.in-Some.ensures.moved t.one m.keeps m.slots
           c.in_ok-move_one.ensures.moved (i.paid f start pay total q paid);
     }
 
 pub returns-clause-laid : goal.returns-clause-laid
 returns-clause-laid g c f start =
     let i = c.moves.invariant in
-    subst (λ q. Lays g.row.C f (parts_of c.args.hands.now).caps (parts_of c.args.hands.now).grid (parts_of c.moves.hands) q (g.D.Disk.state c.moves.disk))
+    subst (λ q. Lays g.row.C f (parts_of c.args.hands.now).caps (parts_of c.args.hands.now).grid
+    (parts_of c.moves.hands) q (g.D.Disk.state c.moves.disk))
     (sym (c.next.ensures.same (none_of c.next.result c.in_default.not-Some))) (i.all f start).lays
 
 pub returns-clause-paid : goal.returns-clause-paid

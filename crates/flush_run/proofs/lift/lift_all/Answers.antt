@@ -93,7 +93,8 @@ returns-in_err-move_one-clause-most g c =
 pub returns-clause-lifted : goal.returns-clause-lifted
 returns-clause-lifted g c f start =
     let i = c.moves.invariant in
-    subst (λ q. Lifts g.row.C f (parts_of c.args.hands.now).caps (parts_of c.args.hands.now).grid (parts_of c.moves.hands) q (g.D.Disk.state c.moves.disk))
+    subst (λ q. Lifts g.row.C f (parts_of c.args.hands.now).caps (parts_of c.args.hands.now).grid
+    (parts_of c.moves.hands) q (g.D.Disk.state c.moves.disk))
     (sym (c.next.ensures.same (none_of c.next.result c.in_default.not-Some))) (i.all f start).lifts
 
 pub returns-clause-left : goal.returns-clause-left

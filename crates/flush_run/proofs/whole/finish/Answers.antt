@@ -28,7 +28,8 @@ lay_all-requires g c =
               (
                 c.moving_header-header.ensures.ranges,
                 (
-                  header_again _ c.args.phase c.into_laying-lays.result _ _ _ _ _ c.moving_header-header.ensures.header c.numbers.ensures
+                  header_again _ c.args.phase c.into_laying-lays.result _ _ _ _ _
+                      c.moving_header-header.ensures.header c.numbers.ensures
                       (ap (λ (r : Phase). r.numbers) l.same ∙ p.made.same.numbers) keeps.caps keeps.grid,
                   (start.0, lays_in lays keeps.caps keeps.grid refl),
                 ),
@@ -86,7 +87,8 @@ returns-in_err-settle-clause-left g c f k told =
     let keeps = p.made.keeps in
     let more = c.lay_all.ensures.made.keeps in
     let l = c.into_laying-lays.ensures in
-    let lays = lays_in (lays_begin (c.in_ok-pack_all.ensures.packed f k) _ l.items l.same) keeps.caps keeps.grid refl in
+    let lays = lays_in
+    (lays_begin (c.in_ok-pack_all.ensures.packed f k) _ l.items l.same) keeps.caps keeps.grid refl in
     let laid = c.in_ok-lay_all.ensures.laid f lays in
     let here = still_told keeps told in
     left_then (p.left f k told)
@@ -101,10 +103,13 @@ returns-in_err-settle-clause-made g c =
     let s = c.settle.ensures in
     let start = c.requires.start in
     let keeps = p.made.keeps in
-    let lays = lays_in (lays_begin (c.in_ok-pack_all.ensures.packed start.0 start.1) _ l.items l.same) keeps.caps keeps.grid refl in
+    let lays = lays_in
+    (lays_begin (c.in_ok-pack_all.ensures.packed start.0 start.1) _ l.items l.same) keeps.caps keeps.grid
+    refl in
     let laid = c.in_ok-lay_all.ensures.laid start.0 lays in
     finished_all p.made p.lifted l.items l.same c.lay_all.ensures.made c.in_ok-pack_all.ensures.calls
-    c.in_ok-lay_all.ensures.calls s.keeps s.later s.moved laid.goes.hands.table.now_room (omega (arith, s.calls.most))
+    c.in_ok-lay_all.ensures.calls s.keeps s.later s.moved laid.goes.hands.table.now_room
+    (omega (arith, s.calls.most))
 
 pub returns-clause-made : goal.returns-clause-made
 returns-clause-made g c =
@@ -113,10 +118,13 @@ returns-clause-made g c =
     let s = c.settle.ensures in
     let start = c.requires.start in
     let keeps = p.made.keeps in
-    let lays = lays_in (lays_begin (c.in_ok-pack_all.ensures.packed start.0 start.1) _ l.items l.same) keeps.caps keeps.grid refl in
+    let lays = lays_in
+    (lays_begin (c.in_ok-pack_all.ensures.packed start.0 start.1) _ l.items l.same) keeps.caps keeps.grid
+    refl in
     let laid = c.in_ok-lay_all.ensures.laid start.0 lays in
     finished_all p.made p.lifted l.items l.same c.lay_all.ensures.made c.in_ok-pack_all.ensures.calls
-    c.in_ok-lay_all.ensures.calls s.keeps s.later s.moved laid.goes.hands.table.now_room (omega (arith, s.calls.most))
+    c.in_ok-lay_all.ensures.calls s.keeps s.later s.moved laid.goes.hands.table.now_room
+    (omega (arith, s.calls.most))
 
 pub returns-clause-calls : goal.returns-clause-calls
 returns-clause-calls g c =
@@ -125,10 +133,13 @@ returns-clause-calls g c =
     let s = c.settle.ensures in
     let start = c.requires.start in
     let keeps = p.made.keeps in
-    let lays = lays_in (lays_begin (c.in_ok-pack_all.ensures.packed start.0 start.1) _ l.items l.same) keeps.caps keeps.grid refl in
+    let lays = lays_in
+    (lays_begin (c.in_ok-pack_all.ensures.packed start.0 start.1) _ l.items l.same) keeps.caps keeps.grid
+    refl in
     let laid = c.in_ok-lay_all.ensures.laid start.0 lays in
     finished_calls p.made p.lifted l.items l.same c.lay_all.ensures.made c.in_ok-pack_all.ensures.calls
-    c.in_ok-lay_all.ensures.calls s.keeps s.later s.moved laid.goes.hands.table.now_room (omega (arith, s.calls.most))
+    c.in_ok-lay_all.ensures.calls s.keeps s.later s.moved laid.goes.hands.table.now_room
+    (omega (arith, s.calls.most))
     (ap (λ (u : choice.InUse). u.sequence) c.in_ok-settle.ensures.pair)
 
 pub returns-clause-ends : goal.returns-clause-ends
@@ -137,7 +148,8 @@ returns-clause-ends g c f k =
     let keeps = p.made.keeps in
     let more = c.lay_all.ensures.made.keeps in
     let l = c.into_laying-lays.ensures in
-    let lays = lays_in (lays_begin (c.in_ok-pack_all.ensures.packed f k) _ l.items l.same) keeps.caps keeps.grid refl in
+    let lays = lays_in
+    (lays_begin (c.in_ok-pack_all.ensures.packed f k) _ l.items l.same) keeps.caps keeps.grid refl in
     let laid = c.in_ok-lay_all.ensures.laid f lays in
     c.in_ok-settle.ensures.ends f (lays_in laid more.caps more.grid c.into_settled-settled.ensures)
 
@@ -147,7 +159,8 @@ returns-clause-left g c f k told =
     let keeps = p.made.keeps in
     let more = c.lay_all.ensures.made.keeps in
     let l = c.into_laying-lays.ensures in
-    let lays = lays_in (lays_begin (c.in_ok-pack_all.ensures.packed f k) _ l.items l.same) keeps.caps keeps.grid refl in
+    let lays = lays_in
+    (lays_begin (c.in_ok-pack_all.ensures.packed f k) _ l.items l.same) keeps.caps keeps.grid refl in
     let laid = c.in_ok-lay_all.ensures.laid f lays in
     let here = still_told keeps told in
     left_then (p.left f k told)
@@ -165,8 +178,10 @@ returns-clause-paid g c f k pay total q paid enough =
     let p = c.pack_all.ensures in
     let keeps = p.made.keeps in
     let l = c.into_laying-lays.ensures in
-    let lays = lays_in (lays_begin (c.in_ok-pack_all.ensures.packed f k) _ l.items l.same) keeps.caps keeps.grid refl in
+    let lays = lays_in
+    (lays_begin (c.in_ok-pack_all.ensures.packed f k) _ l.items l.same) keeps.caps keeps.grid refl in
     let packed = c.in_ok-pack_all.ensures.paid f k pay total q paid in
     let begun = lays_paid _ _ _ pay total q packed (ap (λ (r : Phase). r.numbers) l.same) l.largest l.below in
-    saves_paid c.args.hands.now.slots.block.k packed (c.in_ok-lay_all.ensures.paid f lays pay total _ begun) enough
+    saves_paid c.args.hands.now.slots.block.k packed
+    (c.in_ok-lay_all.ensures.paid f lays pay total _ begun) enough
     (ap (λ (u : choice.InUse). u.sequence) c.in_ok-settle.ensures.pair)

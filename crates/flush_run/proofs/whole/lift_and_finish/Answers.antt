@@ -19,7 +19,8 @@ finish-requires g c =
     let l = c.lift_all.ensures in
     let keeps = l.made.keeps in
     let r = c.requires.start.1 in
-    let packs = run_packs (parts_of c.args.hands.now) (c.in_ok-lift_all.ensures.lifted c.requires.start.0 r.lifts) l.slots keeps.caps keeps.grid
+    let packs = run_packs (parts_of c.args.hands.now)
+    (c.in_ok-lift_all.ensures.lifted c.requires.start.0 r.lifts) l.slots keeps.caps keeps.grid
     c.into_packing.ensures.same r.fresh r.moving in (
       omega arith,
       (
@@ -41,7 +42,8 @@ pub returns-clause-ends : goal.returns-clause-ends
 returns-clause-ends g c f r =
     let l = c.lift_all.ensures in
     let keeps = l.made.keeps in
-    c.in_ok-settled.ensures.ends f (run_packs (parts_of c.args.hands.now) (c.in_ok-lift_all.ensures.lifted f r.lifts) l.slots keeps.caps keeps.grid
+    c.in_ok-settled.ensures.ends f (run_packs (parts_of c.args.hands.now)
+    (c.in_ok-lift_all.ensures.lifted f r.lifts) l.slots keeps.caps keeps.grid
     c.into_packing.ensures.same r.fresh r.moving)
 
 pub returns-clause-left : goal.returns-clause-left
@@ -49,13 +51,15 @@ returns-clause-left g c f r told =
     let l = c.lift_all.ensures in
     let keeps = l.made.keeps in
     left_then (l.left f r.lifts told)
-    (c.finish.ensures.left f (run_packs (parts_of c.args.hands.now) (c.in_ok-lift_all.ensures.lifted f r.lifts) l.slots keeps.caps keeps.grid
+    (c.finish.ensures.left f (run_packs (parts_of c.args.hands.now)
+    (c.in_ok-lift_all.ensures.lifted f r.lifts) l.slots keeps.caps keeps.grid
     c.into_packing.ensures.same r.fresh r.moving) (still_told keeps told))
 
 pub returns-clause-made : goal.returns-clause-made
 returns-clause-made g c =
     let l = c.lift_all.ensures in
-    run_all l.made _ _ l.slots c.into_packing.ensures.same c.in_ok-lift_all.ensures.calls c.finish.ensures.made
+    run_all l.made _ _ l.slots c.into_packing.ensures.same c.in_ok-lift_all.ensures.calls
+    c.finish.ensures.made
 
 pub returns-clause-calls : goal.returns-clause-calls
 returns-clause-calls g c =
@@ -73,10 +77,15 @@ returns-clause-saves g c =
     let same = ap (λ (u : choice.InUse). u.sequence) l.slots in
     let block = ap (λ (u : choice.InUse). u.block.k) l.slots in
     let lifts = c.in_ok-lift_all.ensures.lifted c.requires.start.0 r.lifts in
-    let packs = run_packs (parts_of c.args.hands.now) lifts l.slots keeps.caps keeps.grid q.same r.fresh r.moving in
+    let packs = run_packs
+    (parts_of c.args.hands.now) lifts l.slots keeps.caps keeps.grid q.same r.fresh r.moving in
     let paid = run_paid lifts c.in_ok-lift_all.ensures.lifting q.same q.pays in
     let enough = subst (λ n. bytes_below p < n * (bytes_below p / p.k + 1)) packs.goes.hands.divisor
-    (pays_for p.k (bytes_below p) (omega (arith, packs.goes.hands.divisor, packs.goes.hands.block.divisor_low))) in (
+    (pays_for p.k (bytes_below p) (omega (
+      arith,
+      packs.goes.hands.divisor,
+      packs.goes.hands.block.divisor_low,
+    ))) in (
       omega (arith, c.in_ok-settled.ensures.one, same),
       omega (arith, c.in_ok-settled.ensures.paid c.requires.start.0 packs _ _ _ paid enough, same, block),
     )
@@ -86,7 +95,8 @@ returns-in_err-settled-clause-left g c f r told =
     let l = c.lift_all.ensures in
     let keeps = l.made.keeps in
     left_then (l.left f r.lifts told)
-    (c.finish.ensures.left f (run_packs (parts_of c.args.hands.now) (c.in_ok-lift_all.ensures.lifted f r.lifts)
+    (c.finish.ensures.left f (run_packs (parts_of c.args.hands.now)
+    (c.in_ok-lift_all.ensures.lifted f r.lifts)
     l.slots keeps.caps keeps.grid c.into_packing.ensures.same r.fresh r.moving) (still_told keeps told))
 
 pub returns-in_err-settled-clause-made : goal.returns-in_err-settled-clause-made
