@@ -23,5 +23,6 @@ pub mod ResumeLaws
 pub mod SavedLaws
 pub mod SettleLaws
 pub mod SettledTableLaws
+pub mod SizeLaws
 pub mod StepLaws
 pub mod WholeLaws

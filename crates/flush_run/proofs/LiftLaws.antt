@@ -15,7 +15,7 @@ use Rattle.flush_run.specs.Flights.{Flies, Flight, IsFreeSpace, LeavesOldOrNew}
 use Rattle.flush_run.specs.Hands.{AllEndBy}
 use Rattle.flush_run.specs.Loops.{CanStep, HasMade, InLift, Lifts, LiftsSince}
 use Rattle.flush_run.specs.Moves.{HasMoved}
-use Rattle.flush_run.specs.Parts.{KeepsOn, Parts}
+use Rattle.flush_run.specs.Parts.{KeepsOn, Parts, SameSizes}
 use Rattle.flush_run.proofs.CallLaws.{calls_move, calls_none, calls_wider, row_rises, row_stays}
 use Rattle.flush_run.proofs.FreeLaws.{live_apart}
 use Rattle.flush_run.proofs.GoesLaws.{can_step, goes_moved, kept_stays}
@@ -75,8 +75,9 @@ module _ {classes : ℕ} {first now : State} {x0 x : Parts} {p0 p : Phase}
 
     pub lift_made : {b : State} {x2 : Parts} {p2 : Phase} → p2 ≡ moved_by mv p → KeepsOn now b x x2
         → x2.in_use ≡ x.in_use → length x.moved ≡ 32 → RowMoves mv x.moved x2.moved
+        → SameSizes x.table.now x2.table.now
         → HasMade to_lift lifted_in first b x0 x2 p0 p2
-    lift_made {b} {x2} {p2} after keeps slots long row =
+    lift_made {b} {x2} {p2} after keeps slots long row sizes =
         let q = ap (λ (u : choice.InUse). u.sequence) slots in
         let here = class_below mv.size in
         let rises = row_rises x.moved x2.moved mv.size (omega (arith, here, long)) row in
@@ -85,7 +86,7 @@ module _ {classes : ℕ} {first now : State} {x0 x : Parts} {p0 p : Phase}
         (sym step.item.class)
         (rises c))
         (λ c low. row_stays x.moved x2.moved mv.size (omega (arith, here, long)) row c
-        (omega (arith, low, step.item.from, step.item.class, ap (λ n. n.boundary) i.made.same.numbers)))
+        (omega (arith, low, step.item.from, step.item.class, ap (λ n. n.boundary) i.made.same.numbers))) sizes
 
     pub lift_calls : (b : State) (new : List ℕ) → b.turn ≤ now.turn + pieces 65536 mv.size → length x.moved
         ≡ 32
@@ -96,10 +97,12 @@ module _ {classes : ℕ} {first now : State} {x0 x : Parts} {p0 p : Phase}
 
     -- a move that failed
     pub lift_part : {b : State} {x2 : Parts} {p2 : Phase} → p2 ≡ moved_by mv p → KeepsOn now b x x2
-        → x2.in_use ≡ x.in_use → x2.moved ≡ x.moved → HasMade to_lift lifted_in first b x0 x2 p0 p2
-    lift_part {b} {x2} {p2} after keeps slots row =
+        → x2.in_use ≡ x.in_use → x2.moved ≡ x.moved → SameSizes x.table.now x2.table.now
+        → HasMade to_lift lifted_in first b x0 x2 p0 p2
+    lift_part {b} {x2} {p2} after keeps slots row sizes =
         let q = ap (λ (u : choice.InUse). u.sequence) slots in
-        made_part i.made mv step.fewer step.progress after keeps (omega (arith, q)) (omega (arith, q)) row
+        made_part i.made mv step.fewer step.progress after keeps (omega (arith, q))
+        (omega (arith, q)) row sizes
 
     -- it may have made all calls of its pieces
     pub lift_most : (b : State) (new : List ℕ) → b.turn ≤ now.turn + pieces 65536 mv.size → mv.size ≤ 2 ^ 20

@@ -14,7 +14,7 @@ use Rattle.flush_plan.specs.Phases.{Phase, moved_by}
 use Rattle.flush_plan.specs.Steps.{GrowsBy}
 use Rattle.flush_plan.proofs.FinalLaws.{class_total_is}
 use Rattle.flush_run.specs.Loops.{HasMade, SamePlan}
-use Rattle.flush_run.specs.Parts.{KeepsOn, Parts}
+use Rattle.flush_run.specs.Parts.{KeepsOn, Parts, SameSizes}
 
 -- ---- one step after another
 
@@ -112,6 +112,7 @@ pub made_none : (waits : Phase → ℕ) (done : Phase → ℕ → ℕ) (a : Stat
     → HasMade waits done a a x x p p
 made_none waits done a x p keeps = record {
   keeps = keeps;
+  sizes = λ name. refl;
   later = omega arith;
   few = omega arith;
   rises = λ c. omega arith;
@@ -127,9 +128,10 @@ module _ {waits : Phase → ℕ} {done : Phase → ℕ → ℕ} {first a : State
     pub made_part : {b : State} {x2 : Parts} {p2 : Phase} → p2 ≡ moved_by mv p → KeepsOn a b x x2
         → x.in_use.sequence ≤ x2.in_use.sequence → x2.in_use.sequence ≤ x.in_use.sequence + 1
         → x2.moved ≡ x.moved
-        → HasMade waits done first b x0 x2 p0 p2
-    made_part {b} {x2} {p2} after keeps later one row = record {
+        → SameSizes x.table.now x2.table.now → HasMade waits done first b x0 x2 p0 p2
+    made_part {b} {x2} {p2} after keeps later one row sizes = record {
       keeps = KeepsOn-then h.keeps keeps;
+      sizes = λ name. sizes name ∙ h.sizes name;
       later = omega (arith, h.later, later);
       few = omega (arith, h.few, one, fewer, ap waits after);
       rises = λ c.
@@ -157,9 +159,10 @@ module _ {waits : Phase → ℕ} {done : Phase → ℕ → ℕ} {first a : State
         → x.in_use.sequence ≤ x2.in_use.sequence → x2.in_use.sequence ≤ x.in_use.sequence + 1
         → ((c : ℕ) → slice_index x2.moved c ≤ slice_index x.moved c + cond (mv.class == c) mv.size 0)
         → ((c : ℕ) → c < p0.numbers.boundary → slice_index x2.moved c ≡ slice_index x.moved c)
-        → HasMade waits done first b x0 x2 p0 p2
-    made_step {b} {x2} {p2} after keeps later one rises lower = record {
+        → SameSizes x.table.now x2.table.now → HasMade waits done first b x0 x2 p0 p2
+    made_step {b} {x2} {p2} after keeps later one rises lower sizes = record {
       keeps = KeepsOn-then h.keeps keeps;
+      sizes = λ name. sizes name ∙ h.sizes name;
       later = omega (arith, h.later, later);
       few = omega (arith, h.few, one, fewer, ap waits after);
       rises = λ c. omega (arith, h.rises c, rises c, progress c, ap (λ q. done q c) after);

@@ -22,7 +22,7 @@ use Rattle.flush_run.specs.Calls.{CallsSoFar}
 use Rattle.flush_run.specs.Flights.{Flies, Flight, IsFreeSpace, LeavesOldOrNew}
 use Rattle.flush_run.specs.Loops.{CanStep, Goes, HasMade, InPack, Packs, PacksPaid, PacksSince, phase_header}
 use Rattle.flush_run.specs.Moves.{FreesTarget, HasMoved}
-use Rattle.flush_run.specs.Parts.{KeepsOn, Parts}
+use Rattle.flush_run.specs.Parts.{KeepsOn, Parts, SameSizes}
 use Rattle.flush_run.specs.Saves.{IsSaveable}
 use Rattle.flush_run.proofs.CallLaws.{calls_move, calls_none, calls_save, calls_wider, row_rises, row_stays}
 use Rattle.flush_run.proofs.GoesLaws.{can_step, goes_freed, goes_moved, goes_saveable, kept_stays, space_freed}
@@ -146,8 +146,8 @@ module _ {classes : ℕ} {first now : State} {x0 x : Parts} {p0 p : Phase}
         ≡ x1.in_use)
       where
         pub pack_made : length x1.moved ≡ 32 → RowMoves mv x1.moved x2.moved
-            → HasMade to_pack packed_in first b x0 x2 p0 p2
-        pack_made long row =
+            → SameSizes x.table.now x2.table.now → HasMade to_pack packed_in first b x0 x2 p0 p2
+        pack_made long row sizes =
             let q = ap (λ (u : choice.InUse). u.sequence) slots in
             let here = class_below mv.size in
             let rises = row_rises x1.moved x2.moved mv.size (omega (arith, here, long)) row in
@@ -167,22 +167,23 @@ module _ {classes : ℕ} {first now : State} {x0 x : Parts} {p0 p : Phase}
               step.item.class,
               ap (λ (n : Numbers). n.boundary) i.made.same.numbers,
             ))
-            ∙ same c)
+            ∙ same c) sizes
 
-        pub pack_part : x2.moved ≡ x1.moved → HasMade to_pack packed_in first b x0 x2 p0 p2
-        pack_part row =
+        pub pack_part : x2.moved ≡ x1.moved → SameSizes x.table.now x2.table.now
+            → HasMade to_pack packed_in first b x0 x2 p0 p2
+        pack_part row sizes =
             let q = ap (λ (u : choice.InUse). u.sequence) slots in
             made_part i.made mv step.fewer step.progress after (KeepsOn-then keeps more)
             (omega (arith, q, later))
-            (omega (arith, q, one)) (row ∙ row1)
+            (omega (arith, q, one)) (row ∙ row1) sizes
 
     -- a save that failed
     pub pack_part_saved : {d1 : State} {x1 : Parts} {p2 : Phase} → p2 ≡ moved_by mv p → KeepsOn now d1 x x1
         → x1.moved ≡ x.moved → x.in_use.sequence ≤ x1.in_use.sequence
         → x1.in_use.sequence ≤ x.in_use.sequence + 1
-        → HasMade to_pack packed_in first d1 x0 x1 p0 p2
-    pack_part_saved after keeps row later one =
-        made_part i.made mv step.fewer step.progress after keeps later one row
+        → SameSizes x.table.now x1.table.now → HasMade to_pack packed_in first d1 x0 x1 p0 p2
+    pack_part_saved after keeps row later one sizes =
+        made_part i.made mv step.fewer step.progress after keeps later one row sizes
 
     abbrev few : ℕ
     few = length (records_of x.table.now)

@@ -12,7 +12,7 @@ use Rattle.slot_pair.specs.Saves.{save_calls}
 use Rattle.spot_terms.specs.Laid.{moving_header}
 use Rattle.size_class.specs.Classes.{class_of}
 use Rattle.extent_table.specs.declared.spot.Spot.{Spot}
-use Rattle.extent_table.specs.Extents.{records_of}
+use Rattle.extent_table.specs.Extents.{Spots, records_of}
 use Rattle.extent_table.proofs.ExtentLaws.{records_of-few}
 use Rattle.spot_terms.specs.SaveCounts.{LayCount, PackCount, Pays}
 use Rattle.spot_terms.proofs.SaveCountLaws.{lay_start, pack_moves, pack_start}
@@ -28,7 +28,7 @@ use Rattle.flush_run.specs.Calls.{CallsSoFar}
 use Rattle.flush_run.specs.Flights.{Flight}
 use Rattle.flush_run.specs.Hands.{AllEndBy, IsHandsFor, spot_item, suffix_items}
 use Rattle.flush_run.specs.Loops.{Goes, HasMade, Lays, LaysPaid, Lifts, Packs, PacksPaid, phase_header}
-use Rattle.flush_run.specs.Parts.{KeepsOn, KeepsSettling, Parts}
+use Rattle.flush_run.specs.Parts.{KeepsOn, KeepsSettling, Parts, size_in}
 use Rattle.flush_run.specs.Runs.{HasFinished, HasRun}
 use Rattle.flush_run.proofs.CallLaws.{calls_save, calls_then, calls_wider}
 use Rattle.flush_run.proofs.PaidLaws.{lays_end, packs_end}
@@ -251,6 +251,7 @@ module _ {first a : State} {x0 x1 : Parts} {p0 p1 : Phase}
         (x1.in_use.sequence - x0.in_use.sequence + 1) x0.table.names → HasFinished p0 first a x0 x1
     finished_packs most = record {
       keeps = settling_of m1.keeps;
+      sizes = m1.sizes;
       later = m1.later;
       lower = m1.lower;
       few = λ c. omega (arith, packed_few c);
@@ -299,6 +300,7 @@ module _ {first a : State} {x0 x1 : Parts} {p0 p1 : Phase}
             (x2.in_use.sequence - x1.in_use.sequence + 1) x0.table.names calls1 again in
             record {
               keeps = settling_of (KeepsOn-then m1.keeps m2.keeps);
+              sizes = λ name. m2.sizes name ∙ m1.sizes name;
               later = omega (arith, m1.later, m2.later);
               lower = lower_both;
               few = few_both;
@@ -312,6 +314,7 @@ module _ {first a : State} {x0 x1 : Parts} {p0 p1 : Phase}
             (x2.in_use.sequence - x1.in_use.sequence)
             x1.table.names) {d : State} {x3 : Parts} (keeps : KeepsSettling b d x2 x3)
             (later : x2.in_use.sequence ≤ x3.in_use.sequence) (row : x3.moved ≡ x2.moved)
+            (spots : x3.table.now ≡ x2.table.now)
             (few : fin.len x2.table.now ≤ x2.table.names)
             (more : d.turn ≤ b.turn + save_calls (length (records_of x2.table.now)) + 2)
           where
@@ -349,6 +352,7 @@ module _ {first a : State} {x0 x1 : Parts} {p0 p1 : Phase}
             pub finished_all : HasFinished p0 first d x0 x3
             finished_all = record {
               keeps = settling_after (KeepsOn-then m1.keeps m2.keeps) keeps;
+              sizes = λ name. ap (λ (s : Spots). size_in s name) spots ∙ m2.sizes name ∙ m1.sizes name;
               later = omega (arith, m1.later, m2.later, later);
               lower = λ c low. ap (λ (r : List ℕ). slice_index r c) row ∙ lower_both c low;
               few = λ c. omega (arith, few_both c, ap (λ (r : List ℕ). slice_index r c) row);
@@ -427,6 +431,7 @@ module _ {first a : State} {x0 x1 : Parts} {p0 p1 : Phase}
       → HasRun p0.numbers.boundary p0.items first a x0 x1
   run_lifts most = record {
     keeps = settling_of m1.keeps;
+    sizes = m1.sizes;
     later = m1.later;
     lower = m1.lower;
     few = λ c. omega (arith, lifted_few c, lifted_and_packed p1 c, m1.same.totals c);
@@ -450,6 +455,7 @@ module _ {first a : State} {x0 x1 : Parts} {p0 p1 : Phase}
           in
           record {
             keeps = settling_after m1.keeps h.keeps;
+            sizes = λ name. h.sizes name ∙ m1.sizes name;
             later = omega (arith, m1.later, h.later);
             lower = λ c low. h.lower c (omega (arith, low, at)) ∙ m1.lower c low;
             few = λ c. omega (

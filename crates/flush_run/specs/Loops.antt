@@ -15,7 +15,7 @@ use Rattle.flush_run.specs.Calls.{CallsSoFar}
 use Rattle.flush_run.specs.Flights.{Flies, Flight, LeavesOldOrNew}
 use Rattle.flush_run.specs.Hands.{AllEndBy, IsHandsFor}
 use Rattle.flush_run.specs.Moves.{CanMove}
-use Rattle.flush_run.specs.Parts.{KeepsOn, Parts}
+use Rattle.flush_run.specs.Parts.{KeepsOn, Parts, SameSizes}
 
 -- the header of the moving tables of a phase, by the layout that the flush began with
 abbrev pub phase_header : Phase → List ℕ → List (List ℕ) → Header
@@ -113,6 +113,7 @@ pub record HasMade (waits : Phase → ℕ) (done : Phase → ℕ → ℕ) (first
     (p0 p : Phase)
     : Type 0 where
   pub keeps : KeepsOn first now x0 x
+  pub sizes : SameSizes x0.table.now x.table.now
   pub later : x0.in_use.sequence ≤ x.in_use.sequence
   pub few : x.in_use.sequence + waits p ≤ x0.in_use.sequence + waits p0
   pub rises : (c : ℕ) → slice_index x.moved c + done p0 c ≤ slice_index x0.moved c + done p c

@@ -57,6 +57,7 @@ pub(crate) fn settle_held<D: Disk, const C: usize>(
     ensures guard { OnOk result (hands.new.guard.spans ≡ []) }
     ensures calls { Calls (save_calls (length (records_of hands.old.table.now)) + 2) (D.state disk.old)
         (D.state disk.new) result }
+    ensures spots { hands.new.table.now ≡ hands.old.table.now }
     ensures keeps { KeepsOn (D.state disk.old) (D.state disk.new) (parts_of hands.old) (parts_of hands.new) }
     ensures ledger { hands.new.ledger ≡ hands.old.ledger }
 {
@@ -89,7 +90,7 @@ pub(crate) fn settle<D: Disk, const C: usize>(
         (D.state disk.new) result }
     ensures keeps { KeepsSettling (D.state disk.old) (D.state disk.new) (parts_of hands.old)
         (parts_of hands.new) }
-    ensures spots { OnOk result (hands.new.table.now ≡ hands.old.table.now) }
+    ensures spots { hands.new.table.now ≡ hands.old.table.now }
     ensures moved { cells_of hands.new.ledger.moved ≡ cells_of hands.old.ledger.moved }
     ensures cause { HasCause (D.state disk.old).faults (D.state disk.new).faults result }
 {

@@ -58,6 +58,7 @@ pub(crate) fn free_target<D: Disk, const C: usize>(
     ensures most { (D.state disk.new).turn
         ≤ (D.state disk.old).turn + save_calls (length (records_of hands.old.table.now)) }
     ensures none { IfOk result (λ saved. IsFalse saved → (D.state disk.new).turn ≡ (D.state disk.old).turn) }
+    ensures spots { hands.new.table.now ≡ hands.old.table.now }
     ensures keeps { KeepsOn (D.state disk.old) (D.state disk.new) (parts_of hands.old) (parts_of hands.new) }
     ensures moved { cells_of hands.new.ledger.moved ≡ cells_of hands.old.ledger.moved }
     ensures later { hands.old.slots.sequence ≤ hands.new.slots.sequence }

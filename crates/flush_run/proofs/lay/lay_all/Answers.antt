@@ -1,7 +1,10 @@
-use Rattle.std.proofs.Common.{arith, refl, sym, subst, ◌∙◌}
+use Rattle.std.proofs.Common.{arith, refl, sym, subst, ◌∙◌, ap}
 use Rattle.flush_run.specs.Loops.{Lays, LaysPaid}
 use Rattle.flush_run.specs.Parts.{parts_of}
 use Rattle.flush_run.proofs.LeftLaws.{left_then, none_of, source_within, still_told, target_within, told_before}
+use Rattle.extent_table.specs.Extents.{Extents, Spots}
+use Rattle.flush_run.specs.Parts.{size_in}
+use Rattle.flush_run.proofs.SizeLaws.{sizes_moved}
 use Rattle.flush_run.proofs.LayLaws.{lay_begins, lay_calls, lay_can, lay_fresh, lay_goes, lay_head, lay_made, lay_most, lay_most_saved, lay_names, lay_next, lay_part, lay_part_saved, lay_pays, lay_saveable, lay_slot, lay_space}
 use Rattle.flush_run.proofs.lay.lay_all.Goals as goal
 
@@ -46,6 +49,7 @@ returns-in_err-free_target-clause-made g c =
     let t = c.free_target.ensures in
     lay_part_saved c.moves.invariant c.in-Some.ensures.step c.in-Some.ensures.moved t.keeps t.moved t.later
     t.one
+    (λ name. ap (λ (x : Spots). size_in x name) t.spots)
 
 pub returns-in_err-free_target-clause-most : goal.returns-in_err-free_target-clause-most
 returns-in_err-free_target-clause-most g c =
@@ -114,6 +118,8 @@ returns-in_err-move_one-clause-made g c =
     let t = c.free_target.ensures in
     lay_part c.moves.invariant c.in-Some.ensures.step c.in-Some.ensures.moved t.keeps t.moved t.later t.one
     c.move_one.ensures.keeps c.move_one.ensures.slots c.in_err-move_one.ensures.unmoved
+    (λ name. ap (λ (e : Extents). size_in e.now name) c.in_err-move_one.ensures.table
+    ∙ ap (λ (x : Spots). size_in x name) t.spots)
 
 pub returns-in_err-move_one-clause-most : goal.returns-in_err-move_one-clause-most
 returns-in_err-move_one-clause-most g c =
@@ -140,7 +146,12 @@ moves-preserved g c =
     let long = c.free_target.new.hands.ledger.moved.shape.full in
     let answer = c.in_ok-free_target.ensures.answer in
     record {
-      made = lay_made i step c.in-Some.ensures.moved t.keeps t.moved t.later t.one m.keeps m.slots long row;
+      made = lay_made i step c.in-Some.ensures.moved t.keeps t.moved t.later t.one m.keeps m.slots long row
+          (λ name. sizes_moved
+          (lay_can i c.requires.start.1 step c.requires.moving _ refl refl _ answer t.keeps
+          (c.in_ok-free_target.ensures.flies c.requires.start.0)).can.mover c.in_ok-move_one.ensures.moved
+          name
+          ∙ ap (λ (x : Spots). size_in x name) t.spots);
       calm = c.in_ok-move_one.ensures.cause.calm ∙ c.in_ok-free_target.ensures.cause.calm ∙ i.calm;
       calls = lay_calls i step (parts_of c.free_target.new.hands) (g.D.Disk.state c.free_target.new.disk) _
           (i.all c.requires.start.0 c.requires.start.1).lays.goes.hands.table.now_room t.most _ answer

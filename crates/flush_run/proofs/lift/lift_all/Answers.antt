@@ -1,7 +1,10 @@
-use Rattle.std.proofs.Common.{arith, sym, subst, ◌∙◌}
+use Rattle.std.proofs.Common.{arith, sym, subst, ap, ◌∙◌}
 use Rattle.flush_run.specs.Loops.{Lifts}
 use Rattle.flush_run.specs.Parts.{parts_of}
 use Rattle.flush_run.proofs.LeftLaws.{left_then, none_of, source_within, still_told, target_within, told_before}
+use Rattle.extent_table.specs.Extents.{Extents}
+use Rattle.flush_run.specs.Parts.{size_in}
+use Rattle.flush_run.proofs.SizeLaws.{sizes_moved}
 use Rattle.flush_run.proofs.LiftLaws.{lift_begins, lift_calls, lift_can, lift_made, lift_most, lift_next, lift_part, lift_space}
 use Rattle.flush_run.proofs.lift.lift_all.Goals as goal
 
@@ -50,7 +53,8 @@ moves-preserved g c =
     let row = c.in_ok-move_one.ensures.ledger in
     let long = c.moves.hands.ledger.moved.shape.full in
     record {
-      made = lift_made i step c.in-Some.ensures.moved keeps slots long row;
+      made = lift_made i step c.in-Some.ensures.moved keeps slots long row
+          (sizes_moved (lift_can i step c.requires.start.1).can.mover c.in_ok-move_one.ensures.moved);
       calm = c.in_ok-move_one.ensures.cause.calm ∙ i.calm;
       slots = slots ∙ i.slots;
       calls = lift_calls i step (D.state c.move_one.new.disk) _ c.move_one.ensures.most long row;
@@ -82,6 +86,7 @@ pub returns-in_err-move_one-clause-made : goal.returns-in_err-move_one-clause-ma
 returns-in_err-move_one-clause-made g c =
     lift_part c.moves.invariant c.in-Some.ensures.step c.in-Some.ensures.moved c.move_one.ensures.keeps
     c.move_one.ensures.slots c.in_err-move_one.ensures.unmoved
+    (λ name. ap (λ (e : Extents). size_in e.now name) c.in_err-move_one.ensures.table)
 
 pub returns-in_err-move_one-clause-most : goal.returns-in_err-move_one-clause-most
 returns-in_err-move_one-clause-most g c =

@@ -3,6 +3,9 @@ use Rattle.flush_plan.specs.Phases.{lifted_in}
 use Rattle.flush_run.specs.Loops.{Packs, PacksPaid}
 use Rattle.flush_run.specs.Parts.{parts_of}
 use Rattle.flush_run.proofs.LeftLaws.{left_then, none_of, source_within, still_told, target_within, told_before}
+use Rattle.extent_table.specs.Extents.{Extents, Spots}
+use Rattle.flush_run.specs.Parts.{size_in}
+use Rattle.flush_run.proofs.SizeLaws.{sizes_moved}
 use Rattle.flush_run.proofs.PackLaws.{pack_begins, pack_calls, pack_can, pack_fresh, pack_goes, pack_head, pack_made, pack_most, pack_most_saved, pack_names, pack_next, pack_part, pack_part_saved, pack_pays, pack_saveable, pack_slot, pack_space}
 use Rattle.flush_run.proofs.pack.pack_all.Goals as goal
 
@@ -47,6 +50,7 @@ returns-in_err-free_target-clause-made g c =
     let t = c.free_target.ensures in
     pack_part_saved c.moves.invariant c.in-Some.ensures.step c.in-Some.ensures.moved t.keeps t.moved t.later
     t.one
+    (λ name. ap (λ (x : Spots). size_in x name) t.spots)
 
 pub returns-in_err-free_target-clause-most : goal.returns-in_err-free_target-clause-most
 returns-in_err-free_target-clause-most g c =
@@ -115,6 +119,8 @@ returns-in_err-move_one-clause-made g c =
     let t = c.free_target.ensures in
     pack_part c.moves.invariant c.in-Some.ensures.step c.in-Some.ensures.moved t.keeps t.moved t.later t.one
     c.move_one.ensures.keeps c.move_one.ensures.slots c.in_err-move_one.ensures.unmoved
+    (λ name. ap (λ (e : Extents). size_in e.now name) c.in_err-move_one.ensures.table
+    ∙ ap (λ (x : Spots). size_in x name) t.spots)
 
 pub returns-in_err-move_one-clause-most : goal.returns-in_err-move_one-clause-most
 returns-in_err-move_one-clause-most g c =
@@ -141,7 +147,12 @@ moves-preserved g c =
     let long = c.free_target.new.hands.ledger.moved.shape.full in
     let answer = c.in_ok-free_target.ensures.answer in
     record {
-      made = pack_made i step c.in-Some.ensures.moved t.keeps t.moved t.later t.one m.keeps m.slots long row;
+      made = pack_made i step c.in-Some.ensures.moved t.keeps t.moved t.later t.one m.keeps m.slots long row
+          (λ name. sizes_moved
+          (pack_can i c.requires.start.1 step c.requires.moving _ refl refl _ answer t.keeps
+          (c.in_ok-free_target.ensures.flies c.requires.start.0)).can.mover c.in_ok-move_one.ensures.moved
+          name
+          ∙ ap (λ (x : Spots). size_in x name) t.spots);
       calm = c.in_ok-move_one.ensures.cause.calm ∙ c.in_ok-free_target.ensures.cause.calm ∙ i.calm;
       lifted = λ d. ap (λ p. lifted_in p d) c.in-Some.ensures.moved ∙ step.lifted d ∙ i.lifted d;
       calls = pack_calls i step (parts_of c.free_target.new.hands) (g.D.Disk.state c.free_target.new.disk) _

@@ -108,7 +108,7 @@ returns-in_err-settle-clause-made g c =
     refl in
     let laid = c.in_ok-lay_all.ensures.laid start.0 lays in
     finished_all p.made p.lifted l.items l.same c.lay_all.ensures.made c.in_ok-pack_all.ensures.calls
-    c.in_ok-lay_all.ensures.calls s.keeps s.later s.moved laid.goes.hands.table.now_room
+    c.in_ok-lay_all.ensures.calls s.keeps s.later s.moved s.spots laid.goes.hands.table.now_room
     (omega (arith, s.calls.most))
 
 pub returns-clause-made : goal.returns-clause-made
@@ -123,7 +123,7 @@ returns-clause-made g c =
     refl in
     let laid = c.in_ok-lay_all.ensures.laid start.0 lays in
     finished_all p.made p.lifted l.items l.same c.lay_all.ensures.made c.in_ok-pack_all.ensures.calls
-    c.in_ok-lay_all.ensures.calls s.keeps s.later s.moved laid.goes.hands.table.now_room
+    c.in_ok-lay_all.ensures.calls s.keeps s.later s.moved s.spots laid.goes.hands.table.now_room
     (omega (arith, s.calls.most))
 
 pub returns-clause-calls : goal.returns-clause-calls
@@ -138,7 +138,7 @@ returns-clause-calls g c =
     refl in
     let laid = c.in_ok-lay_all.ensures.laid start.0 lays in
     finished_calls p.made p.lifted l.items l.same c.lay_all.ensures.made c.in_ok-pack_all.ensures.calls
-    c.in_ok-lay_all.ensures.calls s.keeps s.later s.moved laid.goes.hands.table.now_room
+    c.in_ok-lay_all.ensures.calls s.keeps s.later s.moved s.spots laid.goes.hands.table.now_room
     (omega (arith, s.calls.most))
     (ap (λ (u : choice.InUse). u.sequence) c.in_ok-settle.ensures.pair)
 
