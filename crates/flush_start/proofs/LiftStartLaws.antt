@@ -27,11 +27,11 @@ use Rattle.spot_terms.proofs.EntryLaws.{get-remove_here, insert-remove}
 use Rattle.flush_plan.specs.declared.item.Item.{Item}
 use Rattle.flush_plan.specs.declared.item.Numbers.{Numbers}
 use Rattle.flush_plan.specs.Begins.{Begins}
-use Rattle.flush_plan.specs.Phases.{phase_of}
+use Rattle.flush_plan.specs.Phases.{Phase, phase_of}
 use Rattle.flush_plan.specs.Plans.{numbers_of}
 use Rattle.flush_run.specs.Flights.{Flight, IsFreeSpace}
-use Rattle.flush_run.specs.Hands.{IsHandsFor, suffix_items}
-use Rattle.flush_run.specs.Lifts.{AllEndBy, LiftNow}
+use Rattle.flush_run.specs.Hands.{AllEndBy, IsHandsFor, suffix_items}
+use Rattle.flush_run.specs.Loops.{phase_header}
 use Rattle.flush_start.specs.Charging.{between, new_charged}
 use Rattle.flush_start.specs.Gathering.{item_at}
 use Rattle.flush_start.specs.Starts.{CanStart, IsLoud, IsWith, IsWithout, WasBefore}
@@ -44,6 +44,14 @@ use Rattle.flush_start.proofs.ReachLaws.{kept_end, reach_past_wall, wall_past_en
 use Rattle.flush_start.proofs.SizedLaws.{IsSizedBy, sized_gone, sized_put}
 use Rattle.flush_start.proofs.SuffixLaws.{few_items}
 use Rattle.flush_start.proofs.StartLaws.{after_gone, after_missed, new_high, placed_apart_kept, placed_apart_now, placed_within, started_with, started_without}
+
+-- What lifting begins with, but for the disk: the parts belong together with the phase, what the checkpoint holds
+-- ends where the layout does, and the table's book is that of after.
+pub record BeginsLift (f : Flight) (caps : List ℕ) (grid : List (List ℕ)) (u : choice.InUse) (e : Extents)
+    (spans : List Span) (p : Phase) : Type 0 where
+  pub hands : IsHandsFor f u e caps grid spans p
+  pub low : AllEndBy e.kept (end_of p.k p.caps)
+  pub book : book_of (laid f.classes f.size_max u.block.k f.reach (phase_header p caps grid) e.now) ≡ f.new_book
 
 module _ (f : Flight) (caps : List ℕ) (grid kept_grid : List (List ℕ)) (u : choice.InUse) (e : Extents)
     (spans : List Span) (h : WasBefore f.classes f.size_max caps grid kept_grid u e spans)
@@ -83,7 +91,7 @@ module _ (f : Flight) (caps : List ℕ) (grid kept_grid : List (List ℕ)) (u : 
 
       pub removed_lifts : (m : Map) → IsSizedBy m e.now
           → (next_book k m before (record { name = name; object = None })).book ≡ f.new_book
-          → LiftNow f caps after (end_of k caps) u gone freed (phase_of k caps (numbers gone 0) 0 all room)
+          → BeginsLift f caps after u gone freed (phase_of k caps (numbers gone 0) 0 all room)
       removed_lifts m sized book = record {
         hands = removed_hands;
         low = kept_end f.classes f.size_max caps after kept_grid b u gone freed removed_starts;
@@ -180,7 +188,7 @@ module _ (f : Flight) (caps : List ℕ) (grid kept_grid : List (List ℕ)) (u : 
         placed_hands = hands_alone f caps after kept_grid b u put freed placed_starts base reach all room perm
 
         pub placed_lifts : (m : Map) → IsSizedBy m e.now → IsNext m
-            → LiftNow f caps after (end_of k caps) u put freed (phase_of k caps (numbers put 0) 0 all room)
+            → BeginsLift f caps after u put freed (phase_of k caps (numbers put 0) 0 all room)
         placed_lifts m sized book = record {
           hands = placed_hands;
           low = kept_end f.classes f.size_max caps after kept_grid b u put freed placed_starts;
@@ -262,7 +270,7 @@ module _ (f : Flight) (caps : List ℕ) (grid kept_grid : List (List ℕ)) (u : 
                 perm
 
             pub pending_lifts : (m : Map) → IsSizedBy m e.now → IsNext m
-                → LiftNow f caps after (end_of k caps) u put freed
+                → BeginsLift f caps after u put freed
                 (phase_of k caps (numbers gone size) size all room)
             pending_lifts m sized book = record {
               hands = pending_hands;
