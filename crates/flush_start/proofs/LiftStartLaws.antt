@@ -27,13 +27,13 @@ use Rattle.spot_terms.proofs.EntryLaws.{get-remove_here, insert-remove}
 use Rattle.flush_plan.specs.declared.item.Item.{Item}
 use Rattle.flush_plan.specs.declared.item.Numbers.{Numbers}
 use Rattle.flush_plan.specs.Begins.{Begins}
-use Rattle.flush_plan.specs.Phases.{Phase, phase_of}
+use Rattle.flush_plan.specs.Phases.{phase_of}
 use Rattle.flush_plan.specs.Plans.{numbers_of}
 use Rattle.flush_run.specs.Flights.{Flight, IsFreeSpace}
 use Rattle.flush_run.specs.Hands.{AllEndBy, IsHandsFor, suffix_items}
-use Rattle.flush_run.specs.Loops.{phase_header}
 use Rattle.flush_start.specs.Charging.{between, new_charged}
 use Rattle.flush_start.specs.Gathering.{item_at}
+use Rattle.flush_start.specs.Lifting.{BeginsLift}
 use Rattle.flush_start.specs.Starts.{CanStart, IsLoud, IsWith, IsWithout, WasBefore}
 use Rattle.flush_start.proofs.CanFlushLaws.{begins_pending}
 use Rattle.flush_start.proofs.ChargedLaws.{class_low, new_some}
@@ -41,17 +41,10 @@ use Rattle.flush_start.proofs.GoneAboveLaws.{left_over}
 use Rattle.flush_start.proofs.HandsLaws.{hands_alone, hands_pending, pending_free}
 use Rattle.flush_start.proofs.NextBookLaws.{begun, book_begun, buffered_pending, buffered_placed, buffered_removed, names}
 use Rattle.flush_start.proofs.ReachLaws.{kept_end, reach_past_wall, wall_past_end}
-use Rattle.flush_start.proofs.SizedLaws.{IsSizedBy, sized_gone, sized_put}
+use Rattle.flush_start.specs.Sized.{IsSizedBy}
+use Rattle.flush_start.proofs.SizedLaws.{sized_gone, sized_put}
 use Rattle.flush_start.proofs.SuffixLaws.{few_items}
 use Rattle.flush_start.proofs.StartLaws.{after_gone, after_missed, new_high, placed_apart_kept, placed_apart_now, placed_within, started_with, started_without}
-
--- What lifting begins with, but for the disk: the parts belong together with the phase, what the checkpoint holds
--- ends where the layout does, and the table's book is that of after.
-pub record BeginsLift (f : Flight) (caps : List ℕ) (grid : List (List ℕ)) (u : choice.InUse) (e : Extents)
-    (spans : List Span) (p : Phase) : Type 0 where
-  pub hands : IsHandsFor f u e caps grid spans p
-  pub low : AllEndBy e.kept (end_of p.k p.caps)
-  pub book : book_of (laid f.classes f.size_max u.block.k f.reach (phase_header p caps grid) e.now) ≡ f.new_book
 
 module _ (f : Flight) (caps : List ℕ) (grid kept_grid : List (List ℕ)) (u : choice.InUse) (e : Extents)
     (spans : List Span) (h : WasBefore f.classes f.size_max caps grid kept_grid u e spans)
