@@ -1,5 +1,5 @@
 -- What a flush holds, with its guard: after a move, and after a save.
-use Rattle.std.specs.Prelude.{◌≡◌, ℕ, ◌<◌, false, List, [], ◌∷◌, ◌++◌, length, Some}
+use Rattle.std.specs.Prelude.{◌≡◌, ℕ, ◌<◌, false, List, [], length, Some}
 use Rattle.std.proofs.Common.{arith, inl, inr}
 use Rattle.std.proofs.lemmas.Bool.{cases_Bool}
 use Rattle.std.specs.FinMap as fin
@@ -26,18 +26,27 @@ use Rattle.held_guard.specs.Freed.{Joins}
 use Rattle.flush_run.specs.Moves.{moved_spot, MovesName, moved_table}
 use Rattle.flush_run.proofs.StepLaws.{hands_moved}
 
-module _ (f : Flight) (u : choice.InUse) (e : Extents) (caps : List ℕ) (grid : List (List ℕ)) (spans : List Span) (p : Phase) (h : IsHandsFor f u e caps grid spans p) where
-  module _ (mv : Move) (name : List ℕ) (s : Spot) (safe : IsSafe p.numbers p.items mv) (m : MovesName e p.numbers.boundary mv name s) (table : IsTable (moved_table e name s mv.to)) (free : IsFreeSpace e.now e.kept mv.to mv.size) where
+module _ (f : Flight) (u : choice.InUse) (e : Extents) (caps : List ℕ) (grid : List (List ℕ))
+    (spans : List Span) (p : Phase) (h : IsHandsFor f u e caps grid spans p) where
+  module _ (mv : Move) (name : List ℕ) (s : Spot) (safe : IsSafe p.numbers p.items mv)
+      (m : MovesName e p.numbers.boundary mv name s) (table : IsTable (moved_table e name s mv.to))
+      (free : IsFreeSpace e.now e.kept mv.to mv.size) where
     apart_held : (x : Spot) → fin.get e.kept name ≡ Some x → LiesApart mv.to s.size x
-    apart_held x is = elim (free.held name x is) as (λ y. LiesApart mv.to s.size x) [ inl below ↦ inl below | inr above ↦ inr (omega (arith, above, m.size)) ]
+    apart_held x is = elim (free.held name x is) as (λ y. LiesApart mv.to s.size x)
+        [ inl below ↦ inl below | inr above ↦ inr (omega (arith, above, m.size)) ]
 
     -- the object stood where it was kept: its span joins the guard
-    pub hands_moved_off : (a : Span) (joined : List Span) → fin.get e.kept name ≡ Some s → IsSpanOf s a → Joins a spans joined → IsHandsFor f u (moved_table e name s mv.to) caps grid joined (moved_by mv p)
-    hands_moved_off a joined held span j = hands_moved f u e caps grid spans joined p mv name s h safe m table (freed_by_move spans joined e.now e.kept name s (moved_spot s mv.to) a m.is held m.some apart_held span j h.freed)
+    pub hands_moved_off : (a : Span) (joined : List Span) → fin.get e.kept name ≡ Some s → IsSpanOf s a
+        → Joins a spans joined → IsHandsFor f u (moved_table e name s mv.to) caps grid joined (moved_by mv p)
+    hands_moved_off a joined held span j = hands_moved f u e caps grid spans joined p mv name s h safe m table
+        (freed_by_move spans joined e.now e.kept name s
+        (moved_spot s mv.to) a m.is held m.some apart_held span j h.freed)
 
     -- it didn't
-    pub hands_moved_past : ((x : Spot) → fin.get e.kept name ≡ Some x → is_at (Some s) x ≡ false) → IsHandsFor f u (moved_table e name s mv.to) caps grid spans (moved_by mv p)
-    hands_moved_past off = hands_moved f u e caps grid spans spans p mv name s h safe m table (freed_past_move spans e.now e.kept name s (moved_spot s mv.to) m.is off apart_held h.freed)
+    pub hands_moved_past : ((x : Spot) → fin.get e.kept name ≡ Some x → is_at (Some s) x ≡ false)
+        → IsHandsFor f u (moved_table e name s mv.to) caps grid spans (moved_by mv p)
+    hands_moved_past off = hands_moved f u e caps grid spans spans p mv name s h safe m table
+        (freed_past_move spans e.now e.kept name s (moved_spot s mv.to) m.is off apart_held h.freed)
 
   -- a save makes what stands now the checkpoint, and empties the guard
   pub hands_saved : IsHandsFor f (next_in_use u) (record e { kept = e.now }) caps grid [] p
@@ -69,7 +78,8 @@ module _ (f : Flight) (u : choice.InUse) (e : Extents) (caps : List ℕ) (grid :
     rules = h.rules;
     lower = h.lower;
     freed = freed_nothing e.now;
-    kept_empty = λ name s is. by_name (λ (r : Record). r.size ≡ 0 → r.place ≡ 0) e.now h.table.now_named h.rules.empty name s is;
+    kept_empty = λ name s is. by_name (λ (r : Record). r.size ≡ 0
+        → r.place ≡ 0) e.now h.table.now_named h.rules.empty name s is;
     kept_apart = λ a b s t is there. elim (cases_Bool (same_name a b)) [
       | inl same ↦ inl (same_name-is a b same)
       | inr differ ↦ inr (apart_by_name e.now h.table.now_named h.rules.apart a b s t is there differ)
@@ -78,8 +88,20 @@ module _ (f : Flight) (u : choice.InUse) (e : Extents) (caps : List ℕ) (grid :
 
   -- then the target of a safe move is free
   pub saved_is_free : (mv : Move) → IsSafe p.numbers p.items mv → IsFreeSpace e.now e.now mv.to mv.size
-  saved_is_free mv safe = record { live = live_apart f u e caps grid spans p h mv safe; held = live_apart f u e caps grid spans p h mv safe }
+  saved_is_free mv safe = record {
+    live = live_apart f u e caps grid spans p h mv safe;
+    held =
+        live_apart f u e caps grid spans p h mv safe;
+  }
 
 -- there is room for the span of an object that stands where it was kept
-pub room_for_span : (e : Extents) (spans : List Span) (name : List ℕ) (s : Spot) → IsTable e → IsFreed spans e.now e.kept → fin.get e.now name ≡ Some s → fin.get e.kept name ≡ Some s → length spans < e.names
-room_for_span e spans name s table freed stands held = omega (arith, freed_few spans e.now e.kept name s freed held (stood_there spans e.now e.kept name s stands), table.kept_room)
+pub room_for_span : (e : Extents) (spans : List Span) (name : List ℕ) (s : Spot) → IsTable e
+    → IsFreed spans e.now e.kept → fin.get e.now name ≡ Some s → fin.get e.kept name ≡ Some s
+    → length spans < e.names
+room_for_span e spans name s table freed stands held =
+    omega (
+      arith,
+      freed_few spans e.now e.kept name s freed held
+          (stood_there spans e.now e.kept name s stands),
+      table.kept_room,
+    )

@@ -11,7 +11,7 @@ use Rattle.slot_codec.specs.declared.codec.Header.{Header}
 use Rattle.slot_codec.proofs.ChoiceLaws.{in_use_long}
 use Rattle.slot_pair.specs.Saves.{save_calls}
 use Rattle.span_math.specs.declared.span.Span.{Span}
-use Rattle.extent_table.specs.Extents.{Extents, records_of}
+use Rattle.extent_table.specs.Extents.{records_of}
 use Rattle.extent_table.proofs.ExtentLaws.{records_of-few}
 use Rattle.spot_terms.specs.Laid.{moving_header}
 use Rattle.flush_plan.specs.declared.item.Move.{Move}
@@ -32,7 +32,8 @@ use Rattle.flush_run.proofs.MadeLaws.{KeepsOn-then, keeps_none, made_none, made_
 use Rattle.flush_run.proofs.PaidLaws.{lay_paid}
 
 -- where the loop begins
-pub lay_begins : (classes : ℕ) (a : State) (x : Parts) (p : Phase) → IsTrue a.is_ready → InLay classes a a x x p p
+pub lay_begins : (classes : ℕ) (a : State) (x : Parts) (p : Phase) → IsTrue a.is_ready
+    → InLay classes a a x x p p
 lay_begins classes a x p ready = record {
   made = made_none to_lay laid_in a x p (keeps_none a x ready);
   calm = refl;
@@ -43,189 +44,229 @@ lay_begins classes a x p ready = record {
 }
 
 -- a phase with the same numbers has the same header
-pub same_header : (p0 p : Phase) (caps : List ℕ) (grid : List (List ℕ)) (header : Header) → p.numbers ≡ p0.numbers
+pub same_header : (p0 p : Phase) (caps : List ℕ) (grid : List (List ℕ)) (header : Header)
+    → p.numbers ≡ p0.numbers
     → header ≡ phase_header p0 caps grid → header ≡ phase_header p caps grid
 same_header p0 p caps grid header same is =
     is ∙ (λ i. moving_header (sym same i).boundary (sym same i).wall (sym same i).slack caps grid)
 
-module _ {classes : ℕ} {first now : State} {x0 x : Parts} {p0 p : Phase} (i : InLay classes first now x0 x p0 p)
+module _ {classes : ℕ} {first now : State} {x0 x : Parts} {p0 p : Phase}
+    (i : InLay classes first now x0 x p0 p)
     {f : Flight} (start : Lays classes f x0.caps x0.grid x0 p0 first)
-    where
-  abbrev s : LaysSince classes f x0.caps x0.grid first now x p
-  s = i.all f start
+  where
+    abbrev s : LaysSince classes f x0.caps x0.grid first now x p
+    s = i.all f start
 
-  -- the slot in use, where the content is told
-  pub lay_slot : IsTrue now.tells → choice.slot_in_use now.file ≡ Ok x.in_use
-  lay_slot told = (s.lays.goes.flies told).content.slot
+    -- the slot in use, where the content is told
+    pub lay_slot : IsTrue now.tells → choice.slot_in_use now.file ≡ Ok x.in_use
+    lay_slot told = (s.lays.goes.flies told).content.slot
 
-  pub lay_head : IsTrue now.tells → head_len x.in_use.block.names ≤ length now.file
-  lay_head told = in_use_long now.file x.in_use (lay_slot told)
+    pub lay_head : IsTrue now.tells → head_len x.in_use.block.names ≤ length now.file
+    lay_head told = in_use_long now.file x.in_use (lay_slot told)
 
-  module _ {mv : Move} (step : IsLayStep p mv) where
-    pub lay_fresh : x.in_use.sequence < 2 ^ 62 - 1
-    lay_fresh = omega (arith, s.lays.saves.settled)
+    module _ {mv : Move} (step : IsLayStep p mv) where
+      pub lay_fresh : x.in_use.sequence < 2 ^ 62 - 1
+      lay_fresh = omega (arith, s.lays.saves.settled)
 
-    pub lay_names : x.table.names ≤ x.in_use.block.names
-    lay_names = omega (arith, s.lays.goes.hands.names)
+      pub lay_names : x.table.names ≤ x.in_use.block.names
+      lay_names = omega (arith, s.lays.goes.hands.names)
 
-    pub lay_saveable : (header : Header) → header ≡ phase_header p0 x0.caps x0.grid
-        → IsSaveable f x.in_use x.table.now header
-    lay_saveable header is =
-        goes_saveable s.lays.goes header step.before.packing.resumes
-            (same_header p0 p x0.caps x0.grid header i.made.same.numbers is)
-            (λ fresh. omega (arith, s.lays.saves.moving fresh))
+      pub lay_saveable : (header : Header) → header ≡ phase_header p0 x0.caps x0.grid
+          → IsSaveable f x.in_use x.table.now header
+      lay_saveable header is =
+          goes_saveable s.lays.goes header step.before.packing.resumes
+          (same_header p0 p x0.caps x0.grid header i.made.same.numbers is)
+          (λ fresh. omega (arith, s.lays.saves.moving fresh))
 
-    module _ {header : Header} (is : header ≡ phase_header p0 x0.caps x0.grid) {x1 : Parts} {d1 : State} (target : Span) (place : target.place ≡ mv.to) (size : target.size ≡ mv.size)
-        (saved : Bool) (a : FreesTarget saved target x.in_use x1.in_use x.table x1.table x.spans x1.spans)
-        (keeps : KeepsOn now d1 x x1)
-        (held : IsTrue now.tells → IsSaveable f x.in_use x.table.now header → Flies f x.in_use x.table now
+      module _ {header : Header} (is : header ≡ phase_header p0 x0.caps x0.grid) {x1 : Parts} {d1 : State}
+          (target : Span) (place : target.place ≡ mv.to) (size : target.size ≡ mv.size)
+          (saved : Bool) (a : FreesTarget saved target x.in_use x1.in_use x.table x1.table x.spans x1.spans)
+          (keeps : KeepsOn now d1 x x1)
+          (held : IsTrue now.tells → IsSaveable f x.in_use x.table.now header → Flies f x.in_use x.table now
           → Flies f x1.in_use x1.table d1)
         where
-      flies : IsTrue d1.tells → Flies f x1.in_use x1.table d1
-      flies told =
-          let before = told_before keeps told in
-          held before (lay_saveable header is) (s.lays.goes.flies before)
+          flies : IsTrue d1.tells → Flies f x1.in_use x1.table d1
+          flies told =
+              let before = told_before keeps told in
+              held before (lay_saveable header is) (s.lays.goes.flies before)
 
-      -- once its target is free
-      pub lay_goes : Goes classes f x0.caps x0.grid x1 p d1
-      lay_goes = goes_freed s.lays.goes step.item step.safe x1 d1 target place size saved a keeps.base keeps.divisor
-          (omega (arith, keeps.names, keeps.room, s.lays.goes.guard)) flies
+          -- once its target is free
+          pub lay_goes : Goes classes f x0.caps x0.grid x1 p d1
+          lay_goes = goes_freed s.lays.goes step.item step.safe x1 d1 target place size saved a keeps.base
+              keeps.divisor
+              (omega (arith, keeps.names, keeps.room, s.lays.goes.guard)) flies
 
-      pub lay_space : IsFreeSpace x1.table.now x1.table.kept mv.to mv.size
-      lay_space = space_freed s.lays.goes step.item step.safe x1 d1 target place size saved a
+          pub lay_space : IsFreeSpace x1.table.now x1.table.kept mv.to mv.size
+          lay_space = space_freed s.lays.goes step.item step.safe x1 d1 target place size saved a
 
-      pub lay_can : CanStep classes f x1 mv
-      lay_can = can_step lay_goes step.item step.safe
+          pub lay_can : CanStep classes f x1 mv
+          lay_can = can_step lay_goes step.item step.safe
 
-      module _ {b : State} {x2 : Parts} {p2 : Phase} (after : p2 ≡ moved_by mv p) (one : x1.in_use.sequence ≤ x.in_use.sequence + 1)
-          (more : KeepsOn d1 b x1 x2) (slots : x2.in_use ≡ x1.in_use)
-          (moved : HasMoved mv x1.table x2.table x1.spans x2.spans)
-          where
-        -- a step of Lay
-        pub lay_next : (IsTrue b.tells → Flies f x1.in_use x2.table b)
-            → (IsTrue first.tells → LeavesOldOrNew f now b)
-            → LaysSince classes f x0.caps x0.grid first b x2 p2
-        lay_next flies2 left =
-            let q = ap (λ (u : choice.InUse). u.sequence) slots in
-            record {
-              lays = subst (λ r. Lays classes f x0.caps x0.grid x2 r b) (sym after) (record {
-                goes = goes_moved lay_goes step.item step.safe x2 b lay_space moved slots more.base more.divisor
-                    (omega (arith, more.names, more.room, lay_goes.guard)) flies2;
-                saves = record {
-                  settled = omega (arith, s.lays.saves.settled, q, one, step.fewer);
-                  moving = λ fresh. omega (arith, s.lays.saves.moving fresh, q, one, step.fewer);
-                };
-              });
-              left = λ told. left_then (s.left told) (left told);
-            }
+          module _ {b : State} {x2 : Parts} {p2 : Phase} (after : p2 ≡ moved_by mv p)
+              (one : x1.in_use.sequence ≤ x.in_use.sequence + 1)
+              (more : KeepsOn d1 b x1 x2) (slots : x2.in_use ≡ x1.in_use)
+              (moved : HasMoved mv x1.table x2.table x1.spans x2.spans)
+            where
+              -- a step of Lay
+              pub lay_next : (IsTrue b.tells → Flies f x1.in_use x2.table b)
+                  → (IsTrue first.tells → LeavesOldOrNew f now b)
+                  → LaysSince classes f x0.caps x0.grid first b x2 p2
+              lay_next flies2 left =
+                  let q = ap (λ (u : choice.InUse). u.sequence) slots in
+                  record {
+                    lays = subst (λ r. Lays classes f x0.caps x0.grid x2 r b) (sym after) (record {
+                      goes = goes_moved lay_goes step.item step.safe x2 b lay_space moved slots more.base
+                          more.divisor
+                          (omega (arith, more.names, more.room, lay_goes.guard)) flies2;
+                      saves = record {
+                        settled = omega (arith, s.lays.saves.settled, q, one, step.fewer);
+                        moving = λ fresh. omega (arith, s.lays.saves.moving fresh, q, one, step.fewer);
+                      };
+                    });
+                    left = λ told. left_then (s.left told) (left told);
+                  }
 
-        pub lay_pays : {pay total q : ℕ} → LaysPaid pay total q x p → LaysPaid pay total q x2 p2
-        lay_pays {pay} {total} {q} paid =
-            subst (λ r. LaysPaid pay total q x2 r) (sym after)
-            (lay_paid s.lays.goes x1 target place size step paid saved a x2 slots (kept_stays lay_goes step.item step.safe moved))
+              pub lay_pays : {pay total q : ℕ} → LaysPaid pay total q x p → LaysPaid pay total q x2 p2
+              lay_pays {pay} {total} {q} paid =
+                  subst (λ r. LaysPaid pay total q x2 r) (sym after)
+                  (lay_paid s.lays.goes x1 target place size step paid saved a x2 slots
+                  (kept_stays lay_goes step.item step.safe moved))
 
 -- ---- what is known of the calls, without a flight
 
-module _ {classes : ℕ} {first now : State} {x0 x : Parts} {p0 p : Phase} (i : InLay classes first now x0 x p0 p)
+module _ {classes : ℕ} {first now : State} {x0 x : Parts} {p0 p : Phase}
+    (i : InLay classes first now x0 x p0 p)
     {mv : Move} (step : IsLayStep p mv)
-    where
-  module _ {b : State} {x1 x2 : Parts} {d1 : State} {p2 : Phase} (after : p2 ≡ moved_by mv p)
-      (keeps : KeepsOn now d1 x x1)
-      (row1 : x1.moved ≡ x.moved) (later : x.in_use.sequence ≤ x1.in_use.sequence)
-      (one : x1.in_use.sequence ≤ x.in_use.sequence + 1) (more : KeepsOn d1 b x1 x2) (slots : x2.in_use ≡ x1.in_use)
+  where
+    module _ {b : State} {x1 x2 : Parts} {d1 : State} {p2 : Phase} (after : p2 ≡ moved_by mv p)
+        (keeps : KeepsOn now d1 x x1)
+        (row1 : x1.moved ≡ x.moved) (later : x.in_use.sequence ≤ x1.in_use.sequence)
+        (one : x1.in_use.sequence ≤ x.in_use.sequence + 1) (more : KeepsOn d1 b x1 x2) (slots : x2.in_use
+        ≡ x1.in_use)
       where
-    pub lay_made : length x1.moved ≡ 32 → RowMoves mv x1.moved x2.moved
-        → HasMade to_lay laid_in first b x0 x2 p0 p2
-    lay_made long row =
-        let q = ap (λ (u : choice.InUse). u.sequence) slots in
-        let here = class_below mv.size in
-        let rises = row_rises x1.moved x2.moved mv.size (omega (arith, here, long)) row in
-        let same : (c : ℕ) → slice_index x1.moved c ≡ slice_index x.moved c =
-        λ c. ap (λ (r : List ℕ). slice_index r c) row1
-        in
-        made_step i.made mv step.fewer step.progress after (KeepsOn-then keeps more) (omega (arith, q, later))
+        pub lay_made : length x1.moved ≡ 32 → RowMoves mv x1.moved x2.moved
+            → HasMade to_lay laid_in first b x0 x2 p0 p2
+        lay_made long row =
+            let q = ap (λ (u : choice.InUse). u.sequence) slots in
+            let here = class_below mv.size in
+            let rises = row_rises x1.moved x2.moved mv.size (omega (arith, here, long)) row in
+            let same : (c : ℕ) → slice_index x1.moved c ≡ slice_index x.moved c =
+            λ c. ap (λ (r : List ℕ). slice_index r c) row1
+            in
+            made_step i.made mv step.fewer step.progress after (KeepsOn-then keeps more)
+            (omega (arith, q, later))
             (omega (arith, q, one))
             (λ c. subst (λ k. slice_index x2.moved c ≤ slice_index x.moved c + cond (k == c) mv.size 0)
-                (sym step.item.class) (omega (arith, rises c, same c)))
+            (sym step.item.class) (omega (arith, rises c, same c)))
             (λ c low. row_stays x1.moved x2.moved mv.size (omega (arith, here, long)) row c
-                (omega (arith, low, step.item.from, step.item.class, ap (λ (n : Numbers). n.boundary) i.made.same.numbers))
-                ∙ same c)
+            (omega (
+              arith,
+              low,
+              step.item.from,
+              step.item.class,
+              ap (λ (n : Numbers). n.boundary) i.made.same.numbers,
+            ))
+            ∙ same c)
 
-    pub lay_part : x2.moved ≡ x1.moved → HasMade to_lay laid_in first b x0 x2 p0 p2
-    lay_part row =
-        let q = ap (λ (u : choice.InUse). u.sequence) slots in
-        made_part i.made mv step.fewer step.progress after (KeepsOn-then keeps more) (omega (arith, q, later))
+        pub lay_part : x2.moved ≡ x1.moved → HasMade to_lay laid_in first b x0 x2 p0 p2
+        lay_part row =
+            let q = ap (λ (u : choice.InUse). u.sequence) slots in
+            made_part i.made mv step.fewer step.progress after (KeepsOn-then keeps more)
+            (omega (arith, q, later))
             (omega (arith, q, one)) (row ∙ row1)
 
-  -- a save that failed
-  pub lay_part_saved : {d1 : State} {x1 : Parts} {p2 : Phase} → p2 ≡ moved_by mv p → KeepsOn now d1 x x1
-      → x1.moved ≡ x.moved → x.in_use.sequence ≤ x1.in_use.sequence → x1.in_use.sequence ≤ x.in_use.sequence + 1
-      → HasMade to_lay laid_in first d1 x0 x1 p0 p2
-  lay_part_saved after keeps row later one = made_part i.made mv step.fewer step.progress after keeps later one row
+    -- a save that failed
+    pub lay_part_saved : {d1 : State} {x1 : Parts} {p2 : Phase} → p2 ≡ moved_by mv p → KeepsOn now d1 x x1
+        → x1.moved ≡ x.moved → x.in_use.sequence ≤ x1.in_use.sequence
+        → x1.in_use.sequence ≤ x.in_use.sequence + 1
+        → HasMade to_lay laid_in first d1 x0 x1 p0 p2
+    lay_part_saved after keeps row later one =
+        made_part i.made mv step.fewer step.progress after keeps later one row
 
-  abbrev few : ℕ
-  few = length (records_of x.table.now)
+    abbrev few : ℕ
+    few = length (records_of x.table.now)
 
-  pub few_records : fin.len x.table.now ≤ x.table.names → few ≤ x0.table.names
-  few_records room = omega (arith, records_of-few x.table.now, room, i.made.keeps.names)
+    pub few_records : fin.len x.table.now ≤ x.table.names → few ≤ x0.table.names
+    few_records room = omega (arith, records_of-few x.table.now, room, i.made.keeps.names)
 
-  -- the calls once the target is free
-  module _ (x1 : Parts) (d1 : State) (target : Span)
-      (room : fin.len x.table.now ≤ x.table.names)
-      (most : d1.turn ≤ now.turn + save_calls few)
+    -- the calls once the target is free
+    module _ (x1 : Parts) (d1 : State) (target : Span)
+        (room : fin.len x.table.now ≤ x.table.names)
+        (most : d1.turn ≤ now.turn + save_calls few)
       where
-    freed_calls : (saved : Bool) → FreesTarget saved target x.in_use x1.in_use x.table x1.table x.spans x1.spans
-        → (IsFalse saved → d1.turn ≡ now.turn)
-        → CallsSoFar first.turn d1.turn x0.moved x.moved 0 (x1.in_use.sequence - x0.in_use.sequence) x0.table.names
-    freed_calls true a none =
-        subst (λ n. CallsSoFar first.turn d1.turn x0.moved x.moved 0 n x0.table.names)
-        (omega (arith, ap (λ (u : choice.InUse). u.sequence) a.pair, i.made.later))
-        (calls_save first.turn now.turn d1.turn x0.moved x.moved 0 (x.in_use.sequence - x0.in_use.sequence)
+        freed_calls : (saved : Bool)
+            → FreesTarget saved target x.in_use x1.in_use x.table x1.table x.spans x1.spans
+            → (IsFalse saved → d1.turn ≡ now.turn)
+            → CallsSoFar first.turn d1.turn x0.moved x.moved 0
+            (x1.in_use.sequence - x0.in_use.sequence) x0.table.names
+        freed_calls true a none =
+            subst (λ n. CallsSoFar first.turn d1.turn x0.moved x.moved 0 n x0.table.names)
+            (omega (arith, ap (λ (u : choice.InUse). u.sequence) a.pair, i.made.later))
+            (calls_save first.turn now.turn d1.turn x0.moved x.moved 0
+            (x.in_use.sequence - x0.in_use.sequence)
             x0.table.names few i.calls (few_records room) most)
-    freed_calls false a none =
-        subst (λ n. CallsSoFar first.turn d1.turn x0.moved x.moved 0 n x0.table.names)
-        (omega (arith, ap (λ (u : choice.InUse). u.sequence) a.pair))
-        (calls_wider first.turn now.turn d1.turn x0.moved x.moved 0 0 (x.in_use.sequence - x0.in_use.sequence)
-            (x.in_use.sequence - x0.in_use.sequence) x0.table.names i.calls (omega arith) (omega (arith, none refl)))
+        freed_calls false a none =
+            subst (λ n. CallsSoFar first.turn d1.turn x0.moved x.moved 0 n x0.table.names)
+            (omega (arith, ap (λ (u : choice.InUse). u.sequence) a.pair))
+            (calls_wider first.turn now.turn d1.turn x0.moved x.moved 0 0
+            (x.in_use.sequence - x0.in_use.sequence)
+            (x.in_use.sequence - x0.in_use.sequence) x0.table.names i.calls (omega arith)
+            (omega (arith, none refl)))
 
-    pub lay_calls : (saved : Bool)
-        → FreesTarget saved target x.in_use x1.in_use x.table x1.table x.spans x1.spans
-        → (IsFalse saved → d1.turn ≡ now.turn) → (b : State) (x2 : Parts) → x1.moved ≡ x.moved → x2.in_use ≡ x1.in_use
-        → b.turn ≤ d1.turn + pieces 65536 mv.size → length x1.moved ≡ 32 → RowMoves mv x1.moved x2.moved
-        → CallsSoFar first.turn b.turn x0.moved x2.moved 0 (x2.in_use.sequence - x0.in_use.sequence) x0.table.names
-    lay_calls saved a none b x2 row1 slots more long row =
-        let so_far =
-            subst (λ r. CallsSoFar first.turn d1.turn x0.moved r 0 (x1.in_use.sequence - x0.in_use.sequence) x0.table.names)
-                (sym row1) (freed_calls saved a none)
+        pub lay_calls : (saved : Bool)
+            → FreesTarget saved target x.in_use x1.in_use x.table x1.table x.spans x1.spans
+            → (IsFalse saved → d1.turn ≡ now.turn) → (b : State) (x2 : Parts) → x1.moved ≡ x.moved
+            → x2.in_use ≡ x1.in_use
+            → b.turn ≤ d1.turn + pieces 65536 mv.size → length x1.moved ≡ 32 → RowMoves mv x1.moved x2.moved
+            → CallsSoFar first.turn b.turn x0.moved x2.moved 0
+            (x2.in_use.sequence - x0.in_use.sequence) x0.table.names
+        lay_calls saved a none b x2 row1 slots more long row =
+            let so_far =
+            subst (λ r. CallsSoFar first.turn d1.turn x0.moved r 0
+            (x1.in_use.sequence - x0.in_use.sequence) x0.table.names)
+            (sym row1) (freed_calls saved a none)
             in
-        subst (λ (u : choice.InUse). CallsSoFar first.turn b.turn x0.moved x2.moved 0 (u.sequence - x0.in_use.sequence) x0.table.names)
+            subst (λ (u : choice.InUse). CallsSoFar first.turn b.turn x0.moved x2.moved 0
+            (u.sequence - x0.in_use.sequence) x0.table.names)
             (sym slots)
-            (calls_move x1.moved x2.moved mv.size (omega (arith, class_below mv.size, long)) row step.item.some
-                (class_below mv.size) so_far b.turn more)
+            (calls_move x1.moved x2.moved mv.size (omega (
+              arith,
+              class_below mv.size,
+              long,
+            )) row step.item.some
+            (class_below mv.size) so_far b.turn more)
 
-    -- a move that failed may have made all calls of its pieces
-    pub lay_most : (saved : Bool)
-        → FreesTarget saved target x.in_use x1.in_use x.table x1.table x.spans x1.spans
-        → (IsFalse saved → d1.turn ≡ now.turn) → (b : State) (x2 : Parts) → x1.moved ≡ x.moved → x2.in_use ≡ x1.in_use
-        → b.turn ≤ d1.turn + pieces 65536 mv.size → mv.size ≤ 2 ^ 20 → x2.moved ≡ x1.moved
-        → CallsSoFar first.turn b.turn x0.moved x2.moved 16 (x2.in_use.sequence - x0.in_use.sequence + 1) x0.table.names
-    lay_most saved a none b x2 row1 slots more small row =
-        let wider =
-            calls_wider first.turn d1.turn b.turn x0.moved x.moved 0 16 (x1.in_use.sequence - x0.in_use.sequence)
-                (x2.in_use.sequence - x0.in_use.sequence + 1) x0.table.names (freed_calls saved a none)
-                (omega (arith, ap (λ (u : choice.InUse). u.sequence) slots)) (omega (arith, more, small))
+        -- a move that failed may have made all calls of its pieces
+        pub lay_most : (saved : Bool)
+            → FreesTarget saved target x.in_use x1.in_use x.table x1.table x.spans x1.spans
+            → (IsFalse saved → d1.turn ≡ now.turn) → (b : State) (x2 : Parts) → x1.moved ≡ x.moved
+            → x2.in_use ≡ x1.in_use
+            → b.turn ≤ d1.turn + pieces 65536 mv.size → mv.size ≤ 2 ^ 20 → x2.moved ≡ x1.moved
+            → CallsSoFar first.turn b.turn x0.moved x2.moved 16
+            (x2.in_use.sequence - x0.in_use.sequence + 1) x0.table.names
+        lay_most saved a none b x2 row1 slots more small row =
+            let wider =
+            calls_wider first.turn d1.turn b.turn x0.moved x.moved 0 16
+            (x1.in_use.sequence - x0.in_use.sequence)
+            (x2.in_use.sequence - x0.in_use.sequence + 1) x0.table.names (freed_calls saved a none)
+            (omega (arith, ap (λ (u : choice.InUse). u.sequence) slots)) (omega (arith, more, small))
             in
-        subst (λ r. CallsSoFar first.turn b.turn x0.moved r 16 (x2.in_use.sequence - x0.in_use.sequence + 1) x0.table.names)
+            subst (λ r. CallsSoFar first.turn b.turn x0.moved r 16
+            (x2.in_use.sequence - x0.in_use.sequence + 1) x0.table.names)
             (sym (row ∙ row1)) wider
 
-  -- and a save that failed all of its own
-  pub lay_most_saved : (d1 : State) (x1 : Parts) → fin.len x.table.now ≤ x.table.names
-      → d1.turn ≤ now.turn + save_calls few → x1.moved ≡ x.moved → x.in_use.sequence ≤ x1.in_use.sequence
-      → CallsSoFar first.turn d1.turn x0.moved x1.moved 16 (x1.in_use.sequence - x0.in_use.sequence + 1) x0.table.names
-  lay_most_saved d1 x1 room most row later =
-      let one = calls_save first.turn now.turn d1.turn x0.moved x.moved 0 (x.in_use.sequence - x0.in_use.sequence)
-          x0.table.names few i.calls (few_records room) most in
-      subst (λ r. CallsSoFar first.turn d1.turn x0.moved r 16 (x1.in_use.sequence - x0.in_use.sequence + 1) x0.table.names)
-          (sym row)
-          (calls_wider first.turn d1.turn d1.turn x0.moved x.moved 0 16 (x.in_use.sequence - x0.in_use.sequence + 1)
-              (x1.in_use.sequence - x0.in_use.sequence + 1) x0.table.names one (omega (arith, later)) (omega arith))
+    -- and a save that failed all of its own
+    pub lay_most_saved : (d1 : State) (x1 : Parts) → fin.len x.table.now ≤ x.table.names
+        → d1.turn ≤ now.turn + save_calls few → x1.moved ≡ x.moved → x.in_use.sequence ≤ x1.in_use.sequence
+        → CallsSoFar first.turn d1.turn x0.moved x1.moved 16
+        (x1.in_use.sequence - x0.in_use.sequence + 1) x0.table.names
+    lay_most_saved d1 x1 room most row later =
+        let one = calls_save first.turn now.turn d1.turn x0.moved x.moved 0
+        (x.in_use.sequence - x0.in_use.sequence)
+        x0.table.names few i.calls (few_records room) most in
+        subst (λ r. CallsSoFar first.turn d1.turn x0.moved r 16
+        (x1.in_use.sequence - x0.in_use.sequence + 1) x0.table.names)
+        (sym row)
+        (calls_wider first.turn d1.turn d1.turn x0.moved x.moved 0 16
+        (x.in_use.sequence - x0.in_use.sequence + 1)
+        (x1.in_use.sequence - x0.in_use.sequence + 1) x0.table.names one (omega (arith, later)) (omega arith))

@@ -24,3 +24,4 @@ pub mod SavedLaws
 pub mod SettleLaws
 pub mod SettledTableLaws
 pub mod StepLaws
+pub mod WholeLaws

@@ -1,7 +1,6 @@
--- The saves of a phase: what stands aside for the items stands aside for the table, so that each save that a touched target calls for is paid.
-use Rattle.std.specs.Prelude.{◌≡◌, ◌⊎◌, ℕ, ◌+◌, ◌≤◌, List, Contains}
-use Rattle.std.proofs.Common.{◌∙◌}
-use Rattle.slot_codec.specs.Choice as choice
+-- The saves of a phase: what stands aside for the items stands aside for the table, so that each save that a
+-- touched target calls for is paid.
+use Rattle.std.specs.Prelude.{◌⊎◌, ℕ, ◌+◌, ◌≤◌, List, Contains}
 use Rattle.flush_plan.specs.declared.item.Item.{Item}
 
 -- each item ends at or before an edge, or begins at or past a top

@@ -6,7 +6,7 @@ use Rattle.slot_codec.specs.Choice as choice
 use Rattle.slot_codec.specs.Readable.{IsSuperBlock}
 use Rattle.slot_codec.specs.Spelling.{head_len}
 use Rattle.span_math.specs.declared.span.Span.{Span}
-use Rattle.segment_layout.specs.Shapes.{end_of, start_of}
+use Rattle.segment_layout.specs.Shapes.{start_of}
 use Rattle.table_rules.specs.Rules.{KeepsPlaces}
 use Rattle.extent_table.specs.declared.spot.Spot.{Spot}
 use Rattle.extent_table.specs.Extents.{Extents, IsTable, Keys, Spots}
@@ -22,15 +22,24 @@ key_or_zero None = 0
 key_or_zero (Some key) = key
 
 abbrev pub spot_item : Keys → List ℕ × Spot → Item
-spot_item keys e = record { key = key_or_zero (fin.get keys e.0); class = class_of e.1.size; place = e.1.place; size = e.1.size }
+spot_item keys e = record {
+  key = key_or_zero (fin.get keys e.0);
+  class = class_of e.1.size;
+  place =
+      e.1.place;
+  size = e.1.size;
+}
 
 -- the live objects of at least 1 byte from a class on, as items, by name
 abbrev pub suffix_items : ℕ → Extents → List Item
-suffix_items b e = map (spot_item e.keys) (filter (λ x. nat_lt 0 x.1.size && nat_le b (class_of x.1.size)) (fin.entries e.now))
+suffix_items b e = map (spot_item e.keys) (filter (λ x. nat_lt 0 x.1.size && nat_le b (class_of x.1.size))
+    (fin.entries e.now))
 
--- What the parts that a flush holds have in common with its phase: the items are those of the table; the table can be
+-- What the parts that a flush holds have in common with its phase: the items are those of the table; the
+-- table can be
 -- saved as a moving one; the guard has what the checkpoint holds; no two kept objects share a byte.
-pub record IsHandsFor (f : Flight) (u : choice.InUse) (e : Extents) (caps : List ℕ) (grid : List (List ℕ)) (spans : List Span) (p : Phase) : Type 0 where
+pub record IsHandsFor (f : Flight) (u : choice.InUse) (e : Extents) (caps : List ℕ) (grid : List (List ℕ))
+    (spans : List Span) (p : Phase) : Type 0 where
   pub block : IsSuperBlock u.block
   pub base : f.base ≡ head_len u.block.names
   pub names : e.names ≡ u.block.names
@@ -46,11 +55,13 @@ pub record IsHandsFor (f : Flight) (u : choice.InUse) (e : Extents) (caps : List
   pub same_reach : p.numbers.reach ≤ f.reach
   pub in_range : f.reach < 2 ^ 48
   pub items : IsPermutation p.items (suffix_items p.numbers.boundary e)
-  pub rules : KeepsPlaces (laid f.classes f.size_max u.block.k f.reach (moving_header p.numbers.boundary p.numbers.wall p.numbers.slack caps grid) e.now)
+  pub rules : KeepsPlaces (laid f.classes f.size_max u.block.k f.reach
+      (moving_header p.numbers.boundary p.numbers.wall p.numbers.slack caps grid) e.now)
   pub lower : (name : List ℕ) (s : Spot) → fin.get e.now name ≡ Some s → s.place + s.size ≤ f.reach
   pub freed : IsFreed spans e.now e.kept
   pub kept_empty : (name : List ℕ) (s : Spot) → fin.get e.kept name ≡ Some s → s.size ≡ 0 → s.place ≡ 0
-  pub kept_apart : (a b : List ℕ) (s t : Spot) → fin.get e.kept a ≡ Some s → fin.get e.kept b ≡ Some t → (a ≡ b) ⊎ (s.size ≡ 0) ⊎ (t.size ≡ 0) ⊎ (s.place + s.size ≤ t.place) ⊎ (t.place + t.size ≤ s.place)
+  pub kept_apart : (a b : List ℕ) (s t : Spot) → fin.get e.kept a ≡ Some s → fin.get e.kept b ≡ Some t
+      → (a ≡ b) ⊎ (s.size ≡ 0) ⊎ (t.size ≡ 0) ⊎ (s.place + s.size ≤ t.place) ⊎ (t.place + t.size ≤ s.place)
 
 -- each object ends at or before a place
 abbrev pub AllEndBy : Spots → ℕ → Type 0

@@ -1,5 +1,5 @@
 -- What holds in a flush between any two moves, and what its three loops make.
-use Rattle.std.specs.Prelude.{◌≡◌, ℕ, ◌+◌, ◌-◌, ◌<◌, ◌≤◌, ◌^◌, List, slice_index, IsTrue, true}
+use Rattle.std.specs.Prelude.{◌≡◌, ℕ, ◌+◌, ◌-◌, ◌<◌, ◌≤◌, ◌^◌, List, length, slice_index, IsTrue, true}
 use Rattle.disk_face.specs.States.{State}
 use Rattle.size_class.specs.Classes.{class_of}
 use Rattle.slot_codec.specs.declared.codec.Header.{Header}
@@ -21,12 +21,14 @@ use Rattle.flush_run.specs.Parts.{KeepsOn, Parts}
 abbrev pub phase_header : Phase → List ℕ → List (List ℕ) → Header
 phase_header p caps grid = moving_header p.numbers.boundary p.numbers.wall p.numbers.slack caps grid
 
--- Between any two moves the parts belong together with the phase, the table's book is that of after, and the disk
+-- Between any two moves the parts belong together with the phase, the table's book is that of after, and the
+-- disk
 -- is in flight.
 pub record Goes (classes : ℕ) (f : Flight) (caps : List ℕ) (grid : List (List ℕ)) (x : Parts) (p : Phase)
     (d : State) : Type 0 where
   pub hands : IsHandsFor f x.in_use x.table caps grid x.spans p
-  pub book : book_of (laid f.classes f.size_max x.in_use.block.k f.reach (phase_header p caps grid) x.table.now)
+  pub book : book_of (laid f.classes f.size_max x.in_use.block.k f.reach
+      (phase_header p caps grid) x.table.now)
       ≡ f.new_book
   pub same_base : f.base ≡ x.base
   pub divisor : x.divisor ≡ p.k
@@ -44,7 +46,8 @@ pub record Lifts (classes : ℕ) (f : Flight) (caps : List ℕ) (grid : List (Li
   pub goes : Goes classes f caps grid x p d
   pub low : AllEndBy x.table.kept (end_of p.k p.caps)
 
--- The sequence leaves room for so many saves and one more, of the settled table; and where the flight is fresh, for
+-- The sequence leaves room for so many saves and one more, of the settled table; and where the flight is
+-- fresh, for
 -- moving tables.
 pub record LeavesSaves (f : Flight) (sequence saves : ℕ) : Type 0 where
   pub settled : sequence + saves + 2 ≤ 2 ^ 62
@@ -67,7 +70,8 @@ pub record Lays (classes : ℕ) (f : Flight) (caps : List ℕ) (grid : List (Lis
 
 -- The saves since the sequence was q are paid by the bytes that were packed.
 pub record PacksPaid (pay total q : ℕ) (x : Parts) (p : Phase) : Type 0 where
-  pub count : PackCount pay p.numbers.slack p.numbers.wall total x.table.kept (p.numbers.wall - packed_bytes p)
+  pub count : PackCount pay p.numbers.slack p.numbers.wall total x.table.kept
+      (p.numbers.wall - packed_bytes p)
       (x.in_use.sequence - q)
   pub later : q ≤ x.in_use.sequence
   pub pays : Pays pay p.numbers.slack (largest_item p)
@@ -75,7 +79,8 @@ pub record PacksPaid (pay total q : ℕ) (x : Parts) (p : Phase) : Type 0 where
 
 -- The saves since the sequence was q are paid by the bytes that were laid.
 pub record LaysPaid (pay total q : ℕ) (x : Parts) (p : Phase) : Type 0 where
-  pub count : LayCount pay (p.numbers.wall - total) x.table.kept (laid_end p) (p.numbers.wall - waiting_bytes p)
+  pub count : LayCount pay (p.numbers.wall - total) x.table.kept (laid_end p)
+      (p.numbers.wall - waiting_bytes p)
       (x.in_use.sequence - q)
   pub later : q ≤ x.in_use.sequence
   pub pays : Pays pay p.numbers.slack (largest_item p)
@@ -91,18 +96,21 @@ pub record CanStep (classes : ℕ) (f : Flight) (x : Parts) (mv : Move) : Type 0
   pub from : mv.from + mv.size ≤ f.reach
   pub to : mv.to + mv.size ≤ f.reach
 
--- a phase with the same numbers, where each class has as many bytes
+-- a phase with the same numbers and as many items, where each class has as many bytes
 pub record SamePlan (p0 p : Phase) : Type 0 where
   pub k : p.k ≡ p0.k
   pub caps : p.caps ≡ p0.caps
   pub numbers : p.numbers ≡ p0.numbers
   pub pending : p.pending ≡ p0.pending
   pub room : p.room ≡ p0.room
+  pub count : length p.items ≡ length p0.items
   pub totals : (c : ℕ) → class_total p.items c ≡ class_total p0.items c
 
--- What moves of a phase have made, whether or not one failed at last: each was saved for once at most; the bytes
+-- What moves of a phase have made, whether or not one failed at last: each was saved for once at most; the
+-- bytes
 -- moved rose by no more than what was done of each class; and none of a class below the boundary.
-pub record HasMade (waits : Phase → ℕ) (done : Phase → ℕ → ℕ) (first now : State) (x0 x : Parts) (p0 p : Phase)
+pub record HasMade (waits : Phase → ℕ) (done : Phase → ℕ → ℕ) (first now : State) (x0 x : Parts)
+    (p0 p : Phase)
     : Type 0 where
   pub keeps : KeepsOn first now x0 x
   pub later : x0.in_use.sequence ≤ x.in_use.sequence

@@ -9,7 +9,8 @@ use Rattle.flush_run.specs.Flights.{Flight}
 use Rattle.flush_run.specs.Loops.{Goes, Lifts}
 use Rattle.flush_run.specs.Parts.{KeepsSettling, Parts}
 
--- Lifting may begin, and the sequence leaves room for the saves of settled tables; where the flight is fresh, for
+-- Lifting may begin, and the sequence leaves room for the saves of settled tables; where the flight is fresh,
+-- for
 -- those of moving tables too.
 pub record CanRun (classes : ℕ) (f : Flight) (x : Parts) (p : Phase) (d : State) : Type 0 where
   pub lifts : Lifts classes f x.caps x.grid x p d
@@ -22,8 +23,10 @@ pub record CanResume (classes : ℕ) (f : Flight) (x : Parts) (p : Phase) (d : S
   pub fresh : x.in_use.sequence < 2 ^ 62 - 2 ^ 18
   pub moving : IsTrue f.is_fresh → x.in_use.sequence + 2 ^ 18 ≤ 2 ^ 62 - 2 ^ 18
 
--- What a flush from class b on has made, whether or not it failed: no byte of a class below b was moved, and of
--- each other class at most twice the bytes of its items; and the calls are those of the bytes moved and of the
+-- What a flush from class b on has made, whether or not it failed: no byte of a class below b was moved, and
+-- of
+-- each other class at most twice the bytes of its items; and the calls are those of the bytes moved and of
+-- the
 -- saves, one of which may have failed, and at most 18 more.
 pub record HasRun (b : ℕ) (items : List Item) (first now : State) (x0 x : Parts) : Type 0 where
   pub keeps : KeepsSettling first now x0 x

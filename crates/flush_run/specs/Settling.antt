@@ -1,6 +1,5 @@
 -- The end of a flush: the settled table is saved, and the file is cut to where its layout ends.
-use Rattle.std.specs.Prelude.{◌≡◌, ◌⊎◌, ℕ, ◌+◌, ◌-◌, ◌≤◌, List, [], length, Ok, ◌<◌, ◌^◌, Contains, IsTrue}
-use Rattle.std.proofs.Common.{◌∙◌}
+use Rattle.std.specs.Prelude.{◌≡◌, ℕ, ◌+◌, ◌≤◌, List, [], length, Ok, Contains, IsTrue}
 use Rattle.disk_face.specs.Moments.{Only}
 use Rattle.slot_codec.specs.Choice as choice
 use Rattle.slot_codec.specs.Spelling.{head_len}
@@ -28,9 +27,11 @@ pub record CanCut (f : Flight) (u : choice.InUse) (now : Spots) (h : Header) (en
   pub fits : end ≤ f.reach
   pub valid : IsValid (laid f.classes f.size_max u.block.k end h now)
 
--- What a flush leaves at its end: the file opens by a table of what stands now, to the map and the book of after, it ends where
+-- What a flush leaves at its end: the file opens by a table of what stands now, to the map and the book of
+-- after, it ends where
 -- the layout does, and a crash leaves only this.
-pub record IsSettled (f : Flight) (u : choice.InUse) (now : Spots) (end : ℕ) (file : List ℕ) (may_leave : List ℕ → Type 0) : Type 0 where
+pub record IsSettled (f : Flight) (u : choice.InUse) (now : Spots) (end : ℕ) (file : List ℕ)
+    (may_leave : List ℕ → Type 0) : Type 0 where
   pub t : choice.Table
   pub base : f.base ≡ head_len t.chosen.block.names
   pub records : t.records ≡ records_of now
@@ -41,20 +42,31 @@ pub record IsSettled (f : Flight) (u : choice.InUse) (now : Spots) (end : ℕ) (
 
 -- a table before its suffix is laid out anew: the layout that the flush began with
 abbrev pub begun_table : Flight → choice.InUse → Extents → List ℕ → List (List ℕ) → Phase → PlacedTable
-begun_table f u e caps grid p = laid f.classes f.size_max u.block.k f.reach (record { kind = Moving; boundary = p.numbers.boundary; sequence = 0; count = 0; wall = p.numbers.wall; slack = p.numbers.slack; caps = caps; used = grid }) e.now
+begun_table f u e caps grid p = laid f.classes f.size_max u.block.k f.reach (record {
+  kind = Moving;
+  boundary = p.numbers.boundary;
+  sequence = 0;
+  count = 0;
+  wall = p.numbers.wall;
+  slack = p.numbers.slack;
+  caps = caps;
+  used = grid;
+}) e.now
 
 -- the capacities and the header of the settled table
 abbrev pub end_caps : Flight → choice.InUse → Extents → List ℕ → List (List ℕ) → Phase → List ℕ
 end_caps f u e caps grid p = new_caps p.numbers.boundary (begun_table f u e caps grid p)
 
 abbrev pub end_header : Flight → choice.InUse → Extents → List ℕ → List (List ℕ) → Phase → Header
-end_header f u e caps grid p = settled_header (end_caps f u e caps grid p) (settled_grid p.numbers.boundary grid)
+end_header f u e caps grid p = settled_header (end_caps f u e caps grid p)
+    (settled_grid p.numbers.boundary grid)
 
 -- each item lies in its new payload segment
 abbrev pub ItemsLaid : ℕ → List ℕ → List Item → Type 0
 ItemsLaid k caps items = (it : Item) → Contains items it → IsTrue (stands_in_payload k caps it)
 
--- What a flush leaves: nothing else is held than what stands now, the layout holds it, its book is that of after,
+-- What a flush leaves: nothing else is held than what stands now, the layout holds it, its book is that of
+-- after,
 -- and the file opens to both and ends where the layout does.
 pub record FlushEnds (classes : ℕ) (f : Flight) (x : Parts) (d : State) : Type 0 where
   pub table : IsTable x.table
@@ -63,4 +75,5 @@ pub record FlushEnds (classes : ℕ) (f : Flight) (x : Parts) (d : State) : Type
   pub divisor : x.divisor ≡ x.in_use.block.k
   pub laid : IsLaidOut classes SIZE_MAX x.in_use.block.k x.caps x.grid x.table.now
   pub book : shown_book classes SIZE_MAX x.in_use.block.k x.caps x.grid x.table.now ≡ f.new_book
-  pub file : IsTrue d.tells → IsSettled f x.in_use x.table.now (end_of x.in_use.block.k x.caps) d.file d.may_leave
+  pub file : IsTrue d.tells → IsSettled f x.in_use x.table.now
+      (end_of x.in_use.block.k x.caps) d.file d.may_leave

@@ -6,7 +6,6 @@ mod headers;
 mod lay;
 mod lift;
 mod pack;
-
 mod save;
 mod settle;
 mod step;

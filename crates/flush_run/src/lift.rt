@@ -3,7 +3,7 @@ ghost use Rattle.std.specs.Prelude.{◌≡◌, ◌<◌, ◌≤◌, ℕ, vec_len,
 ghost use Rattle.disk_face.specs.Counts.{HasCause};
 ghost use Rattle.segment_layout.specs.Layouts.{caps_of, grid_of};
 ghost use Rattle.size_class.specs.Rows.{cells_of};
-ghost use Rattle.flush_plan.specs.Phases.{IsLifted, lifted_in, to_lift};
+ghost use Rattle.flush_plan.specs.Phases.{IsLifted, IsLifting, lifted_in, to_lift};
 ghost use Rattle.flush_run.specs.Calls.{CallsSoFar};
 ghost use Rattle.flush_run.specs.Flights.{Flight, LeavesOldOrNew};
 ghost use Rattle.flush_run.specs.Loops.{HasMade, Lifts};
@@ -30,6 +30,7 @@ pub(crate) fn lift_all<D: Disk, const C: usize>(
         → OnOk result (Lifts C f (caps_of hands.old.layout) (grid_of hands.old.layout) (parts_of hands.new)
         lifts.new (D.state disk.new)) }
     ensures end { OnOk result (IsLifted lifts.new) }
+    ensures lifting { OnOk result (IsLifting lifts.new) }
     ensures left { (f : Flight) → Lifts C f (caps_of hands.old.layout) (grid_of hands.old.layout)
         (parts_of hands.old) lifts.old (D.state disk.old) → IsTrue (D.state disk.old).tells
         → LeavesOldOrNew f (D.state disk.old) (D.state disk.new) }

@@ -91,6 +91,7 @@ pub(crate) fn settle<D: Disk, const C: usize>(
         (parts_of hands.new) }
     ensures spots { OnOk result (hands.new.table.now ≡ hands.old.table.now) }
     ensures moved { cells_of hands.new.ledger.moved ≡ cells_of hands.old.ledger.moved }
+    ensures cause { HasCause (D.state disk.old).faults (D.state disk.new).faults result }
 {
     let numbers = settled.numbers();
     hands.layout.settle(numbers.boundary, &settled.volumes());

@@ -101,9 +101,11 @@ pub(crate) fn move_one<D: Disk, const C: usize>(
         → Flies f u hands.old.table (D.state disk.old)
         → LeavesOldOrNew f (D.state disk.old) (D.state disk.new) }
     ensures most { (D.state disk.new).turn ≤ (D.state disk.old).turn + pieces 65536 mv.now.size }
-    ensures ledger { OnOk result (cells_of hands.new.ledger.moved ≡ slice_set (cells_of hands.old.ledger.moved)
+    ensures ledger { OnOk result (cells_of hands.new.ledger.moved
+        ≡ slice_set (cells_of hands.old.ledger.moved)
         (class_of mv.now.size) (min (slice_index (cells_of hands.old.ledger.moved) (class_of mv.now.size)
         + mv.now.size) (2 ^ 64 - 1))) }
+    ensures table { OnErr result (hands.new.table ≡ hands.old.table) }
     ensures unmoved { OnErr result (cells_of hands.new.ledger.moved ≡ cells_of hands.old.ledger.moved) }
     ensures keeps { KeepsOn (D.state disk.old) (D.state disk.new) (parts_of hands.old) (parts_of hands.new) }
     ensures slots { hands.new.slots ≡ hands.old.slots }
@@ -113,7 +115,14 @@ pub(crate) fn move_one<D: Disk, const C: usize>(
         place: mv.from,
         size: mv.size,
     };
-    move_object(disk, hands.base, from, mv.to, &mut hands.buf, &mut hands.ledger)?;
+    move_object(
+        disk,
+        hands.base,
+        from,
+        mv.to,
+        &mut hands.buf,
+        &mut hands.ledger,
+    )?;
     let stood = stands_kept(&hands.table, mv);
     hands.table.relocate(mv.key, mv.to);
     if stood {

@@ -50,9 +50,10 @@ pub fn run<D: Disk, const C: usize>(
     ensures room { IfOk result (λ settled. settled.phase.room ≡ phase.entry.room) }
     ensures cause { HasCause (D.state disk.old).faults (D.state disk.new).faults result }
 {
-    let mut lifts = phase;
-    lift_all(disk, &mut lifts, hands).map_err(|_| Halted(DiskFault))?;
-    finish(disk, lifts.into_packing(), hands)
+    match lift_and_finish(disk, phase, hands) {
+        Ok(settled) => Ok(settled),
+        Err(fault) => Err(Halted(fault)),
+    }
 }
 
 /// Goes on with a flush that was interrupted: Pack, Lay and the settled table, whatever the places of
@@ -80,7 +81,40 @@ pub fn resume<D: Disk, const C: usize>(
     ensures room { IfOk result (λ settled. settled.phase.room ≡ phase.entry.room) }
     ensures cause { HasCause (D.state disk.old).faults (D.state disk.new).faults result }
 {
-    finish(disk, phase, hands)
+    match finish(disk, phase, hands) {
+        Ok(settled) => Ok(settled),
+        Err(fault) => Err(Halted(fault)),
+    }
+}
+
+/// Lift, Pack, Lay and the settled table.
+fn lift_and_finish<D: Disk, const C: usize>(
+    disk: &mut D,
+    phase: Lifting<C>,
+    hands: &mut Hands<C>,
+) -> Result<Settled<C>, DiskFault>
+    requires ready { IsTrue (D.state disk.old).is_ready }
+    requires buffer { vec_len hands.old.buf ≡ 65536 }
+    requires fits { C ≤ 32 }
+    requires start { (f : Flight) × CanRun C f (parts_of hands.old) phase (D.state disk.old) }
+    ensures ends { (f : Flight) → CanRun C f (parts_of hands.old) phase.entry (D.state disk.old)
+        → OnOk result (FlushEnds C f (parts_of hands.new) (D.state disk.new)) }
+    ensures left { (f : Flight) → CanRun C f (parts_of hands.old) phase.entry (D.state disk.old)
+        → IsTrue (D.state disk.old).tells → LeavesOldOrNew f (D.state disk.old) (D.state disk.new) }
+    ensures saves { OnOk result ((hands.old.slots.sequence + 1 ≤ hands.new.slots.sequence)
+        × (hands.new.slots.sequence ≤ hands.old.slots.sequence + 2 * hands.old.slots.block.k)) }
+    ensures calls { OnOk result (CallsSoFar (D.state disk.old).turn (D.state disk.new).turn
+        (cells_of hands.old.ledger.moved) (cells_of hands.new.ledger.moved) 2
+        (hands.new.slots.sequence - hands.old.slots.sequence) hands.old.table.names) }
+    ensures made { HasRun phase.entry.numbers.boundary phase.entry.items (D.state disk.old)
+        (D.state disk.new) (parts_of hands.old) (parts_of hands.new) }
+    ensures room { IfOk result (λ settled. settled.phase.room ≡ phase.entry.room) }
+    ensures cause { HasCause (D.state disk.old).faults (D.state disk.new).faults result }
+{
+    let mut lifts = phase;
+    lift_all(disk, &mut lifts, hands)?;
+    let settled = finish(disk, lifts.into_packing(), hands)?;
+    Ok(settled)
 }
 
 /// Pack, Lay and the settled table.
@@ -88,7 +122,7 @@ fn finish<D: Disk, const C: usize>(
     disk: &mut D,
     phase: Packing<C>,
     hands: &mut Hands<C>,
-) -> Result<Settled<C>, Halted>
+) -> Result<Settled<C>, DiskFault>
     requires ready { IsTrue (D.state disk.old).is_ready }
     requires buffer { vec_len hands.old.buf ≡ 65536 }
     requires fits { C ≤ 32 }
@@ -117,10 +151,10 @@ fn finish<D: Disk, const C: usize>(
 {
     let mut packs = phase;
     let header = moving_header(&hands.layout, packs.numbers());
-    pack_all(disk, &header, &mut packs, hands).map_err(|_| Halted(DiskFault))?;
+    pack_all(disk, &header, &mut packs, hands)?;
     let mut lays = packs.into_laying();
-    lay_all(disk, &header, &mut lays, hands).map_err(|_| Halted(DiskFault))?;
+    lay_all(disk, &header, &mut lays, hands)?;
     let settled = lays.into_settled();
-    settle(disk, &settled, hands).map_err(|_| Halted(DiskFault))?;
+    settle(disk, &settled, hands)?;
     Ok(settled)
 }

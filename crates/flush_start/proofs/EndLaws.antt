@@ -1,6 +1,5 @@
 -- The end of a layout: its book is balanced, so that it is in proportion to the bytes that it holds, and
--- these
--- are few.
+-- these are few.
 use Rattle.std.specs.Prelude.{◌≡◌, ℕ, ◌+◌, ◌-◌, ◌*◌, ◌^◌, ◌≤◌, false, T, List, [], ◌∷◌, map, replicate, slice_index_or, refl}
 use Rattle.std.proofs.Common.{arith, sym, subst}
 use Rattle.std.proofs.Math.Nat.{le_of_mul-le-mul_left, mul-le-mul_left, mul-le-mul_right}

@@ -1,6 +1,5 @@
 -- What a flush holds where it begins: with nothing pending, and with a pending object behind the room for
--- what
--- is lifted.
+-- what is lifted.
 use Rattle.std.specs.Prelude.{◌≡◌, ◌⊎◌, ℕ, ◌+◌, ◌≤◌, nat_le, nat_lt, true, List, [], ◌∷◌, ◌++◌, Some, None, IsPermutation, refl}
 use Rattle.std.proofs.Common.{arith, sym, ◌∙◌, ap, subst, inl, inr}
 use Rattle.std.proofs.lemmas.Bool.{and_from, cases_Bool, le-leb, lt-ltb}

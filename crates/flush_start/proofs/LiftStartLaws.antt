@@ -1,6 +1,5 @@
 -- Lifting may begin after a change that isn't quiet: a removal, a put whose object found room, and a put
--- whose
--- object waits.
+-- whose object waits.
 use Rattle.std.specs.Prelude.{◌≡◌, ℕ, ◌+◌, ◌<◌, ◌≤◌, ◌^◌, false, List, [], ◌∷◌, ◌++◌, length, Option, Some, None, IsPermutation, is_some, refl}
 use Rattle.std.proofs.Common.{arith, sym, ◌∙◌, ap, subst}
 use Rattle.std.proofs.lemmas.Bool.{cond-false}

@@ -1,6 +1,5 @@
 -- The reach of a flush is loose: for the maps before and after a change that isn't quiet, where the book
--- before
--- it is balanced.
+-- before it is balanced.
 use Rattle.std.specs.Prelude.{◌≡◌, ℕ, ◌+◌, ◌≤◌, cond, false, max, List, [], ◌∷◌, ◌++◌, length, filter, Option, Some, None, refl}
 use Rattle.std.proofs.Common.{arith, sym, ◌∙◌, ap, subst, inl, inr}
 use Rattle.std.proofs.Math.Nat.{le-max_left, le-max_right}

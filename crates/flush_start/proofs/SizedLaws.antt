@@ -1,6 +1,5 @@
 -- A map whose objects have the sizes that spots say: its volumes are those of the spots, and so they are
--- after
--- a change of both.
+-- after a change of both.
 use Rattle.std.specs.Prelude.{◌≡◌, ℕ, ◌+◌, Bool, true, false, cond, T, ◌&&◌, List, [], ◌∷◌, length, map, sum_by, Option, Some, None, option_map, refl}
 use Rattle.std.proofs.Common.{sym, ◌∙◌, ap, subst}
 use Rattle.std.proofs.lemmas.Option.{same_Some}

@@ -1,6 +1,5 @@
 -- The items of a table: each is a live object of the suffix, no two share a key, and one more name is one
--- more
--- item.
+-- more item.
 use Rattle.std.specs.Prelude.{◌≡◌, ◌≢◌, ℕ, zero, suc, ◌<◌, ◌≤◌, nat_le, nat_lt, Bool, true, false, T, List, [], ◌∷◌, ◌++◌, length, map, filter, slice_get, Option, Some, None, is_some, Contains, IsPermutation, refl}
 use Rattle.std.proofs.Common.{arith, sym, ◌∙◌, ap, subst, inl, inr}
 use Rattle.std.proofs.lemmas.Bool.{and_parts, cases_Bool, cond-false, cond-true, leb-true, ltb-true}
@@ -106,8 +105,7 @@ not_tied Equal h = absurd (cc)
 not_tied Greater h = absurd (cc)
 
 -- Of a relation that holds between the images of entries with two names, the images of what passed are
--- pairwise
--- related.
+-- pairwise related.
 pub pairs_of : {Y : Type 0} (R : Y → Y → Type 0) (f : List ℕ × Spot → Y) (p : List ℕ × Spot → Bool)
     (xs : List (List ℕ × Spot)) → T (is_sorted name_cmp xs)
     → ((x y : List ℕ × Spot) (m n : ℕ) → slice_get xs m ≡ Some x → slice_get xs n ≡ Some y → p x ≡ true

@@ -1,8 +1,7 @@
-use Rattle.std.proofs.Common.{arith, refl, sym, subst, ap, ◌∙◌}
+use Rattle.std.proofs.Common.{arith, refl, sym, subst, ◌∙◌}
 use Rattle.flush_run.specs.Loops.{Lays, LaysPaid}
 use Rattle.flush_run.specs.Parts.{parts_of}
 use Rattle.flush_run.proofs.LeftLaws.{left_then, none_of, source_within, still_told, target_within, told_before}
-use Rattle.flush_run.proofs.MadeLaws.{KeepsOn-then}
 use Rattle.flush_run.proofs.LayLaws.{lay_begins, lay_calls, lay_can, lay_fresh, lay_goes, lay_head, lay_made, lay_most, lay_most_saved, lay_names, lay_next, lay_part, lay_part_saved, lay_pays, lay_saveable, lay_slot, lay_space}
 use Rattle.flush_run.proofs.lay.lay_all.Goals as goal
 
@@ -13,10 +12,25 @@ pub free_target-requires : goal.free_target-requires
 free_target-requires g c =
     let i = c.moves.invariant in
     let start = c.requires.start.1 in
-    let step = c.in-Some.ensures.step in
-    (omega arith, (i.made.keeps.disk.stays.ready, (omega (arith, i.made.keeps.buffer, c.requires.buffer),
-      (lay_fresh i start step, (c.requires.ranges, ((i.all c.requires.start.0 start).lays.goes.hands.table,
-        (lay_names i start step, (λ told. lay_head i start told, λ told. lay_slot i start told))))))))
+    let step = c.in-Some.ensures.step in (
+      omega arith,
+      (
+        i.made.keeps.disk.stays.ready,
+        (
+          omega (arith, i.made.keeps.buffer, c.requires.buffer),
+          (
+            lay_fresh i start step,
+            (
+              c.requires.ranges,
+              (
+                (i.all c.requires.start.0 start).lays.goes.hands.table,
+                (lay_names i start step, (λ told. lay_head i start told, λ told. lay_slot i start told)),
+              ),
+            ),
+          ),
+        ),
+      ),
+    )
 
 pub returns-in_err-free_target-clause-left : goal.returns-in_err-free_target-clause-left
 returns-in_err-free_target-clause-left g c f start told =
@@ -24,21 +38,23 @@ returns-in_err-free_target-clause-left g c f start told =
     let s = i.all f start in
     let here = still_told i.made.keeps told in
     left_then (s.left told)
-        (c.free_target.ensures.left f here (lay_saveable i start c.in-Some.ensures.step _ c.requires.moving)
-            (s.lays.goes.flies here))
+    (c.free_target.ensures.left f here (lay_saveable i start c.in-Some.ensures.step _ c.requires.moving)
+    (s.lays.goes.flies here))
 
 pub returns-in_err-free_target-clause-made : goal.returns-in_err-free_target-clause-made
 returns-in_err-free_target-clause-made g c =
     let t = c.free_target.ensures in
-    lay_part_saved c.moves.invariant c.in-Some.ensures.step c.in-Some.ensures.moved t.keeps t.moved t.later t.one
+    lay_part_saved c.moves.invariant c.in-Some.ensures.step c.in-Some.ensures.moved t.keeps t.moved t.later
+    t.one
 
 pub returns-in_err-free_target-clause-most : goal.returns-in_err-free_target-clause-most
 returns-in_err-free_target-clause-most g c =
     let i = c.moves.invariant in
     let t = c.free_target.ensures in
     lay_most_saved i c.in-Some.ensures.step (g.D.Disk.state c.free_target.new.disk)
-        (parts_of c.free_target.new.hands) (i.all c.requires.start.0 c.requires.start.1).lays.goes.hands.table.now_room
-        t.most t.moved t.later
+    (parts_of c.free_target.new.hands)
+    (i.all c.requires.start.0 c.requires.start.1).lays.goes.hands.table.now_room
+    t.most t.moved t.later
 
 pub move_one-requires : goal.move_one-requires
 move_one-requires g c =
@@ -47,11 +63,34 @@ move_one-requires g c =
     let step = c.in-Some.ensures.step in
     let t = c.free_target.ensures in
     let save = lay_saveable i start step _ c.requires.moving in
-    let goes = lay_goes i start step c.requires.moving _ refl refl _ c.in_ok-free_target.ensures.answer t.keeps (c.in_ok-free_target.ensures.flies c.requires.start.0) in
-    let r = lay_can i start step c.requires.moving _ refl refl _ c.in_ok-free_target.ensures.answer t.keeps (c.in_ok-free_target.ensures.flies c.requires.start.0) in
-    (omega arith, (t.keeps.disk.stays.ready, (omega (arith, t.keeps.buffer, i.made.keeps.buffer, c.requires.buffer),
-      (c.requires.fits, (r.low, (r.class, (r.small, (r.can,
-        (λ told. source_within goes r told, (λ told. target_within goes r told, goes.guard))))))))))
+    let goes = lay_goes i start step c.requires.moving _ refl refl _ c.in_ok-free_target.ensures.answer
+    t.keeps (c.in_ok-free_target.ensures.flies c.requires.start.0) in
+    let r = lay_can i start step c.requires.moving _ refl refl _ c.in_ok-free_target.ensures.answer t.keeps
+    (c.in_ok-free_target.ensures.flies c.requires.start.0) in (
+      omega arith,
+      (
+        t.keeps.disk.stays.ready,
+        (
+          omega (arith, t.keeps.buffer, i.made.keeps.buffer, c.requires.buffer),
+          (
+            c.requires.fits,
+            (
+              r.low,
+              (
+                r.class,
+                (
+                  r.small,
+                  (
+                    r.can,
+                    (λ told. source_within goes r told, (λ told. target_within goes r told, goes.guard)),
+                  ),
+                ),
+              ),
+            ),
+          ),
+        ),
+      ),
+    )
 
 pub returns-in_err-move_one-clause-left : goal.returns-in_err-move_one-clause-left
 returns-in_err-move_one-clause-left g c f start told =
@@ -61,18 +100,20 @@ returns-in_err-move_one-clause-left g c f start told =
     let t = c.free_target.ensures in
     let here = still_told i.made.keeps told in
     let save = lay_saveable i start step _ c.requires.moving in
-    let goes = lay_goes i start step c.requires.moving _ refl refl _ c.in_ok-free_target.ensures.answer t.keeps (c.in_ok-free_target.ensures.flies f) in
-    let space = lay_space i start step c.requires.moving _ refl refl _ c.in_ok-free_target.ensures.answer t.keeps (c.in_ok-free_target.ensures.flies f) in
+    let goes = lay_goes i start step c.requires.moving _ refl refl _ c.in_ok-free_target.ensures.answer
+    t.keeps (c.in_ok-free_target.ensures.flies f) in
+    let space = lay_space i start step c.requires.moving _ refl refl _ c.in_ok-free_target.ensures.answer
+    t.keeps (c.in_ok-free_target.ensures.flies f) in
     let there = still_told t.keeps here in
     left_then (s.left told)
-        (left_then (t.left f here save (s.lays.goes.flies here))
-            (c.move_one.ensures.left f c.free_target.new.hands.slots there goes.same_base space (goes.flies there)))
+    (left_then (t.left f here save (s.lays.goes.flies here))
+    (c.move_one.ensures.left f c.free_target.new.hands.slots there goes.same_base space (goes.flies there)))
 
 pub returns-in_err-move_one-clause-made : goal.returns-in_err-move_one-clause-made
 returns-in_err-move_one-clause-made g c =
     let t = c.free_target.ensures in
     lay_part c.moves.invariant c.in-Some.ensures.step c.in-Some.ensures.moved t.keeps t.moved t.later t.one
-        c.move_one.ensures.keeps c.move_one.ensures.slots c.in_err-move_one.ensures.unmoved
+    c.move_one.ensures.keeps c.move_one.ensures.slots c.in_err-move_one.ensures.unmoved
 
 pub returns-in_err-move_one-clause-most : goal.returns-in_err-move_one-clause-most
 returns-in_err-move_one-clause-most g c =
@@ -81,12 +122,13 @@ returns-in_err-move_one-clause-most g c =
     let step = c.in-Some.ensures.step in
     let t = c.free_target.ensures in
     let save = lay_saveable i start step _ c.requires.moving in
-    let r = lay_can i start step c.requires.moving _ refl refl _ c.in_ok-free_target.ensures.answer t.keeps (c.in_ok-free_target.ensures.flies c.requires.start.0) in
+    let r = lay_can i start step c.requires.moving _ refl refl _ c.in_ok-free_target.ensures.answer t.keeps
+    (c.in_ok-free_target.ensures.flies c.requires.start.0) in
     lay_most i step (parts_of c.free_target.new.hands) (g.D.Disk.state c.free_target.new.disk) _
-        (i.all c.requires.start.0 start).lays.goes.hands.table.now_room t.most _
-        c.in_ok-free_target.ensures.answer c.in_ok-free_target.ensures.none (g.D.Disk.state c.move_one.new.disk)
-        (parts_of c.move_one.new.hands) t.moved c.move_one.ensures.slots c.move_one.ensures.most r.few
-        c.in_err-move_one.ensures.unmoved
+    (i.all c.requires.start.0 start).lays.goes.hands.table.now_room t.most _
+    c.in_ok-free_target.ensures.answer c.in_ok-free_target.ensures.none (g.D.Disk.state c.move_one.new.disk)
+    (parts_of c.move_one.new.hands) t.moved c.move_one.ensures.slots c.move_one.ensures.most r.few
+    c.in_err-move_one.ensures.unmoved
 
 pub moves-preserved : goal.moves-preserved
 moves-preserved g c =
@@ -102,43 +144,50 @@ moves-preserved g c =
       calm = c.in_ok-move_one.ensures.cause.calm ∙ c.in_ok-free_target.ensures.cause.calm ∙ i.calm;
       calls = lay_calls i step (parts_of c.free_target.new.hands) (g.D.Disk.state c.free_target.new.disk) _
           (i.all c.requires.start.0 c.requires.start.1).lays.goes.hands.table.now_room t.most _ answer
-          c.in_ok-free_target.ensures.none (g.D.Disk.state c.move_one.new.disk) (parts_of c.move_one.new.hands)
+          c.in_ok-free_target.ensures.none (g.D.Disk.state c.move_one.new.disk)
+          (parts_of c.move_one.new.hands)
           t.moved m.slots m.most long row;
       all = λ f start.
           let s = i.all f start in
           let save = lay_saveable i start step _ c.requires.moving in
-          let goes = lay_goes i start step c.requires.moving _ refl refl _ answer t.keeps (c.in_ok-free_target.ensures.flies f) in
-          let space = lay_space i start step c.requires.moving _ refl refl _ answer t.keeps (c.in_ok-free_target.ensures.flies f) in
-          let r = lay_can i start step c.requires.moving _ refl refl _ answer t.keeps (c.in_ok-free_target.ensures.flies f) in
-          lay_next i start step c.requires.moving _ refl refl _ answer t.keeps (c.in_ok-free_target.ensures.flies f) c.in-Some.ensures.moved t.one m.keeps m.slots
-              c.in_ok-move_one.ensures.moved
-              (λ told3.
-                let back = told_before m.keeps told3 in
-                c.in_ok-move_one.ensures.flies f c.free_target.new.hands.slots back goes.same_base space r.to
-                    (goes.flies back))
-              (λ told.
-                let here = still_told i.made.keeps told in
-                let there = still_told t.keeps here in
-                left_then (t.left f here save (s.lays.goes.flies here))
-                    (m.left f c.free_target.new.hands.slots there goes.same_base space (goes.flies there)));
+          let goes = lay_goes i start step c.requires.moving _ refl refl _ answer t.keeps
+          (c.in_ok-free_target.ensures.flies f) in
+          let space = lay_space i start step c.requires.moving _ refl refl _ answer t.keeps
+          (c.in_ok-free_target.ensures.flies f) in
+          let r = lay_can i start step c.requires.moving _ refl refl _ answer t.keeps
+          (c.in_ok-free_target.ensures.flies f) in
+          lay_next i start step c.requires.moving _ refl refl _ answer t.keeps
+          (c.in_ok-free_target.ensures.flies f) c.in-Some.ensures.moved t.one m.keeps m.slots
+          c.in_ok-move_one.ensures.moved
+          (λ told3.
+          let back = told_before m.keeps told3 in
+          c.in_ok-move_one.ensures.flies f c.free_target.new.hands.slots back goes.same_base space r.to
+          (goes.flies back))
+          (λ told.
+          let here = still_told i.made.keeps told in
+          let there = still_told t.keeps here in
+          left_then (t.left f here save (s.lays.goes.flies here))
+          (m.left f c.free_target.new.hands.slots there goes.same_base space (goes.flies there)));
       paid = λ f start pay total q paid.
           let s = i.all f start in
           let save = lay_saveable i start step _ c.requires.moving in
-          lay_pays i start step c.requires.moving _ refl refl _ answer t.keeps (c.in_ok-free_target.ensures.flies f) c.in-Some.ensures.moved t.one m.keeps m.slots
-              c.in_ok-move_one.ensures.moved (i.paid f start pay total q paid);
+          lay_pays i start step c.requires.moving _ refl refl _ answer t.keeps
+          (c.in_ok-free_target.ensures.flies f) c.in-Some.ensures.moved t.one m.keeps m.slots
+          c.in_ok-move_one.ensures.moved (i.paid f start pay total q paid);
     }
 
 pub returns-clause-laid : goal.returns-clause-laid
 returns-clause-laid g c f start =
     let i = c.moves.invariant in
-    subst (λ q. Lays g.row.C f (parts_of c.args.hands.now).caps (parts_of c.args.hands.now).grid (parts_of c.moves.hands) q (g.D.Disk.state c.moves.disk))
-        (sym (c.next.ensures.same (none_of c.next.result c.in_default.not-Some))) (i.all f start).lays
+    subst (λ q. Lays g.row.C f (parts_of c.args.hands.now).caps (parts_of c.args.hands.now).grid
+    (parts_of c.moves.hands) q (g.D.Disk.state c.moves.disk))
+    (sym (c.next.ensures.same (none_of c.next.result c.in_default.not-Some))) (i.all f start).lays
 
 pub returns-clause-paid : goal.returns-clause-paid
 returns-clause-paid g c f start pay total q paid =
     subst (λ p. LaysPaid pay total q (parts_of c.moves.hands) p)
-        (sym (c.next.ensures.same (none_of c.next.result c.in_default.not-Some)))
-        (c.moves.invariant.paid f start pay total q paid)
+    (sym (c.next.ensures.same (none_of c.next.result c.in_default.not-Some)))
+    (c.moves.invariant.paid f start pay total q paid)
 
 pub returns-clause-left : goal.returns-clause-left
 returns-clause-left g c f start told = (c.moves.invariant.all f start).left told

@@ -3,7 +3,6 @@ use Rattle.flush_plan.specs.Phases.{lifted_in}
 use Rattle.flush_run.specs.Loops.{Packs, PacksPaid}
 use Rattle.flush_run.specs.Parts.{parts_of}
 use Rattle.flush_run.proofs.LeftLaws.{left_then, none_of, source_within, still_told, target_within, told_before}
-use Rattle.flush_run.proofs.MadeLaws.{KeepsOn-then}
 use Rattle.flush_run.proofs.PackLaws.{pack_begins, pack_calls, pack_can, pack_fresh, pack_goes, pack_head, pack_made, pack_most, pack_most_saved, pack_names, pack_next, pack_part, pack_part_saved, pack_pays, pack_saveable, pack_slot, pack_space}
 use Rattle.flush_run.proofs.pack.pack_all.Goals as goal
 
@@ -14,10 +13,25 @@ pub free_target-requires : goal.free_target-requires
 free_target-requires g c =
     let i = c.moves.invariant in
     let start = c.requires.start.1 in
-    let step = c.in-Some.ensures.step in
-    (omega arith, (i.made.keeps.disk.stays.ready, (omega (arith, i.made.keeps.buffer, c.requires.buffer),
-      (pack_fresh i start step, (c.requires.ranges, ((i.all c.requires.start.0 start).packs.goes.hands.table,
-        (pack_names i start step, (λ told. pack_head i start told, λ told. pack_slot i start told))))))))
+    let step = c.in-Some.ensures.step in (
+      omega arith,
+      (
+        i.made.keeps.disk.stays.ready,
+        (
+          omega (arith, i.made.keeps.buffer, c.requires.buffer),
+          (
+            pack_fresh i start step,
+            (
+              c.requires.ranges,
+              (
+                (i.all c.requires.start.0 start).packs.goes.hands.table,
+                (pack_names i start step, (λ told. pack_head i start told, λ told. pack_slot i start told)),
+              ),
+            ),
+          ),
+        ),
+      ),
+    )
 
 pub returns-in_err-free_target-clause-left : goal.returns-in_err-free_target-clause-left
 returns-in_err-free_target-clause-left g c f start told =
@@ -25,21 +39,23 @@ returns-in_err-free_target-clause-left g c f start told =
     let s = i.all f start in
     let here = still_told i.made.keeps told in
     left_then (s.left told)
-        (c.free_target.ensures.left f here (pack_saveable i start c.in-Some.ensures.step _ c.requires.moving)
-            (s.packs.goes.flies here))
+    (c.free_target.ensures.left f here (pack_saveable i start c.in-Some.ensures.step _ c.requires.moving)
+    (s.packs.goes.flies here))
 
 pub returns-in_err-free_target-clause-made : goal.returns-in_err-free_target-clause-made
 returns-in_err-free_target-clause-made g c =
     let t = c.free_target.ensures in
-    pack_part_saved c.moves.invariant c.in-Some.ensures.step c.in-Some.ensures.moved t.keeps t.moved t.later t.one
+    pack_part_saved c.moves.invariant c.in-Some.ensures.step c.in-Some.ensures.moved t.keeps t.moved t.later
+    t.one
 
 pub returns-in_err-free_target-clause-most : goal.returns-in_err-free_target-clause-most
 returns-in_err-free_target-clause-most g c =
     let i = c.moves.invariant in
     let t = c.free_target.ensures in
     pack_most_saved i c.in-Some.ensures.step (g.D.Disk.state c.free_target.new.disk)
-        (parts_of c.free_target.new.hands) (i.all c.requires.start.0 c.requires.start.1).packs.goes.hands.table.now_room
-        t.most t.moved t.later
+    (parts_of c.free_target.new.hands)
+    (i.all c.requires.start.0 c.requires.start.1).packs.goes.hands.table.now_room
+    t.most t.moved t.later
 
 pub move_one-requires : goal.move_one-requires
 move_one-requires g c =
@@ -48,11 +64,34 @@ move_one-requires g c =
     let step = c.in-Some.ensures.step in
     let t = c.free_target.ensures in
     let save = pack_saveable i start step _ c.requires.moving in
-    let goes = pack_goes i start step c.requires.moving _ refl refl _ c.in_ok-free_target.ensures.answer t.keeps (c.in_ok-free_target.ensures.flies c.requires.start.0) in
-    let r = pack_can i start step c.requires.moving _ refl refl _ c.in_ok-free_target.ensures.answer t.keeps (c.in_ok-free_target.ensures.flies c.requires.start.0) in
-    (omega arith, (t.keeps.disk.stays.ready, (omega (arith, t.keeps.buffer, i.made.keeps.buffer, c.requires.buffer),
-      (c.requires.fits, (r.low, (r.class, (r.small, (r.can,
-        (λ told. source_within goes r told, (λ told. target_within goes r told, goes.guard))))))))))
+    let goes = pack_goes i start step c.requires.moving _ refl refl _ c.in_ok-free_target.ensures.answer
+    t.keeps (c.in_ok-free_target.ensures.flies c.requires.start.0) in
+    let r = pack_can i start step c.requires.moving _ refl refl _ c.in_ok-free_target.ensures.answer t.keeps
+    (c.in_ok-free_target.ensures.flies c.requires.start.0) in (
+      omega arith,
+      (
+        t.keeps.disk.stays.ready,
+        (
+          omega (arith, t.keeps.buffer, i.made.keeps.buffer, c.requires.buffer),
+          (
+            c.requires.fits,
+            (
+              r.low,
+              (
+                r.class,
+                (
+                  r.small,
+                  (
+                    r.can,
+                    (λ told. source_within goes r told, (λ told. target_within goes r told, goes.guard)),
+                  ),
+                ),
+              ),
+            ),
+          ),
+        ),
+      ),
+    )
 
 pub returns-in_err-move_one-clause-left : goal.returns-in_err-move_one-clause-left
 returns-in_err-move_one-clause-left g c f start told =
@@ -62,18 +101,20 @@ returns-in_err-move_one-clause-left g c f start told =
     let t = c.free_target.ensures in
     let here = still_told i.made.keeps told in
     let save = pack_saveable i start step _ c.requires.moving in
-    let goes = pack_goes i start step c.requires.moving _ refl refl _ c.in_ok-free_target.ensures.answer t.keeps (c.in_ok-free_target.ensures.flies f) in
-    let space = pack_space i start step c.requires.moving _ refl refl _ c.in_ok-free_target.ensures.answer t.keeps (c.in_ok-free_target.ensures.flies f) in
+    let goes = pack_goes i start step c.requires.moving _ refl refl _ c.in_ok-free_target.ensures.answer
+    t.keeps (c.in_ok-free_target.ensures.flies f) in
+    let space = pack_space i start step c.requires.moving _ refl refl _ c.in_ok-free_target.ensures.answer
+    t.keeps (c.in_ok-free_target.ensures.flies f) in
     let there = still_told t.keeps here in
     left_then (s.left told)
-        (left_then (t.left f here save (s.packs.goes.flies here))
-            (c.move_one.ensures.left f c.free_target.new.hands.slots there goes.same_base space (goes.flies there)))
+    (left_then (t.left f here save (s.packs.goes.flies here))
+    (c.move_one.ensures.left f c.free_target.new.hands.slots there goes.same_base space (goes.flies there)))
 
 pub returns-in_err-move_one-clause-made : goal.returns-in_err-move_one-clause-made
 returns-in_err-move_one-clause-made g c =
     let t = c.free_target.ensures in
     pack_part c.moves.invariant c.in-Some.ensures.step c.in-Some.ensures.moved t.keeps t.moved t.later t.one
-        c.move_one.ensures.keeps c.move_one.ensures.slots c.in_err-move_one.ensures.unmoved
+    c.move_one.ensures.keeps c.move_one.ensures.slots c.in_err-move_one.ensures.unmoved
 
 pub returns-in_err-move_one-clause-most : goal.returns-in_err-move_one-clause-most
 returns-in_err-move_one-clause-most g c =
@@ -82,12 +123,13 @@ returns-in_err-move_one-clause-most g c =
     let step = c.in-Some.ensures.step in
     let t = c.free_target.ensures in
     let save = pack_saveable i start step _ c.requires.moving in
-    let r = pack_can i start step c.requires.moving _ refl refl _ c.in_ok-free_target.ensures.answer t.keeps (c.in_ok-free_target.ensures.flies c.requires.start.0) in
+    let r = pack_can i start step c.requires.moving _ refl refl _ c.in_ok-free_target.ensures.answer t.keeps
+    (c.in_ok-free_target.ensures.flies c.requires.start.0) in
     pack_most i step (parts_of c.free_target.new.hands) (g.D.Disk.state c.free_target.new.disk) _
-        (i.all c.requires.start.0 start).packs.goes.hands.table.now_room t.most _
-        c.in_ok-free_target.ensures.answer c.in_ok-free_target.ensures.none (g.D.Disk.state c.move_one.new.disk)
-        (parts_of c.move_one.new.hands) t.moved c.move_one.ensures.slots c.move_one.ensures.most r.few
-        c.in_err-move_one.ensures.unmoved
+    (i.all c.requires.start.0 start).packs.goes.hands.table.now_room t.most _
+    c.in_ok-free_target.ensures.answer c.in_ok-free_target.ensures.none (g.D.Disk.state c.move_one.new.disk)
+    (parts_of c.move_one.new.hands) t.moved c.move_one.ensures.slots c.move_one.ensures.most r.few
+    c.in_err-move_one.ensures.unmoved
 
 pub moves-preserved : goal.moves-preserved
 moves-preserved g c =
@@ -104,43 +146,50 @@ moves-preserved g c =
       lifted = λ d. ap (λ p. lifted_in p d) c.in-Some.ensures.moved ∙ step.lifted d ∙ i.lifted d;
       calls = pack_calls i step (parts_of c.free_target.new.hands) (g.D.Disk.state c.free_target.new.disk) _
           (i.all c.requires.start.0 c.requires.start.1).packs.goes.hands.table.now_room t.most _ answer
-          c.in_ok-free_target.ensures.none (g.D.Disk.state c.move_one.new.disk) (parts_of c.move_one.new.hands)
+          c.in_ok-free_target.ensures.none (g.D.Disk.state c.move_one.new.disk)
+          (parts_of c.move_one.new.hands)
           t.moved m.slots m.most long row;
       all = λ f start.
           let s = i.all f start in
           let save = pack_saveable i start step _ c.requires.moving in
-          let goes = pack_goes i start step c.requires.moving _ refl refl _ answer t.keeps (c.in_ok-free_target.ensures.flies f) in
-          let space = pack_space i start step c.requires.moving _ refl refl _ answer t.keeps (c.in_ok-free_target.ensures.flies f) in
-          let r = pack_can i start step c.requires.moving _ refl refl _ answer t.keeps (c.in_ok-free_target.ensures.flies f) in
-          pack_next i start step c.requires.moving _ refl refl _ answer t.keeps (c.in_ok-free_target.ensures.flies f) c.in-Some.ensures.moved t.one m.keeps m.slots
-              c.in_ok-move_one.ensures.moved
-              (λ told3.
-                let back = told_before m.keeps told3 in
-                c.in_ok-move_one.ensures.flies f c.free_target.new.hands.slots back goes.same_base space r.to
-                    (goes.flies back))
-              (λ told.
-                let here = still_told i.made.keeps told in
-                let there = still_told t.keeps here in
-                left_then (t.left f here save (s.packs.goes.flies here))
-                    (m.left f c.free_target.new.hands.slots there goes.same_base space (goes.flies there)));
+          let goes = pack_goes i start step c.requires.moving _ refl refl _ answer t.keeps
+          (c.in_ok-free_target.ensures.flies f) in
+          let space = pack_space i start step c.requires.moving _ refl refl _ answer t.keeps
+          (c.in_ok-free_target.ensures.flies f) in
+          let r = pack_can i start step c.requires.moving _ refl refl _ answer t.keeps
+          (c.in_ok-free_target.ensures.flies f) in
+          pack_next i start step c.requires.moving _ refl refl _ answer t.keeps
+          (c.in_ok-free_target.ensures.flies f) c.in-Some.ensures.moved t.one m.keeps m.slots
+          c.in_ok-move_one.ensures.moved
+          (λ told3.
+          let back = told_before m.keeps told3 in
+          c.in_ok-move_one.ensures.flies f c.free_target.new.hands.slots back goes.same_base space r.to
+          (goes.flies back))
+          (λ told.
+          let here = still_told i.made.keeps told in
+          let there = still_told t.keeps here in
+          left_then (t.left f here save (s.packs.goes.flies here))
+          (m.left f c.free_target.new.hands.slots there goes.same_base space (goes.flies there)));
       paid = λ f start pay total q paid.
           let s = i.all f start in
           let save = pack_saveable i start step _ c.requires.moving in
-          pack_pays i start step c.requires.moving _ refl refl _ answer t.keeps (c.in_ok-free_target.ensures.flies f) c.in-Some.ensures.moved t.one m.keeps m.slots
-              c.in_ok-move_one.ensures.moved (i.paid f start pay total q paid);
+          pack_pays i start step c.requires.moving _ refl refl _ answer t.keeps
+          (c.in_ok-free_target.ensures.flies f) c.in-Some.ensures.moved t.one m.keeps m.slots
+          c.in_ok-move_one.ensures.moved (i.paid f start pay total q paid);
     }
 
 pub returns-clause-packed : goal.returns-clause-packed
 returns-clause-packed g c f start =
     let i = c.moves.invariant in
-    subst (λ q. Packs g.row.C f (parts_of c.args.hands.now).caps (parts_of c.args.hands.now).grid (parts_of c.moves.hands) q (g.D.Disk.state c.moves.disk))
-        (sym (c.next.ensures.same (none_of c.next.result c.in_default.not-Some))) (i.all f start).packs
+    subst (λ q. Packs g.row.C f (parts_of c.args.hands.now).caps (parts_of c.args.hands.now).grid
+    (parts_of c.moves.hands) q (g.D.Disk.state c.moves.disk))
+    (sym (c.next.ensures.same (none_of c.next.result c.in_default.not-Some))) (i.all f start).packs
 
 pub returns-clause-paid : goal.returns-clause-paid
 returns-clause-paid g c f start pay total q paid =
     subst (λ p. PacksPaid pay total q (parts_of c.moves.hands) p)
-        (sym (c.next.ensures.same (none_of c.next.result c.in_default.not-Some)))
-        (c.moves.invariant.paid f start pay total q paid)
+    (sym (c.next.ensures.same (none_of c.next.result c.in_default.not-Some)))
+    (c.moves.invariant.paid f start pay total q paid)
 
 pub returns-clause-left : goal.returns-clause-left
 returns-clause-left g c f start told = (c.moves.invariant.all f start).left told

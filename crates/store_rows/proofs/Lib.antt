@@ -1,0 +1,2 @@
+mod SettledLaws
+mod ServedLaws

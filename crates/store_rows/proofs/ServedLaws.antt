@@ -1,0 +1,39 @@
+-- A store and its disk go on together.
+use Rattle.std.specs.Prelude.{◌≡◌, List, ℕ, Option, Some, None, Result, IsNone, IsSome, IsTrue}
+use Rattle.std.proofs.Common.{rules, sym, subst}
+use Rattle.disk_face.specs.States as disk
+use Rattle.disk_face.specs.Frames.{Stays}
+use Rattle.store_terms.specs.Requests.{Change}
+use Rattle.store_core.specs.declared.answers.Refusal.{Refusal}
+use Rattle.store_core.specs.declared.answers.Done.{Done}
+use Rattle.store_core.specs.Changes.{IsQuietChange, NothingChanged}
+use Rattle.store_core.specs.Connection.{IsConnected, IsOver, Kept}
+use Rattle.store_rows.specs.Settled.{IsServed, classes}
+
+served_on : (old new : Kept) (before now : disk.State) → IsServed old before → Stays before now
+    → IsConnected classes new now → IsServed new now
+served_on old new before now served stays over = record {
+  ready = stays.ready;
+  tells = subst IsTrue (sym stays.told) served.tells;
+  over = over;
+}
+
+-- after a change that is refused, or quiet
+pub served_after : (refused : Option Refusal) (c : Change) (old new : Kept) (before now : disk.State)
+    (result : Result Done Refusal) → IsServed old before
+    → (IsSome refused → NothingChanged old new before now)
+    → (IsNone refused → IsQuietChange classes c old new before now result) → IsConnected classes new now
+    → IsServed new now
+served_after (Some why) c old new before now result served is_refused quiet over =
+    served_on old new before now served (is_refused (search rules)).same_disk.stays over
+served_after None c old new before now result served is_refused quiet over =
+    served_on old new before now served (quiet (search rules)).frame.stays over
+
+-- once a file was opened, which changes nothing
+pub served_opened : (s : Kept) (before now : disk.State) → IsTrue before.tells → Stays before now
+    → now.file ≡ before.file → IsOver classes s before.file → IsServed s now
+served_opened s before now tells stays same over = record {
+  ready = stays.ready;
+  tells = subst IsTrue (sym stays.told) tells;
+  over = λ whole told. subst (λ (file : List ℕ). IsOver classes s file) (sym same) over;
+}

@@ -1,0 +1,167 @@
+//! A checkpoint as it stands in a file: saving it, and telling whether a file opens to it.
+ghost use Rattle.std.specs.Prelude.{◌≡◌, ◌≤◌, IsTrue, OnOk, length};
+ghost use Rattle.slot_codec.specs.Reading.{all_in_range};
+
+use disk_face::{Disk, length_of};
+use disk_mem::MemDisk;
+use extent_table::{Spot, Table, a_table_can_be_saved};
+use plain_opening::open;
+use size_class::SIZE_MAX;
+use slot_codec::{Header, Name, SuperBlock};
+use slot_pair::SlotPair;
+use std::alloc::Global;
+use std::test::Fail;
+
+/// The divisor and the number of names of each file here.
+pub const BLOCK: SuperBlock = SuperBlock { k: 9, names: 16 };
+
+/// Where the data part begins in a file with room for 16 names.
+pub const BASE: usize = 19_603;
+
+/// An object of a checkpoint.
+#[derive(Clone, Copy)]
+pub struct Object {
+    pub name: &'static str,
+    /// Where it begins in the data part.
+    pub place: u64,
+    pub bytes: &'static [u8],
+    /// Whether it stands in a buffer.
+    pub is_buffered: bool,
+}
+
+/// A checkpoint of a file.
+#[derive(Clone, Copy)]
+pub struct Checkpoint {
+    /// The header, with its sequence and its count.
+    pub header: Header,
+    /// By rising name.
+    pub objects: &'static [Object],
+}
+
+/// Formats a file, and saves a checkpoint in it once, beside a data part of `data_len` bytes. A save gives
+/// its own sequence, which is 2, and its own count.
+pub fn save_on<D: Disk>(
+    alloc: Global,
+    disk: &mut D,
+    data_len: u64,
+    checkpoint: &Checkpoint,
+) -> Result<(), Fail>
+    requires ready { IsTrue (D.state disk.old).is_ready }
+    requires tells { IsTrue (D.state disk.old).tells }
+    requires empty { length (D.state disk.old).file ≡ 0 }
+    requires ranges { IsTrue (all_in_range checkpoint.now.header) }
+    ensures ready { OnOk result (IsTrue (D.state disk.new).is_ready) }
+    ensures tells { OnOk result (IsTrue (D.state disk.new).tells) }
+{
+    SlotPair::format(disk, BLOCK.k, BLOCK.names)?;
+    let mut table = Table::with_room(alloc, BLOCK.names)?;
+    if data_len > 1 << 48 {
+        return Err("a shorter data part")?;
+    }
+    disk.set_len(BASE as u64 + data_len)?;
+    'objects: for object in checkpoint.objects {
+        write_on(disk, object)?;
+        add(&mut table, object)?;
+    }
+    save_table(alloc, disk, &checkpoint.header, &table)
+}
+
+/// Writes an object.
+fn write_on<D: Disk>(disk: &mut D, object: &Object) -> Result<(), Fail>
+    requires ready { IsTrue (D.state disk.old).is_ready }
+    requires tells { IsTrue (D.state disk.old).tells }
+    ensures ready { IsTrue (D.state disk.new).is_ready }
+    ensures tells { IsTrue (D.state disk.new).tells }
+{
+    let (base, size) = (BASE as u64, object.bytes.len() as u64);
+    let length = length_of(disk)?;
+    if length < base || length - base < object.place || length - base - object.place < size {
+        return Err("an object within the data part")?;
+    }
+    disk.write_at(base + object.place, object.bytes)?;
+    Ok(())
+}
+
+/// Sets where an object stands.
+fn add(table: &mut Table, object: &Object) -> Result<(), Fail> {
+    let name = Name::new(object.name.as_bytes()).ok_or("a name")?;
+    let (place, size) = (object.place, object.bytes.len() as u64);
+    if !table.room() || place >= 1 << 48 || size >= 1 << 48 {
+        return Err("a name and an object more")?;
+    }
+    table.set(&name, Spot { place, size });
+    Ok(())
+}
+
+/// Saves a table in a file that is a store.
+fn save_table<D: Disk>(
+    alloc: Global,
+    disk: &mut D,
+    header: &Header,
+    table: &Table,
+) -> Result<(), Fail>
+    requires ready { IsTrue (D.state disk.old).is_ready }
+    requires tells { IsTrue (D.state disk.old).tells }
+    requires ranges { IsTrue (all_in_range header.now) }
+    ensures ready { OnOk result (IsTrue (D.state disk.new).is_ready) }
+    ensures tells { OnOk result (IsTrue (D.state disk.new).tells) }
+{
+    let found = SlotPair::find(disk)?;
+    let mut pair = SlotPair::of(&found);
+    let mut buf = vec![in alloc; 0u8; 40_960]?;
+    a_table_can_be_saved();
+    if table.count() > found.block.names || pair.sequence() >= 1 << 61 {
+        return Err("a table that can be saved")?;
+    }
+    pair.save(disk, header, table, &mut buf)?;
+    Ok(())
+}
+
+/// Whether a file opens to a checkpoint: to its places, its book, its sequence, and its objects' bytes. It
+/// may be longer than the checkpoint's layout.
+pub fn opens_to(alloc: Global, file: &[u8], checkpoint: &Checkpoint) -> Result<bool, Fail> {
+    let mut disk = MemDisk::from_bytes(alloc, file)?;
+    let Ok(opened) = open(alloc, &mut disk, 21, SIZE_MAX) else {
+        return Ok(false);
+    };
+    let same_header = opened.table.header == checkpoint.header;
+    Ok(
+        opened.found.block == BLOCK
+            && same_header
+            && has_objects(&opened.table, file, checkpoint.objects),
+    )
+}
+
+/// Whether a table has these objects and no others, and a file their bytes.
+fn has_objects(table: &plain_layout::Table, file: &[u8], objects: &[Object]) -> bool
+    requires divisor { 1 ≤ table.now.k }
+{
+    if table.records.len() != objects.len() {
+        return false;
+    }
+    'objects: for n in 0..objects.len() {
+        let (record, object) = (&table.records[n], &objects[n]);
+        let same_name = record.name.as_bytes() == object.name.as_bytes();
+        let same_spot = record.place == object.place && record.size == object.bytes.len() as u64;
+        if !same_name || !same_spot || table.is_buffered(n) != object.is_buffered {
+            return false;
+        }
+        if !has_bytes(file, object) {
+            return false;
+        }
+    }
+    true
+}
+
+/// Whether a file has the bytes of an object where it stands.
+fn has_bytes(file: &[u8], object: &Object) -> bool {
+    if file.len() < BASE {
+        return false;
+    }
+    let part = &file[BASE..];
+    let (place, size) = (object.place as usize, object.bytes.len());
+    if part.len() < place || part.len() - place < size {
+        return false;
+    }
+    &part[place..place + size] == object.bytes
+}

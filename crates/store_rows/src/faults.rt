@@ -1,0 +1,146 @@
+//! Worked stores that are worn, or whose disk fails.
+ghost use Rattle.std.specs.Prelude.{IsTrue};
+
+use crate::requests::{Ask, Looks, QUIET, Reply, Row, refused, rows, try_looks, try_rows};
+use crate::trials::{Trial, store_on};
+use crate::worked::{HUNDRED, UNCHANGED, at_one};
+use disk_face::Disk;
+use disk_fuse::Fuse;
+use disk_mem::MemDisk;
+use std::alloc::Global;
+use std::process::Abort;
+use std::test::Fail;
+use store_core::{Gauge, Refusal, Stat};
+
+/// One name of 100 bytes, now and at the checkpoint.
+const ONE: Reply = Reply::Stat(Stat {
+    names: 1,
+    bytes: 100,
+    kept_names: 1,
+    kept_bytes: 100,
+});
+
+/// The store whose last sequence is this one, by eight bytes of the header in slot 1.
+fn at_sequence(alloc: Global, sequence: u64) -> Result<Trial<MemDisk>, Fail> {
+    let mut trial = at_one(alloc, MemDisk::new(alloc))?;
+    let mut bytes = trial.file(alloc)?;
+    if bytes.len() < 9_849 {
+        return Err("a file")?;
+    }
+    bytes[9_841..9_849].copy_from_slice(&sequence.to_le_bytes());
+    store_on(alloc, MemDisk::from_bytes(alloc, &bytes)?)
+}
+
+/// Changes of a file whose sequence is 2^61, and what is still served.
+fn try_worn(rt: &impl Abort, alloc: Global, trial: &mut Trial<MemDisk>) -> Result<(), Fail> {
+    let rows = rows! {
+        Ask::Put("b", b"x") => refused!(Worn), b"", 0;
+        Ask::Put("a", b"") => refused!(Worn), b"", 0;
+        Ask::Del("a") => refused!(Worn), b"", 0;
+        Ask::Del("q") => refused!(Missing), b"", 0;
+        Ask::Put("a b", b"") => refused!(BadName), b"", 0;
+        Ask::PutZeros("b", 1_048_577) => refused!(TooLong), b"", 0;
+        Ask::Get("a") => Reply::Number(100), HUNDRED, 0;
+        Ask::Back => Reply::Nothing, b"", 0;
+        Ask::Stat => ONE, b"", 0;
+    };
+    try_rows(rt, alloc, trial, &rows)?;
+    try_looks(rt, trial, &WORN)
+}
+
+/// What the worn store says of itself.
+const WORN: Looks = Looks {
+    turns: 0,
+    gauge: Gauge {
+        length: 111,
+        sequence: 1 << 61,
+    },
+    ..UNCHANGED
+};
+
+#[test]
+fn refuses_changes_of_a_worn_file(rt: HostRuntime) -> Result<(), Fail> {
+    let mut worn = at_sequence(rt.alloc(), 1 << 61)?;
+    try_worn(&rt, rt.alloc(), &mut worn)
+}
+
+#[test]
+fn serves_changes_up_to_there(rt: HostRuntime) -> Result<(), Fail> {
+    let mut trial = at_sequence(rt.alloc(), (1 << 61) - 1)?;
+    let rows = rows! {
+        Ask::Put("b", b"x") => QUIET, b"", 1;
+        Ask::Del("b") => QUIET, b"", 0;
+        Ask::Del("a") => refused!(NeedsFlush), b"", 0;
+    };
+    try_rows(&rt, rt.alloc(), &mut trial, &rows)
+}
+
+/// A store whose disk failed at a put: it answers Broken to all, and makes no more calls.
+fn try_broken(
+    rt: &impl Abort,
+    alloc: Global,
+    trial: &mut Trial<Fuse<MemDisk>>,
+) -> Result<(), Fail> {
+    let rows = rows! {
+        Ask::Put("b", b"x") => refused!(Disk), b"", 1;
+        Ask::Put("b", b"x") => refused!(Broken), b"", 0;
+        Ask::Put("a b", b"") => refused!(Broken), b"", 0;
+        Ask::Del("a") => refused!(Broken), b"", 0;
+        Ask::Get("a") => refused!(Broken), b"", 0;
+        Ask::Old("a") => refused!(Broken), b"", 0;
+        Ask::Size("a") => refused!(Broken), b"", 0;
+        Ask::OldSize("a") => refused!(Broken), b"", 0;
+        Ask::List => refused!(Broken), b"", 0;
+        Ask::Stat => refused!(Broken), b"", 0;
+        Ask::Back => refused!(Broken), b"", 0;
+    };
+    try_rows(rt, alloc, trial, &rows)
+}
+
+/// What the broken store says of itself.
+const BROKEN: Looks = Looks {
+    turns: 20,
+    is_broken: true,
+    ..UNCHANGED
+};
+
+/// A store whose disk fails the first read of an object, which breaks nothing, and the first write.
+fn try_failing(
+    rt: &impl Abort,
+    alloc: Global,
+    trial: &mut Trial<Fuse<MemDisk>>,
+) -> Result<(), Fail> {
+    let rows = rows! {
+        Ask::Get("a") => refused!(Disk), b"", 0;
+        Ask::Get("a") => Reply::Number(100), HUNDRED, 0;
+        Ask::Put("z", b"") => QUIET, b"", 0;
+        Ask::Back => Reply::Nothing, b"", 0;
+    };
+    try_rows(rt, alloc, trial, &rows)?;
+    try_looks(rt, trial, &UNCHANGED)?;
+    try_broken(rt, alloc, trial)?;
+    try_looks(rt, trial, &BROKEN)
+}
+
+/// Opening the file again leads on.
+fn try_again<D: Disk + Drop>(rt: &impl Abort, alloc: Global, disk: D) -> Result<(), Fail>
+    requires ready { IsTrue (D.state disk).is_ready }
+    requires tells { IsTrue (D.state disk).tells }
+{
+    let mut trial = store_on(alloc, disk)?;
+    let rows = rows! {
+        Ask::Stat => ONE, b"", 0;
+        Ask::Get("a") => Reply::Number(100), HUNDRED, 0;
+        Ask::Put("b", b"x") => QUIET, b"", 1;
+    };
+    try_rows(rt, alloc, &mut trial, &rows)
+}
+
+#[test]
+fn is_broken_by_a_failed_write_alone(rt: HostRuntime) -> Result<(), Fail> {
+    let trial = at_one(rt.alloc(), MemDisk::new(rt.alloc()))?;
+    let (changes, reads) = (vec![in rt.alloc(); 1]?, vec![in rt.alloc(); 1]?);
+    let mut trial = trial.failing(changes, reads);
+    try_failing(&rt, rt.alloc(), &mut trial)?;
+    try_again(&rt, rt.alloc(), trial.into_disk())
+}

@@ -1,0 +1,19 @@
+//! Worked rows of a store on a disk, and what each image that a crash may leave of them opens to.
+#![tactic(auto)]
+
+#[cfg(test)]
+mod checkpoints;
+#[cfg(test)]
+mod faults;
+#[cfg(test)]
+mod moments;
+#[cfg(test)]
+mod openings;
+#[cfg(test)]
+mod quiet;
+#[cfg(test)]
+mod requests;
+#[cfg(test)]
+mod trials;
+#[cfg(test)]
+mod worked;

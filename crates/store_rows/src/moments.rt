@@ -1,0 +1,113 @@
+//! What a crash may leave at each moment of a quiet put: the last checkpoint alone.
+use crate::checkpoints::{Checkpoint, opens_to};
+use crate::requests::{Ask, QUIET, Reply, Row, refused, rows, try_rows};
+use crate::trials::Trial;
+use crate::worked::{ONE, TWO, at_one, at_two};
+use disk_mem::{Choice, MemDisk};
+use std::alloc::Global;
+use std::process::Abort;
+use std::test::Fail;
+use store_core::Refusal;
+
+/// The images of a turn that are tried: what the last sync left, what reads gave, and the written bytes
+/// and those of the write that is next as other ones.
+const CHOICES: [Choice; 6] = [
+    Choice::Durable,
+    Choice::Newest,
+    Choice::Torn(0),
+    Choice::Torn(0x5A),
+    Choice::Torn(0xA5),
+    Choice::Torn(0xFF),
+];
+
+/// Each image of the turns from one on up to the last opens to a checkpoint.
+fn try_images(
+    rt: &impl Abort,
+    alloc: Global,
+    trial: &Trial<MemDisk>,
+    from: u64,
+    checkpoint: &Checkpoint,
+) -> Result<(), Fail> {
+    for turn in from..trial.turns().saturating_add(1) {
+        for choice in CHOICES {
+            let image = trial.image(turn, choice)?;
+            assert_eq!(rt; image.len(), 19_714, "turn {turn}, {choice:?}");
+            let opens = opens_to(alloc, &image, checkpoint)?;
+            assert!(rt; opens, "turn {turn}, {choice:?}");
+        }
+    }
+    Ok(())
+}
+
+/// The bytes with which images of these turns end.
+fn try_ends(
+    rt: &impl Abort,
+    trial: &Trial<MemDisk>,
+    ends: &[(u64, Choice, &[u8])],
+) -> Result<(), Fail> {
+    for (turn, choice, end) in ends {
+        let image = trial.image(*turn, *choice)?;
+        assert!(rt; image.ends_with(end), "turn {turn}, {choice:?}");
+    }
+    Ok(())
+}
+
+/// Two quiet puts and a removal, where the checkpoint has one object.
+fn try_one(rt: &impl Abort, alloc: Global, trial: &mut Trial<MemDisk>) -> Result<(), Fail> {
+    let rows = rows! {
+        Ask::Put("b", b"abcdefghij") => QUIET, b"", 1;
+        Ask::Put("c", b"k") => QUIET, b"", 1;
+        Ask::Del("b") => QUIET, b"", 0;
+    };
+    try_rows(rt, alloc, trial, &rows)?;
+    try_images(rt, alloc, trial, 19, &ONE)?;
+    // Within the first put its 10 bytes may be any, and no others; after it they are what reads give.
+    let ends: [(u64, Choice, &[u8]); 5] = [
+        (19, Choice::Torn(0x5A), b"9ZZZZZZZZZZ\0"),
+        (20, Choice::Newest, b"9abcdefghij\0"),
+        (20, Choice::Torn(0x5A), b"9ZZZZZZZZZZZ"),
+        (21, Choice::Newest, b"9abcdefghijk"),
+        (21, Choice::Durable, b"9\0\0\0\0\0\0\0\0\0\0\0"),
+    ];
+    try_ends(rt, trial, &ends)
+}
+
+/// A removal and puts, where the checkpoint has an object in a buffer.
+fn try_two(rt: &impl Abort, alloc: Global, trial: &mut Trial<MemDisk>) -> Result<(), Fail> {
+    let rows = rows! {
+        Ask::Get("q") => Reply::Number(4), b"wxyz", 0;
+        Ask::Del("q") => QUIET, b"", 0;
+        Ask::Get("q") => refused!(Missing), b"", 0;
+        Ask::Old("q") => Reply::Number(4), b"wxyz", 0;
+        // The bytes of `q` are held: 7 are left of the buffer.
+        Ask::Put("q", b"abcdefgh") => refused!(NeedsFlush), b"", 0;
+        Ask::Put("q", b"abcd") => QUIET, b"", 1;
+        Ask::Put("r", b"efg") => QUIET, b"", 1;
+        Ask::Put("s", b"h") => refused!(NeedsFlush), b"", 0;
+        Ask::Get("q") => Reply::Number(4), b"abcd", 0;
+        Ask::Old("q") => Reply::Number(4), b"wxyz", 0;
+        Ask::OldSize("q") => Reply::Number(4), b"", 0;
+        Ask::List => Reply::Nothing, b"p 100\nq 4\nr 3\n", 0;
+    };
+    try_rows(rt, alloc, trial, &rows)?;
+    try_images(rt, alloc, trial, 20, &TWO)?;
+    try_ends(rt, trial, &[(22, Choice::Newest, b"9wxyzabcdefg")])?;
+    let rows = rows! {
+        Ask::Back => Reply::Nothing, b"", 0;
+        Ask::Get("q") => Reply::Number(4), b"wxyz", 0;
+        Ask::List => Reply::Nothing, b"p 100\nq 4\n", 0;
+    };
+    try_rows(rt, alloc, trial, &rows)
+}
+
+#[test]
+fn leaves_the_checkpoint_alone(rt: HostRuntime) -> Result<(), Fail> {
+    let mut trial = at_one(rt.alloc(), MemDisk::new(rt.alloc()))?;
+    try_one(&rt, rt.alloc(), &mut trial)
+}
+
+#[test]
+fn keeps_what_the_checkpoint_holds(rt: HostRuntime) -> Result<(), Fail> {
+    let mut trial = at_two(rt.alloc(), MemDisk::new(rt.alloc()))?;
+    try_two(&rt, rt.alloc(), &mut trial)
+}

@@ -1,0 +1,201 @@
+//! Worked requests on the store of one object, whose buffer has room for 11 bytes.
+use crate::requests::{
+    Ask, Looks, QUIET, Reply, Row, refused, rows, try_looks, try_rows, try_rows_to,
+};
+use crate::trials::Trial;
+use crate::worked::{HUNDRED, UNCHANGED, at_one};
+use disk_face::Disk;
+use disk_mem::{MemDisk, MemSink, PlainDisk};
+use std::alloc::Global;
+use std::process::Abort;
+use std::test::Fail;
+use store_core::{Refusal, Stat};
+
+/// 10 bytes.
+const TEN: &[u8] = b"abcdefghij";
+
+/// A name of 64 bytes, which is 1 too many, and one of 63.
+const TOO_LONG: &str = "1234567890123456789012345678901234567890123456789012345678901234";
+
+const LONGEST: &str = "123456789012345678901234567890123456789012345678901234567890123";
+
+/// How many names and bytes there are, of which one of 100 was kept.
+macro_rules! counts {
+    ($names:literal, $bytes:literal) => {
+        Reply::Stat(Stat {
+            names: $names,
+            bytes: $bytes,
+            kept_names: 1,
+            kept_bytes: 100,
+        })
+    };
+}
+
+/// Quiet changes and what is asked between them.
+fn try_changes<D: Disk>(rt: &impl Abort, alloc: Global, trial: &mut Trial<D>) -> Result<(), Fail> {
+    let rows = rows! {
+        Ask::Stat => counts!(1, 100), b"", 0;
+        Ask::Size("a") => Reply::Number(100), b"", 0;
+        Ask::Get("a") => Reply::Number(100), HUNDRED, 0;
+        Ask::Put("b", TEN) => QUIET, b"", 1;
+        Ask::Stat => counts!(2, 110), b"", 0;
+        Ask::Size("b") => Reply::Number(10), b"", 0;
+        Ask::OldSize("b") => refused!(Missing), b"", 0;
+        Ask::Get("b") => Reply::Number(10), TEN, 0;
+        Ask::Old("b") => refused!(Missing), b"", 0;
+        Ask::List => Reply::Nothing, b"a 100\nb 10\n", 0;
+        Ask::Del("b") => QUIET, b"", 0;
+        Ask::Stat => counts!(1, 100), b"", 0;
+        Ask::Get("b") => refused!(Missing), b"", 0;
+        // 1 byte of the buffer is left.
+        Ask::Put("b", TEN) => refused!(NeedsFlush), b"", 0;
+        Ask::Put("b", b"xy") => refused!(NeedsFlush), b"", 0;
+        Ask::Put("a", b"") => refused!(NeedsFlush), b"", 0;
+        Ask::Del("a") => refused!(NeedsFlush), b"", 0;
+        Ask::Stat => counts!(1, 100), b"", 0;
+        Ask::Put("z", b"") => QUIET, b"", 0;
+        Ask::Stat => counts!(2, 100), b"", 0;
+        Ask::Get("z") => Reply::Number(0), b"", 0;
+        Ask::Size("z") => Reply::Number(0), b"", 0;
+        Ask::List => Reply::Nothing, b"a 100\nz 0\n", 0;
+        Ask::Back => Reply::Nothing, b"", 0;
+        Ask::List => Reply::Nothing, b"a 100\n", 0;
+        Ask::Stat => counts!(1, 100), b"", 0;
+        Ask::OldSize("a") => Reply::Number(100), b"", 0;
+        Ask::Old("a") => Reply::Number(100), HUNDRED, 0;
+        // The buffer is as it was at the checkpoint.
+        Ask::Put("b", TEN) => QUIET, b"", 1;
+        Ask::Put("b", b"x") => QUIET, b"", 1;
+        Ask::Get("b") => Reply::Number(1), b"x", 0;
+        Ask::Stat => counts!(2, 101), b"", 0;
+        Ask::Put("c", b"y") => refused!(NeedsFlush), b"", 0;
+    };
+    try_rows(rt, alloc, trial, &rows)
+}
+
+/// Requests that are refused for what they ask.
+fn try_refusals<D: Disk>(rt: &impl Abort, alloc: Global, trial: &mut Trial<D>) -> Result<(), Fail> {
+    let rows = rows! {
+        Ask::Back => Reply::Nothing, b"", 0;
+        Ask::Put(TOO_LONG, b"") => refused!(BadName), b"", 0;
+        Ask::PutZeros(TOO_LONG, 1_048_577) => refused!(BadName), b"", 0;
+        Ask::Del(TOO_LONG) => refused!(BadName), b"", 0;
+        Ask::Get(TOO_LONG) => refused!(BadName), b"", 0;
+        Ask::Old(TOO_LONG) => refused!(BadName), b"", 0;
+        Ask::Size(TOO_LONG) => refused!(BadName), b"", 0;
+        Ask::OldSize(TOO_LONG) => refused!(BadName), b"", 0;
+        Ask::Put("", b"") => refused!(BadName), b"", 0;
+        Ask::Put("a b", b"") => refused!(BadName), b"", 0;
+        Ask::Del("q") => refused!(Missing), b"", 0;
+        Ask::Get("q") => refused!(Missing), b"", 0;
+        Ask::Old("q") => refused!(Missing), b"", 0;
+        Ask::Size("q") => refused!(Missing), b"", 0;
+        Ask::OldSize("q") => refused!(Missing), b"", 0;
+        Ask::PutZeros("q", 1_048_577) => refused!(TooLong), b"", 0;
+        Ask::PutZeros("a", 1_048_577) => refused!(TooLong), b"", 0;
+        Ask::PutZeros("q", 1_048_576) => refused!(NeedsFlush), b"", 0;
+        Ask::Put(LONGEST, b"") => QUIET, b"", 0;
+        Ask::Del(LONGEST) => QUIET, b"", 0;
+    };
+    try_rows(rt, alloc, trial, &rows)
+}
+
+/// As many names as there may be.
+fn try_full<D: Disk>(rt: &impl Abort, alloc: Global, trial: &mut Trial<D>) -> Result<(), Fail> {
+    for name in [
+        "n1", "n2", "n3", "n4", "n5", "n6", "n7", "n8", "n9", "n10", "n11", "n12", "n13", "n14",
+        "n15",
+    ] {
+        let rows = rows! {
+            Ask::Put(name, b"") => QUIET, b"", 0;
+        };
+        try_rows(rt, alloc, trial, &rows)?;
+    }
+    let rows = rows! {
+        Ask::Stat => counts!(16, 100), b"", 0;
+        Ask::Put("n16", b"") => refused!(Full), b"", 0;
+        Ask::PutZeros("n16", 1_048_577) => refused!(TooLong), b"", 0;
+        Ask::Put("n1", b"") => QUIET, b"", 0;
+        Ask::Del("n2") => QUIET, b"", 0;
+        Ask::Put("n16", b"") => QUIET, b"", 0;
+        Ask::Put("n2", b"") => refused!(Full), b"", 0;
+        Ask::Old("n1") => refused!(Missing), b"", 0;
+        Ask::Stat => counts!(16, 100), b"", 0;
+        Ask::Back => Reply::Nothing, b"", 0;
+        Ask::List => Reply::Nothing, b"a 100\n", 0;
+    };
+    try_rows(rt, alloc, trial, &rows)
+}
+
+/// A sink that fails its first call and its third.
+fn try_sinks<D: Disk>(rt: &impl Abort, alloc: Global, trial: &mut Trial<D>) -> Result<(), Fail> {
+    let rows = rows! {
+        Ask::Get("a") => refused!(Sink), b"", 0;
+        Ask::Get("a") => Reply::Number(100), HUNDRED, 0;
+        Ask::List => refused!(Sink), b"", 0;
+        Ask::List => Reply::Nothing, b"a 100\n", 0;
+        Ask::Old("a") => Reply::Number(100), HUNDRED, 0;
+    };
+    let mut sink = MemSink::with_room(alloc, 4096, vec![in alloc; 1, 3]?)?;
+    try_rows_to(rt, alloc, trial, &rows, &mut sink)
+}
+
+/// A file that ends with these bytes, and is else as before.
+fn try_end(rt: &impl Abort, before: &[u8], after: &[u8], end: &[u8]) -> Result<(), Fail> {
+    assert_eq!(rt; after.len(), 19_714);
+    assert!(rt; is_same_before(before, after, end.len()));
+    assert!(rt; after.ends_with(end));
+    Ok(())
+}
+
+/// Whether two files are of one length and have the same bytes before the last ones.
+fn is_same_before(a: &[u8], b: &[u8], last: usize) -> bool {
+    if a.len() != b.len() || a.len() < last {
+        return false;
+    }
+    let n = a.len() - last;
+    a[..n] == b[..n]
+}
+
+/// What the store says of itself after these changes. Of class 3 ten bytes came twice and went twice; of
+/// class 0 one byte came.
+const CHANGED: Looks = Looks {
+    turns: 22,
+    asked: [
+        1, 0, 0, 40, 0, 0, 0, 0, 0, 0, 0, 0, 0, 0, 0, 0, 0, 0, 0, 0, 0, 0, 0, 0, 0, 0, 0, 0, 0, 0,
+        0, 0,
+    ],
+    ..UNCHANGED
+};
+
+/// The changes, and what they leave of the file: `b` was put at 100 of the data part, and then its 1 byte
+/// at 110.
+fn try_file<D: Disk>(rt: &impl Abort, alloc: Global, trial: &mut Trial<D>) -> Result<(), Fail> {
+    let before = trial.file(alloc)?;
+    try_changes(rt, alloc, trial)?;
+    let after = trial.file(alloc)?;
+    try_end(rt, &before, &after, b"abcdefghijx")
+}
+
+/// All of these, and what the store says of itself.
+fn try_store<D: Disk>(rt: &impl Abort, alloc: Global, trial: &mut Trial<D>) -> Result<(), Fail> {
+    try_looks(rt, trial, &UNCHANGED)?;
+    try_file(rt, alloc, trial)?;
+    try_looks(rt, trial, &CHANGED)?;
+    try_refusals(rt, alloc, trial)?;
+    try_full(rt, alloc, trial)?;
+    try_sinks(rt, alloc, trial)?;
+    try_looks(rt, trial, &CHANGED)
+}
+
+#[test]
+fn serves_quiet_requests(rt: HostRuntime) -> Result<(), Fail> {
+    let mut plain = at_one(rt.alloc(), PlainDisk::with_room(rt.alloc(), 19_714)?)?;
+    try_store(&rt, rt.alloc(), &mut plain)
+}
+
+#[test]
+fn serves_them_on_a_recorded_disk(rt: HostRuntime) -> Result<(), Fail> {
+    let mut recorded = at_one(rt.alloc(), MemDisk::new(rt.alloc()))?;
+    try_store(&rt, rt.alloc(), &mut recorded)
+}

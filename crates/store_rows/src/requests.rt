@@ -1,0 +1,175 @@
+//! Requests to a store, and what they are answered.
+use crate::trials::Trial;
+use disk_face::Disk;
+use disk_mem::MemSink;
+use std::alloc::Global;
+use std::process::Abort;
+use std::test::Fail;
+use store_core::{Done, Gauge, Refusal, Stat};
+
+/// Requests, with their answers, the bytes that they put and their changing calls.
+macro_rules! rows {
+    ($($ask:expr => $reply:expr, $puts:expr, $calls:literal;)*) => {
+        [$(Row { ask: $ask, reply: $reply, puts: $puts, calls: $calls }),*]
+    };
+}
+
+/// An answer that is a refusal.
+macro_rules! refused {
+    ($refusal:ident) => {
+        Reply::Refused(Refusal::$refusal)
+    };
+}
+
+pub(crate) use refused;
+pub(crate) use rows;
+
+/// A request.
+#[derive(Clone, Copy, Debug)]
+pub enum Ask {
+    Put(&'static str, &'static [u8]),
+    /// A put of so many zeros.
+    PutZeros(&'static str, usize),
+    Del(&'static str),
+    Get(&'static str),
+    Old(&'static str),
+    Size(&'static str),
+    OldSize(&'static str),
+    List,
+    Stat,
+    Back,
+}
+
+/// What a request is answered, beside the bytes that it puts.
+#[derive(Clone, Copy, Debug, PartialEq, Eq)]
+pub enum Reply {
+    Done(Done),
+    Number(u64),
+    Stat(Stat),
+    Nothing,
+    Refused(Refusal),
+}
+
+/// A request, its answer, the bytes that it puts, and how many changing calls of the disk it makes.
+#[derive(Clone, Copy, Debug)]
+pub struct Row {
+    pub ask: Ask,
+    pub reply: Reply,
+    pub puts: &'static [u8],
+    pub calls: u64,
+}
+
+/// The answer to a change that saved no checkpoint.
+pub const QUIET: Reply = Reply::Done(Done { kept: false });
+
+/// What a store answers to a request, whose bytes go to the sink.
+pub fn answer<D: Disk>(
+    alloc: Global,
+    trial: &mut Trial<D>,
+    ask: Ask,
+    sink: &mut MemSink,
+) -> Result<Reply, Fail> {
+    Ok(match ask {
+        Ask::Put(name, bytes) => done(trial.put(name, bytes)),
+        Ask::PutZeros(name, size) => {
+            let zeros = vec![in alloc; 0u8; size]?;
+            done(trial.put(name, &zeros))
+        }
+        Ask::Del(name) => done(trial.del(name)),
+        Ask::Get(name) => number(trial.get(name, sink)),
+        Ask::Old(name) => number(trial.old(name, sink)),
+        Ask::Size(name) => number(trial.store().size(name.as_bytes())),
+        Ask::OldSize(name) => number(trial.store().old_size(name.as_bytes())),
+        Ask::List => nothing(trial.store().list(sink)),
+        Ask::Stat => match trial.store().stat() {
+            Ok(stat) => Reply::Stat(stat),
+            Err(refusal) => Reply::Refused(refusal),
+        },
+        Ask::Back => nothing(trial.back()),
+    })
+}
+
+fn done(answer: Result<Done, Refusal>) -> Reply {
+    match answer {
+        Ok(done) => Reply::Done(done),
+        Err(refusal) => Reply::Refused(refusal),
+    }
+}
+
+fn number(answer: Result<u64, Refusal>) -> Reply {
+    match answer {
+        Ok(number) => Reply::Number(number),
+        Err(refusal) => Reply::Refused(refusal),
+    }
+}
+
+fn nothing(answer: Result<(), Refusal>) -> Reply {
+    match answer {
+        Ok(()) => Reply::Nothing,
+        Err(refusal) => Reply::Refused(refusal),
+    }
+}
+
+/// Makes each request in turn.
+pub fn try_rows<D: Disk>(
+    rt: &impl Abort,
+    alloc: Global,
+    trial: &mut Trial<D>,
+    rows: &[Row],
+) -> Result<(), Fail> {
+    let mut sink = MemSink::with_room(alloc, 1 << 16, Vec::new(alloc))?;
+    try_rows_to(rt, alloc, trial, rows, &mut sink)
+}
+
+/// Makes each request in turn, with one sink for all.
+pub fn try_rows_to<D: Disk>(
+    rt: &impl Abort,
+    alloc: Global,
+    trial: &mut Trial<D>,
+    rows: &[Row],
+    sink: &mut MemSink,
+) -> Result<(), Fail> {
+    for n in 0..rows.len() {
+        let row = &rows[n];
+        let (put, turns) = (sink.bytes().len(), trial.turns());
+        let reply = answer(alloc, trial, row.ask, sink)?;
+        assert_eq!(rt; reply, row.reply, "row {n}: {:?}", row.ask);
+        assert_eq!(rt;
+            sink.bytes().get(put..),
+            Some(row.puts),
+            "row {n}: {:?}",
+            row.ask
+        );
+        let after = turns.saturating_add(row.calls);
+        assert_eq!(rt; trial.turns(), after, "row {n}: {:?}", row.ask);
+    }
+    Ok(())
+}
+
+/// What a store and its disk say of themselves, without a request.
+#[derive(Clone, Copy, Debug, PartialEq, Eq)]
+pub struct Looks {
+    /// How many changing calls of the disk have ended.
+    pub turns: u64,
+    pub gauge: Gauge,
+    pub is_broken: bool,
+    /// The bytes put and removed, by class, since the store was made.
+    pub asked: [u64; 32],
+    /// The bytes moved, by class.
+    pub moved: [u64; 32],
+}
+
+/// Looks at a store.
+pub fn try_looks<D: Disk>(rt: &impl Abort, trial: &Trial<D>, expected: &Looks) -> Result<(), Fail> {
+    let store = trial.store();
+    let ledger = store.ledger();
+    let looks = Looks {
+        turns: trial.turns(),
+        gauge: store.gauge(),
+        is_broken: store.is_broken(),
+        asked: ledger.asked.cells(),
+        moved: ledger.moved.cells(),
+    };
+    assert_eq!(rt; looks, *expected);
+    Ok(())
+}

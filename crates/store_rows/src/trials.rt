@@ -1,0 +1,124 @@
+//! A store over its disk, ready for any request.
+ghost use Rattle.std.specs.Prelude.{◌≡◌, ◌≤◌, IsTrue, IfOk};
+
+use crate::openings::settled_store;
+use data_area::Ledger;
+use disk_face::{Disk, Sink, length_of, read};
+use disk_fuse::Fuse;
+use disk_mem::{Choice, MemDisk};
+use plain_opening::open;
+use size_class::SIZE_MAX;
+use std::alloc::Global;
+use std::marker::Model;
+use std::test::Fail;
+use store_core::{Done, Gauge, Refusal, Stat, Store};
+
+/// A store of 21 classes over its disk, which belong together at each moment. Contracts know nothing
+/// else of it: what it answers is tried.
+#[derive(Drop)]
+pub struct Trial<D: Disk> {
+    disk: D,
+    store: Store<21>,
+}
+
+impl<D: Disk> Model for Trial<D> {
+    ghost use Rattle.std.specs.Prelude.{ℕ};
+    ghost use Rattle.store_rows.specs.Settled.{IsServed};
+
+    ghost Value = { ℕ };
+
+    ghost view = { λ t. 0 };
+
+    ghost invariant = { λ t. IsServed t.store (D.state t.disk) };
+}
+
+/// The store of a file with a settled table, over its disk.
+pub fn store_on<D: Disk + Drop>(alloc: Global, disk: D) -> Result<Trial<D>, Fail>
+    requires ready { IsTrue (D.state disk).is_ready }
+    requires tells { IsTrue (D.state disk).tells }
+{
+    let mut disk = disk;
+    let Ok(opened) = open(alloc, &mut disk, 21, SIZE_MAX) else {
+        return Err("a store")?;
+    };
+    let store = settled_store(alloc, &opened)?;
+    Ok(Trial { disk, store })
+}
+
+impl<D: Disk> Trial<D> {
+    /// Puts an object.
+    pub fn put(&mut self, name: &str, bytes: &[u8]) -> Result<Done, Refusal> {
+        self.store.put(&mut self.disk, name.as_bytes(), bytes)
+    }
+
+    /// Removes a name.
+    pub fn del(&mut self, name: &str) -> Result<Done, Refusal> {
+        self.store.del(&mut self.disk, name.as_bytes())
+    }
+
+    /// Goes back to the last checkpoint.
+    pub fn back(&mut self) -> Result<(), Refusal> {
+        self.store.back()
+    }
+
+    /// Puts an object's bytes to the sink.
+    pub fn get<O: Sink>(&mut self, name: &str, sink: &mut O) -> Result<u64, Refusal> {
+        self.store.get(&mut self.disk, name.as_bytes(), sink)
+    }
+
+    /// Puts the bytes that an object had at the last checkpoint.
+    pub fn old<O: Sink>(&mut self, name: &str, sink: &mut O) -> Result<u64, Refusal> {
+        self.store.old(&mut self.disk, name.as_bytes(), sink)
+    }
+
+    /// The store alone, for what needs no disk.
+    pub fn store(&self) -> &Store<21> {
+        &self.store
+    }
+
+    /// How many changing calls of the disk have ended.
+    pub fn turns(&self) -> u64 {
+        self.disk.turns()
+    }
+
+    /// All bytes of the file.
+    pub fn file(&mut self, alloc: Global) -> Result<Vec<u8>, Fail> {
+        let Ok(length) = length_of(&mut self.disk) else {
+            return Err("a length")?;
+        };
+        let mut bytes = vec![in alloc; 0u8; length as usize]?;
+        if read(&mut self.disk, 0, &mut bytes).is_err() {
+            return Err("a file")?;
+        }
+        Ok(bytes)
+    }
+
+    /// The store over a disk that fails the changing calls and the others of these numbers, counted
+    /// from here on.
+    pub fn failing(self, changes: Vec<u64>, reads: Vec<u64>) -> Trial<Fuse<D>> {
+        let Trial { disk, store } = self;
+        Trial {
+            disk: Fuse::listed(disk, changes, reads),
+            store,
+        }
+    }
+
+    /// The disk alone.
+    pub fn into_disk(self) -> D
+        ensures ready { IsTrue (D.state result).is_ready }
+        ensures tells { IsTrue (D.state result).tells }
+    {
+        let Trial { disk, store: _ } = self;
+        disk
+    }
+}
+
+impl Trial<MemDisk> {
+    /// An image of a turn.
+    pub fn image(&self, turn: u64, choice: Choice) -> Result<Vec<u8>, Fail> {
+        if turn > self.disk.turns() {
+            return Err("a turn that has ended")?;
+        }
+        Ok(self.disk.image(turn, choice)?)
+    }
+}

@@ -1,0 +1,116 @@
+//! The worked checkpoints, and stores that stand at them.
+ghost use Rattle.std.specs.Prelude.{◌≡◌, IsTrue, length};
+
+use crate::checkpoints::{Checkpoint, Object, save_on};
+use crate::requests::Looks;
+use crate::trials::{Trial, store_on};
+use disk_face::Disk;
+use slot_codec::{Header, Kind};
+use std::alloc::Global;
+use std::test::Fail;
+use store_core::Gauge;
+
+/// 100 bytes.
+pub const HUNDRED: &[u8] =
+    b"0123456789012345678901234567890123456789012345678901234567890123456789012345678901234567890123456789";
+
+/// One object of 100 bytes, in class 6, whose buffer has 11 bytes.
+pub const ONE: Checkpoint = Checkpoint {
+    header: Header {
+        kind: Kind::Settled,
+        boundary: 0,
+        sequence: 2,
+        count: 1,
+        wall: 0,
+        slack: 0,
+        caps: [
+            0, 0, 0, 0, 0, 0, 100, 0, 0, 0, 0, 0, 0, 0, 0, 0, 0, 0, 0, 0, 0, 0, 0, 0, 0, 0, 0, 0,
+            0, 0, 0, 0,
+        ],
+        used: [[0; 32]; 32],
+    },
+    objects: &[Object {
+        name: "a",
+        place: 0,
+        bytes: HUNDRED,
+        is_buffered: false,
+    }],
+};
+
+/// The same object, and one of 4 bytes that stands in its buffer.
+pub const TWO: Checkpoint = Checkpoint {
+    header: Header {
+        kind: Kind::Settled,
+        boundary: 0,
+        sequence: 2,
+        count: 2,
+        wall: 0,
+        slack: 0,
+        caps: [
+            0, 0, 0, 0, 0, 0, 100, 0, 0, 0, 0, 0, 0, 0, 0, 0, 0, 0, 0, 0, 0, 0, 0, 0, 0, 0, 0, 0,
+            0, 0, 0, 0,
+        ],
+        used: [
+            NONE, NONE, NONE, NONE, NONE, NONE, FOUR, NONE, NONE, NONE, NONE, NONE, NONE, NONE,
+            NONE, NONE, NONE, NONE, NONE, NONE, NONE, NONE, NONE, NONE, NONE, NONE, NONE, NONE,
+            NONE, NONE, NONE, NONE,
+        ],
+    },
+    objects: &[
+        Object {
+            name: "p",
+            place: 0,
+            bytes: HUNDRED,
+            is_buffered: false,
+        },
+        Object {
+            name: "q",
+            place: 100,
+            bytes: b"wxyz",
+            is_buffered: true,
+        },
+    ],
+};
+
+/// A buffer of which nothing is taken, and one of which 4 bytes of class 2 are.
+const NONE: [u64; 32] = [0; 32];
+
+const FOUR: [u64; 32] = [
+    0, 0, 4, 0, 0, 0, 0, 0, 0, 0, 0, 0, 0, 0, 0, 0, 0, 0, 0, 0, 0, 0, 0, 0, 0, 0, 0, 0, 0, 0, 0, 0,
+];
+
+/// What such a store says of itself before any request: its data part ends with the buffer, at 111. The file
+/// had 19 changing calls.
+pub const UNCHANGED: Looks = Looks {
+    turns: 19,
+    gauge: Gauge {
+        length: 111,
+        sequence: 2,
+    },
+    is_broken: false,
+    asked: NONE,
+    moved: NONE,
+};
+
+/// The store of a file that is formatted and saved once, with one object. The file had 19 changing calls:
+/// 10 to format it, its length, the object, and 7 to save.
+pub fn at_one<D: Disk + Drop>(alloc: Global, disk: D) -> Result<Trial<D>, Fail>
+    requires ready { IsTrue (D.state disk).is_ready }
+    requires tells { IsTrue (D.state disk).tells }
+    requires empty { length (D.state disk).file ≡ 0 }
+{
+    let mut disk = disk;
+    save_on(alloc, &mut disk, 111, &ONE)?;
+    store_on(alloc, disk)
+}
+
+/// The same with two objects, after 20 changing calls.
+pub fn at_two<D: Disk + Drop>(alloc: Global, disk: D) -> Result<Trial<D>, Fail>
+    requires ready { IsTrue (D.state disk).is_ready }
+    requires tells { IsTrue (D.state disk).tells }
+    requires empty { length (D.state disk).file ≡ 0 }
+{
+    let mut disk = disk;
+    save_on(alloc, &mut disk, 111, &TWO)?;
+    store_on(alloc, disk)
+}

@@ -1,0 +1,189 @@
+-- Live bytes of one record more.
+use Rattle.std.specs.Prelude.{◌≡◌, ℕ, zero, suc, ◌+◌, ◌-◌, ◌*◌, ◌^◌, ◌<◌, ◌≤◌, ◌&&◌, Bool, true, false, cond, List, [], ◌∷◌, length, filter, take, sum_by, sum, map, slice_index, slice_index_or, replicate, refl}
+use Rattle.std.proofs.Common.{arith, ap, sym, ◌∙◌, inl, inr, add-zero}
+use Rattle.std.proofs.lemmas.Bool.{cases_Bool, cond-true, cond-false}
+use Rattle.std.proofs.lemmas.List.{get_or-replicate, map-append}
+use Rattle.std.proofs.lemmas.List.Elements.{filter_more}
+use Rattle.std.proofs.lemmas.List.Sums.{sum_by-append, sum_by-cons}
+use Rattle.byte_ranges.specs.Lists.{below, counting_from, sum_below}
+use Rattle.byte_ranges.proofs.ListLaws.{zeros_at}
+use Rattle.size_class.specs.Classes.{width, cell}
+use Rattle.slot_codec.specs.declared.codec.Record.{Record}
+use Rattle.table_rules.specs.Tables.{PlacedTable, is_of, lies_in_buffer, lies_in_payload, no_record, size_sum}
+use Rattle.extent_table.specs.declared.spot.Spot.{Spot}
+use Rattle.table_check.specs.declared.frame.Frame.{Frame}
+use Rattle.table_check.specs.Live.{IsFull, IsLive, at_spot, in_buffer, in_payload}
+use Rattle.table_check.specs.Placed.{framed}
+use Rattle.table_check.proofs.RankLaws.{below_next, counting_more}
+
+-- ---- a sum over the first records, and its bound
+
+pub size_sum_more : (p : Record → Bool) (rs : List Record) (i : ℕ) → i < length rs
+    → size_sum (filter p (take (i + 1) rs))
+    ≡ size_sum (filter p (take i rs)) + cond (p (slice_index_or rs i no_record))
+    (slice_index_or rs i no_record).size 0
+size_sum_more p rs i h =
+    let r = slice_index_or rs i no_record in
+    ap size_sum (filter_more p rs i no_record h)
+    ∙ sum_by-append (λ (r : Record). r.size) (filter p (take i rs)) (cond (p r) (r ∷ []) [])
+    ∙ ap (λ n. size_sum (filter p (take i rs)) + n) (last (p r) r)
+  where
+    last : (b : Bool) (r : Record) → size_sum (cond b (r ∷ []) []) ≡ cond b r.size 0
+    last b r = elim (cases_Bool b) [
+      | inl is ↦ ap (λ (rs : List Record). size_sum rs) (cond-true b (r ∷ []) [] is)
+          ∙ sum_by-cons (λ (r : Record). r.size) r [] ∙ add-zero r.size ∙ sym (cond-true b r.size 0 is)
+      | inr other ↦ ap (λ (rs : List Record). size_sum rs) (cond-false b (r ∷ []) [] other)
+          ∙ sym (cond-false b r.size 0 other)
+    ]
+
+pub sum_below_next : (n : ℕ) (f : ℕ → ℕ) → sum_below (n + 1) f ≡ sum_below n f + f n
+unfolding sum_below
+sum_below_next n f =
+    ap (λ xs. sum (map f xs)) (below_next n)
+    ∙ ap sum (map-append f (below n) (n ∷ []))
+    ∙ sum_by-append (λ x. x) (map f (below n)) (f n ∷ [])
+    ∙ (let e : sum_by (λ (x : ℕ). x) (f n ∷ []) ≡ f n = sum_by-cons (λ (x : ℕ). x) (f n) []
+    ∙ add-zero (f n) in ap (λ x. sum (map f (below n)) + x) e)
+
+pub sum_below_none : (f : ℕ → ℕ) → sum_below 0 f ≡ 0
+unfolding sum_below below
+sum_below_none f = refl
+
+-- sums of small sizes: of at most 65,536 records each sum of sizes is below 2^64
+pub size_sum-small : (p : Record → Bool) (rs : List Record) (i : ℕ) → i ≤ length rs
+    → ((k : ℕ) → k < length rs → (slice_index_or rs k no_record).size < 2 ^ 48)
+    → size_sum (filter p (take i rs)) ≤ i * (2 ^ 48 - 1)
+size_sum-small p rs zero h small = omega arith
+size_sum-small p rs (suc i) h small =
+    let next : suc i ≡ i + 1 = omega arith in
+    let r = slice_index_or rs i no_record in
+    omega (
+      arith,
+      ap (λ n. size_sum (filter p (take n rs))) next,
+      size_sum_more p rs i (omega arith),
+      size_sum-small p rs i (omega arith) small,
+      at_most (p r) r.size,
+      small i (omega arith),
+    )
+  where
+    at_most : (b : Bool) (x : ℕ) → cond b x 0 ≤ x
+    at_most true x = omega arith
+    at_most false x = omega arith
+
+-- ---- a record's bytes in its class
+
+of_empty : (r : Record) (c : ℕ) (b : Bool) → r.size ≡ 0 → cond (is_of c r && b) r.size 0 ≡ 0
+of_empty r c b none = either (is_of c r && b) r.size none
+  where
+    either : (a : Bool) (x : ℕ) → x ≡ 0 → cond a x 0 ≡ 0
+    either true x e = e
+    either false x e = refl
+
+-- the bytes of a record are counted in the buffers before j
+pub record BuffersSoFar (t : PlacedTable) (r : Record) (j : ℕ) (old new : List (List ℕ)) : Type 0 where
+  pub full : IsFull new
+  pub done : (i c : ℕ) → i < j → i < width → c < width
+      → cell new i c ≡ cell old i c + cond (in_buffer t i c r) r.size 0
+  pub rest : (i c : ℕ) → j ≤ i → cell new i c ≡ cell old i c
+
+-- ---- all records
+
+pub live_none : (t : PlacedTable) → IsLive t [] (replicate 32 0) (replicate 32 (replicate 32 0))
+live_none t = record {
+  long = refl;
+  full = (
+    refl,
+    λ j wide. ap (λ (xs : List ℕ). length xs)
+        (get_or-replicate {A = List ℕ} 32 j (replicate 32 0) [] wide),
+  );
+  settled = λ c wide. zeros_at 32 c;
+  buffered = λ j c wide high. ap (λ xs. slice_index xs c)
+      (get_or-replicate {A = List ℕ} 32 j (replicate 32 0) [] wide) ∙ zeros_at 32 c;
+}
+
+module _ (t : PlacedTable) (rs : List Record) (n : ℕ) (low : n < length rs) (payload : List ℕ)
+    (buffers : List (List ℕ)) (live : IsLive t (take n rs) payload buffers) where
+  pub payload_small : (few : length rs ≤ 65536)
+      → ((k : ℕ) → k < length rs → (slice_index_or rs k no_record).size < 2 ^ 48)
+      → (c : ℕ) → c < width → slice_index payload c ≤ 65535 * (2 ^ 48 - 1)
+  payload_small few small c wide =
+      omega (arith, live.settled c wide, size_sum-small (in_payload t c) rs n (omega arith) small)
+
+  pub buffers_small : (few : length rs ≤ 65536)
+      → ((k : ℕ) → k < length rs → (slice_index_or rs k no_record).size < 2 ^ 48)
+      → (j c : ℕ) → j < width → c < width → cell buffers j c ≤ 65535 * (2 ^ 48 - 1)
+  buffers_small few small j c wide high =
+      omega (arith, live.buffered j c wide high, size_sum-small (in_buffer t j c) rs n (omega arith) small)
+
+  pub live_more : (more : List ℕ) (after : List (List ℕ)) → length more ≡ width → IsFull after
+      → ((c : ℕ) → c < width → slice_index more c ≡ slice_index payload c
+      + cond (in_payload t c (slice_index_or rs n no_record)) (slice_index_or rs n no_record).size 0)
+      → ((j c : ℕ) → j < width → c < width → cell after j c ≡ cell buffers j c
+      + cond (in_buffer t j c (slice_index_or rs n no_record)) (slice_index_or rs n no_record).size 0)
+      → IsLive t (take (n + 1) rs) more after
+  live_more more after long full in_row in_rows = record {
+    long = long;
+    full = full;
+    settled = λ c wide. omega (
+      arith,
+      in_row c wide,
+      live.settled c wide,
+      size_sum_more (in_payload t c) rs n low,
+    );
+    buffered = λ j c wide high. omega (
+      arith,
+      in_rows j c wide high,
+      live.buffered j c wide high,
+      size_sum_more (in_buffer t j c) rs n low,
+    );
+  }
+
+  pub live_empty : (slice_index_or rs n no_record).size ≡ 0 → IsLive t (take (n + 1) rs) payload buffers
+  live_empty none =
+      let r = slice_index_or rs n no_record in
+      live_more payload buffers live.long live.full
+      (λ c wide. omega (arith, of_empty r c (lies_in_payload t c r) none))
+      (λ j c wide high. omega (arith, of_empty r c (lies_in_buffer t j r) none))
+
+-- what a spot adds is what its record does
+module _ (f : Frame) (rs : List Record) (s : Spot) (r : Record) (place : s.place ≡ r.place)
+    (size : s.size ≡ r.size) where
+  pub same_payload : (c : ℕ) → cond (in_payload (framed f []) c (at_spot s)) s.size 0
+      ≡ cond (in_payload (framed f rs) c r) r.size 0
+  same_payload c = λ i. cond (in_payload (framed f []) c
+      (at_spot (record { place = place i; size = size i }))) (size i) 0
+
+  pub same_buffer : (j c : ℕ) → cond (in_buffer (framed f []) j c (at_spot s)) s.size 0
+      ≡ cond (in_buffer (framed f rs) j c r) r.size 0
+  same_buffer j c = λ i. cond (in_buffer (framed f []) j c
+      (at_spot (record { place = place i; size = size i }))) (size i) 0
+
+-- ---- the bytes of each class
+
+-- the volumes of these records
+pub record VolumesSoFar (rs : List Record) (volumes : List ℕ) : Type 0 where
+  pub long : length volumes ≡ width
+  pub each : (c : ℕ) → c < width → slice_index volumes c ≡ size_sum (filter (λ r. is_of c r) rs)
+
+pub volumes_none : VolumesSoFar [] (replicate 32 0)
+volumes_none = record { long = refl; each = λ c wide. zeros_at 32 c }
+
+module _ (rs : List Record) (n : ℕ) (low : n < length rs) (volumes : List ℕ)
+    (so_far : VolumesSoFar (take n rs) volumes) where
+  pub volumes_small : length rs ≤ 65536
+      → ((k : ℕ) → k < length rs → (slice_index_or rs k no_record).size < 2 ^ 48)
+      → (c : ℕ) → c < width → slice_index volumes c ≤ 65535 * (2 ^ 48 - 1)
+  volumes_small few small c wide =
+      omega (arith, so_far.each c wide, size_sum-small (λ r. is_of c r) rs n (omega arith) small)
+
+-- a sum over the classes from a boundary on, with one class more
+pub from_next : (f : ℕ → ℕ) (b c : ℕ) → b ≤ c
+    → sum_by f (counting_from b (c + 1 - b)) ≡ sum_by f (counting_from b (c - b)) + f c
+from_next f b c h =
+    let one : c + 1 - b ≡ c - b + 1 = omega arith in
+    let at : b + (c - b) ≡ c = omega arith in
+    ap (λ n. sum_by f (counting_from b n)) one
+    ∙ ap (sum_by f) (counting_more b (c - b))
+    ∙ sum_by-append f (counting_from b (c - b)) ((b + (c - b)) ∷ [])
+    ∙ (let e : sum_by f ((b + (c - b)) ∷ []) ≡ f c = sum_by-cons f (b + (c - b)) []
+    ∙ add-zero (f (b + (c - b))) ∙ ap f at in ap (λ x. sum_by f (counting_from b (c - b)) + x) e)

@@ -1,0 +1,50 @@
+//! The records of a table by rank.
+ghost use Rattle.std.specs.Prelude.{◌≡◌, ◌<◌, ◌≤◌, ◌^◌, length};
+ghost use Rattle.size_class.specs.Classes.{class_of};
+ghost use Rattle.extent_table.specs.Extents.{IsTable, records_of};
+ghost use Rattle.table_check.specs.Placed.{ranked};
+
+use extent_table::{Spot, Table};
+use slot_codec::Roll;
+
+/// How many records there are, at most 65,536.
+pub(crate) fn count(table: &Table) -> u64
+    ensures value { result ≡ length (records_of table.now.now) }
+    ensures few { result ≤ 65536 }
+    ensures table { IsTable table.now }
+{
+    let _live = Table::count(table);
+    Roll::count(table)
+}
+
+/// Where the object of a rank by name stands; behind the last one, no bytes at place 0.
+pub(crate) fn spot_at(table: &Table, rank: u64) -> Spot
+    ensures place { result.place ≡ (ranked table.now rank).place }
+    ensures size { result.size ≡ (ranked table.now rank).size }
+    ensures low { result.place < 2 ^ 48 }
+    ensures small { result.size < 2 ^ 48 }
+{
+    if rank < count(table) {
+        let record = Roll::nth(table, rank);
+        Spot {
+            place: record.place,
+            size: record.size,
+        }
+    } else {
+        Spot { place: 0, size: 0 }
+    }
+}
+
+/// The class of a size: of no bytes 0, and the last one from 2^31 bytes on.
+pub(crate) fn class_at(size: u64) -> u8
+    ensures same { result ≡ class_of size }
+    ensures small { result < 32 }
+{
+    if size == 0 {
+        0
+    } else if size <= 1 << 31 {
+        size_class::class_of(size)
+    } else {
+        31
+    }
+}
