@@ -36,8 +36,7 @@ use Rattle.flush_plan.specs.declared.item.Numbers.{Numbers}
 use Rattle.flush_plan.specs.Phases.{phase_of}
 use Rattle.flush_plan.specs.Plans.{numbers_of}
 use Rattle.flush_run.specs.Flights.{Flight, IsFreeSpace}
-use Rattle.flush_run.specs.Hands.{IsHandsFor, suffix_items}
-use Rattle.flush_run.specs.Lifts.{AllEndBy}
+use Rattle.flush_run.specs.Hands.{AllEndBy, IsHandsFor, suffix_items}
 use Rattle.flush_start.specs.Gathering.{is_from, item_at}
 use Rattle.flush_start.specs.Starts.{CanStart, IsWith}
 use Rattle.flush_start.proofs.ReachLaws.{all_end, kept_end, reach_low, reach_past_wall, wall_past_end}

@@ -29,10 +29,10 @@ use Rattle.flush_plan.specs.Begins.{Begins}
 use Rattle.flush_plan.specs.Phases.{phase_of}
 use Rattle.flush_plan.specs.Plans.{numbers_of}
 use Rattle.flush_run.specs.Flights.{Flight, IsFreeSpace}
-use Rattle.flush_run.specs.Hands.{IsHandsFor, suffix_items}
-use Rattle.flush_run.specs.Lifts.{AllEndBy, LiftNow}
+use Rattle.flush_run.specs.Hands.{AllEndBy, IsHandsFor, suffix_items}
 use Rattle.flush_start.specs.Charging.{between, new_charged}
 use Rattle.flush_start.specs.Gathering.{item_at}
+use Rattle.flush_start.specs.Lifting.{BeginsLift}
 use Rattle.flush_start.specs.Starts.{CanStart, IsLoud, IsWith, IsWithout, WasBefore}
 use Rattle.flush_start.proofs.CanFlushLaws.{begins_pending}
 use Rattle.flush_start.proofs.ChargedLaws.{class_low, new_some}
@@ -40,7 +40,8 @@ use Rattle.flush_start.proofs.GoneAboveLaws.{left_over}
 use Rattle.flush_start.proofs.HandsLaws.{hands_alone, hands_pending, pending_free}
 use Rattle.flush_start.proofs.NextBookLaws.{begun, book_begun, buffered_pending, buffered_placed, buffered_removed, names}
 use Rattle.flush_start.proofs.ReachLaws.{kept_end, reach_past_wall, wall_past_end}
-use Rattle.flush_start.proofs.SizedLaws.{IsSizedBy, sized_gone, sized_put}
+use Rattle.flush_start.specs.Sized.{IsSizedBy}
+use Rattle.flush_start.proofs.SizedLaws.{sized_gone, sized_put}
 use Rattle.flush_start.proofs.SuffixLaws.{few_items}
 use Rattle.flush_start.proofs.StartLaws.{after_gone, after_missed, new_high, placed_apart_kept, placed_apart_now, placed_within, started_with, started_without}
 
@@ -82,7 +83,7 @@ module _ (f : Flight) (caps : List ℕ) (grid kept_grid : List (List ℕ)) (u : 
 
       pub removed_lifts : (m : Map) → IsSizedBy m e.now
           → (next_book k m before (record { name = name; object = None })).book ≡ f.new_book
-          → LiftNow f caps after (end_of k caps) u gone freed (phase_of k caps (numbers gone 0) 0 all room)
+          → BeginsLift f caps after u gone freed (phase_of k caps (numbers gone 0) 0 all room)
       removed_lifts m sized book = record {
         hands = removed_hands;
         low = kept_end f.classes f.size_max caps after kept_grid b u gone freed removed_starts;
@@ -179,7 +180,7 @@ module _ (f : Flight) (caps : List ℕ) (grid kept_grid : List (List ℕ)) (u : 
         placed_hands = hands_alone f caps after kept_grid b u put freed placed_starts base reach all room perm
 
         pub placed_lifts : (m : Map) → IsSizedBy m e.now → IsNext m
-            → LiftNow f caps after (end_of k caps) u put freed (phase_of k caps (numbers put 0) 0 all room)
+            → BeginsLift f caps after u put freed (phase_of k caps (numbers put 0) 0 all room)
         placed_lifts m sized book = record {
           hands = placed_hands;
           low = kept_end f.classes f.size_max caps after kept_grid b u put freed placed_starts;
@@ -261,7 +262,7 @@ module _ (f : Flight) (caps : List ℕ) (grid kept_grid : List (List ℕ)) (u : 
                 perm
 
             pub pending_lifts : (m : Map) → IsSizedBy m e.now → IsNext m
-                → LiftNow f caps after (end_of k caps) u put freed
+                → BeginsLift f caps after u put freed
                 (phase_of k caps (numbers gone size) size all room)
             pending_lifts m sized book = record {
               hands = pending_hands;

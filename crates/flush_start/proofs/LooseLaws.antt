@@ -46,7 +46,8 @@ use Rattle.flush_start.proofs.CanFlushLaws.{begins_alone, can_flush}
 use Rattle.flush_start.proofs.ChargedLaws.{gone_some, new_some, one_missed}
 use Rattle.flush_start.proofs.LiftStartLaws.{pending_begins, pending_hands, pending_starts, placed_hands, placed_starts, removed_hands, removed_starts}
 use Rattle.flush_start.proofs.NextBookLaws.{next_is}
-use Rattle.flush_start.proofs.SizedLaws.{IsSizedBy, object_size, sized_gone, sized_has, sized_put, sized_volume, sized_volumes}
+use Rattle.flush_start.specs.Sized.{IsSizedBy, object_size}
+use Rattle.flush_start.proofs.SizedLaws.{sized_gone, sized_has, sized_put, sized_volume, sized_volumes}
 use Rattle.flush_start.proofs.SuffixLaws.{has_item}
 
 -- the items have at most the bytes of all live objects

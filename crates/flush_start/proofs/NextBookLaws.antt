@@ -34,7 +34,8 @@ use Rattle.flush_start.proofs.HandsLaws.{begun_header}
 use Rattle.flush_start.specs.Charging.{between, charged_by, gone_charged, new_charged}
 use Rattle.flush_start.specs.Starts.{IsLoud, WasBefore}
 use Rattle.flush_start.proofs.EndLaws.{blank, in_blank}
-use Rattle.flush_start.proofs.SizedLaws.{IsSizedBy, object_size, sized_has, sized_read, sized_volumes}
+use Rattle.flush_start.specs.Sized.{IsSizedBy, object_size}
+use Rattle.flush_start.proofs.SizedLaws.{sized_has, sized_read, sized_volumes}
 
 -- what an object of a size charges
 item_is : (o : Option (List ℕ)) → item_of o ≡ some_size (object_size o)

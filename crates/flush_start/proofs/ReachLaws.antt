@@ -28,8 +28,7 @@ use Rattle.flush_plan.proofs.ItemLaws.{total_is}
 use Rattle.flush_plan.proofs.LargestLaws.{largest-le}
 use Rattle.flush_plan.proofs.ListLaws.{cond_at_most}
 use Rattle.flush_plan.proofs.NumbersLaws.{reach_is, wall_over_old_end}
-use Rattle.flush_run.specs.Hands.{suffix_items}
-use Rattle.flush_run.specs.Lifts.{AllEndBy}
+use Rattle.flush_run.specs.Hands.{AllEndBy, suffix_items}
 use Rattle.flush_start.specs.Starts.{CanStart}
 use Rattle.flush_start.proofs.CanFlushLaws.{can_flush}
 use Rattle.flush_start.proofs.EndLaws.{end_small}

@@ -17,19 +17,10 @@ use Rattle.table_rules.specs.Tables.{sizes}
 use Rattle.extent_table.specs.declared.spot.Spot.{Spot}
 use Rattle.extent_table.specs.Extents.{Spots, record_of, records_of, volume_of}
 use Rattle.extent_table.proofs.ExtentLaws.{records_of-all}
+use Rattle.flush_start.specs.Sized.{IsSizedBy}
 use Rattle.spot_terms.specs.Buffered.{HasSizes}
 use Rattle.spot_terms.specs.Reads.{AreNamed, EndWithin, object_at, read_at}
 use Rattle.spot_terms.proofs.ReadLaws.{get-read_at}
-
--- A map has the same names as spots, and under each an object of the size that its spot says.
-abbrev pub IsSizedBy : Map → Spots → Type 0
-IsSizedBy m spots = (q : List ℕ) → option_map length (fin.get m q)
-    ≡ option_map (λ (s : Spot). s.size) (fin.get spots q)
-
--- the size of a new object, or 0 where there is none
-abbrev pub object_size : Option (List ℕ) → ℕ
-object_size None = 0
-object_size (Some object) = length object
 
 -- ---- the entries with their values' images
 

@@ -20,3 +20,5 @@ pub mod HeaderLaws
 pub mod KeepLaws
 pub mod KeepEffectLaws
 pub mod FlushedLaws
+pub mod BeginLaws
+pub mod BegunLaws

@@ -11,3 +11,4 @@ pub mod Keeps
 pub mod Flushed
 pub mod Reads
 pub mod Lines
+pub mod Flushing

@@ -3,6 +3,7 @@
 #![tactic(auto)]
 
 mod answers;
+mod begin;
 mod charges;
 mod copy;
 mod held;

@@ -1,0 +1,143 @@
+-- What a flush begins with, once its change is made in the table and the layout, and what it is to leave.
+use Rattle.std.specs.Prelude.{◌≡◌, ℕ, ◌+◌, ◌^◌, ◌<◌, ◌≤◌, Bool, true, false, List, ◌∷◌, [], ◌++◌, fold, length, Option, Some, None, IsPermutation}
+use Rattle.std.specs.FinMap as fin
+use Rattle.size_class.specs.declared.TheConstants.{SIZE_MAX}
+use Rattle.slot_codec.specs.Choice as choice
+use Rattle.slot_codec.specs.Spelling.{head_len}
+use Rattle.span_math.specs.declared.span.Span.{Span}
+use Rattle.store_terms.specs.Maps.{Map}
+use Rattle.store_terms.specs.Requests.{Change, changed}
+use Rattle.segment_layout.specs.Balance.{IsBalanced}
+use Rattle.segment_layout.specs.Books.{Book, is_quiet, new_item, next_book}
+use Rattle.segment_layout.specs.Bounds.{Loose}
+use Rattle.segment_layout.specs.Shapes.{end_of, is_boundary}
+use Rattle.extent_table.specs.declared.spot.Spot.{Spot}
+use Rattle.extent_table.specs.Extents.{Extents, IsTable, Spots}
+use Rattle.spot_terms.specs.Held.{FreesSpot}
+use Rattle.spot_terms.specs.LaidOut.{shown_book}
+use Rattle.flush_plan.specs.declared.item.Item.{Item}
+use Rattle.flush_plan.specs.declared.item.Numbers.{Numbers}
+use Rattle.flush_plan.specs.Phases.{Phase, phase_of}
+use Rattle.flush_plan.specs.Plans.{numbers_of}
+use Rattle.flush_run.specs.Flights.{Flight, IsFreeSpace}
+use Rattle.flush_run.specs.Hands.{suffix_items}
+use Rattle.flush_run.specs.Parts.{Parts}
+use Rattle.flush_start.specs.Charging.{charged_by}
+use Rattle.flush_start.specs.Gathering.{item_at}
+use Rattle.flush_start.specs.Lifting.{BeginsLift}
+use Rattle.flush_start.specs.Sized.{IsSizedBy, object_size}
+use Rattle.flush_start.specs.Starts.{CanStart, IsWith, IsWithout, WasBefore}
+use Rattle.store_core.specs.Quiet.{added, sizes_at}
+
+-- ---- before the change
+
+-- The parts before a change: the layout holds what stands and what was kept, with the grid of the checkpoint.
+pub record MayBegin (classes : ℕ) (kept_grid : List (List ℕ)) (x : Parts) : Type 0 where
+  pub before : WasBefore classes SIZE_MAX x.caps x.grid kept_grid x.in_use x.table x.spans
+  pub base : x.base ≡ head_len x.in_use.block.names
+  pub room : x.room ≡ x.in_use.block.names
+  pub divisor : x.divisor ≡ x.in_use.block.k
+
+-- a charge of the change finds no room
+abbrev pub IsLoudAt : Parts → List ℕ → ℕ → Type 0
+IsLoudAt x name size =
+    is_quiet (charged_by x.divisor x.caps x.grid (fin.get x.table.now name) size) ≡ false
+
+-- ---- the steps of the change
+
+-- A name was taken out: the guard and the bytes asked for know of it.
+pub record TakesOut (name : List ℕ) (x0 x : Parts) : Type 0 where
+  pub without : IsWithout name x0.table x.table
+  pub frees : FreesSpot (fin.get x0.table.now name) (fin.get x0.table.kept name) x0.spans x.spans
+  pub asked : x.asked ≡ fold added x0.asked (sizes_at (fin.get x0.table.now name))
+  pub rest : x ≡ record x0 { table = x.table; spans = x.spans; asked = x.asked }
+
+-- A flush of the objects of a table from class b on may begin, in a layout, for some slot and some held space.
+pub record CanStartAt (classes b k : ℕ) (caps : List ℕ) (grid : List (List ℕ)) (e : Extents) : Type 0 where
+  pub kept_grid : List (List ℕ)
+  pub u : choice.InUse
+  pub spans : List Span
+  pub start : CanStart classes SIZE_MAX caps grid kept_grid b u e spans
+  pub divisor : k ≡ u.block.k
+
+-- Lifting begins with the items of a table, and nothing pending.
+pub record IsStarted (b k : ℕ) (caps : List ℕ) (e : Extents) (p : Phase) (capacity : ℕ) : Type 0 where
+  pub value : p ≡ phase_of k caps (numbers_of k caps b (suffix_items b e) 0) 0 p.items capacity
+  pub items : IsPermutation (suffix_items b e) p.items
+
+-- An object that found room was set, and lifting begins.
+pub record StartsPlaced (b : ℕ) (name : List ℕ) (spot : Spot) (x0 x : Parts) (p : Phase) (capacity : ℕ) : Type 0
+  where
+    pub key : ℕ
+    pub joins : IsWith name spot key x0.table x.table
+    pub rest : x ≡ record x0 { table = x.table }
+    pub started : IsStarted b x0.divisor x0.caps x.table p capacity
+
+-- An object that waits was set behind the room for what is lifted, and lifting begins.
+pub record StartsWaiting (b : ℕ) (name : List ℕ) (size place : ℕ) (x0 x : Parts) (p : Phase) (capacity : ℕ)
+    : Type 0 where
+  pub key : ℕ
+  pub joins : IsWith name (record { place = place; size = size }) key x0.table x.table
+  pub rest : x ≡ record x0 { table = x.table }
+  pub value : p ≡ phase_of x0.divisor x0.caps (numbers_of x0.divisor x0.caps b (suffix_items b x0.table) size)
+      size p.items capacity
+  pub ends : place + size ≡ p.numbers.reach
+  pub items : IsPermutation (suffix_items b x0.table ++ item_at key (record { place = place; size = size }) ∷ [])
+      p.items
+
+-- ---- after the change
+
+-- What is known of the disk as a change begins: what the file gives where the objects stand, what the last
+-- checkpoint gives, the book of that, and whether the disk rested on its table.
+pub record Setting : Type 0 where
+  pub map : Map
+  pub kept_map : Map
+  pub kept_book : Book
+  pub is_at_rest : Bool
+
+-- the book before the change
+abbrev pub book_before : ℕ → Parts → Book
+book_before classes x = shown_book classes SIZE_MAX x.in_use.block.k x.caps x.grid x.table.now
+
+-- What stays the same in the flush of a change: it goes from the last checkpoint to what the change makes.
+abbrev pub flight_of : ℕ → Parts → Change → ℕ → Setting → Flight
+flight_of classes x c reach g = record {
+  classes = classes;
+  size_max = SIZE_MAX;
+  base = x.base;
+  reach = reach;
+  is_fresh = true;
+  is_at_rest = g.is_at_rest;
+  old_map = g.kept_map;
+  old_book = g.kept_book;
+  new_map = changed c g.map;
+  new_book = (next_book x.in_use.block.k g.map (book_before classes x) c).book;
+}
+
+-- the places after a change, with a new object at its place
+abbrev pub spots_after : Change → Spots → ℕ → Spots
+spots_after c spots place = of c.object
+  where
+    of : Option (List ℕ) → Spots
+    of None = fin.remove spots c.name
+    of (Some object) = fin.insert spots c.name (record { place = place; size = length object })
+
+-- The change was made in the table and the layout, and lifting may begin: the new object's bytes are to be
+-- written at a place that is free.
+pub record IsBegun (classes : ℕ) (x0 : Parts) (c : Change) (x : Parts) (p : Phase) (place : ℕ) : Type 0 where
+  pub lifts : (g : Setting) → IsSizedBy g.map x0.table.now
+      → BeginsLift (flight_of classes x0 c p.numbers.reach g) x.caps x.grid x.in_use x.table x.spans p
+  pub loose : (m : Map) → IsSizedBy m x0.table.now → IsBalanced x0.in_use.block.k m (book_before classes x0)
+      → Loose x0.in_use.block.k p.numbers.reach m (changed c m)
+  pub now : x.table.now ≡ spots_after c x0.table.now place
+  pub free : IsFreeSpace (fin.remove x0.table.now c.name) x0.table.kept place (object_size c.object)
+  pub within : place + object_size c.object ≤ p.numbers.reach
+  pub longer : end_of x0.in_use.block.k x0.caps ≤ p.numbers.reach
+  pub low : p.numbers.reach < 2 ^ 48
+  pub whole : is_boundary x.grid p.numbers.boundary ≡ true
+  pub divisor : x.divisor ≡ p.k
+  pub asked : x.asked ≡ fold added x0.asked (sizes_at (fin.get x0.table.now c.name) ++ new_item c)
+  pub kept : x.table.kept ≡ x0.table.kept
+  pub table : IsTable x.table
+  pub names : x.table.names ≡ x0.table.names
+  pub rest : x ≡ record x0 { table = x.table; grid = x.grid; spans = x.spans; asked = x.asked }

@@ -1,0 +1,178 @@
+//! What a change does in the table and the layout before its flush. The disk has no part in it.
+ghost use Rattle.std.specs.Prelude.{◌≡◌, ◌⊎◌, ◌+◌, ◌<◌, ◌≤◌, ◌^◌, ℕ, List, [], ◌∷◌, ◌++◌, IfSome, IsSome, None, length, vec_capacity};
+ghost use Rattle.std.specs.FinMap as fin;
+ghost use Rattle.size_class.specs.Classes.{class_of as class_of_size};
+ghost use Rattle.slot_codec.specs.Names.{IsName};
+ghost use Rattle.segment_layout.specs.Layouts.{caps_of, divisor_of, grid_of};
+ghost use Rattle.extent_table.specs.Extents.{Extents};
+ghost use Rattle.flush_run.specs.Parts.{parts_of};
+ghost use Rattle.flush_start.specs.Starts.{IsWith};
+ghost use Rattle.store_core.specs.Flushing.{CanStartAt, IsBegun, IsLoudAt, IsStarted, MayBegin, StartsPlaced, StartsWaiting, TakesOut};
+ghost use Rattle.store_core.specs.Quiet.{del_of, put_of};
+
+use crate::held::{add_gone, add_size, free_spot};
+use extent_table::{Spot, Table};
+use flush_plan::{Item, Lifting, numbers};
+use flush_run::Hands;
+use flush_start::{charge_change, gather};
+use segment_layout::Layout;
+use size_class::{SIZE_MAX, class_of};
+use slot_codec::Name;
+
+/// A flush that begins: its moves, and the place at which the new object is to be written.
+#[derive(Drop)]
+pub(crate) struct Begun<const C: usize> {
+    pub(crate) phase: Lifting<C>,
+    pub(crate) place: u64,
+}
+
+/// Makes a put that isn't quiet in the table and the layout. A new object that found no room stands
+/// where the flush reaches to.
+pub(crate) fn begin_put<const C: usize>(
+    hands: &mut Hands<C>,
+    list: Vec<Item>,
+    name: &Name,
+    bytes: &[u8],
+) -> Begun<C>
+    requires fits { C ≤ 32 }
+    requires wide { SIZE_MAX < 2 ^ C }
+    requires named { IsName name.now }
+    requires small { length bytes.now ≤ SIZE_MAX }
+    requires room { IsSome (fin.get hands.old.table.now name.now)
+        ⊎ (fin.len hands.old.table.now < hands.old.table.names) }
+    requires empty { list.items ≡ [] }
+    requires list_room { hands.old.table.names ≤ vec_capacity list }
+    requires before { (kept_grid : List (List ℕ)) × MayBegin C kept_grid (parts_of hands.old) }
+    requires loud { IsLoudAt (parts_of hands.old) name.now (length bytes.now) }
+    ensures begun { IsBegun C (parts_of hands.old) (put_of name.now bytes.now) (parts_of hands.new)
+        result.phase result.place }
+    ensures room { result.phase.room ≡ vec_capacity list }
+{
+    let size = bytes.len() as u64;
+    let old = hands.table.get(name);
+    take_out(hands, name);
+    add_size(&mut hands.ledger, size);
+    let outcome = charge_change(&mut hands.layout, old, size);
+    let boundary = hands.layout.boundary(outcome.class);
+    match outcome.place {
+        Some(place) => start_placed(hands, list, name, boundary, Spot { place, size }),
+        None => start_waiting(hands, list, name, boundary, size),
+    }
+}
+
+/// Makes a removal that isn't quiet in the table and the layout.
+pub(crate) fn begin_del<const C: usize>(
+    hands: &mut Hands<C>,
+    list: Vec<Item>,
+    name: &Name,
+) -> Begun<C>
+    requires fits { C ≤ 32 }
+    requires wide { SIZE_MAX < 2 ^ C }
+    requires empty { list.items ≡ [] }
+    requires list_room { hands.old.table.names ≤ vec_capacity list }
+    requires before { (kept_grid : List (List ℕ)) × MayBegin C kept_grid (parts_of hands.old) }
+    requires loud { IsLoudAt (parts_of hands.old) name.now 0 }
+    ensures begun { IsBegun C (parts_of hands.old) (del_of name.now) (parts_of hands.new) result.phase
+        result.place }
+    ensures room { result.phase.room ≡ vec_capacity list }
+{
+    let old = hands.table.get(name);
+    take_out(hands, name);
+    let outcome = charge_change(&mut hands.layout, old, 0);
+    let boundary = hands.layout.boundary(outcome.class);
+    Begun {
+        phase: start_lifting(&hands.table, &hands.layout, list, boundary),
+        place: 0,
+    }
+}
+
+/// Takes a name out of the table, and tells the guard and the ledger.
+fn take_out<const C: usize>(hands: &mut Hands<C>, name: &Name)
+    requires fits { C ≤ 32 }
+    requires wide { SIZE_MAX < 2 ^ C }
+    requires before { (kept_grid : List (List ℕ)) × MayBegin C kept_grid (parts_of hands.old) }
+    ensures { TakesOut name.now (parts_of hands.old) (parts_of hands.new) }
+{
+    let old = hands.table.get(name);
+    free_spot(&mut hands.guard, old, hands.table.old(name));
+    add_gone(&mut hands.ledger, old);
+    hands.table.remove(name);
+}
+
+/// Sets a new object that found room, and begins a flush with nothing pending.
+fn start_placed<const C: usize>(
+    hands: &mut Hands<C>,
+    list: Vec<Item>,
+    name: &Name,
+    b: u8,
+    spot: Spot,
+) -> Begun<C>
+    requires fits { C ≤ 32 }
+    requires room { fin.len hands.old.table.now < hands.old.table.names }
+    requires low { spot.place + spot.size < 2 ^ 48 }
+    requires empty { list.items ≡ [] }
+    requires list_room { hands.old.table.names ≤ vec_capacity list }
+    requires start { (key : ℕ) (put : Extents) → IsWith name.now spot key hands.old.table put
+        → CanStartAt C b (divisor_of hands.old.layout) (caps_of hands.old.layout) (grid_of hands.old.layout)
+        put }
+    ensures starts { StartsPlaced b name.now spot (parts_of hands.old) (parts_of hands.new) result.phase
+        (vec_capacity list) }
+    ensures place { result.place ≡ spot.place }
+{
+    hands.table.set(name, spot);
+    Begun {
+        phase: start_lifting(&hands.table, &hands.layout, list, b),
+        place: spot.place,
+    }
+}
+
+/// Begins a flush of the objects of a table from class `b` on, with nothing pending.
+fn start_lifting<const C: usize>(table: &Table, layout: &Layout<C>, list: Vec<Item>, b: u8) -> Lifting<C>
+    requires fits { C ≤ 32 }
+    requires empty { list.items ≡ [] }
+    requires list_room { table.now.names ≤ vec_capacity list }
+    requires start { CanStartAt C b (divisor_of layout.now) (caps_of layout.now) (grid_of layout.now) table.now }
+    ensures { IsStarted b (divisor_of layout.now) (caps_of layout.now) table.now result (vec_capacity list) }
+{
+    let items = gather(table, b, list);
+    let found = numbers(layout, b, &items, 0);
+    Lifting::new(layout, found, items, None)
+}
+
+/// Sets a new object that found no room where the flush reaches to, and begins a flush with it pending.
+fn start_waiting<const C: usize>(
+    hands: &mut Hands<C>,
+    list: Vec<Item>,
+    name: &Name,
+    b: u8,
+    size: u64,
+) -> Begun<C>
+    requires fits { C ≤ 32 }
+    requires wide { SIZE_MAX < 2 ^ C }
+    requires some { 1 ≤ size }
+    requires small { size ≤ SIZE_MAX }
+    requires high { b ≤ class_of_size size }
+    requires new { fin.get hands.old.table.now name.now ≡ None }
+    requires room { fin.len hands.old.table.now < hands.old.table.names }
+    requires empty { list.items ≡ [] }
+    requires list_room { hands.old.table.names ≤ vec_capacity list }
+    requires start { CanStartAt C b (divisor_of hands.old.layout) (caps_of hands.old.layout)
+        (grid_of hands.old.layout) hands.old.table }
+    ensures starts { StartsWaiting b name.now size result.place (parts_of hands.old) (parts_of hands.new)
+        result.phase (vec_capacity list) }
+{
+    let items = gather(&hands.table, b, list);
+    let found = numbers(&hands.layout, b, &items, size);
+    let place = found.reach - size;
+    let key = hands.table.set(name, Spot { place, size });
+    let pending = Item {
+        key,
+        class: class_of(size),
+        place,
+        size,
+    };
+    Begun {
+        phase: Lifting::new(&hands.layout, found, items, Some(pending)),
+        place,
+    }
+}
