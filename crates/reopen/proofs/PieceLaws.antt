@@ -1,10 +1,10 @@
 -- Records that are read from a disk in pieces.
-use Rattle.std.specs.Prelude.{◌≡◌, refl, ℕ, ◌+◌, ◌-◌, ◌*◌, ◌<◌, ◌≤◌, List, ◌++◌, Option, None, Ok, IsTrue}
+use Rattle.std.specs.Prelude.{◌≡◌, refl, ℕ, ◌+◌, ◌-◌, ◌*◌, ◌≤◌, List, ◌++◌, Option, None, Ok, IsTrue}
 use Rattle.std.specs.FinMap as fin
 use Rattle.std.proofs.Common.{arith, ap, ◌∙◌, sym, subst}
 use Rattle.byte_ranges.specs.Ranges.{bytes_at}
 use Rattle.byte_ranges.proofs.RangeLaws.{bytes_at-append}
-use Rattle.disk_face.specs.Frames.{Stays, Unchanged}
+use Rattle.disk_face.specs.Frames.{Unchanged}
 use Rattle.disk_face.specs.States.{State}
 use Rattle.disk_face.proofs.FrameLaws.{Unchanged-trans}
 use Rattle.disk_face.proofs.MomentLaws.{Leaves-none}

@@ -1,5 +1,5 @@
 -- One record more is read and set.
-use Rattle.std.specs.Prelude.{◌≡◌, refl, ℕ, suc, ◌+◌, ◌-◌, ◌*◌, ◌<◌, ◌≤◌, true, not, if◌then◌else◌, List, [], ◌∷◌, ◌++◌, length, take, drop, Option, Some, None, Result, Ok, Err}
+use Rattle.std.specs.Prelude.{◌≡◌, refl, ℕ, suc, ◌+◌, ◌-◌, ◌*◌, ◌<◌, ◌≤◌, true, not, if◌then◌else◌, List, [], ◌∷◌, ◌++◌, length, take, drop, Option, Some, Result, Ok, Err}
 use Rattle.std.specs.FinMap as fin
 use Rattle.std.proofs.Common.{arith, ap, ◌∙◌, sym, subst, length-append}
 use Rattle.std.proofs.lemmas.Bool.{not-false}
@@ -10,12 +10,11 @@ use Rattle.slot_codec.specs.Choice as choice
 use Rattle.slot_codec.specs.Choice.{SlotRefusal, first_record, placed_at, read_records, record_after, rises}
 use Rattle.slot_codec.specs.Names.{IsName}
 use Rattle.slot_codec.specs.Reading.{read_record}
-use Rattle.slot_codec.proofs.StepLaws.{bind_from, bind_ok, from_ok, guard_ok}
+use Rattle.slot_codec.proofs.StepLaws.{bind_ok, from_ok, guard_ok}
 use Rattle.slot_codec.specs.declared.codec.Record.{Record}
 use Rattle.slot_codec.specs.declared.codec.CodecFault.{CodecFault}
 use Rattle.slot_codec.specs.declared.codec.CodecFault.TheVariants as codec
 use Rattle.slot_pair.specs.Finding.{Refuses}
-use Rattle.slot_pair.specs.declared.find.SlotFault.{SlotFault}
 use Rattle.slot_pair.specs.declared.find.SlotFault.TheVariants as fault
 use Rattle.extent_table.specs.Extents.{Extents, Spots, records_of}
 use Rattle.spot_terms.specs.Orders.{SetSoFar, spot_of}

@@ -1,6 +1,6 @@
 -- Refusals that go on, and those of a part of a file.
-use Rattle.std.specs.Prelude.{◌≡◌, List, ℕ, Result, Ok, Err, IfErr, OnOk}
-use Rattle.std.proofs.Common.{ap, subst, sym}
+use Rattle.std.specs.Prelude.{Result, Ok, Err, IfErr}
+use Rattle.std.proofs.Common.{ap}
 use Rattle.byte_ranges.specs.Lists.{◌>>=◌}
 use Rattle.slot_codec.specs.Choice.{SlotRefusal}
 use Rattle.slot_pair.specs.Finding.{Refuses}

@@ -1,10 +1,8 @@
 -- The state of a table that was read and checked.
 use Rattle.std.specs.Prelude.{◌≡◌, ℕ, List, Ok}
-use Rattle.std.proofs.Common.{ap, sym, subst, ◌∙◌, refl}
+use Rattle.std.proofs.Common.{ap, subst, refl}
 use Rattle.size_class.specs.declared.TheConstants.{SIZE_MAX}
 use Rattle.slot_codec.specs.Choice as choice
-use Rattle.slot_codec.specs.declared.codec.Header.{Header}
-use Rattle.slot_codec.specs.declared.codec.SuperBlock.{SuperBlock}
 use Rattle.slot_codec.proofs.ChoiceLaws.{table_from}
 use Rattle.slot_pair.specs.Finding.{chosen_of, in_use_of}
 use Rattle.segment_layout.specs.Layouts.{caps_of, divisor_of, grid_of}
@@ -12,13 +10,12 @@ use Rattle.segment_layout.specs.declared.layout.Layout.{Layout}
 use Rattle.table_rules.specs.Opening.{placed_table}
 use Rattle.table_rules.specs.Rules.{FirstBroken, IsValid}
 use Rattle.table_check.specs.declared.fault.TableFault.{TableFault}
-use Rattle.extent_table.specs.Extents.{Extents, records_of}
+use Rattle.extent_table.specs.Extents.{records_of}
 use Rattle.spot_terms.specs.Laid.{laid}
-use Rattle.reopen.specs.Loads.{IsLoadedFrom, KeepsLoaded, KeepsState, kind_of, loaded_of, table_seen}
+use Rattle.reopen.specs.Loads.{IsLoadedFrom, KeepsLoaded}
 use Rattle.reopen.specs.Refusals.{BreaksFirst}
 use Rattle.reopen.specs.Tables.{IsRead, IsReadFrom}
 use Rattle.reopen.specs.declared.state.Loaded.{Loaded}
-use Rattle.reopen.specs.declared.state.State.{State}
 use Rattle.reopen.specs.declared.table.TableRead.{TableRead}
 
 -- what was read, with a layout

@@ -1,5 +1,5 @@
 -- From the parts of a table to the table, and to the state.
-use Rattle.std.specs.Prelude.{◌≡◌, refl, ℕ, List, Result, Ok, IfErr}
+use Rattle.std.specs.Prelude.{◌≡◌, refl, ℕ, List, Result, Ok}
 use Rattle.std.proofs.Common.{ap, sym, subst, ◌∙◌}
 use Rattle.byte_ranges.specs.Lists.{◌>>=◌}
 use Rattle.size_class.specs.declared.TheConstants.{SIZE_MAX}

@@ -1,5 +1,5 @@
 -- Records that are read and set one after another.
-use Rattle.std.specs.Prelude.{◌≡◌, ℕ, ◌+◌, ◌-◌, ◌*◌, ◌≤◌, List, ◌++◌, length, drop, Option, None, Result, Ok, IsTrue}
+use Rattle.std.specs.Prelude.{◌≡◌, ℕ, ◌+◌, ◌-◌, ◌*◌, ◌≤◌, List, ◌++◌, drop, Option, None, Result, Ok, IsTrue}
 use Rattle.std.specs.FinMap as fin
 use Rattle.byte_ranges.specs.Ranges.{bytes_at}
 use Rattle.byte_ranges.specs.Lists.{◌>>=◌}
@@ -28,16 +28,16 @@ pub record SetThrough (text : List ℕ) (at n i : ℕ) (before last : Option (Li
 
 -- Of the records that stand on a disk at a position, the first were read and set.
 pub record ReadThrough (at count done : ℕ) (last : Option (List ℕ)) (old now : Extents) (first current : State)
-  : Type 0 where
-    pub few : done ≤ count
-    pub set : SetSoFar now.now last (records_of now.now)
-    pub counted : fin.len now.now ≡ done
-    pub kept : now.kept ≡ old.kept
-    pub names : now.names ≡ old.names
-    pub read : IsTrue first.tells
-        → all_records fin.empty count (bytes_at first.file at (record_len * count)) at None
-        ≡ all_records now.now (count - done)
-        (bytes_at first.file (at + record_len * done) (record_len * (count - done))) (at + record_len * done)
-        last
-    pub frame : Unchanged first current
-    pub calm : current.faults ≡ first.faults
+    : Type 0 where
+  pub few : done ≤ count
+  pub set : SetSoFar now.now last (records_of now.now)
+  pub counted : fin.len now.now ≡ done
+  pub kept : now.kept ≡ old.kept
+  pub names : now.names ≡ old.names
+  pub read : IsTrue first.tells
+      → all_records fin.empty count (bytes_at first.file at (record_len * count)) at None
+      ≡ all_records now.now (count - done)
+      (bytes_at first.file (at + record_len * done) (record_len * (count - done))) (at + record_len * done)
+      last
+  pub frame : Unchanged first current
+  pub calm : current.faults ≡ first.faults

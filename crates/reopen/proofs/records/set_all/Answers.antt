@@ -1,4 +1,4 @@
-use Rattle.std.proofs.Common.{◌≤◌, length, arith, rules, sym, ◌∙◌}
+use Rattle.std.proofs.Common.{arith, rules}
 use Rattle.reopen.proofs.PieceLaws.{read_all, read_more, read_none, read_refused}
 use Rattle.reopen.proofs.records.set_all.Goals as goal
 

@@ -1,6 +1,4 @@
-use Rattle.std.proofs.Common.{◌≡◌, ◌*◌, Ok, Err, ◌∙◌, sym, arith, refl, rules}
-use Rattle.slot_codec.specs.Choice.{record_after}
-use Rattle.byte_ranges.specs.Ranges.{bytes_at}
+use Rattle.std.proofs.Common.{◌∙◌, sym, arith, refl}
 use Rattle.reopen.proofs.RecordLaws.{through_more, through_refused}
 use Rattle.reopen.proofs.records.set_records.Goals as goal
 
