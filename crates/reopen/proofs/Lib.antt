@@ -1,0 +1,5 @@
+mod RefusalLaws
+mod RecordLaws
+mod PieceLaws
+mod TableLaws
+mod StateLaws

@@ -1,0 +1,12 @@
+use Rattle.std.proofs.Common.{◌-◌, ◌≤◌, length}
+use Rattle.reopen.specs.Records.{ReadThrough}
+use Rattle.reopen.proofs.records.set_all.Given as goal
+
+abbrev pub invariant-pieces : goal.invariant-pieces
+invariant-pieces g l =
+    let D = g.D.Disk in
+    (40960 ≤ length l.buf)
+    × ReadThrough l.at l.count l.done l.last l.fn.table l.table (D.state l.fn.disk) (D.state l.disk)
+
+abbrev pub decreases-pieces : goal.decreases-pieces
+decreases-pieces g l = l.count - l.done

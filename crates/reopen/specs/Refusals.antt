@@ -1,0 +1,29 @@
+-- Why a file isn't opened, against its bytes.
+use Rattle.std.specs.Prelude.{◌≡◌, ℕ, List, Result, Ok}
+use Rattle.size_class.specs.declared.TheConstants.{SIZE_MAX}
+use Rattle.slot_codec.specs.Choice as choice
+use Rattle.slot_codec.specs.Choice.{SlotRefusal}
+use Rattle.slot_pair.specs.Finding.{Refuses}
+use Rattle.table_rules.specs.Opening.{placed_table}
+use Rattle.table_rules.specs.Rules.{FirstBroken}
+use Rattle.table_check.specs.declared.fault.TableFault.{TableFault}
+use Rattle.reopen.specs.declared.fault.OpenFault.{OpenFault}
+use Rattle.reopen.specs.declared.fault.OpenFault.TheVariants as fault
+
+-- the file's table breaks this rule first, and there
+pub record BreaksFirst (classes : ℕ) (file : List ℕ) (broken : TableFault) : Type 0 where
+  pub table : choice.Table
+  pub read : choice.table_of file ≡ Ok table
+  pub first : FirstBroken (placed_table classes SIZE_MAX file table) broken.rule broken.at
+
+-- the refusal is the first that applies, unless the disk or memory failed
+abbrev pub RefusesToOpen : ℕ → List ℕ → OpenFault → Type 0
+RefusesToOpen classes file (fault.Slot f) = Refuses (choice.table_of file) f
+RefusesToOpen classes file (fault.Table broken) = BreaksFirst classes file broken
+RefusesToOpen classes file fault.NoMemory = Unit {0}
+
+-- the refusal is that of a part of a file, unless the disk or memory failed; no rule was tried
+abbrev pub RefusesBy : {A : Type 0} → Result A SlotRefusal → OpenFault → Type 0
+RefusesBy expected (fault.Slot f) = Refuses expected f
+RefusesBy expected (fault.Table broken) = ⊥
+RefusesBy expected fault.NoMemory = Unit {0}

@@ -1,0 +1,42 @@
+-- A table that was read, whose rules weren't tried: what holds of it, and where it comes from.
+use Rattle.std.specs.Prelude.{◌≡◌, ℕ, ◌-◌, ◌<◌, ◌≤◌, List, Ok, IsTrue, length, vec_capacity}
+use Rattle.std.specs.FinMap as fin
+use Rattle.slot_codec.specs.Choice as choice
+use Rattle.slot_codec.specs.Reading.{all_in_range, worn_from}
+use Rattle.slot_codec.specs.Readable.{IsSuperBlock}
+use Rattle.slot_codec.specs.Spelling.{head_len}
+use Rattle.slot_codec.specs.declared.codec.Header.{Header}
+use Rattle.slot_pair.specs.Finding.{chosen_of, in_use_of}
+use Rattle.slot_pair.specs.declared.find.Found.{Found}
+use Rattle.extent_table.specs.Extents.{IsTable, records_of}
+use Rattle.reopen.specs.declared.table.TableRead.{TableRead}
+
+-- The numbers of a slot and its header are in range, and the slot has the header's sequence.
+pub record IsFound (found : Found) (header : Header) : Type 0 where
+  pub block : IsSuperBlock found.block
+  pub slot : found.slot ≤ 1
+  pub same_sequence : found.sequence ≡ header.sequence
+  pub fresh : header.sequence < worn_from header.kind
+  pub count : header.count ≤ found.block.names
+  pub ranges : IsTrue (all_in_range header)
+
+-- They are the slot in use of a file, and its header.
+pub record IsFoundIn (file : List ℕ) (found : Found) (header : Header) : Type 0 where
+  pub slot : choice.slot_in_use file ≡ Ok (in_use_of found)
+  pub read : choice.chosen file ≡ Ok (chosen_of found header)
+  pub long : head_len found.block.names ≤ length file
+
+-- As many records as the header says were set in a table with room for all names, and kept.
+pub record IsRead (r : TableRead) : Type 0 where
+  pub is_found : IsFound r.found r.header
+  pub is_table : IsTable r.table
+  pub count : fin.len r.table.now ≡ r.header.count
+  pub kept : r.table.kept ≡ r.table.now
+  pub names : r.table.names ≡ r.found.block.names
+  pub room : r.found.block.names ≤ vec_capacity r.order
+
+-- They are the records of a file's table, and the data part is what the file has behind its head.
+pub record IsReadFrom (file : List ℕ) (r : TableRead) : Type 0 where
+  pub is_found : IsFoundIn file r.found r.header
+  pub records : choice.records_of file (chosen_of r.found r.header) ≡ Ok (records_of r.table.now)
+  pub behind : r.data_len ≡ length file - head_len r.found.block.names

@@ -1,0 +1,138 @@
+//! The records of a table, read in pieces and set one after another.
+ghost use Rattle.std.specs.Prelude.{◌≡◌, ◌≢◌, ℕ, ◌+◌, ◌*◌, ◌^◌, ◌<◌, ◌≤◌, List, ◌++◌, None, Ok, IfOk, IfErr, OnOk, IsTrue, length};
+ghost use Rattle.std.specs.FinMap as fin;
+ghost use Rattle.byte_ranges.specs.Ranges.{bytes_at};
+ghost use Rattle.disk_face.specs.Frames.{Unchanged};
+ghost use Rattle.slot_codec.specs.Choice.{read_records, record_after};
+ghost use Rattle.slot_codec.specs.Names.{IsName};
+ghost use Rattle.slot_pair.specs.Finding.{HasDiskCause, Refuses};
+ghost use Rattle.extent_table.specs.Extents.{records_of};
+ghost use Rattle.spot_terms.specs.Orders.{SetSoFar};
+ghost use Rattle.reopen.specs.Records.{SetThrough, all_records};
+
+use disk_face::{Disk, read};
+use extent_table::{Spot, Table};
+use slot_codec::{CodecFault, Name, RECORD_LEN, Record, read_record_after};
+use slot_pair::SlotFault;
+
+/// How many records one read has at most.
+const RECORDS_A_READ: u64 = 512;
+
+/// How many bytes one read has at most: those of 512 records.
+pub(crate) const BYTES_A_READ: usize = 40960;
+
+/// Reads the records that stand at a position, up to 512 in one read, and sets them in an empty table.
+pub(crate) fn set_all<D: Disk>(
+    disk: &mut D,
+    at: u64,
+    count: u64,
+    table: &mut Table,
+    buf: &mut [u8],
+) -> Result<(), SlotFault>
+    requires ready { IsTrue (D.state disk.old).is_ready }
+    requires room { BYTES_A_READ ≤ length buf.old }
+    requires small { at + RECORD_LEN * count < 2 ^ 63 }
+    requires within { IsTrue (D.state disk.old).tells
+        → at + RECORD_LEN * count ≤ length (D.state disk.old).file }
+    requires empty { table.old.now ≡ fin.empty }
+    requires names { count ≤ table.old.names }
+    ensures read { IsTrue (D.state disk.old).tells → OnOk result (read_records count
+        (bytes_at (D.state disk.old).file at (RECORD_LEN * count)) at None ≡ Ok (records_of table.new.now)) }
+    ensures refused { IsTrue (D.state disk.old).tells → IfErr result (Refuses (read_records count
+        (bytes_at (D.state disk.old).file at (RECORD_LEN * count)) at None)) }
+    ensures count { OnOk result (fin.len table.new.now ≡ count) }
+    ensures names { OnOk result (table.new.names ≡ table.old.names) }
+    ensures cause { HasDiskCause SlotFault.Disk (D.state disk.old).faults (D.state disk.new).faults result }
+    ensures frame { Unchanged (D.state disk.old) (D.state disk.new) }
+{
+    let mut last = None;
+    let mut done = 0;
+    'pieces: while done < count {
+        let n = (count - done).min(RECORDS_A_READ);
+        let from = at + RECORD_LEN as u64 * done;
+        set_piece(disk, from, n, &mut last, table, buf)?;
+        done += n;
+    }
+    Ok(())
+}
+
+/// Reads the records that stand at a position in one read, and sets them behind those that were set.
+fn set_piece<D: Disk>(
+    disk: &mut D,
+    at: u64,
+    n: u64,
+    last: &mut Option<Name>,
+    table: &mut Table,
+    buf: &mut [u8],
+) -> Result<(), SlotFault>
+    requires ready { IsTrue (D.state disk.old).is_ready }
+    requires room { RECORD_LEN * n ≤ length buf.old }
+    requires small { at + RECORD_LEN * n < 2 ^ 63 }
+    requires within { IsTrue (D.state disk.old).tells
+        → at + RECORD_LEN * n ≤ length (D.state disk.old).file }
+    requires set { SetSoFar table.old.now last.old (records_of table.old.now) }
+    requires names { fin.len table.old.now + n ≤ table.old.names }
+    ensures set { OnOk result (SetSoFar table.new.now last.new (records_of table.new.now)) }
+    ensures count { OnOk result (fin.len table.new.now ≡ fin.len table.old.now + n) }
+    ensures kept { OnOk result (table.new.kept ≡ table.old.kept) }
+    ensures names { OnOk result (table.new.names ≡ table.old.names) }
+    ensures read { IsTrue (D.state disk.old).tells → OnOk result ((m : ℕ) (more : List ℕ)
+        → all_records table.old.now (n + m) (bytes_at (D.state disk.old).file at (RECORD_LEN * n) ++ more)
+        at last.old ≡ all_records table.new.now m more (at + RECORD_LEN * n) last.new) }
+    ensures refused { IsTrue (D.state disk.old).tells → IfErr result (λ why. (m : ℕ) (more : List ℕ)
+        → Refuses (all_records table.old.now (n + m)
+        (bytes_at (D.state disk.old).file at (RECORD_LEN * n) ++ more) at last.old) why) }
+    ensures cause { HasDiskCause SlotFault.Disk (D.state disk.old).faults (D.state disk.new).faults result }
+    ensures calm { OnOk result ((D.state disk.new).faults ≡ (D.state disk.old).faults) }
+    ensures frame { Unchanged (D.state disk.old) (D.state disk.new) }
+    ensures same_room { length buf.new ≡ length buf.old }
+{
+    let piece = &mut buf[..RECORD_LEN * n as usize];
+    if read(disk, at, piece).is_err() {
+        return Err(SlotFault::Disk);
+    }
+    set_records(piece, n, at, last, table)
+}
+
+/// Sets the records that a text says which stands at a position, behind those that were set.
+fn set_records(
+    text: &[u8],
+    n: u64,
+    at: u64,
+    last: &mut Option<Name>,
+    table: &mut Table,
+) -> Result<(), SlotFault>
+    requires long { length text.now ≡ RECORD_LEN * n }
+    requires small { at + RECORD_LEN * n < 2 ^ 63 }
+    requires set { SetSoFar table.old.now last.old (records_of table.old.now) }
+    requires names { fin.len table.old.now + n ≤ table.old.names }
+    ensures set { OnOk result (SetThrough text.now at n n last.old last.new table.old table.new) }
+    ensures refused { IfErr result (λ why. (m : ℕ) (more : List ℕ)
+        → Refuses (all_records table.old.now (n + m) (text.now ++ more) at last.old) why) }
+    ensures only { IfErr result (λ why. why ≢ SlotFault.Disk) }
+{
+    'records: for i in 0..n {
+        let from = RECORD_LEN * i as usize;
+        let record = match record_at(text, from, last) {
+            Ok(record) => record,
+            Err(fault) => return Err(SlotFault::Codec(fault, at + from as u64)),
+        };
+        let spot = Spot {
+            place: record.place,
+            size: record.size,
+        };
+        table.set(&record.name, spot);
+        *last = Some(record.name);
+    }
+    Ok(())
+}
+
+/// The record that stands at a position of a text, behind the record of a name where there is one.
+fn record_at(text: &[u8], at: usize, before: &Option<Name>) -> Result<Record, CodecFault>
+    requires { at + RECORD_LEN ≤ length text.now }
+    ensures value { result ≡ record_after (bytes_at text.now at RECORD_LEN) before.now }
+    ensures named { IfOk result (λ r. IsName r.name) }
+    ensures ranges { IfOk result (λ r. (r.place < 2 ^ 48) × (r.size < 2 ^ 48)) }
+{
+    read_record_after(&text[at..at + RECORD_LEN], before.as_ref())
+}

@@ -1,0 +1,140 @@
+//! Reading the table of a file, whose rules aren't tried.
+ghost use Rattle.std.specs.Prelude.{◌≡◌, ◌+◌, ◌*◌, ◌≤◌, Ok, IfOk, IfErr, IfSome, OnOk, IsTrue, length, vec_capacity, vec_len};
+ghost use Rattle.std.specs.FinMap as fin;
+ghost use Rattle.disk_face.specs.Frames.{Unchanged};
+ghost use Rattle.slot_codec.specs.Choice.{chosen, records_of, table_of};
+ghost use Rattle.slot_codec.specs.Spelling.{head_len};
+ghost use Rattle.slot_pair.specs.Finding.{HasDiskCause, Refuses, chosen_of};
+ghost use Rattle.extent_table.specs.Extents as extents;
+ghost use Rattle.reopen.specs.Refusals.{RefusesBy};
+ghost use Rattle.reopen.specs.Tables.{IsFound, IsFoundIn, IsRead, IsReadFrom};
+
+use crate::OpenFault;
+use crate::records::{BYTES_A_READ, set_all};
+use disk_face::{Disk, length_of};
+use extent_table::Table;
+use slot_codec::{HEADER_LEN, Header, head_len};
+use slot_pair::{Found, SlotFault, choose, read_chosen_header, slot_at};
+use std::alloc::Global;
+
+/// A table that was read: where it was found, with the sequence of its header; its header; where its
+/// objects stand, now and at the last checkpoint alike; room to order its records; and the length of
+/// the data part, in bytes.
+#[derive(Drop)]
+pub(crate) struct TableRead {
+    pub found: Found,
+    pub header: Header,
+    pub table: Table,
+    pub order: Vec<u32>,
+    pub data_len: u64,
+}
+
+/// What a table is read into: an empty table, a buffer for one read, and room to order the records.
+#[derive(Drop)]
+struct Room {
+    table: Table,
+    buf: Vec<u8>,
+    order: Vec<u32>,
+}
+
+/// Reads the table of a file.
+pub(crate) fn read_table<D: Disk>(alloc: Global, disk: &mut D) -> Result<TableRead, OpenFault>
+    requires ready { IsTrue (D.state disk.old).is_ready }
+    ensures read { IfOk result IsRead }
+    ensures told { IsTrue (D.state disk.old).tells → IfOk result (IsReadFrom (D.state disk.old).file) }
+    ensures refused { IsTrue (D.state disk.old).tells
+        → IfErr result (RefusesBy (table_of (D.state disk.old).file)) }
+    ensures cause { HasDiskCause (OpenFault.Slot SlotFault.Disk) (D.state disk.old).faults
+        (D.state disk.new).faults result }
+    ensures frame { Unchanged (D.state disk.old) (D.state disk.new) }
+{
+    let (found, header) = match find_header(disk) {
+        Ok(found) => found,
+        Err(fault) => return Err(OpenFault::Slot(fault)),
+    };
+    let Some(mut room) = room_for(alloc, found.block.names) else {
+        return Err(OpenFault::NoMemory);
+    };
+    if let Err(fault) = set_table(disk, &found, &header, &mut room.table, &mut room.buf) {
+        return Err(OpenFault::Slot(fault));
+    }
+    let Ok(length) = length_of(disk) else {
+        return Err(OpenFault::Slot(SlotFault::Disk));
+    };
+    Ok(TableRead {
+        found,
+        header,
+        table: room.table,
+        order: room.order,
+        data_len: length.saturating_sub(head_len(found.block.names)),
+    })
+}
+
+/// The slot in use, with the sequence of its header, and its header.
+fn find_header<D: Disk>(disk: &mut D) -> Result<(Found, Header), SlotFault>
+    requires ready { IsTrue (D.state disk.old).is_ready }
+    ensures found { IfOk result (λ r. IsFound r.0 r.1) }
+    ensures told { IsTrue (D.state disk.old).tells
+        → IfOk result (λ r. IsFoundIn (D.state disk.old).file r.0 r.1) }
+    ensures refused { IsTrue (D.state disk.old).tells
+        → IfErr result (Refuses (chosen (D.state disk.old).file)) }
+    ensures cause { HasDiskCause SlotFault.Disk (D.state disk.old).faults (D.state disk.new).faults result }
+    ensures frame { Unchanged (D.state disk.old) (D.state disk.new) }
+{
+    let found = choose(disk)?;
+    let header = read_chosen_header(disk, &found)?;
+    let sequence = header.sequence;
+    Ok((Found { sequence, ..found }, header))
+}
+
+/// Reads the records of the slot in use into an empty table, and keeps them.
+fn set_table<D: Disk>(
+    disk: &mut D,
+    found: &Found,
+    header: &Header,
+    table: &mut Table,
+    buf: &mut [u8],
+) -> Result<(), SlotFault>
+    requires ready { IsTrue (D.state disk.old).is_ready }
+    requires found { IsFound found.now header.now }
+    requires long { IsTrue (D.state disk.old).tells
+        → head_len found.now.block.names ≤ length (D.state disk.old).file }
+    requires room { BYTES_A_READ ≤ length buf.old }
+    requires empty { table.old.now ≡ fin.empty }
+    requires names { table.old.names ≡ found.now.block.names }
+    ensures records { IsTrue (D.state disk.old).tells
+        → OnOk result (records_of (D.state disk.old).file (chosen_of found.now header.now)
+        ≡ Ok (extents.records_of table.new.now)) }
+    ensures refused { IsTrue (D.state disk.old).tells
+        → IfErr result (Refuses (records_of (D.state disk.old).file (chosen_of found.now header.now))) }
+    ensures count { OnOk result (fin.len table.new.now ≡ header.now.count) }
+    ensures kept { OnOk result (table.new.kept ≡ table.new.now) }
+    ensures names { OnOk result (table.new.names ≡ table.old.names) }
+    ensures table { OnOk result (extents.IsTable table.new) }
+    ensures cause { HasDiskCause SlotFault.Disk (D.state disk.old).faults (D.state disk.new).faults result }
+    ensures frame { Unchanged (D.state disk.old) (D.state disk.new) }
+{
+    let at = slot_at(found.block.names, found.slot) + HEADER_LEN as u64;
+    set_all(disk, at, header.count, table, buf)?;
+    table.keep();
+    Ok(())
+}
+
+/// The memory that opening takes, for `names` names.
+fn room_for(alloc: Global, names: u64) -> Option<Room>
+    requires { names ≤ 65536 }
+    ensures table { IfSome result (λ room. room.table ≡ extents.empty_extents names) }
+    ensures buf { IfSome result (λ room. vec_len room.buf ≡ BYTES_A_READ) }
+    ensures order { IfSome result (λ room. names ≤ vec_capacity room.order) }
+{
+    let Ok(table) = Table::with_room(alloc, names) else {
+        return None;
+    };
+    let Ok(buf) = vec![in alloc; 0u8; BYTES_A_READ] else {
+        return None;
+    };
+    let Ok(order) = Vec::with_capacity(alloc, names as usize) else {
+        return None;
+    };
+    Some(Room { table, buf, order })
+}
