@@ -1,6 +1,6 @@
 -- Where a list is cut in two at a byte that its front lacks.
 use Rattle.std.proofs.Common.{◌≡◌, ℕ, suc, ◌+◌, ◌<◌, ◌≤◌, ◌^◌, ◌⊎◌, inl, inr, true, ◌&&◌, List, [], ◌∷◌, ◌++◌, length, map, take, drop, get_or, refl, sym, ap, subst, ◌∙◌, arith, Option, Some, None}
-use Rattle.std.proofs.lemmas.Bool.{and_parts, cond-false, cond-true, eq-eqb, leb-true, ne_eqb, cases_lt}
+use Rattle.std.proofs.lemmas.Bool.{and_parts, cond-false, cond-true, eq-eqb, leb-true, ltb-true, ne_eqb, cases_lt}
 use Rattle.std.proofs.lemmas.Fmt.{decimal-digits_of, decimal_digit}
 use Rattle.std.proofs.lemmas.Iterator.Adapters.{position_from-zero}
 use Rattle.std.specs.Fmt.{decimal}
@@ -17,6 +17,14 @@ Lacks c xs = AllByRecursion (λ x. x ≡ c → ⊥) xs
 pub lacks-append : (c : ℕ) (xs ys : List ℕ) → Lacks c xs → Lacks c ys → Lacks c (xs ++ ys)
 lacks-append c [] ys a b = b
 lacks-append c (x ∷ xs) ys a b = (a.0, lacks-append c xs ys a.1 b)
+
+-- bytes that are greater are others
+pub lacks-greater : (c : ℕ) (xs : List ℕ) → list_all (nat_lt c) xs ≡ true → Lacks c xs
+lacks-greater c [] h = tt
+lacks-greater c (x ∷ xs) h =
+    let parts = and_parts (nat_lt c x) (list_all (nat_lt c) xs) h in
+    let high : c < x = ltb-true c x parts.0 in
+    ((λ is. omega arith), lacks-greater c xs parts.1)
 
 name_bytes : (c : ℕ) → c < 33 → (xs : List ℕ) → list_all is_name_byte xs ≡ true → Lacks c xs
 name_bytes c low [] h = tt

@@ -1,2 +1,5 @@
 mod Cuts
 mod AskLemmas
+mod AskLaws
+mod InputLaws
+mod ReplyLaws

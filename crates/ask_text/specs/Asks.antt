@@ -42,13 +42,14 @@ AsksFor line a = (line ≡ line_of a) × IsAsk a
 abbrev pub AsksForNothing : List ℕ → Type 0
 AsksForNothing line = (a : Ask) → AsksFor line a → ⊥
 
+-- what a put or a del asks for: the size of the new object, or none
+abbrev pub change_ask : List ℕ → Option (List ℕ) → Ask
+change_ask name None = ask.Del name
+change_ask name (Some object) = ask.Put name (length object)
+
 -- what the line of a request asks for
 abbrev pub ask_of : Request → Ask
-ask_of (request.change c) = of c.name c.object
-  where
-    of : List ℕ → Option (List ℕ) → Ask
-    of name None = ask.Del name
-    of name (Some object) = ask.Put name (length object)
+ask_of (request.change c) = change_ask c.name c.object
 ask_of (request.get name) = ask.Get name
 ask_of (request.old name) = ask.Old name
 ask_of request.keep = ask.Keep

@@ -5,13 +5,14 @@ use Rattle.store_terms.specs.Requests.{Request}
 use Rattle.store_terms.specs.Requests as request
 use Rattle.ask_text.specs.Asks.{IsAsk, ask_of, line_of}
 
--- what follows the line of a request: the object of a put, and a newline
+-- the object of a put, and a newline; nothing of a del
+abbrev pub change_body : Option (List ℕ) → List ℕ
+change_body None = []
+change_body (Some object) = object ++ codes "\n"
+
+-- what follows the line of a request
 abbrev pub body_of : Request → List ℕ
-body_of (request.change c) = of c.object
-  where
-    of : Option (List ℕ) → List ℕ
-    of None = []
-    of (Some object) = object ++ codes "\n"
+body_of (request.change c) = change_body c.object
 body_of _ = []
 
 abbrev pub request_text : Request → List ℕ

@@ -1,5 +1,5 @@
 -- The texts of replies.
-use Rattle.std.specs.Prelude.{ℕ, List, [], ◌++◌, length, flat_map, codes}
+use Rattle.std.specs.Prelude.{ℕ, ◌<◌, ◌^◌, List, [], ◌++◌, length, flat_map, codes}
 use Rattle.std.specs.Fmt.{decimal}
 use Rattle.store_terms.specs.Requests as reply
 use Rattle.store_terms.specs.Requests.{Refused}
@@ -25,6 +25,14 @@ first_line (head.Refused why) = codes "refused " ++ word_of why ++ codes "\n"
 first_line (head.List count) = codes "list " ++ decimal count ++ codes "\n"
 first_line (head.Stat names bytes kept_names kept_bytes) = codes "stat " ++ decimal names ++ codes " "
     ++ decimal bytes ++ codes " " ++ decimal kept_names ++ codes " " ++ decimal kept_bytes ++ codes "\n"
+
+-- numbers that a reply may tell
+abbrev pub IsTold : Reply → Type 0
+IsTold (head.Data size) = size < 2 ^ 64
+IsTold (head.List count) = count < 2 ^ 64
+IsTold (head.Stat names bytes kept_names kept_bytes) = (names < 2 ^ 64) × (bytes < 2 ^ 64)
+    × (kept_names < 2 ^ 64) × (kept_bytes < 2 ^ 64)
+IsTold _ = Unit {0}
 
 -- the word that is told for a refusal
 abbrev pub told_for : Refused → Word5

@@ -1,0 +1,5 @@
+use Rattle.ask_text.proofs.InputLaws.{text_one}
+use Rattle.ask_text.proofs.laws.a_text_is_one_request.Goals as goal
+
+pub returns : goal.returns
+returns c = text_one
