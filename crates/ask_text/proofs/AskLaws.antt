@@ -5,14 +5,15 @@ use Rattle.std.proofs.lemmas.Fmt.{decimal_injective, length-decimal-le}
 use Rattle.std.proofs.lemmas.List.{append_cancel_left}
 use Rattle.std.specs.Fmt.{decimal}
 use Rattle.std.specs.List.{list_all}
-use Rattle.std.specs.Prelude.{codes, nat_le, nat_lt}
+use Rattle.std.specs.Prelude.{Err, IfErr, IfOk, Ok, Result, codes, nat_le, nat_lt}
 use Rattle.slot_codec.specs.Names.{is_name_byte}
 use Rattle.ask_text.proofs.AskLemmas.{put_line}
 use Rattle.ask_text.proofs.Cuts.{Lacks, cut_once, lacks-append, lacks-decimal, lacks-greater, lacks-word}
-use Rattle.ask_text.specs.Asks.{AsksFor, IsAsk, line_of}
+use Rattle.ask_text.specs.Asks.{AsksFor, IsAsk, IsBare, line_of}
 use Rattle.ask_text.specs.Words.{IsWord}
 use Rattle.ask_text.specs.declared.ask.Ask.{Ask}
 use Rattle.ask_text.specs.declared.ask.Ask.TheVariants as ask
+use Rattle.ask_text.specs.declared.ask.LineFault.{LineFault}
 
 -- the first byte, or 0
 abbrev first : List ℕ → ℕ
@@ -40,6 +41,14 @@ line_one _ _ c d h = absurd (omega (arith, ap first h))
 
 pub asks_one : (line : List ℕ) (a b : Ask) → AsksFor line a → AsksFor line b → a ≡ b
 asks_one line a b p q = line_one a b p.1 q.1 (sym p.0 ∙ q.0)
+
+-- where a line asks for nothing that is bare, and a fault is answered of one that asks for nothing else,
+-- what is answered is what is asked for
+pub read_again : (line : List ℕ) (r : Result Ask LineFault) → ((a : Ask) → AsksFor line a → IsBare a → ⊥)
+    → IfOk r (λ a. AsksFor line a) → IfErr r (λ _. (a : Ask) → AsksFor line a → IsBare a)
+    → (a : Ask) → AsksFor line a → r ≡ Ok a
+read_again line (Ok b) none read fault a asks = ap Ok (asks_one line b a read asks)
+read_again line (Err e) none read fault a asks = absurd (none a asks (fault a asks))
 
 -- a word has 255 bytes at most
 word_short : (name : List ℕ) → IsWord name → length name ≤ 255

@@ -1,5 +1,5 @@
-mod Cuts
+pub mod Cuts
 mod AskLemmas
-mod AskLaws
-mod InputLaws
-mod ReplyLaws
+pub mod AskLaws
+pub mod InputLaws
+pub mod ReplyLaws

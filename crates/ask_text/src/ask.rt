@@ -1,5 +1,5 @@
 //! What a line asks for.
-ghost use Rattle.std.specs.Prelude.{◌≡◌, ◌<◌, ◌↔◌, IsTrue, ◌++◌, ℕ, MatchOption, IfErr, IfOk, codes, nat_eq};
+ghost use Rattle.std.specs.Prelude.{◌≡◌, ◌<◌, ◌↔◌, IsTrue, ◌++◌, ℕ, MatchOption, IfErr, IfOk, Ok, codes, nat_eq};
 ghost use Rattle.std.specs.Fmt.{decimal};
 ghost use Rattle.std.specs.List.{position};
 ghost use Rattle.ask_text.specs.declared.ask.Ask.{Ask};
@@ -37,21 +37,33 @@ pub struct LineFault;
 /// What a line asks for, read without its newline; a fault exactly where it asks for nothing.
 pub fn read_ask(line: &[u8]) -> Result<Ask, LineFault>
     ensures read { IfOk result (λ ask. AsksFor line.now ask) }
+    ensures again { (ask : Ask) → AsksFor line.now ask → result ≡ Ok ask }
     ensures fault { IfErr result (λ _. AsksForNothing line.now) }
 {
+    match bare(line) {
+        Some(ask) => Ok(ask),
+        None => named(line),
+    }
+}
+
+/// What a line asks for, where it names nothing.
+fn bare(line: &[u8]) -> Option<Ask>
+    ensures { MatchOption result ((ask : Ask) → AsksFor line.now ask → IsBare ask → ⊥)
+        (λ ask. AsksFor line.now ask) }
+{
     match line {
-        b"keep" => Ok(Ask::Keep),
-        b"back" => Ok(Ask::Back),
-        b"list" => Ok(Ask::List),
-        b"stat" => Ok(Ask::Stat),
-        _ => named(line),
+        b"keep" => Some(Ask::Keep),
+        b"back" => Some(Ask::Back),
+        b"list" => Some(Ask::List),
+        b"stat" => Some(Ask::Stat),
+        _ => None,
     }
 }
 
 /// What a line asks for, where it names something.
 fn named(line: &[u8]) -> Result<Ask, LineFault>
     ensures read { IfOk result (λ ask. AsksFor line.now ask) }
-    ensures fault { IfErr result (λ _. (a : Ask) → AsksFor line.now a → IsBare a) }
+    ensures fault { IfErr result (λ _. (ask : Ask) → AsksFor line.now ask → IsBare ask) }
 {
     if let Some(words) = line.strip_prefix(b"put ") {
         put_of(words)

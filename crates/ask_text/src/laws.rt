@@ -40,6 +40,8 @@ pub fn worked_texts()
     ensures del { request_text (request.change (record { name = codes "a"; object = None }))
         ≡ codes "del a\n" }
     ensures line { line_of (ask.Put (codes "a") 1000) ≡ codes "put a 1000" }
+    ensures done { reply_text request.done ≡ codes "ok\n" }
+    ensures kept { reply_text request.kept ≡ codes "ok kept\n" }
     ensures found { reply_text (request.found (codes "xyz")) ≡ codes "data 3\nxyz\n" }
     ensures refused { reply_text (request.refused request.full) ≡ codes "refused full\n" }
     ensures listed { reply_text (request.listed ((codes "a", 3) ∷ (codes "b", 0) ∷ []))

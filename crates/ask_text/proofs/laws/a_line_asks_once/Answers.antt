@@ -1,3 +1,4 @@
+-- The laws are proved over plain values.
 use Rattle.ask_text.proofs.AskLaws.{asks_one, line_short}
 use Rattle.ask_text.proofs.laws.a_line_asks_once.Goals as goal
 
