@@ -1,5 +1,5 @@
 -- A line asks for one thing, is short, and has no newline.
-use Rattle.std.proofs.Common.{◌≡◌, ℕ, ◌+◌, ◌<◌, ◌≤◌, ◌^◌, ◌&&◌, List, ◌∷◌, [], ◌++◌, length, length-append, get_or, refl, sym, ap, ◌∙◌, arith}
+use Rattle.std.proofs.Common.{◌≡◌, ℕ, ◌≤◌, ◌&&◌, List, ◌∷◌, ◌++◌, length, length-append, get_or, refl, sym, ap, ◌∙◌, arith}
 use Rattle.std.proofs.lemmas.Bool.{and_parts, leb-true}
 use Rattle.std.proofs.lemmas.Fmt.{decimal_injective, length-decimal-le}
 use Rattle.std.proofs.lemmas.List.{append_cancel_left}
@@ -22,10 +22,10 @@ first xs = get_or xs 0 0
 pub line_one : (a b : Ask) → IsAsk a → IsAsk b → line_of a ≡ line_of b → a ≡ b
 line_one (ask.Put n k) (ask.Put m l) c d h =
     let e : n ++ 32 ∷ decimal k ≡ m ++ 32 ∷ decimal l =
-        append_cancel_left (codes "put ") _ _ (sym (put_line n k) ∙ h ∙ put_line m l)
+    append_cancel_left (codes "put ") _ _ (sym (put_line n k) ∙ h ∙ put_line m l)
     in
     let r = cut_once 32 n m (decimal k) (decimal l) (lacks-word 32 (omega arith) n c.0)
-        (lacks-word 32 (omega arith) m d.0) e
+    (lacks-word 32 (omega arith) m d.0) e
     in
     let name : n ≡ m = r.0 in
     let size : k ≡ l = decimal_injective k l (omega (arith, c.1)) (omega (arith, d.1)) r.1 in
@@ -57,13 +57,13 @@ word_short name h =
     leb-true (length name) 255 (and_parts (nat_lt 0 (length name)) (nat_le (length name) 255) parts.0).1
 
 pub line_short : (a : Ask) → IsAsk a → length (line_of a) ≤ 270
-line_short (ask.Put n k) c = omega
-    ( arith
-    , ap length (put_line n k)
-    , length-append n (32 ∷ decimal k)
-    , word_short n c.0
-    , length-decimal-le 10 k (omega (arith, c.1))
-    )
+line_short (ask.Put n k) c = omega (
+  arith,
+  ap length (put_line n k),
+  length-append n (32 ∷ decimal k),
+  word_short n c.0,
+  length-decimal-le 10 k (omega (arith, c.1)),
+)
 line_short (ask.Get n) c = omega (arith, word_short n c)
 line_short (ask.Old n) c = omega (arith, word_short n c)
 line_short (ask.Del n) c = omega (arith, word_short n c)
@@ -78,10 +78,10 @@ named verb name lacks word = lacks-append 10 verb name lacks (lacks-word 10 (ome
 pub lacks-line : (a : Ask) → IsAsk a → Lacks 10 (line_of a)
 lacks-line (ask.Put n k) c =
     lacks-append 10 (codes "put " ++ n ++ codes " ") (decimal k)
-        (lacks-append 10 (codes "put " ++ n) (codes " ")
-            (named (codes "put ") n (lacks-greater 10 (codes "put ") refl) c.0)
-            (lacks-greater 10 (codes " ") refl))
-        (lacks-decimal 10 (omega arith) k (omega (arith, c.1)))
+    (lacks-append 10 (codes "put " ++ n) (codes " ")
+    (named (codes "put ") n (lacks-greater 10 (codes "put ") refl) c.0)
+    (lacks-greater 10 (codes " ") refl))
+    (lacks-decimal 10 (omega arith) k (omega (arith, c.1)))
 lacks-line (ask.Get n) c = named (codes "get ") n (lacks-greater 10 (codes "get ") refl) c
 lacks-line (ask.Old n) c = named (codes "old ") n (lacks-greater 10 (codes "old ") refl) c
 lacks-line (ask.Del n) c = named (codes "del ") n (lacks-greater 10 (codes "del ") refl) c

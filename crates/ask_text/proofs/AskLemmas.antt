@@ -1,5 +1,5 @@
 -- Lines that ask for a put, or don't.
-use Rattle.std.proofs.Common.{◌≡◌, ℕ, ◌+◌, ◌<◌, List, ◌∷◌, ◌++◌, [], length, length-append, length-drop, append_assoc, ◌-◌, take, drop, get_or, refl, sym, ap, subst, ◌∙◌, arith, Option, Some, None}
+use Rattle.std.proofs.Common.{◌≡◌, ℕ, ◌+◌, ◌<◌, List, ◌∷◌, ◌++◌, [], length, length-append, length-drop, append_assoc, ◌-◌, take, drop, get_or, sym, ap, subst, ◌∙◌, arith, Some, None}
 use Rattle.std.proofs.lemmas.Bool.{eqb-true}
 use Rattle.std.proofs.lemmas.Grind.{common_steps}
 use Rattle.std.proofs.lemmas.List.{append_cancel_left, drop_at, take_at, take_all, take-append-drop, drop_more}
@@ -7,10 +7,9 @@ use Rattle.std.proofs.lemmas.List.Quantifiers.{position-Some}
 use Rattle.std.specs.Fmt.{decimal}
 use Rattle.std.specs.List.{position}
 use Rattle.std.specs.Prelude.{codes, nat_eq}
-use Rattle.ask_text.proofs.Cuts.{Lacks, lacks-word, position-cut}
-use Rattle.ask_text.specs.Asks.{AsksFor, AsksForNothing, line_of}
+use Rattle.ask_text.proofs.Cuts.{lacks-word, position-cut}
+use Rattle.ask_text.specs.Asks.{AsksForNothing, line_of}
 use Rattle.ask_text.specs.Words.{IsWord}
-use Rattle.ask_text.specs.declared.ask.Ask.{Ask}
 use Rattle.ask_text.specs.declared.ask.Ask.TheVariants as ask
 
 -- the first byte, or 0
@@ -29,7 +28,7 @@ put_line name size = ap (λ xs. codes "put " ++ xs) (append_assoc name (32 ∷ [
 pub asks_no_put : (words : List ℕ) → IsNoPut words → AsksForNothing (codes "put " ++ words)
 asks_no_put words none (ask.Put name size) h =
     none name size h.1.0 h.1.1 (append_cancel_left (codes "put ") words (name ++ 32 ∷ decimal size)
-        (h.0 ∙ put_line name size))
+    (h.0 ∙ put_line name size))
 asks_no_put words none (ask.Get name) h = absurd (omega (arith, ap first h.0))
 asks_no_put words none (ask.Old name) h = absurd (omega (arith, ap first h.0))
 asks_no_put words none (ask.Del name) h = absurd (omega (arith, ap first h.0))
@@ -54,9 +53,9 @@ parts words at name size found word is =
     let end = blank_behind words name size word is in
     let here : length name ≡ at = cc in
     let whole : words ≡ (name ++ 32 ∷ []) ++ decimal size = grind (arith, common_steps, is) in
-    let long : length (name ++ 32 ∷ []) ≡ at + 1 = omega (arith, length-append name (32 ∷ [])) in
-    ( ap (take at) is ∙ take_at name (32 ∷ decimal size) at here
-    , ap (drop (at + 1)) whole ∙ drop_at (name ++ 32 ∷ []) (decimal size) (at + 1) long
+    let long : length (name ++ 32 ∷ []) ≡ at + 1 = omega (arith, length-append name (32 ∷ [])) in (
+      ap (take at) is ∙ take_at name (32 ∷ decimal size) at here,
+      ap (drop (at + 1)) whole ∙ drop_at (name ++ 32 ∷ []) (decimal size) (at + 1) long,
     )
 
 pub no_name : (words : List ℕ) (at : ℕ) → position (nat_eq 32) words ≡ Some at → (IsWord (take at words) → ⊥)
@@ -83,7 +82,7 @@ joined words at found =
     let here = position-Some (nat_eq 32) words at 0 found in
     let blank : 32 ≡ get_or words at 0 = eqb-true 32 (get_or words at 0) here.1 in
     let cut : drop at words ≡ 32 ∷ drop (at + 1) words =
-        drop_more words at 0 here.0 ∙ ap (λ b. b ∷ drop (at + 1) words) (sym blank)
+    drop_more words at 0 here.0 ∙ ap (λ b. b ∷ drop (at + 1) words) (sym blank)
     in
     sym (take-append-drop at words) ∙ ap (λ xs. take at words ++ xs) cut
 
@@ -94,7 +93,7 @@ pub is_put : (words : List ℕ) (at : ℕ) (name : List ℕ) (size : ℕ) → po
 is_put words at name size found front rest =
     let size_is : drop (at + 1) words ≡ decimal size = sym (from_on-drop (at + 1) words) ∙ rest in
     let whole : words ≡ name ++ 32 ∷ decimal size =
-        joined words at found ∙ ap (λ xs. xs ++ 32 ∷ drop (at + 1) words) (sym front)
-        ∙ ap (λ xs. name ++ 32 ∷ xs) size_is
+    joined words at found ∙ ap (λ xs. xs ++ 32 ∷ drop (at + 1) words) (sym front)
+    ∙ ap (λ xs. name ++ 32 ∷ xs) size_is
     in
     ap (λ xs. codes "put " ++ xs) whole ∙ sym (put_line name size)

@@ -1,5 +1,5 @@
 -- Where a list is cut in two at a byte that its front lacks.
-use Rattle.std.proofs.Common.{◌≡◌, ℕ, suc, ◌+◌, ◌<◌, ◌≤◌, ◌^◌, ◌⊎◌, inl, inr, true, ◌&&◌, List, [], ◌∷◌, ◌++◌, length, map, take, drop, get_or, refl, sym, ap, subst, ◌∙◌, arith, Option, Some, None}
+use Rattle.std.proofs.Common.{◌≡◌, ℕ, ◌+◌, ◌<◌, ◌≤◌, ◌^◌, ◌⊎◌, inl, inr, true, ◌&&◌, List, [], ◌∷◌, ◌++◌, length, map, refl, sym, ap, subst, ◌∙◌, arith, Some}
 use Rattle.std.proofs.lemmas.Bool.{and_parts, cond-false, cond-true, eq-eqb, leb-true, ltb-true, ne_eqb, cases_lt}
 use Rattle.std.proofs.lemmas.Fmt.{decimal-digits_of, decimal_digit}
 use Rattle.std.proofs.lemmas.Iterator.Adapters.{position_from-zero}
@@ -8,7 +8,7 @@ use Rattle.std.specs.Int.Digits.{digits_of}
 use Rattle.std.specs.List.{AllByRecursion, list_all, position, position_from}
 use Rattle.std.specs.Prelude.{nat_eq, nat_le, nat_lt}
 use Rattle.slot_codec.specs.Names.{is_name_byte}
-use Rattle.ask_text.specs.Words.{IsWord, is_word}
+use Rattle.ask_text.specs.Words.{IsWord}
 
 -- the byte doesn't stand in the list
 abbrev pub Lacks : ℕ → List ℕ → Type 0

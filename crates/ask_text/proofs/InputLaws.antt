@@ -1,5 +1,5 @@
 -- An input is the texts of one list of requests, and then of what begins with none.
-use Rattle.std.proofs.Common.{◌≡◌, ℕ, List, ◌∷◌, [], ◌++◌, length, get_or, append_assoc, refl, sym, ap, ◌∙◌, arith, Option, Some, None}
+use Rattle.std.proofs.Common.{◌≡◌, ℕ, List, ◌∷◌, [], ◌++◌, length, append_assoc, refl, sym, ap, ◌∙◌, arith, Option, Some, None}
 use Rattle.std.proofs.lemmas.List.{append_cancel_left}
 use Rattle.std.specs.List.{AllByRecursion, flat_map}
 use Rattle.std.specs.Prelude.{codes}
@@ -7,7 +7,7 @@ use Rattle.store_terms.specs.Requests.{Change, Request}
 use Rattle.store_terms.specs.Requests as request
 use Rattle.ask_text.proofs.AskLaws.{lacks-line, line_one}
 use Rattle.ask_text.proofs.Cuts.{cut_once}
-use Rattle.ask_text.specs.Asks.{IsAsk, ask_of, change_ask, line_of}
+use Rattle.ask_text.specs.Asks.{ask_of, change_ask, line_of}
 use Rattle.ask_text.specs.Inputs.{Asks, BeginsNone, HasText, body_of, change_body, request_text}
 use Rattle.ask_text.specs.declared.ask.Ask.{Ask}
 use Rattle.ask_text.specs.declared.ask.Ask.TheVariants as ask
@@ -37,7 +37,7 @@ change_one n m None None x y a b = (cc, (refl, b))
 change_one n m (Some o) (Some p) x y a b =
     let size : length o ≡ length p = cc in
     let r = object_one o p (codes "\n" ++ x) (codes "\n" ++ y) size
-        (sym (append_assoc o (codes "\n") x) ∙ b ∙ append_assoc p (codes "\n") y)
+    (sym (append_assoc o (codes "\n") x) ∙ b ∙ append_assoc p (codes "\n") y)
     in
     (cc, (ap Some r.0, append_cancel_left (codes "\n") x y r.1))
 change_one n m None (Some p) x y a b = absurd cc
@@ -96,7 +96,7 @@ pub text_one : (r s : Request) (x y : List ℕ) → HasText r → HasText s → 
     → (r ≡ s) × (x ≡ y)
 text_one r s x y a b h =
     let cut = cut_once 10 (line_of (ask_of r)) (line_of (ask_of s)) (body_of r ++ x) (body_of s ++ y)
-        (lacks-line (ask_of r) a) (lacks-line (ask_of s) b) (sym (text_is r x) ∙ h ∙ text_is s y)
+    (lacks-line (ask_of r) a) (lacks-line (ask_of s) b) (sym (text_is r x) ∙ h ∙ text_is s y)
     in
     body_one r s x y (line_one (ask_of r) (ask_of s) a b cut.0) cut.1
 
@@ -114,7 +114,7 @@ many_one (r ∷ rs) [] e f a b n m h =
     absurd (m r (flat_map request_text rs ++ e) a.0 (sym h ∙ texts_is r rs e))
 many_one (r ∷ rs) (s ∷ ss) e f a b n m h =
     let one = text_one r s (flat_map request_text rs ++ e) (flat_map request_text ss ++ f) a.0 b.0
-        (sym (texts_is r rs e) ∙ h ∙ texts_is s ss f)
+    (sym (texts_is r rs e) ∙ h ∙ texts_is s ss f)
     in
     let rest = many_one rs ss e f a.1 b.1 n m one.1 in
     let same : r ≡ s = one.0 in

@@ -1,11 +1,11 @@
 -- The first line of a reply is that of one reply alone.
-use Rattle.std.proofs.Common.{◌≡◌, ℕ, ◌+◌, ◌<◌, ◌^◌, List, ◌∷◌, [], ◌++◌, get_or, append_assoc, refl, sym, ap, ◌∙◌, arith}
+use Rattle.std.proofs.Common.{◌≡◌, ℕ, ◌<◌, ◌^◌, List, ◌∷◌, [], ◌++◌, get_or, refl, sym, ap, ◌∙◌, arith}
 use Rattle.std.proofs.lemmas.Fmt.{decimal_injective}
 use Rattle.std.proofs.lemmas.Grind.{common_steps}
 use Rattle.std.proofs.lemmas.List.{append_cancel_left, append_cancel_right}
 use Rattle.std.specs.Fmt.{decimal}
 use Rattle.std.specs.Prelude.{codes}
-use Rattle.ask_text.proofs.Cuts.{Lacks, cut_once, lacks-decimal}
+use Rattle.ask_text.proofs.Cuts.{cut_once, lacks-decimal}
 use Rattle.ask_text.specs.Replies.{IsTold, first_line, word_of}
 use Rattle.ask_text.specs.declared.reply.Reply.{Reply}
 use Rattle.ask_text.specs.declared.reply.Reply.TheVariants as head

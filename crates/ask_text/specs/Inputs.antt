@@ -1,5 +1,5 @@
 -- The texts of requests, and an input that is texts of requests one after another.
-use Rattle.std.specs.Prelude.{◌≡◌, ℕ, List, [], ◌∷◌, ◌++◌, flat_map, codes, Option, Some, None}
+use Rattle.std.specs.Prelude.{◌≡◌, ℕ, List, [], ◌++◌, flat_map, codes, Option, Some, None}
 use Rattle.std.specs.List.{AllByRecursion}
 use Rattle.store_terms.specs.Requests.{Request}
 use Rattle.store_terms.specs.Requests as request

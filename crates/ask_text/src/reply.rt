@@ -14,11 +14,15 @@ pub enum Reply {
     /// Done, and a checkpoint was saved.
     Kept,
     /// An object follows, of this many bytes.
-    Data { size: u64 },
+    Data {
+        size: u64,
+    },
     /// Nothing was done, for this reason.
     Refused(Word5),
     /// Lines of this many names follow.
-    List { count: u64 },
+    List {
+        count: u64,
+    },
     /// How many names and bytes of objects there are now, and at the last checkpoint.
     Stat {
         names: u64,

@@ -20,7 +20,7 @@ thirty = longer 3 (codes "3") 0 (omega arith) (omega arith) (omega arith) (decim
 thousand : decimal 1000 ≡ codes "1000"
 thousand = longer 100 (codes "100") 0 (omega arith) (omega arith) (omega arith)
     (longer 10 (codes "10") 0 (omega arith) (omega arith) (omega arith)
-        (longer 1 (codes "1") 0 (omega arith) (omega arith) (omega arith) (decimal_digit 1 (omega arith))))
+    (longer 1 (codes "1") 0 (omega arith) (omega arith) (omega arith) (decimal_digit 1 (omega arith))))
 
 pub returns-clause-put : goal.returns-clause-put
 returns-clause-put c = rw (decimal_digit 3 (omega arith)) refl
