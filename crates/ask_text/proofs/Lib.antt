@@ -1,0 +1,5 @@
+pub mod Cuts
+mod AskLemmas
+pub mod AskLaws
+pub mod InputLaws
+pub mod ReplyLaws

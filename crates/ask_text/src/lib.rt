@@ -1,0 +1,11 @@
+//! The texts of requests and replies: a line read as what it asks for, and the first line of a reply.
+#![tactic(auto)]
+
+mod ask;
+mod laws;
+mod reply;
+mod word;
+
+pub use ask::{Ask, LineFault, read_ask};
+pub use reply::{Reply, Word5, write_reply};
+pub use word::Word;
