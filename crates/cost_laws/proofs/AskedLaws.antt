@@ -23,8 +23,8 @@ bytes_weigh r zero = sum_below_zero width (λ d. bytes_in d 0 * r d) (λ d h. om
 bytes_weigh r (suc n) =
     let size = suc n in
     let c = class_of size in
-    let none : (d : ℕ) → d ≢ c → bytes_in d size * r d ≡ 0 = λ d other. let z : 0 * r d ≡ 0 =
-    omega arith in ap (λ x. x * r d) (bytes_in-other d size (λ x. other (sym x))) ∙ z in
+    let none : (d : ℕ) → d ≢ c → bytes_in d size * r d ≡ 0 = λ d other. let z : 0 * r d ≡ 0 = omega arith in
+    ap (λ x. x * r d) (bytes_in-other d size (λ x. other (sym x))) ∙ z in
     let here : bytes_in c size * r c ≡ item_weight r size =
     ap (λ x. x * r c) (bytes_in-same size (omega arith)) in
     omega (
@@ -34,8 +34,8 @@ bytes_weigh r (suc n) =
       sum_below_zero width (λ d. 0) (λ i h. refl),
     )
 
-pub sizes_weigh : (r : ℕ → ℕ) (sizes : List ℕ) → cells_weight r (volumes_of_sizes sizes)
-    ≡ sum_by (item_weight r) sizes
+pub sizes_weigh : (r : ℕ → ℕ) (sizes : List ℕ)
+    → cells_weight r (volumes_of_sizes sizes) ≡ sum_by (item_weight r) sizes
 sizes_weigh r sizes =
     sum_below_agree width (λ d. slice_index (volumes_of_sizes sizes) d * r d)
     (λ d. sum_by (λ size. bytes_in d size) sizes * r d) (λ d h. ap (λ x. x * r d)
@@ -56,8 +56,8 @@ sizes_weigh r sizes =
         ∙ sym (sum_by-cons (item_weight r) size sizes)
 
 -- the items of a change are among the objects that it removes and inserts
-pub items_weigh : (r : ℕ → ℕ) (m : Map) (book : Book) (c : Change) → sum_by (item_weight r)
-    (old_item m book c.name ++ new_item c) ≤ cells_weight r (asked_row m c)
+pub items_weigh : (r : ℕ → ℕ) (m : Map) (book : Book) (c : Change)
+    → sum_by (item_weight r) (old_item m book c.name ++ new_item c) ≤ cells_weight r (asked_row m c)
 items_weigh r m book c =
     let w = item_weight r in
     let old : sum_by w (old_item m book c.name) ≤ sum_by w (item_of (fin.get m c.name)) =
@@ -70,7 +70,7 @@ items_weigh r m book c =
       sum_by-append w (item_of (fin.get m c.name)) (new_item c),
     )
   where
-    less : (t : Bool) (sizes : List ℕ) → sum_by (item_weight r) (if t then [] else sizes) ≤ sum_by
-        (item_weight r) sizes
+    less : (t : Bool) (sizes : List ℕ)
+        → sum_by (item_weight r) (if t then [] else sizes) ≤ sum_by (item_weight r) sizes
     less true sizes = omega arith
     less false sizes = omega arith

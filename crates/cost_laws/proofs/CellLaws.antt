@@ -17,6 +17,7 @@ use Rattle.move_cost.specs.Costs.{factor, rate, weigh, potential}
 use Rattle.cost_laws.proofs.RateFalls.{weigh_grid}
 use Rattle.cost_laws.proofs.PotentialPays.{next_quiet_is, grid_of_quiet}
 use Rattle.cost_laws.specs.Cells.{NoCellFalls}
+use Rattle.cost_laws.specs.Moves.{next_grid}
 
 cells-with_entry : (grid : List (List ℕ)) (j c size : ℕ) → j < length grid → c < length (row grid j)
     → NoCellFalls grid (with_entry grid j c size)
@@ -44,8 +45,8 @@ module _ (k : ℕ) (caps : List ℕ) where
       → Rises charged.grid (entered_at charged size o).grid
   rises_at charged size g None is = record { grid_full = g; cells = λ j c. omega arith }
   rises_at charged size g (Some j) is =
-      let within : j < width = (room_of_buffer k caps charged.grid (class_of size) size
-      (class_below size) j is).below_width in
+      let within : j < width =
+      (room_of_buffer k caps charged.grid (class_of size) size (class_below size) j is).below_width in
       record {
         grid_full = IsGrid-with_entry width j (class_of size) size charged.grid g within (class_below size)
             (omega arith);
@@ -53,18 +54,19 @@ module _ (k : ℕ) (caps : List ℕ) where
             (omega (arith, (g.rows j within).full, class_below size));
       }
 
-  charges_rise : (charged : Charged) (sizes : List ℕ) → IsGrid width charged.grid → NoCellFalls charged.grid
-      (fold (charge_one k caps) charged sizes).grid
+  charges_rise : (charged : Charged) (sizes : List ℕ) → IsGrid width charged.grid
+      → NoCellFalls charged.grid (fold (charge_one k caps) charged sizes).grid
   charges_rise charged [] g j c = omega arith
   charges_rise charged (size ∷ sizes) g j c =
       let one = rises_at charged size g _ refl in
       omega (arith, one.cells j c, charges_rise (charge_one k caps charged size) sizes one.grid_full j c)
 
 pub quiet_rises : (k : ℕ) (m : Map) (book : Book) (c : Change) → IsGrid width book.grid
-    → (next_book k m book c).quiet ≡ true → NoCellFalls book.grid (next_book k m book c).book.grid
+    → (next_book k m book c).quiet ≡ true → NoCellFalls book.grid (next_grid k m book c)
 quiet_rises k m book c g quiet j d =
-    let charged : cell book.grid j d ≤ cell (charge_change k m book c).grid j d = charges_rise k book.caps
-    (record { grid = book.grid; tried = [] }) (old_item m book c.name ++ new_item c) g j d in
+    let charged : cell book.grid j d ≤ cell (charge_change k m book c).grid j d =
+    charges_rise k book.caps (record { grid = book.grid; tried = [] }) (old_item m book c.name
+    ++ new_item c) g j d in
     omega (
       arith,
       charged,
@@ -87,7 +89,7 @@ pub potential_rises : (C k : ℕ) (cost : ℕ → ℕ) (old new : List (List ℕ
     → potential C cost k old ≤ potential C cost k new
 potential_rises C k cost old new rises =
     let all : weigh_grid C cost old ≤ weigh_grid C cost new =
-    sum_below_le C (λ j. weigh C cost (row old j)) (λ j. weigh C cost (row new j)) (λ j _.
-    sum_below_le C (λ c. cell old j c * rate C cost c) (λ c. cell new j c * rate C cost c)
+    sum_below_le C (λ j. weigh C cost (row old j)) (λ j. weigh C cost (row new j))
+    (λ j _. sum_below_le C (λ c. cell old j c * rate C cost c) (λ c. cell new j c * rate C cost c)
     (λ c _. mul-le-mul_right (rate C cost c) (rises j c))) in
     mul-le-mul_left (factor k) all

@@ -55,16 +55,16 @@ entry_within b grid j c high within =
     )
 
 -- an entry of a class from b on stands in a buffer from b on
-pub entered_is_from : (b : ℕ) (grid : List (List ℕ)) (c : ℕ) → ((j d : ℕ) → j < d → cell grid j d ≡ 0) → b ≤ c
-    → entered_in grid c ≤ entered_from b grid c
+pub entered_is_from : (b : ℕ) (grid : List (List ℕ)) (c : ℕ) → ((j d : ℕ) → j < d → cell grid j d ≡ 0)
+    → b ≤ c → entered_in grid c ≤ entered_from b grid c
 entered_is_from b grid c lower high =
     sum_below_le width (λ j. cell grid j c) (from b (λ j. cell grid j c)) (λ j h. elim (cases_lt j b) [
       | inl low ↦ omega (arith, lower j c (omega arith))
       | inr past ↦ omega (arith, from-above b j (λ i. cell grid i c) past)
     ])
 
-pub buffered_weigh : (r : ℕ → ℕ) (b : ℕ) (grid : List (List ℕ)) (buffered : ℕ → ℕ) → ((j d : ℕ) → j < d
-    → cell grid j d ≡ 0) → ((c : ℕ) → buffered c ≤ entered_in grid c)
+pub buffered_weigh : (r : ℕ → ℕ) (b : ℕ) (grid : List (List ℕ)) (buffered : ℕ → ℕ)
+    → ((j d : ℕ) → j < d → cell grid j d ≡ 0) → ((c : ℕ) → buffered c ≤ entered_in grid c)
     → sum_below width (from b (λ c. buffered c * r c)) ≤ weight_from r b grid
 buffered_weigh r b grid buffered lower within =
     omega (
@@ -84,8 +84,8 @@ pub taken_weighs : (r : ℕ → ℕ) (grid : List (List ℕ)) (m : ℕ) → Fall
     → ((j d : ℕ) → j < d → cell grid j d ≡ 0) → m < width → taken_in grid m * r m ≤ row_weight r grid m
 taken_weighs r grid m falls g lower within =
     let parts : r m * taken_in grid m ≡ sum_below width (λ c. r m * cell grid m c) =
-    ap (λ x. r m * x) (sum_places (row grid m) width (g.rows m within).full) ∙ sum_below_times (r m) width
-    (λ c. cell grid m c) in
+    ap (λ x. r m * x) (sum_places (row grid m) width (g.rows m within).full)
+    ∙ sum_below_times (r m) width (λ c. cell grid m c) in
     omega (
       arith,
       parts,

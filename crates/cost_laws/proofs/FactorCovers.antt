@@ -12,8 +12,9 @@ covers_entries k = omega arith
 pub covers_missed : (k : ℕ) → 4 * k * reach k + 2 ≤ factor k
 covers_missed k = omega arith
 
-pub factor_covers : (k moves entries missed : ℕ) → moves ≤ (8 * k * reach k + 4 * k + 2) * entries +
-    (4 * k * reach k + 2) * missed → moves ≤ factor k * entries + factor k * missed
+pub factor_covers : (k moves entries missed : ℕ)
+    → moves ≤ (8 * k * reach k + 4 * k + 2) * entries + (4 * k * reach k + 2) * missed
+    → moves ≤ factor k * entries + factor k * missed
 factor_covers k moves entries missed h = omega (
   arith,
   h,

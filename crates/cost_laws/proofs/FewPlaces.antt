@@ -51,8 +51,8 @@ from-above b j f high = cond-true (nat_le b j) (f j) 0 (le-leb b j high)
 
 -- ---- sums in two parts
 
-sum_from_split : (first n m : ℕ) (f : ℕ → ℕ) → sum_from first (n + m) f ≡ sum_from first n f + sum_from
-    (first + n) m f
+sum_from_split : (first n m : ℕ) (f : ℕ → ℕ)
+    → sum_from first (n + m) f ≡ sum_from first n f + sum_from (first + n) m f
 sum_from_split first zero m f =
     let at : first + 0 ≡ first = omega arith in
     let all : 0 + m ≡ m = omega arith in
@@ -95,8 +95,8 @@ sum_below_less n all f h = let e : all ≡ n + (all - n) =
     omega arith in omega (arith, ap (λ x. sum_below x f) e, sum_below_split n (all - n) f)
 
 -- and the same, where the function is 0 from there on
-pub sum_below_rest : (n all : ℕ) (f : ℕ → ℕ) → n ≤ all → ((i : ℕ) → n ≤ i → f i ≡ 0) → sum_below n f
-    ≡ sum_below all f
+pub sum_below_rest : (n all : ℕ) (f : ℕ → ℕ) → n ≤ all → ((i : ℕ) → n ≤ i → f i ≡ 0)
+    → sum_below n f ≡ sum_below all f
 sum_below_rest n all f h none = let e : all ≡ n + (all - n) =
     omega arith in omega (
       arith,

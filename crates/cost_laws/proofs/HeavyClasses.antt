@@ -30,8 +30,8 @@ few_classes k m c d small within less =
       | inl h ↦ h
       | inr high ↦ absurd (
           let parts : c + (reach k) ≡ lg_up k + (c + 1 + 1) = omega arith in
-          let power : 2 ^ (c + (reach k)) ≡ 2 ^ lg_up k * 2 ^ (c + 1 + 1) = ap (λ x. 2 ^ x) parts
-          ∙ pow-add 2 (lg_up k) (c + 1 + 1) in
+          let power : 2 ^ (c + (reach k)) ≡ 2 ^ lg_up k * 2 ^ (c + 1 + 1) =
+          ap (λ x. 2 ^ x) parts ∙ pow-add 2 (lg_up k) (c + 1 + 1) in
           let double : 2 ^ lg_up k * 2 ^ (c + 1 + 1) ≡ 2 ^ lg_up k * (2 * 2 ^ (c + 1)) =
           ap (λ x. 2 ^ lg_up k * x) (power_next (c + 1)) in
           omega (

@@ -32,8 +32,8 @@ heavy_entry_weight k q c r s e few less some =
           (mul-le-mul_right s some),
     )
 
-pub heavy_entry : (r : ℕ → ℕ) (k b m q : ℕ) (caps : List ℕ) (grid : List (List ℕ)) → Falls r → k ≤ 64 → b ≤ m
-    → m < width → (over : PassedOver k caps grid m) → q < 2 * k * 2 ^ (over.class + 1) → 2 ^ m ≤ q
+pub heavy_entry : (r : ℕ → ℕ) (k b m q : ℕ) (caps : List ℕ) (grid : List (List ℕ)) → Falls r → k ≤ 64
+    → b ≤ m → m < width → (over : PassedOver k caps grid m) → q < 2 * k * 2 ^ (over.class + 1) → 2 ^ m ≤ q
     → q * r m ≤ sum_below width (entry_near r k b grid m)
 heavy_entry r k b m q caps grid falls small high within over few some =
     let c = over.class in
@@ -43,26 +43,27 @@ heavy_entry r k b m q caps grid falls small high within over few some =
       entry_within b grid over.buffer c
           (omega (arith, over.past)) over.within,
     ) in
-    let weighs : q * r m ≤ 4 * k * (entered_from b grid c * r c) = heavy_entry_weight k q c (r m) (r c)
-    (entered_from b grid c) few (falls c m over.low) entry in
+    let weighs : q * r m ≤ 4 * k * (entered_from b grid c * r c) =
+    heavy_entry_weight k q c (r m) (r c) (entered_from b grid c) few (falls c m over.low) entry in
     let near : m < c + reach k = few_classes k m c (2 ^ (c + 1)) small (omega arith) (omega arith) in
     let here : entry_near r k b grid m c ≡ 4 * k * (entered_from b grid c * r c) * 1 =
     ap (λ x. 4 * k * (entered_from b grid c * r c) * x) (inside_here c (reach k) m over.low near) in
     omega (arith, weighs, here, sum_below_term width c (entry_near r k b grid m) (omega (arith, over.low)))
 
 pub heavy_entries : (r : ℕ → ℕ) (k b : ℕ) (grid : List (List ℕ))
-    → sum_below width (λ m. sum_below width (entry_near r k b grid m)) ≤ reach k *
-    (4 * k * weight_from r b grid)
+    → sum_below width (λ m. sum_below width (entry_near r k b grid m))
+    ≤ reach k * (4 * k * weight_from r b grid)
 heavy_entries r k b grid =
     let near = entry_near r k b grid in
     let weigh = λ (c : ℕ). entered_from b grid c * r c in
-    let swapped : sum_below width (λ m. sum_below width (near m)) ≡ sum_below width (λ c. sum_below width
-    (λ m. near m c)) = sum_below_swap width width near in
-    let each : sum_below width (λ c. sum_below width (λ m. near m c)) ≤ sum_below width
-    (λ c. reach k * (4 * k) * weigh c) =
+    let swapped : sum_below width (λ m. sum_below width (near m))
+    ≡ sum_below width (λ c. sum_below width (λ m. near m c)) = sum_below_swap width width near in
+    let each : sum_below width (λ c. sum_below width (λ m. near m c))
+    ≤ sum_below width (λ c. reach k * (4 * k) * weigh c) =
     sum_below_le width (λ c. sum_below width (λ m. near m c)) (λ c. reach k * (4 * k) * weigh c)
     (λ c h. omega (arith, few_places width c (reach k) (4 * k * weigh c))) in
-    let all : reach k * (4 * k) * sum_below width weigh ≡ sum_below width (λ c. reach k * (4 * k) * weigh c) =
+    let all : reach k * (4 * k) * sum_below width weigh
+    ≡ sum_below width (λ c. reach k * (4 * k) * weigh c) =
     sum_below_times (reach k * (4 * k)) width weigh in
     let weight : reach k * (4 * k) * sum_below width weigh ≡ reach k * (4 * k) * weight_from r b grid =
     ap (λ x. reach k * (4 * k) * x) (entries_weigh r b grid) in

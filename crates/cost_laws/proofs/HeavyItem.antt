@@ -39,11 +39,11 @@ item_classes k m size q small low within few some =
 pub heavy_item : (r : ℕ → ℕ) (k m size q : ℕ) → Falls r → k ≤ 64 → class_of size ≤ m → m < width
     → q < 2 * k * size → 2 ^ m ≤ q → q * r m ≤ item_near r k size m
 heavy_item r k m size q falls small low within few some =
-    let weighs : q * r m ≤ 2 * k * item_weight r size = heavy_item_weight k q size (r m)
-    (r (class_of size)) few (falls (class_of size) m low) in
+    let weighs : q * r m ≤ 2 * k * item_weight r size =
+    heavy_item_weight k q size (r m) (r (class_of size)) few (falls (class_of size) m low) in
     let here : item_near r k size m ≡ 2 * k * item_weight r size * 1 =
-    ap (λ x. 2 * k * item_weight r size * x) (inside_here (class_of size) (reach k) m low
-    (item_classes k m size q small low within few some)) in
+    ap (λ x. 2 * k * item_weight r size * x)
+    (inside_here (class_of size) (reach k) m low (item_classes k m size q small low within few some)) in
     omega (arith, weighs, here)
 
 pub heavy_items : (r : ℕ → ℕ) (k size : ℕ)

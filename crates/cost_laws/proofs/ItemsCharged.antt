@@ -37,8 +37,8 @@ pub record IsCharged (r : ℕ → ℕ) (k : ℕ) (caps : List ℕ) (total : ℕ)
 abbrev lesser : ℕ → ℕ × Bool → ℕ
 lesser least item = if item.1 then least else min least (class_of item.0)
 
-trigger_push : (tried : List (ℕ × Bool)) (item : ℕ × Bool) → fold lesser (width - 1) (tried ++ item ∷ [])
-    ≡ lesser (fold lesser (width - 1) tried) item
+trigger_push : (tried : List (ℕ × Bool)) (item : ℕ × Bool)
+    → fold lesser (width - 1) (tried ++ item ∷ []) ≡ lesser (fold lesser (width - 1) tried) item
 trigger_push tried item = fold_push lesser (width - 1) tried item
 
 abbrev found : ℕ × Bool → Bool
@@ -118,13 +118,13 @@ module _ (r : ℕ → ℕ) (k : ℕ) (caps : List ℕ) where
       → IsCharged r k caps (total + item_weight r size) (charge_one k caps charged size)
   charged_one charged size total h = charged_at charged size total h _ refl
 
-  pub charged_none : (grid : List (List ℕ)) → IsGrid width grid → IsCharged r k caps (grid_weight r grid)
-      (record { grid = grid; tried = [] })
+  pub charged_none : (grid : List (List ℕ)) → IsGrid width grid
+      → IsCharged r k caps (grid_weight r grid) (record { grid = grid; tried = [] })
   charged_none grid g = record { grid_full = g; weight = omega arith; missed = inl (refl, refl) }
 
   pub charged_all : (charged : Charged) (sizes : List ℕ) (total all : ℕ) → IsCharged r k caps total charged
-      → all ≡ total + sum_by (item_weight r) sizes → IsCharged r k caps all
-      (fold (charge_one k caps) charged sizes)
+      → all ≡ total + sum_by (item_weight r) sizes
+      → IsCharged r k caps all (fold (charge_one k caps) charged sizes)
   charged_all charged [] total all h is =
       record { grid_full = h.grid_full; weight = omega (arith, h.weight); missed = h.missed }
   charged_all charged (size ∷ sizes) total all h is =

@@ -23,11 +23,12 @@ light_weight k q t r w few less = omega (arith, mul-le-mul_right r few, mul-le-m
 pub light_class : (r : ℕ → ℕ) (k b m q : ℕ) (caps : List ℕ) (grid : List (List ℕ)) → Falls r
     → IsFilled k caps grid → b ≤ m → m < width → q ≤ 2 * k * taken_in grid m → q * r m ≤ light r k b grid m
 light_class r k b m q caps grid falls f high within few =
-    let weighs : q * r m ≤ 2 * k * row_weight r grid m = light_weight k q (taken_in grid m) (r m)
-    (row_weight r grid m) few (taken_weighs r grid m falls f.grid_full f.lower within) in
+    let weighs : q * r m ≤ 2 * k * row_weight r grid m =
+    light_weight k q (taken_in grid m) (r m) (row_weight r grid m) few
+    (taken_weighs r grid m falls f.grid_full f.lower within) in
     omega (arith, weighs, ap (λ x. 2 * k * x) (from-above b m (row_weight r grid) high))
 
 -- all of them together
-pub light_classes : (r : ℕ → ℕ) (k b : ℕ) (grid : List (List ℕ)) → sum_below width (light r k b grid)
-    ≡ 2 * k * weight_from r b grid
+pub light_classes : (r : ℕ → ℕ) (k b : ℕ) (grid : List (List ℕ))
+    → sum_below width (light r k b grid) ≡ 2 * k * weight_from r b grid
 light_classes r k b grid = sym (sum_below_times (2 * k) width (from b (row_weight r grid)))

@@ -39,10 +39,10 @@ module _ (r : ℕ → ℕ) (falls : Falls r) (k : ℕ) (m : Map) (book : Book) (
   moved_weigh : (from_class : ℕ) (moved : ℕ → ℕ) → ((d : ℕ) → d < from_class → moved d ≡ 0)
       → ((d : ℕ) → moved d ≤ 2 * slice_index (volumes (changed c m)) d)
       → (let charged = charge_change k m book c in
-      sum_below width (λ d. moved d * r d) ≤ 2 * sum_below width
-      (from from_class (λ d. buffered_then m book c charged d * r d)) + (2 * sum_below width
-      (from from_class (λ d. payload_rest m book c d * r d)) + 2 * sum_below width
-      (λ d. pending_bytes c charged d * r d)))
+      sum_below width (λ d. moved d * r d)
+      ≤ 2 * sum_below width (from from_class (λ d. buffered_then m book c charged d * r d))
+      + (2 * sum_below width (from from_class (λ d. payload_rest m book c d * r d))
+      + 2 * sum_below width (λ d. pending_bytes c charged d * r d)))
   moved_weigh a moved none few =
       let charged = charge_change k m book c in
       let f = from a (λ d. buffered_then m book c charged d * r d) in
@@ -52,8 +52,9 @@ module _ (r : ℕ → ℕ) (falls : Falls r) (k : ℕ) (m : Map) (book : Book) (
       sum_below_le width (λ d. moved d * r d) (λ d. 2 * (f d + (g d + p d))) (λ d h. elim (cases_lt d a) [
         | inl below ↦ let z : 0 * r d ≡ 0 = omega arith in omega (arith, z, ap (λ x. x * r d) (none d below))
         | inr past ↦
-            let bytes : moved d ≤ 2 * (buffered_then m book c charged d +
-            (payload_rest m book c d + pending_bytes c charged d)) =
+            let bytes : moved d
+            ≤ 2 * (buffered_then m book c charged d
+            + (payload_rest m book c d + pending_bytes c charged d)) =
             omega (arith, few d, volumes_after m book c charged d) in
             omega (
               arith,
@@ -76,8 +77,8 @@ module _ (r : ℕ → ℕ) (falls : Falls r) (k : ℕ) (m : Map) (book : Book) (
       → (let charged = charge_change k m book c in let a = boundary_of charged.grid (trigger charged) in
       Missed r k book.caps charged → ((d : ℕ) → d < a → moved d ≡ 0)
       → ((d : ℕ) → moved d ≤ 2 * slice_index (volumes (changed c m)) d)
-      → sum_below width (λ d. moved d * r d) ≤ (8 * k * reach k + 4 * k + 2) * weight_from r a charged.grid +
-      (4 * k * reach k + 2) * missed_weight r charged.tried)
+      → sum_below width (λ d. moved d * r d) ≤ (8 * k * reach k + 4 * k + 2) * weight_from r a charged.grid
+      + (4 * k * reach k + 2) * missed_weight r charged.tried)
   moves_weigh moved one none few =
       let charged = charge_change k m book c in
       let kept = change_keeps k m book c b in
@@ -90,15 +91,16 @@ module _ (r : ℕ → ℕ) (falls : Falls r) (k : ℕ) (m : Map) (book : Book) (
         within = λ d. payload_fits k m book c d b;
         least = λ d. payload_least m book c d;
       } in
-      let payload : sum_below width
-      (from a (λ d. payload_rest m book c d * r d)) ≤ 2 * k * weight_from r a charged.grid + reach k *
-      (4 * k * weight_from r a charged.grid) + 2 * k * item_weight r one.size * reach k =
-      subst (λ x. let y = boundary_of charged.grid x in sum_below width
-      (from y (λ d. payload_rest m book c d * r d)) ≤ 2 * k * weight_from r y charged.grid + reach k *
-      (4 * k * weight_from r y charged.grid) + 2 * k * item_weight r one.size * reach k)
-      one.class (payload_weighs r falls k book.caps charged.grid one.size (payload_rest m book c) has) in
-      let buffered : sum_below width
-      (from a (λ d. buffered_then m book c charged d * r d)) ≤ weight_from r a charged.grid =
+      let payload : sum_below width (from a (λ d. payload_rest m book c d * r d))
+      ≤ 2 * k * weight_from r a charged.grid + reach k * (4 * k * weight_from r a charged.grid)
+      + 2 * k * item_weight r one.size * reach k =
+      subst (λ x. let y = boundary_of charged.grid x in
+      sum_below width (from y (λ d. payload_rest m book c d * r d))
+      ≤ 2 * k * weight_from r y charged.grid + reach k * (4 * k * weight_from r y charged.grid)
+      + 2 * k * item_weight r one.size * reach k) one.class
+      (payload_weighs r falls k book.caps charged.grid one.size (payload_rest m book c) has) in
+      let buffered : sum_below width (from a (λ d. buffered_then m book c charged d * r d))
+      ≤ weight_from r a charged.grid =
       buffered_weigh r a charged.grid
       (buffered_then m book c charged) kept.filled.lower kept.holds.buffers in
       let pending : sum_below width (λ d. pending_bytes c charged d * r d) ≤ missed_weight r charged.tried =

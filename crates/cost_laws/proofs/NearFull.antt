@@ -13,8 +13,8 @@ use Rattle.segment_layout.specs.Balance.{IsFilled}
 use Rattle.cost_laws.specs.Buffers.{PassedOver}
 
 -- where not all pass, one fails
-some_fails : {X : Type 0} (p : X → Bool) (d : X) (xs : List X) → list_all p xs ≡ false → (i : ℕ)
-    × (i < length xs) × (p (slice_index_or xs i d) ≡ false)
+some_fails : {X : Type 0} (p : X → Bool) (d : X) (xs : List X) → list_all p xs ≡ false
+    → (i : ℕ) × (i < length xs) × (p (slice_index_or xs i d) ≡ false)
 some_fails p d [] is = absurd (true≢false is)
 some_fails p d (x ∷ xs) is =
     elim (cases_Bool (p x)) [

@@ -3,7 +3,7 @@
 use Rattle.std.specs.Prelude.{◌≡◌, ℕ, ◌+◌, ◌*◌, ◌≤◌, List, slice_index}
 use Rattle.std.proofs.Common.{arith, ◌∙◌, ap, inl, inr}
 use Rattle.std.proofs.lemmas.Bool.{cases_Bool}
-use Rattle.size_class.specs.Classes.{width, zero_row, zero_grid, row, cell}
+use Rattle.size_class.specs.Classes.{width, zero_row, zero_grid, row}
 use Rattle.size_class.proofs.ClassLaws.{zero_row-index, zero_grid-cell}
 use Rattle.store_terms.specs.Maps.{Map}
 use Rattle.store_terms.specs.Requests.{Change, changed}
@@ -15,17 +15,17 @@ use Rattle.segment_layout.proofs.SumLaws.{sum_below_agree, sum_below_add, sum_be
 use Rattle.move_cost.specs.Costs.{IsCost, factor, rate, weigh, potential}
 use Rattle.cost_laws.proofs.RateFalls.{weigh_grid}
 use Rattle.cost_laws.specs.Asked.{asked_row}
-use Rattle.cost_laws.specs.Moves.{MovesNext, rise}
+use Rattle.cost_laws.specs.Moves.{next_grid, MovesNext, rise}
 use Rattle.cost_laws.proofs.MoveLaws.{rise-index}
 use Rattle.cost_laws.specs.Paid.{IsWeighed, ArePaid, AsksNext, IsPaid}
 use Rattle.cost_laws.proofs.CheapLaws.{cheap}
-use Rattle.cost_laws.specs.Cells.{NoCellFalls}
+use Rattle.cost_laws.specs.Cells.{HasNoneFrom, NoCellFalls}
 use Rattle.cost_laws.proofs.CellLaws.{potential_rises}
 
 -- a row weighs what it weighed and what it rose by
 weigh_rise : (C : ℕ) (cost : ℕ → ℕ) (old new : List ℕ) → C ≤ width
-    → ((c : ℕ) → slice_index old c ≤ slice_index new c) → weigh C cost new ≡ weigh C cost old + weigh C cost
-    (rise old new)
+    → ((c : ℕ) → slice_index old c ≤ slice_index new c)
+    → weigh C cost new ≡ weigh C cost old + weigh C cost (rise old new)
 weigh_rise C cost old new fits later =
     sum_below_agree C (λ c. slice_index new c * rate C cost c)
     (λ c. slice_index old c * rate C cost c + slice_index (rise old new) c * rate C cost c) (λ c h.
@@ -45,7 +45,8 @@ weigh_none C cost cells none = sum_below_zero C (λ c. slice_index cells c * rat
 -- a new store has paid for nothing
 pub potential_none : (C k : ℕ) (cost : ℕ → ℕ) → potential C cost k zero_grid ≡ 0
 potential_none C k cost =
-    let none : weigh_grid C cost zero_grid ≡ 0 = sum_below_zero C (λ j. weigh C cost (row zero_grid j))
+    let none : weigh_grid C cost zero_grid ≡ 0 =
+    sum_below_zero C (λ j. weigh C cost (row zero_grid j))
     (λ j h. weigh_none C cost (row zero_grid j) (λ c. zero_grid-cell j c)) in
     let z : factor k * 0 ≡ 0 = omega arith in
     ap (λ x. factor k * x) none ∙ z
@@ -69,49 +70,51 @@ paid_first C k cost grid = omega (arith, weigh_none C cost zero_row zero_row-ind
 
 -- going back to a grid that has no more in any cell
 pub paid_back : (C k : ℕ) (cost : ℕ → ℕ) (first : ℕ) (moved asked : List ℕ) (kept grid : List (List ℕ))
-    → NoCellFalls kept grid → IsPaid C k cost first moved asked grid → IsPaid C k cost first moved asked kept
+    → NoCellFalls kept grid → IsPaid C k cost first moved asked grid
+    → IsPaid C k cost first moved asked kept
 paid_back C k cost first moved asked kept grid rises paid =
     omega (arith, paid, potential_rises C k cost kept grid rises)
 
 module _ (C k : ℕ) (cost : ℕ → ℕ) (m : Map) (book : Book) (c : Change) (w : IsWeighed C k cost m book) where
   -- one change, by the ledger before and after
-  pub cheap_call : (moved moved' asked asked' : List ℕ) → MovesNext (next_book k m book c)
-      (changed c m) moved moved' → AsksNext m c asked asked'
-      → ArePaid C k cost (rise moved moved') (rise asked asked') book.grid (next_book k m book c).book.grid
-  cheap_call moved moved' asked asked' moves asks =
-      let same : weigh C cost (rise asked asked') ≡ weigh C cost (asked_row m c) =
-      sum_below_agree C (λ d. slice_index (rise asked asked') d * rate C cost d)
+  pub cheap_call : (moved moved_then asked asked_then : List ℕ)
+      → MovesNext (next_book k m book c) (changed c m) moved moved_then → AsksNext m c asked asked_then
+      → ArePaid C k cost (rise moved moved_then) (rise asked asked_then) book.grid (next_grid k m book c)
+  cheap_call moved moved_then asked asked_then moves asks =
+      let same : weigh C cost (rise asked asked_then) ≡ weigh C cost (asked_row m c) =
+      sum_below_agree C (λ d. slice_index (rise asked asked_then) d * rate C cost d)
       (λ d. slice_index (asked_row m c) d * rate C cost d) (λ d h.
-      let e : slice_index (rise asked asked') d ≡ slice_index (asked_row m c) d =
-      omega (arith, asks d, rise-index asked asked' d (omega (arith, w.fits))) in
+      let e : slice_index (rise asked asked_then) d ≡ slice_index (asked_row m c) d =
+      omega (arith, asks d, rise-index asked asked_then d (omega (arith, w.fits))) in
       ap (λ x. x * rate C cost d) e) in
-      omega (arith, cheap C k cost m book c w moved moved' moves, ap (λ x. factor k * x) same)
+      omega (arith, cheap C k cost m book c w moved moved_then moves, ap (λ x. factor k * x) same)
 
-  later : (moved moved' : List ℕ) → MovesNext (next_book k m book c) (changed c m) moved moved' → (d : ℕ)
-      → slice_index moved d ≤ slice_index moved' d
-  later moved moved' moves d =
+  later : (moved moved_then : List ℕ) → MovesNext (next_book k m book c) (changed c m) moved moved_then
+      → (d : ℕ) → slice_index moved d ≤ slice_index moved_then d
+  later moved moved_then moves d =
       elim (cases_Bool (next_book k m book c).quiet) [
         | inl quiet ↦ omega (arith, moves.quiet quiet d)
         | inr flush ↦ (moves.flush flush).later d
       ]
 
-  pub paid_next : (first : ℕ) (moved moved' asked asked' : List ℕ) → MovesNext (next_book k m book c)
-      (changed c m) moved moved' → AsksNext m c asked asked' → IsPaid C k cost first moved asked book.grid
-      → IsPaid C k cost first moved' asked' (next_book k m book c).book.grid
-  paid_next first moved moved' asked asked' moves asks paid =
-      let all : factor k * weigh C cost asked' ≡ factor k * (weigh C cost asked + weigh C cost
-      (rise asked asked')) = ap (λ x. factor k * x) (weigh_rise C cost asked asked' w.fits
-      (λ d. omega (arith, asks d))) in
+  pub paid_next : (first : ℕ) (moved moved_then asked asked_then : List ℕ)
+      → MovesNext (next_book k m book c) (changed c m) moved moved_then → AsksNext m c asked asked_then
+      → IsPaid C k cost first moved asked book.grid
+      → IsPaid C k cost first moved_then asked_then (next_grid k m book c)
+  paid_next first moved moved_then asked asked_then moves asks paid =
+      let all : factor k * weigh C cost asked_then
+      ≡ factor k * (weigh C cost asked + weigh C cost (rise asked asked_then)) =
+      ap (λ x. factor k * x) (weigh_rise C cost asked asked_then w.fits (λ d. omega (arith, asks d))) in
       omega (
         arith,
         paid,
         all,
-        cheap_call moved moved' asked asked' moves asks,
-        weigh_rise C cost moved moved' w.fits (later moved moved' moves),
+        cheap_call moved moved_then asked asked_then moves asks,
+        weigh_rise C cost moved moved_then w.fits (later moved moved_then moves),
       )
 
   -- the next book is weighed by the same cost
-  pub weighed_next : ((j d : ℕ) → C ≤ j → cell (next_book k m book c).book.grid j d ≡ 0)
+  pub weighed_next : HasNoneFrom C (next_grid k m book c)
       → IsWeighed C k cost (changed c m) (next_book k m book c).book
   weighed_next within = record {
     fits = w.fits;

@@ -48,8 +48,9 @@ module _ (r : ℕ → ℕ) (falls : Falls r) (k : ℕ) (caps : List ℕ) (grid :
         | inl less ↦ heavy (heavy_bytes k (slice_index caps m) (taken_in grid m) d (payload m)
             (omega (arith, h.low)) near (h.within m) less)
         | inr more ↦
-            let few : payload m ≤ 2 * k * taken_in grid m = light_bytes k (slice_index caps m)
-            (taken_in grid m) d (payload m) (omega (arith, h.low)) near (h.within m) more in
+            let few : payload m ≤ 2 * k * taken_in grid m =
+            light_bytes k (slice_index caps m) (taken_in grid m) d (payload m)
+            (omega (arith, h.low)) near (h.within m) more in
             omega (arith, light_class r k boundary m (payload m) caps grid falls h.filled high within few)
       ]
 
@@ -71,9 +72,9 @@ module _ (r : ℕ → ℕ) (falls : Falls r) (k : ℕ) (caps : List ℕ) (grid :
         ]
       ]
 
-  pub payload_weighs : sum_below width
-      (from boundary (λ m. payload m * r m)) ≤ 2 * k * weight_from r boundary grid + reach k *
-      (4 * k * weight_from r boundary grid) + 2 * k * item_weight r size * reach k
+  pub payload_weighs : sum_below width (from boundary (λ m. payload m * r m))
+      ≤ 2 * k * weight_from r boundary grid + reach k * (4 * k * weight_from r boundary grid)
+      + 2 * k * item_weight r size * reach k
   payload_weighs =
       let each : sum_below width (from boundary (λ m. payload m * r m)) ≤ sum_below width bound =
       sum_below_le width (from boundary (λ m. payload m * r m)) bound

@@ -10,6 +10,7 @@ use Rattle.move_cost.specs.Costs.{IsCost, rate, weigh}
 use Rattle.segment_layout.proofs.SumLaws.{sum_below_agree, sum_below_zero}
 use Rattle.cost_laws.proofs.FewPlaces.{sum_below_less, sum_below_rest}
 use Rattle.cost_laws.proofs.Weights.{cells_weight, row_weight, grid_weight}
+use Rattle.cost_laws.specs.Cells.{HasNoneFrom}
 
 -- a weight that never rises with the class
 abbrev pub Falls : (ℕ → ℕ) → Type 0
@@ -42,8 +43,8 @@ rates_fall C cost is i j h =
     ]
 
 -- a row weighs what its classes below C weigh
-pub weigh_is : (C : ℕ) (cost : ℕ → ℕ) (cells : List ℕ) → C ≤ width → weigh C cost cells ≡ cells_weight
-    (rate_below C cost) cells
+pub weigh_is : (C : ℕ) (cost : ℕ → ℕ) (cells : List ℕ) → C ≤ width
+    → weigh C cost cells ≡ cells_weight (rate_below C cost) cells
 weigh_is C cost cells fits =
     sum_below_agree C (λ c. slice_index cells c * rate C cost c)
     (λ c. slice_index cells c * rate_below C cost c) (λ c h. ap (λ x. slice_index cells c * x)
@@ -67,8 +68,7 @@ weigh_grid_le C cost grid fits =
       sum_below_less C width (row_weight r grid) fits,
     )
 
-pub weigh_grid_is : (C : ℕ) (cost : ℕ → ℕ) (grid : List (List ℕ)) → C ≤ width → ((j c : ℕ) → C ≤ j
-    → cell grid j c ≡ 0) → weigh_grid C cost grid ≡ grid_weight (rate_below C cost) grid
+pub weigh_grid_is : (C : ℕ) (cost : ℕ → ℕ) (grid : List (List ℕ)) → C ≤ width → HasNoneFrom C grid → weigh_grid C cost grid ≡ grid_weight (rate_below C cost) grid
 weigh_grid_is C cost grid fits none =
     let r = rate_below C cost in
     sum_below_agree C (λ j. weigh C cost (row grid j)) (row_weight r grid) (λ j h. weigh_is C cost

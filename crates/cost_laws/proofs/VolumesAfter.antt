@@ -76,8 +76,8 @@ left_least true x n least = inl refl
 left_least false x n least = least
 
 -- a class has none there, or at least its least size
-pub payload_least : (m : Map) (book : Book) (c : Change) (d : ℕ) → (payload_rest m book c d ≡ 0)
-    ⊎ (2 ^ d ≤ payload_rest m book c d)
+pub payload_least : (m : Map) (book : Book) (c : Change) (d : ℕ)
+    → (payload_rest m book c d ≡ 0) ⊎ (2 ^ d ≤ payload_rest m book c d)
 payload_least m book c d = none_or_least (2 ^ d) (in_payload book.buffered d)
     (fin.entries (fin.remove m c.name)) (λ e. left_least (set.contains book.buffered e.0)
     (bytes_in d (length e.1)) (2 ^ d) (bytes_least d (length e.1)))
@@ -90,8 +90,9 @@ weight_out names name d None = sym (none_out (set.contains names name) 0 refl)
 weight_out names name d (Some object) = refl
 
 payload_after : (m : Map) (c : Change) (names : Names) (found : Bool) (d : ℕ)
-    → weights (in_payload (names_after names c.name found) d) (changed c m) ≡ weights (in_payload names d)
-    (fin.remove m c.name) + cond found 0 (weight (in_class d) c.name c.object)
+    → weights (in_payload (names_after names c.name found) d) (changed c m)
+    ≡ weights (in_payload names d) (fin.remove m c.name)
+    + cond found 0 (weight (in_class d) c.name c.object)
 payload_after m c names found d =
     weights_after (in_payload names d) (in_payload (names_after names c.name found) d) c m
     (λ q v other. ap (λ t. cond t 0 (bytes_in d (length v)))
@@ -101,8 +102,8 @@ payload_after m c names found d =
     ∙ ap (λ t. cond t 0 (weight (in_class d) c.name c.object)) (after_here names c.name found))
 
 pub volumes_after : (m : Map) (book : Book) (c : Change) (charged : Charged) (d : ℕ)
-    → slice_index (volumes (changed c m)) d ≡ buffered_then m book c charged d +
-    (payload_rest m book c d + pending_bytes c charged d)
+    → slice_index (volumes (changed c m)) d
+    ≡ buffered_then m book c charged d + (payload_rest m book c d + pending_bytes c charged d)
 volumes_after m book c charged d = omega (
   arith,
   both_are (changed c m) (buffered_after book c charged) d,
@@ -121,21 +122,22 @@ object_weighs r name None = sum_below_zero width (λ d. 0 * r d) (λ d h. omega 
 object_weighs r name (Some object) = bytes_weigh r (length object)
 
 missed_within : (r : ℕ → ℕ) (k : ℕ) (caps : List ℕ) (first : Charged) (o : Option (List ℕ))
-    → (let after = fold (charge_one k caps) first (item_of o) in cond (found_room (item_of o)
-    (drop (length after.tried - length (item_of o)) after.tried)) 0
+    → (let after = fold (charge_one k caps) first (item_of o) in
+    cond (found_room (item_of o) (drop (length after.tried - length (item_of o)) after.tried)) 0
     (object_weight r o) ≤ missed_weight r after.tried)
 missed_within r k caps first None = omega arith
 missed_within r k caps first (Some object) =
     let size = length object in
-    let Goal = λ (items : List ℕ). (let after = fold (charge_one k caps) first items in cond
-    (found_room items (drop (length after.tried - length items) after.tried)) 0
+    let Goal = λ (items : List ℕ). (let after = fold (charge_one k caps) first items in
+    cond (found_room items (drop (length after.tried - length items) after.tried)) 0
     (item_weight r size) ≤ missed_weight r after.tried) in
     elim (cases_Bool (nat_lt 0 size)) [
       | inl some ↦
-          let tried : (charge_one k caps first size).tried ≡ first.tried ++ (size, finds k caps first size)
-          ∷ [] = tried_one k caps first size in
-          let answer : found_room (size ∷ []) (drop (length (charge_one k caps first size).tried - 1)
-          (charge_one k caps first size).tried) ≡ finds k caps first size =
+          let tried : (charge_one k caps first size).tried
+          ≡ first.tried ++ (size, finds k caps first size) ∷ [] = tried_one k caps first size in
+          let answer : found_room (size ∷ [])
+          (drop (length (charge_one k caps first size).tried - 1) (charge_one k caps first size).tried)
+          ≡ finds k caps first size =
           ap (λ (xs : List (ℕ × Bool)). found_room (size ∷ []) (drop (length xs - 1) xs)) tried
           ∙ last_found first.tried size (finds k caps first size) in
           let weight : missed_weight r (charge_one k caps first size).tried
@@ -148,8 +150,8 @@ missed_within r k caps first (Some object) =
           (omega (arith, weight, ap (λ b. cond b 0 (item_weight r size)) answer))
       | inr none ↦
           let empty : size ≡ 0 = omega (arith, ltb-false 0 size none) in
-          let nothing : item_weight r size ≡ 0 = ap (item_weight r) empty ∙ (let z : 0 * r (class_of 0) ≡ 0 =
-          omega arith in z) in
+          let nothing : item_weight r size ≡ 0 =
+          ap (item_weight r) empty ∙ (let z : 0 * r (class_of 0) ≡ 0 = omega arith in z) in
           subst Goal (sym (cond-false (nat_lt 0 size) (size ∷ []) [] none)) (omega (arith, nothing))
     ]
 
@@ -163,21 +165,21 @@ cond_sum false f = refl
 
 -- it weighs at most what the items weigh that found no room
 pub pending_weighs : (r : ℕ → ℕ) (k : ℕ) (m : Map) (book : Book) (c : Change)
-    → (let charged = charge_change k m book c in sum_below width
-    (λ d. pending_bytes c charged d * r d) ≤ missed_weight r charged.tried)
+    → (let charged = charge_change k m book c in
+    sum_below width (λ d. pending_bytes c charged d * r d) ≤ missed_weight r charged.tried)
 pending_weighs r k m book c =
     let charged = charge_change k m book c in
     let t = is_new_buffered c charged in
     let sum : sum_below width (λ d. pending_bytes c charged d * r d) ≡ cond t 0 (object_weight r c.object) =
     sum_below_agree width (λ d. pending_bytes c charged d * r d)
-    (λ d. cond t 0 (weight (in_class d) c.name c.object * r d)) (λ d h. cond_times t
-    (weight (in_class d) c.name c.object) (r d))
+    (λ d. cond t 0 (weight (in_class d) c.name c.object * r d))
+    (λ d h. cond_times t (weight (in_class d) c.name c.object) (r d))
     ∙ cond_sum t (λ d. weight (in_class d) c.name c.object * r d)
     ∙ ap (cond t 0) (object_weighs r c.name c.object) in
     let first = charge_all k book.caps book.grid (old_item m book c.name) in
     let second : cond t 0 (object_weight r c.object) ≤ missed_weight r charged.tried =
-    subst (λ (after : Charged). cond (is_new_buffered c after) 0
-    (object_weight r c.object) ≤ missed_weight r after.tried)
+    subst (λ (after : Charged). cond (is_new_buffered c after) 0 (object_weight r c.object)
+    ≤ missed_weight r after.tried)
     (sym (charge_all-append k book.caps book.grid (old_item m book c.name) (new_item c)))
     (missed_within r k book.caps first c.object) in
     omega (arith, sum, second)

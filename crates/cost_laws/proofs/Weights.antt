@@ -34,16 +34,17 @@ pub weight-with_entry : (r : ℕ → ℕ) (grid : List (List ℕ)) (j size : ℕ
 weight-with_entry r grid j size g hj =
     let c = class_of size in
     let new = with_entry grid j c size in
-    let here : cell new j c ≡ cell grid j c + size = cell-with_entry_same grid j c size
-    (omega (arith, g.full)) (omega (arith, (g.rows j hj).full, class_below size)) in
-    let grown : cell new j c * r c ≡ cell grid j c * r c + item_weight r size = ap (λ x. x * r c) here
-    ∙ omega arith in
+    let here : cell new j c ≡ cell grid j c + size =
+    cell-with_entry_same grid j c size (omega (arith, g.full))
+    (omega (arith, (g.rows j hj).full, class_below size)) in
+    let grown : cell new j c * r c ≡ cell grid j c * r c + item_weight r size =
+    ap (λ x. x * r c) here ∙ omega arith in
     let in_row : row_weight r new j + cell grid j c * r c ≡ row_weight r grid j + cell new j c * r c =
     sum_below_one width c (λ d. cell new j d * r d) (λ d. cell grid j d * r d) (class_below size)
     (λ d other. ap (λ x. x * r d) (cell-with_entry_class grid j c size j d other)) in
     let in_grid : grid_weight r new + row_weight r grid j ≡ grid_weight r grid + row_weight r new j =
-    sum_below_one width j (row_weight r new) (row_weight r grid) hj (λ i other. ap (cells_weight r)
-    (row-with_entry_other grid j c size i other)) in
+    sum_below_one width j (row_weight r new) (row_weight r grid) hj
+    (λ i other. ap (cells_weight r) (row-with_entry_other grid j c size i other)) in
     omega (arith, grown, in_row, in_grid)
 
 pub weight-settled : (r : ℕ → ℕ) (b : ℕ) (grid : List (List ℕ)) → IsGrid width grid → b ≤ width
@@ -60,8 +61,8 @@ weight-settled r b grid g fits =
         from-below b j (row_weight r grid) low,
       )
       | inr high ↦
-          let none : row_weight r new j ≡ 0 = sum_below_zero width (λ c. cell new j c * r c)
-          (λ c hc. let z : 0 * r c ≡ 0 = omega arith in ap (λ x. x * r c)
-          (cell-settled_above b j c grid g.full fits high) ∙ z) in
+          let none : row_weight r new j ≡ 0 =
+          sum_below_zero width (λ c. cell new j c * r c) (λ c hc. let z : 0 * r c ≡ 0 = omega arith in
+          ap (λ x. x * r c) (cell-settled_above b j c grid g.full fits high) ∙ z) in
           omega (arith, none, from-above b j (row_weight r grid) high)
     ])

@@ -13,8 +13,8 @@ rate_falls_once : (C : ℕ) (cost : ℕ → ℕ) (c : ℕ) → IsCost C cost →
     → rate C cost (c + 1) ≤ rate C cost c
 rate_falls_once C cost c is low =
     let next : C - 1 - c ≡ C - 1 - (c + 1) + 1 = omega arith in
-    let double : 2 ^ (C - 1 - c) ≡ 2 * 2 ^ (C - 1 - (c + 1)) = ap (λ x. 2 ^ x) next
-        ∙ power_next (C - 1 - (c + 1)) in
+    let double : 2 ^ (C - 1 - c) ≡ 2 * 2 ^ (C - 1 - (c + 1)) =
+        ap (λ x. 2 ^ x) next ∙ power_next (C - 1 - (c + 1)) in
     let here : rate C cost c ≡ cost c * (2 * 2 ^ (C - 1 - (c + 1))) = ap (λ x. cost c * x) double in
     omega (arith, here, mul-le-mul_right (2 ^ (C - 1 - (c + 1))) (is.slowly c low))
 
@@ -34,14 +34,15 @@ rate_high C cost c is low fits =
     omega (arith, rate_falls C cost 0 c is (omega arith), ap (rate C cost) at, mul-le (cost 0)
         (2 ^ (C - 1 - 0)) (2 ^ 20) (2 ^ 31) is.fits power, all)
 
-sum_next : (f : ℕ → ℕ) (first n : ℕ) → sum (map f (counting_from first (n + 1)))
-    ≡ sum (map f (counting_from first n)) + f (first + n)
+sum_next : (f : ℕ → ℕ) (first n : ℕ)
+    → sum (map f (counting_from first (n + 1))) ≡ sum (map f (counting_from first n)) + f (first + n)
 sum_next f first zero = let e : first ≡ first + 0 = omega arith in let g : f first ≡ f (first + 0) =
     ap f e in omega (arith, g, sum_by-cons (λ x. x) (f first) (map f (counting_from (first + 1) 0)))
 sum_next f first (suc n) =
     let e : suc n + 1 ≡ suc (n + 1) = omega arith in
     let whole : sum (map f (counting_from first (suc n + 1)))
-        ≡ sum (map f (counting_from first (suc (n + 1)))) = ap (λ x. sum (map f (counting_from first x))) e in
+        ≡ sum (map f (counting_from first (suc (n + 1)))) =
+        ap (λ x. sum (map f (counting_from first x))) e in
     let at : first + 1 + n ≡ first + suc n = omega arith in
     omega (arith, whole, ap f at, sum_by-cons (λ x. x) (f first) (map f (counting_from (first + 1) (n + 1))),
         sum_by-cons (λ x. x) (f first) (map f (counting_from (first + 1) n)), sum_next f (first + 1) n)
@@ -58,8 +59,6 @@ sum_below_none f = refl
 pub small_power : (n : ℕ) → 2 ^ n < 2 * 64 → n < 7
 small_power n less = elim (cases_lt n 7) [ inl h ↦ h | inr high ↦ absurd (let e : 2 ^ 7 ≡ 2 * 64 =
     refl in omega (arith, power_rises 7 n high)) ]
-
--- ---- three costs
 
 -- ---- the weight of fewer than 2^64 bytes of a class
 
