@@ -1,16 +1,16 @@
-//! Three costs: by the bytes, the same for each class, and by the bytes with a start.
+//! Three costs: by the bytes, the same for each object, and by the bytes with a start.
 ghost use Rattle.move_cost.specs.Costs.{linear, flat, seek};
 ghost use Rattle.move_cost.specs.Lawful.{linear_is, flat_is, seek_is};
 
 use crate::CostTable;
 
-/// A byte of class `c` costs `2^c`.
+/// An object of `2^c` bytes costs `2^c`: each byte the same.
 pub struct Linear;
 
-/// Each byte costs 1.
+/// Each object of `2^c` bytes costs 1, whatever its class: a byte of a greater one costs less.
 pub struct Flat;
 
-/// A byte of class `c` costs `64 + 2^c`.
+/// An object of `2^c` bytes costs `64 + 2^c`: to find it, and its bytes.
 pub struct Seek;
 
 impl<const C: usize> CostTable<C> for Linear {
