@@ -127,7 +127,12 @@ fn start_placed<const C: usize>(
 }
 
 /// Begins a flush of the objects of a table from class `b` on, with nothing pending.
-fn start_lifting<const C: usize>(table: &Table, layout: &Layout<C>, list: Vec<Item>, b: u8) -> Lifting<C>
+fn start_lifting<const C: usize>(
+    table: &Table,
+    layout: &Layout<C>,
+    list: Vec<Item>,
+    b: u8,
+) -> Lifting<C>
     requires fits { C ≤ 32 }
     requires empty { list.items ≡ [] }
     requires list_room { table.now.names ≤ vec_capacity list }

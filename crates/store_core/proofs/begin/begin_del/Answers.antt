@@ -31,24 +31,23 @@ start_lifting-requires g c =
       divisor = cc.ensures.divisor;
       caps_are = cc.ensures.caps;
       boundary = c.boundary-boundary.ensures.same;
-    } in
-    (
-  lit< tt,
-  (
-    lit< tt,
-    (
-      c.requires.fits,
+    } in (
+      lit< tt,
       (
-        c.requires.empty,
+        lit< tt,
         (
-          omega (arith, c.take_out.ensures.without.names, c.requires.list_room),
-          del_ready c.requires.before.1 c.args.name.now (parts_of c.take_out.new.hands) c.take_out.ensures
-              c.get-old.result c.get-old.ensures _ _ _ _ _ _ _ ch c.requires.loud,
+          c.requires.fits,
+          (
+            c.requires.empty,
+            (
+              omega (arith, c.take_out.ensures.without.names, c.requires.list_room),
+              del_ready c.requires.before.1 c.args.name.now (parts_of c.take_out.new.hands) c.take_out.ensures
+                  c.get-old.result c.get-old.ensures _ _ _ _ _ _ _ ch c.requires.loud,
+            ),
+          ),
         ),
       ),
-    ),
-  ),
-)
+    )
 
 pub returns-clause-begun : goal.returns-clause-begun
 returns-clause-begun g c =
