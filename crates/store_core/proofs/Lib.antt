@@ -22,3 +22,4 @@ pub mod KeepEffectLaws
 pub mod FlushedLaws
 pub mod BeginLaws
 pub mod BegunLaws
+pub mod FlyLaws

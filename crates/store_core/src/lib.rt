@@ -6,6 +6,7 @@ mod answers;
 mod begin;
 mod charges;
 mod copy;
+mod flush;
 mod held;
 mod keep;
 pub mod laws;

@@ -185,7 +185,12 @@ impl<const C: usize> Store<C> {
 }
 
 /// Writes a new object at its place; one without bytes isn't written.
-fn write_new<D: Disk>(disk: &mut D, base: u64, place: u64, bytes: &[u8]) -> Result<(), DiskFault>
+pub(crate) fn write_new<D: Disk>(
+    disk: &mut D,
+    base: u64,
+    place: u64,
+    bytes: &[u8],
+) -> Result<(), DiskFault>
     requires ready { IsTrue (D.state disk.old).is_ready }
     requires fits { base + place + length bytes.now < 2 ^ 63 }
     requires within { IsTrue (D.state disk.old).tells
