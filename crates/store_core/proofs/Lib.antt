@@ -23,3 +23,6 @@ pub mod FlushedLaws
 pub mod BeginLaws
 pub mod BegunLaws
 pub mod FlyLaws
+pub mod FlushLaws
+pub mod FlushDoneLaws
+pub mod ServeLaws

@@ -4,6 +4,7 @@
 
 mod answers;
 mod begin;
+mod change;
 mod charges;
 mod copy;
 mod flush;
