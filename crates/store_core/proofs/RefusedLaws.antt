@@ -1,11 +1,12 @@
 -- Changes that are refused.
 use Rattle.std.specs.Prelude.{◌≡◌, ℕ, Bool, true, false, if◌then◌else◌, List, Option, Some, None, option_map, Ok, Err, IfSome, IsNone, IsSome, refl}
-use Rattle.std.proofs.Common.{ap, ◌∙◌, subst}
+use Rattle.std.proofs.Common.{ap, sym, ◌∙◌, subst}
 use Rattle.store_terms.specs.Requests as ask
 use Rattle.store_terms.specs.Requests.{Change, Refused}
 use Rattle.store_core.specs.declared.answers.Refusal.{Refusal}
 use Rattle.store_core.specs.declared.answers.Refusal.TheVariants as why
-use Rattle.store_core.specs.Answers.{facts_at, refusal_for, refused_by, refused_reply}
+use Rattle.store_core.specs.Answers.{AnswersChange, facts_at, refusal_for, refused_by, refused_reply}
+use Rattle.store_core.specs.Plans.{AcceptsName}
 use Rattle.store_core.specs.Connection.{Kept, limits_of, state_of}
 use Rattle.store_core.specs.States.{Facts, Limits, State, Step, facts_of, refusal}
 use Rattle.store_core.specs.Stores.{IsStore}
@@ -54,3 +55,14 @@ refused_change_step s file c refused whole h is =
         (refused_replied (limits_of s) (state_of s file) (ask.change c) w
         (ap (λ (f : Facts). refusal (limits_of s) f (ask.change c))
         (facts_same s file (ask.change c) h.now.named h.kept.named) ∙ found))
+
+-- a name that isn't accepted is refused
+pub unaccepted : (o : Option Refusal) (name : List ℕ) (refused : Refusal) → AcceptsName o name (Err refused)
+    → o ≡ Some refused
+unaccepted None name refused is = absurd (cc)
+unaccepted (Some other) name refused is = let same : other ≡ refused = (cc) in
+    ap (λ (x : Refusal). Some x) same
+
+pub answers_refused : (quiet : Bool) (o : Option Refusal) (refused : Refusal) → o ≡ Some refused
+    → AnswersChange quiet o (Err refused)
+answers_refused quiet o refused is = subst (λ (x : Option Refusal). AnswersChange quiet x (Err refused)) (sym is) refl
