@@ -90,7 +90,7 @@ module _ {C : ℕ} (s : Inside C) (whole : IsWhole s) (table : Extents) (guard :
     kept_caps = refl;
     room = names ∙ whole.room;
     guard_room = room ∙ whole.guard_room;
-    table = is_table;
+    table = λ sound. is_table;
     sound = λ sound. subst (IsStore C) (sym back_view) (store_back (kept_of s) (whole.sound sound));
     freed = λ sound. subst (λ xs. IsFreed xs table.now table.kept) (sym spans)
         (subst (λ x. IsFreed [] x table.kept) (kept ∙ sym now) (freed_nothing table.kept));

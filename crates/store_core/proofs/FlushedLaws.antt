@@ -1,37 +1,35 @@
 -- A store once a flush is done: its parts agree, and it is over its file.
-use Rattle.std.specs.Prelude.{◌≡◌, ℕ, ◌+◌, ◌<◌, ◌≤◌, ◌^◌, List, [], vec_capacity, vec_len, refl}
+use Rattle.std.specs.Prelude.{◌≡◌, ℕ, ◌+◌, ◌<◌, ◌≤◌, ◌^◌, List, [], IsTrue, vec_capacity, vec_len, refl}
 use Rattle.std.proofs.Common.{arith, ap, sym, ◌∙◌, subst}
 use Rattle.std.specs.Global.{Vec}
+use Rattle.disk_face.specs.States as disk
+use Rattle.disk_face.specs.Moments.{Only}
 use Rattle.size_class.specs.declared.TheConstants.{SIZE_MAX}
-use Rattle.span_math.specs.declared.span.Span.{Span}
 use Rattle.slot_codec.specs.Choice as choice
+use Rattle.slot_codec.specs.Readable.{IsSuperBlock}
 use Rattle.slot_codec.specs.Spelling.{head_len}
-use Rattle.slot_pair.specs.Saves.{next_in_use}
+use Rattle.store_terms.specs.Maps.{Map}
+use Rattle.store_terms.specs.Requests.{Change}
 use Rattle.segment_layout.specs.Books.{Book}
 use Rattle.segment_layout.specs.Layouts.{caps_of, divisor_of, grid_of}
-use Rattle.segment_layout.specs.Shapes.{end_of, settled_grid}
-use Rattle.segment_layout.proofs.ShapeLaws.{IsGrid-settled}
-use Rattle.table_rules.specs.Opening.{OpensBy}
-use Rattle.table_rules.specs.Tables.{book_of, map_of}
-use Rattle.extent_table.specs.Extents.{Extents, IsTable, Spots}
+use Rattle.segment_layout.specs.Shapes.{end_of}
+use Rattle.table_rules.specs.Opening.{Opens, OpensBy}
+use Rattle.table_rules.specs.Tables.{map_of}
+use Rattle.extent_table.specs.Extents.{IsTable, Spots}
 use Rattle.spot_terms.specs.Held.{IsFreed}
-use Rattle.spot_terms.specs.Laid.{laid}
-use Rattle.spot_terms.specs.LaidOut.{IsLaidOut, shown_book}
+use Rattle.spot_terms.specs.LaidOut.{shown_book}
 use Rattle.spot_terms.specs.Reads.{read_at}
 use Rattle.spot_terms.proofs.GuardLaws.{freed_nothing}
 use Rattle.spot_terms.proofs.RiseLaws.{CellsRise-itself}
-use Rattle.spot_terms.proofs.ShownLaws.{book_shown}
 use Rattle.flush_plan.specs.declared.item.Item.{Item}
-use Rattle.flush_plan.specs.Phases.{Phase}
 use Rattle.flush_run.specs.declared.hands.Hands.{Hands}
 use Rattle.flush_run.specs.Flights.{Flight}
-use Rattle.flush_run.specs.Hands.{IsHandsFor}
-use Rattle.flush_run.specs.Loops.{phase_header}
-use Rattle.flush_run.specs.Settling.{IsSettled, ItemsLaid, end_caps}
-use Rattle.flush_run.proofs.SettledTableLaws.{end_book, end_row, end_valid}
+use Rattle.flush_run.specs.Parts.{Parts, parts_of}
+use Rattle.flush_run.specs.Settling.{FlushEnds, IsSettled}
 use Rattle.store_core.specs.declared.store.Store.TheInside.{Inside}
-use Rattle.store_core.specs.Connection.{IsOver, Kept, SameOnTable, base_of, kept_map, state_of}
+use Rattle.store_core.specs.Connection.{IsOver, Kept, RestsOnTable, SameOnTable, base_of, kept_map, state_of}
 use Rattle.store_core.specs.Flushed.{IsFlushed}
+use Rattle.store_core.specs.Flushing.{Setting, flight_of}
 use Rattle.store_core.specs.Inside.{IsWhole, kept_of}
 use Rattle.store_core.specs.Stores.{IsStore}
 use Rattle.store_core.proofs.OverLaws.{same_itself}
@@ -58,106 +56,84 @@ flushed_is u now caps grid s is = λ i. record s {
   kept_book = sym is.kept_book i;
 }
 
-module _ (f : Flight) (u : choice.InUse) (e : Extents) (caps : List ℕ) (grid : List (List ℕ)) (spans : List Span)
-    (p : Phase) (h : IsHandsFor f u e caps grid spans p) (top : f.size_max < 2 ^ f.classes)
-    (done : ItemsLaid u.block.k (end_caps f u e caps grid p) p.items) where
-  abbrev k : ℕ
-  k = u.block.k
+-- ---- a flush that ended
 
-  -- the layout of after
-  abbrev caps_after : List ℕ
-  caps_after = end_caps f u e caps grid p
+module _ {C : ℕ} (hands : Hands C) (x0 : Parts) (c : Change) (reach : ℕ) (g : Setting) (d : disk.State)
+    (ends : FlushEnds C (flight_of C x0 c reach g) (parts_of hands) d)
+    (names : hands.table.names ≡ hands.slots.block.names) (block : IsSuperBlock hands.slots.block) (s : Kept)
+    (is : IsFlushed C hands.slots hands.table.now (caps_of hands.layout) (grid_of hands.layout) s) where
+  abbrev f : Flight
+  f = flight_of C x0 c reach g
 
-  abbrev grid_after : List (List ℕ)
-  grid_after = settled_grid p.numbers.boundary grid
+  abbrev as_flushed : Kept
+  as_flushed = flushed_as C hands.slots hands.table.now (caps_of hands.layout) (grid_of hands.layout) s
 
-  laid_in_flight : IsLaidOut f.classes f.size_max k caps_after grid_after e.now
-  laid_in_flight = record {
-    few = h.few;
-    top = top;
-    caps_full = end_row f u e caps grid spans p h top done;
-    grid_full = IsGrid-settled f.classes p.numbers.boundary grid h.grid_full (omega (arith, h.boundary, h.few));
-    named = h.table.now_named;
-    valid = end_valid f u e caps grid spans p h top done;
-  }
+  same : as_flushed ≡ s
+  same = flushed_is hands.slots hands.table.now (caps_of hands.layout) (grid_of hands.layout) s is
 
-  module _ (classes : ℕ) (same_classes : f.classes ≡ classes) (same_max : f.size_max ≡ SIZE_MAX) where
-    -- the layout of after holds what stands now
-    pub flushed_laid : IsLaidOut classes SIZE_MAX k caps_after grid_after e.now
-    flushed_laid = subst (λ n. IsLaidOut classes n k caps_after grid_after e.now) same_max
-        (subst (λ n. IsLaidOut n f.size_max k caps_after grid_after e.now) same_classes laid_in_flight)
+  -- the store keeps what a store keeps
+  pub ended_store : IsStore C s
+  ended_store = subst (IsStore C) same (record {
+    block = block;
+    now = ends.laid;
+    now_book = refl;
+    now_few = omega (arith, ends.table.now_room, names);
+    now_in_range = ends.table.now_in_range;
+    kept = ends.laid;
+    kept_book = refl;
+    kept_few = omega (arith, ends.table.now_room, names);
+    kept_in_range = ends.table.now_in_range;
+    fuller = CellsRise-itself (grid_of hands.layout);
+  })
 
-    module _ (book : book_of (laid f.classes f.size_max k f.reach (phase_header p caps grid) e.now) ≡ f.new_book)
-      where
-        -- and its book is that of after
-        pub flushed_book : shown_book classes SIZE_MAX k caps_after grid_after e.now ≡ f.new_book
-        flushed_book = (λ i. shown_book (sym same_classes i) (sym same_max i) k caps_after grid_after e.now)
-            ∙ sym (book_shown f.classes f.size_max k caps_after grid_after e.now laid_in_flight)
-            ∙ end_book f u e caps grid spans p h top done ∙ book
+  module _ (base : head_len hands.slots.block.names ≡ x0.base) (told : IsTrue d.tells) where
+    abbrev file : List ℕ
+    file = d.file
 
-        module _ (s : Kept) (is : IsFlushed classes (next_in_use u) e.now caps_after grid_after s) where
-          abbrev as_flushed : Kept
-          as_flushed = flushed_as classes (next_in_use u) e.now caps_after grid_after s
+    settled : IsSettled f hands.slots hands.table.now (end_of hands.slots.block.k (caps_of hands.layout)) d.file
+        d.may_leave
+    settled = ends.file told
 
-          same : as_flushed ≡ s
-          same = flushed_is (next_in_use u) e.now caps_after grid_after s is
+    map_is : read_at (base_of as_flushed) file hands.table.now ≡ f.new_map
+    map_is = (λ i. map_of ((base ∙ settled.base) i) file (sym settled.records i)) ∙ sym settled.opens.same_map
 
-          -- the store keeps what a store keeps
-          pub flushed_store : IsStore classes s
-          flushed_store = subst (IsStore classes) same (record {
-            block = h.block;
-            now = flushed_laid;
-            now_book = refl;
-            now_few = omega (arith, h.table.now_room, h.names);
-            now_in_range = h.table.now_in_range;
-            kept = flushed_laid;
-            kept_book = refl;
-            kept_few = omega (arith, h.table.now_room, h.names);
-            kept_in_range = h.table.now_in_range;
-            fuller = CellsRise-itself grid_after;
-          })
+    opens_in : OpensBy C SIZE_MAX settled.t file (kept_map as_flushed file) as_flushed.kept_book
+    opens_in = subst (λ (m : Map). OpensBy C SIZE_MAX settled.t file m as_flushed.kept_book) (sym map_is)
+        (subst (λ (b : Book). OpensBy C SIZE_MAX settled.t file f.new_map b) (sym ends.book) settled.opens)
 
-          module _ (file : List ℕ) (may_leave : List ℕ → Type 0)
-              (settled : IsSettled f (next_in_use u) e.now (end_of k caps_after) file may_leave) where
-            map_is : read_at (base_of as_flushed) file e.now ≡ f.new_map
-            map_is = (λ i. map_of ((sym h.base ∙ settled.base) i) file (sym settled.records i))
-                ∙ sym settled.opens.same_map
+    -- it is over its file, and a crash leaves only that
+    pub ended_over : IsOver C s file
+    ended_over = subst (λ (x : Kept). IsOver C x file) same (record {
+      table = settled.t;
+      checkpoint = record { slot = settled.slot; records = settled.records; opens = opens_in };
+      same_length = omega (arith, settled.same_length, base);
+    })
 
-            opens_in : OpensBy classes SIZE_MAX settled.t file (kept_map as_flushed file) as_flushed.kept_book
-            opens_in = subst (λ m. OpensBy classes SIZE_MAX settled.t file m as_flushed.kept_book) (sym map_is)
-                (subst (λ (b : Book). OpensBy classes SIZE_MAX settled.t file f.new_map b) (sym flushed_book)
-                (subst (λ n. OpensBy classes n settled.t file f.new_map f.new_book) same_max
-                (subst (λ n. OpensBy n f.size_max settled.t file f.new_map f.new_book) same_classes
-                settled.opens)))
+    pub ended_only : Only file d.may_leave
+    ended_only = settled.only
 
-            -- it is over its file, and a crash leaves only that
-            pub flushed_over : IsOver classes s file
-            flushed_over = subst (λ (x : Kept). IsOver classes x file) same (record {
-              table = settled.t;
-              checkpoint = record { slot = settled.slot; records = settled.records; opens = opens_in };
-              same_length = omega (arith, settled.same_length, h.base);
-            })
+    pub ended_rests : RestsOnTable (base_of s) s.kept d
+    ended_rests image left = subst (SameOnTable (base_of s) s.kept file) (sym (settled.only image left))
+        (same_itself (base_of s) s.kept file)
 
-            pub flushed_rests : (image : List ℕ) → may_leave image → SameOnTable (base_of s) s.kept file image
-            flushed_rests image left = subst (SameOnTable (base_of s) s.kept file)
-                (sym (settled.only image left))
-                (same_itself (base_of s) s.kept file)
+    pub ended_opens : Opens C SIZE_MAX file f.new_map f.new_book
+    ended_opens = record { table = settled.t; opens = settled.opens }
 
-            -- the state over the file has the map and the book of after, now and at the checkpoint
-            pub flushed_state : state_of s file ≡ record {
-              map = f.new_map;
-              kept = f.new_map;
-              book = f.new_book;
-              kept_book = f.new_book;
-              sequence = u.sequence + 1;
-            }
-            flushed_state = ap (λ (x : Kept). state_of x file) (sym same) ∙ (λ i. record {
-              map = map_is i;
-              kept = map_is i;
-              book = flushed_book i;
-              kept_book = flushed_book i;
-              sequence = u.sequence + 1;
-            })
+    -- the state over the file has the map and the book of after, now and at the checkpoint
+    pub ended_state : state_of s file ≡ record {
+      map = f.new_map;
+      kept = f.new_map;
+      book = f.new_book;
+      kept_book = f.new_book;
+      sequence = hands.slots.sequence;
+    }
+    ended_state = ap (λ (x : Kept). state_of x file) (sym same) ∙ (λ i. record {
+      map = map_is i;
+      kept = map_is i;
+      book = ends.book i;
+      kept_book = ends.book i;
+      sequence = hands.slots.sequence;
+    })
 
 -- ---- the fields
 
@@ -191,13 +167,13 @@ module _ {C : ℕ} (s : Inside C) (hands : Hands C) (items : Vec Item) where
     few = omega (arith, whole.few, ap (λ b. b.names) block);
     buf = buf;
     no_items = none;
-    items_room = items_room;
+    items_room = λ sound. items_room;
     divisor = divisor;
     kept_divisor = divisor;
     kept_caps = refl;
     room = names ∙ whole.room ∙ ap (λ b. b.names) (sym block);
     guard_room = room ∙ whole.guard_room ∙ ap (λ b. b.names) (sym block);
-    table = table;
+    table = λ sound. table;
     sound = λ sound. store;
     freed = λ sound. subst (λ xs. IsFreed xs hands.table.now hands.table.kept) (sym spans)
         (subst (λ x. IsFreed [] hands.table.now x) (sym kept) (freed_nothing hands.table.now));

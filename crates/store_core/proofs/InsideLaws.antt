@@ -82,7 +82,7 @@ module _ {C : ℕ} (s : Inside C) (t : Kept) (is : kept_of s ≡ t) (whole : IsW
     kept_caps = whole.kept_caps ∙ sym caps_stay;
     room = names ∙ whole.room;
     guard_room = room ∙ whole.guard_room;
-    table = is_table;
+    table = λ sound. is_table;
     sound = λ sound. subst (IsStore C) (sym changed_view) store;
     freed = λ sound. subst (λ x. IsFreed guard.spans x table.kept) (sym same_now)
         (subst (λ x. IsFreed guard.spans now x) (ap (λ (x : Kept). x.kept) (sym is) ∙ sym kept) freed);

@@ -176,13 +176,13 @@ module _ {C : ℕ} (s : Inside C) (whole : IsWhole s) (table : Extents) (guard :
         few = omega (arith, whole.few, names_stay);
         buf = full;
         no_items = whole.no_items;
-        items_room = omega (arith, whole.items_room, names_stay);
+        items_room = λ sound. omega (arith, whole.items_room sound, names_stay);
         divisor = whole.divisor ∙ sym k_stays;
         kept_divisor = whole.divisor ∙ sym k_stays;
         kept_caps = refl;
         room = names ∙ whole.room ∙ sym names_stay;
         guard_room = room ∙ whole.guard_room ∙ sym names_stay;
-        table = is_table;
+        table = λ sound. is_table;
         sound = λ sound. subst (IsStore C) (sym kept_view) (store_kept (kept_of s) (whole.sound sound));
         freed = λ sound. subst (λ xs. IsFreed xs table.now table.kept) (sym spans)
             (subst (λ x. IsFreed [] x table.kept) (kept ∙ sym now) (freed_nothing table.kept));

@@ -22,3 +22,7 @@ pub mod KeepEffectLaws
 pub mod FlushedLaws
 pub mod BeginLaws
 pub mod BegunLaws
+pub mod FlyLaws
+pub mod FlushLaws
+pub mod FlushDoneLaws
+pub mod ServeLaws

@@ -112,13 +112,13 @@ module _ {C : ℕ} (s : Inside C) (n : IsNew s) where
     few = n.block.names_high;
     buf = n.buf;
     no_items = n.no_items;
-    items_room = n.items_room;
+    items_room = λ sound. n.items_room;
     divisor = n.divisor;
     kept_divisor = n.kept_divisor;
     kept_caps = n.kept_caps;
     room = n.room;
     guard_room = n.guard_room;
-    table = n.table;
+    table = λ sound. n.table;
     sound = λ sound. new_store;
     freed = λ sound. subst (λ xs. IsFreed xs s.hands.table.now s.hands.table.kept) (sym n.spans)
         (subst (λ x. IsFreed [] s.hands.table.now x) n.kept (freed_nothing s.hands.table.now));

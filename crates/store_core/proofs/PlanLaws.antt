@@ -1,5 +1,5 @@
 -- What is known of a put or a removal that is served and quiet.
-use Rattle.std.specs.Prelude.{◌≡◌, ◌⊎◌, ℕ, ◌<◌, ◌≤◌, nat_le, nat_lt, Bool, true, false, not, ◌&&◌, if◌then◌else◌, List, ◌∷◌, ◌++◌, length, Option, Some, None, option_map, is_some, Ok, IsSome, refl}
+use Rattle.std.specs.Prelude.{◌≡◌, ◌⊎◌, ℕ, ◌^◌, ◌<◌, ◌≤◌, nat_le, nat_lt, Bool, true, false, not, ◌&&◌, if◌then◌else◌, List, [], ◌∷◌, ◌++◌, length, Option, Some, None, option_map, is_some, Ok, IsSome, refl}
 use Rattle.std.proofs.Common.{ap, sym, ◌∙◌, subst, inl, inr}
 use Rattle.std.proofs.lemmas.Bool.{leb-false, ltb-false}
 use Rattle.std.specs.FinMap as fin
@@ -7,7 +7,8 @@ use Rattle.size_class.specs.declared.TheConstants.{SIZE_MAX}
 use Rattle.slot_codec.specs.Names.{IsName, is_name}
 use Rattle.store_terms.specs.Requests as ask
 use Rattle.store_terms.specs.Requests.{Change, Refused}
-use Rattle.segment_layout.specs.Books.{is_quiet, some_size}
+use Rattle.std.proofs.lemmas.List.{append-nil}
+use Rattle.segment_layout.specs.Books.{charge_all, is_quiet, some_size}
 use Rattle.extent_table.specs.declared.spot.Spot.{Spot}
 use Rattle.spot_terms.specs.Quiet.{QuietTo, gone_items}
 use Rattle.spot_terms.proofs.QuietLaws.{quiet_then}
@@ -15,8 +16,8 @@ use Rattle.store_core.specs.declared.answers.Refusal.{Refusal}
 use Rattle.store_core.specs.declared.answers.Refusal.TheVariants as why
 use Rattle.store_core.specs.Answers.{facts_at, refusal_for, refused_by}
 use Rattle.store_core.specs.Connection.{Kept, limits_of}
-use Rattle.store_core.specs.Plans.{AcceptsName, AnswersPlan, IsDelPlan, IsPutPlan}
-use Rattle.store_core.specs.Quiet.{IsCharged, charges_of, del_of, put_of, refused_change}
+use Rattle.store_core.specs.Plans.{AcceptsName, IsDelPlan, IsPutPlan}
+use Rattle.store_core.specs.Quiet.{IsCharged, charges_of, del_of, put_of}
 use Rattle.store_core.specs.States.{first_refusal, object_tests, refusal, worn_test}
 use Rattle.store_core.proofs.ReadingLaws.{whole_if_served}
 
@@ -57,6 +58,7 @@ pub record PutServed (s : Kept) (name object : List ℕ) : Type 0 where
   pub named : IsName name
   pub small : length object ≤ SIZE_MAX
   pub room : IsSome (fin.get s.now name) ⊎ (fin.len s.now < s.in_use.block.names)
+  pub fresh : s.in_use.sequence < 2 ^ 61
   pub calm : refusal (limits_of s) (facts_at s (ask.change (put_of name object))) (ask.change (put_of name object))
       ≡ None
 
@@ -76,6 +78,8 @@ put_served s name object is =
       named = false_of_not (is_name name) a.0;
       small = short b.0;
       room = either (fin.get s.now name) c.0;
+      fresh = leb-false (2 ^ 61) s.in_use.sequence
+          (first_passed (nat_le (2 ^ 61) s.in_use.sequence) ask.worn [] c.1).0;
       calm = no.1;
     }
   where
@@ -90,6 +94,7 @@ put_served s name object is =
 pub record DelServed (s : Kept) (name : List ℕ) : Type 0 where
   pub whole : s.is_broken ≡ false
   pub named : IsName name
+  pub fresh : s.in_use.sequence < 2 ^ 61
   pub calm : refusal (limits_of s) (facts_at s (ask.change (del_of name))) (ask.change (del_of name)) ≡ None
 
 pub del_served : (s : Kept) (name : List ℕ) → refused_by s (ask.change (del_of name)) ≡ None
@@ -99,14 +104,16 @@ del_served s name is =
     let f = facts_at s (ask.change (del_of name)) in
     let a = first_passed (not (is_name name)) ask.bad_name
     (object_tests (limits_of s) f None ++ worn_test f) no.1 in
-    record { whole = no.0; named = false_of_not (is_name name) a.0; calm = no.1 }
+    let b = first_passed (not f.is_live) ask.missing (worn_test f) a.1 in
+    record {
+      whole = no.0;
+      named = false_of_not (is_name name) a.0;
+      fresh = leb-false (2 ^ 61) s.in_use.sequence
+          (first_passed (nat_le (2 ^ 61) s.in_use.sequence) ask.worn [] b.1).0;
+      calm = no.1;
+    }
 
 -- ---- each charge finds room
-
--- a change that is served and quiet isn't refused
-pub quiet_served : (s : Kept) (c : Change) → refused_by s (ask.change c) ≡ None
-    → is_quiet (charges_of s c) ≡ true → refused_change s c ≡ None
-quiet_served s c served quiet = rw served (rw quiet refl)
 
 pub charged_quietly : (s : Kept) (name object : List ℕ) (grid : List (List ℕ)) (place : ℕ)
     → IsCharged s.in_use.block.k s.book.caps s.book.grid (fin.get s.now name) (length object) grid place
@@ -115,9 +122,6 @@ pub charged_quietly : (s : Kept) (name object : List ℕ) (grid : List (List ℕ
 charged_quietly s name object grid place c = quiet_then s.in_use.block.k s.book.caps s.book.grid c.mid grid
     (gone_items s.in_use.block.k s.book.caps (fin.get s.now name)) (some_size (length object)) c.gone
     c.placed.charged
-
-pub answers_plan : {A : Type 0} (o : Option Refusal) (plan : A) → o ≡ None → AnswersPlan o (Ok plan)
-answers_plan o plan is = subst (λ (x : Option Refusal). AnswersPlan x (Ok plan)) (sym is) refl
 
 -- the plans, from what was charged on a copy of the layout
 pub put_planned : (s : Kept) (name object n : List ℕ) (k k' : ℕ) (caps caps' : List ℕ)
@@ -155,3 +159,28 @@ del_planned s name n k k' caps caps' grid after o served same ks cs gs os charge
       (subst (λ x. QuietTo s.in_use.block.k x grid (gone_items s.in_use.block.k x o) after) cs
       (subst (λ x. QuietTo x caps grid (gone_items x caps o) after) ks charged))));
 }
+
+-- where a charge found no room on that copy, the change isn't quiet
+pub put_unplanned : (s : Kept) (name object : List ℕ) (k : ℕ) (caps : List ℕ) (grid : List (List ℕ))
+    (o : Option Spot) → k ≡ s.in_use.block.k → caps ≡ s.book.caps → grid ≡ s.book.grid → o ≡ fin.get s.now name
+    → is_quiet (charge_all k caps grid (gone_items k caps o ++ some_size (length object))) ≡ false
+    → is_quiet (charges_of s (put_of name object)) ≡ false
+put_unplanned s name object k caps grid o ks cs gs os loud =
+    sym (λ i. is_quiet (charge_all (ks i) (cs i) (gs i) (gone_items (ks i) (cs i) (os i)
+    ++ some_size (length object)))) ∙ loud
+
+pub del_unplanned : (s : Kept) (name : List ℕ) (k : ℕ) (caps : List ℕ) (grid : List (List ℕ)) (o : Option Spot)
+    → k ≡ s.in_use.block.k → caps ≡ s.book.caps → grid ≡ s.book.grid → o ≡ fin.get s.now name
+    → is_quiet (charge_all k caps grid (gone_items k caps o)) ≡ false
+    → is_quiet (charges_of s (del_of name)) ≡ false
+del_unplanned s name k caps grid o ks cs gs os loud =
+    ap (λ xs. is_quiet (charge_all s.in_use.block.k s.book.caps s.book.grid xs))
+    (append-nil (gone_items s.in_use.block.k s.book.caps (fin.get s.now name)))
+    ∙ sym (λ i. is_quiet (charge_all (ks i) (cs i) (gs i) (gone_items (ks i) (cs i) (os i)))) ∙ loud
+
+pub del_quiet : (s : Kept) (name : List ℕ) (grid : List (List ℕ))
+    → QuietTo s.in_use.block.k s.book.caps s.book.grid
+    (gone_items s.in_use.block.k s.book.caps (fin.get s.now name)) grid
+    → is_quiet (charges_of s (del_of name)) ≡ true
+del_quiet s name grid quiet = ap (λ xs. is_quiet (charge_all s.in_use.block.k s.book.caps s.book.grid xs))
+    (append-nil (gone_items s.in_use.block.k s.book.caps (fin.get s.now name))) ∙ quiet.quiet

@@ -1,28 +1,16 @@
 -- Changes that are refused.
 use Rattle.std.specs.Prelude.{◌≡◌, ℕ, Bool, true, false, if◌then◌else◌, List, Option, Some, None, option_map, Ok, Err, IfSome, IsNone, IsSome, refl}
-use Rattle.std.proofs.Common.{ap, ◌∙◌, subst}
+use Rattle.std.proofs.Common.{ap, sym, ◌∙◌, subst}
 use Rattle.store_terms.specs.Requests as ask
 use Rattle.store_terms.specs.Requests.{Change, Refused}
-use Rattle.segment_layout.specs.Books.{is_quiet}
 use Rattle.store_core.specs.declared.answers.Refusal.{Refusal}
 use Rattle.store_core.specs.declared.answers.Refusal.TheVariants as why
-use Rattle.store_core.specs.Answers.{facts_at, refusal_for, refused_reply}
+use Rattle.store_core.specs.Answers.{AnswersChange, facts_at, refusal_for, refused_by, refused_reply}
+use Rattle.store_core.specs.Plans.{AcceptsName}
 use Rattle.store_core.specs.Connection.{Kept, limits_of, state_of}
-use Rattle.store_core.specs.Plans.{AnswersPlan}
-use Rattle.store_core.specs.Quiet.{charges_of, or_needs_flush, refused_change}
 use Rattle.store_core.specs.States.{Facts, Limits, State, Step, facts_of, refusal}
 use Rattle.store_core.specs.Stores.{IsStore}
 use Rattle.store_core.proofs.StepLaws.{facts_same, refused_step}
-
--- where there is a plan, nothing is refused, and else something is
-pub planned : {A : Type 0} (o : Option Refusal) (plan : A) → AnswersPlan o (Ok plan) → o ≡ None
-planned None plan is = refl
-planned (Some why) plan is = absurd (cc)
-
-pub unplanned : (A : Type 0) (o : Option Refusal) (why : Refusal) → AnswersPlan {T = A} o (Err why)
-    → o ≡ Some why
-unplanned A None why is = absurd (cc)
-unplanned A (Some refused) why is = let same : refused ≡ why = (cc) in ap (λ (x : Refusal). Some x) same
 
 pub not_none : {A : Type 0} {P : Type 0} (o : Option A) (x : A) → o ≡ Some x → IsNone o → P
 not_none o x is none = absurd (let h = subst (λ y. IsNone y) is none in cc)
@@ -44,35 +32,22 @@ refused_replied limits s r w is = each w (refused_step limits s r w is)
     each ask.full step = step
     each ask.worn step = step
 
--- that a change isn't quiet is no reply
-loud_replies : (quiet : Bool) (refused : Refusal) (P : ask.Reply → Type 0)
-    → or_needs_flush quiet None ≡ Some refused → IfSome (refused_reply refused) P
-loud_replies true refused P is = absurd (cc)
-loud_replies false refused P is =
-    let e : why.NeedsFlush ≡ refused = (cc) in subst (λ (x : Refusal). IfSome (refused_reply x) P) e tt
-
 -- a change that is refused is a step that leaves the state, if it has a reply
 pub refused_change_step : {classes : ℕ} (s : Kept) (file : List ℕ) (c : Change) (refused : Refusal)
-    → s.is_broken ≡ false → IsStore classes s → refused_change s c ≡ Some refused
+    → s.is_broken ≡ false → IsStore classes s → refused_by s (ask.change c) ≡ Some refused
     → IfSome (refused_reply refused)
     (λ reply. Step (limits_of s) (state_of s file) (ask.change c) reply (state_of s file))
 refused_change_step s file c refused whole h is =
-    by (refusal (limits_of s) (facts_at s r) r) refl (subst (λ (b : Bool).
-    or_needs_flush quiet (if b then Some why.Broken
-    else option_map refusal_for (refusal (limits_of s) (facts_at s r) r)) ≡ Some refused) whole is)
+    by (refusal (limits_of s) (facts_at s (ask.change c)) (ask.change c)) refl (subst (λ (b : Bool).
+    (if b then Some why.Broken
+    else option_map refusal_for (refusal (limits_of s) (facts_at s (ask.change c)) (ask.change c)))
+    ≡ Some refused) whole is)
   where
-    r : ask.Request
-    r = ask.change c
-
-    quiet : Bool
-    quiet = is_quiet (charges_of s c)
-
     by : (o : Option Refused) → refusal (limits_of s) (facts_at s (ask.change c)) (ask.change c) ≡ o
-        → or_needs_flush (is_quiet (charges_of s c)) (option_map refusal_for o) ≡ Some refused
+        → option_map refusal_for o ≡ Some refused
         → IfSome (refused_reply refused)
         (λ reply. Step (limits_of s) (state_of s file) (ask.change c) reply (state_of s file))
-    by None none loud = loud_replies (is_quiet (charges_of s c)) refused
-        (λ x. Step (limits_of s) (state_of s file) (ask.change c) x (state_of s file)) loud
+    by None none same = absurd (cc)
     by (Some w) found same =
         let e : refusal_for w ≡ refused = (cc) in
         subst (λ (x : Refusal). IfSome (refused_reply x)
@@ -80,3 +55,14 @@ refused_change_step s file c refused whole h is =
         (refused_replied (limits_of s) (state_of s file) (ask.change c) w
         (ap (λ (f : Facts). refusal (limits_of s) f (ask.change c))
         (facts_same s file (ask.change c) h.now.named h.kept.named) ∙ found))
+
+-- a name that isn't accepted is refused
+pub unaccepted : (o : Option Refusal) (name : List ℕ) (refused : Refusal) → AcceptsName o name (Err refused)
+    → o ≡ Some refused
+unaccepted None name refused is = absurd (cc)
+unaccepted (Some other) name refused is = let same : other ≡ refused = (cc) in
+    ap (λ (x : Refusal). Some x) same
+
+pub answers_refused : (quiet : Bool) (o : Option Refusal) (refused : Refusal) → o ≡ Some refused
+    → AnswersChange quiet o (Err refused)
+answers_refused quiet o refused is = subst (λ (x : Option Refusal). AnswersChange quiet x (Err refused)) (sym is) refl

@@ -1,5 +1,5 @@
 -- What a store answers: which refusal comes, and the reply that an answer stands for.
-use Rattle.std.specs.Prelude.{◌≡◌, ℕ, ◌⊎◌, Bool, true, false, if◌then◌else◌, Option, Some, None, option_map, List, Result, Ok, Err, IsOk, IfOk}
+use Rattle.std.specs.Prelude.{◌≡◌, ℕ, ◌⊎◌, Bool, true, false, not, if◌then◌else◌, Option, Some, None, option_map, List, Result, Ok, Err, IsOk, IfOk}
 use Rattle.std.specs.FinMap as fin
 use Rattle.slot_codec.specs.Names.{is_name}
 use Rattle.store_terms.specs.Requests as ask
@@ -61,10 +61,11 @@ abbrev pub AnswersList : {T : Type 0} → Option Refusal → Result T Refusal �
 AnswersList None result = IsOk result ⊎ (result ≡ Err why.Sink)
 AnswersList (Some refused) result = result ≡ Err refused
 
--- the answer is the refusal; where there is none, the change was done with no checkpoint, or the disk failed
-abbrev pub AnswersChange : Option Refusal → Result Done Refusal → Type 0
-AnswersChange None result = (result ≡ Ok (record { kept = false })) ⊎ (result ≡ Err why.Disk)
-AnswersChange (Some refused) result = result ≡ Err refused
+-- the answer is the refusal; where there is none, the change was done, with a checkpoint where it isn't quiet, or
+-- the disk failed
+abbrev pub AnswersChange : Bool → Option Refusal → Result Done Refusal → Type 0
+AnswersChange quiet None result = (result ≡ Ok (record { kept = not quiet })) ⊎ (result ≡ Err why.Disk)
+AnswersChange quiet (Some refused) result = result ≡ Err refused
 
 abbrev pub is_disk : Refusal → Bool
 is_disk why.Disk = true
@@ -75,7 +76,6 @@ is_disk why.Missing = false
 is_disk why.Full = false
 is_disk why.Worn = false
 is_disk why.Sink = false
-is_disk why.NeedsFlush = false
 
 abbrev pub is_disk_fault : {T : Type 0} → Result T Refusal → Bool
 is_disk_fault (Ok x) = false
@@ -93,7 +93,6 @@ refused_reply why.Worn = Some (ask.refused ask.worn)
 refused_reply why.Broken = None
 refused_reply why.Disk = None
 refused_reply why.Sink = None
-refused_reply why.NeedsFlush = None
 
 -- the reply that an answer stands for, where Ok stands for a reply
 abbrev pub reply_of : {T : Type 0} → (T → Reply) → Result T Refusal → Option Reply

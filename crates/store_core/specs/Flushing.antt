@@ -1,8 +1,10 @@
 -- What a flush begins with, once its change is made in the table and the layout, and what it is to leave.
-use Rattle.std.specs.Prelude.{◌≡◌, ℕ, ◌+◌, ◌^◌, ◌<◌, ◌≤◌, Bool, true, false, List, ◌∷◌, [], ◌++◌, fold, length, Option, Some, None, IsPermutation}
+use Rattle.std.specs.Prelude.{◌≡◌, ℕ, ◌+◌, ◌-◌, ◌*◌, ◌^◌, ◌<◌, ◌≤◌, Bool, true, false, IsTrue, slice_index, List, ◌∷◌, [], ◌++◌, fold, length, Option, Some, None, IsPermutation}
 use Rattle.std.specs.FinMap as fin
+use Rattle.disk_face.specs.States as disk
 use Rattle.size_class.specs.declared.TheConstants.{SIZE_MAX}
 use Rattle.slot_codec.specs.Choice as choice
+use Rattle.slot_codec.specs.Names.{IsName}
 use Rattle.slot_codec.specs.Spelling.{head_len}
 use Rattle.span_math.specs.declared.span.Span.{Span}
 use Rattle.store_terms.specs.Maps.{Map}
@@ -18,10 +20,11 @@ use Rattle.spot_terms.specs.LaidOut.{shown_book}
 use Rattle.flush_plan.specs.declared.item.Item.{Item}
 use Rattle.flush_plan.specs.declared.item.Numbers.{Numbers}
 use Rattle.flush_plan.specs.Phases.{Phase, phase_of}
-use Rattle.flush_plan.specs.Plans.{numbers_of}
-use Rattle.flush_run.specs.Flights.{Flight, IsFreeSpace}
+use Rattle.flush_plan.specs.Plans.{class_total, numbers_of}
+use Rattle.flush_run.specs.Flights.{Flight, IsAtHand, IsFreeSpace, OpensEither}
+use Rattle.flush_run.specs.Calls.{CallsSoFar}
 use Rattle.flush_run.specs.Hands.{suffix_items}
-use Rattle.flush_run.specs.Parts.{Parts}
+use Rattle.flush_run.specs.Parts.{KeepsSettling, Parts}
 use Rattle.flush_start.specs.Charging.{charged_by}
 use Rattle.flush_start.specs.Gathering.{item_at}
 use Rattle.flush_start.specs.Lifting.{BeginsLift}
@@ -141,3 +144,47 @@ pub record IsBegun (classes : ℕ) (x0 : Parts) (c : Change) (x : Parts) (p : Ph
   pub table : IsTable x.table
   pub names : x.table.names ≡ x0.table.names
   pub rest : x ≡ record x0 { table = x.table; grid = x.grid; spans = x.spans; asked = x.asked }
+
+-- the bytes of a new object, or none
+abbrev pub bytes_of : Change → List ℕ
+bytes_of c = of c.object
+  where
+    of : Option (List ℕ) → List ℕ
+    of None = []
+    of (Some object) = object
+
+-- The disk as a change begins: the content gives the objects that stay, and opens to the last checkpoint, as
+-- does each image where the disk rested on its table. The file ends where the layout does.
+pub record IsAtStart (classes : ℕ) (x : Parts) (c : Change) (reach : ℕ) (g : Setting) (d : disk.State) : Type 0
+  where
+    pub content : IsAtHand (record (flight_of classes x c reach g) {
+      reach = end_of x.in_use.block.k x.caps;
+      new_map = fin.remove g.map c.name;
+    }) x.in_use (fin.remove x.table.now c.name) d.file
+    pub opens : OpensEither (record (flight_of classes x c reach g) { reach = end_of x.in_use.block.k x.caps })
+        x.table.kept d.file d.may_leave
+
+-- A flush may make its device calls: the change was made in the table and the layout of these parts, and the
+-- disk is as it was before.
+pub record CanFly (classes : ℕ) (x0 : Parts) (c : Change) (g : Setting) (x : Parts) (p : Phase) (place : ℕ)
+    (bytes : List ℕ) (d : disk.State) : Type 0 where
+  pub kept_grid : List (List ℕ)
+  pub may : MayBegin classes kept_grid x0
+  pub begun : IsBegun classes x0 c x p place
+  pub sized : IsSizedBy g.map x0.table.now
+  pub name : IsName c.name
+  pub object : bytes_of c ≡ bytes
+  pub fresh : x0.in_use.sequence < 2 ^ 61
+  pub start : IsTrue d.tells → IsAtStart classes x0 c p.numbers.reach g d
+
+-- What a flush has made, whether or not it failed: of its parts only the slot in use, the table, the layout, the
+-- guard's spans and the bytes moved change; no byte of a class below b was moved, and of each other class at
+-- most twice the bytes of its items; and the calls are those of the bytes moved and of the saves, one of which
+-- may have failed, and at most 20 more.
+pub record HasFlown (b : ℕ) (items : List Item) (first now : disk.State) (x x2 : Parts) : Type 0 where
+  pub keeps : KeepsSettling first now x x2
+  pub later : x.in_use.sequence ≤ x2.in_use.sequence
+  pub lower : (c : ℕ) → c < b → slice_index x2.moved c ≡ slice_index x.moved c
+  pub few : (c : ℕ) → slice_index x2.moved c ≤ slice_index x.moved c + 2 * class_total items c
+  pub most : CallsSoFar first.turn now.turn x.moved x2.moved 20
+      (x2.in_use.sequence - x.in_use.sequence + 1) x.table.names

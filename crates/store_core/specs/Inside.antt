@@ -35,12 +35,12 @@ pub record IsWhole {C : ℕ} (s : Inside C) : Type 0 where
   pub few : s.hands.slots.block.names ≤ 65536
   pub buf : vec_len s.hands.buf ≡ 65536
   pub no_items : vec_len s.items ≡ 0
-  pub items_room : s.hands.slots.block.names ≤ vec_capacity s.items
+  pub items_room : s.broken ≡ false → s.hands.slots.block.names ≤ vec_capacity s.items
   pub divisor : divisor_of s.hands.layout ≡ s.hands.slots.block.k
   pub kept_divisor : divisor_of s.kept_layout ≡ s.hands.slots.block.k
   pub kept_caps : caps_of s.kept_layout ≡ caps_of s.hands.layout
   pub room : s.hands.table.names ≡ s.hands.slots.block.names
   pub guard_room : s.hands.guard.room ≡ s.hands.slots.block.names
-  pub table : IsTable s.hands.table
+  pub table : s.broken ≡ false → IsTable s.hands.table
   pub sound : s.broken ≡ false → IsStore C (kept_of s)
   pub freed : s.broken ≡ false → IsFreed s.hands.guard.spans s.hands.table.now s.hands.table.kept

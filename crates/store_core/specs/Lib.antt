@@ -12,3 +12,4 @@ pub mod Flushed
 pub mod Reads
 pub mod Lines
 pub mod Flushing
+pub mod Flushes

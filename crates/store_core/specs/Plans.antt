@@ -14,11 +14,6 @@ abbrev pub AcceptsName : Option Refusal → List ℕ → Result (List ℕ) Refus
 AcceptsName None name result = result ≡ Ok name
 AcceptsName (Some why) name result = result ≡ Err why
 
--- the answer is the refusal, or where there is none a plan
-abbrev pub AnswersPlan : {T : Type 0} → Option Refusal → Result T Refusal → Type 0
-AnswersPlan None result = IsOk result
-AnswersPlan (Some why) result = result ≡ Err why
-
 -- A put of an object under a name: a layout with the store's capacities, whose grid has its charges, and the
 -- place of the new object.
 pub record IsPutPlan (s : Kept) (name object plan_name : List ℕ) (k : ℕ) (caps : List ℕ) (grid : List (List ℕ))

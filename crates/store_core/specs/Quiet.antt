@@ -7,16 +7,12 @@ use Rattle.size_class.specs.Classes.{class_of}
 use Rattle.held_guard.specs.Freed.{Freed}
 use Rattle.span_math.specs.declared.span.Span.{Span}
 use Rattle.span_math.specs.Spans.{IsApart}
-use Rattle.store_terms.specs.Requests as ask
 use Rattle.store_terms.specs.Requests.{Change}
 use Rattle.segment_layout.specs.Books.{Charged, charge_all, is_quiet, new_item, some_size}
 use Rattle.extent_table.specs.declared.spot.Spot.{Spot}
 use Rattle.spot_terms.specs.Held.{IsSpanOf}
 use Rattle.spot_terms.specs.Quiet.{PlacedTo, QuietTo, gone_items}
-use Rattle.store_core.specs.declared.answers.Refusal.{Refusal}
-use Rattle.store_core.specs.declared.answers.Refusal.TheVariants as why
 use Rattle.store_core.specs.Connection.{Kept}
-use Rattle.store_core.specs.Answers.{refused_by}
 
 abbrev pub put_of : List ℕ → List ℕ → Change
 put_of name object = record { name = name; object = Some object }
@@ -47,15 +43,6 @@ abbrev pub FindsPlace : ℕ → List ℕ → List (List ℕ) → Option Spot →
 FindsPlace k caps grid old size after (Some place) = IsCharged k caps grid old size after place
 FindsPlace k caps grid old size after None =
     is_quiet (charge_all k caps grid (gone_items k caps old ++ some_size size)) ≡ false
-
--- a refusal, or where there is none that a change isn't quiet
-abbrev pub or_needs_flush : Bool → Option Refusal → Option Refusal
-or_needs_flush quiet (Some refused) = Some refused
-or_needs_flush quiet None = if quiet then None else Some why.NeedsFlush
-
--- the refusal of a change: the first of those that need no charge, and else that it isn't quiet
-abbrev pub refused_change : Kept → Change → Option Refusal
-refused_change s c = or_needs_flush (is_quiet (charges_of s c)) (refused_by s (ask.change c))
 
 -- a row that counts bytes by class, once an object's are added: it stays at the last value of its type
 abbrev pub added : List ℕ → ℕ → List ℕ

@@ -28,9 +28,6 @@ pub enum Refusal {
     /// The sink failed.
     #[error("the sink failed")]
     Sink,
-    /// The change has no room in the buffers, and wants a flush.
-    #[error("the change needs a flush")]
-    NeedsFlush,
 }
 
 /// A change was done: whether a checkpoint was saved with it.

@@ -4,8 +4,10 @@
 
 mod answers;
 mod begin;
+mod change;
 mod charges;
 mod copy;
+mod flush;
 mod held;
 mod keep;
 pub mod laws;

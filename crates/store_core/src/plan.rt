@@ -1,6 +1,6 @@
-//! Whether a put or a removal is served, and what it charges. Nothing changes yet.
-ghost use Rattle.std.specs.Prelude.{◌≡◌, ◌<◌, ◌≤◌, ◌^◌, false, IfOk, Ok, Err};
-ghost use Rattle.std.specs.FinMap as fin;
+//! Whether a put or a removal is served, and whether it is quiet. Nothing changes yet.
+ghost use Rattle.std.specs.Prelude.{◌≡◌, ◌<◌, ◌≤◌, ◌^◌, true, false, IfSome, IsNone, IsSome, None, Ok, Err};
+ghost use Rattle.segment_layout.specs.Books.{is_quiet};
 ghost use Rattle.segment_layout.specs.Layouts.{caps_of, divisor_of, grid_of};
 ghost use Rattle.store_terms.specs.Requests as ask;
 
@@ -17,62 +17,55 @@ pub(crate) const WORN_FROM: u64 = 1 << 61;
 /// A quiet put: the layout after its charges, and where the new object stands.
 #[derive(Drop)]
 pub(crate) struct PutPlan<const C: usize> {
-    pub(crate) name: Name,
     pub(crate) layout: Layout<C>,
     pub(crate) spot: Spot,
 }
 
-/// A quiet removal: the layout after its charge.
-#[derive(Drop)]
-pub(crate) struct DelPlan<const C: usize> {
-    pub(crate) name: Name,
-    pub(crate) layout: Layout<C>,
-}
-
 impl<const C: usize> Store<C> {
     ghost use Rattle.store_core.specs.Answers.{refused_by};
-    ghost use Rattle.store_core.specs.Plans.{AcceptsName, AnswersPlan, IsDelPlan, IsPutPlan};
-    ghost use Rattle.store_core.specs.Quiet.{del_of, put_of, refused_change};
+    ghost use Rattle.store_core.specs.Plans.{AcceptsName, IsDelPlan, IsPutPlan};
+    ghost use Rattle.store_core.specs.Quiet.{charges_of, del_of, put_of};
     ghost use Rattle.store_core.specs.Stores.{IsStore};
 
-    /// What a put leaves of the layout, if it is served and quiet.
-    pub(crate) fn plan_put(&self, name: &[u8], bytes: &[u8]) -> Result<PutPlan<C>, Refusal>
-        ensures answer { AnswersPlan (refused_change self.now (put_of name.now bytes.now)) result }
-        ensures plan { IfOk result (λ plan. IsPutPlan self.now name.now bytes.now plan.name
+    /// What a put leaves of the layout, if it is quiet.
+    pub(crate) fn plan_put(&self, name: &Name, bytes: &[u8]) -> Option<PutPlan<C>>
+        requires served { refused_by self.now (ask.change (put_of name.now bytes.now)) ≡ None }
+        ensures plan { IfSome result (λ plan. IsPutPlan self.now name.now bytes.now name.now
             (divisor_of plan.layout) (caps_of plan.layout) (grid_of plan.layout) plan.spot) }
-        ensures sound { self.now.is_broken ≡ false → IsStore C self.now }
+        ensures quiet { IsSome result → is_quiet (charges_of self.now (put_of name.now bytes.now)) ≡ true }
+        ensures loud { IsNone result → is_quiet (charges_of self.now (put_of name.now bytes.now)) ≡ false }
+        ensures sound { IsStore C self.now }
     {
-        let name = self.accept_put(name, bytes)?;
         let size = bytes.len() as u64;
         let mut layout = self.hands.layout;
-        match charge_put(&mut layout, self.hands.table.get(&name), size) {
-            Some(place) => Ok(PutPlan {
-                name,
+        match charge_put(&mut layout, self.hands.table.get(name), size) {
+            Some(place) => Some(PutPlan {
                 layout,
                 spot: Spot { place, size },
             }),
-            None => Err(Refusal::NeedsFlush),
+            None => None,
         }
     }
 
-    /// What a removal leaves of the layout, if it is served and quiet.
-    pub(crate) fn plan_del(&self, name: &[u8]) -> Result<DelPlan<C>, Refusal>
-        ensures answer { AnswersPlan (refused_change self.now (del_of name.now)) result }
-        ensures plan { IfOk result (λ plan. IsDelPlan self.now name.now plan.name
-            (divisor_of plan.layout) (caps_of plan.layout) (grid_of plan.layout)) }
-        ensures sound { self.now.is_broken ≡ false → IsStore C self.now }
+    /// What a removal leaves of the layout, if it is quiet.
+    pub(crate) fn plan_del(&self, name: &Name) -> Option<Layout<C>>
+        requires served { refused_by self.now (ask.change (del_of name.now)) ≡ None }
+        ensures plan { IfSome result (λ layout. IsDelPlan self.now name.now name.now
+            (divisor_of layout) (caps_of layout) (grid_of layout)) }
+        ensures quiet { IsSome result → is_quiet (charges_of self.now (del_of name.now)) ≡ true }
+        ensures loud { IsNone result → is_quiet (charges_of self.now (del_of name.now)) ≡ false }
+        ensures sound { IsStore C self.now }
     {
-        let name = self.accept_del(name)?;
         let mut layout = self.hands.layout;
-        if charge_gone(&mut layout, self.hands.table.get(&name)) {
-            Ok(DelPlan { name, layout })
+        if charge_gone(&mut layout, self.hands.table.get(name)) {
+            Some(layout)
         } else {
-            Err(Refusal::NeedsFlush)
+            None
         }
     }
 
-    /// The name of a put that is refused for no reason but that it may need a flush.
-    fn accept_put(&self, name: &[u8], bytes: &[u8]) -> Result<Name, Refusal>
+    /// The name of a put that is served.
+    pub(crate) fn accept_put(&self, name: &[u8], bytes: &[u8]) -> Result<Name, Refusal>
         ensures answer { AcceptsName (refused_by self.now (ask.change (put_of name.now bytes.now))) name.now
             result }
         ensures sound { self.now.is_broken ≡ false → IsStore C self.now }
@@ -87,8 +80,8 @@ impl<const C: usize> Store<C> {
         self.unworn(name)
     }
 
-    /// The name of a removal that is refused for no reason but that it may need a flush.
-    fn accept_del(&self, name: &[u8]) -> Result<Name, Refusal>
+    /// The name of a removal that is served.
+    pub(crate) fn accept_del(&self, name: &[u8]) -> Result<Name, Refusal>
         ensures answer { AcceptsName (refused_by self.now (ask.change (del_of name.now))) name.now result }
         ensures sound { self.now.is_broken ≡ false → IsStore C self.now }
     {

@@ -1,4 +1,4 @@
-//! Putting and removing objects, and going back to the last checkpoint.
+//! Quiet changes, and going back to the last checkpoint.
 ghost use Rattle.std.specs.Prelude.{◌≡◌, ◌⊎◌, ◌+◌, ◌<◌, ◌≤◌, ◌^◌, ◌||◌, ◌++◌, ◌↔◌, ℕ, List, true, false, fold, length, Some, None, Ok, Err, IfSome, IsErr, IsNone, IsSome, IsTrue, OnErr, OnOk};
 ghost use Rattle.std.specs.FinMap as fin;
 ghost use Rattle.byte_ranges.specs.Ranges.{overwritten};
@@ -10,11 +10,11 @@ ghost use Rattle.segment_layout.specs.Layouts.{caps_of, divisor_of, grid_of};
 ghost use Rattle.store_terms.specs.Requests as ask;
 ghost use Rattle.spot_terms.specs.LaidOut.{shown_book};
 ghost use Rattle.spot_terms.specs.Quiet.{QuietTo, gone_items};
-ghost use Rattle.store_core.specs.Quiet.{IsCharged, added, del_of, put_of, refused_change, sizes_at, writes_of};
+ghost use Rattle.store_core.specs.Quiet.{IsCharged, added, del_of, put_of, sizes_at, writes_of};
 ghost use Rattle.store_core.specs.Plans.{IsDelPlan, IsPutPlan};
 
 use crate::held::{add_gone, add_size, free_spot};
-use crate::plan::{DelPlan, PutPlan};
+use crate::plan::{PutPlan};
 use crate::{Done, Refusal, Store};
 use data_area::write_object;
 use disk_face::{Disk, DiskFault};
@@ -29,58 +29,6 @@ impl<const C: usize> Store<C> {
     ghost use Rattle.store_core.specs.Connection.{IsConnected, IsOver, limits_of, state_of};
     ghost use Rattle.store_core.specs.States.{Step};
     ghost use Rattle.store_core.specs.Stores.{IsStore};
-
-    /// Puts an object under a name, in place of the one that it has. Where there is room in the
-    /// buffers its bytes are written once, and no checkpoint is saved; else nothing changes. After a
-    /// fault of the disk the store is broken, and the file opens to the last checkpoint.
-    pub fn put<D: Disk>(&mut self, disk: &mut D, name: &[u8], bytes: &[u8]) -> Result<Done, Refusal>
-        requires ready { IsTrue (D.state disk.old).is_ready }
-        requires over { IsConnected C self.old (D.state disk.old) }
-        ensures answer { AnswersChange (refused_change self.old (put_of name.now bytes.now)) result }
-        ensures refused { IsSome (refused_change self.old (put_of name.now bytes.now))
-            → NothingChanged self.old self.new (D.state disk.old) (D.state disk.new) }
-        ensures quiet { IsNone (refused_change self.old (put_of name.now bytes.now))
-            → IsQuietChange C (put_of name.now bytes.now) self.old self.new (D.state disk.old)
-            (D.state disk.new) result }
-        ensures step { self.old.is_broken ≡ false → IsTrue (D.state disk.old).tells
-            → IfSome (reply_of done_reply result) (λ reply. Step (limits_of self.old)
-            (state_of self.old (D.state disk.old).file) (ask.change (put_of name.now bytes.now)) reply
-            (state_of self.new (D.state disk.new).file)) }
-        ensures over { IsConnected C self.new (D.state disk.new) }
-        ensures broken { self.new.is_broken ≡ (self.old.is_broken || is_disk_fault result) }
-    {
-        match self.plan_put(name, bytes) {
-            Ok(plan) => self.put_planned(disk, plan, bytes),
-            Err(refusal) => Err(refusal),
-        }
-    }
-
-    /// Removes a name. Where its charge finds room in the buffers nothing is written, and no checkpoint
-    /// is saved; else nothing changes.
-    pub fn del<D: Disk>(&mut self, disk: &mut D, name: &[u8]) -> Result<Done, Refusal>
-        requires ready { IsTrue (D.state disk.old).is_ready }
-        requires over { IsConnected C self.old (D.state disk.old) }
-        ensures answer { AnswersChange (refused_change self.old (del_of name.now)) result }
-        ensures refused { IsSome (refused_change self.old (del_of name.now))
-            → NothingChanged self.old self.new (D.state disk.old) (D.state disk.new) }
-        ensures quiet { IsNone (refused_change self.old (del_of name.now))
-            → IsQuietChange C (del_of name.now) self.old self.new (D.state disk.old)
-            (D.state disk.new) result }
-        ensures step { self.old.is_broken ≡ false → IsTrue (D.state disk.old).tells
-            → IfSome (reply_of done_reply result) (λ reply. Step (limits_of self.old)
-            (state_of self.old (D.state disk.old).file) (ask.change (del_of name.now)) reply
-            (state_of self.new (D.state disk.new).file)) }
-        ensures over { IsConnected C self.new (D.state disk.new) }
-        ensures broken { self.new.is_broken ≡ (self.old.is_broken || is_disk_fault result) }
-    {
-        match self.plan_del(name) {
-            Ok(plan) => {
-                self.leave(&plan.name, plan.layout);
-                Ok(Done { kept: false })
-            }
-            Err(refusal) => Err(refusal),
-        }
-    }
 
     /// Goes back to the last checkpoint: what stood then stands now.
     pub fn back(&mut self) -> Result<(), Refusal>
@@ -101,30 +49,31 @@ impl<const C: usize> Store<C> {
         Ok(())
     }
 
-    /// Writes the new object and sets its name.
-    fn put_planned<D: Disk>(
+    /// Makes a quiet put: writes the new object and sets its name.
+    pub(crate) fn put_planned<D: Disk>(
         &mut self,
         disk: &mut D,
+        name: &Name,
         plan: PutPlan<C>,
         bytes: &[u8],
     ) -> Result<Done, Refusal>
         requires ready { IsTrue (D.state disk.old).is_ready }
         requires over { IsConnected C self.old (D.state disk.old) }
         requires sound { IsStore C self.old }
-        requires plan { IsPutPlan self.old plan.name bytes.now plan.name (divisor_of plan.layout)
+        requires plan { IsPutPlan self.old name.now bytes.now name.now (divisor_of plan.layout)
             (caps_of plan.layout) (grid_of plan.layout) plan.spot }
-        ensures answer { AnswersChange None result }
-        ensures quiet { IsQuietChange C (put_of plan.entry.name bytes.now) self.old self.new
+        ensures answer { AnswersChange true None result }
+        ensures quiet { IsQuietChange C (put_of name.now bytes.now) self.old self.new
             (D.state disk.old) (D.state disk.new) result }
         ensures step { IsTrue (D.state disk.old).tells → OnOk result (Step (limits_of self.old)
-            (state_of self.old (D.state disk.old).file) (ask.change (put_of plan.entry.name bytes.now)) ask.done
+            (state_of self.old (D.state disk.old).file) (ask.change (put_of name.now bytes.now)) ask.done
             (state_of self.new (D.state disk.new).file)) }
         ensures over { IsConnected C self.new (D.state disk.new) }
         ensures broken { self.new.is_broken ≡ is_disk_fault result }
     {
         match write_new(disk, self.hands.base, plan.spot.place, bytes) {
             Ok(()) => {
-                self.enter(&plan.name, plan.layout, plan.spot);
+                self.enter(name, plan.layout, plan.spot);
                 Ok(Done { kept: false })
             }
             Err(DiskFault) => {
@@ -162,7 +111,7 @@ impl<const C: usize> Store<C> {
     }
 
     /// Takes a name out, once its object is charged.
-    fn leave(&mut self, name: &Name, layout: Layout<C>)
+    pub(crate) fn leave(&mut self, name: &Name, layout: Layout<C>)
         requires whole { self.old.is_broken ≡ false }
         requires divisor { divisor_of layout ≡ self.old.in_use.block.k }
         requires caps { caps_of layout ≡ self.old.book.caps }
@@ -185,7 +134,12 @@ impl<const C: usize> Store<C> {
 }
 
 /// Writes a new object at its place; one without bytes isn't written.
-fn write_new<D: Disk>(disk: &mut D, base: u64, place: u64, bytes: &[u8]) -> Result<(), DiskFault>
+pub(crate) fn write_new<D: Disk>(
+    disk: &mut D,
+    base: u64,
+    place: u64,
+    bytes: &[u8],
+) -> Result<(), DiskFault>
     requires ready { IsTrue (D.state disk.old).is_ready }
     requires fits { base + place + length bytes.now < 2 ^ 63 }
     requires within { IsTrue (D.state disk.old).tells

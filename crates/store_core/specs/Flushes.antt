@@ -1,0 +1,78 @@
+-- What a put or a removal does that isn't quiet: it is made with a flush, which saves a checkpoint of it.
+use Rattle.std.specs.Prelude.{◌≡◌, ◌⊎◌, ℕ, ◌+◌, ◌-◌, ◌*◌, ◌≤◌, Bool, true, false, List, length, Option, Some, None, Result, Ok, Err, IfSome, IsTrue, OnOk}
+use Rattle.disk_face.specs.States as disk
+use Rattle.disk_face.specs.Counts.{HasCause}
+use Rattle.disk_face.specs.Moments.{Leaves, Rests}
+use Rattle.disk_face.specs.Writes.{KeepsDisk}
+use Rattle.size_class.specs.declared.TheConstants.{SIZE_MAX}
+use Rattle.store_terms.specs.Maps.{Map}
+use Rattle.store_terms.specs.Requests as ask
+use Rattle.store_terms.specs.Requests.{Change, changed}
+use Rattle.segment_layout.specs.Books.{Book, is_quiet, next_book}
+use Rattle.segment_layout.specs.Bounds.{Loose}
+use Rattle.table_rules.specs.Opening.{Opens}
+use Rattle.flush_run.specs.Calls.{CallsSoFar}
+use Rattle.store_core.specs.declared.answers.Refusal.{Refusal}
+use Rattle.store_core.specs.declared.answers.Done.{Done}
+use Rattle.store_core.specs.Answers.{AnswersChange, done_reply, is_disk_fault, reply_of}
+use Rattle.store_core.specs.Changes.{IsQuietChange}
+use Rattle.store_core.specs.Connection.{IsConnected, Kept, RestsOnTable, base_of, kept_map, limits_of, state_of}
+use Rattle.store_core.specs.Keeps.{now_map}
+use Rattle.store_core.specs.Quiet.{asked_after, charges_of}
+use Rattle.store_core.specs.States.{Step}
+
+-- the map of a store over a file once it is changed, and its book then
+abbrev pub map_after : Kept → Change → List ℕ → Map
+map_after s c file = changed c (now_map s file)
+
+abbrev pub book_after : Kept → Change → List ℕ → Book
+book_after s c file = (next_book s.in_use.block.k (now_map s file) s.book c).book
+
+-- An image opens to the last checkpoint or to what stands after the change, and its data part is within bounds for
+-- the maps before and after.
+pub record IsFlushImage (classes : ℕ) (s : Kept) (c : Change) (file image : List ℕ) : Type 0 where
+  pub opens : Opens classes SIZE_MAX image (kept_map s file) s.kept_book
+      ⊎ Opens classes SIZE_MAX image (map_after s c file) (book_after s c file)
+  pub loose : Loose s.in_use.block.k (length image - base_of s) (now_map s file) (map_after s c file)
+
+-- The store after a flush: what stands now is the checkpoint, the sequence rose by 1 to 2k, and the bytes of the
+-- change were asked for.
+pub record ChangesByFlush (c : Change) (old new : Kept) : Type 0 where
+  pub same_block : new.in_use.block ≡ old.in_use.block
+  pub kept : new.kept ≡ new.now
+  pub kept_book : new.kept_book ≡ new.book
+  pub asked : new.asked ≡ asked_after old c
+  pub saved : old.in_use.sequence + 1 ≤ new.in_use.sequence
+  pub few_saves : new.in_use.sequence ≤ old.in_use.sequence + 2 * old.in_use.block.k
+
+-- What a change does that isn't quiet, whether the disk fails or not. The content opens to the last checkpoint or to
+-- what stands after the change, and so does all that a crash may leave meanwhile, where the disk rested on its
+-- table. Once it is done, the new content is all that a crash may leave. The calls are at most 4, those of the bytes
+-- moved, and those of the saves; where the disk failed 16 more, and those of one save.
+pub record IsFlush (classes : ℕ) (c : Change) (old new : Kept) (before now : disk.State) (result : Result Done Refusal)
+    : Type 0 where
+  pub value : OnOk result (ChangesByFlush c old new)
+  pub opened : IsTrue before.tells → OnOk result (Opens classes SIZE_MAX now.file (map_after old c before.file)
+      (book_after old c before.file))
+  pub content : IsTrue before.tells → IsFlushImage classes old c before.file now.file
+  pub left : IsTrue before.tells → RestsOnTable (base_of old) old.kept before
+      → Leaves before now (IsFlushImage classes old c before.file)
+  pub rests : IsTrue before.tells → OnOk result (Rests now)
+  pub on_table : IsTrue before.tells → OnOk result (RestsOnTable (base_of new) new.kept now)
+  pub calls : OnOk result (CallsSoFar before.turn now.turn old.moved new.moved 4
+      (new.in_use.sequence - old.in_use.sequence) old.in_use.block.names)
+  pub most : CallsSoFar before.turn now.turn old.moved new.moved 20
+      (new.in_use.sequence - old.in_use.sequence + 1) old.in_use.block.names
+  pub frame : KeepsDisk before now
+  pub cause : HasCause before.faults now.faults result
+
+-- A change that is served, quiet or not.
+pub record ServesChange (classes : ℕ) (c : Change) (old new : Kept) (before now : disk.State)
+    (result : Result Done Refusal) : Type 0 where
+  pub answer : AnswersChange (is_quiet (charges_of old c)) None result
+  pub quiet : is_quiet (charges_of old c) ≡ true → IsQuietChange classes c old new before now result
+  pub flush : is_quiet (charges_of old c) ≡ false → IsFlush classes c old new before now result
+  pub step : IsTrue before.tells → IfSome (reply_of done_reply result) (λ reply. Step (limits_of old)
+      (state_of old before.file) (ask.change c) reply (state_of new now.file))
+  pub over : IsConnected classes new now
+  pub broken : new.is_broken ≡ is_disk_fault result
