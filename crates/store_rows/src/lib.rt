@@ -6,6 +6,10 @@ mod checkpoints;
 #[cfg(test)]
 mod faults;
 #[cfg(test)]
+mod flushed;
+#[cfg(test)]
+mod flushes;
+#[cfg(test)]
 mod moments;
 #[cfg(test)]
 mod openings;
