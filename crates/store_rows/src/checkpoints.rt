@@ -164,7 +164,7 @@ fn has_objects(table: &plain_layout::Table, file: &[u8], objects: &[Object]) -> 
 }
 
 /// Whether a file has the bytes of an object where it stands.
-fn has_bytes(file: &[u8], object: &Object) -> bool {
+pub fn has_bytes(file: &[u8], object: &Object) -> bool {
     if file.len() < BASE {
         return false;
     }

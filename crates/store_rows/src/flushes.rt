@@ -54,7 +54,7 @@ pub const THREE_LAID: &[Object] = &[
 ];
 
 /// A put of 100 bytes, which grows an empty store.
-const FIRST: Step = Step {
+pub const FIRST: Step = Step {
     row: row!(Ask::Put("a", HUNDRED) => KEPT, 12),
     length: 111,
     sequence: 2,
@@ -139,4 +139,17 @@ fn flushes_where_a_change_finds_no_room(rt: HostRuntime) -> Result<(), Fail> {
 fn flushes_on_a_plain_disk(rt: HostRuntime) -> Result<(), Fail> {
     let mut plain = fresh_on(rt.alloc(), PlainDisk::with_room(rt.alloc(), 19_915)?, 9)?;
     try_flushes(&rt, rt.alloc(), &mut plain)
+}
+
+/// The largest object, which is moved in 16 pieces, and its removal.
+#[test]
+fn flushes_for_the_largest_object(rt: HostRuntime) -> Result<(), Fail> {
+    let disk = PlainDisk::with_room(rt.alloc(), 3_281_840)?;
+    let mut trial = fresh_on(rt.alloc(), disk, 9)?;
+    let rows = rows! {
+        Ask::PutZeros("q", 1_048_576) => KEPT, b"", 27;
+        Ask::OldSize("q") => Reply::Number(1_048_576), b"", 0;
+        Ask::Del("q") => KEPT, b"", 9;
+    };
+    try_rows(&rt, rt.alloc(), &mut trial, &rows)
 }
