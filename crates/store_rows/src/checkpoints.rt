@@ -124,12 +124,7 @@ pub fn opens_to(alloc: Global, file: &[u8], checkpoint: &Checkpoint) -> Result<b
 }
 
 /// The same for a file of another divisor.
-pub fn opens_as(
-    alloc: Global,
-    file: &[u8],
-    k: u64,
-    checkpoint: &Checkpoint,
-) -> Result<bool, Fail> {
+pub fn opens_as(alloc: Global, file: &[u8], k: u64, checkpoint: &Checkpoint) -> Result<bool, Fail> {
     let mut disk = MemDisk::from_bytes(alloc, file)?;
     let Ok(opened) = open(alloc, &mut disk, 21, SIZE_MAX) else {
         return Ok(false);

@@ -48,7 +48,10 @@ fn try_turn(
     for choice in CHOICES {
         let image = trial.image(began.saturating_add(turn), choice)?;
         let data = (image.len() as u64).checked_sub(BASE as u64);
-        assert!(rt; data.is_some_and(|data| data <= moments.reach), "turn {turn}, {choice:?}");
+        assert!(rt;
+            data.is_some_and(|data| data <= moments.reach),
+            "turn {turn}, {choice:?}"
+        );
         let opens = match opened_map(alloc, &image, moments.before, moments.after)? {
             Which::Before => turn < moments.last,
             Which::After => moments.first <= turn,

@@ -42,7 +42,6 @@ pub fn fresh_on<D: Disk + Drop>(alloc: Global, disk: D, k: u64) -> Result<Trial<
     store_on(alloc, disk)
 }
 
-
 /// Makes each request in turn, and looks at the store and its file after each.
 pub fn try_steps<D: Disk>(
     rt: &impl Abort,
@@ -56,7 +55,12 @@ pub fn try_steps<D: Disk>(
         let looks = looks_after(step, trial.turns());
         try_looks(rt, trial, &looks)?;
         let file = trial.file(alloc)?;
-        assert_eq!(rt; file.len() as u64, BASE as u64 + step.length, "{:?}", step.row.ask);
+        assert_eq!(rt;
+            file.len() as u64,
+            BASE as u64 + step.length,
+            "{:?}",
+            step.row.ask
+        );
         let opens = opens_as(alloc, &file, k, &checkpoint_after(step))?;
         assert!(rt; opens, "{:?}", step.row.ask);
     }

@@ -40,7 +40,11 @@ fn try_call(rt: &impl Abort, alloc: Global, call: u64) -> Result<(), Fail> {
     try_rows(rt, alloc, &mut trial, &rows)?;
     let opens = opened_map(alloc, &trial.file(alloc)?, ONE_LAID, THREE_LAID)?;
     // The tenth call opens the gate of the first checkpoint with all three.
-    let expected = if call <= 10 { Which::Before } else { Which::After };
+    let expected = if call <= 10 {
+        Which::Before
+    } else {
+        Which::After
+    };
     assert_eq!(rt; opens, expected, "call {call}");
     Ok(())
 }
