@@ -1,5 +1,5 @@
 -- A store and its disk go on together.
-use Rattle.std.specs.Prelude.{◌≡◌, List, ℕ, Option, Some, None, Result, IsNone, IsSome, IsTrue}
+use Rattle.std.specs.Prelude.{◌≡◌, List, ℕ, Bool, true, false, Option, Some, None, Result, IsNone, IsSome, IsTrue}
 use Rattle.std.proofs.Common.{rules, sym, subst}
 use Rattle.disk_face.specs.States as disk
 use Rattle.disk_face.specs.Frames.{Stays}
@@ -8,6 +8,8 @@ use Rattle.store_core.specs.declared.answers.Refusal.{Refusal}
 use Rattle.store_core.specs.declared.answers.Done.{Done}
 use Rattle.store_core.specs.Changes.{IsQuietChange, NothingChanged}
 use Rattle.store_core.specs.Connection.{IsConnected, IsOver, Kept}
+use Rattle.store_core.specs.Flushes.{IsFlush}
+use Rattle.store_core.specs.Keeps.{KeepsNow}
 use Rattle.store_rows.specs.Settled.{IsServed, classes}
 
 served_on : (old new : Kept) (before now : disk.State) → IsServed old before → Stays before now
@@ -18,16 +20,30 @@ served_on old new before now served stays over = record {
   over = over;
 }
 
--- after a change that is refused, or quiet
-pub served_after : (refused : Option Refusal) (c : Change) (old new : Kept) (before now : disk.State)
+-- after a change that is refused, quiet, or made with a flush
+pub served_after : (refused : Option Refusal) (is_quiet : Bool) (c : Change) (old new : Kept)
+    (before now : disk.State) (result : Result Done Refusal) → IsServed old before
+    → (IsSome refused → NothingChanged old new before now)
+    → (IsNone refused → is_quiet ≡ true → IsQuietChange classes c old new before now result)
+    → (IsNone refused → is_quiet ≡ false → IsFlush classes c old new before now result)
+    → IsConnected classes new now → IsServed new now
+served_after (Some why) is_quiet c old new before now result served is_refused quiet flush over =
+    served_on old new before now served (is_refused (search rules)).same_disk.stays over
+served_after None true c old new before now result served is_refused quiet flush over =
+    served_on old new before now served (quiet (search rules) (search rules)).frame.stays over
+served_after None false c old new before now result served is_refused quiet flush over =
+    served_on old new before now served (flush (search rules) (search rules)).frame.stays over
+
+-- after a checkpoint is saved, or refused
+pub served_kept : (refused : Option Refusal) (old new : Kept) (before now : disk.State)
     (result : Result Done Refusal) → IsServed old before
     → (IsSome refused → NothingChanged old new before now)
-    → (IsNone refused → IsQuietChange classes c old new before now result) → IsConnected classes new now
+    → (IsNone refused → KeepsNow classes old new before now result) → IsConnected classes new now
     → IsServed new now
-served_after (Some why) c old new before now result served is_refused quiet over =
+served_kept (Some why) old new before now result served is_refused kept over =
     served_on old new before now served (is_refused (search rules)).same_disk.stays over
-served_after None c old new before now result served is_refused quiet over =
-    served_on old new before now served (quiet (search rules)).frame.stays over
+served_kept None old new before now result served is_refused kept over =
+    served_on old new before now served (kept (search rules)).frame.stays over
 
 -- once a file was opened, which changes nothing
 pub served_opened : (s : Kept) (before now : disk.State) → IsTrue before.tells → Stays before now

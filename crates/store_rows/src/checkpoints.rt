@@ -120,13 +120,18 @@ fn save_table<D: Disk>(
 /// Whether a file opens to a checkpoint: to its places, its book, its sequence, and its objects' bytes. It
 /// may be longer than the checkpoint's layout.
 pub fn opens_to(alloc: Global, file: &[u8], checkpoint: &Checkpoint) -> Result<bool, Fail> {
+    opens_as(alloc, file, BLOCK.k, checkpoint)
+}
+
+/// The same for a file of another divisor.
+pub fn opens_as(alloc: Global, file: &[u8], k: u64, checkpoint: &Checkpoint) -> Result<bool, Fail> {
     let mut disk = MemDisk::from_bytes(alloc, file)?;
     let Ok(opened) = open(alloc, &mut disk, 21, SIZE_MAX) else {
         return Ok(false);
     };
     let same_header = opened.table.header == checkpoint.header;
     Ok(
-        opened.found.block == BLOCK
+        opened.found.block == (SuperBlock { k, ..BLOCK })
             && same_header
             && has_objects(&opened.table, file, checkpoint.objects),
     )
@@ -154,7 +159,7 @@ fn has_objects(table: &plain_layout::Table, file: &[u8], objects: &[Object]) -> 
 }
 
 /// Whether a file has the bytes of an object where it stands.
-fn has_bytes(file: &[u8], object: &Object) -> bool {
+pub fn has_bytes(file: &[u8], object: &Object) -> bool {
     if file.len() < BASE {
         return false;
     }

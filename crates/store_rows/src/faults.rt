@@ -1,7 +1,8 @@
 //! Worked stores that are worn, or whose disk fails.
 ghost use Rattle.std.specs.Prelude.{IsTrue};
 
-use crate::requests::{Ask, Looks, QUIET, Reply, Row, refused, rows, try_looks, try_rows};
+use crate::flushes::{FIVE, TEN};
+use crate::requests::{Ask, KEPT, Looks, QUIET, Reply, Row, refused, rows, try_looks, try_rows};
 use crate::trials::{Trial, store_on};
 use crate::worked::{HUNDRED, UNCHANGED, at_one};
 use disk_face::Disk;
@@ -37,6 +38,7 @@ fn try_worn(rt: &impl Abort, alloc: Global, trial: &mut Trial<MemDisk>) -> Resul
         Ask::Put("b", b"x") => refused!(Worn), b"", 0;
         Ask::Put("a", b"") => refused!(Worn), b"", 0;
         Ask::Del("a") => refused!(Worn), b"", 0;
+        Ask::Keep => refused!(Worn), b"", 0;
         Ask::Del("q") => refused!(Missing), b"", 0;
         Ask::Put("a b", b"") => refused!(BadName), b"", 0;
         Ask::PutZeros("b", 1_048_577) => refused!(TooLong), b"", 0;
@@ -70,9 +72,42 @@ fn serves_changes_up_to_there(rt: HostRuntime) -> Result<(), Fail> {
     let rows = rows! {
         Ask::Put("b", b"x") => QUIET, b"", 1;
         Ask::Del("b") => QUIET, b"", 0;
-        Ask::Del("a") => refused!(NeedsFlush), b"", 0;
+        Ask::Del("a") => KEPT, b"", 9;
+        Ask::Put("a", b"") => refused!(Worn), b"", 0;
+        Ask::Keep => refused!(Worn), b"", 0;
+        Ask::List => Reply::Nothing, b"", 0;
     };
     try_rows(&rt, rt.alloc(), &mut trial, &rows)
+}
+
+/// What the store says of itself after a flush of two saves, the first of which saves the sequence 2^61.
+const PAST: Looks = Looks {
+    turns: 24,
+    gauge: Gauge {
+        length: 127,
+        sequence: (1 << 61) + 1,
+    },
+    is_broken: false,
+    asked: [
+        0, 0, 5, 10, 0, 0, 0, 0, 0, 0, 0, 0, 0, 0, 0, 0, 0, 0, 0, 0, 0, 0, 0, 0, 0, 0, 0, 0, 0, 0,
+        0, 0,
+    ],
+    moved: [
+        0, 0, 5, 20, 0, 0, 200, 0, 0, 0, 0, 0, 0, 0, 0, 0, 0, 0, 0, 0, 0, 0, 0, 0, 0, 0, 0, 0, 0,
+        0, 0, 0,
+    ],
+};
+
+#[test]
+fn ends_a_flush_that_begins_before_there(rt: HostRuntime) -> Result<(), Fail> {
+    let mut trial = at_sequence(rt.alloc(), (1 << 61) - 1)?;
+    let rows = rows! {
+        Ask::Put("b", TEN) => QUIET, b"", 1;
+        Ask::Put("c", FIVE) => KEPT, b"", 23;
+        Ask::Del("c") => refused!(Worn), b"", 0;
+    };
+    try_rows(&rt, rt.alloc(), &mut trial, &rows)?;
+    try_looks(&rt, &trial, &PAST)
 }
 
 /// A store whose disk failed at a put: it answers Broken to all, and makes no more calls.
@@ -93,6 +128,7 @@ fn try_broken(
         Ask::List => refused!(Broken), b"", 0;
         Ask::Stat => refused!(Broken), b"", 0;
         Ask::Back => refused!(Broken), b"", 0;
+        Ask::Keep => refused!(Broken), b"", 0;
     };
     try_rows(rt, alloc, trial, &rows)
 }

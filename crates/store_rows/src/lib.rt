@@ -4,13 +4,27 @@
 #[cfg(test)]
 mod checkpoints;
 #[cfg(test)]
+mod crashes;
+#[cfg(test)]
 mod faults;
+#[cfg(test)]
+mod flushed;
+#[cfg(test)]
+mod flushes;
+#[cfg(test)]
+mod fused;
+#[cfg(test)]
+mod growth;
+#[cfg(test)]
+mod maps;
 #[cfg(test)]
 mod moments;
 #[cfg(test)]
 mod openings;
 #[cfg(test)]
 mod quiet;
+#[cfg(test)]
+mod replaced;
 #[cfg(test)]
 mod requests;
 #[cfg(test)]

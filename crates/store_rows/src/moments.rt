@@ -1,6 +1,6 @@
 //! What a crash may leave at each moment of a quiet put: the last checkpoint alone.
 use crate::checkpoints::{Checkpoint, opens_to};
-use crate::requests::{Ask, QUIET, Reply, Row, refused, rows, try_rows};
+use crate::requests::{Ask, KEPT, QUIET, Reply, Row, refused, rows, try_rows};
 use crate::trials::Trial;
 use crate::worked::{ONE, TWO, at_one, at_two};
 use disk_mem::{Choice, MemDisk};
@@ -80,10 +80,8 @@ fn try_two(rt: &impl Abort, alloc: Global, trial: &mut Trial<MemDisk>) -> Result
         Ask::Get("q") => refused!(Missing), b"", 0;
         Ask::Old("q") => Reply::Number(4), b"wxyz", 0;
         // The bytes of `q` are held: 7 are left of the buffer.
-        Ask::Put("q", b"abcdefgh") => refused!(NeedsFlush), b"", 0;
         Ask::Put("q", b"abcd") => QUIET, b"", 1;
         Ask::Put("r", b"efg") => QUIET, b"", 1;
-        Ask::Put("s", b"h") => refused!(NeedsFlush), b"", 0;
         Ask::Get("q") => Reply::Number(4), b"abcd", 0;
         Ask::Old("q") => Reply::Number(4), b"wxyz", 0;
         Ask::OldSize("q") => Reply::Number(4), b"", 0;
@@ -96,6 +94,10 @@ fn try_two(rt: &impl Abort, alloc: Global, trial: &mut Trial<MemDisk>) -> Result
         Ask::Back => Reply::Nothing, b"", 0;
         Ask::Get("q") => Reply::Number(4), b"wxyz", 0;
         Ask::List => Reply::Nothing, b"p 100\nq 4\n", 0;
+        // These don't find room beside the held ones.
+        Ask::Put("q", b"abcdefgh") => KEPT, b"", 21;
+        Ask::Old("q") => Reply::Number(8), b"abcdefgh", 0;
+        Ask::List => Reply::Nothing, b"p 100\nq 8\n", 0;
     };
     try_rows(rt, alloc, trial, &rows)
 }

@@ -38,6 +38,7 @@ pub enum Ask {
     List,
     Stat,
     Back,
+    Keep,
 }
 
 /// What a request is answered, beside the bytes that it puts.
@@ -61,6 +62,9 @@ pub struct Row {
 
 /// The answer to a change that saved no checkpoint.
 pub const QUIET: Reply = Reply::Done(Done { kept: false });
+
+/// The answer to a change that saved a checkpoint.
+pub const KEPT: Reply = Reply::Done(Done { kept: true });
 
 /// What a store answers to a request, whose bytes go to the sink.
 pub fn answer<D: Disk>(
@@ -86,6 +90,7 @@ pub fn answer<D: Disk>(
             Err(refusal) => Reply::Refused(refusal),
         },
         Ask::Back => nothing(trial.back()),
+        Ask::Keep => done(trial.keep()),
     })
 }
 

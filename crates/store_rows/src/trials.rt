@@ -56,6 +56,11 @@ impl<D: Disk> Trial<D> {
         self.store.del(&mut self.disk, name.as_bytes())
     }
 
+    /// Saves a checkpoint.
+    pub fn keep(&mut self) -> Result<Done, Refusal> {
+        self.store.keep(&mut self.disk)
+    }
+
     /// Goes back to the last checkpoint.
     pub fn back(&mut self) -> Result<(), Refusal> {
         self.store.back()

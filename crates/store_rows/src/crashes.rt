@@ -1,0 +1,174 @@
+//! What a crash may leave at each moment of a flush: the last checkpoint, or what stands after the
+//! request.
+use crate::checkpoints::{BASE, Object, opens_to};
+use crate::flushed::fresh_on;
+use crate::flushes::{FIVE, ONE_LAID, TEN, THREE_LAID, row};
+use crate::maps::{Which, opened_map};
+use crate::replaced::TEN_LAID;
+use crate::requests::{Ask, KEPT, QUIET, Row, rows, try_rows};
+use crate::trials::Trial;
+use crate::worked::{HUNDRED, ONE};
+use disk_mem::{Choice, MemDisk};
+use std::alloc::Global;
+use std::process::Abort;
+use std::test::Fail;
+
+/// The images of a turn that are tried: what the last sync left, what reads gave, and the written bytes
+/// and those of the write that is next as other ones.
+const CHOICES: [Choice; 5] = [
+    Choice::Durable,
+    Choice::Newest,
+    Choice::Torn(0),
+    Choice::Torn(0x5A),
+    Choice::Torn(0xFF),
+];
+
+/// A request that makes a flush.
+struct Moments {
+    row: Row,
+    /// How long the data part is at most.
+    reach: u64,
+    /// From this turn of the request on an image may open to what stands after it.
+    first: u64,
+    /// From this one on each does.
+    last: u64,
+    before: &'static [Object],
+    after: &'static [Object],
+}
+
+/// The images of one turn of a request that began at another.
+fn try_turn(
+    rt: &impl Abort,
+    alloc: Global,
+    trial: &Trial<MemDisk>,
+    began: u64,
+    turn: u64,
+    moments: &Moments,
+) -> Result<(), Fail> {
+    for choice in CHOICES {
+        let image = trial.image(began.saturating_add(turn), choice)?;
+        let data = (image.len() as u64).checked_sub(BASE as u64);
+        assert!(rt;
+            data.is_some_and(|data| data <= moments.reach),
+            "turn {turn}, {choice:?}"
+        );
+        let opens = match opened_map(alloc, &image, moments.before, moments.after)? {
+            Which::Before => turn < moments.last,
+            Which::After => moments.first <= turn,
+            Which::Neither => false,
+        };
+        assert!(rt; opens, "turn {turn}, {choice:?}");
+    }
+    Ok(())
+}
+
+/// Makes a request, and tries the images of each of its turns.
+fn try_moments(
+    rt: &impl Abort,
+    alloc: Global,
+    trial: &mut Trial<MemDisk>,
+    moments: &Moments,
+) -> Result<(), Fail> {
+    let began = trial.turns();
+    try_rows(rt, alloc, trial, &[moments.row])?;
+    for turn in 0..moments.row.calls.saturating_add(1) {
+        try_turn(rt, alloc, trial, began, turn, moments)?;
+    }
+    Ok(())
+}
+
+/// A put of 100 bytes, which grows an empty store.
+const FIRST: Moments = Moments {
+    row: row!(Ask::Put("a", HUNDRED) => KEPT, 12),
+    reach: 312,
+    first: 8,
+    last: 10,
+    before: &[],
+    after: ONE_LAID,
+};
+
+/// A put of 5 bytes, once 10 are put that no checkpoint has.
+const THIRD: Moments = Moments {
+    row: row!(Ask::Put("c", FIVE) => KEPT, 23),
+    reach: 254,
+    first: 9,
+    last: 11,
+    before: ONE_LAID,
+    after: THREE_LAID,
+};
+
+/// The removal of these, once the 10 are removed and no checkpoint has it.
+const FOURTH: Moments = Moments {
+    row: row!(Ask::Del("c") => KEPT, 19),
+    reach: 239,
+    first: 7,
+    last: 9,
+    before: THREE_LAID,
+    after: ONE_LAID,
+};
+
+/// The removal of the last object.
+const LAST: Moments = Moments {
+    row: row!(Ask::Del("a") => KEPT, 9),
+    reach: 112,
+    first: 5,
+    last: 7,
+    before: ONE_LAID,
+    after: &[],
+};
+
+/// 10 bytes in place of 100.
+const REPLACED: Moments = Moments {
+    row: row!(Ask::Put("a", TEN) => KEPT, 20),
+    reach: 132,
+    first: 8,
+    last: 10,
+    before: ONE_LAID,
+    after: TEN_LAID,
+};
+
+/// The put of 5 bytes, and the image of its third turn: the object of the checkpoint stands, and what
+/// was written is torn.
+fn try_third(rt: &impl Abort, alloc: Global, trial: &mut Trial<MemDisk>) -> Result<(), Fail> {
+    let began = trial.turns();
+    try_moments(rt, alloc, trial, &THIRD)?;
+    let image = trial.image(began.saturating_add(3), Choice::Torn(0x5A))?;
+    assert_eq!(rt; image.len(), 19_857);
+    assert!(rt; opens_to(alloc, &image, &ONE)?);
+    Ok(())
+}
+
+#[test]
+fn a_put_leaves_one_of_two_maps(rt: HostRuntime) -> Result<(), Fail> {
+    let mut trial = fresh_on(rt.alloc(), MemDisk::new(rt.alloc()), 9)?;
+    try_moments(&rt, rt.alloc(), &mut trial, &FIRST)?;
+    let rows = rows! {
+        Ask::Put("b", TEN) => QUIET, b"", 1;
+    };
+    try_rows(&rt, rt.alloc(), &mut trial, &rows)?;
+    try_third(&rt, rt.alloc(), &mut trial)
+}
+
+#[test]
+fn a_removal_leaves_one_of_two_maps(rt: HostRuntime) -> Result<(), Fail> {
+    let mut trial = fresh_on(rt.alloc(), MemDisk::new(rt.alloc()), 9)?;
+    let rows = rows! {
+        Ask::Put("a", HUNDRED) => KEPT, b"", 12;
+        Ask::Put("b", TEN) => QUIET, b"", 1;
+        Ask::Put("c", FIVE) => KEPT, b"", 23;
+        Ask::Del("b") => QUIET, b"", 0;
+    };
+    try_rows(&rt, rt.alloc(), &mut trial, &rows)?;
+    try_moments(&rt, rt.alloc(), &mut trial, &FOURTH)?;
+    try_moments(&rt, rt.alloc(), &mut trial, &LAST)
+}
+
+#[test]
+fn a_replacement_leaves_one_of_two_maps(rt: HostRuntime) -> Result<(), Fail> {
+    let mut trial = fresh_on(rt.alloc(), MemDisk::new(rt.alloc()), 9)?;
+    let rows = rows! {
+        Ask::Put("a", HUNDRED) => KEPT, b"", 12;
+    };
+    try_rows(&rt, rt.alloc(), &mut trial, &rows)?;
+    try_moments(&rt, rt.alloc(), &mut trial, &REPLACED)
+}

@@ -1,0 +1,155 @@
+//! Puts and removals on a fresh store, most of which make a flush.
+use crate::checkpoints::Object;
+use crate::flushed::{Step, fresh_on, try_steps};
+use crate::requests::{Ask, KEPT, QUIET, Reply, Row, rows, try_rows};
+use crate::trials::Trial;
+use crate::worked::HUNDRED;
+use disk_face::Disk;
+use disk_mem::{MemDisk, PlainDisk};
+use std::alloc::Global;
+use std::process::Abort;
+use std::test::Fail;
+use store_core::Stat;
+
+/// A request that puts no bytes.
+macro_rules! row {
+    ($ask:expr => $reply:expr, $calls:literal) => {
+        Row {
+            ask: $ask,
+            reply: $reply,
+            puts: b"",
+            calls: $calls,
+        }
+    };
+}
+
+/// An object that stands in a payload segment.
+macro_rules! laid {
+    ($name:literal, $place:literal, $bytes:expr) => {
+        Object {
+            name: $name,
+            place: $place,
+            bytes: $bytes,
+            is_buffered: false,
+        }
+    };
+}
+
+pub(crate) use laid;
+pub(crate) use row;
+
+/// 10 bytes and 5.
+pub const TEN: &[u8] = b"abcdefghij";
+
+pub const FIVE: &[u8] = b"klmno";
+
+/// The objects once `a` is put.
+pub const ONE_LAID: &[Object] = &[laid!("a", 0, HUNDRED)];
+
+/// The objects once `c` is put.
+pub const THREE_LAID: &[Object] = &[
+    laid!("a", 16, HUNDRED),
+    laid!("b", 5, TEN),
+    laid!("c", 0, FIVE),
+];
+
+/// A put of 100 bytes, which grows an empty store.
+pub const FIRST: Step = Step {
+    row: row!(Ask::Put("a", HUNDRED) => KEPT, 12),
+    length: 111,
+    sequence: 2,
+    asked: &[(6, 100)],
+    moved: &[(6, 100)],
+    caps: &[(6, 100)],
+    objects: ONE_LAID,
+};
+
+/// A put of 10 bytes, for which the buffer has room.
+const SECOND: Step = Step {
+    row: row!(Ask::Put("b", TEN) => QUIET, 1),
+    asked: &[(3, 10), (6, 100)],
+    ..FIRST
+};
+
+/// A put of 5 bytes, for which it has none.
+const THIRD: Step = Step {
+    row: row!(Ask::Put("c", FIVE) => KEPT, 23),
+    length: 127,
+    sequence: 4,
+    asked: &[(2, 5), (3, 10), (6, 100)],
+    moved: &[(2, 5), (3, 20), (6, 300)],
+    caps: &[(2, 5), (3, 10), (6, 100)],
+    objects: THREE_LAID,
+};
+
+/// The removals of them all.
+const REMOVALS: [Step; 3] = [
+    Step {
+        row: row!(Ask::Del("b") => QUIET, 0),
+        asked: &[(2, 5), (3, 20), (6, 100)],
+        ..THIRD
+    },
+    Step {
+        row: row!(Ask::Del("c") => KEPT, 19),
+        length: 111,
+        sequence: 6,
+        asked: &[(2, 10), (3, 20), (6, 100)],
+        moved: &[(2, 5), (3, 20), (6, 500)],
+        caps: &[(6, 100)],
+        objects: ONE_LAID,
+    },
+    Step {
+        row: row!(Ask::Del("a") => KEPT, 9),
+        length: 0,
+        sequence: 7,
+        asked: &[(2, 10), (3, 20), (6, 200)],
+        moved: &[(2, 5), (3, 20), (6, 500)],
+        caps: &[],
+        objects: &[],
+    },
+];
+
+/// What is read once all three are put.
+fn try_reads<D: Disk>(rt: &impl Abort, alloc: Global, trial: &mut Trial<D>) -> Result<(), Fail> {
+    let rows = rows! {
+        Ask::Get("a") => Reply::Number(100), HUNDRED, 0;
+        Ask::Get("b") => Reply::Number(10), TEN, 0;
+        Ask::Get("c") => Reply::Number(5), FIVE, 0;
+        Ask::Old("c") => Reply::Number(5), FIVE, 0;
+        Ask::List => Reply::Nothing, b"a 100\nb 10\nc 5\n", 0;
+        Ask::Stat => Reply::Stat(Stat { names: 3, bytes: 115, kept_names: 3, kept_bytes: 115 }), b"", 0;
+    };
+    try_rows(rt, alloc, trial, &rows)
+}
+
+/// The puts, and the removals.
+fn try_flushes<D: Disk>(rt: &impl Abort, alloc: Global, trial: &mut Trial<D>) -> Result<(), Fail> {
+    try_steps(rt, alloc, trial, 9, &[FIRST, SECOND, THIRD])?;
+    try_reads(rt, alloc, trial)?;
+    try_steps(rt, alloc, trial, 9, &REMOVALS)
+}
+
+#[test]
+fn flushes_where_a_change_finds_no_room(rt: HostRuntime) -> Result<(), Fail> {
+    let mut recorded = fresh_on(rt.alloc(), MemDisk::new(rt.alloc()), 9)?;
+    try_flushes(&rt, rt.alloc(), &mut recorded)
+}
+
+#[test]
+fn flushes_on_a_plain_disk(rt: HostRuntime) -> Result<(), Fail> {
+    let mut plain = fresh_on(rt.alloc(), PlainDisk::with_room(rt.alloc(), 19_915)?, 9)?;
+    try_flushes(&rt, rt.alloc(), &mut plain)
+}
+
+/// The largest object, which is moved in 16 pieces, and its removal.
+#[test]
+fn flushes_for_the_largest_object(rt: HostRuntime) -> Result<(), Fail> {
+    let disk = PlainDisk::with_room(rt.alloc(), 3_281_840)?;
+    let mut trial = fresh_on(rt.alloc(), disk, 9)?;
+    let rows = rows! {
+        Ask::PutZeros("q", 1_048_576) => KEPT, b"", 27;
+        Ask::OldSize("q") => Reply::Number(1_048_576), b"", 0;
+        Ask::Del("q") => KEPT, b"", 9;
+    };
+    try_rows(&rt, rt.alloc(), &mut trial, &rows)
+}

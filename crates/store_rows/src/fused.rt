@@ -1,0 +1,58 @@
+//! A flush whose disk fails at one of its calls.
+use crate::flushed::fresh_on;
+use crate::flushes::{FIVE, ONE_LAID, TEN, THREE_LAID, row};
+use crate::maps::{Which, opened_map};
+use crate::requests::{Ask, KEPT, QUIET, Reply, Row, refused, rows, try_rows};
+use crate::trials::Trial;
+use crate::worked::HUNDRED;
+use disk_fuse::Fuse;
+use disk_mem::MemDisk;
+use std::alloc::Global;
+use std::process::Abort;
+use std::test::Fail;
+use store_core::Refusal;
+
+/// A store of 100 bytes that are kept and 10 that aren't, whose disk fails one of the changing calls
+/// from here on.
+fn failing_at(rt: &impl Abort, alloc: Global, call: u64) -> Result<Trial<Fuse<MemDisk>>, Fail> {
+    let mut trial = fresh_on(alloc, MemDisk::new(alloc), 9)?;
+    let rows = rows! {
+        Ask::Put("a", HUNDRED) => KEPT, b"", 12;
+        Ask::Put("b", TEN) => QUIET, b"", 1;
+    };
+    try_rows(rt, alloc, &mut trial, &rows)?;
+    Ok(trial.failing(vec![in alloc; call]?, Vec::new(alloc)))
+}
+
+/// A put whose flush fails at a call, and what the file opens to from there.
+fn try_call(rt: &impl Abort, alloc: Global, call: u64) -> Result<(), Fail> {
+    let mut trial = failing_at(rt, alloc, call)?;
+    let failed = Row {
+        calls: call,
+        ..row!(Ask::Put("c", FIVE) => refused!(Disk), 0)
+    };
+    try_rows(rt, alloc, &mut trial, &[failed])?;
+    let rows = rows! {
+        Ask::Put("c", FIVE) => refused!(Broken), b"", 0;
+        Ask::Keep => refused!(Broken), b"", 0;
+        Ask::Get("a") => refused!(Broken), b"", 0;
+    };
+    try_rows(rt, alloc, &mut trial, &rows)?;
+    let opens = opened_map(alloc, &trial.file(alloc)?, ONE_LAID, THREE_LAID)?;
+    // The tenth call opens the gate of the first checkpoint with all three.
+    let expected = if call <= 10 {
+        Which::Before
+    } else {
+        Which::After
+    };
+    assert_eq!(rt; opens, expected, "call {call}");
+    Ok(())
+}
+
+#[test]
+fn is_broken_by_each_failed_call_of_a_flush(rt: HostRuntime) -> Result<(), Fail> {
+    for call in 1..24 {
+        try_call(&rt, rt.alloc(), call)?;
+    }
+    Ok(())
+}

@@ -1,0 +1,114 @@
+//! A flush for a put in place of an object, checkpoints that are asked for, and flushes at the least
+//! divisor.
+use crate::checkpoints::{Checkpoint, Object, opens_to};
+use crate::flushed::{Step, fresh_on, try_steps};
+use crate::flushes::{FIRST, TEN, laid, row};
+use crate::requests::{Ask, KEPT, QUIET, Reply, Row, refused, rows, try_rows};
+use crate::worked::{HUNDRED, TWO};
+use disk_mem::MemDisk;
+use slot_codec::Header;
+use std::test::Fail;
+use store_core::Refusal;
+
+/// The object of 10 bytes, laid.
+pub const TEN_LAID: &[Object] = &[laid!("a", 0, TEN)];
+
+/// 10 bytes in place of 100. The new ones find room in the buffer, and the old ones find none.
+const REPLACED: Step = Step {
+    row: row!(Ask::Put("a", TEN) => KEPT, 20),
+    length: 11,
+    sequence: 4,
+    asked: &[(3, 10), (6, 200)],
+    moved: &[(3, 20), (6, 100)],
+    caps: &[(3, 10)],
+    objects: TEN_LAID,
+};
+
+#[test]
+fn flushes_for_a_put_that_finds_room(rt: HostRuntime) -> Result<(), Fail> {
+    let mut trial = fresh_on(rt.alloc(), MemDisk::new(rt.alloc()), 9)?;
+    try_steps(&rt, rt.alloc(), &mut trial, 9, &[FIRST, REPLACED])?;
+    let rows = rows! {
+        Ask::Get("a") => Reply::Number(10), TEN, 0;
+        Ask::Old("a") => Reply::Number(10), TEN, 0;
+    };
+    try_rows(&rt, rt.alloc(), &mut trial, &rows)
+}
+
+/// The second checkpoint of a store with an object in a buffer.
+fn two_kept() -> Checkpoint {
+    Checkpoint {
+        header: Header {
+            sequence: 3,
+            ..TWO.header
+        },
+        ..TWO
+    }
+}
+
+#[test]
+fn keeps_what_stands_in_a_buffer(rt: HostRuntime) -> Result<(), Fail> {
+    let mut trial = fresh_on(rt.alloc(), MemDisk::new(rt.alloc()), 9)?;
+    let rows = rows! {
+        Ask::Put("p", HUNDRED) => KEPT, b"", 12;
+        Ask::Put("q", b"wxyz") => QUIET, b"", 1;
+        Ask::Old("q") => refused!(Missing), b"", 0;
+        Ask::Keep => KEPT, b"", 7;
+        Ask::Del("q") => QUIET, b"", 0;
+        Ask::Old("q") => Reply::Number(4), b"wxyz", 0;
+        Ask::Get("q") => refused!(Missing), b"", 0;
+        Ask::Back => Reply::Nothing, b"", 0;
+        Ask::Get("q") => Reply::Number(4), b"wxyz", 0;
+    };
+    try_rows(&rt, rt.alloc(), &mut trial, &rows)?;
+    let file = trial.file(rt.alloc())?;
+    assert_eq!(rt; file.len(), 19_714);
+    assert!(rt; opens_to(rt.alloc(), &file, &two_kept())?);
+    Ok(())
+}
+
+/// A byte that comes and goes twice, at the divisor 2.
+const PAIRS: [Step; 4] = [
+    Step {
+        row: row!(Ask::Put("x", b"1") => KEPT, 12),
+        length: 1,
+        sequence: 2,
+        asked: &[(0, 1)],
+        moved: &[(0, 1)],
+        caps: &[(0, 1)],
+        objects: &[laid!("x", 0, b"1")],
+    },
+    Step {
+        row: row!(Ask::Del("x") => KEPT, 9),
+        length: 0,
+        sequence: 3,
+        asked: &[(0, 2)],
+        moved: &[(0, 1)],
+        caps: &[],
+        objects: &[],
+    },
+    Step {
+        row: row!(Ask::Put("x", b"2") => KEPT, 12),
+        length: 1,
+        sequence: 4,
+        asked: &[(0, 3)],
+        moved: &[(0, 2)],
+        caps: &[(0, 1)],
+        objects: &[laid!("x", 0, b"2")],
+    },
+    Step {
+        row: row!(Ask::Del("x") => KEPT, 9),
+        length: 0,
+        sequence: 5,
+        asked: &[(0, 4)],
+        moved: &[(0, 2)],
+        caps: &[],
+        objects: &[],
+    },
+];
+
+#[test]
+fn flushes_at_the_least_divisor(rt: HostRuntime) -> Result<(), Fail> {
+    let mut trial = fresh_on(rt.alloc(), MemDisk::new(rt.alloc()), 2)?;
+    try_steps(&rt, rt.alloc(), &mut trial, 2, &PAIRS)
+}
