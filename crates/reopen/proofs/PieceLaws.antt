@@ -73,11 +73,13 @@ pub read_more : (at count done n : ℕ) (last after : Option (List ℕ)) (old no
     → SetSoFar new.now after (records_of new.now) → fin.len new.now ≡ fin.len now.now + n
     → new.kept ≡ now.kept → new.names ≡ now.names
     → (IsTrue current.tells → (m : ℕ) (more : List ℕ)
-    → all_records now.now (n + m) (bytes_at current.file (at + 80 * done) (80 * n) ++ more) (at + 80 * done) last
+    → all_records now.now (n + m) (bytes_at current.file (at + 80 * done) (80 * n) ++ more) (at + 80 * done)
+    last
     ≡ all_records new.now m more (at + 80 * done + 80 * n) after)
     → Unchanged current next → next.faults ≡ current.faults
     → ReadThrough at count (done + n) after old new first next
-read_more at count done n last after old now new first current next few t set counted kept names piece frame calm =
+read_more at count done n last after old now new first current next few t set counted kept names piece frame
+    calm =
     record {
       few = few;
       set = set;
@@ -98,7 +100,8 @@ read_more at count done n last after old now new first current next few t set co
           ≡ all_records new.now m more (p + 80 * n) after) same (piece told') in
           t.read told ∙ next_piece now.now first.file p left n last (omega (arith, few))
           ∙ here (left - n) more
-          ∙ ap (λ k. all_records new.now k (bytes_at first.file (p + 80 * n) (80 * k)) (p + 80 * n) after) count_is
+          ∙ ap (λ k. all_records new.now k (bytes_at first.file (p + 80 * n) (80 * k)) (p + 80 * n) after)
+          count_is
           ∙ ap (λ q. all_records new.now rest (bytes_at first.file q (80 * rest)) q after) place;
       frame = Unchanged-trans t.frame frame;
       calm = calm ∙ t.calm;

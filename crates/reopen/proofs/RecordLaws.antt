@@ -63,7 +63,8 @@ one_refused : (spots : Spots) (k : ℕ) (text : List ℕ) (at : ℕ) (before : O
 unfolding all_records
 one_refused spots k text at before f read =
     let first : Refuses (first_record text at before) (fault.Codec f at) = ap (placed_at at) read in
-    refuses_on (read_records (suc k) text at before) (λ rest. Ok (records_of spots ++ rest)) (fault.Codec f at)
+    refuses_on (read_records (suc k) text at before) (λ rest. Ok (records_of spots ++ rest))
+    (fault.Codec f at)
     (refuses_on (first_record text at before) (λ s. read_records k (drop 80 text) (at + 80) (Some s.name)
     >>= λ rs. Ok (s ∷ rs)) (fault.Codec f at) first)
 
@@ -72,8 +73,8 @@ front_of : (text more : List ℕ) (from : ℕ) → from + 80 ≤ length text
     → take 80 (drop from text ++ more) ≡ bytes_at text from 80
 front_of text more from within =
     let left = drop from text in
-    let long : length (take 80 left) ≡ 80 = length-take-le 80 left (omega (arith, within, length-drop from text))
-    in
+    let enough : 80 ≤ length left = omega (arith, within, length-drop from text) in
+    let long : length (take 80 left) ≡ 80 = length-take-le 80 left enough in
     let split : left ++ more ≡ take 80 left ++ (drop 80 left ++ more) =
     ap (λ (xs : List ℕ). xs ++ more) (sym (take-append-drop 80 left))
     ∙ append_assoc (take 80 left) (drop 80 left) more in
@@ -113,7 +114,8 @@ here : (text more : List ℕ) (i n : ℕ) (before : Option (List ℕ)) (said : R
     → length text ≡ 80 * n → record_after (bytes_at text (80 * i) 80) before ≡ said
     → record_after (take 80 (drop (80 * i) text ++ more)) before ≡ said
 here text more i n before said low long read =
-    ap (λ (xs : List ℕ). record_after xs before) (front_of text more (80 * i) (omega (arith, low, long))) ∙ read
+    ap (λ (xs : List ℕ). record_after xs before) (front_of text more (80 * i) (omega (arith, low, long)))
+    ∙ read
 
 -- one record more
 pub through_more : (text : List ℕ) (at n i : ℕ) (before last : Option (List ℕ)) (old now new : Extents)
@@ -147,11 +149,12 @@ through_more text at n i before last old now new r low long t read is inserted k
           back_of text others (80 * i) (omega (arith, low, long))
           ∙ ap (λ j. drop j text ++ others) step in
           t.read m others ∙ next_is now.now text at n i last m others low
-          ∙ one_set now.now k left (at + 80 * i) last r t.set is (here text others i n last (Ok r) low long read)
+          ∙ one_set now.now k left (at + 80 * i) last r t.set is
+          (here text others i n last (Ok r) low long read)
           ∙ ap (λ (xs : List ℕ). all_records spots k xs (at + 80 * i + 80) (Some r.name)) back
           ∙ ap (λ p. all_records spots k (drop (80 * (i + 1)) text ++ others) p (Some r.name)) on
-          ∙ ap (λ (s : Spots). all_records s k (drop (80 * (i + 1)) text ++ others) (at + 80 * (i + 1)) (Some r.name))
-          (sym inserted);
+          ∙ ap (λ (s : Spots). all_records s k (drop (80 * (i + 1)) text ++ others) (at + 80 * (i + 1))
+          (Some r.name)) (sym inserted);
     }
 
 -- the next record is refused
@@ -183,7 +186,8 @@ through_all text at n before last old now long t m more =
 pub all_from_none : (n : ℕ) (text : List ℕ) (at : ℕ) (before : Option (List ℕ))
     → all_records fin.empty n text at before ≡ read_records n text at before
 unfolding all_records
-all_from_none n text at before = ap (λ (rs : List Record). onto rs (read_records n text at before)) set_none.records
+all_from_none n text at before =
+    ap (λ (rs : List Record). onto rs (read_records n text at before)) set_none.records
     ∙ onto_none (read_records n text at before)
   where
     onto_none : (r : Result (List Record) SlotRefusal) → onto [] r ≡ r

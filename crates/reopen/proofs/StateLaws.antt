@@ -39,8 +39,8 @@ is_loaded x r layout a b c d e = λ i. record {
   layout = e i;
 }
 
-pub keeps_loaded : {C : ℕ} (r : TableRead) (layout : Layout C) → IsRead r → divisor_of layout ≡ r.found.block.k
-    → caps_of layout ≡ r.header.caps → grid_of layout ≡ r.header.used
+pub keeps_loaded : {C : ℕ} (r : TableRead) (layout : Layout C) → IsRead r
+    → divisor_of layout ≡ r.found.block.k → caps_of layout ≡ r.header.caps → grid_of layout ≡ r.header.used
     → IsValid (laid C SIZE_MAX r.found.block.k r.data_len r.header r.table.now)
     → KeepsLoaded (loaded_with r layout)
 keeps_loaded r layout read divisor caps used valid = record {
@@ -63,7 +63,8 @@ keeps_loaded r layout read divisor caps used valid = record {
 
 -- the table that was read is that of the file
 table_is : (file : List ℕ) (r : TableRead) → IsReadFrom file r
-    → choice.table_of file ≡ Ok (record { chosen = chosen_of r.found r.header; records = records_of r.table.now })
+    → choice.table_of file
+    ≡ Ok (record { chosen = chosen_of r.found r.header; records = records_of r.table.now })
 table_is file r read = table_from file
     (record { chosen = chosen_of r.found r.header; records = records_of r.table.now }) read.is_found.read
     read.records

@@ -17,7 +17,8 @@ all_records spots n text at before = read_records n text at before >>= λ rest. 
 
 -- Of n records of a text, the first i were set: whatever stands behind the text, all records are the same as
 -- before.
-pub record SetThrough (text : List ℕ) (at n i : ℕ) (before last : Option (List ℕ)) (old now : Extents) : Type 0
+pub record SetThrough (text : List ℕ) (at n i : ℕ) (before last : Option (List ℕ)) (old now : Extents)
+    : Type 0
   where
     pub set : SetSoFar now.now last (records_of now.now)
     pub count : fin.len now.now ≡ fin.len old.now + i
@@ -27,7 +28,7 @@ pub record SetThrough (text : List ℕ) (at n i : ℕ) (before last : Option (Li
         ≡ all_records now.now (n - i + m) (drop (record_len * i) text ++ more) (at + record_len * i) last
 
 -- Of the records that stand on a disk at a position, the first were read and set.
-pub record ReadThrough (at count done : ℕ) (last : Option (List ℕ)) (old now : Extents) (first current : State)
+pub record ReadThrough (at count done : ℕ) (last : Option (List ℕ)) (old now : Extents) (first later : State)
     : Type 0 where
   pub few : done ≤ count
   pub set : SetSoFar now.now last (records_of now.now)
@@ -39,5 +40,5 @@ pub record ReadThrough (at count done : ℕ) (last : Option (List ℕ)) (old now
       ≡ all_records now.now (count - done)
       (bytes_at first.file (at + record_len * done) (record_len * (count - done))) (at + record_len * done)
       last
-  pub frame : Unchanged first current
-  pub calm : current.faults ≡ first.faults
+  pub frame : Unchanged first later
+  pub calm : later.faults ≡ first.faults

@@ -12,6 +12,7 @@ returns-clause-value c =
     take-take 80 80 (drop c.args.at c.args.text.now) (omega arith) in
     let same : option_copied c.as_ref.result ≡ c.args.before.now = search rules in
     c.read_record_after.ensures.value
-    ∙ ap (λ k. record_after (take 80 (take k (drop c.args.at c.args.text.now))) (option_copied c.as_ref.result)) gap
+    ∙ ap (λ k. record_after (take 80 (take k (drop c.args.at c.args.text.now)))
+    (option_copied c.as_ref.result)) gap
     ∙ ap (λ b. record_after (take 80 (take 80 (drop c.args.at c.args.text.now))) b) same
     ∙ ap (λ xs. record_after xs c.args.before.now) cut

@@ -12,7 +12,8 @@ pieces-init g c = (
 pub returns-in_err-set_piece-clause-refused : goal.returns-in_err-set_piece-clause-refused
 returns-in_err-set_piece-clause-refused g c = λ told.
     let bad = read_refused c.args.at c.args.count c.pieces.done c.min-n.result c.pieces.last c.args.table.now
-    c.pieces.table (g.D.Disk.state c.args.disk.now) (g.D.Disk.state c.pieces.disk) c.in_err-set_piece.field-0.0
+    c.pieces.table (g.D.Disk.state c.args.disk.now) (g.D.Disk.state c.pieces.disk)
+    c.in_err-set_piece.field-0.0
     (omega arith) c.pieces.invariant.1 told c.in_err-set_piece.ensures.refused in
     search rules
 

@@ -6,7 +6,8 @@ pub returns-in-Err-clause-refused : goal.returns-in-Err-clause-refused
 returns-in-Err-clause-refused c =
     let said = sym c.record_at.ensures.value ∙ c.in-Err.is in
     through_refused c.args.text.now c.args.at c.args.n c.records.i c.args.last.now c.records.last
-    c.args.table.now c.records.table c.in-Err.fault _ (omega arith) c.requires.long c.records.invariant said refl
+    c.args.table.now c.records.table c.in-Err.fault _ (omega arith) c.requires.long
+    c.records.invariant said refl
 
 pub records-preserved : goal.records-preserved
 records-preserved c =
