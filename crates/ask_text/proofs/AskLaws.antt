@@ -53,7 +53,8 @@ read_again line (Err e) none read fault a asks = absurd (none a asks (fault a as
 -- a word has 255 bytes at most
 word_short : (name : List ℕ) → IsWord name → length name ≤ 255
 word_short name h =
-    let parts = and_parts (nat_lt 0 (length name) && nat_le (length name) 255) (list_all is_name_byte name) h in
+    let parts = and_parts (nat_lt 0 (length name) && nat_le (length name) 255) (list_all is_name_byte name) h
+    in
     leb-true (length name) 255 (and_parts (nat_lt 0 (length name)) (nat_le (length name) 255) parts.0).1
 
 pub line_short : (a : Ask) → IsAsk a → length (line_of a) ≤ 270

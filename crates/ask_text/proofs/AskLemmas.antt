@@ -22,7 +22,8 @@ IsNoPut words = (name : List ℕ) (size : ℕ) → IsWord name → size < 429496
     → words ≡ name ++ 32 ∷ decimal size → ⊥
 
 -- the line of a put is `put `, the name, a blank, and the size
-pub put_line : (name : List ℕ) (size : ℕ) → line_of (ask.Put name size) ≡ codes "put " ++ (name ++ 32 ∷ decimal size)
+pub put_line : (name : List ℕ) (size : ℕ)
+    → line_of (ask.Put name size) ≡ codes "put " ++ (name ++ 32 ∷ decimal size)
 put_line name size = ap (λ xs. codes "put " ++ xs) (append_assoc name (32 ∷ []) (decimal size))
 
 pub asks_no_put : (words : List ℕ) → IsNoPut words → AsksForNothing (codes "put " ++ words)
@@ -47,8 +48,9 @@ pub no_blank : (words : List ℕ) → position (nat_eq 32) words ≡ None → Is
 no_blank words none name size word fits is = let found = blank_behind words name size word is in cc
 
 -- the name stands in front of the first blank, and the size behind it
-parts : (words : List ℕ) (at : ℕ) (name : List ℕ) (size : ℕ) → position (nat_eq 32) words ≡ Some at → IsWord name
-    → words ≡ name ++ 32 ∷ decimal size → (take at words ≡ name) × (drop (at + 1) words ≡ decimal size)
+parts : (words : List ℕ) (at : ℕ) (name : List ℕ) (size : ℕ) → position (nat_eq 32) words ≡ Some at
+    → IsWord name → words ≡ name ++ 32 ∷ decimal size
+    → (take at words ≡ name) × (drop (at + 1) words ≡ decimal size)
 parts words at name size found word is =
     let end = blank_behind words name size word is in
     let here : length name ≡ at = cc in

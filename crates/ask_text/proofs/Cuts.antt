@@ -36,7 +36,8 @@ name_bytes c low (x ∷ xs) h =
 -- a word has no blank and no newline
 pub lacks-word : (c : ℕ) → c < 33 → (xs : List ℕ) → IsWord xs → Lacks c xs
 lacks-word c low xs h =
-    name_bytes c low xs (and_parts (nat_lt 0 (length xs) && nat_le (length xs) 255) (list_all is_name_byte xs) h).1
+    let parts = and_parts (nat_lt 0 (length xs) && nat_le (length xs) 255) (list_all is_name_byte xs) h in
+    name_bytes c low xs parts.1
 
 digit_bytes : (c : ℕ) → c < 48 → (xs : List ℕ) → Lacks c (map (λ d. 48 + d) xs)
 digit_bytes c low [] = tt
@@ -67,8 +68,11 @@ place_from : (c i : ℕ) (xs rest : List ℕ) → Lacks c xs
     → position_from (nat_eq c) i (xs ++ c ∷ rest) ≡ Some (i + length xs)
 place_from c i [] rest l = cond-true _ _ _ (eq-eqb c c refl) ∙ ap Some (omega arith)
 place_from c i (x ∷ xs) rest l =
-    cond-false _ _ _ (ne_eqb c x (λ e. l.0 (sym e))) ∙ place_from c (i + 1) xs rest l.1 ∙ ap Some (omega arith)
+    cond-false _ _ _ (ne_eqb c x (λ e. l.0 (sym e))) ∙ place_from c (i + 1) xs rest l.1
+    ∙ ap Some (omega arith)
 
 -- the byte is found at the end of a front that lacks it
-pub position-cut : (c : ℕ) (xs rest : List ℕ) → Lacks c xs → position (nat_eq c) (xs ++ c ∷ rest) ≡ Some (length xs)
-position-cut c xs rest l = position_from-zero (nat_eq c) (xs ++ c ∷ rest) ∙ place_from c 0 xs rest l ∙ ap Some (omega arith)
+pub position-cut : (c : ℕ) (xs rest : List ℕ) → Lacks c xs
+    → position (nat_eq c) (xs ++ c ∷ rest) ≡ Some (length xs)
+position-cut c xs rest l =
+    position_from-zero (nat_eq c) (xs ++ c ∷ rest) ∙ place_from c 0 xs rest l ∙ ap Some (omega arith)

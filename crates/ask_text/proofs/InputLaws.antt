@@ -13,7 +13,8 @@ use Rattle.ask_text.specs.declared.ask.Ask.{Ask}
 use Rattle.ask_text.specs.declared.ask.Ask.TheVariants as ask
 
 -- a text is a line, a newline, and a body
-text_is : (r : Request) (rest : List ℕ) → request_text r ++ rest ≡ line_of (ask_of r) ++ 10 ∷ (body_of r ++ rest)
+text_is : (r : Request) (rest : List ℕ)
+    → request_text r ++ rest ≡ line_of (ask_of r) ++ 10 ∷ (body_of r ++ rest)
 text_is r rest =
     append_assoc (line_of (ask_of r) ++ codes "\n") (body_of r) rest
     ∙ append_assoc (line_of (ask_of r)) (codes "\n") (body_of r ++ rest)
@@ -76,7 +77,8 @@ kind_of request.back = refl
 kind_of request.list = refl
 kind_of request.stat = refl
 
-body_one : (r s : Request) (x y : List ℕ) → ask_of r ≡ ask_of s → body_of r ++ x ≡ body_of s ++ y → (r ≡ s) × (x ≡ y)
+body_one : (r s : Request) (x y : List ℕ) → ask_of r ≡ ask_of s
+    → body_of r ++ x ≡ body_of s ++ y → (r ≡ s) × (x ≡ y)
 body_one (request.change c) (request.change d) x y a b =
     let p = change_one c.name d.name c.object d.object x y a b in
     let name : c.name ≡ d.name = p.0 in
@@ -92,8 +94,8 @@ body_one request.stat request.stat x y a b = (refl, b)
 body_one r s x y a b = absurd (omega (arith, sym (kind_of r) ∙ ap kind a ∙ kind_of s))
 
 -- two texts of requests in front of one list are one
-pub text_one : (r s : Request) (x y : List ℕ) → HasText r → HasText s → request_text r ++ x ≡ request_text s ++ y
-    → (r ≡ s) × (x ≡ y)
+pub text_one : (r s : Request) (x y : List ℕ) → HasText r → HasText s
+    → request_text r ++ x ≡ request_text s ++ y → (r ≡ s) × (x ≡ y)
 text_one r s x y a b h =
     let cut = cut_once 10 (line_of (ask_of r)) (line_of (ask_of s)) (body_of r ++ x) (body_of s ++ y)
     (lacks-line (ask_of r) a) (lacks-line (ask_of s) b) (sym (text_is r x) ∙ h ∙ text_is s y)
@@ -105,8 +107,9 @@ texts_is : (r : Request) (rs : List Request) (e : List ℕ)
     → flat_map request_text (r ∷ rs) ++ e ≡ request_text r ++ (flat_map request_text rs ++ e)
 texts_is r rs e = append_assoc (request_text r) (flat_map request_text rs) e
 
-many_one : (rs ss : List Request) (e f : List ℕ) → AllByRecursion HasText rs → AllByRecursion HasText ss → BeginsNone e
-    → BeginsNone f → flat_map request_text rs ++ e ≡ flat_map request_text ss ++ f → (rs ≡ ss) × (e ≡ f)
+many_one : (rs ss : List Request) (e f : List ℕ) → AllByRecursion HasText rs
+    → AllByRecursion HasText ss → BeginsNone e → BeginsNone f
+    → flat_map request_text rs ++ e ≡ flat_map request_text ss ++ f → (rs ≡ ss) × (e ≡ f)
 many_one [] [] e f a b n m h = (refl, h)
 many_one [] (s ∷ ss) e f a b n m h =
     absurd (n s (flat_map request_text ss ++ f) b.0 (h ∙ texts_is s ss f))

@@ -26,13 +26,15 @@ word_one _ _ h = absurd (omega (arith, ap (byte 0) h))
 
 -- between a text and a newline stands one thing
 between : (front a b : List ℕ) → front ++ a ++ codes "\n" ≡ front ++ b ++ codes "\n" → a ≡ b
-between front a b h = append_cancel_left front a b (append_cancel_right (front ++ a) (front ++ b) (codes "\n") h)
+between front a b h =
+    append_cancel_left front a b (append_cancel_right (front ++ a) (front ++ b) (codes "\n") h)
 
 stat_is : (a b c d : ℕ) → first_line (head.Stat a b c d)
     ≡ codes "stat " ++ (decimal a ++ 32 ∷ (decimal b ++ 32 ∷ (decimal c ++ 32 ∷ (decimal d ++ 10 ∷ []))))
 stat_is a b c d = grind (arith, common_steps)
 
-number_one : (c m n : ℕ) (s t : List ℕ) → c < 48 → m < 2 ^ 64 → n < 2 ^ 64 → decimal m ++ c ∷ s ≡ decimal n ++ c ∷ t
+number_one : (c m n : ℕ) (s t : List ℕ) → c < 48 → m < 2 ^ 64 → n < 2 ^ 64
+    → decimal m ++ c ∷ s ≡ decimal n ++ c ∷ t
     → (m ≡ n) × (s ≡ t)
 number_one c m n s t low f g h =
     let cut = cut_once c (decimal m) (decimal n) s t (lacks-decimal c low m f) (lacks-decimal c low n g) h in

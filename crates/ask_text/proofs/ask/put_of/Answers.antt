@@ -23,8 +23,9 @@ returns-in_default-number-clause-fault c =
 pub returns-clause-read : goal.returns-clause-read
 returns-clause-read c =
     let found = sym c.first_blank.ensures ∙ c.in-Some.is in
+    let front = c.in-Some-new.ensures.value in
     let size = c.in-Some-number.ensures.1 ∙ ap decimal (sym c.from.ensures) in (
-      is_put c.args.words.now c.in-Some.at c.in-Some-new.name c.from.result found c.in-Some-new.ensures.value size,
+      is_put c.args.words.now c.in-Some.at c.in-Some-new.name c.from.result found front size,
       (
         subst IsWord (sym c.in-Some-new.ensures.value) (c.in-Some-new.ensures.valid.0 refl),
         omega (arith, c.from.ensures, c.in-Some-number.ensures.0),

@@ -37,4 +37,5 @@ returns-clause-listed c =
 
 pub returns-clause-counts : goal.returns-clause-counts
 returns-clause-counts c =
-    rw (decimal_digit 2 (omega arith), thirty, decimal_digit 1 (omega arith), decimal_digit 5 (omega arith)) refl
+    rw (decimal_digit 2 (omega arith), thirty, decimal_digit 1 (omega arith), decimal_digit 5 (omega arith))
+    refl
