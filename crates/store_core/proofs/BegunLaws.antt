@@ -202,6 +202,8 @@ module _ {classes : ℕ} {kept_grid : List (List ℕ)} {x0 : Parts} (may : MayBe
             );
             whole = subst (λ (q : Phase). is_boundary after q.numbers.boundary ≡ true) (sym st.value)
                 del_starts.boundary;
+            boundary = ap (λ (q : Phase). q.numbers.boundary) st.value ∙ l.boundary
+                ∙ ap (λ (g : List (List ℕ)). boundary_of g (trigger (charged_by k x0.caps x0.grid old 0))) l.after_is;
             divisor = may.divisor ∙ sym (ap (λ (q : Phase). q.k) st.value);
             asked = sums ∙ ap (λ (xs : List ℕ). fold added x0.asked xs) (sym (append-nil (sizes_at old)));
             kept = without.kept;
@@ -284,6 +286,9 @@ module _ {classes : ℕ} {kept_grid : List (List ℕ)} {x0 : Parts} (may : MayBe
               );
               whole = subst (λ (q : Phase). is_boundary after q.numbers.boundary ≡ true) (sym st.value)
                   starts.boundary;
+              boundary = ap (λ (q : Phase). q.numbers.boundary) st.value ∙ l.boundary
+                  ∙ ap (λ (g : List (List ℕ)). boundary_of g (trigger (charged_by k x0.caps x0.grid old size)))
+                  l.after_is;
               divisor = may.divisor ∙ sym (ap (λ (q : Phase). q.k) st.value);
               asked = sums;
               kept = joins.kept ∙ without.kept;
@@ -350,6 +355,9 @@ module _ {classes : ℕ} {kept_grid : List (List ℕ)} {x0 : Parts} (may : MayBe
               );
               whole = subst (λ (q : Phase). is_boundary after q.numbers.boundary ≡ true) (sym value)
                   wait_starts.boundary;
+              boundary = ap (λ (q : Phase). q.numbers.boundary) value ∙ l.boundary
+                  ∙ ap (λ (g : List (List ℕ)). boundary_of g (trigger (charged_by k x0.caps x0.grid old size)))
+                  l.after_is;
               divisor = may.divisor ∙ sym (ap (λ (q : Phase). q.k) value);
               asked = sums;
               kept = joins.kept ∙ without.kept;
