@@ -1,5 +1,5 @@
 -- A store after its flush, whether or not it failed.
-use Rattle.std.specs.Prelude.{◌≡◌, ℕ, ◌+◌, ◌-◌, ◌*◌, ◌^◌, ◌<◌, ◌≤◌, true, false, List, [], ◌++◌, length, slice_index, Option, Some, None, Result, Ok, Err, IsTrue, vec_capacity, vec_len, refl}
+use Rattle.std.specs.Prelude.{◌≡◌, ℕ, ◌+◌, ◌-◌, ◌*◌, ◌^◌, ◌<◌, ◌≤◌, true, false, List, [], ◌++◌, length, slice_index, Option, Some, None, Ok, Err, IsTrue, vec_capacity, vec_len, refl}
 use Rattle.std.proofs.Common.{arith, sym, ◌∙◌, ap, subst, inl, inr}
 use Rattle.std.specs.Global.{Vec}
 use Rattle.disk_face.specs.States as disk
@@ -14,7 +14,7 @@ use Rattle.slot_codec.specs.Spelling.{head_len}
 use Rattle.slot_codec.specs.declared.codec.SuperBlock.{SuperBlock}
 use Rattle.store_terms.specs.Requests as ask
 use Rattle.store_terms.specs.Requests.{Change, changed}
-use Rattle.segment_layout.specs.Books.{Book, charge_all, is_quiet, item_of, next_book, some_size, trigger, volumes, volumes_of_sizes}
+use Rattle.segment_layout.specs.Books.{charge_all, is_quiet, item_of, some_size, trigger, volumes, volumes_of_sizes}
 use Rattle.segment_layout.specs.Shapes.{boundary_of}
 use Rattle.segment_layout.proofs.ShapeLaws.{caps-settled_above}
 use Rattle.store_terms.specs.Maps.{Map}
@@ -33,19 +33,19 @@ use Rattle.flush_plan.specs.declared.item.Item.{Item}
 use Rattle.flush_plan.specs.Phases.{Phase}
 use Rattle.flush_run.specs.declared.hands.Hands.{Hands}
 use Rattle.flush_run.specs.Calls.{CallsSoFar}
-use Rattle.flush_run.specs.Flights.{Flight, LeavesOldOrNew}
+use Rattle.flush_run.specs.Flights.{LeavesOldOrNew}
 use Rattle.flush_run.specs.Parts.{Parts, parts_of}
 use Rattle.flush_run.specs.Settling.{FlushEnds}
 use Rattle.store_core.specs.declared.answers.Refusal.{Refusal}
 use Rattle.store_core.specs.declared.answers.Done.{Done}
 use Rattle.store_core.specs.declared.store.Store.TheInside.{Inside}
-use Rattle.store_core.specs.Connection.{IsConnected, IsOver, Kept, RestsOnTable, base_of, limits_of, state_of}
+use Rattle.store_core.specs.Connection.{IsOver, Kept, RestsOnTable, base_of, limits_of, state_of}
 use Rattle.store_core.specs.Flushed.{IsFlushed}
-use Rattle.store_core.specs.Flushes.{ChangesByFlush, IsFlush, IsFlushImage, flush_boundary, map_after}
+use Rattle.store_core.specs.Flushes.{IsFlush, IsFlushImage, flush_boundary, map_after}
 use Rattle.store_core.specs.Flushing.{CanFly, HasFlown, IsBegun, Setting, bytes_of, flight_of, spots_after}
 use Rattle.store_core.specs.Inside.{IsWhole, kept_of}
 use Rattle.store_core.specs.Quiet.{asked_after, charges_of}
-use Rattle.store_core.specs.States.{Facts, State, Step, facts_of, refusal}
+use Rattle.store_core.specs.States.{Facts, State, Step, refusal}
 use Rattle.store_core.specs.Answers.{facts_at}
 use Rattle.store_core.specs.Stores.{IsStore}
 use Rattle.store_core.proofs.FlushLaws.{can_fly, flush_content, flush_left, flush_step, some_flight}
@@ -164,11 +164,11 @@ module _ {C : ℕ} (s : Inside C) (c : Change) (hands1 : Hands C) (p : Phase) (p
   lower_is : (q : ℕ) → q < flush_boundary ks c → slice_index (cells_of hands2.ledger.moved) q
       ≡ slice_index ks.moved q
   lower_is q low = w.made.lower q (omega (
-        arith,
-        low,
-        w.begun.boundary,
-        ap (λ y. boundary_of y.grid (trigger y)) (same_charges ks c),
-      )) ∙ ap (λ (xs : List ℕ). slice_index xs q) same_moved
+    arith,
+    low,
+    w.begun.boundary,
+    ap (λ y. boundary_of y.grid (trigger y)) (same_charges ks c),
+  )) ∙ ap (λ (xs : List ℕ). slice_index xs q) same_moved
 
   few_is : IsTrue a.tells → (q : ℕ) → slice_index (cells_of hands2.ledger.moved) q
       ≤ slice_index ks.moved q + 2 * slice_index (volumes (map_after ks c a.file)) q

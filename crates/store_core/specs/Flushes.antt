@@ -1,5 +1,5 @@
 -- What a put or a removal does that isn't quiet: it is made with a flush, which saves a checkpoint of it.
-use Rattle.std.specs.Prelude.{◌≡◌, ◌⊎◌, ℕ, ◌+◌, ◌-◌, ◌*◌, ◌<◌, ◌≤◌, Bool, true, false, List, length, slice_index, Option, Some, None, Result, Ok, Err, IfSome, IsTrue, OnOk}
+use Rattle.std.specs.Prelude.{◌≡◌, ◌⊎◌, ℕ, ◌+◌, ◌-◌, ◌*◌, ◌<◌, ◌≤◌, true, false, List, length, slice_index, None, Result, IfSome, IsTrue, OnOk}
 use Rattle.disk_face.specs.States as disk
 use Rattle.disk_face.specs.Counts.{HasCause}
 use Rattle.disk_face.specs.Moments.{Leaves, Rests}
@@ -33,8 +33,8 @@ book_after s c file = (next_book s.in_use.block.k (now_map s file) s.book c).boo
 abbrev pub flush_boundary : Kept → Change → ℕ
 flush_boundary s c = boundary_of (charges_of s c).grid (trigger (charges_of s c))
 
--- An image opens to the last checkpoint or to what stands after the change, and its data part is within bounds for
--- the maps before and after.
+-- An image opens to the last checkpoint or to what stands after the change, and its data part is within bounds
+-- for the maps before and after.
 pub record IsFlushImage (classes : ℕ) (s : Kept) (c : Change) (file image : List ℕ) : Type 0 where
   pub opens : Opens classes SIZE_MAX image (kept_map s file) s.kept_book
       ⊎ Opens classes SIZE_MAX image (map_after s c file) (book_after s c file)
@@ -50,11 +50,11 @@ pub record ChangesByFlush (c : Change) (old new : Kept) : Type 0 where
   pub saved : old.in_use.sequence + 1 ≤ new.in_use.sequence
   pub few_saves : new.in_use.sequence ≤ old.in_use.sequence + 2 * old.in_use.block.k
 
--- What a change does that isn't quiet, whether the disk fails or not. The content opens to the last checkpoint or to
--- what stands after the change, and so does all that a crash may leave meanwhile, where the disk rested on its
--- table. Once it is done, the new content is all that a crash may leave. The calls are at most 4, those of the bytes
--- moved, and those of the saves; where the disk failed 16 more, and those of one save. No byte of a class below
--- the boundary is moved, and of each other class at most twice the bytes of the map after.
+-- What a change does that isn't quiet, whether the disk fails or not. The content opens to the last checkpoint
+-- or to what stands after the change, and so does all that a crash may leave meanwhile, where the disk rested on
+-- its table. Once it is done, the new content is all that a crash may leave. The calls are at most 4, those of
+-- the bytes moved, and those of the saves; where the disk failed 16 more, and those of one save. No byte of a
+-- class below the boundary is moved, and of each other class at most twice the bytes of the map after.
 pub record IsFlush (classes : ℕ) (c : Change) (old new : Kept) (before now : disk.State) (result : Result Done Refusal)
     : Type 0 where
   pub value : OnOk result (ChangesByFlush c old new)

@@ -18,7 +18,6 @@ use Rattle.extent_table.specs.Extents.{Extents, IsTable, Spots}
 use Rattle.spot_terms.specs.Held.{FreesSpot}
 use Rattle.spot_terms.specs.LaidOut.{shown_book}
 use Rattle.flush_plan.specs.declared.item.Item.{Item}
-use Rattle.flush_plan.specs.declared.item.Numbers.{Numbers}
 use Rattle.flush_plan.specs.Phases.{Phase, phase_of}
 use Rattle.flush_plan.specs.Plans.{class_total, numbers_of}
 use Rattle.flush_run.specs.Flights.{Flight, IsAtHand, IsFreeSpace, OpensEither}

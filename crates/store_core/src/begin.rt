@@ -79,9 +79,9 @@ pub(crate) fn begin_del<const C: usize>(
     let old = hands.table.get(name);
     take_out(hands, name);
     let outcome = charge_change(&mut hands.layout, old, 0);
-    let boundary = hands.layout.boundary(outcome.class);
+    let b = hands.layout.boundary(outcome.class);
     Begun {
-        phase: start_lifting(&hands.table, &hands.layout, list, boundary),
+        phase: start_lifting(&hands.table, &hands.layout, list, b),
         place: 0,
     }
 }
@@ -127,7 +127,12 @@ fn start_placed<const C: usize>(
 }
 
 /// Begins a flush of the objects of a table from class `b` on, with nothing pending.
-fn start_lifting<const C: usize>(table: &Table, layout: &Layout<C>, list: Vec<Item>, b: u8) -> Lifting<C>
+fn start_lifting<const C: usize>(
+    table: &Table,
+    layout: &Layout<C>,
+    list: Vec<Item>,
+    b: u8,
+) -> Lifting<C>
     requires fits { C ≤ 32 }
     requires empty { list.items ≡ [] }
     requires list_room { table.now.names ≤ vec_capacity list }

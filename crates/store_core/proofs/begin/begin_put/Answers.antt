@@ -1,4 +1,4 @@
-use Rattle.std.proofs.Common.{◌∙◌, arith, length, lit<, refl, sym}
+use Rattle.std.proofs.Common.{arith, length, lit<}
 use Rattle.size_class.specs.Rows.{cells_of}
 use Rattle.segment_layout.specs.Layouts.{caps_of, divisor_of, grid_of}
 use Rattle.flush_run.specs.Parts.{parts_of}
@@ -33,8 +33,7 @@ start_placed-requires g c =
       divisor = cc.ensures.divisor;
       caps_are = cc.ensures.caps;
       boundary = c.boundary-boundary.ensures.same;
-    } in
-    (
+    } in (
       lit< tt,
       (
         lit< tt,
@@ -44,21 +43,21 @@ start_placed-requires g c =
             room_for may c.args.name.now c.take_out.new.hands.table c.take_out.ensures.without c.requires.room,
             (
               placed_ends may c.args.name.now (parts_of c.take_out.new.hands) c.take_out.ensures
-          c.requires.named c.args.bytes.now c.requires.small (cells_of c.add_size.new.ledger.moved)
-          (cells_of c.add_size.new.ledger.asked) c.add_size.ensures.moved c.add_size.ensures.asked c.get-old.result
-          c.get-old.ensures (divisor_of cc.new.layout) (caps_of cc.new.layout) (grid_of cc.new.layout)
-          cc.result.gone cc.result.place cc.result.class c.boundary-boundary.result ch c.requires.loud
-              c.in-Some.place c.in-Some.is,
+                  c.requires.named c.args.bytes.now c.requires.small (cells_of c.add_size.new.ledger.moved)
+                  (cells_of c.add_size.new.ledger.asked) c.add_size.ensures.moved c.add_size.ensures.asked c.get-old.result
+                  c.get-old.ensures (divisor_of cc.new.layout) (caps_of cc.new.layout) (grid_of cc.new.layout)
+                  cc.result.gone cc.result.place cc.result.class c.boundary-boundary.result ch c.requires.loud
+                  c.in-Some.place c.in-Some.is,
               (
                 c.requires.empty,
                 (
                   omega (arith, c.take_out.ensures.without.names, c.requires.list_room),
                   placed_ready may c.args.name.now (parts_of c.take_out.new.hands) c.take_out.ensures
-          c.requires.named c.args.bytes.now c.requires.small (cells_of c.add_size.new.ledger.moved)
-          (cells_of c.add_size.new.ledger.asked) c.add_size.ensures.moved c.add_size.ensures.asked c.get-old.result
-          c.get-old.ensures (divisor_of cc.new.layout) (caps_of cc.new.layout) (grid_of cc.new.layout)
-          cc.result.gone cc.result.place cc.result.class c.boundary-boundary.result ch c.requires.loud
-                  c.in-Some.place c.in-Some.is,
+                      c.requires.named c.args.bytes.now c.requires.small (cells_of c.add_size.new.ledger.moved)
+                      (cells_of c.add_size.new.ledger.asked) c.add_size.ensures.moved c.add_size.ensures.asked c.get-old.result
+                      c.get-old.ensures (divisor_of cc.new.layout) (caps_of cc.new.layout) (grid_of cc.new.layout)
+                      cc.result.gone cc.result.place cc.result.class c.boundary-boundary.result ch c.requires.loud
+                      c.in-Some.place c.in-Some.is,
                 ),
               ),
             ),
@@ -80,8 +79,7 @@ start_waiting-requires g c =
       divisor = cc.ensures.divisor;
       caps_are = cc.ensures.caps;
       boundary = c.boundary-boundary.ensures.same;
-    } in
-    (
+    } in (
       lit< tt,
       (
         lit< tt,
@@ -91,27 +89,27 @@ start_waiting-requires g c =
             c.requires.wide,
             (
               waiting_some may c.args.name.now (parts_of c.take_out.new.hands) c.take_out.ensures
-          c.requires.named c.args.bytes.now c.requires.small (cells_of c.add_size.new.ledger.moved)
-          (cells_of c.add_size.new.ledger.asked) c.add_size.ensures.moved c.add_size.ensures.asked c.get-old.result
-          c.get-old.ensures (divisor_of cc.new.layout) (caps_of cc.new.layout) (grid_of cc.new.layout)
-          cc.result.gone cc.result.place cc.result.class c.boundary-boundary.result ch c.requires.loud
-              c.in-None.is,
+                  c.requires.named c.args.bytes.now c.requires.small (cells_of c.add_size.new.ledger.moved)
+                  (cells_of c.add_size.new.ledger.asked) c.add_size.ensures.moved c.add_size.ensures.asked c.get-old.result
+                  c.get-old.ensures (divisor_of cc.new.layout) (caps_of cc.new.layout) (grid_of cc.new.layout)
+                  cc.result.gone cc.result.place cc.result.class c.boundary-boundary.result ch c.requires.loud
+                  c.in-None.is,
               (
                 c.requires.small,
                 (
                   waiting_high may c.args.name.now (parts_of c.take_out.new.hands) c.take_out.ensures
-          c.requires.named c.args.bytes.now c.requires.small (cells_of c.add_size.new.ledger.moved)
-          (cells_of c.add_size.new.ledger.asked) c.add_size.ensures.moved c.add_size.ensures.asked c.get-old.result
-          c.get-old.ensures (divisor_of cc.new.layout) (caps_of cc.new.layout) (grid_of cc.new.layout)
-          cc.result.gone cc.result.place cc.result.class c.boundary-boundary.result ch c.requires.loud
-                  c.in-None.is,
+                      c.requires.named c.args.bytes.now c.requires.small (cells_of c.add_size.new.ledger.moved)
+                      (cells_of c.add_size.new.ledger.asked) c.add_size.ensures.moved c.add_size.ensures.asked c.get-old.result
+                      c.get-old.ensures (divisor_of cc.new.layout) (caps_of cc.new.layout) (grid_of cc.new.layout)
+                      cc.result.gone cc.result.place cc.result.class c.boundary-boundary.result ch c.requires.loud
+                      c.in-None.is,
                   (
                     waiting_new may c.args.name.now (parts_of c.take_out.new.hands) c.take_out.ensures
-          c.requires.named c.args.bytes.now c.requires.small (cells_of c.add_size.new.ledger.moved)
-          (cells_of c.add_size.new.ledger.asked) c.add_size.ensures.moved c.add_size.ensures.asked c.get-old.result
-          c.get-old.ensures (divisor_of cc.new.layout) (caps_of cc.new.layout) (grid_of cc.new.layout)
-          cc.result.gone cc.result.place cc.result.class c.boundary-boundary.result ch c.requires.loud
-                    c.in-None.is,
+                        c.requires.named c.args.bytes.now c.requires.small (cells_of c.add_size.new.ledger.moved)
+                        (cells_of c.add_size.new.ledger.asked) c.add_size.ensures.moved c.add_size.ensures.asked c.get-old.result
+                        c.get-old.ensures (divisor_of cc.new.layout) (caps_of cc.new.layout) (grid_of cc.new.layout)
+                        cc.result.gone cc.result.place cc.result.class c.boundary-boundary.result ch c.requires.loud
+                        c.in-None.is,
                     (
                       room_for may c.args.name.now c.take_out.new.hands.table c.take_out.ensures.without c.requires.room,
                       (
@@ -119,11 +117,11 @@ start_waiting-requires g c =
                         (
                           omega (arith, c.take_out.ensures.without.names, c.requires.list_room),
                           waiting_ready may c.args.name.now (parts_of c.take_out.new.hands) c.take_out.ensures
-          c.requires.named c.args.bytes.now c.requires.small (cells_of c.add_size.new.ledger.moved)
-          (cells_of c.add_size.new.ledger.asked) c.add_size.ensures.moved c.add_size.ensures.asked c.get-old.result
-          c.get-old.ensures (divisor_of cc.new.layout) (caps_of cc.new.layout) (grid_of cc.new.layout)
-          cc.result.gone cc.result.place cc.result.class c.boundary-boundary.result ch c.requires.loud
-                          c.in-None.is,
+                              c.requires.named c.args.bytes.now c.requires.small (cells_of c.add_size.new.ledger.moved)
+                              (cells_of c.add_size.new.ledger.asked) c.add_size.ensures.moved c.add_size.ensures.asked c.get-old.result
+                              c.get-old.ensures (divisor_of cc.new.layout) (caps_of cc.new.layout) (grid_of cc.new.layout)
+                              cc.result.gone cc.result.place cc.result.class c.boundary-boundary.result ch c.requires.loud
+                              c.in-None.is,
                         ),
                       ),
                     ),
@@ -151,12 +149,12 @@ returns-in-Some-clause-begun g c =
       boundary = c.boundary-boundary.ensures.same;
     } in
     placed_begun may c.args.name.now (parts_of c.take_out.new.hands) c.take_out.ensures
-          c.requires.named c.args.bytes.now c.requires.small (cells_of c.add_size.new.ledger.moved)
-          (cells_of c.add_size.new.ledger.asked) c.add_size.ensures.moved c.add_size.ensures.asked c.get-old.result
-          c.get-old.ensures (divisor_of cc.new.layout) (caps_of cc.new.layout) (grid_of cc.new.layout)
-          cc.result.gone cc.result.place cc.result.class c.boundary-boundary.result ch c.requires.loud
-          c.in-Some.place c.in-Some.is (parts_of c.start_placed.new.hands) c.start_placed.result.phase
-          c.start_placed.result.place _ c.start_placed.ensures.place c.start_placed.ensures.starts
+    c.requires.named c.args.bytes.now c.requires.small (cells_of c.add_size.new.ledger.moved)
+    (cells_of c.add_size.new.ledger.asked) c.add_size.ensures.moved c.add_size.ensures.asked c.get-old.result
+    c.get-old.ensures (divisor_of cc.new.layout) (caps_of cc.new.layout) (grid_of cc.new.layout)
+    cc.result.gone cc.result.place cc.result.class c.boundary-boundary.result ch c.requires.loud
+    c.in-Some.place c.in-Some.is (parts_of c.start_placed.new.hands) c.start_placed.result.phase
+    c.start_placed.result.place _ c.start_placed.ensures.place c.start_placed.ensures.starts
 
 pub returns-in-None-clause-begun : goal.returns-in-None-clause-begun
 returns-in-None-clause-begun g c =
@@ -173,9 +171,9 @@ returns-in-None-clause-begun g c =
       boundary = c.boundary-boundary.ensures.same;
     } in
     waiting_begun may c.args.name.now (parts_of c.take_out.new.hands) c.take_out.ensures
-          c.requires.named c.args.bytes.now c.requires.small (cells_of c.add_size.new.ledger.moved)
-          (cells_of c.add_size.new.ledger.asked) c.add_size.ensures.moved c.add_size.ensures.asked c.get-old.result
-          c.get-old.ensures (divisor_of cc.new.layout) (caps_of cc.new.layout) (grid_of cc.new.layout)
-          cc.result.gone cc.result.place cc.result.class c.boundary-boundary.result ch c.requires.loud
-          c.in-None.is (parts_of c.start_waiting.new.hands) c.start_waiting.result.phase
-          c.start_waiting.result.place _ c.start_waiting.ensures.starts
+    c.requires.named c.args.bytes.now c.requires.small (cells_of c.add_size.new.ledger.moved)
+    (cells_of c.add_size.new.ledger.asked) c.add_size.ensures.moved c.add_size.ensures.asked c.get-old.result
+    c.get-old.ensures (divisor_of cc.new.layout) (caps_of cc.new.layout) (grid_of cc.new.layout)
+    cc.result.gone cc.result.place cc.result.class c.boundary-boundary.result ch c.requires.loud
+    c.in-None.is (parts_of c.start_waiting.new.hands) c.start_waiting.result.phase
+    c.start_waiting.result.place _ c.start_waiting.ensures.starts

@@ -1,5 +1,5 @@
 use Rattle.std.specs.Prelude.{IsPermutation, Some, length}
-use Rattle.std.proofs.Common.{◌∙◌, ◌-◌, ◌+◌, ◌≡◌, ap, arith, lit<, refl, subst, sym}
+use Rattle.std.proofs.Common.{◌∙◌, ◌-◌, ap, arith, lit<, refl, subst, sym}
 use Rattle.flush_plan.specs.Begins.{Begins, with_pending}
 use Rattle.flush_start.proofs.SuffixLaws.{few_items}
 use Rattle.segment_layout.specs.Layouts.{caps_of, divisor_of}
@@ -65,19 +65,24 @@ new-requires g c =
                 place = c.numbers-found.result.reach - c.args.size;
                 size = c.args.size;
               }))) (sym c.class_of.ensures.same) (
-              start_waits c.requires.start c.args.size c.requires.small c.gather-items.result.items
+                  start_waits c.requires.start c.args.size c.requires.small c.gather-items.result.items
                   c.numbers-found.result c.gather-items.ensures.items found c.args.name.now
                   (record { place = c.numbers-found.result.reach - c.args.size; size = c.args.size })
                   c.set-key.result c.set-key.new.self c.requires.new (record {
-                now = c.set-key.ensures.now;
-                kept = c.set-key.ensures.kept;
-                keys = c.set-key.ensures.keys;
-                names = c.set-key.ensures.names;
-                table = c.set-key.ensures.table;
-              }) refl c.requires.some c.requires.high
+                    now = c.set-key.ensures.now;
+                    kept = c.set-key.ensures.kept;
+                    keys = c.set-key.ensures.keys;
+                    names = c.set-key.ensures.names;
+                    table = c.set-key.ensures.table;
+                  }) refl c.requires.some c.requires.high
                   (let holds = start_holds c.requires.start c.args.size c.requires.small in
-                  omega (arith, holds, ap (λ n. n.reach) found, ap (λ xs. (numbers_of k caps c.args.b xs c.args.size).reach)
-                  c.gather-items.ensures.items))),
+                  omega (
+                    arith,
+                    holds,
+                    ap (λ n. n.reach) found,
+                    ap (λ xs. (numbers_of k caps c.args.b xs c.args.size).reach)
+                        c.gather-items.ensures.items,
+                  ))),
               (
                 omega (arith, low, c.class_of.ensures.same),
                 omega (
@@ -123,8 +128,13 @@ returns g c =
         rest = refl;
         value = is.0;
         ends = (let holds = start_holds c.requires.start c.args.size c.requires.small in
-            omega (arith, holds, ap (λ n. n.reach) found, ap (λ p. p.numbers.reach) c.new.ensures.value,
-            ap (λ xs. (numbers_of k caps c.args.b xs c.args.size).reach) c.gather-items.ensures.items));
+            omega (
+              arith,
+              holds,
+              ap (λ n. n.reach) found,
+              ap (λ p. p.numbers.reach) c.new.ensures.value,
+              ap (λ xs. (numbers_of k caps c.args.b xs c.args.size).reach) c.gather-items.ensures.items,
+            ));
         items = is.1;
       };
     }
