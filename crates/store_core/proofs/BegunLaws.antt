@@ -11,9 +11,8 @@ use Rattle.slot_codec.specs.Names.{IsName}
 use Rattle.slot_codec.specs.declared.codec.Record.{Record}
 use Rattle.span_math.specs.declared.span.Span.{Span}
 use Rattle.span_math.specs.Spans.{IsApart}
-use Rattle.store_terms.specs.Maps.{Map}
 use Rattle.store_terms.proofs.MapLaws.{name_order}
-use Rattle.segment_layout.specs.Books.{is_quiet, new_item, some_size, trigger}
+use Rattle.segment_layout.specs.Books.{is_quiet, some_size, trigger}
 use Rattle.segment_layout.specs.Shapes.{boundary_of, end_of, is_boundary}
 use Rattle.extent_table.specs.declared.spot.Spot.{Spot}
 use Rattle.extent_table.specs.Extents.{Extents, Spots}
@@ -25,7 +24,6 @@ use Rattle.spot_terms.proofs.EntryLaws.{get-remove_here, insert-remove}
 use Rattle.spot_terms.proofs.LaidOutLaws.{laid_below}
 use Rattle.spot_terms.proofs.FreedLaws.{span_apart, span_room}
 use Rattle.held_guard.specs.Freed.{Freed}
-use Rattle.flush_plan.specs.declared.item.Item.{Item}
 use Rattle.flush_plan.specs.declared.item.Numbers.{Numbers}
 use Rattle.flush_plan.specs.Phases.{Phase, phase_of}
 use Rattle.flush_plan.specs.Plans.{numbers_of}
@@ -37,7 +35,7 @@ use Rattle.flush_start.specs.Gathering.{item_at}
 use Rattle.flush_start.specs.Lifting.{BeginsLift}
 use Rattle.flush_start.specs.Starts.{CanStart, IsLoud, IsWith, IsWithout, WasBefore}
 use Rattle.flush_start.proofs.EndLaws.{end_small}
-use Rattle.flush_start.proofs.LiftStartLaws.{pending_high, pending_is_free, pending_lifts, pending_new, pending_some, pending_starts, placed_free, placed_in_reach, placed_lifts, placed_starts, removed_lifts, removed_starts}
+use Rattle.flush_start.proofs.LiftStartLaws.{pending_high, pending_is_free, pending_lifts, pending_some, pending_starts, placed_free, placed_in_reach, placed_lifts, placed_starts, removed_lifts, removed_starts}
 use Rattle.flush_start.proofs.LooseLaws.{pending_loose, placed_loose, removed_loose}
 use Rattle.flush_start.proofs.ReachLaws.{reach_low, reach_past_wall, wall_past_end}
 use Rattle.flush_start.proofs.StartLaws.{outcome_loud, placed_within}
@@ -202,6 +200,8 @@ module _ {classes : ℕ} {kept_grid : List (List ℕ)} {x0 : Parts} (may : MayBe
             );
             whole = subst (λ (q : Phase). is_boundary after q.numbers.boundary ≡ true) (sym st.value)
                 del_starts.boundary;
+            boundary = ap (λ (q : Phase). q.numbers.boundary) st.value ∙ l.boundary
+                ∙ ap (λ (g : List (List ℕ)). boundary_of g (trigger (charged_by k x0.caps x0.grid old 0))) l.after_is;
             divisor = may.divisor ∙ sym (ap (λ (q : Phase). q.k) st.value);
             asked = sums ∙ ap (λ (xs : List ℕ). fold added x0.asked xs) (sym (append-nil (sizes_at old)));
             kept = without.kept;
@@ -284,6 +284,9 @@ module _ {classes : ℕ} {kept_grid : List (List ℕ)} {x0 : Parts} (may : MayBe
               );
               whole = subst (λ (q : Phase). is_boundary after q.numbers.boundary ≡ true) (sym st.value)
                   starts.boundary;
+              boundary = ap (λ (q : Phase). q.numbers.boundary) st.value ∙ l.boundary
+                  ∙ ap (λ (g : List (List ℕ)). boundary_of g (trigger (charged_by k x0.caps x0.grid old size)))
+                  l.after_is;
               divisor = may.divisor ∙ sym (ap (λ (q : Phase). q.k) st.value);
               asked = sums;
               kept = joins.kept ∙ without.kept;
@@ -350,6 +353,9 @@ module _ {classes : ℕ} {kept_grid : List (List ℕ)} {x0 : Parts} (may : MayBe
               );
               whole = subst (λ (q : Phase). is_boundary after q.numbers.boundary ≡ true) (sym value)
                   wait_starts.boundary;
+              boundary = ap (λ (q : Phase). q.numbers.boundary) value ∙ l.boundary
+                  ∙ ap (λ (g : List (List ℕ)). boundary_of g (trigger (charged_by k x0.caps x0.grid old size)))
+                  l.after_is;
               divisor = may.divisor ∙ sym (ap (λ (q : Phase). q.k) value);
               asked = sums;
               kept = joins.kept ∙ without.kept;

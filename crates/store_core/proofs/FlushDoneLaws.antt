@@ -1,6 +1,6 @@
 -- A store after its flush, whether or not it failed.
-use Rattle.std.specs.Prelude.{◌≡◌, ℕ, ◌+◌, ◌-◌, ◌*◌, ◌^◌, ◌<◌, ◌≤◌, true, false, List, [], length, None, Result, Ok, Err, IsTrue, vec_capacity, vec_len, refl}
-use Rattle.std.proofs.Common.{arith, sym, ◌∙◌, ap, subst}
+use Rattle.std.specs.Prelude.{◌≡◌, ℕ, ◌+◌, ◌-◌, ◌*◌, ◌^◌, ◌<◌, ◌≤◌, true, false, List, [], ◌++◌, length, slice_index, Option, Some, None, Ok, Err, IsTrue, vec_capacity, vec_len, refl}
+use Rattle.std.proofs.Common.{arith, sym, ◌∙◌, ap, subst, inl, inr}
 use Rattle.std.specs.Global.{Vec}
 use Rattle.disk_face.specs.States as disk
 use Rattle.disk_face.specs.Counts.{HasCause}
@@ -13,27 +13,39 @@ use Rattle.slot_codec.specs.Readable.{IsSuperBlock}
 use Rattle.slot_codec.specs.Spelling.{head_len}
 use Rattle.slot_codec.specs.declared.codec.SuperBlock.{SuperBlock}
 use Rattle.store_terms.specs.Requests as ask
-use Rattle.store_terms.specs.Requests.{Change}
-use Rattle.segment_layout.specs.Books.{Book, is_quiet, next_book}
+use Rattle.store_terms.specs.Requests.{Change, changed}
+use Rattle.segment_layout.specs.Books.{charge_all, is_quiet, item_of, some_size, trigger, volumes, volumes_of_sizes}
+use Rattle.segment_layout.specs.Shapes.{boundary_of}
+use Rattle.segment_layout.proofs.ShapeLaws.{caps-settled_above}
+use Rattle.store_terms.specs.Maps.{Map}
+use Rattle.table_rules.specs.Tables.{sizes}
+use Rattle.spot_terms.specs.Quiet.{gone_items}
+use Rattle.flush_plan.specs.Plans.{class_total}
+use Rattle.flush_run.proofs.LaidPlaceLaws.{new_cap}
+use Rattle.flush_start.specs.Charging.{charged_by}
+use Rattle.flush_start.specs.Sized.{IsSizedBy, object_size}
+use Rattle.flush_start.proofs.SizedLaws.{sized_gone, sized_put, sized_volumes}
+use Rattle.std.proofs.lemmas.Bool.{cases_lt}
+use Rattle.std.specs.FinMap as fin
 use Rattle.segment_layout.specs.Layouts.{caps_of, divisor_of, grid_of}
-use Rattle.extent_table.specs.Extents.{IsTable}
+use Rattle.extent_table.specs.Extents.{Spots, records_of}
 use Rattle.flush_plan.specs.declared.item.Item.{Item}
 use Rattle.flush_plan.specs.Phases.{Phase}
 use Rattle.flush_run.specs.declared.hands.Hands.{Hands}
 use Rattle.flush_run.specs.Calls.{CallsSoFar}
-use Rattle.flush_run.specs.Flights.{Flight, LeavesOldOrNew}
+use Rattle.flush_run.specs.Flights.{LeavesOldOrNew}
 use Rattle.flush_run.specs.Parts.{Parts, parts_of}
 use Rattle.flush_run.specs.Settling.{FlushEnds}
 use Rattle.store_core.specs.declared.answers.Refusal.{Refusal}
 use Rattle.store_core.specs.declared.answers.Done.{Done}
 use Rattle.store_core.specs.declared.store.Store.TheInside.{Inside}
-use Rattle.store_core.specs.Connection.{IsConnected, IsOver, Kept, RestsOnTable, base_of, limits_of, state_of}
+use Rattle.store_core.specs.Connection.{IsOver, Kept, RestsOnTable, base_of, limits_of, state_of}
 use Rattle.store_core.specs.Flushed.{IsFlushed}
-use Rattle.store_core.specs.Flushes.{ChangesByFlush, IsFlush, IsFlushImage}
-use Rattle.store_core.specs.Flushing.{CanFly, HasFlown, IsBegun, Setting, bytes_of, flight_of}
+use Rattle.store_core.specs.Flushes.{IsFlush, IsFlushImage, flush_boundary, map_after}
+use Rattle.store_core.specs.Flushing.{CanFly, HasFlown, IsBegun, Setting, bytes_of, flight_of, spots_after}
 use Rattle.store_core.specs.Inside.{IsWhole, kept_of}
 use Rattle.store_core.specs.Quiet.{asked_after, charges_of}
-use Rattle.store_core.specs.States.{Facts, State, Step, facts_of, refusal}
+use Rattle.store_core.specs.States.{Facts, State, Step, refusal}
 use Rattle.store_core.specs.Answers.{facts_at}
 use Rattle.store_core.specs.Stores.{IsStore}
 use Rattle.store_core.proofs.FlushLaws.{can_fly, flush_content, flush_left, flush_step, some_flight}
@@ -54,6 +66,39 @@ pub record IsFlown {C : ℕ} (s : Inside C) (c : Change) (hands1 : Hands C) (p :
   pub left : (x : Parts) (e : Change) (g : Setting) → CanFly C x e g (parts_of hands1) p place bytes a
       → IsTrue a.tells → LeavesOldOrNew (flight_of C x e p.numbers.reach g) a d
   pub made : HasFlown p.numbers.boundary p.items a d (parts_of hands1) (parts_of hands2)
+
+-- what a change charges, by the size of its object
+item_is : (o : Option (List ℕ)) → some_size (object_size o) ≡ item_of o
+item_is None = refl
+item_is (Some object) = refl
+
+same_charges : (s : Kept) (c : Change) → charged_by s.in_use.block.k s.book.caps s.book.grid
+    (fin.get s.now c.name) (object_size c.object) ≡ charges_of s c
+same_charges s c = ap (λ (xs : List ℕ). charge_all s.in_use.block.k s.book.caps s.book.grid
+    (gone_items s.in_use.block.k s.book.caps (fin.get s.now c.name) ++ xs)) (item_is c.object)
+
+-- the items of a class from the boundary on have as many bytes as the objects of the map after
+sized_after : (m : Map) (spots : Spots) (c : Change) (place : ℕ) → IsSizedBy m spots
+    → IsSizedBy (changed c m) (spots_after c spots place)
+sized_after m spots c place sized = by c.object
+  where
+    by : (o : Option (List ℕ)) → IsSizedBy (changed (record { name = c.name; object = o }) m)
+        (spots_after (record { name = c.name; object = o }) spots place)
+    by None = sized_gone m spots c.name sized
+    by (Some object) = sized_put m spots c.name object (record { place = place; size = length object }) refl sized
+
+items_total : {classes : ℕ} {x0 : Parts} {c : Change} {g : Setting} {x : Parts} {p : Phase} {place : ℕ}
+    {bytes : List ℕ} {a : disk.State} → CanFly classes x0 c g x p place bytes a → (q : ℕ)
+    → p.numbers.boundary ≤ q → class_total p.items q ≡ slice_index (volumes (changed c g.map)) q
+items_total {classes} {x0} {c} {g} {x} {p} {place} can q high =
+    let f = flight_of classes x0 c p.numbers.reach g in
+    let h = (can.begun.lifts g can.sized).hands in
+    let live = volumes_of_sizes (sizes (records_of x.table.now)) in
+    sym (new_cap f x.in_use x.table x.caps x.grid x.spans p h q high)
+    ∙ caps-settled_above p.numbers.boundary q x.caps live h.caps_full.full (omega (arith, h.boundary, h.few)) high
+    ∙ ap (λ (xs : List ℕ). slice_index xs q) (sym (sized_volumes (changed c g.map) x.table.now
+    (subst (IsSizedBy (changed c g.map)) (sym can.begun.now) (sized_after g.map x0.table.now c place can.sized))
+    can.begun.table.now_named))
 
 module _ {C : ℕ} (s : Inside C) (c : Change) (hands1 : Hands C) (p : Phase) (place : ℕ) (bytes : List ℕ)
     (hands2 : Hands C) (a d : disk.State) (w : IsFlown s c hands1 p place bytes hands2 a d) where
@@ -114,6 +159,33 @@ module _ {C : ℕ} (s : Inside C) (c : Change) (hands1 : Hands C) (p : Phase) (p
       w.fresh a (w.over told) (w.left x0 c _ (can_fly s w.whole w.unbroken c (parts_of hands1) p place bytes
       w.begun w.name w.object w.fresh a (w.over told) true (λ t. rests)) told)
 
+  -- ---- the bytes moved
+
+  lower_is : (q : ℕ) → q < flush_boundary ks c → slice_index (cells_of hands2.ledger.moved) q
+      ≡ slice_index ks.moved q
+  lower_is q low = w.made.lower q (omega (
+    arith,
+    low,
+    w.begun.boundary,
+    ap (λ y. boundary_of y.grid (trigger y)) (same_charges ks c),
+  )) ∙ ap (λ (xs : List ℕ). slice_index xs q) same_moved
+
+  few_is : IsTrue a.tells → (q : ℕ) → slice_index (cells_of hands2.ledger.moved) q
+      ≤ slice_index ks.moved q + 2 * slice_index (volumes (map_after ks c a.file)) q
+  few_is told q = elim (cases_lt q p.numbers.boundary) as (λ _. slice_index (cells_of hands2.ledger.moved) q
+      ≤ slice_index ks.moved q + 2 * slice_index (volumes (map_after ks c a.file)) q) [
+        | inl low ↦ omega (arith, w.made.lower q low, ap (λ (xs : List ℕ). slice_index xs q) same_moved)
+        | inr high ↦
+            let can = can_fly s w.whole w.unbroken c (parts_of hands1) p place bytes w.begun w.name w.object w.fresh a
+            (w.over told) false (λ t. absurd (let e : false ≡ true = t in cc)) in
+            omega (
+              arith,
+              w.made.few q,
+              ap (λ (xs : List ℕ). slice_index xs q) same_moved,
+              items_total can q (omega (arith, high)),
+            )
+      ]
+
   -- ---- where the disk failed
 
   module _ (list : Vec Item) where
@@ -151,6 +223,8 @@ module _ {C : ℕ} (s : Inside C) (c : Change) (hands1 : Hands C) (p : Phase) (p
       on_table = λ told. tt;
       calls = tt;
       most = most_is;
+      lower = lower_is;
+      few = few_is;
       frame = w.made.keeps.disk;
       cause = record { later = cause.later; rose = cause.rose; calm = tt };
     }
@@ -256,6 +330,8 @@ module _ {C : ℕ} (s : Inside C) (c : Change) (hands1 : Hands C) (p : Phase) (p
           (subst (λ r. CallsSoFar a.turn d.turn r (cells_of hands2.ledger.moved) 4
           (hands2.slots.sequence - hands1.slots.sequence) hands1.table.names) same_moved calls));
       most = most_is;
+      lower = lower_is;
+      few = few_is;
       frame = w.made.keeps.disk;
       cause = record { later = cause.later; rose = tt; calm = cause.calm };
     }

@@ -1,5 +1,5 @@
 -- A flush of a store: what it begins with, and what it leaves.
-use Rattle.std.specs.Prelude.{◌≡◌, ◌⊎◌, ℕ, ◌+◌, ◌-◌, ◌*◌, ◌^◌, ◌<◌, ◌≤◌, Bool, true, false, if◌then◌else◌, List, [], ◌∷◌, length, Option, Some, None, Result, Ok, Err, IsTrue, refl}
+use Rattle.std.specs.Prelude.{◌≡◌, ◌⊎◌, ℕ, ◌+◌, ◌-◌, ◌*◌, ◌^◌, ◌<◌, ◌≤◌, Bool, true, false, if◌then◌else◌, List, [], ◌∷◌, length, None, IsTrue, refl}
 use Rattle.std.proofs.Common.{arith, sym, ◌∙◌, ap, subst, inl, inr}
 use Rattle.std.proofs.Math.Nat.{mul-le-mul_left}
 use Rattle.std.proofs.lemmas.Bool.{cases_Bool}
@@ -16,21 +16,19 @@ use Rattle.store_terms.specs.Requests.{Change, changed}
 use Rattle.segment_layout.specs.Books.{Book, is_quiet, next_book}
 use Rattle.segment_layout.specs.Bounds.{Loose}
 use Rattle.segment_layout.specs.Layouts.{caps_of, grid_of}
-use Rattle.segment_layout.specs.Shapes.{end_of}
 use Rattle.table_rules.specs.Opening.{Opens}
 use Rattle.spot_terms.specs.Reads.{read_at}
 use Rattle.spot_terms.proofs.LaidOutLaws.{laid_ends}
 use Rattle.spot_terms.proofs.ReadLaws.{read_at-remove}
 use Rattle.flush_plan.specs.Phases.{Phase}
-use Rattle.flush_run.specs.Flights.{Flight, IsOldOrNew, LeavesOldOrNew}
+use Rattle.flush_run.specs.Flights.{IsOldOrNew, LeavesOldOrNew}
 use Rattle.flush_run.specs.Parts.{Parts, parts_of}
 use Rattle.flush_start.specs.Charging.{charged_by}
-use Rattle.flush_start.specs.Sized.{IsSizedBy}
 use Rattle.flush_start.proofs.EndLaws.{blank, in_blank}
 use Rattle.flush_start.proofs.GoneAboveLaws.{left_over}
 use Rattle.flush_start.proofs.SizedLaws.{sized_read}
 use Rattle.store_core.specs.declared.store.Store.TheInside.{Inside}
-use Rattle.store_core.specs.Connection.{IsOver, Kept, RestsOnTable, base_of, kept_map, limits_of, state_of}
+use Rattle.store_core.specs.Connection.{IsOver, Kept, RestsOnTable, base_of, kept_map}
 use Rattle.store_core.specs.Flushes.{IsFlushImage, book_after, map_after}
 use Rattle.store_core.specs.Flushing.{CanFly, IsBegun, IsLoudAt, MayBegin, Setting, bytes_of, flight_of}
 use Rattle.store_core.specs.Inside.{IsWhole, kept_of}

@@ -1,18 +1,13 @@
 -- The device calls of a flush, from the growing of the file to the first move.
-use Rattle.std.specs.Prelude.{◌≡◌, ◌⊎◌, ℕ, ◌+◌, ◌-◌, ◌*◌, ◌^◌, ◌<◌, ◌≤◌, true, List, [], length, slice_index, Option, Some, None, IsTrue, refl}
+use Rattle.std.specs.Prelude.{◌≡◌, ◌⊎◌, ℕ, ◌+◌, ◌-◌, ◌^◌, ◌<◌, ◌≤◌, List, [], length, Option, Some, None, IsTrue, refl}
 use Rattle.std.proofs.Common.{arith, sym, ◌∙◌, ap, subst, inl, inr}
 use Rattle.std.specs.FinMap as fin
-use Rattle.byte_ranges.specs.Ranges.{SameBelow, overwritten, resized}
-use Rattle.byte_ranges.proofs.RangeLaws.{length-overwritten, length-resized}
+use Rattle.byte_ranges.specs.Ranges.{overwritten, resized}
 use Rattle.disk_face.specs.States as disk
-use Rattle.disk_face.specs.Counts.{HasCause}
-use Rattle.disk_face.specs.Frames.{AfterLength, Calls}
+use Rattle.disk_face.specs.Frames.{AfterLength}
 use Rattle.disk_face.specs.Moments.{Leaves}
 use Rattle.disk_face.specs.Writes.{KeepsDisk, WritesWithin}
 use Rattle.disk_face.proofs.FrameLaws.{Stays-trans}
-use Rattle.disk_face.proofs.MomentLaws.{Leaves-call}
-use Rattle.size_class.specs.declared.TheConstants.{SIZE_MAX}
-use Rattle.slot_codec.specs.Names.{IsName}
 use Rattle.store_terms.specs.Maps.{Map}
 use Rattle.store_terms.specs.Requests.{Change, changed}
 use Rattle.segment_layout.specs.Shapes.{end_of}
@@ -23,11 +18,10 @@ use Rattle.spot_terms.proofs.EntryLaws.{insert-remove}
 use Rattle.spot_terms.proofs.ReadLaws.{AreNamed-remove, read_at-put}
 use Rattle.flush_plan.specs.declared.item.Item.{Item}
 use Rattle.flush_plan.specs.Phases.{Phase}
-use Rattle.flush_run.specs.Calls.{CallsSoFar}
 use Rattle.flush_run.specs.Flights.{Flies, Flight, IsAtHand, IsFreeSpace, IsOldOrNew, LeavesOldOrNew, OpensEither}
-use Rattle.flush_run.specs.Parts.{KeepsSettling, Parts}
+use Rattle.flush_run.specs.Parts.{Parts}
 use Rattle.flush_run.specs.Runs.{CanRun, HasRun}
-use Rattle.flush_run.proofs.CallLaws.{calls_none, calls_other, calls_then, calls_wider}
+use Rattle.flush_run.proofs.CallLaws.{calls_none, calls_then, calls_wider}
 use Rattle.flush_run.proofs.FlightLaws.{content_written, left_written, opens_written}
 use Rattle.flush_run.proofs.LeftLaws.{left_then}
 use Rattle.flush_run.proofs.MoveLaws.{content_grown, left_grown, moved_within, opens_grown}
@@ -234,7 +228,7 @@ module _ {classes : ℕ} {x0 : Parts} {c : Change} {g : Setting} {x : Parts} {p 
                 ap (λ (o : Option (List ℕ)). bytes_of (record c { object = o })) (sym is) ∙ can.object in
                 let spot : Spot = record { place = place; size = length object } in
                 let within_b : (q : List ℕ) (s : Spot) → fin.get stays q ≡ Some s
-                    → f.base + s.place + s.size ≤ length b.file = λ q s there.
+                → f.base + s.place + s.size ≤ length b.file = λ q s there.
                 omega (arith, grown_content.within q s there, grown_content.same_length) in
                 record {
                   base = content_after.base;

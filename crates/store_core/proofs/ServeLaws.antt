@@ -1,13 +1,13 @@
 -- A change that is served, from what it does quietly or with a flush.
-use Rattle.std.specs.Prelude.{◌≡◌, ◌⊎◌, ℕ, Bool, true, false, not, List, Option, Some, None, Result, Ok, Err, IfSome, IsTrue, OnOk, refl}
-use Rattle.std.proofs.Common.{ap, sym, ◌∙◌, subst, inl, inr}
+use Rattle.std.specs.Prelude.{◌≡◌, ℕ, Bool, true, false, not, None, Result, IfSome, IsTrue, OnOk}
+use Rattle.std.proofs.Common.{sym, ◌∙◌, subst, inl, inr}
 use Rattle.disk_face.specs.States as disk
 use Rattle.store_terms.specs.Requests as ask
 use Rattle.store_terms.specs.Requests.{Change, Reply}
 use Rattle.segment_layout.specs.Books.{is_quiet}
 use Rattle.store_core.specs.declared.answers.Refusal.{Refusal}
 use Rattle.store_core.specs.declared.answers.Done.{Done}
-use Rattle.store_core.specs.Answers.{AnswersChange, done_reply, is_disk_fault, refused_by, reply_of}
+use Rattle.store_core.specs.Answers.{AnswersChange, done_reply, is_disk_fault, reply_of}
 use Rattle.store_core.specs.Changes.{IsQuietChange}
 use Rattle.store_core.specs.Connection.{IsConnected, Kept, limits_of, state_of}
 use Rattle.store_core.specs.Flushes.{IsFlush, ServesChange}

@@ -1,5 +1,5 @@
 -- What a put or a removal does that isn't quiet: it is made with a flush, which saves a checkpoint of it.
-use Rattle.std.specs.Prelude.{◌≡◌, ◌⊎◌, ℕ, ◌+◌, ◌-◌, ◌*◌, ◌≤◌, Bool, true, false, List, length, Option, Some, None, Result, Ok, Err, IfSome, IsTrue, OnOk}
+use Rattle.std.specs.Prelude.{◌≡◌, ◌⊎◌, ℕ, ◌+◌, ◌-◌, ◌*◌, ◌<◌, ◌≤◌, true, false, List, length, slice_index, None, Result, IfSome, IsTrue, OnOk}
 use Rattle.disk_face.specs.States as disk
 use Rattle.disk_face.specs.Counts.{HasCause}
 use Rattle.disk_face.specs.Moments.{Leaves, Rests}
@@ -8,8 +8,9 @@ use Rattle.size_class.specs.declared.TheConstants.{SIZE_MAX}
 use Rattle.store_terms.specs.Maps.{Map}
 use Rattle.store_terms.specs.Requests as ask
 use Rattle.store_terms.specs.Requests.{Change, changed}
-use Rattle.segment_layout.specs.Books.{Book, is_quiet, next_book}
+use Rattle.segment_layout.specs.Books.{Book, is_quiet, next_book, trigger, volumes}
 use Rattle.segment_layout.specs.Bounds.{Loose}
+use Rattle.segment_layout.specs.Shapes.{boundary_of}
 use Rattle.table_rules.specs.Opening.{Opens}
 use Rattle.flush_run.specs.Calls.{CallsSoFar}
 use Rattle.store_core.specs.declared.answers.Refusal.{Refusal}
@@ -28,8 +29,12 @@ map_after s c file = changed c (now_map s file)
 abbrev pub book_after : Kept → Change → List ℕ → Book
 book_after s c file = (next_book s.in_use.block.k (now_map s file) s.book c).book
 
--- An image opens to the last checkpoint or to what stands after the change, and its data part is within bounds for
--- the maps before and after.
+-- the class from which on the flush of a change lays the layout out anew
+abbrev pub flush_boundary : Kept → Change → ℕ
+flush_boundary s c = boundary_of (charges_of s c).grid (trigger (charges_of s c))
+
+-- An image opens to the last checkpoint or to what stands after the change, and its data part is within bounds
+-- for the maps before and after.
 pub record IsFlushImage (classes : ℕ) (s : Kept) (c : Change) (file image : List ℕ) : Type 0 where
   pub opens : Opens classes SIZE_MAX image (kept_map s file) s.kept_book
       ⊎ Opens classes SIZE_MAX image (map_after s c file) (book_after s c file)
@@ -45,10 +50,11 @@ pub record ChangesByFlush (c : Change) (old new : Kept) : Type 0 where
   pub saved : old.in_use.sequence + 1 ≤ new.in_use.sequence
   pub few_saves : new.in_use.sequence ≤ old.in_use.sequence + 2 * old.in_use.block.k
 
--- What a change does that isn't quiet, whether the disk fails or not. The content opens to the last checkpoint or to
--- what stands after the change, and so does all that a crash may leave meanwhile, where the disk rested on its
--- table. Once it is done, the new content is all that a crash may leave. The calls are at most 4, those of the bytes
--- moved, and those of the saves; where the disk failed 16 more, and those of one save.
+-- What a change does that isn't quiet, whether the disk fails or not. The content opens to the last checkpoint
+-- or to what stands after the change, and so does all that a crash may leave meanwhile, where the disk rested on
+-- its table. Once it is done, the new content is all that a crash may leave. The calls are at most 4, those of
+-- the bytes moved, and those of the saves; where the disk failed 16 more, and those of one save. No byte of a
+-- class below the boundary is moved, and of each other class at most twice the bytes of the map after.
 pub record IsFlush (classes : ℕ) (c : Change) (old new : Kept) (before now : disk.State) (result : Result Done Refusal)
     : Type 0 where
   pub value : OnOk result (ChangesByFlush c old new)
@@ -63,6 +69,9 @@ pub record IsFlush (classes : ℕ) (c : Change) (old new : Kept) (before now : d
       (new.in_use.sequence - old.in_use.sequence) old.in_use.block.names)
   pub most : CallsSoFar before.turn now.turn old.moved new.moved 20
       (new.in_use.sequence - old.in_use.sequence + 1) old.in_use.block.names
+  pub lower : (d : ℕ) → d < flush_boundary old c → slice_index new.moved d ≡ slice_index old.moved d
+  pub few : IsTrue before.tells → (d : ℕ) → slice_index new.moved d
+      ≤ slice_index old.moved d + 2 * slice_index (volumes (map_after old c before.file)) d
   pub frame : KeepsDisk before now
   pub cause : HasCause before.faults now.faults result
 

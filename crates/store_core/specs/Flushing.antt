@@ -10,15 +10,14 @@ use Rattle.span_math.specs.declared.span.Span.{Span}
 use Rattle.store_terms.specs.Maps.{Map}
 use Rattle.store_terms.specs.Requests.{Change, changed}
 use Rattle.segment_layout.specs.Balance.{IsBalanced}
-use Rattle.segment_layout.specs.Books.{Book, is_quiet, new_item, next_book}
+use Rattle.segment_layout.specs.Books.{Book, is_quiet, new_item, next_book, trigger}
 use Rattle.segment_layout.specs.Bounds.{Loose}
-use Rattle.segment_layout.specs.Shapes.{end_of, is_boundary}
+use Rattle.segment_layout.specs.Shapes.{boundary_of, end_of, is_boundary}
 use Rattle.extent_table.specs.declared.spot.Spot.{Spot}
 use Rattle.extent_table.specs.Extents.{Extents, IsTable, Spots}
 use Rattle.spot_terms.specs.Held.{FreesSpot}
 use Rattle.spot_terms.specs.LaidOut.{shown_book}
 use Rattle.flush_plan.specs.declared.item.Item.{Item}
-use Rattle.flush_plan.specs.declared.item.Numbers.{Numbers}
 use Rattle.flush_plan.specs.Phases.{Phase, phase_of}
 use Rattle.flush_plan.specs.Plans.{class_total, numbers_of}
 use Rattle.flush_run.specs.Flights.{Flight, IsAtHand, IsFreeSpace, OpensEither}
@@ -125,6 +124,12 @@ spots_after c spots place = of c.object
     of None = fin.remove spots c.name
     of (Some object) = fin.insert spots c.name (record { place = place; size = length object })
 
+-- the class from which on a flush lays the layout out anew
+abbrev pub boundary_after : Parts → Change → ℕ
+boundary_after x c =
+    let charged = charged_by x.in_use.block.k x.caps x.grid (fin.get x.table.now c.name) (object_size c.object) in
+    boundary_of charged.grid (trigger charged)
+
 -- The change was made in the table and the layout, and lifting may begin: the new object's bytes are to be
 -- written at a place that is free.
 pub record IsBegun (classes : ℕ) (x0 : Parts) (c : Change) (x : Parts) (p : Phase) (place : ℕ) : Type 0 where
@@ -138,6 +143,7 @@ pub record IsBegun (classes : ℕ) (x0 : Parts) (c : Change) (x : Parts) (p : Ph
   pub longer : end_of x0.in_use.block.k x0.caps ≤ p.numbers.reach
   pub low : p.numbers.reach < 2 ^ 48
   pub whole : is_boundary x.grid p.numbers.boundary ≡ true
+  pub boundary : p.numbers.boundary ≡ boundary_after x0 c
   pub divisor : x.divisor ≡ p.k
   pub asked : x.asked ≡ fold added x0.asked (sizes_at (fin.get x0.table.now c.name) ++ new_item c)
   pub kept : x.table.kept ≡ x0.table.kept

@@ -1,5 +1,5 @@
 -- What a put or a removal that is served and quiet will leave.
-use Rattle.std.specs.Prelude.{◌≡◌, ℕ, List, length, Option, Some, None, Result, Ok, Err, IsOk}
+use Rattle.std.specs.Prelude.{◌≡◌, ℕ, List, length, Option, Some, None, Result, Ok, Err}
 use Rattle.std.specs.FinMap as fin
 use Rattle.store_terms.specs.Requests as ask
 use Rattle.extent_table.specs.declared.spot.Spot.{Spot}

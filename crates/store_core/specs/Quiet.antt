@@ -1,6 +1,6 @@
 -- Changes that make no checkpoint. What is charged depends on where objects stand and on their sizes, so it is
 -- known on a disk that tells nothing too.
-use Rattle.std.specs.Prelude.{◌≡◌, ◌<◌, ◌^◌, All, false, ℕ, nat_lt, Bool, if◌then◌else◌, List, [], ◌++◌, ◌+◌, length, fold, min, Option, Some, None, slice_index, slice_set}
+use Rattle.std.specs.Prelude.{◌≡◌, ◌<◌, ◌^◌, All, false, ℕ, nat_lt, if◌then◌else◌, List, [], ◌++◌, ◌+◌, length, fold, min, Option, Some, None, slice_index, slice_set}
 use Rattle.std.specs.FinMap as fin
 use Rattle.disk_face.specs.Counts.{last}
 use Rattle.size_class.specs.Classes.{class_of}

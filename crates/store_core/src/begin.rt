@@ -79,9 +79,9 @@ pub(crate) fn begin_del<const C: usize>(
     let old = hands.table.get(name);
     take_out(hands, name);
     let outcome = charge_change(&mut hands.layout, old, 0);
-    let boundary = hands.layout.boundary(outcome.class);
+    let b = hands.layout.boundary(outcome.class);
     Begun {
-        phase: start_lifting(&hands.table, &hands.layout, list, boundary),
+        phase: start_lifting(&hands.table, &hands.layout, list, b),
         place: 0,
     }
 }

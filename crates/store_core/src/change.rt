@@ -76,7 +76,7 @@ impl<const C: usize> Store<C> {
     {
         match self.accept_del(name) {
             Ok(name) => self.del_accepted(disk, &name),
-            Err(refusal) => Err(refusal),
+            Err(why) => Err(why),
         }
     }
 

@@ -12,7 +12,7 @@ ghost use Rattle.flush_run.specs.Parts.{Parts, parts_of};
 ghost use Rattle.flush_run.specs.Settling.{FlushEnds};
 ghost use Rattle.store_core.specs.Flushing.{CanFly, HasFlown, Setting, flight_of};
 
-use crate::begin::{Begun, begin_del, begin_put};
+use crate::begin::{Begun, begin_put};
 use crate::quiet::write_new;
 use crate::{Done, Refusal, Store};
 use disk_face::{Disk, DiskFault};
@@ -25,7 +25,7 @@ impl<const C: usize> Store<C> {
     ghost use Rattle.store_core.specs.Answers.{AnswersChange, is_disk_fault, refused_by};
     ghost use Rattle.store_core.specs.Connection.{IsConnected, limits_of, state_of};
     ghost use Rattle.store_core.specs.Flushes.{IsFlush};
-    ghost use Rattle.store_core.specs.Quiet.{charges_of, del_of, put_of};
+    ghost use Rattle.store_core.specs.Quiet.{charges_of, put_of};
     ghost use Rattle.store_core.specs.States.{Step};
 
     /// Makes a put that isn't quiet.
@@ -52,38 +52,6 @@ impl<const C: usize> Store<C> {
         let list = replace(&mut self.items, spare);
         let begun = begin_put(&mut self.hands, list, name, bytes);
         let flown = fly(disk, begun, &mut self.hands, bytes);
-        self.kept_layout = self.hands.layout;
-        match flown {
-            Ok(list) => {
-                self.items = list;
-                Ok(Done { kept: true })
-            }
-            Err(DiskFault) => {
-                self.broken = true;
-                Err(Refusal::Disk)
-            }
-        }
-    }
-
-    /// Makes a removal that isn't quiet.
-    pub(crate) fn del_flushed<D: Disk>(&mut self, disk: &mut D, name: &Name) -> Result<Done, Refusal>
-        requires ready { IsTrue (D.state disk.old).is_ready }
-        requires over { IsConnected C self.old (D.state disk.old) }
-        requires served { refused_by self.old (ask.change (del_of name.now)) ≡ None }
-        requires loud { is_quiet (charges_of self.old (del_of name.now)) ≡ false }
-        ensures answer { AnswersChange false None result }
-        ensures flush { IsFlush C (del_of name.now) self.old self.new (D.state disk.old)
-            (D.state disk.new) result }
-        ensures step { IsTrue (D.state disk.old).tells → OnOk result (Step (limits_of self.old)
-            (state_of self.old (D.state disk.old).file) (ask.change (del_of name.now)) ask.kept
-            (state_of self.new (D.state disk.new).file)) }
-        ensures over { IsConnected C self.new (D.state disk.new) }
-        ensures broken { self.new.is_broken ≡ is_disk_fault result }
-    {
-        let spare = Vec::new(*self.items.allocator());
-        let list = replace(&mut self.items, spare);
-        let begun = begin_del(&mut self.hands, list, name);
-        let flown = fly(disk, begun, &mut self.hands, &[]);
         self.kept_layout = self.hands.layout;
         match flown {
             Ok(list) => {

@@ -16,6 +16,7 @@ mod lists;
 mod plan;
 mod quiet;
 mod reads;
+mod removal;
 mod store;
 
 pub use answers::{Done, Gauge, Refusal, Stat};

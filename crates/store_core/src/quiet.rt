@@ -14,7 +14,7 @@ ghost use Rattle.store_core.specs.Quiet.{IsCharged, added, del_of, put_of, sizes
 ghost use Rattle.store_core.specs.Plans.{IsDelPlan, IsPutPlan};
 
 use crate::held::{add_gone, add_size, free_spot};
-use crate::plan::{PutPlan};
+use crate::plan::PutPlan;
 use crate::{Done, Refusal, Store};
 use data_area::write_object;
 use disk_face::{Disk, DiskFault};

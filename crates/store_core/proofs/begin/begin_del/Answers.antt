@@ -1,4 +1,4 @@
-use Rattle.std.proofs.Common.{◌∙◌, arith, lit<, refl, sym}
+use Rattle.std.proofs.Common.{arith, lit<}
 use Rattle.segment_layout.specs.Layouts.{caps_of, divisor_of, grid_of}
 use Rattle.flush_run.specs.Parts.{parts_of}
 use Rattle.store_core.proofs.BegunLaws.{ChargesTo, del_begun, del_ready, old_small}
@@ -23,14 +23,14 @@ pub start_lifting-requires : goal.start_lifting-requires
 start_lifting-requires g c =
     let cc = c.charge_change-outcome in
     let ch : ChargesTo (parts_of c.take_out.new.hands) c.get-old.result 0 (divisor_of cc.new.layout) (caps_of cc.new.layout)
-    (grid_of cc.new.layout) cc.result.gone cc.result.place cc.result.class c.boundary-boundary.result = record {
+    (grid_of cc.new.layout) cc.result.gone cc.result.place cc.result.class c.boundary-b.result = record {
       grid = cc.ensures.grid;
       place_is = cc.ensures.place;
       quiet = cc.ensures.quiet;
       class_is = cc.ensures.class;
       divisor = cc.ensures.divisor;
       caps_are = cc.ensures.caps;
-      boundary = c.boundary-boundary.ensures.same;
+      boundary = c.boundary-b.ensures.same;
     } in (
       lit< tt,
       (
@@ -53,14 +53,14 @@ pub returns-clause-begun : goal.returns-clause-begun
 returns-clause-begun g c =
     let cc = c.charge_change-outcome in
     let ch : ChargesTo (parts_of c.take_out.new.hands) c.get-old.result 0 (divisor_of cc.new.layout) (caps_of cc.new.layout)
-    (grid_of cc.new.layout) cc.result.gone cc.result.place cc.result.class c.boundary-boundary.result = record {
+    (grid_of cc.new.layout) cc.result.gone cc.result.place cc.result.class c.boundary-b.result = record {
       grid = cc.ensures.grid;
       place_is = cc.ensures.place;
       quiet = cc.ensures.quiet;
       class_is = cc.ensures.class;
       divisor = cc.ensures.divisor;
       caps_are = cc.ensures.caps;
-      boundary = c.boundary-boundary.ensures.same;
+      boundary = c.boundary-b.ensures.same;
     } in
     del_begun c.requires.before.1 c.args.name.now (parts_of c.take_out.new.hands)
     c.take_out.ensures c.get-old.result c.get-old.ensures _ _ _ _ _ _ _ ch c.requires.loud

@@ -1,4 +1,4 @@
-use Rattle.std.proofs.Common.{◌∙◌, arith, length, lit<, refl, sym}
+use Rattle.std.proofs.Common.{arith, length, lit<}
 use Rattle.size_class.specs.Rows.{cells_of}
 use Rattle.segment_layout.specs.Layouts.{caps_of, divisor_of, grid_of}
 use Rattle.flush_run.specs.Parts.{parts_of}

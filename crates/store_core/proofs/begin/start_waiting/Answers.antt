@@ -1,5 +1,5 @@
 use Rattle.std.specs.Prelude.{IsPermutation, Some, length}
-use Rattle.std.proofs.Common.{◌∙◌, ◌-◌, ◌+◌, ◌≡◌, ap, arith, lit<, refl, subst, sym}
+use Rattle.std.proofs.Common.{◌∙◌, ◌-◌, ap, arith, lit<, refl, subst, sym}
 use Rattle.flush_plan.specs.Begins.{Begins, with_pending}
 use Rattle.flush_start.proofs.SuffixLaws.{few_items}
 use Rattle.segment_layout.specs.Layouts.{caps_of, divisor_of}

@@ -1,8 +1,7 @@
-use Rattle.std.specs.Prelude.{◌≡◌, ◌||◌, Bool, List, None, ℕ}
-use Rattle.std.proofs.Common.{◌∙◌, ap, refl, subst, sym}
+use Rattle.std.specs.Prelude.{◌||◌, Bool, List, ℕ}
+use Rattle.std.proofs.Common.{◌∙◌, ap, subst, sym}
 use Rattle.segment_layout.specs.Books.{is_quiet}
-use Rattle.store_terms.specs.Requests as ask
-use Rattle.store_core.specs.Answers.{AnswersChange, is_disk_fault, refused_by}
+use Rattle.store_core.specs.Answers.{AnswersChange, is_disk_fault}
 use Rattle.store_core.specs.Flushes.{ServesChange}
 use Rattle.store_core.specs.Quiet.{charges_of, del_of}
 use Rattle.store_core.proofs.PlanLaws.{accepted, del_served}
@@ -58,5 +57,5 @@ returns-in-Err-clause-flush g c none loud = not_none _ _ (unaccepted _ _ _ c.in-
 
 pub returns-in-Err-clause-step : goal.returns-in-Err-clause-step
 returns-in-Err-clause-step g c whole told = refused_change_step c.args.self.now
-    (g.D.Disk.state c.args.disk.now).file (del_of c.args.name.now) c.in-Err.refusal whole
+    (g.D.Disk.state c.args.disk.now).file (del_of c.args.name.now) c.in-Err.why whole
     (c.in-Err.ensures.sound whole) (unaccepted _ _ _ c.in-Err.ensures.answer)

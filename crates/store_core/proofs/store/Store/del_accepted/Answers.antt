@@ -1,5 +1,4 @@
 use Rattle.std.proofs.Common.{inl, refl, rules}
-use Rattle.std.specs.FinMap as fin
 use Rattle.segment_layout.specs.Layouts.{caps_of, divisor_of, grid_of}
 use Rattle.store_core.specs.Quiet.{del_of}
 use Rattle.store_core.proofs.EffectLaws.{no_effects}

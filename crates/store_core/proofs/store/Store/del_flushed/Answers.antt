@@ -1,18 +1,15 @@
-use Rattle.std.specs.Prelude.{◌≡◌, ◌⊎◌, ◌<◌, [], IsSome, IsTrue, None, false, refl, vec_capacity}
-use Rattle.std.proofs.Common.{◌∙◌, ap, arith, inl, inr, lit<, subst, sym}
-use Rattle.std.specs.FinMap as fin
+use Rattle.std.specs.Prelude.{◌≡◌, [], IsTrue, None, false, refl, vec_capacity}
+use Rattle.std.proofs.Common.{◌∙◌, ap, arith, lit<, subst, sym}
 use Rattle.segment_layout.specs.Books.{is_quiet}
 use Rattle.flush_run.specs.Parts.{Parts, parts_of}
 use Rattle.store_terms.specs.Requests as ask
-use Rattle.store_core.specs.Connection.{IsOver, Kept, limits_of, state_of}
-use Rattle.store_core.specs.Flushes.{IsFlush}
+use Rattle.store_core.specs.Connection.{IsOver, Kept}
 use Rattle.store_core.specs.Answers.{refused_by}
 use Rattle.store_core.specs.Inside.{kept_of}
-use Rattle.store_core.specs.Quiet.{charges_of, del_of, put_of}
-use Rattle.store_core.specs.States.{Step}
-use Rattle.store_core.proofs.FlushDoneLaws.{IsFlown, done_over, done_seen, done_whole, failed_seen, failed_whole, step_seen}
-use Rattle.store_core.proofs.FlushLaws.{del_loud, may_begin, no_items, put_loud, some_flight}
-use Rattle.store_core.proofs.PlanLaws.{del_served, put_served}
+use Rattle.store_core.specs.Quiet.{charges_of, del_of}
+use Rattle.store_core.proofs.FlushDoneLaws.{IsFlown, done_over, done_seen, done_whole, failed_seen, step_seen}
+use Rattle.store_core.proofs.FlushLaws.{del_loud, may_begin, no_items, some_flight}
+use Rattle.store_core.proofs.PlanLaws.{del_served}
 use Rattle.store_core.proofs.store.Store.del_flushed.Goals as goal
 
 pub returns-in-Ok-clause-flush : goal.returns-in-Ok-clause-flush
@@ -106,8 +103,7 @@ begin_del-begun-requires g c =
     (subst (λ (x : Kept). refused_by x (ask.change (del_of c.args.name.now)) ≡ None) (sym c.self.view_is) c.requires.served) in
     let unbroken : c.self.inside.broken ≡ false = sk.whole in
     let value = c.replace-list.ensures.value in
-    let inv = c.self.invariant in
-    (
+    let inv = c.self.invariant in (
       lit< tt,
       (
         lit< tt,
@@ -122,7 +118,7 @@ begin_del-begun-requires g c =
                 (
                   (_, may_begin c.self.inside inv unbroken),
                   del_loud c.self.inside inv unbroken c.args.name.now (subst (λ (x : Kept). is_quiet (charges_of x (del_of c.args.name.now)) ≡ false) (sym c.self.view_is)
-                  c.requires.loud),
+                      c.requires.loud),
                 ),
               ),
             ),

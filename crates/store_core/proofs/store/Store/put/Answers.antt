@@ -1,8 +1,7 @@
-use Rattle.std.specs.Prelude.{◌≡◌, ◌||◌, Bool, List, None, ℕ}
-use Rattle.std.proofs.Common.{◌∙◌, ap, refl, subst, sym}
+use Rattle.std.specs.Prelude.{◌||◌, Bool, List, ℕ}
+use Rattle.std.proofs.Common.{◌∙◌, ap, subst, sym}
 use Rattle.segment_layout.specs.Books.{is_quiet}
-use Rattle.store_terms.specs.Requests as ask
-use Rattle.store_core.specs.Answers.{AnswersChange, is_disk_fault, refused_by}
+use Rattle.store_core.specs.Answers.{AnswersChange, is_disk_fault}
 use Rattle.store_core.specs.Flushes.{ServesChange}
 use Rattle.store_core.specs.Quiet.{charges_of, put_of}
 use Rattle.store_core.proofs.PlanLaws.{accepted, put_served}
