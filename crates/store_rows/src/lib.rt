@@ -19,15 +19,13 @@ mod growth;
 mod maps;
 #[cfg(test)]
 mod moments;
-#[cfg(test)]
-mod openings;
+pub mod openings;
 #[cfg(test)]
 mod quiet;
 #[cfg(test)]
 mod replaced;
 #[cfg(test)]
 mod requests;
-#[cfg(test)]
-mod trials;
+pub mod trials;
 #[cfg(test)]
 mod worked;
