@@ -56,8 +56,8 @@ pub fn try_steps<D: Disk>(
         try_looks(rt, trial, &looks)?;
         let file = trial.file(alloc)?;
         assert_eq!(rt;
-            file.len() as u64,
-            BASE as u64 + step.length,
+            (file.len() as u64).checked_sub(BASE as u64),
+            Some(step.length),
             "{:?}",
             step.row.ask
         );
