@@ -1,6 +1,7 @@
 -- Lift, move by move: the answers of its loop.
 use Rattle.std.specs.Prelude.{◌≡◌, ℕ, ◌+◌, ◌-◌, ◌^◌, ◌≤◌, ◌==◌, cond, List, length, min, slice_index, slice_set, IsTrue, refl}
 use Rattle.std.proofs.Common.{arith, sym, ap, subst, inl}
+use Rattle.std.specs.FinMap as fin
 use Rattle.disk_face.specs.States.{State}
 use Rattle.data_area.specs.Pieces.{pieces}
 use Rattle.size_class.specs.Classes.{class_of}
@@ -29,7 +30,7 @@ lift_begins classes a x p ready = record {
   made = made_none to_lift lifted_in a x p (keeps_none a x ready);
   calm = refl;
   slots = refl;
-  calls = calls_none a.turn x.moved x.table.names;
+  calls = calls_none a.turn x.moved (fin.len x.table.now);
   all = λ f start. record { lifts = start; left = λ told. left_none start.goes told };
 }
 
@@ -90,7 +91,7 @@ module _ {classes : ℕ} {first now : State} {x0 x : Parts} {p0 p : Phase}
 
     pub lift_calls : (b : State) (new : List ℕ) → b.turn ≤ now.turn + pieces 65536 mv.size → length x.moved
         ≡ 32
-        → RowMoves mv x.moved new → CallsSoFar first.turn b.turn x0.moved new 0 0 x0.table.names
+        → RowMoves mv x.moved new → CallsSoFar first.turn b.turn x0.moved new 0 0 (fin.len x0.table.now)
     lift_calls b new more long row =
         calls_move x.moved new mv.size (omega (arith, class_below mv.size, long)) row step.item.some
         (class_below mv.size) i.calls b.turn more
@@ -106,8 +107,8 @@ module _ {classes : ℕ} {first now : State} {x0 x : Parts} {p0 p : Phase}
 
     -- it may have made all calls of its pieces
     pub lift_most : (b : State) (new : List ℕ) → b.turn ≤ now.turn + pieces 65536 mv.size → mv.size ≤ 2 ^ 20
-        → new ≡ x.moved → CallsSoFar first.turn b.turn x0.moved new 16 0 x0.table.names
+        → new ≡ x.moved → CallsSoFar first.turn b.turn x0.moved new 16 0 (fin.len x0.table.now)
     lift_most b new more small row =
-        subst (λ r. CallsSoFar first.turn b.turn x0.moved r 16 0 x0.table.names) (sym row)
-        (calls_wider first.turn now.turn b.turn x0.moved x.moved 0 16 0 0 x0.table.names i.calls (omega arith)
+        subst (λ r. CallsSoFar first.turn b.turn x0.moved r 16 0 (fin.len x0.table.now)) (sym row)
+        (calls_wider first.turn now.turn b.turn x0.moved x.moved 0 16 0 0 (fin.len x0.table.now) i.calls (omega arith)
         (omega (arith, more, small)))

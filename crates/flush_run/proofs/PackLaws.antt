@@ -30,6 +30,7 @@ use Rattle.flush_run.proofs.LeftLaws.{left_none, left_then, told_before}
 use Rattle.flush_run.proofs.LiftLaws.{RowMoves}
 use Rattle.flush_run.proofs.MadeLaws.{KeepsOn-then, keeps_none, made_none, made_part, made_step}
 use Rattle.flush_run.proofs.PaidLaws.{pack_paid}
+use Rattle.flush_run.proofs.SizeLaws.{sizes_len}
 
 -- where the loop begins
 pub pack_begins : (classes : ℕ) (a : State) (x : Parts) (p : Phase) → IsTrue a.is_ready
@@ -38,8 +39,8 @@ pack_begins classes a x p ready = record {
   made = made_none to_pack packed_in a x p (keeps_none a x ready);
   calm = refl;
   lifted = λ c. refl;
-  calls = subst (λ n. CallsSoFar a.turn a.turn x.moved x.moved 0 n x.table.names) (omega arith)
-      (calls_none a.turn x.moved x.table.names);
+  calls = subst (λ n. CallsSoFar a.turn a.turn x.moved x.moved 0 n (fin.len x.table.now)) (omega arith)
+      (calls_none a.turn x.moved (fin.len x.table.now));
   all = λ f start. record { packs = start; left = λ told. left_none start.goes told };
   paid = λ f start pay total q paid. paid;
 }
@@ -188,31 +189,29 @@ module _ {classes : ℕ} {first now : State} {x0 x : Parts} {p0 p : Phase}
     abbrev few : ℕ
     few = length (records_of x.table.now)
 
-    pub few_records : fin.len x.table.now ≤ x.table.names → few ≤ x0.table.names
-    few_records room = omega (arith, records_of-few x.table.now, room, i.made.keeps.names)
+    few_records : few ≤ fin.len x0.table.now
+    few_records = omega (arith, records_of-few x.table.now, sizes_len x0.table.now x.table.now i.made.sizes)
 
     -- the calls once the target is free
-    module _ (x1 : Parts) (d1 : State) (target : Span)
-        (room : fin.len x.table.now ≤ x.table.names)
-        (most : d1.turn ≤ now.turn + save_calls few)
+    module _ (x1 : Parts) (d1 : State) (target : Span) (most : d1.turn ≤ now.turn + save_calls few)
       where
         freed_calls : (saved : Bool)
             → FreesTarget saved target x.in_use x1.in_use x.table x1.table x.spans x1.spans
             → (IsFalse saved → d1.turn ≡ now.turn)
             → CallsSoFar first.turn d1.turn x0.moved x.moved 0
-            (x1.in_use.sequence - x0.in_use.sequence) x0.table.names
+            (x1.in_use.sequence - x0.in_use.sequence) (fin.len x0.table.now)
         freed_calls true a none =
-            subst (λ n. CallsSoFar first.turn d1.turn x0.moved x.moved 0 n x0.table.names)
+            subst (λ n. CallsSoFar first.turn d1.turn x0.moved x.moved 0 n (fin.len x0.table.now))
             (omega (arith, ap (λ (u : choice.InUse). u.sequence) a.pair, i.made.later))
             (calls_save first.turn now.turn d1.turn x0.moved x.moved 0
             (x.in_use.sequence - x0.in_use.sequence)
-            x0.table.names few i.calls (few_records room) most)
+            (fin.len x0.table.now) few i.calls few_records most)
         freed_calls false a none =
-            subst (λ n. CallsSoFar first.turn d1.turn x0.moved x.moved 0 n x0.table.names)
+            subst (λ n. CallsSoFar first.turn d1.turn x0.moved x.moved 0 n (fin.len x0.table.now))
             (omega (arith, ap (λ (u : choice.InUse). u.sequence) a.pair))
             (calls_wider first.turn now.turn d1.turn x0.moved x.moved 0 0
             (x.in_use.sequence - x0.in_use.sequence)
-            (x.in_use.sequence - x0.in_use.sequence) x0.table.names i.calls (omega arith)
+            (x.in_use.sequence - x0.in_use.sequence) (fin.len x0.table.now) i.calls (omega arith)
             (omega (arith, none refl)))
 
         pub pack_calls : (saved : Bool)
@@ -221,15 +220,15 @@ module _ {classes : ℕ} {first now : State} {x0 x : Parts} {p0 p : Phase}
             → x2.in_use ≡ x1.in_use
             → b.turn ≤ d1.turn + pieces 65536 mv.size → length x1.moved ≡ 32 → RowMoves mv x1.moved x2.moved
             → CallsSoFar first.turn b.turn x0.moved x2.moved 0
-            (x2.in_use.sequence - x0.in_use.sequence) x0.table.names
+            (x2.in_use.sequence - x0.in_use.sequence) (fin.len x0.table.now)
         pack_calls saved a none b x2 row1 slots more long row =
             let so_far =
             subst (λ r. CallsSoFar first.turn d1.turn x0.moved r 0
-            (x1.in_use.sequence - x0.in_use.sequence) x0.table.names)
+            (x1.in_use.sequence - x0.in_use.sequence) (fin.len x0.table.now))
             (sym row1) (freed_calls saved a none)
             in
             subst (λ (u : choice.InUse). CallsSoFar first.turn b.turn x0.moved x2.moved 0
-            (u.sequence - x0.in_use.sequence) x0.table.names)
+            (u.sequence - x0.in_use.sequence) (fin.len x0.table.now))
             (sym slots)
             (calls_move x1.moved x2.moved mv.size (omega (
               arith,
@@ -245,30 +244,29 @@ module _ {classes : ℕ} {first now : State} {x0 x : Parts} {p0 p : Phase}
             → x2.in_use ≡ x1.in_use
             → b.turn ≤ d1.turn + pieces 65536 mv.size → mv.size ≤ 2 ^ 20 → x2.moved ≡ x1.moved
             → CallsSoFar first.turn b.turn x0.moved x2.moved 16
-            (x2.in_use.sequence - x0.in_use.sequence + 1) x0.table.names
+            (x2.in_use.sequence - x0.in_use.sequence + 1) (fin.len x0.table.now)
         pack_most saved a none b x2 row1 slots more small row =
             let wider =
             calls_wider first.turn d1.turn b.turn x0.moved x.moved 0 16
             (x1.in_use.sequence - x0.in_use.sequence)
-            (x2.in_use.sequence - x0.in_use.sequence + 1) x0.table.names (freed_calls saved a none)
+            (x2.in_use.sequence - x0.in_use.sequence + 1) (fin.len x0.table.now) (freed_calls saved a none)
             (omega (arith, ap (λ (u : choice.InUse). u.sequence) slots)) (omega (arith, more, small))
             in
             subst (λ r. CallsSoFar first.turn b.turn x0.moved r 16
-            (x2.in_use.sequence - x0.in_use.sequence + 1) x0.table.names)
+            (x2.in_use.sequence - x0.in_use.sequence + 1) (fin.len x0.table.now))
             (sym (row ∙ row1)) wider
 
     -- and a save that failed all of its own
-    pub pack_most_saved : (d1 : State) (x1 : Parts) → fin.len x.table.now ≤ x.table.names
-        → d1.turn ≤ now.turn + save_calls few → x1.moved ≡ x.moved → x.in_use.sequence ≤ x1.in_use.sequence
+    pub pack_most_saved : (d1 : State) (x1 : Parts) → d1.turn ≤ now.turn + save_calls few → x1.moved ≡ x.moved → x.in_use.sequence ≤ x1.in_use.sequence
         → CallsSoFar first.turn d1.turn x0.moved x1.moved 16
-        (x1.in_use.sequence - x0.in_use.sequence + 1) x0.table.names
-    pack_most_saved d1 x1 room most row later =
+        (x1.in_use.sequence - x0.in_use.sequence + 1) (fin.len x0.table.now)
+    pack_most_saved d1 x1 most row later =
         let one = calls_save first.turn now.turn d1.turn x0.moved x.moved 0
         (x.in_use.sequence - x0.in_use.sequence)
-        x0.table.names few i.calls (few_records room) most in
+        (fin.len x0.table.now) few i.calls few_records most in
         subst (λ r. CallsSoFar first.turn d1.turn x0.moved r 16
-        (x1.in_use.sequence - x0.in_use.sequence + 1) x0.table.names)
+        (x1.in_use.sequence - x0.in_use.sequence + 1) (fin.len x0.table.now))
         (sym row)
         (calls_wider first.turn d1.turn d1.turn x0.moved x.moved 0 16
         (x.in_use.sequence - x0.in_use.sequence + 1)
-        (x1.in_use.sequence - x0.in_use.sequence + 1) x0.table.names one (omega (arith, later)) (omega arith))
+        (x1.in_use.sequence - x0.in_use.sequence + 1) (fin.len x0.table.now) one (omega (arith, later)) (omega arith))

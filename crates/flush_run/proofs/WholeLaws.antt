@@ -34,6 +34,7 @@ use Rattle.flush_run.proofs.CallLaws.{calls_save, calls_then, calls_wider}
 use Rattle.flush_run.proofs.PaidLaws.{lays_end, packs_end}
 use Rattle.flush_run.proofs.LaidPlaceLaws.{fewer_pass}
 use Rattle.flush_run.proofs.MadeLaws.{KeepsDisk-then, KeepsOn-then}
+use Rattle.flush_run.proofs.SizeLaws.{sizes_len}
 
 -- ---- the same phase in another order
 
@@ -248,7 +249,7 @@ module _ {first a : State} {x0 x1 : Parts} {p0 p1 : Phase}
 
     -- Pack failed
     pub finished_packs : CallsSoFar first.turn a.turn x0.moved x1.moved 16
-        (x1.in_use.sequence - x0.in_use.sequence + 1) x0.table.names → HasFinished p0 first a x0 x1
+        (x1.in_use.sequence - x0.in_use.sequence + 1) (fin.len x0.table.now) → HasFinished p0 first a x0 x1
     finished_packs most = record {
       keeps = settling_of m1.keeps;
       sizes = m1.sizes;
@@ -257,7 +258,7 @@ module _ {first a : State} {x0 x1 : Parts} {p0 p1 : Phase}
       few = λ c. omega (arith, packed_few c);
       most = calls_wider first.turn a.turn a.turn x0.moved x1.moved 16 18
           (x1.in_use.sequence - x0.in_use.sequence + 1)
-          (x1.in_use.sequence - x0.in_use.sequence + 1) x0.table.names
+          (x1.in_use.sequence - x0.in_use.sequence + 1) (fin.len x0.table.now)
           most (omega arith) (omega arith);
     }
 
@@ -265,7 +266,7 @@ module _ {first a : State} {x0 x1 : Parts} {p0 p1 : Phase}
         (same : l0 ≡ phase_of p1.k p1.caps p1.numbers p1.pending l0.items p1.room)
         (m2 : HasMade to_lay laid_in a b x1 x2 l0 l1)
         (calls1 : CallsSoFar first.turn a.turn x0.moved x1.moved 0 (x1.in_use.sequence - x0.in_use.sequence)
-        x0.table.names)
+        (fin.len x0.table.now))
       where
         laid_few : (c : ℕ) → slice_index x2.moved c ≤ slice_index x1.moved c + class_total p0.items c
         laid_few c = omega (
@@ -290,14 +291,14 @@ module _ {first a : State} {x0 x1 : Parts} {p0 p1 : Phase}
 
         -- Lay failed
         pub finished_lays : CallsSoFar a.turn b.turn x1.moved x2.moved 16
-            (x2.in_use.sequence - x1.in_use.sequence + 1) x1.table.names → HasFinished p0 first b x0 x2
+            (x2.in_use.sequence - x1.in_use.sequence + 1) (fin.len x1.table.now) → HasFinished p0 first b x0 x2
         finished_lays most =
             let again = subst (λ n. CallsSoFar a.turn b.turn x1.moved x2.moved 16
             (x2.in_use.sequence - x1.in_use.sequence + 1) n)
-            m1.keeps.names most in
+            (sizes_len x0.table.now x1.table.now m1.sizes) most in
             let both = calls_then first.turn a.turn b.turn x0.moved x1.moved x2.moved 0 16
             (x1.in_use.sequence - x0.in_use.sequence)
-            (x2.in_use.sequence - x1.in_use.sequence + 1) x0.table.names calls1 again in
+            (x2.in_use.sequence - x1.in_use.sequence + 1) (fin.len x0.table.now) calls1 again in
             record {
               keeps = settling_of (KeepsOn-then m1.keeps m2.keeps);
               sizes = λ name. m2.sizes name ∙ m1.sizes name;
@@ -306,48 +307,52 @@ module _ {first a : State} {x0 x1 : Parts} {p0 p1 : Phase}
               few = few_both;
               most = calls_wider first.turn b.turn b.turn x0.moved x2.moved (0 + 16) 18
                   (x1.in_use.sequence - x0.in_use.sequence + (x2.in_use.sequence - x1.in_use.sequence + 1))
-                  (x2.in_use.sequence - x0.in_use.sequence + 1) x0.table.names both
+                  (x2.in_use.sequence - x0.in_use.sequence + 1) (fin.len x0.table.now) both
                   (omega (arith, m1.later, m2.later)) (omega arith);
             }
 
         module _ (calls2 : CallsSoFar a.turn b.turn x1.moved x2.moved 0
             (x2.in_use.sequence - x1.in_use.sequence)
-            x1.table.names) {d : State} {x3 : Parts} (keeps : KeepsSettling b d x2 x3)
+            (fin.len x1.table.now)) {d : State} {x3 : Parts} (keeps : KeepsSettling b d x2 x3)
             (later : x2.in_use.sequence ≤ x3.in_use.sequence) (row : x3.moved ≡ x2.moved)
             (spots : x3.table.now ≡ x2.table.now)
-            (few : fin.len x2.table.now ≤ x2.table.names)
             (more : d.turn ≤ b.turn + save_calls (length (records_of x2.table.now)) + 2)
           where
             before : CallsSoFar first.turn b.turn x0.moved x2.moved 0
                 (x2.in_use.sequence - x0.in_use.sequence)
-                x0.table.names
+                (fin.len x0.table.now)
             before =
                 let again = subst (λ n. CallsSoFar a.turn b.turn x1.moved x2.moved 0
                 (x2.in_use.sequence - x1.in_use.sequence) n)
-                m1.keeps.names calls2 in
-                subst (λ n. CallsSoFar first.turn b.turn x0.moved x2.moved 0 n x0.table.names)
+                (sizes_len x0.table.now x1.table.now m1.sizes) calls2 in
+                subst (λ n. CallsSoFar first.turn b.turn x0.moved x2.moved 0 n (fin.len x0.table.now))
                 (omega (arith, m1.later, m2.later))
                 (calls_then first.turn a.turn b.turn x0.moved x1.moved x2.moved 0 0
                 (x1.in_use.sequence - x0.in_use.sequence)
-                (x2.in_use.sequence - x1.in_use.sequence) x0.table.names calls1 again)
+                (x2.in_use.sequence - x1.in_use.sequence) (fin.len x0.table.now) calls1 again)
 
-            records_few : length (records_of x2.table.now) ≤ x0.table.names
-            records_few = omega (arith, records_of-few x2.table.now, few, m2.keeps.names, m1.keeps.names)
+            records_few : length (records_of x2.table.now) ≤ fin.len x0.table.now
+            records_few = omega (
+              arith,
+              records_of-few x2.table.now,
+              sizes_len x1.table.now x2.table.now m2.sizes,
+              sizes_len x0.table.now x1.table.now m1.sizes,
+            )
 
             -- with the save of the settled table, the cut and the sync
             all_calls : CallsSoFar first.turn d.turn x0.moved x3.moved 2
                 (x2.in_use.sequence - x0.in_use.sequence + 1)
-                x0.table.names
+                (fin.len x0.table.now)
             all_calls =
                 let n = length (records_of x2.table.now) in
                 let saved = calls_save first.turn b.turn (b.turn + save_calls n) x0.moved x2.moved 0
-                (x2.in_use.sequence - x0.in_use.sequence) x0.table.names n before records_few (omega arith) in
+                (x2.in_use.sequence - x0.in_use.sequence) (fin.len x0.table.now) n before records_few (omega arith) in
                 subst (λ r. CallsSoFar first.turn d.turn x0.moved r 2
-                (x2.in_use.sequence - x0.in_use.sequence + 1) x0.table.names)
+                (x2.in_use.sequence - x0.in_use.sequence + 1) (fin.len x0.table.now))
                 (sym row)
                 (calls_wider first.turn (b.turn + save_calls n) d.turn x0.moved x2.moved 0 2
                 (x2.in_use.sequence - x0.in_use.sequence + 1) (x2.in_use.sequence - x0.in_use.sequence + 1)
-                x0.table.names saved (omega arith) (omega (arith, more)))
+                (fin.len x0.table.now) saved (omega arith) (omega (arith, more)))
 
             pub finished_all : HasFinished p0 first d x0 x3
             finished_all = record {
@@ -358,16 +363,16 @@ module _ {first a : State} {x0 x1 : Parts} {p0 p1 : Phase}
               few = λ c. omega (arith, few_both c, ap (λ (r : List ℕ). slice_index r c) row);
               most = calls_wider first.turn d.turn d.turn x0.moved x3.moved 2 18
                   (x2.in_use.sequence - x0.in_use.sequence + 1)
-                  (x3.in_use.sequence - x0.in_use.sequence + 1) x0.table.names
+                  (x3.in_use.sequence - x0.in_use.sequence + 1) (fin.len x0.table.now)
                   all_calls (omega (arith, later)) (omega arith);
             }
 
             -- and where none failed
             pub finished_calls : x3.in_use.sequence ≡ x2.in_use.sequence + 1
                 → CallsSoFar first.turn d.turn x0.moved x3.moved 2
-                (x3.in_use.sequence - x0.in_use.sequence) x0.table.names
+                (x3.in_use.sequence - x0.in_use.sequence) (fin.len x0.table.now)
             finished_calls one =
-                subst (λ n. CallsSoFar first.turn d.turn x0.moved x3.moved 2 n x0.table.names)
+                subst (λ n. CallsSoFar first.turn d.turn x0.moved x3.moved 2 n (fin.len x0.table.now))
                 (omega (arith, one, m1.later, m2.later)) all_calls
 
 -- ---- the same in the layout of the parts
@@ -427,7 +432,7 @@ module _ {first a : State} {x0 x1 : Parts} {p0 p1 : Phase}
   lifted_few c = omega (arith, m1.rises c)
 
   -- Lift failed
-  pub run_lifts : CallsSoFar first.turn a.turn x0.moved x1.moved 16 0 x0.table.names
+  pub run_lifts : CallsSoFar first.turn a.turn x0.moved x1.moved 16 0 (fin.len x0.table.now)
       → HasRun p0.numbers.boundary p0.items first a x0 x1
   run_lifts most = record {
     keeps = settling_of m1.keeps;
@@ -436,20 +441,20 @@ module _ {first a : State} {x0 x1 : Parts} {p0 p1 : Phase}
     lower = m1.lower;
     few = λ c. omega (arith, lifted_few c, lifted_and_packed p1 c, m1.same.totals c);
     most = calls_wider first.turn a.turn a.turn x0.moved x1.moved 16 18 0
-        (x1.in_use.sequence - x0.in_use.sequence + 1) x0.table.names most (omega arith) (omega arith);
+        (x1.in_use.sequence - x0.in_use.sequence + 1) (fin.len x0.table.now) most (omega arith) (omega arith);
   }
 
   module _ (d : State) (x2 : Parts) {q : Phase} (slots : x1.in_use ≡ x0.in_use) (same : q ≡ p1)
-      (calls : CallsSoFar first.turn a.turn x0.moved x1.moved 0 0 x0.table.names)
+      (calls : CallsSoFar first.turn a.turn x0.moved x1.moved 0 0 (fin.len x0.table.now))
     where
       -- what came after it
       pub run_all : HasFinished q a d x1 x2 → HasRun p0.numbers.boundary p0.items first d x0 x2
       run_all h =
           let again = subst (λ n. CallsSoFar a.turn d.turn x1.moved x2.moved 18
           (x2.in_use.sequence - x1.in_use.sequence + 1) n)
-          m1.keeps.names h.most in
+          (sizes_len x0.table.now x1.table.now m1.sizes) h.most in
           let both = calls_then first.turn a.turn d.turn x0.moved x1.moved x2.moved 0 18 0
-          (x2.in_use.sequence - x1.in_use.sequence + 1) x0.table.names calls again in
+          (x2.in_use.sequence - x1.in_use.sequence + 1) (fin.len x0.table.now) calls again in
           let at : q.numbers.boundary ≡ p0.numbers.boundary =
           ap (λ (p : Phase). p.numbers.boundary) same ∙ ap (λ (n : Numbers). n.boundary) m1.same.numbers
           in
@@ -469,21 +474,21 @@ module _ {first a : State} {x0 x1 : Parts} {p0 p1 : Phase}
             most = calls_wider first.turn d.turn d.turn x0.moved x2.moved (0 + 18) 18
                 (0 + (x2.in_use.sequence - x1.in_use.sequence + 1))
                 (x2.in_use.sequence - x0.in_use.sequence + 1)
-                x0.table.names both (omega (arith, ap (λ (u : choice.InUse). u.sequence) slots))
+                (fin.len x0.table.now) both (omega (arith, ap (λ (u : choice.InUse). u.sequence) slots))
                 (omega arith);
           }
 
       pub run_calls : CallsSoFar a.turn d.turn x1.moved x2.moved 2
-          (x2.in_use.sequence - x1.in_use.sequence) x1.table.names
+          (x2.in_use.sequence - x1.in_use.sequence) (fin.len x1.table.now)
           → CallsSoFar first.turn d.turn x0.moved x2.moved 2
-          (x2.in_use.sequence - x0.in_use.sequence) x0.table.names
+          (x2.in_use.sequence - x0.in_use.sequence) (fin.len x0.table.now)
       run_calls more =
           let again = subst (λ n. CallsSoFar a.turn d.turn x1.moved x2.moved 2
           (x2.in_use.sequence - x1.in_use.sequence) n)
-          m1.keeps.names more in
+          (sizes_len x0.table.now x1.table.now m1.sizes) more in
           let both = calls_then first.turn a.turn d.turn x0.moved x1.moved x2.moved 0 2 0
-          (x2.in_use.sequence - x1.in_use.sequence) x0.table.names calls again in
-          subst (λ n. CallsSoFar first.turn d.turn x0.moved x2.moved 2 n x0.table.names)
+          (x2.in_use.sequence - x1.in_use.sequence) (fin.len x0.table.now) calls again in
+          subst (λ n. CallsSoFar first.turn d.turn x0.moved x2.moved 2 n (fin.len x0.table.now))
           (omega (arith, ap (λ (u : choice.InUse). u.sequence) slots)) both
 
 -- Pack may begin where Lift ended

@@ -1,5 +1,6 @@
 -- What holds in a flush between any two moves, and what its three loops make.
 use Rattle.std.specs.Prelude.{◌≡◌, ℕ, ◌+◌, ◌-◌, ◌<◌, ◌≤◌, ◌^◌, List, length, slice_index, IsTrue, true}
+use Rattle.std.specs.FinMap as fin
 use Rattle.disk_face.specs.States.{State}
 use Rattle.size_class.specs.Classes.{class_of}
 use Rattle.slot_codec.specs.declared.codec.Header.{Header}
@@ -131,7 +132,7 @@ pub record InLift (classes : ℕ) (first now : State) (x0 x : Parts) (p0 p : Pha
   pub made : HasMade to_lift lifted_in first now x0 x p0 p
   pub calm : now.faults ≡ first.faults
   pub slots : x.in_use ≡ x0.in_use
-  pub calls : CallsSoFar first.turn now.turn x0.moved x.moved 0 0 x0.table.names
+  pub calls : CallsSoFar first.turn now.turn x0.moved x.moved 0 0 (fin.len x0.table.now)
   pub all : (f : Flight) → Lifts classes f x0.caps x0.grid x0 p0 first
       → LiftsSince classes f x0.caps x0.grid first now x p
 
@@ -145,7 +146,7 @@ pub record InPack (classes : ℕ) (first now : State) (x0 x : Parts) (p0 p : Pha
   pub calm : now.faults ≡ first.faults
   pub lifted : (c : ℕ) → lifted_in p c ≡ lifted_in p0 c
   pub calls : CallsSoFar first.turn now.turn x0.moved x.moved 0 (x.in_use.sequence - x0.in_use.sequence)
-      x0.table.names
+      (fin.len x0.table.now)
   pub all : (f : Flight) → Packs classes f x0.caps x0.grid x0 p0 first
       → PacksSince classes f x0.caps x0.grid first now x p
   pub paid : (f : Flight) → Packs classes f x0.caps x0.grid x0 p0 first → (pay total q : ℕ)
@@ -160,7 +161,7 @@ pub record InLay (classes : ℕ) (first now : State) (x0 x : Parts) (p0 p : Phas
   pub made : HasMade to_lay laid_in first now x0 x p0 p
   pub calm : now.faults ≡ first.faults
   pub calls : CallsSoFar first.turn now.turn x0.moved x.moved 0 (x.in_use.sequence - x0.in_use.sequence)
-      x0.table.names
+      (fin.len x0.table.now)
   pub all : (f : Flight) → Lays classes f x0.caps x0.grid x0 p0 first
       → LaysSince classes f x0.caps x0.grid first now x p
   pub paid : (f : Flight) → Lays classes f x0.caps x0.grid x0 p0 first → (pay total q : ℕ)

@@ -1,5 +1,6 @@
 -- What a flush may begin with, and what it has made.
 use Rattle.std.specs.Prelude.{ℕ, ◌≡◌, ◌+◌, ◌-◌, ◌*◌, ◌<◌, ◌≤◌, ◌^◌, List, slice_index, IsTrue}
+use Rattle.std.specs.FinMap as fin
 use Rattle.disk_face.specs.States.{State}
 use Rattle.flush_plan.specs.declared.item.Item.{Item}
 use Rattle.flush_plan.specs.Plans.{class_total}
@@ -36,7 +37,7 @@ pub record HasRun (b : ℕ) (items : List Item) (first now : State) (x0 x : Part
   pub lower : (c : ℕ) → c < b → slice_index x.moved c ≡ slice_index x0.moved c
   pub few : (c : ℕ) → slice_index x.moved c ≤ slice_index x0.moved c + 2 * class_total items c
   pub most : CallsSoFar first.turn now.turn x0.moved x.moved 18
-      (x.in_use.sequence - x0.in_use.sequence + 1) x0.table.names
+      (x.in_use.sequence - x0.in_use.sequence + 1) (fin.len x0.table.now)
 
 -- The same of Pack and Lay alone: what was lifted before, and what was packed, is not moved again by Pack.
 pub record HasFinished (p : Phase) (first now : State) (x0 x : Parts) : Type 0 where
@@ -47,4 +48,4 @@ pub record HasFinished (p : Phase) (first now : State) (x0 x : Parts) : Type 0 w
   pub few : (c : ℕ) → slice_index x.moved c + lifted_in p c + packed_in p c
       ≤ slice_index x0.moved c + 2 * class_total p.items c
   pub most : CallsSoFar first.turn now.turn x0.moved x.moved 18
-      (x.in_use.sequence - x0.in_use.sequence + 1) x0.table.names
+      (x.in_use.sequence - x0.in_use.sequence + 1) (fin.len x0.table.now)

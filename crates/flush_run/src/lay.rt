@@ -1,5 +1,6 @@
 //! Lay on the disk: the objects go down to their new places.
 ghost use Rattle.std.specs.Prelude.{◌≡◌, ◌+◌, ◌-◌, ◌<◌, ◌≤◌, ℕ, vec_len, OnOk, IsTrue};
+ghost use Rattle.std.specs.FinMap as fin;
 ghost use Rattle.disk_face.specs.Counts.{HasCause};
 ghost use Rattle.slot_codec.specs.Reading.{all_in_range};
 ghost use Rattle.segment_layout.specs.Layouts.{caps_of, grid_of};
@@ -49,10 +50,10 @@ pub(crate) fn lay_all<D: Disk, const C: usize>(
         (parts_of hands.new) lays.old lays.new }
     ensures calls { OnOk result (CallsSoFar (D.state disk.old).turn (D.state disk.new).turn
         (cells_of hands.old.ledger.moved) (cells_of hands.new.ledger.moved) 0
-        (hands.new.slots.sequence - hands.old.slots.sequence) hands.old.table.names) }
+        (hands.new.slots.sequence - hands.old.slots.sequence) (fin.len hands.old.table.now)) }
     ensures most { CallsSoFar (D.state disk.old).turn (D.state disk.new).turn
         (cells_of hands.old.ledger.moved) (cells_of hands.new.ledger.moved) 16
-        (hands.new.slots.sequence - hands.old.slots.sequence + 1) hands.old.table.names }
+        (hands.new.slots.sequence - hands.old.slots.sequence + 1) (fin.len hands.old.table.now) }
     ensures cause { HasCause (D.state disk.old).faults (D.state disk.new).faults result }
 {
     'moves: while let Some(mv) = lays.next() {

@@ -1,5 +1,6 @@
 //! Lift on the disk: the objects of the buffers go past the wall. No save is made.
 ghost use Rattle.std.specs.Prelude.{◌≡◌, ◌<◌, ◌≤◌, ℕ, vec_len, OnOk, IsTrue};
+ghost use Rattle.std.specs.FinMap as fin;
 ghost use Rattle.disk_face.specs.Counts.{HasCause};
 ghost use Rattle.segment_layout.specs.Layouts.{caps_of, grid_of};
 ghost use Rattle.size_class.specs.Rows.{cells_of};
@@ -37,9 +38,11 @@ pub(crate) fn lift_all<D: Disk, const C: usize>(
     ensures made { HasMade to_lift lifted_in (D.state disk.old) (D.state disk.new) (parts_of hands.old)
         (parts_of hands.new) lifts.old lifts.new }
     ensures calls { OnOk result (CallsSoFar (D.state disk.old).turn (D.state disk.new).turn
-        (cells_of hands.old.ledger.moved) (cells_of hands.new.ledger.moved) 0 0 hands.old.table.names) }
+        (cells_of hands.old.ledger.moved) (cells_of hands.new.ledger.moved) 0 0
+        (fin.len hands.old.table.now)) }
     ensures most { CallsSoFar (D.state disk.old).turn (D.state disk.new).turn
-        (cells_of hands.old.ledger.moved) (cells_of hands.new.ledger.moved) 16 0 hands.old.table.names }
+        (cells_of hands.old.ledger.moved) (cells_of hands.new.ledger.moved) 16 0
+        (fin.len hands.old.table.now) }
     ensures slots { hands.new.slots ≡ hands.old.slots }
     ensures cause { HasCause (D.state disk.old).faults (D.state disk.new).faults result }
 {

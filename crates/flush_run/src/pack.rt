@@ -1,5 +1,6 @@
 //! Pack on the disk: the objects below the wall go up against it.
 ghost use Rattle.std.specs.Prelude.{◌≡◌, ◌+◌, ◌-◌, ◌<◌, ◌≤◌, ℕ, vec_len, OnOk, IsTrue};
+ghost use Rattle.std.specs.FinMap as fin;
 ghost use Rattle.disk_face.specs.Counts.{HasCause};
 ghost use Rattle.slot_codec.specs.Reading.{all_in_range};
 ghost use Rattle.segment_layout.specs.Layouts.{caps_of, grid_of};
@@ -50,10 +51,10 @@ pub(crate) fn pack_all<D: Disk, const C: usize>(
     ensures lifted { (c : ℕ) → lifted_in packs.new c ≡ lifted_in packs.old c }
     ensures calls { OnOk result (CallsSoFar (D.state disk.old).turn (D.state disk.new).turn
         (cells_of hands.old.ledger.moved) (cells_of hands.new.ledger.moved) 0
-        (hands.new.slots.sequence - hands.old.slots.sequence) hands.old.table.names) }
+        (hands.new.slots.sequence - hands.old.slots.sequence) (fin.len hands.old.table.now)) }
     ensures most { CallsSoFar (D.state disk.old).turn (D.state disk.new).turn
         (cells_of hands.old.ledger.moved) (cells_of hands.new.ledger.moved) 16
-        (hands.new.slots.sequence - hands.old.slots.sequence + 1) hands.old.table.names }
+        (hands.new.slots.sequence - hands.old.slots.sequence + 1) (fin.len hands.old.table.now) }
     ensures cause { HasCause (D.state disk.old).faults (D.state disk.new).faults result }
 {
     'moves: while let Some(mv) = packs.next() {

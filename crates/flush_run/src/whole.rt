@@ -1,5 +1,6 @@
 //! A flush from its first move to its last sync, and one that goes on.
 ghost use Rattle.std.specs.Prelude.{◌≡◌, ◌+◌, ◌-◌, ◌*◌, ◌<◌, ◌≤◌, ◌^◌, ℕ, length, vec_len, IfOk, OnOk, IsTrue};
+ghost use Rattle.std.specs.FinMap as fin;
 ghost use Rattle.disk_face.specs.Counts.{HasCause};
 ghost use Rattle.segment_layout.specs.Layouts.{caps_of, grid_of};
 ghost use Rattle.size_class.specs.Rows.{cells_of};
@@ -44,7 +45,7 @@ pub fn run<D: Disk, const C: usize>(
         × (hands.new.slots.sequence ≤ hands.old.slots.sequence + 2 * hands.old.slots.block.k)) }
     ensures calls { OnOk result (CallsSoFar (D.state disk.old).turn (D.state disk.new).turn
         (cells_of hands.old.ledger.moved) (cells_of hands.new.ledger.moved) 2
-        (hands.new.slots.sequence - hands.old.slots.sequence) hands.old.table.names) }
+        (hands.new.slots.sequence - hands.old.slots.sequence) (fin.len hands.old.table.now)) }
     ensures made { HasRun phase.entry.numbers.boundary phase.entry.items (D.state disk.old)
         (D.state disk.new) (parts_of hands.old) (parts_of hands.new) }
     ensures room { IfOk result (λ settled. settled.phase.room ≡ phase.entry.room) }
@@ -75,7 +76,7 @@ pub fn resume<D: Disk, const C: usize>(
         × (hands.new.slots.sequence < hands.old.slots.sequence + 2 ^ 18)) }
     ensures calls { OnOk result (CallsSoFar (D.state disk.old).turn (D.state disk.new).turn
         (cells_of hands.old.ledger.moved) (cells_of hands.new.ledger.moved) 2
-        (hands.new.slots.sequence - hands.old.slots.sequence) hands.old.table.names) }
+        (hands.new.slots.sequence - hands.old.slots.sequence) (fin.len hands.old.table.now)) }
     ensures made { HasRun phase.entry.numbers.boundary phase.entry.items (D.state disk.old)
         (D.state disk.new) (parts_of hands.old) (parts_of hands.new) }
     ensures room { IfOk result (λ settled. settled.phase.room ≡ phase.entry.room) }
@@ -105,7 +106,7 @@ fn lift_and_finish<D: Disk, const C: usize>(
         × (hands.new.slots.sequence ≤ hands.old.slots.sequence + 2 * hands.old.slots.block.k)) }
     ensures calls { OnOk result (CallsSoFar (D.state disk.old).turn (D.state disk.new).turn
         (cells_of hands.old.ledger.moved) (cells_of hands.new.ledger.moved) 2
-        (hands.new.slots.sequence - hands.old.slots.sequence) hands.old.table.names) }
+        (hands.new.slots.sequence - hands.old.slots.sequence) (fin.len hands.old.table.now)) }
     ensures made { HasRun phase.entry.numbers.boundary phase.entry.items (D.state disk.old)
         (D.state disk.new) (parts_of hands.old) (parts_of hands.new) }
     ensures room { IfOk result (λ settled. settled.phase.room ≡ phase.entry.room) }
@@ -143,7 +144,7 @@ fn finish<D: Disk, const C: usize>(
         → OnOk result (hands.new.slots.sequence ≤ q + 2 * hands.old.slots.block.k) }
     ensures calls { OnOk result (CallsSoFar (D.state disk.old).turn (D.state disk.new).turn
         (cells_of hands.old.ledger.moved) (cells_of hands.new.ledger.moved) 2
-        (hands.new.slots.sequence - hands.old.slots.sequence) hands.old.table.names) }
+        (hands.new.slots.sequence - hands.old.slots.sequence) (fin.len hands.old.table.now)) }
     ensures made { HasFinished phase.entry (D.state disk.old) (D.state disk.new) (parts_of hands.old)
         (parts_of hands.new) }
     ensures room { IfOk result (λ settled. settled.phase.room ≡ phase.entry.room) }

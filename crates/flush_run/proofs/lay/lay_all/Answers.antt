@@ -57,7 +57,6 @@ returns-in_err-free_target-clause-most g c =
     let t = c.free_target.ensures in
     lay_most_saved i c.in-Some.ensures.step (g.D.Disk.state c.free_target.new.disk)
     (parts_of c.free_target.new.hands)
-    (i.all c.requires.start.0 c.requires.start.1).lays.goes.hands.table.now_room
     t.most t.moved t.later
 
 pub move_one-requires : goal.move_one-requires
@@ -131,8 +130,7 @@ returns-in_err-move_one-clause-most g c =
     let r = lay_can i start step c.requires.moving _ refl refl _ c.in_ok-free_target.ensures.answer t.keeps
     (c.in_ok-free_target.ensures.flies c.requires.start.0) in
     lay_most i step (parts_of c.free_target.new.hands) (g.D.Disk.state c.free_target.new.disk) _
-    (i.all c.requires.start.0 start).lays.goes.hands.table.now_room t.most _
-    c.in_ok-free_target.ensures.answer c.in_ok-free_target.ensures.none (g.D.Disk.state c.move_one.new.disk)
+    t.most _ c.in_ok-free_target.ensures.answer c.in_ok-free_target.ensures.none (g.D.Disk.state c.move_one.new.disk)
     (parts_of c.move_one.new.hands) t.moved c.move_one.ensures.slots c.move_one.ensures.most r.few
     c.in_err-move_one.ensures.unmoved
 
@@ -154,7 +152,7 @@ moves-preserved g c =
           ∙ ap (λ (x : Spots). size_in x name) t.spots);
       calm = c.in_ok-move_one.ensures.cause.calm ∙ c.in_ok-free_target.ensures.cause.calm ∙ i.calm;
       calls = lay_calls i step (parts_of c.free_target.new.hands) (g.D.Disk.state c.free_target.new.disk) _
-          (i.all c.requires.start.0 c.requires.start.1).lays.goes.hands.table.now_room t.most _ answer
+          t.most _ answer
           c.in_ok-free_target.ensures.none (g.D.Disk.state c.move_one.new.disk)
           (parts_of c.move_one.new.hands)
           t.moved m.slots m.most long row;

@@ -58,7 +58,6 @@ returns-in_err-free_target-clause-most g c =
     let t = c.free_target.ensures in
     pack_most_saved i c.in-Some.ensures.step (g.D.Disk.state c.free_target.new.disk)
     (parts_of c.free_target.new.hands)
-    (i.all c.requires.start.0 c.requires.start.1).packs.goes.hands.table.now_room
     t.most t.moved t.later
 
 pub move_one-requires : goal.move_one-requires
@@ -132,8 +131,7 @@ returns-in_err-move_one-clause-most g c =
     let r = pack_can i start step c.requires.moving _ refl refl _ c.in_ok-free_target.ensures.answer t.keeps
     (c.in_ok-free_target.ensures.flies c.requires.start.0) in
     pack_most i step (parts_of c.free_target.new.hands) (g.D.Disk.state c.free_target.new.disk) _
-    (i.all c.requires.start.0 start).packs.goes.hands.table.now_room t.most _
-    c.in_ok-free_target.ensures.answer c.in_ok-free_target.ensures.none (g.D.Disk.state c.move_one.new.disk)
+    t.most _ c.in_ok-free_target.ensures.answer c.in_ok-free_target.ensures.none (g.D.Disk.state c.move_one.new.disk)
     (parts_of c.move_one.new.hands) t.moved c.move_one.ensures.slots c.move_one.ensures.most r.few
     c.in_err-move_one.ensures.unmoved
 
@@ -156,7 +154,7 @@ moves-preserved g c =
       calm = c.in_ok-move_one.ensures.cause.calm ∙ c.in_ok-free_target.ensures.cause.calm ∙ i.calm;
       lifted = λ d. ap (λ p. lifted_in p d) c.in-Some.ensures.moved ∙ step.lifted d ∙ i.lifted d;
       calls = pack_calls i step (parts_of c.free_target.new.hands) (g.D.Disk.state c.free_target.new.disk) _
-          (i.all c.requires.start.0 c.requires.start.1).packs.goes.hands.table.now_room t.most _ answer
+          t.most _ answer
           c.in_ok-free_target.ensures.none (g.D.Disk.state c.move_one.new.disk)
           (parts_of c.move_one.new.hands)
           t.moved m.slots m.most long row;

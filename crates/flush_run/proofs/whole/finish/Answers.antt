@@ -101,14 +101,8 @@ returns-in_err-settle-clause-made g c =
     let p = c.pack_all.ensures in
     let l = c.into_laying-lays.ensures in
     let s = c.settle.ensures in
-    let start = c.requires.start in
-    let keeps = p.made.keeps in
-    let lays = lays_in
-    (lays_begin (c.in_ok-pack_all.ensures.packed start.0 start.1) _ l.items l.same) keeps.caps keeps.grid
-    refl in
-    let laid = c.in_ok-lay_all.ensures.laid start.0 lays in
     finished_all p.made p.lifted l.items l.same c.lay_all.ensures.made c.in_ok-pack_all.ensures.calls
-    c.in_ok-lay_all.ensures.calls s.keeps s.later s.moved s.spots laid.goes.hands.table.now_room
+    c.in_ok-lay_all.ensures.calls s.keeps s.later s.moved s.spots
     (omega (arith, s.calls.most))
 
 pub returns-clause-made : goal.returns-clause-made
@@ -116,14 +110,8 @@ returns-clause-made g c =
     let p = c.pack_all.ensures in
     let l = c.into_laying-lays.ensures in
     let s = c.settle.ensures in
-    let start = c.requires.start in
-    let keeps = p.made.keeps in
-    let lays = lays_in
-    (lays_begin (c.in_ok-pack_all.ensures.packed start.0 start.1) _ l.items l.same) keeps.caps keeps.grid
-    refl in
-    let laid = c.in_ok-lay_all.ensures.laid start.0 lays in
     finished_all p.made p.lifted l.items l.same c.lay_all.ensures.made c.in_ok-pack_all.ensures.calls
-    c.in_ok-lay_all.ensures.calls s.keeps s.later s.moved s.spots laid.goes.hands.table.now_room
+    c.in_ok-lay_all.ensures.calls s.keeps s.later s.moved s.spots
     (omega (arith, s.calls.most))
 
 pub returns-clause-calls : goal.returns-clause-calls
@@ -131,14 +119,8 @@ returns-clause-calls g c =
     let p = c.pack_all.ensures in
     let l = c.into_laying-lays.ensures in
     let s = c.settle.ensures in
-    let start = c.requires.start in
-    let keeps = p.made.keeps in
-    let lays = lays_in
-    (lays_begin (c.in_ok-pack_all.ensures.packed start.0 start.1) _ l.items l.same) keeps.caps keeps.grid
-    refl in
-    let laid = c.in_ok-lay_all.ensures.laid start.0 lays in
     finished_calls p.made p.lifted l.items l.same c.lay_all.ensures.made c.in_ok-pack_all.ensures.calls
-    c.in_ok-lay_all.ensures.calls s.keeps s.later s.moved s.spots laid.goes.hands.table.now_room
+    c.in_ok-lay_all.ensures.calls s.keeps s.later s.moved s.spots
     (omega (arith, s.calls.most))
     (ap (λ (u : choice.InUse). u.sequence) c.in_ok-settle.ensures.pair)
 
