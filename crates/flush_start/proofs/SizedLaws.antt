@@ -17,39 +17,11 @@ use Rattle.table_rules.specs.Tables.{sizes}
 use Rattle.extent_table.specs.declared.spot.Spot.{Spot}
 use Rattle.extent_table.specs.Extents.{Spots, record_of, records_of, volume_of}
 use Rattle.extent_table.proofs.ExtentLaws.{records_of-all}
+use Rattle.flush_run.proofs.SizeLaws.{find_image, image_sorted, with_image}
 use Rattle.flush_start.specs.Sized.{IsSizedBy}
 use Rattle.spot_terms.specs.Buffered.{HasSizes}
 use Rattle.spot_terms.specs.Reads.{AreNamed, EndWithin, object_at, read_at}
 use Rattle.spot_terms.proofs.ReadLaws.{get-read_at}
-
--- ---- the entries with their values' images
-
-module _ {X Y : Type 0} (f : X → Y) where
-  abbrev with_image : List ℕ × X → List ℕ × Y
-  with_image e = (e.0, f e.1)
-
-  through : (b : Bool) (x : X) (o : Option X) → cond b (Some (f x)) (option_map f o)
-      ≡ option_map f (cond b (Some x) o)
-  through true x o = refl
-  through false x o = refl
-
-  find_image : (q : List ℕ) (es : List (List ℕ × X))
-      → find name_cmp q (map with_image es) ≡ option_map f (find name_cmp q es)
-  find_image q [] = refl
-  find_image q (e ∷ es) = ap (cond (same_name q e.0) (Some (f e.1))) (find_image q es)
-      ∙ through (same_name q e.0) e.1 (find name_cmp q es)
-
-  below_image : (x : List ℕ) (es : List (List ℕ × X)) → below_all name_cmp x (map with_image es)
-      ≡ below_all name_cmp x es
-  below_image x [] = refl
-  below_image x (e ∷ es) = ap (λ b. is_lt (name_cmp x e.0) && b) (below_image x es)
-
-  sorted_image : (es : List (List ℕ × X)) → is_sorted name_cmp (map with_image es) ≡ is_sorted name_cmp es
-  sorted_image [] = refl
-  sorted_image (e ∷ es) = λ i. below_image e.0 es i && sorted_image es i
-
-  image_sorted : (m : fin.FinMap name_cmp X) → T (is_sorted name_cmp (map with_image (fin.entries m)))
-  image_sorted m = subst T (sym (sorted_image (fin.entries m))) (fin.entries_sorted m)
 
 -- the size of a spot
 abbrev spot_size : Spot → ℕ
