@@ -110,5 +110,5 @@ module _ {classes : ℕ} {first now : State} {x0 x : Parts} {p0 p : Phase}
         → new ≡ x.moved → CallsSoFar first.turn b.turn x0.moved new 16 0 (fin.len x0.table.now)
     lift_most b new more small row =
         subst (λ r. CallsSoFar first.turn b.turn x0.moved r 16 0 (fin.len x0.table.now)) (sym row)
-        (calls_wider first.turn now.turn b.turn x0.moved x.moved 0 16 0 0 (fin.len x0.table.now) i.calls (omega arith)
-        (omega (arith, more, small)))
+        (calls_wider first.turn now.turn b.turn x0.moved x.moved 0 16 0 0 (fin.len x0.table.now) i.calls
+        (omega arith) (omega (arith, more, small)))

@@ -257,7 +257,8 @@ module _ {classes : ℕ} {first now : State} {x0 x : Parts} {p0 p : Phase}
             (sym (row ∙ row1)) wider
 
     -- and a save that failed all of its own
-    pub pack_most_saved : (d1 : State) (x1 : Parts) → d1.turn ≤ now.turn + save_calls few → x1.moved ≡ x.moved → x.in_use.sequence ≤ x1.in_use.sequence
+    pub pack_most_saved : (d1 : State) (x1 : Parts) → d1.turn ≤ now.turn + save_calls few
+        → x1.moved ≡ x.moved → x.in_use.sequence ≤ x1.in_use.sequence
         → CallsSoFar first.turn d1.turn x0.moved x1.moved 16
         (x1.in_use.sequence - x0.in_use.sequence + 1) (fin.len x0.table.now)
     pack_most_saved d1 x1 most row later =
@@ -269,4 +270,5 @@ module _ {classes : ℕ} {first now : State} {x0 x : Parts} {p0 p : Phase}
         (sym row)
         (calls_wider first.turn d1.turn d1.turn x0.moved x.moved 0 16
         (x.in_use.sequence - x0.in_use.sequence + 1)
-        (x1.in_use.sequence - x0.in_use.sequence + 1) (fin.len x0.table.now) one (omega (arith, later)) (omega arith))
+        (x1.in_use.sequence - x0.in_use.sequence + 1) (fin.len x0.table.now) one (omega (arith, later))
+        (omega arith))

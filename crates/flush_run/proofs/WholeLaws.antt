@@ -291,7 +291,8 @@ module _ {first a : State} {x0 x1 : Parts} {p0 p1 : Phase}
 
         -- Lay failed
         pub finished_lays : CallsSoFar a.turn b.turn x1.moved x2.moved 16
-            (x2.in_use.sequence - x1.in_use.sequence + 1) (fin.len x1.table.now) → HasFinished p0 first b x0 x2
+            (x2.in_use.sequence - x1.in_use.sequence + 1) (fin.len x1.table.now)
+            → HasFinished p0 first b x0 x2
         finished_lays most =
             let again = subst (λ n. CallsSoFar a.turn b.turn x1.moved x2.moved 16
             (x2.in_use.sequence - x1.in_use.sequence + 1) n)
@@ -346,7 +347,8 @@ module _ {first a : State} {x0 x1 : Parts} {p0 p1 : Phase}
             all_calls =
                 let n = length (records_of x2.table.now) in
                 let saved = calls_save first.turn b.turn (b.turn + save_calls n) x0.moved x2.moved 0
-                (x2.in_use.sequence - x0.in_use.sequence) (fin.len x0.table.now) n before records_few (omega arith) in
+                (x2.in_use.sequence - x0.in_use.sequence) (fin.len x0.table.now) n before records_few
+                (omega arith) in
                 subst (λ r. CallsSoFar first.turn d.turn x0.moved r 2
                 (x2.in_use.sequence - x0.in_use.sequence + 1) (fin.len x0.table.now))
                 (sym row)

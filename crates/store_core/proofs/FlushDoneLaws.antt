@@ -1,5 +1,5 @@
 -- A store after its flush, whether or not it failed.
-use Rattle.std.specs.Prelude.{◌≡◌, ℕ, ◌+◌, ◌-◌, ◌*◌, ◌^◌, ◌<◌, ◌≤◌, true, false, List, [], ◌++◌, length, slice_index, Option, Some, None, Ok, Err, IsTrue, vec_capacity, vec_len, refl}
+use Rattle.std.specs.Prelude.{◌≡◌, ℕ, ◌+◌, ◌-◌, ◌*◌, ◌^◌, ◌<◌, ◌≤◌, Bool, true, false, cond, List, [], ◌++◌, length, slice_index, Option, Some, None, is_some, option_map, Ok, Err, IsTrue, vec_capacity, vec_len, refl}
 use Rattle.std.proofs.Common.{arith, sym, ◌∙◌, ap, subst, inl, inr}
 use Rattle.std.specs.Global.{Vec}
 use Rattle.disk_face.specs.States as disk
@@ -18,6 +18,11 @@ use Rattle.segment_layout.specs.Books.{charge_all, is_quiet, item_of, some_size,
 use Rattle.segment_layout.specs.Shapes.{boundary_of}
 use Rattle.segment_layout.proofs.ShapeLaws.{caps-settled_above}
 use Rattle.store_terms.specs.Maps.{Map}
+use Rattle.store_terms.specs.Weights.{same_name}
+use Rattle.store_terms.proofs.MapLaws.{name_order}
+use Rattle.spot_terms.proofs.EntryLaws.{get-remove_here, insert-remove}
+use Rattle.extent_table.specs.declared.spot.Spot.{Spot}
+use Rattle.store_core.specs.Keeps.{now_map}
 use Rattle.table_rules.specs.Tables.{sizes}
 use Rattle.spot_terms.specs.Quiet.{gone_items}
 use Rattle.flush_plan.specs.Plans.{class_total}
@@ -25,7 +30,7 @@ use Rattle.flush_run.proofs.LaidPlaceLaws.{new_cap}
 use Rattle.flush_start.specs.Charging.{charged_by}
 use Rattle.flush_start.specs.Sized.{IsSizedBy, object_size}
 use Rattle.flush_start.proofs.SizedLaws.{sized_gone, sized_put, sized_volumes}
-use Rattle.std.proofs.lemmas.Bool.{cases_lt}
+use Rattle.std.proofs.lemmas.Bool.{cases_lt, cond-false}
 use Rattle.std.specs.FinMap as fin
 use Rattle.segment_layout.specs.Layouts.{caps_of, divisor_of, grid_of}
 use Rattle.extent_table.specs.Extents.{Spots, records_of}
@@ -34,14 +39,14 @@ use Rattle.flush_plan.specs.Phases.{Phase}
 use Rattle.flush_run.specs.declared.hands.Hands.{Hands}
 use Rattle.flush_run.specs.Calls.{CallsSoFar}
 use Rattle.flush_run.specs.Flights.{LeavesOldOrNew}
-use Rattle.flush_run.specs.Parts.{Parts, parts_of}
+use Rattle.flush_run.specs.Parts.{Parts, parts_of, size_in}
 use Rattle.flush_run.specs.Settling.{FlushEnds}
 use Rattle.store_core.specs.declared.answers.Refusal.{Refusal}
 use Rattle.store_core.specs.declared.answers.Done.{Done}
 use Rattle.store_core.specs.declared.store.Store.TheInside.{Inside}
 use Rattle.store_core.specs.Connection.{IsOver, Kept, RestsOnTable, base_of, limits_of, state_of}
 use Rattle.store_core.specs.Flushed.{IsFlushed}
-use Rattle.store_core.specs.Flushes.{IsFlush, IsFlushImage, flush_boundary, map_after}
+use Rattle.store_core.specs.Flushes.{IsFlush, IsFlushImage, flush_boundary, map_after, names_after, size_after}
 use Rattle.store_core.specs.Flushing.{CanFly, HasFlown, IsBegun, Setting, bytes_of, flight_of, spots_after}
 use Rattle.store_core.specs.Inside.{IsWhole, kept_of}
 use Rattle.store_core.specs.Quiet.{asked_after, charges_of}
@@ -88,17 +93,57 @@ sized_after m spots c place sized = by c.object
     by (Some object) = sized_put m spots c.name object (record { place = place; size = length object }) refl sized
 
 items_total : {classes : ℕ} {x0 : Parts} {c : Change} {g : Setting} {x : Parts} {p : Phase} {place : ℕ}
-    {bytes : List ℕ} {a : disk.State} → CanFly classes x0 c g x p place bytes a → (q : ℕ)
-    → p.numbers.boundary ≤ q → class_total p.items q ≡ slice_index (volumes (changed c g.map)) q
-items_total {classes} {x0} {c} {g} {x} {p} {place} can q high =
+    {bytes : List ℕ} {a : disk.State} → CanFly classes x0 c g x p place bytes a → (m : Map)
+    → IsSizedBy m x0.table.now → (q : ℕ) → p.numbers.boundary ≤ q
+    → class_total p.items q ≡ slice_index (volumes (changed c m)) q
+items_total {classes} {x0} {c} {g} {x} {p} {place} can m sized q high =
     let f = flight_of classes x0 c p.numbers.reach g in
     let h = (can.begun.lifts g can.sized).hands in
     let live = volumes_of_sizes (sizes (records_of x.table.now)) in
     sym (new_cap f x.in_use x.table x.caps x.grid x.spans p h q high)
     ∙ caps-settled_above p.numbers.boundary q x.caps live h.caps_full.full (omega (arith, h.boundary, h.few)) high
-    ∙ ap (λ (xs : List ℕ). slice_index xs q) (sym (sized_volumes (changed c g.map) x.table.now
-    (subst (IsSizedBy (changed c g.map)) (sym can.begun.now) (sized_after g.map x0.table.now c place can.sized))
+    ∙ ap (λ (xs : List ℕ). slice_index xs q) (sym (sized_volumes (changed c m) x.table.now
+    (subst (IsSizedBy (changed c m)) (sym can.begun.now) (sized_after m x0.table.now c place sized))
     can.begun.table.now_named))
+
+-- ---- the names after a change, and the sizes of their objects
+
+module _ (s : Kept) (c : Change) (place : ℕ) where
+  len_after : fin.len (spots_after c s.now place) ≡ names_after s c
+  len_after = by c.object
+    where
+      by : (o : Option (List ℕ)) → fin.len (spots_after (record { name = c.name; object = o }) s.now place)
+          ≡ names_after s (record { name = c.name; object = o })
+      by None = refl
+      by (Some object) =
+          let r = fin.remove s.now c.name in
+          let spot : Spot = record { place = place; size = length object } in
+          ap (λ (m : Spots). fin.len m) (sym (insert-remove s.now c.name spot))
+          ∙ fin.len-insert name_order r c.name spot
+          ∙ cond-false (fin.contains_key r c.name) (fin.len r) (fin.len r + 1)
+          (ap is_some (get-remove_here s.now c.name))
+
+  sizes_after : (q : List ℕ) → size_in (spots_after c s.now place) q ≡ size_after s c q
+  sizes_after q = by c.object
+    where
+      cut : (b : Bool) (o : Option Spot) → option_map (λ (x : Spot). x.size) (cond b None o)
+          ≡ cond b None (option_map (λ (x : Spot). x.size) o)
+      cut true o = refl
+      cut false o = refl
+
+      set : (b : Bool) (x : Spot) (o : Option Spot) → option_map (λ (x : Spot). x.size) (cond b (Some x) o)
+          ≡ cond b (Some x.size) (option_map (λ (x : Spot). x.size) o)
+      set true x o = refl
+      set false x o = refl
+
+      by : (o : Option (List ℕ)) → size_in (spots_after (record { name = c.name; object = o }) s.now place) q
+          ≡ size_after s (record { name = c.name; object = o }) q
+      by None = ap (option_map (λ (x : Spot). x.size)) (fin.get-remove name_order s.now c.name q)
+          ∙ cut (same_name q c.name) (fin.get s.now q)
+      by (Some object) =
+          let spot : Spot = record { place = place; size = length object } in
+          ap (option_map (λ (x : Spot). x.size)) (fin.get-insert name_order s.now c.name spot q)
+          ∙ set (same_name q c.name) spot (fin.get s.now q)
 
 module _ {C : ℕ} (s : Inside C) (c : Change) (hands1 : Hands C) (p : Phase) (place : ℕ) (bytes : List ℕ)
     (hands2 : Hands C) (a d : disk.State) (w : IsFlown s c hands1 p place bytes hands2 a d) where
@@ -134,20 +179,23 @@ module _ {C : ℕ} (s : Inside C) (c : Change) (hands1 : Hands C) (p : Phase) (p
   same_moved : cells_of hands1.ledger.moved ≡ cells_of s.hands.ledger.moved
   same_moved = ap (λ (y : Parts). y.moved) w.begun.rest
 
-  names_are : hands1.table.names ≡ s.hands.slots.block.names
-  names_are = w.begun.names ∙ w.whole.room
+  names_are : fin.len hands1.table.now ≡ names_after ks c
+  names_are = ap (λ (m : Spots). fin.len m) w.begun.now ∙ len_after ks c place
+
+  sizes_are : (q : List ℕ) → size_in hands2.table.now q ≡ size_after ks c q
+  sizes_are q = w.made.sizes q ∙ ap (λ (m : Spots). size_in m q) w.begun.now ∙ sizes_after ks c place q
 
   asked_is : cells_of hands2.ledger.asked ≡ asked_after ks c
   asked_is = w.made.keeps.asked ∙ w.begun.asked
 
   most_is : CallsSoFar a.turn d.turn ks.moved (cells_of hands2.ledger.moved) 20
-      (hands2.slots.sequence - ks.in_use.sequence + 1) ks.in_use.block.names
+      (hands2.slots.sequence - ks.in_use.sequence + 1) (names_after ks c)
   most_is = subst (λ n. CallsSoFar a.turn d.turn ks.moved (cells_of hands2.ledger.moved) 20
       (hands2.slots.sequence - ks.in_use.sequence + 1) n) names_are
       (subst (λ q. CallsSoFar a.turn d.turn ks.moved (cells_of hands2.ledger.moved) 20
-      (hands2.slots.sequence - q + 1) hands1.table.names) same_sequence
+      (hands2.slots.sequence - q + 1) (fin.len hands1.table.now)) same_sequence
       (subst (λ r. CallsSoFar a.turn d.turn r (cells_of hands2.ledger.moved) 20
-      (hands2.slots.sequence - hands1.slots.sequence + 1) hands1.table.names) same_moved w.made.most))
+      (hands2.slots.sequence - hands1.slots.sequence + 1) (fin.len hands1.table.now)) same_moved w.made.most))
 
   content_is : IsTrue a.tells → IsFlushImage C ks c a.file d.file
   content_is told = flush_content s w.whole w.unbroken c (parts_of hands1) p place bytes w.begun w.name w.object
@@ -170,21 +218,28 @@ module _ {C : ℕ} (s : Inside C) (c : Change) (hands1 : Hands C) (p : Phase) (p
     ap (λ y. boundary_of y.grid (trigger y)) (same_charges ks c),
   )) ∙ ap (λ (xs : List ℕ). slice_index xs q) same_moved
 
-  few_is : IsTrue a.tells → (q : ℕ) → slice_index (cells_of hands2.ledger.moved) q
-      ≤ slice_index ks.moved q + 2 * slice_index (volumes (map_after ks c a.file)) q
-  few_is told q = elim (cases_lt q p.numbers.boundary) as (λ _. slice_index (cells_of hands2.ledger.moved) q
-      ≤ slice_index ks.moved q + 2 * slice_index (volumes (map_after ks c a.file)) q) [
+  few_by_size_is : (m : Map) → IsSizedBy m ks.now → (q : ℕ) → slice_index (cells_of hands2.ledger.moved) q
+      ≤ slice_index ks.moved q + 2 * slice_index (volumes (changed c m)) q
+  few_by_size_is m sized q = elim (cases_lt q p.numbers.boundary)
+      as (λ _. slice_index (cells_of hands2.ledger.moved) q
+      ≤ slice_index ks.moved q + 2 * slice_index (volumes (changed c m)) q) [
         | inl low ↦ omega (arith, w.made.lower q low, ap (λ (xs : List ℕ). slice_index xs q) same_moved)
         | inr high ↦
-            let can = can_fly s w.whole w.unbroken c (parts_of hands1) p place bytes w.begun w.name w.object w.fresh a
-            (w.over told) false (λ t. absurd (let e : false ≡ true = t in cc)) in
+            let any = some_flight s w.whole w.unbroken c (parts_of hands1) p place bytes w.begun w.name
+            w.object w.fresh a w.over in
             omega (
               arith,
               w.made.few q,
               ap (λ (xs : List ℕ). slice_index xs q) same_moved,
-              items_total can q (omega (arith, high)),
+              items_total any.1 m sized q (omega (arith, high)),
             )
       ]
+
+  few_is : IsTrue a.tells → (q : ℕ) → slice_index (cells_of hands2.ledger.moved) q
+      ≤ slice_index ks.moved q + 2 * slice_index (volumes (map_after ks c a.file)) q
+  few_is told = few_by_size_is (now_map ks a.file)
+      (can_fly s w.whole w.unbroken c (parts_of hands1) p place bytes w.begun w.name w.object w.fresh a
+      (w.over told) false (λ t. absurd (let e : false ≡ true = t in cc))).sized
 
   -- ---- where the disk failed
 
@@ -225,6 +280,7 @@ module _ {C : ℕ} (s : Inside C) (c : Change) (hands1 : Hands C) (p : Phase) (p
       most = most_is;
       lower = lower_is;
       few = few_is;
+      few_by_size = few_by_size_is;
       frame = w.made.keeps.disk;
       cause = record { later = cause.later; rose = cause.rose; calm = tt };
     }
@@ -302,12 +358,14 @@ module _ {C : ℕ} (s : Inside C) (c : Change) (hands1 : Hands C) (p : Phase) (p
           (omega (arith, high, same_sequence, ap (λ (y : Parts). y.in_use.block.k) w.begun.rest))
 
     pub done_flush : (done : Done) (x : Vec Item) → CallsSoFar a.turn d.turn (cells_of hands1.ledger.moved)
-        (cells_of hands2.ledger.moved) 4 (hands2.slots.sequence - hands1.slots.sequence) hands1.table.names
+        (cells_of hands2.ledger.moved) 4 (hands2.slots.sequence - hands1.slots.sequence)
+        (fin.len hands1.table.now)
         → {E : Type 0} → HasCause {E = E} a.faults d.faults (Ok x)
         → IsFlush C c ks (kept_of done_inside) a d (Ok done)
     done_flush done x calls cause = record {
       value = record {
         same_block = same_block;
+        sizes = sizes_are;
         kept = any_ends.kept;
         kept_book = ap (λ m. shown_book C SIZE_MAX hands2.slots.block.k (caps_of hands2.layout)
             (grid_of hands2.layout) m) any_ends.kept;
@@ -326,12 +384,13 @@ module _ {C : ℕ} (s : Inside C) (c : Change) (hands1 : Hands C) (p : Phase) (p
       calls = subst (λ n. CallsSoFar a.turn d.turn ks.moved (cells_of hands2.ledger.moved) 4
           (hands2.slots.sequence - ks.in_use.sequence) n) names_are
           (subst (λ q. CallsSoFar a.turn d.turn ks.moved (cells_of hands2.ledger.moved) 4
-          (hands2.slots.sequence - q) hands1.table.names) same_sequence
+          (hands2.slots.sequence - q) (fin.len hands1.table.now)) same_sequence
           (subst (λ r. CallsSoFar a.turn d.turn r (cells_of hands2.ledger.moved) 4
-          (hands2.slots.sequence - hands1.slots.sequence) hands1.table.names) same_moved calls));
+          (hands2.slots.sequence - hands1.slots.sequence) (fin.len hands1.table.now)) same_moved calls));
       most = most_is;
       lower = lower_is;
       few = few_is;
+      few_by_size = few_by_size_is;
       frame = w.made.keeps.disk;
       cause = record { later = cause.later; rose = tt; calm = cause.calm };
     }
@@ -365,7 +424,8 @@ module _ {C : ℕ} (s : Inside C) (c : Change) (hands1 : Hands C) (p : Phase) (p
     after = kept_of (record s { hands = hands2; kept_layout = hands2.layout; items = list })
 
     pub done_seen : {E : Type 0} (done : Done) → CallsSoFar a.turn d.turn (cells_of hands1.ledger.moved)
-        (cells_of hands2.ledger.moved) 4 (hands2.slots.sequence - hands1.slots.sequence) hands1.table.names
+        (cells_of hands2.ledger.moved) 4 (hands2.slots.sequence - hands1.slots.sequence)
+        (fin.len hands1.table.now)
         → HasCause {E = E} a.faults d.faults (Ok list) → IsFlush C c t after a d (Ok done)
     done_seen done calls cause = subst (λ (x : Kept). IsFlush C c x after a d (Ok done)) is
         (done_flush s c hands1 p place bytes hands2 a d w ends low high list done list calls cause)

@@ -284,14 +284,16 @@ flown_then {b} {items} {first} {mid} {now} {x} {x2} kept faults few r = record {
     buffer = r.keeps.buffer;
     base = r.keeps.base;
   };
+  sizes = r.sizes;
   later = r.later;
   lower = r.lower;
   few = r.few;
   most = calls_wider first.turn now.turn now.turn x.moved x2.moved (2 + 18) 20
-      (0 + (x2.in_use.sequence - x.in_use.sequence + 1)) (x2.in_use.sequence - x.in_use.sequence + 1) x.table.names
+      (0 + (x2.in_use.sequence - x.in_use.sequence + 1)) (x2.in_use.sequence - x.in_use.sequence + 1)
+      (fin.len x.table.now)
       (calls_then first.turn mid.turn now.turn x.moved x.moved x2.moved 2 18 0
-      (x2.in_use.sequence - x.in_use.sequence + 1) x.table.names
-      (calls_wider first.turn first.turn mid.turn x.moved x.moved 0 2 0 0 x.table.names
-      (calls_none first.turn x.moved x.table.names) (omega arith) (omega (arith, few))) r.most) (omega arith)
-      (omega arith);
+      (x2.in_use.sequence - x.in_use.sequence + 1) (fin.len x.table.now)
+      (calls_wider first.turn first.turn mid.turn x.moved x.moved 0 2 0 0 (fin.len x.table.now)
+      (calls_none first.turn x.moved (fin.len x.table.now)) (omega arith) (omega (arith, few))) r.most)
+      (omega arith) (omega arith);
 }

@@ -1,5 +1,6 @@
 -- What a put or a removal does that isn't quiet: it is made with a flush, which saves a checkpoint of it.
-use Rattle.std.specs.Prelude.{◌≡◌, ◌⊎◌, ℕ, ◌+◌, ◌-◌, ◌*◌, ◌<◌, ◌≤◌, true, false, List, length, slice_index, None, Result, IfSome, IsTrue, OnOk}
+use Rattle.std.specs.Prelude.{◌≡◌, ◌⊎◌, ℕ, ◌+◌, ◌-◌, ◌*◌, ◌<◌, ◌≤◌, true, false, cond, List, length, slice_index, Option, Some, None, option_map, Result, IfSome, IsTrue, OnOk}
+use Rattle.std.specs.FinMap as fin
 use Rattle.disk_face.specs.States as disk
 use Rattle.disk_face.specs.Counts.{HasCause}
 use Rattle.disk_face.specs.Moments.{Leaves, Rests}
@@ -8,11 +9,14 @@ use Rattle.size_class.specs.declared.TheConstants.{SIZE_MAX}
 use Rattle.store_terms.specs.Maps.{Map}
 use Rattle.store_terms.specs.Requests as ask
 use Rattle.store_terms.specs.Requests.{Change, changed}
+use Rattle.store_terms.specs.Weights.{same_name}
 use Rattle.segment_layout.specs.Books.{Book, is_quiet, next_book, trigger, volumes}
 use Rattle.segment_layout.specs.Bounds.{Loose}
 use Rattle.segment_layout.specs.Shapes.{boundary_of}
 use Rattle.table_rules.specs.Opening.{Opens}
 use Rattle.flush_run.specs.Calls.{CallsSoFar}
+use Rattle.flush_run.specs.Parts.{size_in}
+use Rattle.flush_start.specs.Sized.{IsSizedBy}
 use Rattle.store_core.specs.declared.answers.Refusal.{Refusal}
 use Rattle.store_core.specs.declared.answers.Done.{Done}
 use Rattle.store_core.specs.Answers.{AnswersChange, done_reply, is_disk_fault, reply_of}
@@ -29,6 +33,18 @@ map_after s c file = changed c (now_map s file)
 abbrev pub book_after : Kept → Change → List ℕ → Book
 book_after s c file = (next_book s.in_use.block.k (now_map s file) s.book c).book
 
+-- how many names there are once a store is changed: the others, and the change's own where it has an object
+abbrev pub names_after : Kept → Change → ℕ
+names_after s c = of c.object
+  where
+    of : Option (List ℕ) → ℕ
+    of None = fin.len (fin.remove s.now c.name)
+    of (Some object) = fin.len (fin.remove s.now c.name) + 1
+
+-- the size of a name's object once a store is changed, where it has one
+abbrev pub size_after : Kept → Change → List ℕ → Option ℕ
+size_after s c name = cond (same_name name c.name) (option_map length c.object) (size_in s.now name)
+
 -- the class from which on the flush of a change lays the layout out anew
 abbrev pub flush_boundary : Kept → Change → ℕ
 flush_boundary s c = boundary_of (charges_of s c).grid (trigger (charges_of s c))
@@ -40,10 +56,11 @@ pub record IsFlushImage (classes : ℕ) (s : Kept) (c : Change) (file image : Li
       ⊎ Opens classes SIZE_MAX image (map_after s c file) (book_after s c file)
   pub loose : Loose s.in_use.block.k (length image - base_of s) (now_map s file) (map_after s c file)
 
--- The store after a flush: what stands now is the checkpoint, the sequence rose by 1 to 2k, and the bytes of the
--- change were asked for.
+-- The store after a flush: each name has an object of the size that the change leaves it, what stands now is
+-- the checkpoint, the sequence rose by 1 to 2k, and the bytes of the change were asked for.
 pub record ChangesByFlush (c : Change) (old new : Kept) : Type 0 where
   pub same_block : new.in_use.block ≡ old.in_use.block
+  pub sizes : (name : List ℕ) → size_in new.now name ≡ size_after old c name
   pub kept : new.kept ≡ new.now
   pub kept_book : new.kept_book ≡ new.book
   pub asked : new.asked ≡ asked_after old c
@@ -53,8 +70,10 @@ pub record ChangesByFlush (c : Change) (old new : Kept) : Type 0 where
 -- What a change does that isn't quiet, whether the disk fails or not. The content opens to the last checkpoint
 -- or to what stands after the change, and so does all that a crash may leave meanwhile, where the disk rested on
 -- its table. Once it is done, the new content is all that a crash may leave. The calls are at most 4, those of
--- the bytes moved, and those of the saves; where the disk failed 16 more, and those of one save. No byte of a
--- class below the boundary is moved, and of each other class at most twice the bytes of the map after.
+-- the bytes moved, and those of the saves, each of as many records as there are names after the change; where
+-- the disk failed 16 more, and those of one save. No byte of a class below the boundary is moved, and of each
+-- other class at most twice the bytes of the map after; on a disk that tells nothing, of any map changed so whose
+-- objects had the sizes of what stood.
 pub record IsFlush (classes : ℕ) (c : Change) (old new : Kept) (before now : disk.State) (result : Result Done Refusal)
     : Type 0 where
   pub value : OnOk result (ChangesByFlush c old new)
@@ -66,12 +85,14 @@ pub record IsFlush (classes : ℕ) (c : Change) (old new : Kept) (before now : d
   pub rests : IsTrue before.tells → OnOk result (Rests now)
   pub on_table : IsTrue before.tells → OnOk result (RestsOnTable (base_of new) new.kept now)
   pub calls : OnOk result (CallsSoFar before.turn now.turn old.moved new.moved 4
-      (new.in_use.sequence - old.in_use.sequence) old.in_use.block.names)
+      (new.in_use.sequence - old.in_use.sequence) (names_after old c))
   pub most : CallsSoFar before.turn now.turn old.moved new.moved 20
-      (new.in_use.sequence - old.in_use.sequence + 1) old.in_use.block.names
+      (new.in_use.sequence - old.in_use.sequence + 1) (names_after old c)
   pub lower : (d : ℕ) → d < flush_boundary old c → slice_index new.moved d ≡ slice_index old.moved d
   pub few : IsTrue before.tells → (d : ℕ) → slice_index new.moved d
       ≤ slice_index old.moved d + 2 * slice_index (volumes (map_after old c before.file)) d
+  pub few_by_size : (m : Map) → IsSizedBy m old.now → (d : ℕ) → slice_index new.moved d
+      ≤ slice_index old.moved d + 2 * slice_index (volumes (changed c m)) d
   pub frame : KeepsDisk before now
   pub cause : HasCause before.faults now.faults result
 

@@ -1,6 +1,7 @@
 //! The device calls of a change that isn't quiet: the file grows, the new object is written, and the
 //! flush is made.
 ghost use Rattle.std.specs.Prelude.{◌≡◌, ◌+◌, ◌-◌, ◌*◌, ◌<◌, ◌≤◌, ◌^◌, ℕ, [], false, IfOk, IsTrue, None, OnOk, vec_capacity, vec_len};
+ghost use Rattle.std.specs.FinMap as fin;
 ghost use Rattle.disk_face.specs.Counts.{HasCause};
 ghost use Rattle.size_class.specs.Rows.{cells_of};
 ghost use Rattle.segment_layout.specs.Books.{is_quiet};
@@ -91,7 +92,7 @@ pub(crate) fn fly<D: Disk, const C: usize>(
         × (hands.new.slots.sequence ≤ hands.old.slots.sequence + 2 * hands.old.slots.block.k)) }
     ensures calls { OnOk result (CallsSoFar (D.state disk.old).turn (D.state disk.new).turn
         (cells_of hands.old.ledger.moved) (cells_of hands.new.ledger.moved) 4
-        (hands.new.slots.sequence - hands.old.slots.sequence) hands.old.table.names) }
+        (hands.new.slots.sequence - hands.old.slots.sequence) (fin.len hands.old.table.now)) }
     ensures made { HasFlown begun.entry.phase.numbers.boundary begun.entry.phase.items (D.state disk.old)
         (D.state disk.new) (parts_of hands.old) (parts_of hands.new) }
     ensures empty { IfOk result (λ list. list.items ≡ []) }

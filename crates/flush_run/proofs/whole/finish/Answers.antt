@@ -102,8 +102,7 @@ returns-in_err-settle-clause-made g c =
     let l = c.into_laying-lays.ensures in
     let s = c.settle.ensures in
     finished_all p.made p.lifted l.items l.same c.lay_all.ensures.made c.in_ok-pack_all.ensures.calls
-    c.in_ok-lay_all.ensures.calls s.keeps s.later s.moved s.spots
-    (omega (arith, s.calls.most))
+    c.in_ok-lay_all.ensures.calls s.keeps s.later s.moved s.spots (omega (arith, s.calls.most))
 
 pub returns-clause-made : goal.returns-clause-made
 returns-clause-made g c =
@@ -111,8 +110,7 @@ returns-clause-made g c =
     let l = c.into_laying-lays.ensures in
     let s = c.settle.ensures in
     finished_all p.made p.lifted l.items l.same c.lay_all.ensures.made c.in_ok-pack_all.ensures.calls
-    c.in_ok-lay_all.ensures.calls s.keeps s.later s.moved s.spots
-    (omega (arith, s.calls.most))
+    c.in_ok-lay_all.ensures.calls s.keeps s.later s.moved s.spots (omega (arith, s.calls.most))
 
 pub returns-clause-calls : goal.returns-clause-calls
 returns-clause-calls g c =
@@ -120,8 +118,7 @@ returns-clause-calls g c =
     let l = c.into_laying-lays.ensures in
     let s = c.settle.ensures in
     finished_calls p.made p.lifted l.items l.same c.lay_all.ensures.made c.in_ok-pack_all.ensures.calls
-    c.in_ok-lay_all.ensures.calls s.keeps s.later s.moved s.spots
-    (omega (arith, s.calls.most))
+    c.in_ok-lay_all.ensures.calls s.keeps s.later s.moved s.spots (omega (arith, s.calls.most))
     (ap (λ (u : choice.InUse). u.sequence) c.in_ok-settle.ensures.pair)
 
 pub returns-clause-ends : goal.returns-clause-ends
