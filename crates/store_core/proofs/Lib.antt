@@ -26,3 +26,6 @@ pub mod FlyLaws
 pub mod FlushLaws
 pub mod FlushDoneLaws
 pub mod ServeLaws
+pub mod OpeningLaws
+pub mod StillLaws
+pub mod CutLaws

@@ -13,3 +13,4 @@ pub mod Reads
 pub mod Lines
 pub mod Flushing
 pub mod Flushes
+pub mod Opened

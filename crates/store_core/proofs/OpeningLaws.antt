@@ -1,0 +1,166 @@
+-- What opening finds in a file, and that each image that is alike on its table opens to the same.
+use Rattle.std.specs.Prelude.{◌≡◌, ℕ, ◌+◌, ◌-◌, ◌<◌, ◌≤◌, List, length, slice_index_or, Ok, Err, IfOk, IsTrue, Result, refl}
+use Rattle.std.proofs.Common.{arith, ap, sym, ◌∙◌, subst}
+use Rattle.std.specs.FinMap as fin
+use Rattle.byte_ranges.specs.Ranges.{SameBelow, SameWithin}
+use Rattle.disk_face.specs.States as disk
+use Rattle.disk_face.specs.Frames.{Unchanged}
+use Rattle.disk_face.specs.Moments.{Leaves}
+use Rattle.disk_face.proofs.MomentLaws.{Leaves-none, Leaves-trans, Leaves-weaken}
+use Rattle.size_class.specs.declared.TheConstants.{SIZE_MAX}
+use Rattle.slot_codec.specs.Choice as choice
+use Rattle.slot_codec.specs.Spelling.{head_len}
+use Rattle.slot_codec.specs.declared.codec.Record.{Record}
+use Rattle.store_terms.specs.Maps.{Map}
+use Rattle.segment_layout.specs.Books.{Book}
+use Rattle.table_rules.specs.Objects.{HasRoomFor}
+use Rattle.table_rules.specs.Opening.{Opens, OpensBy, placed_table}
+use Rattle.table_rules.specs.Tables.{book_of, map_of, no_record}
+use Rattle.table_rules.proofs.OpeningLaws.{carries_on}
+use Rattle.extent_table.specs.declared.spot.Spot.{Spot}
+use Rattle.extent_table.specs.Extents.{Spots, record_of, records_of}
+use Rattle.spot_terms.specs.Reads.{AreNamed}
+use Rattle.spot_terms.proofs.OpenedLaws.{opens_long, record_within}
+use Rattle.spot_terms.proofs.ReadLaws.{record_at}
+use Rattle.reopen.specs.declared.fault.OpenFault.{OpenFault}
+use Rattle.reopen.specs.declared.fault.OpenFault.TheVariants as fault
+use Rattle.store_core.specs.Connection.{Kept, SameOnTable}
+use Rattle.store_core.specs.Opened.{HasOpenCalls, IsFoundImage, IsOpening, OpensFound, RestsOnFound, SameOnFound, found_base}
+use Rattle.store_core.proofs.CutLaws.{keeps_read}
+use Rattle.store_core.proofs.OverLaws.{by_index}
+
+-- ---- what is found is one
+
+pub record FoundSame (t u : choice.Table) (m n : Map) (b c : Book) : Type 0 where
+  pub same_table : t ≡ u
+  pub same_map : m ≡ n
+  pub same_book : b ≡ c
+
+one_table : (t u : choice.Table) → ◌≡◌ {A = Result choice.Table choice.SlotRefusal} (Ok t) (Ok u) → t ≡ u
+one_table t u is = cc
+
+pub found_one : (classes : ℕ) (t u : choice.Table) (file : List ℕ) (m n : Map) (b c : Book)
+    → OpensBy classes SIZE_MAX t file m b → OpensBy classes SIZE_MAX u file n c → FoundSame t u m n b c
+found_one classes t u file m n b c o p =
+    let same : t ≡ u = one_table t u (sym o.read ∙ p.read) in
+    record {
+      same_table = same;
+      same_map = o.same_map ∙ (λ i. map_of (head_len (same i).chosen.block.names) file (same i).records)
+          ∙ sym p.same_map;
+      same_book = o.same_book ∙ (λ i. book_of (placed_table classes SIZE_MAX file (same i))) ∙ sym p.same_book;
+    }
+
+-- ---- images that are alike on the table
+
+module _ (classes : ℕ) (t : choice.Table) (file : List ℕ) (m : Map) (b : Book)
+    (o : OpensBy classes SIZE_MAX t file m b) where
+  pub opens_alike : (image : List ℕ) → SameOnFound t file image → OpensBy classes SIZE_MAX t image m b
+  opens_alike image same = carries_on classes SIZE_MAX t file image m b o
+      (omega (arith, opens_long classes SIZE_MAX t file m b o, same.same_length)) same.below
+      (subst (λ (n : ℕ). HasRoomFor (placed_table classes SIZE_MAX file t) (n - found_base t))
+      (sym same.same_length) o.valid.0.within)
+      (by_index (found_base t) t.records file image same.same_length (λ i low.
+      (record_within classes SIZE_MAX t file m b o i low, same.objects i low)))
+
+  pub found_image : (image : List ℕ) → SameOnFound t file image
+      → IsFoundImage classes m b (length file) image
+  found_image image same = record {
+    opens = record { table = t; opens = opens_alike image same };
+    no_longer = omega (arith, same.same_length);
+  }
+
+  pub found_itself : IsFoundImage classes m b (length file) file
+  found_itself = record { opens = record { table = t; opens = o }; no_longer = omega arith }
+
+-- what is alike on a table is so on its spots
+pub found_spots : (t : choice.Table) (kept : Spots) (base : ℕ) (file image : List ℕ)
+    → t.records ≡ records_of kept → AreNamed kept → found_base t ≡ base → SameOnFound t file image
+    → SameOnTable base kept file image
+found_spots t kept base file image records named at same = record {
+  same_length = same.same_length;
+  below = subst (λ n. SameBelow n file image) at same.below;
+  objects = λ name x there.
+      let r = record_at kept named name x there in
+      let is : slice_index_or t.records r.0 no_record ≡ record_of (name, x) =
+      ap (λ (rs : List Record). slice_index_or rs r.0 no_record) records ∙ r.2 in
+      let low : r.0 < length t.records = omega (arith, r.1, ap (λ (rs : List Record). length rs) records) in
+      let here = same.objects r.0 low in
+      subst (λ n. SameWithin (n + x.place) (n + x.place + x.size) file image) at
+      (subst (λ (y : Record). SameWithin (found_base t + y.place) (found_base t + y.place + y.size) file image) is
+      here);
+}
+
+-- ---- a step that changed nothing
+
+module _ {classes : ℕ} {t : choice.Table} {m : Map} {b : Book} {before mid : disk.State}
+    (same : Unchanged before mid) (told : IsTrue before.tells)
+    (o : OpensBy classes SIZE_MAX t before.file m b) where
+  file_stays : mid.file ≡ before.file
+  file_stays = same.same_file told
+
+  pub left_same : RestsOnFound t before → Leaves before mid (IsFoundImage classes m b (length before.file))
+  left_same rests = Leaves-weaken (IsFoundImage classes m b (length before.file))
+      (λ image left. found_image classes t before.file m b o image (rests image left)) same.since
+
+  pub still_rests : RestsOnFound t before → RestsOnFound t mid
+  still_rests rests image left = subst (λ file. SameOnFound t file image) (sym file_stays)
+      (rests image (same.images image left))
+
+  -- opening stops before anything was changed
+  pub stops_unchanged : (fault : OpenFault) → OpensFound classes t m b before mid (Err fault)
+  stops_unchanged fault = record {
+    content = λ room. subst (IsFoundImage classes m b (length before.file)) (sym file_stays)
+        (found_itself classes t before.file m b o);
+    left = λ room rests. left_same rests;
+    rests = λ rests. tt;
+    calls = tt;
+  }
+
+  -- an opening goes on
+  pub opens_then : {now : disk.State} {result : Result Kept OpenFault}
+      → OpensFound classes t m b mid now result → OpensFound classes t m b before now result
+  opens_then {now} {result} next = record {
+    content = λ room. subst (λ n. IsFoundImage classes m b (length n) now.file) file_stays (next.content room);
+    left = λ room rests. Leaves-trans (left_same rests)
+        (subst (λ n. Leaves mid now (IsFoundImage classes m b (length n))) file_stays
+        (next.left room (still_rests rests)));
+    rests = λ rests. next.rests (still_rests rests);
+    calls = subst (λ n. IfOk result (HasOpenCalls t m b before.file n now.turn)) same.same_turn
+        (subst (λ n. IfOk result (HasOpenCalls t m b n mid.turn now.turn)) file_stays next.calls);
+  }
+
+-- ---- what was found, by other words
+
+pub found_by : {classes : ℕ} {t u : choice.Table} {m n : Map} {b c : Book} {before now : disk.State}
+    {result : Result Kept OpenFault} → FoundSame t u m n b c → OpensFound classes t m b before now result
+    → OpensFound classes u n c before now result
+found_by {classes} {t} {u} {m} {n} {b} {c} {before} {now} {result} same is =
+    subst (λ (x : Book). OpensFound classes u n x before now result) same.same_book
+    (subst (λ (x : Map). OpensFound classes u x b before now result) same.same_map
+    (subst (λ (x : choice.Table). OpensFound classes x m b before now result) same.same_table is))
+
+-- ---- nothing at all
+
+pub unchanged_itself : (a : disk.State) → IsTrue a.is_ready → Unchanged a a
+unchanged_itself a ready = record {
+  same_file = λ told. refl;
+  images = λ image left. left;
+  since = Leaves-none a a.may_leave;
+  same_turn = refl;
+  later = omega arith;
+  stays = record { ready = ready; told = refl; images_told = refl; same_mount = refl };
+}
+
+pub no_memory : (classes : ℕ) (a : disk.State) → IsTrue a.is_ready
+    → IsOpening classes a a (Err fault.NoMemory)
+no_memory classes a ready =
+    let same = unchanged_itself a ready in
+    record {
+      opened = λ told. tt;
+      over = λ told. tt;
+      fresh = tt;
+      found = λ told t m b o. stops_unchanged same told o fault.NoMemory;
+      unchanged = same;
+      frame = keeps_read same;
+      cause = record { later = omega arith; rose = λ is. absurd (cc); calm = λ other. refl };
+    }
