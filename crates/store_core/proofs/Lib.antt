@@ -28,4 +28,6 @@ pub mod FlushDoneLaws
 pub mod ServeLaws
 pub mod OpeningLaws
 pub mod StillLaws
-pub mod CutLaws
+pub mod MovingLaws
+pub mod GoingLaws
+pub mod ResumedLaws

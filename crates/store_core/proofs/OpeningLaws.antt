@@ -26,7 +26,6 @@ use Rattle.reopen.specs.declared.fault.OpenFault.{OpenFault}
 use Rattle.reopen.specs.declared.fault.OpenFault.TheVariants as fault
 use Rattle.store_core.specs.Connection.{Kept, SameOnTable}
 use Rattle.store_core.specs.Opened.{HasOpenCalls, IsFoundImage, IsOpening, OpensFound, RestsOnFound, SameOnFound, found_base}
-use Rattle.store_core.proofs.CutLaws.{keeps_read}
 use Rattle.store_core.proofs.OverLaws.{by_index}
 
 -- ---- what is found is one
@@ -161,6 +160,6 @@ no_memory classes a ready =
       fresh = tt;
       found = λ told t m b o. stops_unchanged same told o fault.NoMemory;
       unchanged = same;
-      frame = keeps_read same;
+      frame = record { no_turn_back = omega arith; stays = same.stays };
       cause = record { later = omega arith; rose = λ is. absurd (cc); calm = λ other. refl };
     }

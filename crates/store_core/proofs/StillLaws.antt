@@ -232,7 +232,7 @@ module _ {C : ℕ} (x : Loaded C) (loads : KeepsLoaded x) (still : x.header.kind
       cut_step : ResizedImage len file image
       cut_step = record {
         either = inr cut_len;
-        bytes = λ i low old new. ap (λ (xs : List ℕ). slice_index xs i) is ∙ resized-index file len i old low;
+        bytes = λ i low old new. ap (λ (xs : List ℕ). slice_index xs i) is ∙ resized-index file len i low old;
       }
 
       pub cut_opens : OpensBy C SIZE_MAX t image m b
@@ -322,11 +322,11 @@ module _ {C : ℕ} (x : Loaded C) (loads : KeepsLoaded x) (still : x.header.kind
         ]
 
       -- the disk failed
-      pub still_failed : {T E : Type 0} (fault : E)
+      failed : {T E : Type 0} (fault : E)
           → (IsTrue first.tells → len < length first.file → IsCut {T = T} len first last (Err fault))
           → HasCause {T = T} first.faults last.faults (Err fault)
           → IsOpening C first last (Err (fault_of.Slot slot.Disk))
-      still_failed fault cut cause = record {
+      failed fault cut cause = record {
         opened = λ told. tt;
         over = λ told. tt;
         fresh = tt;
@@ -422,10 +422,10 @@ module _ {C : ℕ} (x : Loaded C) (loads : KeepsLoaded x) (still : x.header.kind
           continues = subst (λ y. ContinuesFrom y x.header.sequence x.slots.sequence) (sym still) loads.sequence;
         }
 
-      pub still_done : {T E : Type 0} (y : T)
+      finished : {T E : Type 0} (y : T)
           → (IsTrue first.tells → len < length first.file → IsCut {E = E} len first last (Ok y))
           → HasCause {E = E} first.faults last.faults (Ok y) → IsOpening C first last (Ok s)
-      still_done y cut cause = record {
+      finished y cut cause = record {
         opened = λ told. done_opened y cut told;
         over = λ told. let e = ends y cut told in
             still_over last.file (done_map y cut told) (done_book y cut told) e.slot e.opens e.long;
@@ -436,3 +436,27 @@ module _ {C : ℕ} (x : Loaded C) (loads : KeepsLoaded x) (still : x.header.kind
         frame = frame;
         cause = record { later = cause.later; rose = λ is. absurd (cc); calm = λ other. cause.calm };
       }
+
+  -- ---- where the length to cut to is said in other words
+
+  module _ (at : ℕ) (is : at ≡ len) (first last : disk.State)
+      (from : IsTrue first.tells → IsLoadedFrom first.file x)
+      (short : IsTrue first.tells → length first.file ≤ at → Unchanged first last) (frame : KeepsDisk first last)
+    where
+      short_here : IsTrue first.tells → length first.file ≤ len → Unchanged first last
+      short_here = subst (λ n. IsTrue first.tells → length first.file ≤ n → Unchanged first last) is short
+
+      pub still_failed : {T E : Type 0} (fault : E)
+          → (IsTrue first.tells → at < length first.file → IsCut {T = T} at first last (Err fault))
+          → HasCause {T = T} first.faults last.faults (Err fault)
+          → IsOpening C first last (Err (fault_of.Slot slot.Disk))
+      still_failed {T} fault cut cause = failed first last from short_here frame fault
+          (subst (λ n. IsTrue first.tells → n < length first.file → IsCut {T = T} n first last (Err fault)) is cut)
+          cause
+
+      pub still_done : {T E : Type 0} (y : T)
+          → (IsTrue first.tells → at < length first.file → IsCut {E = E} at first last (Ok y))
+          → HasCause {E = E} first.faults last.faults (Ok y) → IsOpening C first last (Ok s)
+      still_done {T} {E} y cut cause = finished first last from short_here frame y
+          (subst (λ n. IsTrue first.tells → n < length first.file → IsCut {E = E} n first last (Ok y)) is cut)
+          cause

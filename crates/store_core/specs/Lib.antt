@@ -14,3 +14,4 @@ pub mod Lines
 pub mod Flushing
 pub mod Flushes
 pub mod Opened
+pub mod Resuming

@@ -44,14 +44,14 @@ pub record SameOnFound (t : choice.Table) (file image : List ℕ) : Type 0 where
 abbrev pub RestsOnFound : choice.Table → disk.State → Type 0
 RestsOnFound t d = (image : List ℕ) → d.may_leave image → SameOnFound t d.file image
 
--- The sequence of the table found leaves room for the saves of an opening, so that what they save opens. The
--- opening of a settled table makes none.
+-- A sequence leaves room for the saves of an opening, so that what they save opens. The opening of a settled
+-- table makes none.
+abbrev pub RoomOf : Kind → ℕ → Type 0
+RoomOf kind.Settled sequence = Unit {0}
+RoomOf kind.Moving sequence = sequence + 2 ^ 19 ≤ 2 ^ 62
+
 abbrev pub LeavesRoom : choice.Table → Type 0
-LeavesRoom t = by t.chosen.header.kind
-  where
-    by : Kind → Type 0
-    by kind.Settled = Unit {0}
-    by kind.Moving = t.chosen.header.sequence + 2 ^ 19 ≤ 2 ^ 62
+LeavesRoom t = RoomOf t.chosen.header.kind t.chosen.header.sequence
 
 -- ---- what is left
 
