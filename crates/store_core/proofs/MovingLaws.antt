@@ -41,7 +41,7 @@ use Rattle.spot_terms.proofs.QuietLaws.{IsGrid-wider}
 use Rattle.flush_plan.specs.declared.item.Item.{Item}
 use Rattle.flush_plan.specs.declared.item.Numbers.{Numbers}
 use Rattle.flush_plan.specs.Phases.{AreObjects, phase_of}
-use Rattle.flush_plan.specs.Plans.{AreBelow, AreSmall, ItemsCanResume}
+use Rattle.flush_plan.specs.Plans.{AreBelow, AreSmall, ItemsCanResume, laid_length}
 use Rattle.flush_plan.specs.Resumed.{numbers_again}
 use Rattle.flush_run.specs.Flights.{Flight}
 use Rattle.flush_run.specs.Hands.{IsHandsFor, suffix_items}
@@ -278,3 +278,47 @@ module _ {C : ℕ} (x : Loaded C) (loads : KeepsLoaded x) (moving : x.header.kin
         (phase_of divisor caps (numbers divisor) 0 items 0)
         (hands_again true true fin.empty (book_of t) divisor same items 0 (IsPermutation-refl items))
         valid_saved.1
+
+    -- ---- packing may go on with a list of the items
+
+    module _ (all : List Item) (is : all ≡ items) where
+      abbrev divisor : ℕ
+      divisor = divisor_of x.layout
+
+      abbrev given : Numbers
+      given = numbers_again divisor caps b wall slack all
+
+      pub objects_all : AreObjects b all
+      objects_all = subst (AreObjects b) (sym is) objects
+
+      pub can_all : ItemsCanResume divisor given all
+      can_all = subst (λ (xs : List Item). ItemsCanResume divisor (numbers_again divisor caps b wall slack xs) xs)
+          (sym is) (can_again divisor same_divisor)
+
+      pub below_all : AreBelow C all
+      below_all = subst (AreBelow C) (sym is) below
+
+      pub small_all : AreSmall given all
+      small_all = subst (λ (xs : List Item). AreSmall (numbers_again divisor caps b wall slack xs) xs) (sym is)
+          (all_small divisor)
+
+      -- what the numbers are to be
+      pub record CanPack (m : Numbers) : Type 0 where
+        pub boundary : m.boundary < C
+        pub are_objects : AreObjects m.boundary all
+        pub resumes : ItemsCanResume divisor m all
+        pub start : m.start ≡ start_of divisor caps m.boundary
+        pub end : m.end ≡ m.start + laid_length divisor all m.boundary width
+        pub reaches : m.wall ≤ m.reach
+        pub are_small : AreSmall m all
+
+      pub can_pack : (m : Numbers) → m ≡ given → CanPack m
+      can_pack m same = subst CanPack (sym same) (record {
+        boundary = front;
+        are_objects = objects_all;
+        resumes = can_all;
+        start = refl;
+        end = refl;
+        reaches = omega arith;
+        are_small = small_all;
+      })

@@ -1,31 +1,33 @@
 -- What opening finds in a file, and that each image that is alike on its table opens to the same.
-use Rattle.std.specs.Prelude.{◌≡◌, ℕ, ◌+◌, ◌-◌, ◌<◌, ◌≤◌, List, length, slice_index_or, Ok, Err, IfOk, IsTrue, Result, refl}
+use Rattle.std.specs.Prelude.{◌≡◌, ℕ, ◌+◌, ◌-◌, ◌<◌, ◌≤◌, List, length, slice_index_or, Ok, Err, IfOk, IfErr, IsTrue, Result, refl}
 use Rattle.std.proofs.Common.{arith, ap, sym, ◌∙◌, subst}
-use Rattle.std.specs.FinMap as fin
 use Rattle.byte_ranges.specs.Ranges.{SameBelow, SameWithin}
 use Rattle.disk_face.specs.States as disk
 use Rattle.disk_face.specs.Frames.{Unchanged}
 use Rattle.disk_face.specs.Moments.{Leaves}
+use Rattle.disk_face.proofs.FrameLaws.{Stays-trans, Unchanged-trans}
 use Rattle.disk_face.proofs.MomentLaws.{Leaves-none, Leaves-trans, Leaves-weaken}
 use Rattle.size_class.specs.declared.TheConstants.{SIZE_MAX}
 use Rattle.slot_codec.specs.Choice as choice
 use Rattle.slot_codec.specs.Spelling.{head_len}
 use Rattle.slot_codec.specs.declared.codec.Record.{Record}
+use Rattle.slot_pair.specs.Finding.{HasDiskCause}
+use Rattle.slot_pair.specs.declared.find.SlotFault.TheVariants as slot
 use Rattle.store_terms.specs.Maps.{Map}
 use Rattle.segment_layout.specs.Books.{Book}
 use Rattle.table_rules.specs.Objects.{HasRoomFor}
-use Rattle.table_rules.specs.Opening.{Opens, OpensBy, placed_table}
+use Rattle.table_rules.specs.Opening.{OpensBy, placed_table}
 use Rattle.table_rules.specs.Tables.{book_of, map_of, no_record}
 use Rattle.table_rules.proofs.OpeningLaws.{carries_on}
-use Rattle.extent_table.specs.declared.spot.Spot.{Spot}
 use Rattle.extent_table.specs.Extents.{Spots, record_of, records_of}
 use Rattle.spot_terms.specs.Reads.{AreNamed}
 use Rattle.spot_terms.proofs.OpenedLaws.{opens_long, record_within}
 use Rattle.spot_terms.proofs.ReadLaws.{record_at}
+use Rattle.reopen.specs.Refusals.{RefusesToOpen}
 use Rattle.reopen.specs.declared.fault.OpenFault.{OpenFault}
 use Rattle.reopen.specs.declared.fault.OpenFault.TheVariants as fault
 use Rattle.store_core.specs.Connection.{Kept, SameOnTable}
-use Rattle.store_core.specs.Opened.{HasOpenCalls, IsFoundImage, IsOpening, OpensFound, RestsOnFound, SameOnFound, found_base}
+use Rattle.store_core.specs.Opened.{HasOpenCalls, IsFoundImage, IsOpened, IsOpening, OpensFound, RefusesUnchanged, RestsOnFound, SameOnFound, found_base}
 use Rattle.store_core.proofs.OverLaws.{by_index}
 
 -- ---- what is found is one
@@ -158,8 +160,82 @@ no_memory classes a ready =
       opened = λ told. tt;
       over = λ told. tt;
       fresh = tt;
+      refused = λ told. tt;
       found = λ told t m b o. stops_unchanged same told o fault.NoMemory;
       unchanged = same;
       frame = record { no_turn_back = omega arith; stays = same.stays };
       cause = record { later = omega arith; rose = λ is. absurd (cc); calm = λ other. refl };
     }
+
+-- ---- opening after reading
+
+-- a refusal that changed nothing
+pub unchanged_refusal : (a d : disk.State) (why : OpenFault) → Unchanged a d → RefusesUnchanged a d why
+unchanged_refusal a d (fault.Slot slot.Disk) same = tt
+unchanged_refusal a d (fault.Slot slot.Short) same = same
+unchanged_refusal a d (fault.Slot slot.Unformatted) same = same
+unchanged_refusal a d (fault.Slot slot.NoGate) same = same
+unchanged_refusal a d (fault.Slot slot.SameSequence) same = same
+unchanged_refusal a d (fault.Slot (slot.Codec f at)) same = same
+unchanged_refusal a d (fault.Table broken) same = same
+unchanged_refusal a d fault.NoMemory same = same
+
+-- and one after a step that changed nothing
+later_refusal : (a m d : disk.State) (why : OpenFault) → Unchanged a m → RefusesUnchanged m d why
+    → RefusesUnchanged a d why
+later_refusal a m d (fault.Slot slot.Disk) same after = tt
+later_refusal a m d (fault.Slot slot.Short) same after = Unchanged-trans same after
+later_refusal a m d (fault.Slot slot.Unformatted) same after = Unchanged-trans same after
+later_refusal a m d (fault.Slot slot.NoGate) same after = Unchanged-trans same after
+later_refusal a m d (fault.Slot slot.SameSequence) same after = Unchanged-trans same after
+later_refusal a m d (fault.Slot (slot.Codec f at)) same after = Unchanged-trans same after
+later_refusal a m d (fault.Table broken) same after = Unchanged-trans same after
+later_refusal a m d fault.NoMemory same after = Unchanged-trans same after
+
+-- the file wasn't read to its end
+pub reading_stopped : {T : Type 0} (classes : ℕ) (a d : disk.State) (why : OpenFault) → Unchanged a d
+    → (IsTrue a.tells → RefusesToOpen classes a.file why)
+    → HasDiskCause {T = T} (fault.Slot slot.Disk) a.faults d.faults (Err why) → IsOpening classes a d (Err why)
+reading_stopped {T} classes a d why same refused cause = record {
+  opened = λ told. tt;
+  over = λ told. tt;
+  fresh = tt;
+  refused = refused;
+  found = λ told t m b o. stops_unchanged same told o why;
+  unchanged = unchanged_refusal a d why same;
+  frame = record { no_turn_back = omega (arith, same.same_turn); stays = same.stays };
+  cause = record {
+    later = cause.later;
+    rose = λ is. cause.rose (let e : why ≡ fault.Slot slot.Disk = (cc) in ap (λ (f : OpenFault). Err f) e);
+    calm = λ other. cause.calm (λ is. other
+        (let e : why ≡ fault.Slot slot.Disk = (cc) in ap (λ (f : OpenFault). Err f) e));
+  };
+}
+
+after_reading : (a m d : disk.State) → Unchanged a m → (result : Result Kept OpenFault)
+    → IfErr result (RefusesUnchanged m d) → IfErr result (RefusesUnchanged a d)
+after_reading a m d same (Ok s) is = tt
+after_reading a m d same (Err why) is = later_refusal a m d why same is
+
+-- it was, and its table is opened
+module _ {classes : ℕ} {a m d : disk.State} (same : Unchanged a m) (calm : m.faults ≡ a.faults) where
+  pub opening_then : (result : Result Kept OpenFault) → IsOpening classes m d result → IsOpening classes a d result
+  opening_then result next = record {
+    opened = λ told. subst (λ f. IfOk result (IsOpened classes f d.file)) (same.same_file told)
+        (next.opened (still_tells told));
+    over = λ told. next.over (still_tells told);
+    fresh = next.fresh;
+    refused = λ told. subst (λ f. IfErr result (RefusesToOpen classes f)) (same.same_file told)
+        (next.refused (still_tells told));
+    found = λ told t n b o. opens_then same told o (next.found (still_tells told) t n b
+        (subst (λ f. OpensBy classes SIZE_MAX t f n b) (sym (same.same_file told)) o));
+    unchanged = after_reading a m d same result next.unchanged;
+    frame = record {
+      no_turn_back = omega (arith, same.same_turn, next.frame.no_turn_back);
+      stays = Stays-trans same.stays next.frame.stays;
+    };
+    cause = subst (λ n. HasDiskCause (fault.Slot slot.Disk) n d.faults result) calm next.cause;
+  }
+    where
+      still_tells : IsTrue a.tells → IsTrue m.tells
+      still_tells told = same.stays.told ∙ told

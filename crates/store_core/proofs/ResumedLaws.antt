@@ -62,6 +62,7 @@ module _ {C : ℕ} (x : Loaded C) (loads : KeepsLoaded x) (moving : x.header.kin
     opened = λ told. tt;
     over = λ told. tt;
     fresh = tt;
+    refused = λ told. tt;
     found = λ told t m b o.
         found_by (found_one C (table_seen x) t first.file _ m _ b (from told).opens o) (record {
           content = content_again x loads moving few wide y starts p room packs first last left told (from told);
@@ -255,6 +256,7 @@ module _ {C : ℕ} (x : Loaded C) (loads : KeepsLoaded x) (moving : x.header.kin
       over = λ told. ended_over hands (f told) last (told_ends told) names_now block_now s is_flushed
           (base_now told) (still_told told);
       fresh = again_fresh;
+      refused = λ told. tt;
       found = λ told t m b o. found_by (found_one C (table_seen x) t first.file _ m _ b (from told).opens o)
           (again_found told calls);
       unchanged = tt;

@@ -330,6 +330,7 @@ module _ {C : ℕ} (x : Loaded C) (loads : KeepsLoaded x) (still : x.header.kind
         opened = λ told. tt;
         over = λ told. tt;
         fresh = tt;
+        refused = λ told. tt;
         found = λ told t m b o.
             found_by (found_one C (table_seen x) t first.file _ m _ b (from told).opens o) (record {
               content = λ room. still_content told cut;
@@ -430,6 +431,7 @@ module _ {C : ℕ} (x : Loaded C) (loads : KeepsLoaded x) (still : x.header.kind
         over = λ told. let e = ends y cut told in
             still_over last.file (done_map y cut told) (done_book y cut told) e.slot e.opens e.long;
         fresh = still_fresh;
+        refused = λ told. tt;
         found = λ told t m b o.
             found_by (found_one C (table_seen x) t first.file _ m _ b (from told).opens o) (done_found y cut told);
         unchanged = tt;

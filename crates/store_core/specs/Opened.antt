@@ -17,6 +17,7 @@ use Rattle.segment_layout.specs.Books.{Book, book_end, volumes}
 use Rattle.table_rules.specs.Opening.{Opens, OpensBy}
 use Rattle.table_rules.specs.Tables.{no_record}
 use Rattle.flush_run.specs.Calls.{CallsSoFar}
+use Rattle.reopen.specs.Refusals.{RefusesToOpen}
 use Rattle.reopen.specs.declared.fault.OpenFault.{OpenFault}
 use Rattle.reopen.specs.declared.fault.OpenFault.TheVariants as fault
 use Rattle.slot_pair.specs.Finding.{HasDiskCause}
@@ -130,11 +131,14 @@ abbrev pub RefusesUnchanged : disk.State → disk.State → OpenFault → Type 0
 RefusesUnchanged before now (fault.Slot slot.Disk) = Unit {0}
 RefusesUnchanged before now _ = Unchanged before now
 
--- What opening answers and what it does, together.
+-- What opening answers and what it does. At Ok the store is over the file, and has what was found there. A
+-- refusal is the first that applies, and changes nothing, unless the disk or memory failed; want of memory
+-- changes nothing either.
 pub record IsOpening (classes : ℕ) (before now : disk.State) (result : Result Kept OpenFault) : Type 0 where
   pub opened : IsTrue before.tells → IfOk result (IsOpened classes before.file now.file)
   pub over : IsTrue before.tells → IfOk result (λ s. IsOver classes s now.file)
   pub fresh : IfOk result (IsFresh classes)
+  pub refused : IsTrue before.tells → IfErr result (RefusesToOpen classes before.file)
   pub found : IsTrue before.tells → (t : choice.Table) (m : Map) (b : Book)
       → OpensBy classes SIZE_MAX t before.file m b → OpensFound classes t m b before now result
   pub unchanged : IfErr result (RefusesUnchanged before now)

@@ -111,7 +111,7 @@ pub fn store_of<const C: usize>(
 }
 
 /// A buffer to copy objects through.
-fn copy_buffer(alloc: Global) -> Result<Vec<u8>, NoMemory>
+pub(crate) fn copy_buffer(alloc: Global) -> Result<Vec<u8>, NoMemory>
     ensures { IfOk result (λ buf. vec_len buf ≡ 65536) }
 {
     match vec![in alloc; 0; COPIED] {
@@ -121,7 +121,7 @@ fn copy_buffer(alloc: Global) -> Result<Vec<u8>, NoMemory>
 }
 
 /// A list with room for an item of each name.
-fn item_list(alloc: Global, names: u64) -> Result<Vec<Item>, NoMemory>
+pub(crate) fn item_list(alloc: Global, names: u64) -> Result<Vec<Item>, NoMemory>
     ensures empty { IfOk result (λ items. vec_len items ≡ 0) }
     ensures room { IfOk result (λ items. names ≤ vec_capacity items) }
 {
