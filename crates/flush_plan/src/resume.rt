@@ -25,8 +25,8 @@ pub fn numbers_again<const C: usize>(
     requires resumes { ItemsCanResume (divisor_of layout.now)
         (again (divisor_of layout.now) (caps_of layout.now) b wall slack items.now.items) items.now.items }
     requires classes { AreBelow C items.now.items }
-    requires small { AreSmall (again (divisor_of layout.now) (caps_of layout.now) b wall slack items.now.items)
-        items.now.items }
+    requires small { AreSmall
+        (again (divisor_of layout.now) (caps_of layout.now) b wall slack items.now.items) items.now.items }
     ensures { result ≡ again (divisor_of layout.now) (caps_of layout.now) b wall slack items.now.items }
 {
     let start = layout.start(b);

@@ -259,8 +259,8 @@ module _ {C : ℕ} (s : Inside C) (c : Change) (hands1 : Hands C) (p : Phase) (p
     base_now = ap (λ (b : SuperBlock). head_len b.names) same_block ∙ sym w.whole.base
 
     pub done_store : IsStore C (kept_of done_inside)
-    done_store = ended_store hands2 (flight_of C x0 c p.numbers.reach any.0) d any_ends names_now block_now (kept_of done_inside)
-        view
+    done_store = ended_store hands2 (flight_of C x0 c p.numbers.reach any.0) d any_ends names_now block_now
+        (kept_of done_inside) view
 
     pub done_whole : list.items ≡ [] → vec_capacity list ≡ p.room → s.hands.slots.block.names ≤ p.room
         → IsWhole done_inside

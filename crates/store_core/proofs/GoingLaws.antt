@@ -151,8 +151,9 @@ module _ {C : ℕ} (x : Loaded C) (loads : KeepsLoaded x) (moving : x.header.kin
           base = refl;
           slot = from.in_use;
           same_length = omega (arith, begins_within, same_base);
-          within = (hands_again x loads moving few wide n from.opens.valid fresh rests m b (divisor_of x.layout)
-              (same_divisor x loads moving few wide) p.items room (IsPermutation-sym _ p.items packs.items)).lower;
+          within = (hands_again x loads moving few wide n from.opens.valid fresh rests m b
+              (divisor_of x.layout) (same_divisor x loads moving few wide) p.items room
+              (IsPermutation-sym _ p.items packs.items)).lower;
           live = ap (λ z. read_at z first.file now) same_base;
         };
         opens = λ is. record {
@@ -177,7 +178,8 @@ module _ {C : ℕ} (x : Loaded C) (loads : KeepsLoaded x) (moving : x.header.kin
       can_told = can_resume n from.opens.valid fresh rests m first (λ told. flies) leaves
 
       -- what is old or new is what was found
-      pub found_again : (image : List ℕ) → IsOldOrNew flight image → IsFoundImage C m b (length first.file) image
+      pub found_again : (image : List ℕ) → IsOldOrNew flight image
+          → IsFoundImage C m b (length first.file) image
       found_again image is = record {
         opens = elim is.either as (λ _. Opens C SIZE_MAX image m b) [
           | inl old ↦ subst (λ (z : Map). Opens C SIZE_MAX image z b) old.0
@@ -192,11 +194,17 @@ module _ {C : ℕ} (x : Loaded C) (loads : KeepsLoaded x) (moving : x.header.kin
   pub some_again : (first : disk.State) → (IsTrue first.tells → IsLoadedFrom first.file x)
       → (f : Flight) × CanResume C f y p first
   some_again first from = elim (cases_Bool first.tells) as (λ _. (f : Flight) × CanResume C f y p first) [
-    | inl told ↦ (_, can_told first (from told) false false (λ e. absurd (let z : false ≡ true = e in cc))
-        (λ e. absurd (let z : false ≡ true = e in cc)))
-    | inr none ↦ (_, can_resume loads.data_len loads.valid false false fin.empty first
-        (λ told. absurd (let z : false ≡ true = sym none ∙ told in cc))
-        (λ e. absurd (let z : false ≡ true = e in cc)))
+    | inl told ↦ (
+      _,
+      can_told first (from told) false false (λ e. absurd (let z : false ≡ true = e in cc))
+          (λ e. absurd (let z : false ≡ true = e in cc)),
+    )
+    | inr none ↦ (
+      _,
+      can_resume loads.data_len loads.valid false false fin.empty first
+          (λ told. absurd (let z : false ≡ true = sym none ∙ told in cc))
+          (λ e. absurd (let z : false ≡ true = e in cc)),
+    )
   ]
 
   -- ---- what it left
@@ -209,7 +217,8 @@ module _ {C : ℕ} (x : Loaded C) (loads : KeepsLoaded x) (moving : x.header.kin
     pub content_again : LeavesRoom (table_seen x)
         → IsFoundImage C (m first from) (b first from) (length first.file) last.file
     content_again leaves =
-        let given : IsTrue false → RestsOnFound (table_seen x) first = λ e. absurd (let z : false ≡ true = e in cc) in
+        let given : IsTrue false → RestsOnFound (table_seen x) first =
+        λ e. absurd (let z : false ≡ true = e in cc) in
         found_again first from true false given (λ _. room_is leaves) last.file
         (left _ (can_told first from true false given (λ _. room_is leaves)) told refl).1
 

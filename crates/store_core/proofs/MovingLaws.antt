@@ -96,7 +96,8 @@ module _ {C : ℕ} (x : Loaded C) (loads : KeepsLoaded x) (moving : x.header.kin
   wall_low =
       let last = and_parts (is_in_range wall && is_in_range slack && list_all is_in_range x.header.caps)
       (list_all (list_all is_in_range) x.header.used) loads.in_range in
-      let middle = and_parts (is_in_range wall && is_in_range slack) (list_all is_in_range x.header.caps) last.0 in
+      let middle = and_parts (is_in_range wall && is_in_range slack) (list_all is_in_range x.header.caps)
+      last.0 in
       let first = and_parts (is_in_range wall) (is_in_range slack) middle.0 in
       ltb-true wall (2 ^ 48) first.0
 
@@ -167,7 +168,8 @@ module _ {C : ℕ} (x : Loaded C) (loads : KeepsLoaded x) (moving : x.header.kin
         (subst (λ (y : Header). IsValid (laid C SIZE_MAX k n y now)) saved_is
         (subst (λ q. IsValid (laid C SIZE_MAX q n x.header now)) same_k v))
 
-    pub book_saved : book_of (laid C SIZE_MAX k n saved now) ≡ book_of (laid C SIZE_MAX x.block.k n x.header now)
+    pub book_saved : book_of (laid C SIZE_MAX k n saved now)
+        ≡ book_of (laid C SIZE_MAX x.block.k n x.header now)
     book_saved = λ i. book_of (laid C SIZE_MAX (sym same_k i) n (sym saved_is i) now)
 
     pub whole : is_boundary grid b ≡ true
@@ -209,13 +211,16 @@ module _ {C : ℕ} (x : Loaded C) (loads : KeepsLoaded x) (moving : x.header.kin
         )
 
     pub all_small : (divisor : ℕ) → AreSmall (numbers divisor) items
-    all_small divisor = (omega (arith, wall_low), λ it has.
-        let o = has_item b x.table it has in
-        omega (
-          arith,
-          (loads.is_table.now_in_range o.name o.spot o.stands).0,
-          ap (λ (y : Item). y.place) o.is,
-        ))
+    all_small divisor = (
+      omega (arith, wall_low),
+      λ it has.
+          let o = has_item b x.table it has in
+          omega (
+            arith,
+            (loads.is_table.now_in_range o.name o.spot o.stands).0,
+            ap (λ (y : Item). y.place) o.is,
+          ),
+    )
 
     -- ---- the hands
 
@@ -292,15 +297,15 @@ module _ {C : ℕ} (x : Loaded C) (loads : KeepsLoaded x) (moving : x.header.kin
       objects_all = subst (AreObjects b) (sym is) objects
 
       pub can_all : ItemsCanResume divisor given all
-      can_all = subst (λ (xs : List Item). ItemsCanResume divisor (numbers_again divisor caps b wall slack xs) xs)
-          (sym is) (can_again divisor same_divisor)
+      can_all = subst (λ (xs : List Item). ItemsCanResume divisor
+          (numbers_again divisor caps b wall slack xs) xs) (sym is) (can_again divisor same_divisor)
 
       pub below_all : AreBelow C all
       below_all = subst (AreBelow C) (sym is) below
 
       pub small_all : AreSmall given all
-      small_all = subst (λ (xs : List Item). AreSmall (numbers_again divisor caps b wall slack xs) xs) (sym is)
-          (all_small divisor)
+      small_all = subst (λ (xs : List Item). AreSmall (numbers_again divisor caps b wall slack xs) xs)
+          (sym is) (all_small divisor)
 
       -- what the numbers are to be
       pub record CanPack (m : Numbers) : Type 0 where

@@ -22,13 +22,14 @@ use Rattle.table_rules.proofs.OpeningLaws.{carries_on}
 use Rattle.extent_table.specs.Extents.{Spots, record_of, records_of}
 use Rattle.spot_terms.specs.Reads.{AreNamed}
 use Rattle.spot_terms.proofs.OpenedLaws.{opens_long, record_within}
-use Rattle.spot_terms.proofs.ReadLaws.{record_at}
+use Rattle.spot_terms.proofs.ReadLaws.{record_at, spot_of_record}
 use Rattle.reopen.specs.Refusals.{RefusesToOpen}
 use Rattle.reopen.specs.declared.fault.OpenFault.{OpenFault}
 use Rattle.reopen.specs.declared.fault.OpenFault.TheVariants as fault
-use Rattle.store_core.specs.Connection.{Kept, SameOnTable}
-use Rattle.store_core.specs.Opened.{HasOpenCalls, IsFoundImage, IsOpened, IsOpening, OpensFound, RefusesUnchanged, RestsOnFound, SameOnFound, found_base}
-use Rattle.store_core.proofs.OverLaws.{by_index}
+use Rattle.store_core.specs.Connection.{IsOver, Kept, SameOnTable, base_of, state_of}
+use Rattle.store_core.specs.Opened.{HasOpenCalls, IsFoundImage, IsOpened, IsOpening, OpensFound, RefusesUnchanged, RestsOnFound, SameOnFound, found_base, state_at}
+use Rattle.store_core.specs.Stores.{IsStore}
+use Rattle.store_core.proofs.OverLaws.{by_index, head_is}
 
 -- ---- what is found is one
 
@@ -48,7 +49,8 @@ found_one classes t u file m n b c o p =
       same_table = same;
       same_map = o.same_map ∙ (λ i. map_of (head_len (same i).chosen.block.names) file (same i).records)
           ∙ sym p.same_map;
-      same_book = o.same_book ∙ (λ i. book_of (placed_table classes SIZE_MAX file (same i))) ∙ sym p.same_book;
+      same_book = o.same_book ∙ (λ i. book_of (placed_table classes SIZE_MAX file (same i)))
+          ∙ sym p.same_book;
     }
 
 -- ---- images that are alike on the table
@@ -87,8 +89,8 @@ found_spots t kept base file image records named at same = record {
       let low : r.0 < length t.records = omega (arith, r.1, ap (λ (rs : List Record). length rs) records) in
       let here = same.objects r.0 low in
       subst (λ n. SameWithin (n + x.place) (n + x.place + x.size) file image) at
-      (subst (λ (y : Record). SameWithin (found_base t + y.place) (found_base t + y.place + y.size) file image) is
-      here);
+      (subst (λ (y : Record). SameWithin (found_base t + y.place) (found_base t + y.place + y.size) file
+      image) is here);
 }
 
 -- ---- a step that changed nothing
@@ -121,7 +123,8 @@ module _ {classes : ℕ} {t : choice.Table} {m : Map} {b : Book} {before mid : d
   pub opens_then : {now : disk.State} {result : Result Kept OpenFault}
       → OpensFound classes t m b mid now result → OpensFound classes t m b before now result
   opens_then {now} {result} next = record {
-    content = λ room. subst (λ n. IsFoundImage classes m b (length n) now.file) file_stays (next.content room);
+    content = λ room. subst (λ n. IsFoundImage classes m b (length n) now.file) file_stays
+        (next.content room);
     left = λ room rests. Leaves-trans (left_same rests)
         (subst (λ n. Leaves mid now (IsFoundImage classes m b (length n))) file_stays
         (next.left room (still_rests rests)));
@@ -195,7 +198,8 @@ later_refusal a m d fault.NoMemory same after = Unchanged-trans same after
 -- the file wasn't read to its end
 pub reading_stopped : {T : Type 0} (classes : ℕ) (a d : disk.State) (why : OpenFault) → Unchanged a d
     → (IsTrue a.tells → RefusesToOpen classes a.file why)
-    → HasDiskCause {T = T} (fault.Slot slot.Disk) a.faults d.faults (Err why) → IsOpening classes a d (Err why)
+    → HasDiskCause {T = T} (fault.Slot slot.Disk) a.faults d.faults (Err why)
+    → IsOpening classes a d (Err why)
 reading_stopped {T} classes a d why same refused cause = record {
   opened = λ told. tt;
   over = λ told. tt;
@@ -219,7 +223,8 @@ after_reading a m d same (Err why) is = later_refusal a m d why same is
 
 -- it was, and its table is opened
 module _ {classes : ℕ} {a m d : disk.State} (same : Unchanged a m) (calm : m.faults ≡ a.faults) where
-  pub opening_then : (result : Result Kept OpenFault) → IsOpening classes m d result → IsOpening classes a d result
+  pub opening_then : (result : Result Kept OpenFault) → IsOpening classes m d result
+      → IsOpening classes a d result
   opening_then result next = record {
     opened = λ told. subst (λ f. IfOk result (IsOpened classes f d.file)) (same.same_file told)
         (next.opened (still_tells told));
@@ -239,3 +244,44 @@ module _ {classes : ℕ} {a m d : disk.State} (same : Unchanged a m) (calm : m.f
     where
       still_tells : IsTrue a.tells → IsTrue m.tells
       still_tells told = same.stays.told ∙ told
+
+-- ---- opening again
+
+-- what an opening left opens to the same state
+pub opened_again : (classes : ℕ) (m : Map) (b : Book) (longest : ℕ) (image now : List ℕ) (s : Kept)
+    → IsFoundImage classes m b longest image → IsOpened classes image now s
+    → state_of s now ≡ state_at m b s.in_use.sequence
+opened_again classes m b longest image now s left opened =
+    let one = found_one classes opened.table left.opens.table image opened.m m opened.b b opened.found
+    left.opens.opens in
+    opened.state ∙ (λ i. state_at (one.same_map i) (one.same_book i) s.in_use.sequence)
+
+-- a content is alike on each table
+pub alike_itself : (t : choice.Table) (file : List ℕ) → SameOnFound t file file
+alike_itself t file = record {
+  same_length = refl;
+  below = λ i low. refl;
+  objects = λ i low j above below. refl;
+}
+
+-- what is alike on the table of a store's checkpoint is so on the table that is found
+pub alike_found : (classes : ℕ) (s : Kept) (file image : List ℕ) → IsStore classes s
+    → (over : IsOver classes s file) → SameOnTable (base_of s) s.kept file image
+    → SameOnFound over.table file image
+alike_found classes s file image h over same =
+    let at = head_is s h file over in
+    let records = over.checkpoint.records in
+    record {
+      same_length = same.same_length;
+      below = subst (λ n. SameBelow n file image) (sym at) same.below;
+      objects = λ i low.
+          let inside : i < length (records_of s.kept) =
+          omega (arith, low, ap (λ (rs : List Record). length rs) records) in
+          let r = spot_of_record s.kept h.kept.named i inside in
+          let name = (slice_index_or (records_of s.kept) i no_record).name in
+          let is = ap (λ (rs : List Record). slice_index_or rs i no_record) records in
+          let place = ap (λ (x : Record). x.place) is ∙ r.same_place in
+          let size = ap (λ (x : Record). x.size) is ∙ r.same_size in
+          λ j above under. same.objects name r.spot r.is j (omega (arith, above, at, place))
+          (omega (arith, under, at, place, size));
+    }

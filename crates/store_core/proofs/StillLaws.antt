@@ -103,8 +103,8 @@ module _ {C : ℕ} (x : Loaded C) (loads : KeepsLoaded x) (still : x.header.kind
     caps_full = row.full;
     grid_full = IsGrid-wider C grid few full;
     classes = few;
-  }) (subst (λ (y : Header). IsValid (laid C SIZE_MAX k loads.data_len y now)) header_is loads.valid).0.places few
-      (omega arith)
+  }) (subst (λ (y : Header). IsValid (laid C SIZE_MAX k loads.data_len y now)) header_is loads.valid).0.places
+      few (omega arith)
 
   pub still_laid : IsLaidOut C SIZE_MAX k caps grid now
   still_laid = laid_from_below C SIZE_MAX k caps grid now few wide row full loads.is_table.now_named
@@ -134,7 +134,8 @@ module _ {C : ℕ} (x : Loaded C) (loads : KeepsLoaded x) (still : x.header.kind
   book_ends : book_end s.in_use.block.k s.book ≡ end
   book_ends =
       let shown = book_shown C SIZE_MAX s.in_use.block.k caps grid now
-      (subst (λ (b : SuperBlock). IsLaidOut C SIZE_MAX b.k caps grid now) (sym loads.same_block) still_laid) in
+      (subst (λ (b : SuperBlock). IsLaidOut C SIZE_MAX b.k caps grid now) (sym loads.same_block)
+      still_laid) in
       ap (λ (b : Book). book_end s.in_use.block.k b) shown ∙ end_is
 
   -- where the layout ends in the header's words
@@ -213,8 +214,8 @@ module _ {C : ℕ} (x : Loaded C) (loads : KeepsLoaded x) (still : x.header.kind
     resized_image old image same step = record {
       opens = record {
         table = t;
-        opens = opens_resized C SIZE_MAX t old image m b len (opens_alike C t file m b from.opens old same) step
-            (omega arith) (room (length old - base));
+        opens = opens_resized C SIZE_MAX t old image m b len (opens_alike C t file m b from.opens old same)
+            step (omega arith) (room (length old - base));
       };
       no_longer = elim step.either as (λ _. length image ≤ length file) [
         | inl e ↦ omega (arith, e, same.same_length)
@@ -279,7 +280,8 @@ module _ {C : ℕ} (x : Loaded C) (loads : KeepsLoaded x) (still : x.header.kind
   -- ---- the disk
 
   module _ (first last : disk.State) (from : IsTrue first.tells → IsLoadedFrom first.file x)
-      (short : IsTrue first.tells → length first.file ≤ len → Unchanged first last) (frame : KeepsDisk first last)
+      (short : IsTrue first.tells → length first.file ≤ len → Unchanged first last)
+      (frame : KeepsDisk first last)
     where
       -- what a crash may leave meanwhile
       module _ {T E : Type 0} {result : Result T E} (told : IsTrue first.tells)
@@ -369,19 +371,21 @@ module _ {C : ℕ} (x : Loaded C) (loads : KeepsLoaded x) (still : x.header.kind
               let same = sym ((short told not).same_file told) in
               record {
                 slot = subst (λ f. choice.slot_in_use f ≡ Ok x.slots) same (from told).in_use;
-                opens = subst (λ f. OpensBy C SIZE_MAX (table_seen x) f done_map done_book) same (from told).opens;
+                opens = subst (λ f. OpensBy C SIZE_MAX (table_seen x) f done_map done_book) same
+                    (from told).opens;
                 long = omega (arith, ap length same, not, len_low first.file (from told));
               }
         ]
 
         done_rests : RestsOnFound (table_seen x) first → RestsOnTable (base_of s) now last
-        done_rests rests = elim (cases_lt len (length first.file)) as (λ _. RestsOnTable (base_of s) now last) [
-          | inl longer ↦ λ image left. subst (SameOnTable (base_of s) now last.file)
-              (sym ((cut told longer).only image left)) (same_itself (base_of s) now last.file)
-          | inr not ↦ λ image left. found_spots (table_seen x) now (base_of s) last.file image refl
-              loads.is_table.now_named (sym same_base)
-              (still_rests (short told not) told (from told).opens rests image left)
-        ]
+        done_rests rests = elim (cases_lt len (length first.file))
+            as (λ _. RestsOnTable (base_of s) now last) [
+              | inl longer ↦ λ image left. subst (SameOnTable (base_of s) now last.file)
+                  (sym ((cut told longer).only image left)) (same_itself (base_of s) now last.file)
+              | inr not ↦ λ image left. found_spots (table_seen x) now (base_of s) last.file image refl
+                  loads.is_table.now_named (sym same_base)
+                  (still_rests (short told not) told (from told).opens rests image left)
+            ]
 
         done_end : found_base (table_seen x) + book_end x.block.k done_book ≡ len
         done_end = omega (
@@ -395,7 +399,8 @@ module _ {C : ℕ} (x : Loaded C) (loads : KeepsLoaded x) (still : x.header.kind
             ≡ turn_after_cut (found_base (table_seen x) + book_end x.block.k done_book) first.file first.turn
         done_turn =
             let far = found_base (table_seen x) + book_end x.block.k done_book in
-            elim (cases_lt len (length first.file)) as (λ _. last.turn ≡ turn_after_cut far first.file first.turn) [
+            elim (cases_lt len (length first.file))
+            as (λ _. last.turn ≡ turn_after_cut far first.file first.turn) [
               | inl longer ↦ (cut told longer).all
                   ∙ sym (cond-true (nat_lt far (length first.file)) (counted first.turn 2) first.turn
                   (lt-ltb far (length first.file) (omega (arith, done_end, longer))))
@@ -409,8 +414,8 @@ module _ {C : ℕ} (x : Loaded C) (loads : KeepsLoaded x) (still : x.header.kind
           content = λ room. still_content told cut;
           left = λ room rests. still_left told cut rests;
           rests = done_rests;
-          calls = subst (λ y. OpenCallsOf y (table_seen x) done_map done_book first.file first.turn last.turn s)
-              (sym still) done_turn;
+          calls = subst (λ y. OpenCallsOf y (table_seen x) done_map done_book first.file first.turn last.turn
+              s) (sym still) done_turn;
         }
 
         done_opened : IsOpened C first.file last.file s
@@ -420,7 +425,8 @@ module _ {C : ℕ} (x : Loaded C) (loads : KeepsLoaded x) (still : x.header.kind
           b = done_book;
           found = (from told).opens;
           state = still_state last.file done_map done_book ends.slot ends.opens ends.long;
-          continues = subst (λ y. ContinuesFrom y x.header.sequence x.slots.sequence) (sym still) loads.sequence;
+          continues = subst (λ y. ContinuesFrom y x.header.sequence x.slots.sequence) (sym still)
+              loads.sequence;
         }
 
       finished : {T E : Type 0} (y : T)
@@ -433,7 +439,8 @@ module _ {C : ℕ} (x : Loaded C) (loads : KeepsLoaded x) (still : x.header.kind
         fresh = still_fresh;
         refused = λ told. tt;
         found = λ told t m b o.
-            found_by (found_one C (table_seen x) t first.file _ m _ b (from told).opens o) (done_found y cut told);
+            found_by (found_one C (table_seen x) t first.file _ m _ b (from told).opens o)
+            (done_found y cut told);
         unchanged = tt;
         frame = frame;
         cause = record { later = cause.later; rose = λ is. absurd (cc); calm = λ other. cause.calm };
@@ -443,7 +450,8 @@ module _ {C : ℕ} (x : Loaded C) (loads : KeepsLoaded x) (still : x.header.kind
 
   module _ (at : ℕ) (is : at ≡ len) (first last : disk.State)
       (from : IsTrue first.tells → IsLoadedFrom first.file x)
-      (short : IsTrue first.tells → length first.file ≤ at → Unchanged first last) (frame : KeepsDisk first last)
+      (short : IsTrue first.tells → length first.file ≤ at → Unchanged first last)
+      (frame : KeepsDisk first last)
     where
       short_here : IsTrue first.tells → length first.file ≤ len → Unchanged first last
       short_here = subst (λ n. IsTrue first.tells → length first.file ≤ n → Unchanged first last) is short
@@ -453,8 +461,8 @@ module _ {C : ℕ} (x : Loaded C) (loads : KeepsLoaded x) (still : x.header.kind
           → HasCause {T = T} first.faults last.faults (Err fault)
           → IsOpening C first last (Err (fault_of.Slot slot.Disk))
       still_failed {T} fault cut cause = failed first last from short_here frame fault
-          (subst (λ n. IsTrue first.tells → n < length first.file → IsCut {T = T} n first last (Err fault)) is cut)
-          cause
+          (subst (λ n. IsTrue first.tells → n < length first.file → IsCut {T = T} n first last (Err fault)) is
+          cut) cause
 
       pub still_done : {T E : Type 0} (y : T)
           → (IsTrue first.tells → at < length first.file → IsCut {E = E} at first last (Ok y))

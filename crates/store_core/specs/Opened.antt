@@ -38,8 +38,8 @@ pub record SameOnFound (t : choice.Table) (file image : List ℕ) : Type 0 where
   pub below : SameBelow (found_base t) file image
   pub objects : (i : ℕ) → i < length t.records
       → SameWithin (found_base t + (slice_index_or t.records i no_record).place)
-      (found_base t + (slice_index_or t.records i no_record).place + (slice_index_or t.records i no_record).size)
-      file image
+      (found_base t + (slice_index_or t.records i no_record).place
+      + (slice_index_or t.records i no_record).size) file image
 
 -- the disk rests on a table that its content has: each image that a crash may leave is so
 abbrev pub RestsOnFound : choice.Table → disk.State → Type 0
@@ -70,8 +70,8 @@ abbrev pub ContinuesFrom : Kind → ℕ → ℕ → Type 0
 ContinuesFrom kind.Settled found new = new ≡ found
 ContinuesFrom kind.Moving found new = (found + 1 ≤ new) × (new < found + 2 ^ 18)
 
--- The file opened by its table to a map and a book, which are those of the store over the file now, and of its
--- checkpoint. The sequence is the one found, or rose by less than 2^18 where the table was a moving one.
+-- The file opened by its table to a map and a book, which are those of the store over the file now, and of
+-- its checkpoint. The sequence is the one found, or rose by less than 2^18 where the table was a moving one.
 pub record IsOpened (classes : ℕ) (file now : List ℕ) (s : Kept) : Type 0 where
   pub table : choice.Table
   pub m : Map
@@ -102,8 +102,8 @@ pub record MovesOn (m : Map) (names first now saves : ℕ) : Type 0 where
   pub few : (c : ℕ) → slice_index moved c ≤ 2 * slice_index (volumes m) c
   pub calls : CallsSoFar first now zero_row moved 2 saves names
 
--- The changing calls of an opening, by the kind of the table and by how many had ended before and have now. Of a
--- settled table there are none where its file ends with its layout, and two where it is longer.
+-- The changing calls of an opening, by the kind of the table and by how many had ended before and have now.
+-- Of a settled table there are none where its file ends with its layout, and two where it is longer.
 abbrev pub OpenCallsOf : Kind → choice.Table → Map → Book → List ℕ → ℕ → ℕ → Kept → Type 0
 OpenCallsOf kind.Settled t m b file first now s = now
     ≡ turn_after_cut (found_base t + book_end t.chosen.block.k b) file first
@@ -115,8 +115,8 @@ HasOpenCalls t m b file first now s = OpenCallsOf t.chosen.header.kind t m b fil
 
 -- ---- an opening
 
--- What opening does to a disk whose content opens by a table to a map and a book, whether it fails or not. The
--- content opens to them still, and where the disk rested on the table so does all that a crash may leave
+-- What opening does to a disk whose content opens by a table to a map and a book, whether it fails or not.
+-- The content opens to them still, and where the disk rested on the table so does all that a crash may leave
 -- meanwhile; then the disk rests on the table of the store.
 pub record OpensFound (classes : ℕ) (t : choice.Table) (m : Map) (b : Book) (before now : disk.State)
     (result : Result Kept OpenFault) : Type 0 where

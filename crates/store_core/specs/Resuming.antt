@@ -17,8 +17,8 @@ use Rattle.flush_run.specs.Hands.{suffix_items}
 use Rattle.flush_run.specs.Parts.{Parts}
 use Rattle.reopen.specs.declared.state.Loaded.{Loaded}
 
--- The parts of a flush that goes on are those of the table that was read; nothing was moved since, and no space
--- is held but where objects stand.
+-- The parts of a flush that goes on are those of the table that was read; nothing was moved since, and no
+-- space is held but where objects stand.
 pub record StartsAgain {C : ℕ} (x : Loaded C) (y : Parts) : Type 0 where
   pub in_use : y.in_use ≡ x.slots
   pub table : y.table ≡ x.table
@@ -33,13 +33,13 @@ pub record StartsAgain {C : ℕ} (x : Loaded C) (y : Parts) : Type 0 where
 
 -- The phase has the items of the table's suffix, and the wall and the slack of its header.
 pub record PacksAgain {C : ℕ} (x : Loaded C) (p : Phase) (capacity : ℕ) : Type 0 where
-  pub value : p ≡ phase_of (divisor_of x.layout) (caps_of x.layout) (numbers_again (divisor_of x.layout)
-      (caps_of x.layout) x.header.boundary x.header.wall x.header.slack (suffix_items x.header.boundary x.table))
-      0 p.items capacity
+  pub value : p ≡ phase_of (divisor_of x.layout) (caps_of x.layout)
+      (numbers_again (divisor_of x.layout) (caps_of x.layout) x.header.boundary x.header.wall x.header.slack
+      (suffix_items x.header.boundary x.table)) 0 p.items capacity
   pub items : IsPermutation (suffix_items x.header.boundary x.table) p.items
 
--- A store may be made of these hands and this list: what stands now is the checkpoint, the layout holds it, and
--- no other space is held.
+-- A store may be made of these hands and this list: what stands now is the checkpoint, the layout holds it,
+-- and no other space is held.
 pub record MakesStore {C : ℕ} (hands : Hands C) (items : Vec Item) : Type 0 where
   pub few : C ≤ 32
   pub wide : SIZE_MAX < 2 ^ C
@@ -47,8 +47,8 @@ pub record MakesStore {C : ℕ} (hands : Hands C) (items : Vec Item) : Type 0 wh
   pub kept : hands.table.now ≡ hands.table.kept
   pub names : hands.table.names ≡ hands.slots.block.names
   pub divisor : divisor_of hands.layout ≡ hands.slots.block.k
-  pub valid : IsValid (settled_table C SIZE_MAX hands.slots.block.k (caps_of hands.layout) (grid_of hands.layout)
-      hands.table.now)
+  pub valid : IsValid (settled_table C SIZE_MAX hands.slots.block.k (caps_of hands.layout)
+      (grid_of hands.layout) hands.table.now)
   pub table : IsTable hands.table
   pub spans : hands.guard.spans ≡ []
   pub guard_room : hands.guard.room ≡ hands.slots.block.names

@@ -1,31 +1,27 @@
 //! Opening a file: a store over what its last checkpoint has.
-ghost use Rattle.std.specs.Prelude.{◌≡◌, ◌<◌, ◌≤◌, ◌^◌, [], length, vec_capacity, vec_len, IfOk, IsTrue};
+ghost use Rattle.std.specs.Prelude.{◌≡◌, ◌<◌, ◌≤◌, ◌^◌, [], length, vec_capacity, vec_len, IsTrue};
 ghost use Rattle.disk_face.specs.Counts.{HasCause};
 ghost use Rattle.disk_face.specs.Frames.{Unchanged};
 ghost use Rattle.disk_face.specs.Writes.{KeepsDisk};
-ghost use Rattle.size_class.specs.Classes.{zero_row};
-ghost use Rattle.size_class.specs.Rows.{cells_of};
 ghost use Rattle.slot_codec.specs.Readable.{IsSuperBlock};
 ghost use Rattle.slot_codec.specs.declared.codec.Kind.TheVariants as kind;
-ghost use Rattle.segment_layout.specs.Layouts.{caps_of, grid_of};
 ghost use Rattle.flush_run.specs.Parts.{parts_of};
 ghost use Rattle.reopen.specs.Loads.{IsLoadedFrom, KeepsLoaded};
-ghost use Rattle.store_core.specs.Connection.{opened_store};
 ghost use Rattle.store_core.specs.Opened.{IsCut, IsOpening};
-ghost use Rattle.store_core.specs.Resuming.{MakesStore, PacksAgain, StartsAgain};
+ghost use Rattle.store_core.specs.Resuming.{PacksAgain, StartsAgain};
 
 use crate::Store;
 use crate::flush::emptied;
-use crate::laws::{copy_buffer, item_list, store_of};
-use data_area::Ledger;
+use crate::laws::store_of;
+use crate::memory::{Memory, no_bytes, store_with, take_memory};
 use disk_face::{Disk, DiskFault, length_of};
 use flush_plan::{Item, Packing, numbers_again};
 use flush_run::{Halted, Hands, resume};
 use flush_start::gather;
 use held_guard::Guard;
 use reopen::{Loaded, OpenFault, State, read_state};
-use size_class::{Row, SIZE_MAX};
-use slot_codec::{NoMemory, head_len};
+use size_class::SIZE_MAX;
+use slot_codec::head_len;
 use slot_pair::SlotFault;
 use std::alloc::Global;
 
@@ -92,30 +88,6 @@ fn cut_to<D: Disk>(disk: &mut D, len: u64) -> Result<(), DiskFault>
     }
     disk.set_len(len)?;
     disk.sync()
-}
-
-/// What a flush that goes on takes beside what was read: room for the held spans and for its items, and
-/// a buffer to copy through.
-#[derive(Drop)]
-struct Memory {
-    guard: Guard,
-    items: Vec<Item>,
-    buf: Vec<u8>,
-}
-
-/// Takes the memory of a store of so many names.
-fn take_memory(alloc: Global, names: u64) -> Result<Memory, NoMemory>
-    requires few { names ≤ 65536 }
-    ensures none { IfOk result (λ memory. memory.guard.spans ≡ []) }
-    ensures guard_room { IfOk result (λ memory. memory.guard.room ≡ names) }
-    ensures empty { IfOk result (λ memory. memory.items.items ≡ []) }
-    ensures room { IfOk result (λ memory. names ≤ vec_capacity memory.items) }
-    ensures buffer { IfOk result (λ memory. vec_len memory.buf ≡ 65536) }
-{
-    let guard = Guard::with_room(alloc, names)?;
-    let items = item_list(alloc, names)?;
-    let buf = copy_buffer(alloc)?;
-    Ok(Memory { guard, items, buf })
 }
 
 /// The store of a moving table, whose flush goes on to its end.
@@ -211,32 +183,5 @@ fn hands_of<const C: usize>(found: Loaded<C>, guard: Guard, buf: Vec<u8>) -> Han
         ledger: no_bytes(),
         buf,
         base: head_len(block.names),
-    }
-}
-
-/// The store whose flush is done. What its opening moved isn't counted.
-fn store_with<const C: usize>(hands: Hands<C>, items: Vec<Item>) -> Store<C>
-    requires { MakesStore hands items }
-    ensures { result ≡ opened_store C hands.entry.slots hands.entry.table.now (caps_of hands.entry.layout)
-        (grid_of hands.entry.layout) }
-{
-    let mut hands = hands;
-    hands.ledger = no_bytes();
-    Store {
-        kept_layout: hands.layout,
-        hands,
-        items,
-        broken: false,
-    }
-}
-
-/// A ledger of no bytes.
-fn no_bytes<const C: usize>() -> Ledger<C>
-    ensures moved { cells_of result.moved ≡ zero_row }
-    ensures asked { cells_of result.asked ≡ zero_row }
-{
-    Ledger {
-        moved: Row::zero(),
-        asked: Row::zero(),
     }
 }

@@ -38,8 +38,8 @@ store_with-requires g c =
         lit< tt,
         makes_store c.args.found r.loads r.moving r.fits r.wide (parts_of c.hands_of-hands.result)
             c.hands_of-hands.ensures c.phase_again-phase.result (vec_capacity c.args.memory.items)
-            c.phase_again-phase.ensures (g.D.Disk.state c.args.disk.now) (g.D.Disk.state c.resume.new.disk) r.from
-            c.resume.new.hands c.resume.ensures.left c.resume.ensures.made c.in-Ok.ensures.ends
+            c.phase_again-phase.ensures (g.D.Disk.state c.args.disk.now) (g.D.Disk.state c.resume.new.disk)
+            r.from c.resume.new.hands c.resume.ensures.left c.resume.ensures.made c.in-Ok.ensures.ends
             c.in-Ok.ensures.saves.0 c.in-Ok.ensures.saves.1 c.emptied.result c.emptied.ensures.empty
             (c.emptied.ensures.room ∙ c.in-Ok.ensures.room
             ∙ ap (λ p. p.room) c.phase_again-phase.ensures.value) r.room,

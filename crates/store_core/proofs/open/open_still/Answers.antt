@@ -40,7 +40,12 @@ returns-in-Ok-cut_to g c =
     let a = g.D.Disk.state c.args.disk.now in
     let d = g.D.Disk.state c.cut_to.new.disk in
     let is : c.head_len.result + c.end.result ≡ head_len x.block.names + end_of x.block.k (caps_of x.layout) =
-    omega (arith, c.head_len.ensures, c.end.ensures.place, ap (λ k. end_of k (caps_of x.layout)) r.loads.divisor) in
+    omega (
+      arith,
+      c.head_len.ensures,
+      c.end.ensures.place,
+      ap (λ k. end_of k (caps_of x.layout)) r.loads.divisor,
+    ) in
     subst (λ s. IsOpening g.row.C a d (Ok s)) (sym c.in-Ok.ensures)
     (still_done x r.loads r.still r.fits r.wide _ is a d r.from c.in-Ok-cut_to.ensures.short
     c.cut_to.ensures.frame c.in-Ok-cut_to.field-0 c.in-Ok-cut_to.ensures.cut c.in-Ok-cut_to.ensures.cause)
@@ -52,6 +57,11 @@ returns-in-Err g c =
     let a = g.D.Disk.state c.args.disk.now in
     let d = g.D.Disk.state c.cut_to.new.disk in
     let is : c.head_len.result + c.end.result ≡ head_len x.block.names + end_of x.block.k (caps_of x.layout) =
-    omega (arith, c.head_len.ensures, c.end.ensures.place, ap (λ k. end_of k (caps_of x.layout)) r.loads.divisor) in
+    omega (
+      arith,
+      c.head_len.ensures,
+      c.end.ensures.place,
+      ap (λ k. end_of k (caps_of x.layout)) r.loads.divisor,
+    ) in
     still_failed x r.loads r.still r.fits r.wide _ is a d r.from c.in-Err.ensures.short c.cut_to.ensures.frame
     c.in-Err.field-0 c.in-Err.ensures.cut c.in-Err.ensures.cause

@@ -2,7 +2,7 @@ use Rattle.std.specs.Prelude.{length}
 use Rattle.std.proofs.Common.{arith, ap, false, refl}
 use Rattle.store_core.specs.declared.store.Store.TheInside.{Inside}
 use Rattle.store_core.proofs.OpenedLaws.{IsNew, new_view, new_whole}
-use Rattle.store_core.proofs.open.store_with.Goals as goal
+use Rattle.store_core.proofs.memory.store_with.Goals as goal
 
 abbrev made : (g : _) (c : goal.After-result-1 g) → Inside g.row.C
 made g c = record {
