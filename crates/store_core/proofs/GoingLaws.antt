@@ -1,45 +1,39 @@
 -- The flush of a moving table goes on from the file that the table was read from, and leaves what was found.
-use Rattle.std.specs.Prelude.{◌≡◌, ◌⊎◌, ℕ, ◌+◌, ◌-◌, ◌<◌, ◌≤◌, ◌^◌, Bool, true, false, List, [], length, Err, IsPermutation, IsTrue, Some, refl}
+use Rattle.std.specs.Prelude.{◌≡◌, ℕ, ◌+◌, ◌-◌, ◌<◌, ◌≤◌, ◌^◌, Bool, true, false, List, [], length, IsTrue, refl}
 use Rattle.std.proofs.Common.{arith, ap, sym, ◌∙◌, subst, inl, inr}
 use Rattle.std.proofs.lemmas.Bool.{cases_Bool}
 use Rattle.std.proofs.lemmas.List.Sorted.{IsPermutation-sym}
 use Rattle.std.specs.FinMap as fin
 use Rattle.byte_ranges.specs.Ranges.{SameBelow}
 use Rattle.disk_face.specs.States as disk
-use Rattle.disk_face.specs.Counts.{HasCause}
 use Rattle.disk_face.specs.Moments.{Leaves}
 use Rattle.disk_face.proofs.MomentLaws.{Leaves-weaken}
 use Rattle.size_class.specs.declared.TheConstants.{SIZE_MAX}
 use Rattle.slot_codec.specs.Choice as choice
 use Rattle.slot_codec.specs.Spelling.{head_len}
 use Rattle.slot_codec.specs.Reading.{worn_from}
-use Rattle.slot_codec.specs.declared.codec.Header.{Header}
 use Rattle.slot_codec.specs.declared.codec.Kind.TheVariants as kind
 use Rattle.slot_codec.specs.declared.codec.SuperBlock.{SuperBlock}
-use Rattle.slot_pair.specs.declared.find.SlotFault.TheVariants as slot
 use Rattle.store_terms.specs.Maps.{Map}
 use Rattle.segment_layout.specs.Books.{Book}
 use Rattle.segment_layout.specs.Layouts.{caps_of, divisor_of, grid_of}
-use Rattle.table_rules.specs.Opening.{Opens, OpensBy, placed_table}
+use Rattle.table_rules.specs.Opening.{Opens, placed_table}
 use Rattle.table_rules.specs.Rules.{IsValid}
 use Rattle.table_rules.specs.Tables.{book_of}
-use Rattle.extent_table.specs.declared.spot.Spot.{Spot}
 use Rattle.extent_table.specs.Extents.{Spots, records_of}
 use Rattle.spot_terms.specs.Laid.{laid}
 use Rattle.spot_terms.specs.Reads.{read_at}
 use Rattle.spot_terms.proofs.OpenedLaws.{opens_long}
-use Rattle.flush_plan.specs.declared.item.Item.{Item}
 use Rattle.flush_plan.specs.Phases.{Phase, phase_of}
 use Rattle.flush_run.specs.Flights.{Flies, Flight, IsOldOrNew, LeavesOldOrNew}
 use Rattle.flush_run.specs.Parts.{Parts}
-use Rattle.flush_run.specs.Runs.{CanResume, HasRun}
-use Rattle.reopen.specs.declared.fault.OpenFault.TheVariants as fault_of
+use Rattle.flush_run.specs.Runs.{CanResume}
 use Rattle.reopen.specs.declared.state.Loaded.{Loaded}
 use Rattle.reopen.specs.Loads.{IsLoadedFrom, KeepsLoaded, table_seen}
-use Rattle.store_core.specs.Opened.{IsFoundImage, IsOpening, LeavesRoom, OpensFound, RestsOnFound, RoomOf, found_base}
+use Rattle.store_core.specs.Opened.{IsFoundImage, LeavesRoom, RestsOnFound, RoomOf}
 use Rattle.store_core.specs.Resuming.{PacksAgain, StartsAgain}
 use Rattle.store_core.proofs.MovingLaws.{again, book_saved, hands_again, numbers, same_divisor, whole}
-use Rattle.store_core.proofs.OpeningLaws.{found_by, found_one, opens_alike}
+use Rattle.store_core.proofs.OpeningLaws.{opens_alike}
 
 module _ {C : ℕ} (x : Loaded C) (loads : KeepsLoaded x) (moving : x.header.kind ≡ kind.Moving) (few : C ≤ 32)
     (wide : SIZE_MAX < 2 ^ C) (y : Parts) (starts : StartsAgain x y) (p : Phase) (room : ℕ)

@@ -1,15 +1,14 @@
 -- A moving table that was read from a file: its flush may go on.
-use Rattle.std.specs.Prelude.{◌≡◌, ◌⊎◌, ℕ, ◌+◌, ◌<◌, ◌≤◌, ◌^◌, nat_lt, Bool, ◌&&◌, true, cond, List, [], length, slice_index, slice_index_or, Contains, IsPermutation, IsTrue, Some, refl}
+use Rattle.std.specs.Prelude.{◌≡◌, ◌⊎◌, ℕ, ◌+◌, ◌<◌, ◌≤◌, ◌^◌, nat_lt, Bool, ◌&&◌, true, List, [], length, slice_index, IsPermutation, Some, refl}
 use Rattle.std.specs.List.{list_all}
 use Rattle.std.proofs.Common.{arith, ap, sym, ◌∙◌, subst, inl, inr}
 use Rattle.std.proofs.lemmas.Bool.{and_parts, cases_Bool, cases_lt, cond-false, cond-true, le-ltb, lt-ltb, ltb-true}
 use Rattle.std.proofs.lemmas.List.{ext_get_or}
-use Rattle.std.proofs.lemmas.List.Sorted.{IsPermutation-refl, IsPermutation-sym}
+use Rattle.std.proofs.lemmas.List.Sorted.{IsPermutation-refl}
 use Rattle.std.specs.FinMap as fin
-use Rattle.size_class.specs.Classes.{IsGrid, IsRow, cell, class_of, width, zero_row}
+use Rattle.size_class.specs.Classes.{IsGrid, IsRow, cell, width, zero_row}
 use Rattle.size_class.specs.declared.TheConstants.{SIZE_MAX}
 use Rattle.size_class.proofs.ClassLaws.{length-zero_row, zero_row-index}
-use Rattle.slot_codec.specs.Choice as choice
 use Rattle.slot_codec.specs.Reading.{is_in_range}
 use Rattle.slot_codec.specs.Readable.{IsSuperBlock}
 use Rattle.slot_codec.specs.Spelling.{head_len}
@@ -26,7 +25,7 @@ use Rattle.segment_layout.specs.Shapes.{is_boundary, settled_caps, settled_grid,
 use Rattle.segment_layout.proofs.SettleLaws.{row_is_zero}
 use Rattle.segment_layout.proofs.ShapeLaws.{boundary_from, caps-settled_above, caps-settled_below, length-settled_caps, length-settled_grid, row-settled_above, row-settled_below}
 use Rattle.table_rules.specs.Rules.{IsValid}
-use Rattle.table_rules.specs.Tables.{HasFullRows, PlacedTable, book_of, end_of_record, nth, no_record}
+use Rattle.table_rules.specs.Tables.{HasFullRows, PlacedTable, book_of, end_of_record, nth}
 use Rattle.table_rules.proofs.TableLaws.{zero_cell}
 use Rattle.extent_table.specs.declared.spot.Spot.{Spot}
 use Rattle.extent_table.specs.Extents.{Spots, records_of}

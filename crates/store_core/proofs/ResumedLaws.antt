@@ -1,5 +1,5 @@
 -- The store of a moving table whose flush went on to its end.
-use Rattle.std.specs.Prelude.{◌≡◌, ℕ, ◌+◌, ◌-◌, ◌*◌, ◌<◌, ◌≤◌, ◌^◌, false, true, List, [], length, slice_index, Err, Ok, IsTrue, vec_capacity, vec_len, refl}
+use Rattle.std.specs.Prelude.{◌≡◌, ℕ, ◌+◌, ◌-◌, ◌*◌, ◌<◌, ◌≤◌, ◌^◌, false, true, List, [], slice_index, Err, Ok, IsTrue, vec_capacity, refl}
 use Rattle.std.proofs.Common.{arith, ap, sym, ◌∙◌, subst, inl, inr}
 use Rattle.std.proofs.lemmas.Bool.{cases_lt}
 use Rattle.std.proofs.lemmas.List.Sorted.{IsPermutation-sym}
@@ -20,7 +20,6 @@ use Rattle.segment_layout.specs.Books.{volumes, volumes_of_sizes}
 use Rattle.segment_layout.specs.Layouts.{caps_of, grid_of}
 use Rattle.segment_layout.proofs.ShapeLaws.{caps-settled_above}
 use Rattle.table_rules.specs.Tables.{sizes}
-use Rattle.extent_table.specs.declared.spot.Spot.{Spot}
 use Rattle.extent_table.specs.Extents.{Extents, records_of}
 use Rattle.spot_terms.specs.Reads.{EndWithin}
 use Rattle.spot_terms.proofs.BookLaws.{volumes_of_records}
@@ -41,9 +40,8 @@ use Rattle.reopen.specs.declared.state.Loaded.{Loaded}
 use Rattle.reopen.specs.Loads.{IsLoadedFrom, KeepsLoaded, table_seen}
 use Rattle.store_core.specs.Connection.{Kept, opened_store}
 use Rattle.store_core.specs.Flushed.{IsFlushed}
-use Rattle.store_core.specs.Opened.{ContinuesFrom, IsFresh, IsOpened, IsOpening, MovesOn, OpenCallsOf, OpensFound, RestsOnFound}
+use Rattle.store_core.specs.Opened.{ContinuesFrom, IsFresh, IsOpened, IsOpening, MovesOn, OpenCallsOf, OpensFound}
 use Rattle.store_core.specs.Resuming.{MakesStore, PacksAgain, StartsAgain}
-use Rattle.store_core.specs.Stores.{IsStore}
 use Rattle.store_core.proofs.EndLaws.{names_differ_all, records_lie}
 use Rattle.store_core.proofs.FlushedLaws.{ended_over, ended_rests, ended_state, ended_store}
 use Rattle.store_core.proofs.GoingLaws.{begins_within, can_told, content_again, flight, left_again, phase, some_again}

@@ -1,4 +1,4 @@
-use Rattle.store_core.proofs.OpeningLaws.{opening_then, reading_stopped}
+use Rattle.store_core.proofs.OpeningLaws.{opening_then}
 use Rattle.store_core.proofs.store.Store.open.Goals as goal
 
 pub returns-in-Still : goal.returns-in-Still
