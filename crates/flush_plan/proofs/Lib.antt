@@ -19,6 +19,7 @@ pub mod PackLaws
 pub mod PackStepLaws
 pub mod PhaseLaws
 pub mod PlaceLaws
+pub mod ResumedLaws
 pub mod RowLaws
 pub mod RunLaws
 pub mod SettledLaws

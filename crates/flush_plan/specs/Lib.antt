@@ -6,6 +6,7 @@ pub mod Begins
 pub mod LiftedSoFar
 pub mod PackedSoFar
 pub mod LaidSoFar
+pub mod Resumed
 pub mod Suffixes
 pub mod Settlements
 pub mod LooseReach

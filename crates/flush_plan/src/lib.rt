@@ -9,6 +9,7 @@ mod laws;
 mod lay;
 mod lift;
 mod pack;
+mod resume;
 mod segments;
 mod settled;
 #[cfg(test)]
@@ -26,5 +27,6 @@ pub use laws::{
 pub use lay::Laying;
 pub use lift::Lifting;
 pub use pack::Packing;
+pub use resume::numbers_again;
 pub use settled::Settled;
 pub use sums::numbers;

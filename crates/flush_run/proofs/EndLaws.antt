@@ -108,7 +108,6 @@ module _ {classes : ℕ} {f : Flight} {caps : List ℕ} {grid : List (List ℕ)}
           start_of-le k new c (omega (arith, wide, long)),
           fits,
           hands.wall,
-          hands.same_reach,
           hands.in_range,
         )
 

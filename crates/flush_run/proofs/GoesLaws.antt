@@ -107,8 +107,14 @@ module _ {classes : ℕ} {f : Flight} {caps : List ℕ} {grid : List (List ℕ)}
               table = hands.table;
               mover = has_mover x.table p.numbers.boundary mv q;
               freed = hands.freed;
-              source = omega (arith, ends, hands.in_range);
-              target = omega (arith, goal, hands.in_range);
+              source = omega (
+                arith,
+                (hands.table.now_in_range q.name q.spot q.mover.is).0,
+                q.mover.from,
+                small,
+                g.limit,
+              );
+              target = omega (arith, safe.high, hands.in_range);
               high = omega (arith, small, g.limit);
               apart = elim (safe.apart (mover mv) m.has)
                   [ inl before ↦ inr before | inr behind ↦ inl behind ];

@@ -75,7 +75,7 @@ module _ (f : Flight) (u : choice.InUse) (e : Extents) (caps : List ℕ) (grid :
       (omega (arith, low, eqb-true (class_of x.1.size) d is))))
       ∙ sym (sum_by-filter (λ (it : Item). it.size) (λ it. it.class == d) p.items)
 
-  above_is_over : (place : ℕ) → sizes_above moving place ≡ sizes_over p.numbers p.items place
+  pub above_is_over : (place : ℕ) → sizes_above moving place ≡ sizes_over p.numbers p.items place
   above_is_over place =
       sum_by-filter (λ (r : Record). r.size) (λ r. is_below_wall moving r && nat_lt place r.place)
       (records_of e.now)
@@ -114,7 +114,7 @@ module _ (f : Flight) (u : choice.InUse) (e : Extents) (caps : List ℕ) (grid :
         class = ap class_of (sym s.same_size);
       }
 
-  starts : start_of u.block.k moving.header.caps p.numbers.boundary ≡ p.numbers.start
+  pub starts : start_of u.block.k moving.header.caps p.numbers.boundary ≡ p.numbers.start
   starts = start_of-settled u.block.k p.numbers.boundary caps zero_row (omega (
     arith,
     h.boundary,
@@ -122,7 +122,7 @@ module _ (f : Flight) (u : choice.InUse) (e : Extents) (caps : List ℕ) (grid :
     h.caps_full.full,
   )) ∙ sym h.start
 
-  lengths_agree : (b n : ℕ) → p.numbers.boundary ≤ b → sum_by (λ c. live moving c + buffer_of u.block.k
+  pub lengths_agree : (b n : ℕ) → p.numbers.boundary ≤ b → sum_by (λ c. live moving c + buffer_of u.block.k
       (live moving c)) (counting_from b n) ≡ sum_by (λ d. class_total p.items d + buffer_of p.k
       (class_total p.items d)) (counting_from b n)
   lengths_agree b zero low = refl

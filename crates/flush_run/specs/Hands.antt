@@ -53,7 +53,7 @@ pub record IsHandsFor (f : Flight) (u : choice.InUse) (e : Extents) (caps : List
   pub start : p.numbers.start ≡ start_of u.block.k caps p.numbers.boundary
   pub wall : p.numbers.wall ≤ p.numbers.reach
   pub same_reach : p.numbers.reach ≤ f.reach
-  pub in_range : f.reach < 2 ^ 48
+  pub in_range : p.numbers.reach < 2 ^ 48
   pub items : IsPermutation p.items (suffix_items p.numbers.boundary e)
   pub rules : KeepsPlaces (laid f.classes f.size_max u.block.k f.reach
       (moving_header p.numbers.boundary p.numbers.wall p.numbers.slack caps grid) e.now)

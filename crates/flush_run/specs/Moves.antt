@@ -82,7 +82,7 @@ pub record CanMove (mv : Move) (e : Extents) (spans : List Span) : Type 0 where
   pub table : IsTable e
   pub mover : HasMover e mv
   pub freed : IsFreed spans e.now e.kept
-  pub source : mv.from + mv.size < 2 ^ 48
+  pub source : mv.from + mv.size < 2 ^ 49
   pub target : mv.to + mv.size < 2 ^ 48
   pub high : mv.size ≤ 2 ^ 31
   pub apart : (mv.from + mv.size ≤ mv.to) ⊎ (mv.to + mv.size ≤ mv.from)

@@ -12,3 +12,4 @@ pub mod HandsLaws
 pub mod NextBookLaws
 pub mod LiftStartLaws
 pub mod LooseLaws
+pub mod AgainLaws

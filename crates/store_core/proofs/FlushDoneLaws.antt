@@ -38,7 +38,7 @@ use Rattle.flush_plan.specs.declared.item.Item.{Item}
 use Rattle.flush_plan.specs.Phases.{Phase}
 use Rattle.flush_run.specs.declared.hands.Hands.{Hands}
 use Rattle.flush_run.specs.Calls.{CallsSoFar}
-use Rattle.flush_run.specs.Flights.{LeavesOldOrNew}
+use Rattle.flush_run.specs.Flights.{Flight, LeavesOldOrNew}
 use Rattle.flush_run.specs.Parts.{Parts, parts_of, size_in}
 use Rattle.flush_run.specs.Settling.{FlushEnds}
 use Rattle.store_core.specs.declared.answers.Refusal.{Refusal}
@@ -315,8 +315,8 @@ module _ {C : ℕ} (s : Inside C) (c : Change) (hands1 : Hands C) (p : Phase) (p
     base_now = ap (λ (b : SuperBlock). head_len b.names) same_block ∙ sym w.whole.base
 
     pub done_store : IsStore C (kept_of done_inside)
-    done_store = ended_store hands2 x0 c p.numbers.reach any.0 d any_ends names_now block_now (kept_of done_inside)
-        view
+    done_store = ended_store hands2 (flight_of C x0 c p.numbers.reach any.0) d any_ends names_now block_now
+        (kept_of done_inside) view
 
     pub done_whole : list.items ≡ [] → vec_capacity list ≡ p.room → s.hands.slots.block.names ≤ p.room
         → IsWhole done_inside
@@ -325,12 +325,15 @@ module _ {C : ℕ} (s : Inside C) (c : Change) (hands1 : Hands C) (p : Phase) (p
         (omega (arith, ap (λ (xs : List Item). length xs) none))
         (omega (arith, room, held, ap (λ (b : SuperBlock). b.names) same_block)) done_store
 
-    told_ends : (told : IsTrue a.tells) → FlushEnds C (flight_of C x0 c p.numbers.reach (record {
+    abbrev told_flight : IsTrue a.tells → Flight
+    told_flight told = flight_of C x0 c p.numbers.reach (record {
       map = (state_of ks a.file).map;
       kept_map = (state_of ks a.file).kept;
       kept_book = ks.kept_book;
       is_at_rest = false;
-    })) (parts_of hands2) d
+    })
+
+    told_ends : (told : IsTrue a.tells) → FlushEnds C (told_flight told) (parts_of hands2) d
     told_ends told = ends x0 c _ (can_fly s w.whole w.unbroken c (parts_of hands1) p place bytes w.begun w.name
         w.object w.fresh a (w.over told) false (λ t. absurd (let e : false ≡ true = t in cc)))
 
@@ -339,7 +342,7 @@ module _ {C : ℕ} (s : Inside C) (c : Change) (hands1 : Hands C) (p : Phase) (p
       still = w.made.keeps.disk.stays.told ∙ told
 
       pub done_over : IsOver C (kept_of done_inside) d.file
-      done_over = ended_over hands2 x0 c p.numbers.reach _ d (told_ends told) names_now block_now
+      done_over = ended_over hands2 (told_flight told) d (told_ends told) names_now block_now
           (kept_of done_inside) view base_now still
 
       pub done_step : refusal (limits_of ks) (facts_at ks (ask.change c)) (ask.change c) ≡ None
@@ -347,7 +350,7 @@ module _ {C : ℕ} (s : Inside C) (c : Change) (hands1 : Hands C) (p : Phase) (p
           → Step (limits_of ks) (state_of ks a.file) (ask.change c) ask.kept (state_of (kept_of done_inside) d.file)
       done_step calm loud =
           let h = w.whole.sound w.unbroken in
-          let is = ended_state hands2 x0 c p.numbers.reach _ d (told_ends told) names_now block_now
+          let is = ended_state hands2 (told_flight told) d (told_ends told) names_now block_now
           (kept_of done_inside) view base_now still in
           flush_step (limits_of ks) (state_of ks a.file) (state_of (kept_of done_inside) d.file) c
           (ap (λ (f : Facts). refusal (limits_of ks) f (ask.change c))
@@ -373,13 +376,13 @@ module _ {C : ℕ} (s : Inside C) (c : Change) (hands1 : Hands C) (p : Phase) (p
         saved = omega (arith, low, same_sequence);
         few_saves = omega (arith, high, same_sequence, ap (λ (y : Parts). y.in_use.block.k) w.begun.rest);
       };
-      opened = λ told. ended_opens hands2 x0 c p.numbers.reach _ d (told_ends told) names_now block_now
+      opened = λ told. ended_opens hands2 (told_flight told) d (told_ends told) names_now block_now
           (kept_of done_inside) view base_now (still told);
       content = content_is;
       left = left_is;
-      rests = λ told. ended_only hands2 x0 c p.numbers.reach _ d (told_ends told) names_now block_now
+      rests = λ told. ended_only hands2 (told_flight told) d (told_ends told) names_now block_now
           (kept_of done_inside) view base_now (still told);
-      on_table = λ told. ended_rests hands2 x0 c p.numbers.reach _ d (told_ends told) names_now block_now
+      on_table = λ told. ended_rests hands2 (told_flight told) d (told_ends told) names_now block_now
           (kept_of done_inside) view base_now (still told);
       calls = subst (λ n. CallsSoFar a.turn d.turn ks.moved (cells_of hands2.ledger.moved) 4
           (hands2.slots.sequence - ks.in_use.sequence) n) names_are

@@ -9,7 +9,6 @@ use Rattle.slot_codec.specs.Choice as choice
 use Rattle.slot_codec.specs.Readable.{IsSuperBlock}
 use Rattle.slot_codec.specs.Spelling.{head_len}
 use Rattle.store_terms.specs.Maps.{Map}
-use Rattle.store_terms.specs.Requests.{Change}
 use Rattle.segment_layout.specs.Books.{Book}
 use Rattle.segment_layout.specs.Layouts.{caps_of, divisor_of, grid_of}
 use Rattle.segment_layout.specs.Shapes.{end_of}
@@ -24,12 +23,11 @@ use Rattle.spot_terms.proofs.RiseLaws.{CellsRise-itself}
 use Rattle.flush_plan.specs.declared.item.Item.{Item}
 use Rattle.flush_run.specs.declared.hands.Hands.{Hands}
 use Rattle.flush_run.specs.Flights.{Flight}
-use Rattle.flush_run.specs.Parts.{Parts, parts_of}
+use Rattle.flush_run.specs.Parts.{parts_of}
 use Rattle.flush_run.specs.Settling.{FlushEnds, IsSettled}
 use Rattle.store_core.specs.declared.store.Store.TheInside.{Inside}
 use Rattle.store_core.specs.Connection.{IsOver, Kept, RestsOnTable, SameOnTable, base_of, kept_map, state_of}
 use Rattle.store_core.specs.Flushed.{IsFlushed}
-use Rattle.store_core.specs.Flushing.{Setting, flight_of}
 use Rattle.store_core.specs.Inside.{IsWhole, kept_of}
 use Rattle.store_core.specs.Stores.{IsStore}
 use Rattle.store_core.proofs.OverLaws.{same_itself}
@@ -58,12 +56,12 @@ flushed_is u now caps grid s is = λ i. record s {
 
 -- ---- a flush that ended
 
-module _ {C : ℕ} (hands : Hands C) (x0 : Parts) (c : Change) (reach : ℕ) (g : Setting) (d : disk.State)
-    (ends : FlushEnds C (flight_of C x0 c reach g) (parts_of hands) d)
+module _ {C : ℕ} (hands : Hands C) (flight : Flight) (d : disk.State)
+    (ends : FlushEnds C (record flight { classes = C; size_max = SIZE_MAX }) (parts_of hands) d)
     (names : hands.table.names ≡ hands.slots.block.names) (block : IsSuperBlock hands.slots.block) (s : Kept)
     (is : IsFlushed C hands.slots hands.table.now (caps_of hands.layout) (grid_of hands.layout) s) where
   abbrev f : Flight
-  f = flight_of C x0 c reach g
+  f = record flight { classes = C; size_max = SIZE_MAX }
 
   abbrev as_flushed : Kept
   as_flushed = flushed_as C hands.slots hands.table.now (caps_of hands.layout) (grid_of hands.layout) s
@@ -86,7 +84,7 @@ module _ {C : ℕ} (hands : Hands C) (x0 : Parts) (c : Change) (reach : ℕ) (g 
     fuller = CellsRise-itself (grid_of hands.layout);
   })
 
-  module _ (base : head_len hands.slots.block.names ≡ x0.base) (told : IsTrue d.tells) where
+  module _ (base : head_len hands.slots.block.names ≡ f.base) (told : IsTrue d.tells) where
     abbrev file : List ℕ
     file = d.file
 

@@ -26,3 +26,8 @@ pub mod FlyLaws
 pub mod FlushLaws
 pub mod FlushDoneLaws
 pub mod ServeLaws
+pub mod OpeningLaws
+pub mod StillLaws
+pub mod MovingLaws
+pub mod GoingLaws
+pub mod ResumedLaws

@@ -68,7 +68,7 @@ same_written base place n kept a b same apart = record {
 
 -- ---- the objects of records
 
-by_index : (base : ℕ) (rs : List Record) (a b : List ℕ) → length b ≡ length a
+pub by_index : (base : ℕ) (rs : List Record) (a b : List ℕ) → length b ≡ length a
     → ((i : ℕ) → i < length rs → (base + end_of_record (slice_index_or rs i no_record) ≤ length a)
     × SameWithin (base + (slice_index_or rs i no_record).place)
     (base + (slice_index_or rs i no_record).place + (slice_index_or rs i no_record).size) a b)

@@ -13,3 +13,5 @@ pub mod Reads
 pub mod Lines
 pub mod Flushing
 pub mod Flushes
+pub mod Opened
+pub mod Resuming

@@ -109,7 +109,7 @@ pub(crate) fn fly<D: Disk, const C: usize>(
 }
 
 /// The list of the items of a flush, empty.
-fn emptied<const C: usize>(settled: Settled<C>) -> Vec<Item>
+pub(crate) fn emptied<const C: usize>(settled: Settled<C>) -> Vec<Item>
     ensures empty { result.items ≡ [] }
     ensures room { vec_capacity result ≡ settled.entry.phase.room }
 {

@@ -1,8 +1,10 @@
 //! What holds of stores and of requests, as contracts of functions that do nothing.
-ghost use Rattle.std.specs.Prelude.{◌≡◌, ℕ, ◌*◌, ◌<◌, ◌≤◌, ◌^◌, List, [], IfOk, Some, vec_capacity, vec_len};
+ghost use Rattle.std.specs.Prelude.{◌≡◌, ℕ, ◌*◌, ◌<◌, ◌≤◌, ◌^◌, List, [], IfOk, Some};
+ghost use Rattle.slot_codec.specs.Choice.{Table as FoundTable};
+ghost use Rattle.store_terms.specs.Maps.{Map};
 ghost use Rattle.store_terms.specs.Requests as ask;
 ghost use Rattle.store_terms.specs.Requests.{Change, Refused, Request};
-ghost use Rattle.segment_layout.specs.Books.{book_end, is_quiet, next_book};
+ghost use Rattle.segment_layout.specs.Books.{Book, book_end, is_quiet, next_book};
 ghost use Rattle.segment_layout.specs.Bounds.{Tight};
 ghost use Rattle.segment_layout.specs.Layouts.{caps_of, divisor_of, grid_of};
 ghost use Rattle.slot_codec.specs.Readable.{IsSuperBlock};
@@ -11,25 +13,21 @@ ghost use Rattle.spot_terms.specs.Laid.{settled_table};
 ghost use Rattle.extent_table.specs.Extents.{IsTable, volume_of};
 ghost use Rattle.spot_terms.specs.Reads.{AreNamed};
 ghost use Rattle.store_core.specs.Answers.{facts_at};
-ghost use Rattle.store_core.specs.Connection.{IsOver, Kept, opened_store, state_of};
+ghost use Rattle.store_core.specs.Connection.{IsOver, Kept, SameOnTable, base_of, opened_store, state_of};
+ghost use Rattle.store_core.specs.Opened.{IsFoundImage, IsOpened, SameOnFound, state_at};
 ghost use Rattle.store_core.specs.Quiet.{charges_of};
 ghost use Rattle.store_core.specs.Stores.{IsStore};
 ghost use Rattle.store_core.specs.States.{Limits, Run, State, Step, facts_of, refusal};
 
 use crate::Store;
-use data_area::Ledger;
+use crate::memory::{Memory, no_bytes, store_with, take_memory};
 use extent_table::Table;
-use flush_plan::Item;
 use flush_run::Hands;
-use held_guard::Guard;
 use segment_layout::Layout;
-use size_class::{Row, SIZE_MAX};
+use size_class::SIZE_MAX;
 use slot_codec::{NoMemory, SuperBlock, head_len};
 use slot_pair::SlotPair;
 use std::alloc::Global;
-
-/// How many bytes of an object are read at a time.
-const COPIED: usize = 65536;
 
 /// A run of no requests leaves the state.
 pub fn an_empty_run()
@@ -67,6 +65,19 @@ pub fn a_store_is_tight()
         → Tight s.in_use.block.k (book_end s.in_use.block.k s.kept_book) (state_of s file).kept }
 {}
 
+/// What an opening leaves where it is stopped opens to the same state again. A content is alike on each
+/// table, so a disk that a crash leaves alone rests on the table that is found; and what is alike on the
+/// table of a store is so on the one that is found.
+pub fn a_stopped_opening_is_made_again()
+    ensures state { (classes : ℕ) (m : Map) (b : Book) (longest : ℕ) (image now : List ℕ) (s : Kept)
+        → IsFoundImage classes m b longest image → IsOpened classes image now s
+        → state_of s now ≡ state_at m b s.in_use.sequence }
+    ensures alone { (t : FoundTable) (file : List ℕ) → SameOnFound t file file }
+    ensures store { (classes : ℕ) (s : Kept) (file image : List ℕ) → IsStore classes s
+        → (over : IsOver classes s file) → SameOnTable (base_of s) s.kept file image
+        → SameOnFound over.table file image }
+{}
+
 /// The store of a table that was checked against its layout, where nothing has changed since the
 /// checkpoint. It takes the memory that the store will ever have.
 pub fn store_of<const C: usize>(
@@ -88,47 +99,17 @@ pub fn store_of<const C: usize>(
         ≡ opened_store C slots table.now (caps_of layout.entry) (grid_of layout.entry)) }
 {
     is_table(&table);
-    let guard = Guard::with_room(alloc, block.names)?;
-    let buf = copy_buffer(alloc)?;
-    let items = item_list(alloc, block.names)?;
-    Ok(Store {
-        hands: Hands {
-            table,
-            layout,
-            guard,
-            slots,
-            ledger: Ledger {
-                moved: Row::zero(),
-                asked: Row::zero(),
-            },
-            buf,
-            base: head_len(block.names),
-        },
-        kept_layout: layout,
-        items,
-        broken: false,
-    })
-}
-
-/// A buffer to copy objects through.
-fn copy_buffer(alloc: Global) -> Result<Vec<u8>, NoMemory>
-    ensures { IfOk result (λ buf. vec_len buf ≡ 65536) }
-{
-    match vec![in alloc; 0; COPIED] {
-        Ok(buf) => Ok(buf),
-        Err(_) => Err(NoMemory),
-    }
-}
-
-/// A list with room for an item of each name.
-fn item_list(alloc: Global, names: u64) -> Result<Vec<Item>, NoMemory>
-    ensures empty { IfOk result (λ items. vec_len items ≡ 0) }
-    ensures room { IfOk result (λ items. names ≤ vec_capacity items) }
-{
-    match Vec::with_capacity(alloc, names as usize) {
-        Ok(items) => Ok(items),
-        Err(_) => Err(NoMemory),
-    }
+    let Memory { guard, items, buf } = take_memory(alloc, block.names)?;
+    let hands = Hands {
+        table,
+        layout,
+        guard,
+        slots,
+        ledger: no_bytes(),
+        buf,
+        base: head_len(block.names),
+    };
+    Ok(store_with(hands, items))
 }
 
 /// What holds of each table.

@@ -13,6 +13,8 @@ mod keep;
 pub mod laws;
 mod lines;
 mod lists;
+mod memory;
+mod open;
 mod plan;
 mod quiet;
 mod reads;

@@ -1,0 +1,67 @@
+use Rattle.std.specs.Prelude.{◌≡◌, ◌+◌, Ok}
+use Rattle.std.proofs.Common.{arith, ap, lit<, sym, subst}
+use Rattle.segment_layout.specs.Layouts.{caps_of}
+use Rattle.segment_layout.specs.Shapes.{end_of}
+use Rattle.slot_codec.specs.Spelling.{head_len}
+use Rattle.store_core.specs.Opened.{IsOpening}
+use Rattle.store_core.proofs.StillLaws.{still_done, still_failed, still_laid}
+use Rattle.store_core.proofs.open.open_still.Goals as goal
+
+pub store_of-requires : goal.store_of-requires
+store_of-requires g c =
+    let r = c.requires in
+    let x = c.args.found in (
+      lit< tt,
+      (
+        lit< tt,
+        (
+          r.fits,
+          (
+            r.wide,
+            (
+              r.loads.ranges,
+              (
+                r.loads.same_block,
+                (
+                  sym r.loads.kept,
+                  (r.loads.room, (r.loads.divisor, (still_laid x r.loads r.still r.fits r.wide).valid)),
+                ),
+              ),
+            ),
+          ),
+        ),
+      ),
+    )
+
+pub returns-in-Ok-cut_to : goal.returns-in-Ok-cut_to
+returns-in-Ok-cut_to g c =
+    let r = c.requires in
+    let x = c.args.found in
+    let a = g.D.Disk.state c.args.disk.now in
+    let d = g.D.Disk.state c.cut_to.new.disk in
+    let is : c.head_len.result + c.end.result ≡ head_len x.block.names + end_of x.block.k (caps_of x.layout) =
+    omega (
+      arith,
+      c.head_len.ensures,
+      c.end.ensures.place,
+      ap (λ k. end_of k (caps_of x.layout)) r.loads.divisor,
+    ) in
+    subst (λ s. IsOpening g.row.C a d (Ok s)) (sym c.in-Ok.ensures)
+    (still_done x r.loads r.still r.fits r.wide _ is a d r.from c.in-Ok-cut_to.ensures.short
+    c.cut_to.ensures.frame c.in-Ok-cut_to.field-0 c.in-Ok-cut_to.ensures.cut c.in-Ok-cut_to.ensures.cause)
+
+pub returns-in-Err : goal.returns-in-Err
+returns-in-Err g c =
+    let r = c.requires in
+    let x = c.args.found in
+    let a = g.D.Disk.state c.args.disk.now in
+    let d = g.D.Disk.state c.cut_to.new.disk in
+    let is : c.head_len.result + c.end.result ≡ head_len x.block.names + end_of x.block.k (caps_of x.layout) =
+    omega (
+      arith,
+      c.head_len.ensures,
+      c.end.ensures.place,
+      ap (λ k. end_of k (caps_of x.layout)) r.loads.divisor,
+    ) in
+    still_failed x r.loads r.still r.fits r.wide _ is a d r.from c.in-Err.ensures.short c.cut_to.ensures.frame
+    c.in-Err.field-0 c.in-Err.ensures.cut c.in-Err.ensures.cause

@@ -1,0 +1,58 @@
+-- What goes on with an interrupted flush, and of what a store is made.
+use Rattle.std.specs.Prelude.{◌≡◌, ℕ, ◌<◌, ◌≤◌, ◌^◌, [], IsPermutation, vec_capacity, vec_len}
+use Rattle.std.specs.Global.{Vec}
+use Rattle.size_class.specs.Classes.{zero_row}
+use Rattle.size_class.specs.declared.TheConstants.{SIZE_MAX}
+use Rattle.slot_codec.specs.Readable.{IsSuperBlock}
+use Rattle.slot_codec.specs.Spelling.{head_len}
+use Rattle.segment_layout.specs.Layouts.{caps_of, divisor_of, grid_of}
+use Rattle.table_rules.specs.Rules.{IsValid}
+use Rattle.extent_table.specs.Extents.{IsTable}
+use Rattle.spot_terms.specs.Laid.{settled_table}
+use Rattle.flush_plan.specs.declared.item.Item.{Item}
+use Rattle.flush_plan.specs.Phases.{Phase, phase_of}
+use Rattle.flush_plan.specs.Resumed.{numbers_again}
+use Rattle.flush_run.specs.declared.hands.Hands.{Hands}
+use Rattle.flush_run.specs.Hands.{suffix_items}
+use Rattle.flush_run.specs.Parts.{Parts}
+use Rattle.reopen.specs.declared.state.Loaded.{Loaded}
+
+-- The parts of a flush that goes on are those of the table that was read; nothing was moved since, and no
+-- space is held but where objects stand.
+pub record StartsAgain {C : ℕ} (x : Loaded C) (y : Parts) : Type 0 where
+  pub in_use : y.in_use ≡ x.slots
+  pub table : y.table ≡ x.table
+  pub divisor : y.divisor ≡ divisor_of x.layout
+  pub caps : y.caps ≡ caps_of x.layout
+  pub grid : y.grid ≡ grid_of x.layout
+  pub spans : y.spans ≡ []
+  pub room : y.room ≡ x.block.names
+  pub moved : y.moved ≡ zero_row
+  pub buffer : y.buffer ≡ 65536
+  pub base : y.base ≡ head_len x.block.names
+
+-- The phase has the items of the table's suffix, and the wall and the slack of its header.
+pub record PacksAgain {C : ℕ} (x : Loaded C) (p : Phase) (capacity : ℕ) : Type 0 where
+  pub value : p ≡ phase_of (divisor_of x.layout) (caps_of x.layout)
+      (numbers_again (divisor_of x.layout) (caps_of x.layout) x.header.boundary x.header.wall x.header.slack
+      (suffix_items x.header.boundary x.table)) 0 p.items capacity
+  pub items : IsPermutation (suffix_items x.header.boundary x.table) p.items
+
+-- A store may be made of these hands and this list: what stands now is the checkpoint, the layout holds it,
+-- and no other space is held.
+pub record MakesStore {C : ℕ} (hands : Hands C) (items : Vec Item) : Type 0 where
+  pub few : C ≤ 32
+  pub wide : SIZE_MAX < 2 ^ C
+  pub block : IsSuperBlock hands.slots.block
+  pub kept : hands.table.now ≡ hands.table.kept
+  pub names : hands.table.names ≡ hands.slots.block.names
+  pub divisor : divisor_of hands.layout ≡ hands.slots.block.k
+  pub valid : IsValid (settled_table C SIZE_MAX hands.slots.block.k (caps_of hands.layout)
+      (grid_of hands.layout) hands.table.now)
+  pub table : IsTable hands.table
+  pub spans : hands.guard.spans ≡ []
+  pub guard_room : hands.guard.room ≡ hands.slots.block.names
+  pub base : hands.base ≡ head_len hands.slots.block.names
+  pub buffer : vec_len hands.buf ≡ 65536
+  pub none : items.items ≡ []
+  pub room : hands.slots.block.names ≤ vec_capacity items

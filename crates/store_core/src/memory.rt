@@ -1,0 +1,91 @@
+//! The memory that a store takes as it is made, and the store of hands that were settled.
+ghost use Rattle.std.specs.Prelude.{◌≡◌, ◌≤◌, [], vec_capacity, vec_len, IfOk};
+ghost use Rattle.size_class.specs.Classes.{zero_row};
+ghost use Rattle.size_class.specs.Rows.{cells_of};
+ghost use Rattle.segment_layout.specs.Layouts.{caps_of, grid_of};
+ghost use Rattle.store_core.specs.Connection.{opened_store};
+ghost use Rattle.store_core.specs.Resuming.{MakesStore};
+
+use crate::Store;
+use data_area::Ledger;
+use flush_plan::Item;
+use flush_run::Hands;
+use held_guard::Guard;
+use size_class::Row;
+use slot_codec::NoMemory;
+use std::alloc::Global;
+
+/// How many bytes of an object are read at a time.
+const COPIED: usize = 65536;
+
+/// What a store takes beside its table: room for the held spans and for the items of a flush, and a
+/// buffer to copy through.
+#[derive(Drop)]
+pub(crate) struct Memory {
+    pub(crate) guard: Guard,
+    pub(crate) items: Vec<Item>,
+    pub(crate) buf: Vec<u8>,
+}
+
+/// Takes the memory of a store of so many names.
+pub(crate) fn take_memory(alloc: Global, names: u64) -> Result<Memory, NoMemory>
+    requires few { names ≤ 65536 }
+    ensures none { IfOk result (λ memory. memory.guard.spans ≡ []) }
+    ensures guard_room { IfOk result (λ memory. memory.guard.room ≡ names) }
+    ensures empty { IfOk result (λ memory. memory.items.items ≡ []) }
+    ensures room { IfOk result (λ memory. names ≤ vec_capacity memory.items) }
+    ensures buffer { IfOk result (λ memory. vec_len memory.buf ≡ 65536) }
+{
+    let guard = Guard::with_room(alloc, names)?;
+    let items = item_list(alloc, names)?;
+    let buf = copy_buffer(alloc)?;
+    Ok(Memory { guard, items, buf })
+}
+
+/// A buffer to copy objects through.
+fn copy_buffer(alloc: Global) -> Result<Vec<u8>, NoMemory>
+    ensures { IfOk result (λ buf. vec_len buf ≡ 65536) }
+{
+    match vec![in alloc; 0; COPIED] {
+        Ok(buf) => Ok(buf),
+        Err(_) => Err(NoMemory),
+    }
+}
+
+/// A list with room for an item of each name.
+fn item_list(alloc: Global, names: u64) -> Result<Vec<Item>, NoMemory>
+    ensures empty { IfOk result (λ items. items.items ≡ []) }
+    ensures room { IfOk result (λ items. names ≤ vec_capacity items) }
+{
+    match Vec::with_capacity(alloc, names as usize) {
+        Ok(items) => Ok(items),
+        Err(_) => Err(NoMemory),
+    }
+}
+
+/// The store of hands in which what stands now is the checkpoint. What was moved before isn't counted.
+pub(crate) fn store_with<const C: usize>(hands: Hands<C>, items: Vec<Item>) -> Store<C>
+    requires { MakesStore hands items }
+    ensures { result ≡ opened_store C hands.entry.slots hands.entry.table.now (caps_of hands.entry.layout)
+        (grid_of hands.entry.layout) }
+{
+    let mut hands = hands;
+    hands.ledger = no_bytes();
+    Store {
+        kept_layout: hands.layout,
+        hands,
+        items,
+        broken: false,
+    }
+}
+
+/// A ledger of no bytes.
+pub(crate) fn no_bytes<const C: usize>() -> Ledger<C>
+    ensures moved { cells_of result.moved ≡ zero_row }
+    ensures asked { cells_of result.asked ≡ zero_row }
+{
+    Ledger {
+        moved: Row::zero(),
+        asked: Row::zero(),
+    }
+}

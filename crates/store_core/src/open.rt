@@ -1,0 +1,187 @@
+//! Opening a file: a store over what its last checkpoint has.
+ghost use Rattle.std.specs.Prelude.{◌≡◌, ◌<◌, ◌≤◌, ◌^◌, [], length, vec_capacity, vec_len, IsTrue};
+ghost use Rattle.disk_face.specs.Counts.{HasCause};
+ghost use Rattle.disk_face.specs.Frames.{Unchanged};
+ghost use Rattle.disk_face.specs.Writes.{KeepsDisk};
+ghost use Rattle.slot_codec.specs.Readable.{IsSuperBlock};
+ghost use Rattle.slot_codec.specs.declared.codec.Kind.TheVariants as kind;
+ghost use Rattle.flush_run.specs.Parts.{parts_of};
+ghost use Rattle.reopen.specs.Loads.{IsLoadedFrom, KeepsLoaded};
+ghost use Rattle.store_core.specs.Opened.{IsCut, IsOpening};
+ghost use Rattle.store_core.specs.Resuming.{PacksAgain, StartsAgain};
+
+use crate::Store;
+use crate::flush::emptied;
+use crate::laws::store_of;
+use crate::memory::{Memory, no_bytes, store_with, take_memory};
+use disk_face::{Disk, DiskFault, length_of};
+use flush_plan::{Item, Packing, numbers_again};
+use flush_run::{Halted, Hands, resume};
+use flush_start::gather;
+use held_guard::Guard;
+use reopen::{Loaded, OpenFault, State, read_state};
+use size_class::SIZE_MAX;
+use slot_codec::head_len;
+use slot_pair::SlotFault;
+use std::alloc::Global;
+
+impl<const C: usize> Store<C> {
+    /// Opens a file: the store has the map that the file opens to, as it stands and as its last
+    /// checkpoint. A file that is longer than its layout is cut, and a flush that was interrupted goes on
+    /// to its end, in which at most one save comes before each move, and one at the end. All memory is
+    /// taken before anything is changed.
+    pub fn open<D: Disk>(alloc: Global, disk: &mut D) -> Result<Store<C>, OpenFault>
+        requires ready { IsTrue (D.state disk.old).is_ready }
+        requires fits { C ≤ 32 }
+        requires wide { SIZE_MAX < 2 ^ C }
+        ensures { IsOpening C (D.state disk.old) (D.state disk.new) result }
+    {
+        match read_state(alloc, disk)? {
+            State::Still(found) => open_still(alloc, disk, found),
+            State::Moving(found) => open_moving(alloc, disk, found),
+        }
+    }
+}
+
+/// The store of a settled table, whose file ends with its layout then.
+fn open_still<D: Disk, const C: usize>(
+    alloc: Global,
+    disk: &mut D,
+    found: Loaded<C>,
+) -> Result<Store<C>, OpenFault>
+    requires ready { IsTrue (D.state disk.old).is_ready }
+    requires fits { C ≤ 32 }
+    requires wide { SIZE_MAX < 2 ^ C }
+    requires loads { KeepsLoaded found }
+    requires still { found.header.kind ≡ kind.Settled }
+    requires from { IsTrue (D.state disk.old).tells → IsLoadedFrom (D.state disk.old).file found }
+    ensures { IsOpening C (D.state disk.old) (D.state disk.new) result }
+{
+    let Loaded {
+        block,
+        slots,
+        header: _,
+        table,
+        layout,
+    } = found;
+    let Ok(store) = store_of(alloc, block, slots, table, layout) else {
+        return Err(OpenFault::NoMemory);
+    };
+    match cut_to(disk, head_len(block.names) + layout.end()) {
+        Ok(()) => Ok(store),
+        Err(DiskFault) => Err(OpenFault::Slot(SlotFault::Disk)),
+    }
+}
+
+/// Cuts a file to a length where it is longer, and syncs it then.
+fn cut_to<D: Disk>(disk: &mut D, len: u64) -> Result<(), DiskFault>
+    requires ready { IsTrue (D.state disk.old).is_ready }
+    ensures short { IsTrue (D.state disk.old).tells → length (D.state disk.old).file ≤ len
+        → Unchanged (D.state disk.old) (D.state disk.new) }
+    ensures cut { IsTrue (D.state disk.old).tells → len < length (D.state disk.old).file
+        → IsCut len (D.state disk.old) (D.state disk.new) result }
+    ensures frame { KeepsDisk (D.state disk.old) (D.state disk.new) }
+    ensures cause { HasCause (D.state disk.old).faults (D.state disk.new).faults result }
+{
+    if length_of(disk)? <= len {
+        return Ok(());
+    }
+    disk.set_len(len)?;
+    disk.sync()
+}
+
+/// The store of a moving table, whose flush goes on to its end.
+fn open_moving<D: Disk, const C: usize>(
+    alloc: Global,
+    disk: &mut D,
+    found: Loaded<C>,
+) -> Result<Store<C>, OpenFault>
+    requires ready { IsTrue (D.state disk.old).is_ready }
+    requires fits { C ≤ 32 }
+    requires wide { SIZE_MAX < 2 ^ C }
+    requires loads { KeepsLoaded found }
+    requires moving { found.header.kind ≡ kind.Moving }
+    requires from { IsTrue (D.state disk.old).tells → IsLoadedFrom (D.state disk.old).file found }
+    ensures { IsOpening C (D.state disk.old) (D.state disk.new) result }
+{
+    let Ok(memory) = take_memory(alloc, found.block.names) else {
+        return Err(OpenFault::NoMemory);
+    };
+    go_on(disk, found, memory)
+}
+
+/// Goes on with the flush of a moving table.
+fn go_on<D: Disk, const C: usize>(
+    disk: &mut D,
+    found: Loaded<C>,
+    memory: Memory,
+) -> Result<Store<C>, OpenFault>
+    requires ready { IsTrue (D.state disk.old).is_ready }
+    requires fits { C ≤ 32 }
+    requires wide { SIZE_MAX < 2 ^ C }
+    requires loads { KeepsLoaded found }
+    requires moving { found.header.kind ≡ kind.Moving }
+    requires from { IsTrue (D.state disk.old).tells → IsLoadedFrom (D.state disk.old).file found }
+    requires none { memory.guard.spans ≡ [] }
+    requires guard_room { memory.guard.room ≡ found.block.names }
+    requires empty { memory.items.items ≡ [] }
+    requires room { found.block.names ≤ vec_capacity memory.items }
+    requires buffer { vec_len memory.buf ≡ 65536 }
+    ensures { IsOpening C (D.state disk.old) (D.state disk.new) result }
+{
+    let Memory { guard, items, buf } = memory;
+    let phase = phase_again(&found, items);
+    let mut hands = hands_of(found, guard, buf);
+    match resume(disk, phase, &mut hands) {
+        Ok(settled) => Ok(store_with(hands, emptied(settled))),
+        Err(Halted(DiskFault)) => Err(OpenFault::Slot(SlotFault::Disk)),
+    }
+}
+
+/// Packing of the objects of a moving table, from where they stand.
+fn phase_again<const C: usize>(found: &Loaded<C>, items: Vec<Item>) -> Packing<C>
+    requires fits { C ≤ 32 }
+    requires wide { SIZE_MAX < 2 ^ C }
+    requires loads { KeepsLoaded found.now }
+    requires moving { found.now.header.kind ≡ kind.Moving }
+    requires empty { items.items ≡ [] }
+    requires room { found.now.block.names ≤ vec_capacity items }
+    ensures { PacksAgain found.now result (vec_capacity items) }
+{
+    let boundary = found.header.boundary;
+    let all = gather(&found.table, boundary, items);
+    let numbers = numbers_again(
+        &found.layout,
+        boundary,
+        found.header.wall,
+        found.header.slack,
+        &all,
+    );
+    Packing::resume(&found.layout, numbers, all)
+}
+
+/// The hands of a flush that goes on: nothing is held but what stands, and nothing was moved yet.
+fn hands_of<const C: usize>(found: Loaded<C>, guard: Guard, buf: Vec<u8>) -> Hands<C>
+    requires block { IsSuperBlock found.block }
+    requires none { guard.spans ≡ [] }
+    requires room { guard.room ≡ found.block.names }
+    requires buffer { vec_len buf ≡ 65536 }
+    ensures { StartsAgain found.entry (parts_of result) }
+{
+    let Loaded {
+        block,
+        slots,
+        header: _,
+        table,
+        layout,
+    } = found;
+    Hands {
+        table,
+        layout,
+        guard,
+        slots,
+        ledger: no_bytes(),
+        buf,
+        base: head_len(block.names),
+    }
+}
