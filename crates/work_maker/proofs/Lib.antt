@@ -1,0 +1,3 @@
+pub mod LeftLaws
+pub mod ListLaws
+pub mod NameLaws
