@@ -72,8 +72,8 @@ pub record ChangesByFlush (c : Change) (old new : Kept) : Type 0 where
 -- its table. Once it is done, the new content is all that a crash may leave. The calls are at most 4, those of
 -- the bytes moved, and those of the saves, each of as many records as there are names after the change; where
 -- the disk failed 16 more, and those of one save. No byte of a class below the boundary is moved, and of each
--- other class at most twice the bytes of the map after; on a disk that tells nothing, of any map changed so whose
--- objects had the sizes of what stood.
+-- other class at most twice the bytes of the map after; on a disk that tells nothing, of any map changed so
+-- whose objects had the sizes of what stood.
 pub record IsFlush (classes : ℕ) (c : Change) (old new : Kept) (before now : disk.State) (result : Result Done Refusal)
     : Type 0 where
   pub value : OnOk result (ChangesByFlush c old new)

@@ -184,9 +184,9 @@ pub record CanFly (classes : ℕ) (x0 : Parts) (c : Change) (g : Setting) (x : P
   pub start : IsTrue d.tells → IsAtStart classes x0 c p.numbers.reach g d
 
 -- What a flush has made, whether or not it failed: of its parts only the slot in use, the table, the layout, the
--- guard's spans and the bytes moved change; each name has an object of the same size; no byte of a class below
--- b was moved, and of each other class at most twice the bytes of its items; and the calls are those of the
--- bytes moved and of the saves, one of which may have failed, and at most 20 more.
+-- guard's spans and the bytes moved change; each name has an object of the same size; no byte of a class
+-- below b was moved, and of each other class at most twice the bytes of its items; and the calls are those of
+-- the bytes moved and of the saves, one of which may have failed, and at most 20 more.
 pub record HasFlown (b : ℕ) (items : List Item) (first now : disk.State) (x x2 : Parts) : Type 0 where
   pub keeps : KeepsSettling first now x x2
   pub sizes : SameSizes x.table.now x2.table.now

@@ -131,7 +131,8 @@ returns-in_err-move_one-clause-most g c =
     let r = pack_can i start step c.requires.moving _ refl refl _ c.in_ok-free_target.ensures.answer t.keeps
     (c.in_ok-free_target.ensures.flies c.requires.start.0) in
     pack_most i step (parts_of c.free_target.new.hands) (g.D.Disk.state c.free_target.new.disk) _
-    t.most _ c.in_ok-free_target.ensures.answer c.in_ok-free_target.ensures.none (g.D.Disk.state c.move_one.new.disk)
+    t.most _ c.in_ok-free_target.ensures.answer c.in_ok-free_target.ensures.none
+    (g.D.Disk.state c.move_one.new.disk)
     (parts_of c.move_one.new.hands) t.moved c.move_one.ensures.slots c.move_one.ensures.most r.few
     c.in_err-move_one.ensures.unmoved
 
