@@ -1,5 +1,6 @@
--- How a layer answers where it stops before it puts any byte, and that there is one answer.
-use Rattle.std.specs.Prelude.{◌≡◌, ◌≢◌, ℕ, List, [], Result, Err, refl}
+-- How a layer answers where it stops before it puts any byte, that there is one answer, and which status comes
+-- of it.
+use Rattle.std.specs.Prelude.{◌≡◌, ◌≢◌, ◌⊎◌, ℕ, List, [], Result, Ok, Err, refl}
 use Rattle.std.proofs.Common.{arith, ap, sym, ◌∙◌, subst, inl, inr, append-nil}
 use Rattle.std.specs.FinMap as fin
 use Rattle.disk_face.specs.Streams.{SinkState}
@@ -18,7 +19,7 @@ use Rattle.costore_top.specs.declared.stop.Stop.{Stop}
 use Rattle.costore_top.specs.declared.stop.Stop.TheVariants as stop
 use Rattle.costore_top.specs.Getting.{IsFirstRefusal, IsObject, StopsAs, fault_of, or_missing}
 use Rattle.costore_top.specs.Layers.{Answers}
-use Rattle.costore_top.specs.Outcomes.{EndsBy, IsAnswer}
+use Rattle.costore_top.specs.Outcomes.{Ends, EndsBy, IsAnswer, status_at}
 use Rattle.costore_top.specs.Words.{Command, check, format, get, help, map_of, run, version, work}
 
 -- a layer stops as it is to, or for want of a device or of memory, before it puts any
@@ -99,3 +100,39 @@ one_answer (run name) file a b g h = g ∙ sym h
 one_answer (work name number count) file a b g h = g ∙ sym h
 one_answer help file a b g h = g ∙ sym h
 one_answer version file a b g h = g ∙ sym h
+
+-- what the map of a file that opens gives to a name is the answer
+pub given_answer : (at name file : List ℕ) (m : Map) (b : Book) → Opens CLASSES SIZE_MAX file m b
+    → IsAnswer (get at name) file (or_missing (fin.get m name))
+unfolding IsAnswer
+given_answer at name file m b opens = inl (record { map = m; book = b; opens = opens; same = refl })
+
+-- ---- the status
+
+-- the statuses of a file that isn't there, of devices that failed, and of want of memory
+abbrev IsFree : ℕ → Type 0
+IsFree status = (status ≡ 3) ⊎ (status ≡ 7) ⊎ (status ≡ 9) ⊎ (status ≡ 10)
+
+status_by : (answer : Result (List ℕ) Stop) (bytes : List ℕ) (is : Result (List ℕ) Stop → Type 0)
+    (end : Result (Unit {0}) Stop) → ((other : Result (List ℕ) Stop) → is other → answer ≡ other)
+    → EndsBy is bytes end → (status_at end ≡ status_at answer) ⊎ IsFree (status_at end)
+status_by answer bytes is (Ok x) one by = inl (ap status_at (sym (one (Ok bytes) by)))
+status_by answer bytes is (Err stop.NoFile) one by = inr (inl refl)
+status_by answer bytes is (Err stop.Disk) one by = inr (inr (inl refl))
+status_by answer bytes is (Err stop.Sink) one by = inr (inr (inr (inl refl)))
+status_by answer bytes is (Err stop.NoMemory) one by = inr (inr (inr (inr refl)))
+status_by answer bytes is (Err stop.Words) one by = inl (ap status_at (sym (one (Err stop.Words) by.0)))
+status_by answer bytes is (Err (stop.NotStore f)) one by =
+    inl (ap status_at (sym (one (Err (stop.NotStore f)) by.0)))
+status_by answer bytes is (Err (stop.Taken n)) one by =
+    inl (ap status_at (sym (one (Err (stop.Taken n)) by.0)))
+status_by answer bytes is (Err stop.Missing) one by = inl (ap status_at (sym (one (Err stop.Missing) by.0)))
+status_by answer bytes is (Err stop.NotBuilt) one by = inl (ap status_at (sym (one (Err stop.NotBuilt) by.0)))
+
+pub ends_by_the_answer : (c : Command) (file : List ℕ) (answer : Result (List ℕ) Stop) (status : ℕ)
+    (old new : SinkState) → IsAnswer c file answer → Ends (IsAnswer c file) status old new
+    → (status ≡ status_at answer) ⊎ (status ≡ 3) ⊎ (status ≡ 7) ⊎ (status ≡ 9) ⊎ (status ≡ 10)
+ends_by_the_answer c file answer status old new is ends =
+    subst (λ n. (n ≡ status_at answer) ⊎ IsFree n) (sym ends.same_status)
+    (status_by answer ends.bytes (IsAnswer c file) ends.end (λ other h. one_answer c file answer other is h)
+    ends.by)

@@ -12,6 +12,6 @@ mod stop;
 mod top;
 mod words;
 
-pub use laws::one_answer;
+pub use laws::{ends_by_the_answer, one_answer};
 pub use stop::{Stop, StoreFault};
 pub use top::{Outcome, costore};
