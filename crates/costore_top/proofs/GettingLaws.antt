@@ -1,15 +1,10 @@
--- What a file that was opened, or wasn't, answers to `get`.
-use Rattle.std.specs.Prelude.{◌≡◌, ℕ, ◌+◌, ◌≤◌, List, length, Option, Some, option_map, Err, refl}
-use Rattle.std.proofs.Common.{arith, ap, sym, ◌∙◌, inr}
+-- What a file that was opened gives to a name.
+use Rattle.std.specs.Prelude.{◌≡◌, ℕ, ◌+◌, ◌≤◌, List, length, Option, Some, option_map}
+use Rattle.std.proofs.Common.{arith, ap, sym, ◌∙◌}
 use Rattle.std.specs.FinMap as fin
 use Rattle.size_class.specs.declared.TheConstants.{CLASSES, SIZE_MAX}
-use Rattle.slot_codec.specs.Choice.{table_of}
-use Rattle.slot_codec.specs.Choice as choice
 use Rattle.slot_codec.specs.Spelling.{head_len}
 use Rattle.slot_codec.specs.declared.codec.Record.{Record}
-use Rattle.slot_pair.specs.Finding.{Refuses}
-use Rattle.slot_pair.specs.declared.find.SlotFault.{SlotFault}
-use Rattle.slot_pair.specs.declared.find.SlotFault.TheVariants as slot
 use Rattle.table_rules.specs.Opening.{placed_table}
 use Rattle.table_rules.specs.Tables.{book_of, end_of_record}
 use Rattle.extent_table.specs.declared.spot.Spot.{Spot}
@@ -18,50 +13,8 @@ use Rattle.spot_terms.proofs.ReadLaws.{get-read_at}
 use Rattle.spot_terms.proofs.EnterLaws.{by_name}
 use Rattle.spot_terms.proofs.OpenedLaws.{record_within}
 use Rattle.reopen.specs.Loads.{IsLoadedFrom, KeepsLoaded, table_seen}
-use Rattle.reopen.specs.Refusals.{RefusesToOpen}
 use Rattle.reopen.specs.declared.state.Loaded.{Loaded}
-use Rattle.reopen.specs.declared.fault.OpenFault.{OpenFault}
-use Rattle.reopen.specs.declared.fault.OpenFault.TheVariants as opening
-use Rattle.costore_top.specs.declared.stop.StoreFault.TheVariants as store
-use Rattle.costore_top.specs.declared.stop.Stop.TheVariants as stop
-use Rattle.costore_top.specs.Getting.{IsGiven, IsObject, IsRefused, StopsAs, fault_of, or_missing, stop_of}
-
--- a refusal in finding the table is the first
-refused_in_finding : (file : List ℕ) (refusal : choice.SlotRefusal) → table_of file ≡ Err refusal
-    → IsRefused file (Err (stop.NotStore (store.Slot (fault_of refusal))))
-refused_in_finding file refusal is = record {
-  fault = store.Slot (fault_of refusal);
-  first = (refusal, is, refl);
-  same = refl;
-}
-
-slot_stops : (name file : List ℕ) (f : SlotFault) → Refuses (table_of file) f
-    → StopsAs (IsObject name file) (stop_of (opening.Slot f))
-slot_stops name file slot.Disk h = tt
-slot_stops name file slot.Short h = inr (refused_in_finding file choice.too_short h)
-slot_stops name file slot.Unformatted h = inr (refused_in_finding file choice.unformatted h)
-slot_stops name file slot.NoGate h = inr (refused_in_finding file choice.no_gate h)
-slot_stops name file slot.SameSequence h = inr (refused_in_finding file choice.same_sequence h)
-slot_stops name file (slot.Codec f at) h = inr (refused_in_finding file (choice.codec f at) h)
-
--- a refusal to open is what `get` of any name is to answer
-pub opening_stops : (name file : List ℕ) (why : OpenFault) → RefusesToOpen CLASSES file why
-    → StopsAs (IsObject name file) (stop_of why)
-opening_stops name file (opening.Slot f) h = slot_stops name file f h
-opening_stops name file (opening.Table broken) h =
-    inr (record { fault = store.Table broken; first = h; same = refl })
-opening_stops name file opening.NoMemory h = tt
-
--- the disk failed exactly where opening says so
-pub disk_by_opening : (why : OpenFault) → stop_of why ≡ stop.Disk → why ≡ opening.Slot slot.Disk
-disk_by_opening (opening.Slot slot.Disk) h = refl
-disk_by_opening (opening.Slot slot.Short) h = cc
-disk_by_opening (opening.Slot slot.Unformatted) h = cc
-disk_by_opening (opening.Slot slot.NoGate) h = cc
-disk_by_opening (opening.Slot slot.SameSequence) h = cc
-disk_by_opening (opening.Slot (slot.Codec f at)) h = cc
-disk_by_opening (opening.Table broken) h = cc
-disk_by_opening opening.NoMemory h = cc
+use Rattle.costore_top.specs.Getting.{IsGiven, or_missing}
 
 -- what the map of a file that was opened gives to a name
 pub given_at : (name file : List ℕ) (x : Loaded CLASSES) (found : Option Spot) → KeepsLoaded x
