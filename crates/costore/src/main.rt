@@ -39,7 +39,7 @@ fn run(rt: &HostRuntime) -> Result<Outcome, AllocError> {
     let mut bay = FileBay::new(rt, rt.alloc());
     let mut input = StdSource::new(rt.stdin());
     let mut output = StdSink::new(rt.stdout());
-    Ok(costore(&texts, &mut bay, &mut input, &mut output))
+    Ok(costore(rt.alloc(), &texts, &mut bay, &mut input, &mut output))
 }
 
 /// The words of a command line that couldn't be read: where one isn't text there are none, and so no

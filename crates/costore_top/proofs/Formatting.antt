@@ -67,6 +67,7 @@ done_by (Err (stop.NotStore f)) is = absurd (omega (arith, is))
 done_by (Err (stop.Taken n)) is = absurd (omega (arith, is))
 done_by (Err stop.Missing) is = absurd (omega (arith, is))
 done_by (Err stop.Disk) is = absurd (omega (arith, is))
+done_by (Err stop.NoMemory) is = absurd (omega (arith, is))
 done_by (Err stop.NotBuilt) is = absurd (omega (arith, is))
 
 pub disk_by : (end : Result (Unit {0}) Stop) → status_at end ≡ 7 → end ≡ Err stop.Disk
@@ -78,6 +79,7 @@ disk_by (Err (stop.NotStore f)) is = absurd (omega (arith, is))
 disk_by (Err (stop.Taken n)) is = absurd (omega (arith, is))
 disk_by (Err stop.Missing) is = absurd (omega (arith, is))
 disk_by (Err stop.Disk) is = refl
+disk_by (Err stop.NoMemory) is = absurd (omega (arith, is))
 disk_by (Err stop.NotBuilt) is = absurd (omega (arith, is))
 
 pub formats_by : {a b : State} (k names : ℕ) (end : Result (Unit {0}) Stop)

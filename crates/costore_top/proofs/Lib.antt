@@ -1,9 +1,6 @@
 mod Pieces
-mod RecordTexts
-mod Passing
-mod Judging
-mod Stops
-mod Answering
+mod GettingLaws
+mod AnswerLaws
 mod Statuses
 mod Formatting
 mod WordLists

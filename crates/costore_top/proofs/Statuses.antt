@@ -6,7 +6,7 @@ use Rattle.std.proofs.Common.{arith, ap, sym, ◌∙◌, subst, inl, inr}
 use Rattle.disk_face.specs.Counts.{HasCause, Rose}
 use Rattle.std.proofs.lemmas.List.{take_all}
 use Rattle.disk_face.specs.Streams.{Puts, SinkState}
-use Rattle.costore_top.specs.Outcomes.{Ends, IsFront, PutsLast, PutsLine, bytes_of, line_at, status_at}
+use Rattle.costore_top.specs.Outcomes.{Ends, IsFront, PutsLast, PutsLine, line_at, status_at}
 use Rattle.costore_top.specs.Layers.{Answers}
 
 -- all bytes are a front of them
@@ -47,25 +47,26 @@ later_rose {between} {now} {line} a b n later last = record {
 }
 
 -- the end of a command, its answer's bytes put first and its line after them
-pub ended : (answer : Result (List ℕ) Stop) (end : Result (Unit {0}) Stop) (status : ℕ)
+pub ended : (answer : Result (List ℕ) Stop → Type 0) (end : Result (Unit {0}) Stop) (status : ℕ)
     (old mid new : SinkState)
     → status ≡ status_at end → Answers answer old mid end → mid.tells ≡ old.tells → old.faults ≤ mid.faults
     → (IsTrue mid.tells → PutsLast mid.given new.given (line_at end) (Rose mid.faults new.faults))
     → Ends answer status old new
 ended answer end status old mid new is answers told later line = record {
   end = end;
+  bytes = answers.bytes;
   same_status = is;
   by = answers.ends;
   puts = λ sink_told. record {
     between = mid.given;
-    object = Puts-front old.given mid.given (bytes_of answer) end (answers.puts sink_told);
+    object = Puts-front old.given mid.given answers.bytes end (answers.puts sink_told);
     whole = λ done. whole_of end (answers.puts sink_told) done;
     line = later_rose old.faults mid.faults new.faults later (line (subst IsTrue (sym told) sink_told));
   };
 }
   where
-    whole_of : (e : Result (Unit {0}) Stop) → Puts old.given mid.given (bytes_of answer) e → IsOk e
-        → mid.given ≡ old.given ++ bytes_of answer
+    whole_of : (e : Result (Unit {0}) Stop) → Puts old.given mid.given answers.bytes e → IsOk e
+        → mid.given ≡ old.given ++ answers.bytes
     whole_of (Ok x) puts done = puts.all
     whole_of (Err why) puts done = cc
 

@@ -33,7 +33,7 @@ slot_text slot.Disk = codes "disk"
 
 abbrev pub store_text : StoreFault → List ℕ
 store_text (store.Slot f) = slot_text f
-store_text (store.Rule rule at) = codes "rule " ++ decimal rule ++ codes " at " ++ decimal at
+store_text (store.Table broken) = codes "rule " ++ decimal broken.rule ++ codes " at " ++ decimal broken.at
 
 -- the line of a reason to stop; of the sink's own fault there is none
 abbrev pub line_of : Stop → List ℕ
@@ -44,4 +44,5 @@ line_of (stop.Taken n) = codes "fault taken " ++ decimal n ++ codes "\n"
 line_of stop.Missing = codes "fault missing\n"
 line_of stop.Disk = codes "fault disk\n"
 line_of stop.Sink = []
+line_of stop.NoMemory = codes "fault memory\n"
 line_of stop.NotBuilt = codes "fault not built\n"

@@ -5,7 +5,7 @@ use Rattle.disk_face.specs.States.{State}
 use Rattle.disk_face.specs.Streams.{SinkState, Puts}
 use Rattle.disk_face.specs.Frames.{Unchanged, Untouched}
 use Rattle.slot_pair.specs.Finding.{HasDiskCause}
-use Rattle.costore_top.specs.Outcomes.{EndsBy, bytes_of}
+use Rattle.costore_top.specs.Outcomes.{EndsBy}
 use Rattle.costore_top.specs.declared.stop.Stop.{Stop}
 use Rattle.costore_top.specs.declared.stop.Stop.TheVariants as stop
 
@@ -46,11 +46,12 @@ pub record Looks {T : Type 0} (old new : State) (result : Result T Stop) : Type 
   pub cause : HasDiskCause stop.Disk old.faults new.faults result
   pub frame : Unchanged old new
 
--- A layer whose answer this is ends by it, and puts its bytes, or a front of them where it stopped.
-pub record Answers (answer : Result (List ℕ) Stop) (old new : SinkState) (end : Result (Unit {0}) Stop) : Type
-    0 where
-  pub ends : EndsBy answer end
-  pub puts : IsTrue old.tells → Puts old.given new.given (bytes_of answer) end
+-- A layer that is to answer so ends by it, and puts its bytes, or a front of them where it stopped.
+pub record Answers (answer : Result (List ℕ) Stop → Type 0) (old new : SinkState)
+    (end : Result (Unit {0}) Stop) : Type 0 where
+  pub bytes : List ℕ
+  pub ends : EndsBy answer bytes end
+  pub puts : IsTrue old.tells → Puts old.given new.given bytes end
 
 -- where a layer stopped and no device failed, nothing was put
 abbrev pub PutsNone : {O : Type 0} → O → O → Result (Unit {0}) Stop → Type 0

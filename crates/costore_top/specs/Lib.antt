@@ -1,7 +1,5 @@
 pub mod Words
 pub mod Getting
-pub mod Chosen
-pub mod Passes
 pub mod Faults
 pub mod Outcomes
 pub mod Layers

@@ -5,7 +5,7 @@ use Rattle.disk_face.specs.Mounts.{Mount}
 use Rattle.disk_face.specs.Streams.{SinkState}
 use Rattle.disk_face.specs.declared.bay.Mounted.{Mounted}
 use Rattle.costore_top.specs.Words.{Command, format, get, help, version}
-use Rattle.costore_top.specs.Getting.{answer_of}
+use Rattle.costore_top.specs.Getting.{IsObject}
 use Rattle.costore_top.specs.Faults.{line_of}
 use Rattle.costore_top.specs.declared.stop.Stop.{Stop}
 use Rattle.costore_top.specs.declared.stop.Stop.TheVariants as stop
@@ -20,6 +20,7 @@ status_of (stop.Taken n) = 5
 status_of stop.Missing = 6
 status_of stop.Disk = 7
 status_of stop.Sink = 9
+status_of stop.NoMemory = 10
 status_of stop.NotBuilt = 12
 
 -- the status of a command that ends so
@@ -37,6 +38,11 @@ abbrev pub makes : Command → Bool
 makes (format file k names) = true
 makes _ = false
 
+-- the command reads the table of its file, for which it takes memory
+abbrev pub reads : Command → Bool
+reads (get file name) = true
+reads _ = false
+
 -- the file that a command mounts
 abbrev pub file_of : Command → List ℕ
 file_of (format file k names) = file
@@ -51,27 +57,24 @@ mounted c answer = Some (record { name = file_of c; make = makes c; answer = ans
 abbrev pub format_answer : List ℕ → Result (List ℕ) Stop
 format_answer file = if length file == 0 then Ok (codes "formatted\n") else Err (stop.Taken (length file))
 
--- what a command answers, by the bytes of its file
-unfoldable pub answer_for : Command → List ℕ → Result (List ℕ) Stop
-answer_for (format name k names) file = format_answer file
-answer_for (get name object) file = answer_of object file
-answer_for help file = Ok HELP.now
-answer_for version file = Ok VERSION.now
-answer_for _ file = Err stop.NotBuilt
+-- what a command is to answer, against the bytes of its file
+unfoldable pub IsAnswer : Command → List ℕ → Result (List ℕ) Stop → Type 0
+IsAnswer (format name k names) file answer = answer ≡ format_answer file
+IsAnswer (get name object) file answer = IsObject object file answer
+IsAnswer help file answer = answer ≡ Ok HELP.now
+IsAnswer version file answer = answer ≡ Ok VERSION.now
+IsAnswer _ file answer = answer ≡ Err stop.NotBuilt
 
--- A command whose answer this is may end so: with it, or where a device failed, or where its file isn't
--- there.
-abbrev pub EndsBy : Result (List ℕ) Stop → Result (Unit {0}) Stop → Type 0
-EndsBy answer (Ok x) = IsOk answer
-EndsBy answer (Err stop.Disk) = Unit {0}
-EndsBy answer (Err stop.NoFile) = Unit {0}
-EndsBy answer (Err stop.Sink) = IsOk answer
-EndsBy answer (Err why) = answer ≡ Err why
-
--- the bytes that an answer has
-abbrev pub bytes_of : Result (List ℕ) Stop → List ℕ
-bytes_of (Ok bytes) = bytes
-bytes_of (Err why) = []
+-- A command that is to answer so may end so, where these are the bytes that it puts: it has put all that it
+-- is to answer; or the sink failed meanwhile, or the disk did, then or before; or its file isn't there, or
+-- memory is wanting, and there are none; or it stops as it is to, and there are none.
+abbrev pub EndsBy : (Result (List ℕ) Stop → Type 0) → List ℕ → Result (Unit {0}) Stop → Type 0
+EndsBy answer bytes (Ok x) = answer (Ok bytes)
+EndsBy answer bytes (Err stop.Sink) = answer (Ok bytes)
+EndsBy answer bytes (Err stop.Disk) = answer (Ok bytes) ⊎ (bytes ≡ [])
+EndsBy answer bytes (Err stop.NoFile) = bytes ≡ []
+EndsBy answer bytes (Err stop.NoMemory) = bytes ≡ []
+EndsBy answer bytes (Err why) = answer (Err why) × (bytes ≡ [])
 
 -- the line that is put last
 abbrev pub line_at : {A : Type 0} → Result A Stop → List ℕ
@@ -87,13 +90,13 @@ pub record PutsLast (before now bytes : List ℕ) (failed : Type 0) : Type 0 whe
   pub front : IsFront before now bytes
   pub whole : (now ≡ before ++ bytes) ⊎ failed
 
--- What a command that ends so has put: the answer's bytes, all of them where it is done and a front of
--- them where it stopped, and then the line of its end.
-pub record PutsOut (answer : Result (List ℕ) Stop) (end : Result (Unit {0}) Stop) (before now : List ℕ)
-    (failed : Type 0) : Type 0 where
+-- What a command that ends so has put: these bytes, all of them where it is done and a front of them where
+-- it stopped, and then the line of its end.
+pub record PutsOut (bytes : List ℕ) (end : Result (Unit {0}) Stop) (before now : List ℕ) (failed : Type 0)
+    : Type 0 where
   pub between : List ℕ
-  pub object : IsFront before between (bytes_of answer)
-  pub whole : IsOk end → between ≡ before ++ bytes_of answer
+  pub object : IsFront before between bytes
+  pub whole : IsOk end → between ≡ before ++ bytes
   pub line : PutsLast between now (line_at end) failed
 
 -- The line of a reason to stop of this status was put and nothing more, whole unless the sink failed.
@@ -102,9 +105,10 @@ pub record PutsLine (status : ℕ) (old new : SinkState) : Type 0 where
   pub same_status : status ≡ status_of why
   pub line : PutsLast old.given new.given (line_of why) (Rose old.faults new.faults)
 
--- The end of a command, by its status, its answer, and what it put.
-pub record Ends (answer : Result (List ℕ) Stop) (status : ℕ) (old new : SinkState) : Type 0 where
+-- The end of a command that is to answer so, by its status and by what it put.
+pub record Ends (answer : Result (List ℕ) Stop → Type 0) (status : ℕ) (old new : SinkState) : Type 0 where
   pub end : Result (Unit {0}) Stop
+  pub bytes : List ℕ
   pub same_status : status ≡ status_at end
-  pub by : EndsBy answer end
-  pub puts : IsTrue old.tells → PutsOut answer end old.given new.given (Rose old.faults new.faults)
+  pub by : EndsBy answer bytes end
+  pub puts : IsTrue old.tells → PutsOut bytes end old.given new.given (Rose old.faults new.faults)

@@ -4,7 +4,7 @@ ghost use Rattle.disk_face.specs.Frames.{Untouched};
 ghost use Rattle.costore_top.specs.Commands.{Formats, IsDone, IsMounted};
 ghost use Rattle.costore_top.specs.Layers.{Answers, KeepsAt, PutsNone};
 ghost use Rattle.costore_top.specs.Words.{Command, command_of, format};
-ghost use Rattle.costore_top.specs.Outcomes.{answer_for, makes, mounts};
+ghost use Rattle.costore_top.specs.Outcomes.{IsAnswer, makes, mounts, reads};
 
 use crate::Stop;
 use crate::command::{format_in, get_from};
@@ -12,10 +12,16 @@ use crate::copy::put_whole;
 use crate::help::{HELP, VERSION};
 use crate::words::Asked;
 use disk_face::{Bay, Mounted, Sink};
+use std::alloc::Global;
 
 /// Does what is asked, but for the fault line.
-#[tactic(auto, unfolding(crate::specs::Outcomes::answer_for))]
-pub fn do_asked<B: Bay, O: Sink>(asked: &Asked, bay: &mut B, output: &mut O) -> Result<(), Stop>
+#[tactic(auto, unfolding(crate::specs::Outcomes::IsAnswer))]
+pub fn do_asked<B: Bay, O: Sink>(
+    alloc: Global,
+    asked: &Asked,
+    bay: &mut B,
+    output: &mut O,
+) -> Result<(), Stop>
     requires none { (B.state bay.old).last_mount ≡ None }
     requires ranges { (file : List ℕ) (k names : ℕ) → command_of asked.now ≡ format file k names
         → (2 ≤ k) × (k ≤ 64) × (16 ≤ names) × (names ≤ 65536) }
@@ -26,8 +32,9 @@ pub fn do_asked<B: Bay, O: Sink>(asked: &Asked, bay: &mut B, output: &mut O) -> 
         → IsMounted (command_of asked.now) (B.state bay.new).last_mount (result ≡ Err Stop.Disk)
         (result ≡ Err Stop.NoFile) }
     ensures answers { (IsTrue (mounts (command_of asked.now)) → IsTrue (B.state bay.old).tells)
-        → Answers (answer_for (command_of asked.now) (B.state bay.old).file) (O.state output.old)
+        → Answers (IsAnswer (command_of asked.now) (B.state bay.old).file) (O.state output.old)
         (O.state output.new) result }
+    ensures memory { IsFalse (reads (command_of asked.now)) → result ≢ Err Stop.NoMemory }
     ensures nothing_put { PutsNone output.old output.new result }
     ensures frame { IsFalse (makes (command_of asked.now)) → Untouched (B.state bay.old) (B.state bay.new) }
     ensures formats { (file : List ℕ) (k names : ℕ) → command_of asked.now ≡ format file k names
@@ -40,7 +47,7 @@ pub fn do_asked<B: Bay, O: Sink>(asked: &Asked, bay: &mut B, output: &mut O) -> 
 {
     match asked {
         Asked::Format(file, k, names) => format_in(bay, file, *k, *names, output),
-        Asked::Get(file, name) => get_from(bay, file, name, output),
+        Asked::Get(file, name) => get_from(alloc, bay, file, name, output),
         Asked::Help => put_whole(output, HELP.as_bytes()),
         Asked::Version => put_whole(output, VERSION.as_bytes()),
         Asked::Check(_) | Asked::Map(_) | Asked::Run(_) | Asked::Work(_, _, _) => Err(

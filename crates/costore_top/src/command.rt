@@ -1,7 +1,7 @@
 //! Each command, but for the fault line.
 ghost use Rattle.std.specs.Prelude.{◌≡◌, ◌≢◌, ◌≤◌, None, Ok, Err, IsTrue, length};
 ghost use Rattle.disk_face.specs.Frames.{Untouched};
-ghost use Rattle.costore_top.specs.Getting.{answer_of};
+ghost use Rattle.costore_top.specs.Getting.{IsObject};
 ghost use Rattle.costore_top.specs.Commands.{Formats, IsDone, IsMounted};
 ghost use Rattle.costore_top.specs.Layers.{Answers, KeepsAt, PutsNone};
 ghost use Rattle.costore_top.specs.Outcomes.{format_answer};
@@ -13,9 +13,11 @@ use crate::get::get;
 use disk_face::{Bay, Disk, Mounted, Sink, length_of};
 use slot_codec::Name;
 use slot_pair::SlotPair;
+use std::alloc::Global;
 
 /// `get FILE NAME`.
 pub fn get_from<B: Bay, O: Sink>(
+    alloc: Global,
     bay: &mut B,
     file: &str,
     name: &Name,
@@ -26,7 +28,7 @@ pub fn get_from<B: Bay, O: Sink>(
     ensures mounted { IsMounted (get file.now name.now) (B.state bay.new).last_mount (result ≡ Err Stop.Disk)
         (result ≡ Err Stop.NoFile) }
     ensures answers { IsTrue (B.state bay.old).tells
-        → Answers (answer_of name.now (B.state bay.old).file) (O.state output.old) (O.state output.new)
+        → Answers (IsObject name.now (B.state bay.old).file) (O.state output.old) (O.state output.new)
         result }
     ensures nothing_put { PutsNone output.old output.new result }
     ensures frame { Untouched (B.state bay.old) (B.state bay.new) }
@@ -38,7 +40,7 @@ pub fn get_from<B: Bay, O: Sink>(
         Ok(Mounted::Absent) => Err(Stop::NoFile),
         // Nothing is made where it isn't asked for.
         Ok(Mounted::Made) => unreachable!(),
-        Ok(Mounted::There) => get(bay, name, output),
+        Ok(Mounted::There) => get(alloc, bay, name, output),
     }
 }
 
@@ -54,11 +56,12 @@ pub fn format_in<B: Bay, O: Sink>(
     requires divisor { (2 ≤ k) × (k ≤ 64) }
     requires low { 16 ≤ names }
     requires high { names ≤ 65536 }
-    ensures words { result ≢ Err Stop.Words }
+    ensures words { (result ≢ Err Stop.Words) × (result ≢ Err Stop.NoMemory) }
     ensures mounted { IsMounted (format file.now k names) (B.state bay.new).last_mount
         (result ≡ Err Stop.Disk) (result ≡ Err Stop.NoFile) }
     ensures answers { IsTrue (B.state bay.old).tells
-        → Answers (format_answer (B.state bay.old).file) (O.state output.old) (O.state output.new) result }
+        → Answers (λ answer. answer ≡ format_answer (B.state bay.old).file) (O.state output.old)
+        (O.state output.new) result }
     ensures nothing_put { PutsNone output.old output.new result }
     ensures formats { IsTrue (B.state bay.old).tells → length (B.state bay.old).file ≡ 0
         → Formats k names (B.state bay.old) (B.state bay.new) (IsDone result) }
@@ -80,9 +83,10 @@ fn format<D: Disk, O: Sink>(disk: &mut D, k: u64, names: u64, output: &mut O) ->
     requires divisor { (2 ≤ k) × (k ≤ 64) }
     requires low { 16 ≤ names }
     requires high { names ≤ 65536 }
-    ensures words { (result ≢ Err Stop.Words) × (result ≢ Err Stop.NoFile) }
+    ensures words { (result ≢ Err Stop.Words) × (result ≢ Err Stop.NoFile) × (result ≢ Err Stop.NoMemory) }
     ensures answers { IsTrue (D.state disk.old).tells
-        → Answers (format_answer (D.state disk.old).file) (O.state output.old) (O.state output.new) result }
+        → Answers (λ answer. answer ≡ format_answer (D.state disk.old).file) (O.state output.old)
+        (O.state output.new) result }
     ensures nothing_put { PutsNone output.old output.new result }
     ensures formats { IsTrue (D.state disk.old).tells → length (D.state disk.old).file ≡ 0
         → Formats k names (D.state disk.old) (D.state disk.new) (IsDone result) }

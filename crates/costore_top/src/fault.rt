@@ -31,6 +31,7 @@ pub fn fault_line(why: Stop) -> ArrayVec<u8, 128>
         Stop::Missing => push(&mut line, b"fault missing\n"),
         Stop::Disk => push(&mut line, b"fault disk\n"),
         Stop::Sink => {}
+        Stop::NoMemory => push(&mut line, b"fault memory\n"),
         Stop::NotBuilt => push(&mut line, b"fault not built\n"),
     }
     line
@@ -44,11 +45,11 @@ fn push_store_fault(line: &mut ArrayVec<u8, 128>, fault: StoreFault)
 {
     match fault {
         StoreFault::Slot(fault) => push_slot_fault(line, fault),
-        StoreFault::Rule(rule, at) => {
+        StoreFault::Table(broken) => {
             push(line, b"rule ");
-            push_number(line, u64::from(rule));
+            push_number(line, u64::from(broken.rule));
             push(line, b" at ");
-            push_number(line, at);
+            push_number(line, broken.at);
         }
     }
 }

@@ -20,7 +20,8 @@ NUMBER is 0 to 18446744073709551615, COUNT is 1 to 1000000. Numbers have no sign
 
 status: 0 done, 1 faulty words, 3 no such file, 4 no store, 5 the file isn't empty, 6 no such object,
 7 the disk failed, 9 the output failed, 10 out of memory, 12 not built yet.
-At each status but 0, 9 and 10 one line that begins with fault is put last.
+At each status but 0 and 9 one line that begins with fault is put last, but where there is no memory for
+the words.
 
 example: costore format blocks 9 1024
 ";

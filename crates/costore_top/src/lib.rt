@@ -7,12 +7,11 @@ mod copy;
 mod fault;
 mod get;
 mod help;
-mod pass;
-mod records;
+mod laws;
 mod stop;
-mod table;
 mod top;
 mod words;
 
+pub use laws::{ends_by_the_answer, one_answer};
 pub use stop::{Stop, StoreFault};
 pub use top::{Outcome, costore};

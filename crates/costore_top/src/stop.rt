@@ -1,13 +1,14 @@
 //! Why a command stops before it is done.
 use slot_pair::SlotFault;
+use table_check::TableFault;
 
 /// Why a file is no store.
 #[derive(Clone, Copy, Debug, PartialEq, Eq)]
 pub enum StoreFault {
     /// The superblock, the gates, a header or a record refuses it.
     Slot(SlotFault),
-    /// The first rule that its table breaks, and the least place where it does.
-    Rule(u8, u64),
+    /// Its table breaks a rule.
+    Table(TableFault),
 }
 
 /// Why a command stops.
@@ -24,6 +25,8 @@ pub enum Stop {
     Missing,
     Disk,
     Sink,
+    /// There is too little memory for the table of the file.
+    NoMemory,
     /// What is asked can't be done yet.
     NotBuilt,
 }

@@ -4,7 +4,7 @@ ghost use Rattle.disk_face.specs.Counts.{Rose};
 ghost use Rattle.disk_face.specs.Frames.{Untouched};
 ghost use Rattle.costore_top.specs.Commands.{Formats, IsDone, IsMounted};
 ghost use Rattle.costore_top.specs.Words.{Command, Means, MeansNone, format, texts};
-ghost use Rattle.costore_top.specs.Outcomes.{Ends, PutsLast, PutsLine, answer_for, line_at, makes, mounts, status_at};
+ghost use Rattle.costore_top.specs.Outcomes.{Ends, PutsLast, PutsLine, IsAnswer, line_at, makes, mounts, reads, status_at};
 ghost use Rattle.costore_top.specs.Layers.{Answers, Keeps, KeepsAt, PutsNone};
 ghost use Rattle.costore_top.specs.Faults.{line_of};
 
@@ -13,13 +13,14 @@ use crate::asked::do_asked;
 use crate::fault::fault_line;
 use crate::words::read_words;
 use disk_face::{Bay, Mounted, Sink, Source};
+use std::alloc::Global;
 
 /// How the program ends. The three numbers are of a session's requests; they are 0 for a command
 /// that serves none.
 #[derive(Clone, Copy, Debug, PartialEq, Eq)]
 pub struct Outcome {
     /// 0 done, 1 faulty words, 3 no file, 4 no store, 5 not an empty file, 6 no such object, 7 the
-    /// disk failed, 9 the sink failed, 12 not built yet.
+    /// disk failed, 9 the sink failed, 10 too little memory, 12 not built yet.
     pub status: u8,
     pub done: u64,
     pub kept_done: u64,
@@ -27,9 +28,10 @@ pub struct Outcome {
 }
 
 /// The whole program: does what the words of the command line ask, without the program's name, with
-/// the files of a bay that has mounted none. It takes no memory. At each status but 0 and 9 one
-/// line is put last that tells why.
+/// the files of a bay that has mounted none. It takes memory for the table of a file alone. At each
+/// status but 0 and 9 one line is put last that tells why.
 pub fn costore<B: Bay, I: Source, O: Sink>(
+    alloc: Global,
     words: &[&str],
     bay: &mut B,
     input: &mut I,
@@ -47,10 +49,12 @@ pub fn costore<B: Bay, I: Source, O: Sink>(
     ensures mounted { (c : Command) → Means (texts words.now) c → IsTrue (mounts c)
         → IsMounted c (B.state bay.new).last_mount (result.status ≡ 7) (result.status ≡ 3) }
 
-    // Then the bytes of the file decide the status, and what is put.
+    // Then the bytes of the file decide the status, and what is put, by the one answer that there is to
+    // them. Only memory may be wanting for the table that is read, before anything is put.
     ensures ends { (c : Command) → Means (texts words.now) c
         → (IsTrue (mounts c) → IsTrue (B.state bay.old).tells)
-        → Ends (answer_for c (B.state bay.old).file) result.status (O.state output.old) (O.state output.new) }
+        → Ends (IsAnswer c (B.state bay.old).file) result.status (O.state output.old) (O.state output.new) }
+    ensures memory { (c : Command) → Means (texts words.now) c → IsFalse (reads c) → result.status ≢ 10 }
     ensures line_alone { IsTrue (O.state output.old).tells
         → (result.status ≡ 0) ⊎ (result.status ≡ 7) ⊎ (result.status ≡ 9)
         ⊎ PutsLine result.status (O.state output.old) (O.state output.new) }
@@ -73,12 +77,17 @@ pub fn costore<B: Bay, I: Source, O: Sink>(
     ensures numbers { (result.done ≡ 0) × (result.kept_done ≡ 0) × (result.kept_turn ≡ 0) }
 {
     let _ = input;
-    let end = do_words(words, bay, output);
+    let end = do_words(alloc, words, bay, output);
     finish(end, output)
 }
 
 /// Does what the words ask, but for the fault line.
-fn do_words<B: Bay, O: Sink>(words: &[&str], bay: &mut B, output: &mut O) -> Result<(), Stop>
+fn do_words<B: Bay, O: Sink>(
+    alloc: Global,
+    words: &[&str],
+    bay: &mut B,
+    output: &mut O,
+) -> Result<(), Stop>
     requires { (B.state bay.old).last_mount ≡ None }
     ensures words { (result ≡ Err Stop.Words) ↔ MeansNone (texts words.now) }
     ensures nothing_done { MeansNone (texts words.now) → bay.new ≡ bay.old }
@@ -88,7 +97,9 @@ fn do_words<B: Bay, O: Sink>(words: &[&str], bay: &mut B, output: &mut O) -> Res
         → IsMounted c (B.state bay.new).last_mount (result ≡ Err Stop.Disk) (result ≡ Err Stop.NoFile) }
     ensures answers { (c : Command) → Means (texts words.now) c
         → (IsTrue (mounts c) → IsTrue (B.state bay.old).tells)
-        → Answers (answer_for c (B.state bay.old).file) (O.state output.old) (O.state output.new) result }
+        → Answers (IsAnswer c (B.state bay.old).file) (O.state output.old) (O.state output.new) result }
+    ensures memory { (c : Command) → Means (texts words.now) c → IsFalse (reads c)
+        → result ≢ Err Stop.NoMemory }
     ensures nothing_put { PutsNone output.old output.new result }
     ensures frame { ((c : Command) → Means (texts words.now) c → IsFalse (makes c))
         → Untouched (B.state bay.old) (B.state bay.new) }
@@ -102,7 +113,7 @@ fn do_words<B: Bay, O: Sink>(words: &[&str], bay: &mut B, output: &mut O) -> Res
 {
     match read_words(words) {
         None => Err(Stop::Words),
-        Some(asked) => do_asked(&asked, bay, output),
+        Some(asked) => do_asked(alloc, &asked, bay, output),
     }
 }
 
@@ -153,6 +164,7 @@ fn status_at(end: &Result<(), Stop>) -> u8
         Err(Stop::Missing) => 6,
         Err(Stop::Disk) => 7,
         Err(Stop::Sink) => 9,
+        Err(Stop::NoMemory) => 10,
         Err(Stop::NotBuilt) => 12,
     }
 }

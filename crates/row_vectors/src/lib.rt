@@ -7,9 +7,11 @@ ghost use Rattle.disk_mem.specs.Bays.{last_mount_of};
 use costore_top::{Outcome, costore};
 use disk_face::Disk;
 use disk_mem::{MemBay, MemSink, MemSource};
+use std::alloc::Global;
 
 /// One run of the program over devices in memory.
 pub fn serve<D: Disk>(
+    alloc: Global,
     words: &[&str],
     bay: &mut MemBay<D>,
     input: &mut MemSource,
@@ -17,9 +19,11 @@ pub fn serve<D: Disk>(
 ) -> Outcome
     requires { last_mount_of bay.old ≡ None }
 {
-    costore(words, bay, input, output)
+    costore(alloc, words, bay, input, output)
 }
 
+#[cfg(test)]
+mod both;
 #[cfg(test)]
 mod crashes;
 #[cfg(test)]
@@ -40,6 +44,8 @@ mod moving;
 mod openings;
 #[cfg(test)]
 mod runs;
+#[cfg(test)]
+mod spoiled;
 #[cfg(test)]
 mod texts;
 #[cfg(test)]

@@ -7,7 +7,7 @@ use std::test::Fail;
 
 /// The changes to a table that is moved from boundary 2 on, behind a wall of 239 with a slack of 112,
 /// in a file of 19,857 bytes: `a` of 100 bytes at 139, `b` of 10 at 239, `c` of 5 at 249.
-const MOVING: [Change; 17] = [
+pub const MOVING: [Change; 17] = [
     (65, 1),
     (66, 2),
     (80, 3),

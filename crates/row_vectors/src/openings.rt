@@ -1,4 +1,5 @@
-//! A worked file, its changes, and what each opens to.
+//! A worked file, its changes, and what each opens to, by `plain_opening` and by `read_state` alike.
+use crate::both::refusal_of;
 use crate::images::{Change, disk};
 use plain_opening::{Refusal, open};
 use slot_codec::{CodecFault, Name};
@@ -22,7 +23,7 @@ macro_rules! rows {
     };
 }
 
-/// Opens the file of each row, with the changes that all have in common before its own.
+/// Opens the file of each row in both ways, with the changes that all have in common before its own.
 pub fn try_rows(
     rt: &impl Abort,
     alloc: Global,
@@ -31,7 +32,7 @@ pub fn try_rows(
 ) -> Result<(), Fail> {
     for row in rows {
         let mut file = disk(alloc, row.length, common, row.changes)?;
-        let refusal = open(alloc, &mut file, 21, 1_048_576).err();
+        let refusal = refusal_of(rt, alloc, &mut file, row.what)?;
         assert_eq!(rt; refusal, row.refusal, "{}", row.what);
     }
     Ok(())

@@ -30,7 +30,7 @@ pub fn run_on<D: Disk + Drop>(
     let mut bay = MemBay::new(alloc, String::from_str(alloc, "f")?, there, disk);
     let mut input = MemSource::new(Vec::new(alloc), 1, Vec::new(alloc));
     let mut output = MemSink::with_room(alloc, 1 << 21, fails)?;
-    let outcome = serve(words, &mut bay, &mut input, &mut output);
+    let outcome = serve(alloc, words, &mut bay, &mut input, &mut output);
     Ok(Ran {
         status: outcome.status,
         put: output.bytes().to_vec(alloc)?,

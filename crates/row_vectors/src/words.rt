@@ -41,7 +41,7 @@ fn ends_by_the_words(rt: HostRuntime) -> Result<(), Fail> {
 }
 
 /// The page of `--help`, word for word.
-const PAGE: [&str; 21] = [
+const PAGE: [&str; 22] = [
     "costore keeps named objects of bytes in one file, within a stated factor of its live bytes.",
     "",
     "commands:",
@@ -60,7 +60,8 @@ const PAGE: [&str; 21] = [
     "",
     "status: 0 done, 1 faulty words, 3 no such file, 4 no store, 5 the file isn't empty, 6 no such object,",
     "7 the disk failed, 9 the output failed, 10 out of memory, 12 not built yet.",
-    "At each status but 0, 9 and 10 one line that begins with fault is put last.",
+    "At each status but 0 and 9 one line that begins with fault is put last, but where there is no memory for",
+    "the words.",
     "",
     "example: costore format blocks 9 1024",
 ];

@@ -1,6 +1,9 @@
-use Rattle.std.proofs.Common.{◌≡◌, IsTrue, arith, length, rules, subst, sym}
+use Rattle.std.proofs.Common.{◌≡◌, IsTrue, arith, length, refl, rules, subst, sym}
 use Rattle.std.proofs.lemmas.Bool.{eq-eqb}
 use Rattle.costore_top.specs.Commands.{IsDone, IsFormatted}
+use Rattle.costore_top.specs.declared.stop.Stop.TheVariants as stop
+use Rattle.costore_top.specs.Outcomes.{format_answer}
+use Rattle.costore_top.proofs.AnswerLaws.{stopped}
 use Rattle.costore_top.proofs.Formatting.{formats_later, formats_now, untouched}
 use Rattle.costore_top.proofs.command.format.Goals as goal
 
@@ -12,6 +15,13 @@ returns-in_err-map_err-clause-formats g c = λ told empty.
     formats_later c.args.k c.args.names done (untouched same) told empty
     (formats_now c.args.k c.args.names done (grind (arith, same.same_file told, empty))
     (c.format.ensures.stopped here) (c.format.ensures.images here) (λ is. absurd (search rules)))
+
+pub returns-in_err-map_err-clause-answers : goal.returns-in_err-map_err-clause-answers
+returns-in_err-map_err-clause-answers g c = λ told.
+    let output = g.O.Sink.state c.args.output.now in
+    let all = stopped (λ answer. answer ≡ format_answer (g.D.Disk.state c.args.disk.now).file) output output
+    stop.Disk refl (λ is. cc) tt in
+    search rules
 
 pub returns-clause-answers : goal.returns-clause-answers
 returns-clause-answers g c = λ told.

@@ -1,7 +1,7 @@
 -- The end of the command, and what was put before the line that tells it.
 use Rattle.std.proofs.Common.{◌≡◌, ◌⊎◌, ap, subst, sym, ◌∙◌}
 use Rattle.costore_top.specs.Commands.{Formats}
-use Rattle.costore_top.specs.Outcomes.{answer_for, status_at}
+use Rattle.costore_top.specs.Outcomes.{IsAnswer, status_at}
 use Rattle.costore_top.proofs.Formatting.{disk_by, formats_by}
 use Rattle.costore_top.proofs.Statuses.{ended, line_after_none}
 use Rattle.costore_top.proofs.top.costore.Goals as goal
@@ -10,7 +10,7 @@ pub returns-clause-ends : goal.returns-clause-ends
 returns-clause-ends g c = λ command means told.
     let status : c.finish.result.status ≡ status_at c.do_words-end.result = cc in
     let causes = c.do_words-end.ensures.keeps.causes in
-    ended (answer_for command (g.B.Disk.state c.args.bay.now).file) c.do_words-end.result
+    ended (IsAnswer command (g.B.Disk.state c.args.bay.now).file) c.do_words-end.result
     c.finish.result.status
     (g.O.Sink.state c.args.output.now) (g.O.Sink.state c.do_words-end.new.output)
     (g.O.Sink.state c.finish.new.output) status (c.do_words-end.ensures.answers command means told)

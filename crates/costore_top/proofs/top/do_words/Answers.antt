@@ -2,7 +2,7 @@
 use Rattle.std.proofs.Common.{◌≡◌, IsTrue, subst, sym}
 use Rattle.costore_top.specs.Words.{command_of, format, texts}
 use Rattle.costore_top.specs.Layers.{Answers}
-use Rattle.costore_top.specs.Outcomes.{answer_for, mounts}
+use Rattle.costore_top.specs.Outcomes.{IsAnswer, mounts}
 use Rattle.costore_top.proofs.WordLists.{means_one}
 use Rattle.costore_top.proofs.top.do_words.Goals as goal
 
@@ -10,7 +10,7 @@ pub returns-in-Some-clause-answers : goal.returns-in-Some-clause-answers
 returns-in-Some-clause-answers g c = λ command means told.
     let same : command ≡ command_of c.in-Some.asked =
     means_one (texts c.args.words.now) command (command_of c.in-Some.asked) means c.in-Some.ensures in
-    subst (λ x. Answers (answer_for x (g.B.Disk.state c.args.bay.now).file) (g.O.Sink.state c.args.output.now)
+    subst (λ x. Answers (IsAnswer x (g.B.Disk.state c.args.bay.now).file) (g.O.Sink.state c.args.output.now)
     (g.O.Sink.state c.do_asked.new.output) c.do_asked.result) (sym same)
     (c.do_asked.ensures.answers (λ mounted. told (subst (λ x. IsTrue (mounts x)) (sym same) mounted)))
 

@@ -1,0 +1,138 @@
+-- How a layer answers where it stops before it puts any byte, that there is one answer, and which status comes
+-- of it.
+use Rattle.std.specs.Prelude.{◌≡◌, ◌≢◌, ◌⊎◌, ℕ, List, [], Result, Ok, Err, refl}
+use Rattle.std.proofs.Common.{arith, ap, sym, ◌∙◌, subst, inl, inr, append-nil}
+use Rattle.std.specs.FinMap as fin
+use Rattle.disk_face.specs.Streams.{SinkState}
+use Rattle.size_class.specs.declared.TheConstants.{CLASSES, SIZE_MAX}
+use Rattle.slot_codec.proofs.StepLaws.{from_ok}
+use Rattle.store_terms.specs.Maps.{Map}
+use Rattle.segment_layout.specs.Books.{Book}
+use Rattle.table_rules.specs.Opening.{Opens, placed_table}
+use Rattle.slot_codec.specs.Spelling.{head_len}
+use Rattle.table_rules.specs.Tables as tables
+use Rattle.table_rules.specs.Rules.{FirstBroken}
+use Rattle.table_rules.proofs.FirstLaws.{first_is_one, valid_breaks_none}
+use Rattle.costore_top.specs.declared.stop.StoreFault.{StoreFault}
+use Rattle.costore_top.specs.declared.stop.StoreFault.TheVariants as store
+use Rattle.costore_top.specs.declared.stop.Stop.{Stop}
+use Rattle.costore_top.specs.declared.stop.Stop.TheVariants as stop
+use Rattle.costore_top.specs.Getting.{IsFirstRefusal, IsObject, StopsAs, fault_of, or_missing}
+use Rattle.costore_top.specs.Layers.{Answers}
+use Rattle.costore_top.specs.Outcomes.{Ends, EndsBy, IsAnswer, status_at}
+use Rattle.costore_top.specs.Words.{Command, check, format, get, help, map_of, run, version, work}
+
+-- a layer stops as it is to, or for want of a device or of memory, before it puts any
+pub stopped : (answer : Result (List ℕ) Stop → Type 0) (old new : SinkState) (why : Stop) → new ≡ old
+    → why ≢ stop.Sink → StopsAs answer why → Answers answer old new (Err why)
+stopped answer old new why same no_sink stops = record {
+  bytes = [];
+  ends = ends_of why no_sink stops;
+  puts = λ told. record {
+    all = tt;
+    front = (0, omega arith, ap (λ s. s.given) same ∙ sym (append-nil old.given));
+  };
+}
+  where
+    ends_of : (e : Stop) → e ≢ stop.Sink → StopsAs answer e → EndsBy answer [] (Err e)
+    ends_of stop.Disk not_sink is = inr refl
+    ends_of stop.Sink not_sink is = absurd (not_sink refl)
+    ends_of stop.NoFile not_sink is = refl
+    ends_of stop.NoMemory not_sink is = refl
+    ends_of stop.Words not_sink is = (is, refl)
+    ends_of (stop.NotStore f) not_sink is = (is, refl)
+    ends_of (stop.Taken n) not_sink is = (is, refl)
+    ends_of stop.Missing not_sink is = (is, refl)
+    ends_of stop.NotBuilt not_sink is = (is, refl)
+
+-- ---- one answer
+
+one_refusal : (file : List ℕ) (f g : StoreFault) → IsFirstRefusal file f → IsFirstRefusal file g → f ≡ g
+one_refusal file (store.Slot f) (store.Slot g) (r, a, is_f) (s, b, is_g) =
+    let same : r ≡ s = cc in
+    ap store.Slot (is_f ∙ ap fault_of same ∙ sym is_g)
+one_refusal file (store.Slot f) (store.Table y) (r, a, is_f) h = let read = h.read in absurd (cc)
+one_refusal file (store.Table x) (store.Slot g) h (s, b, is_g) = let read = h.read in absurd (cc)
+one_refusal file (store.Table x) (store.Table y) h k =
+    let same : h.table ≡ k.table = from_ok h.table k.table (sym h.read ∙ k.read) in
+    let first : FirstBroken (placed_table CLASSES SIZE_MAX file h.table) y.rule
+    y.at = subst (λ t. FirstBroken (placed_table CLASSES SIZE_MAX file t) y.rule y.at) (sym same) k.first in
+    let one = first_is_one (placed_table CLASSES SIZE_MAX file h.table) x.rule x.at y.rule y.at h.first first in
+    let rule = one.0 in
+    let at = one.1 in
+    λ i. store.Table (record { rule = rule i; at = at i })
+
+-- a file that opens isn't refused
+opens_or_not : (file : List ℕ) (m : Map) (b : Book) (f : StoreFault) → Opens CLASSES SIZE_MAX file m b
+    → IsFirstRefusal file f → ⊥
+opens_or_not file m b (store.Slot f) o (r, a, is_f) = let read = o.opens.read in absurd (cc)
+opens_or_not file m b (store.Table x) o h =
+    let same : h.table ≡ o.table = from_ok h.table o.table (sym h.read ∙ o.opens.read) in
+    valid_breaks_none (placed_table CLASSES SIZE_MAX file o.table) x.rule x.at o.opens.valid
+    (subst (λ t. FirstBroken (placed_table CLASSES SIZE_MAX file t) x.rule x.at) same h.first)
+
+one_map : (file : List ℕ) (m n : Map) (b c : Book) → Opens CLASSES SIZE_MAX file m b
+    → Opens CLASSES SIZE_MAX file n c → m ≡ n
+one_map file m n b c o p =
+    let same : o.table ≡ p.table = from_ok o.table p.table (sym o.opens.read ∙ p.opens.read) in
+    o.opens.same_map
+    ∙ ap (λ t. tables.map_of (head_len t.chosen.block.names) file t.records) same
+    ∙ sym p.opens.same_map
+
+one_object : (name file : List ℕ) (a b : Result (List ℕ) Stop) → IsObject name file a → IsObject name file b
+    → a ≡ b
+one_object name file a b (inl g) (inl h) =
+    g.same ∙ ap (λ m. or_missing (fin.get m name)) (one_map file g.map h.map g.book h.book g.opens h.opens)
+    ∙ sym h.same
+one_object name file a b (inl g) (inr h) = absurd (opens_or_not file g.map g.book h.fault g.opens h.first)
+one_object name file a b (inr g) (inl h) = absurd (opens_or_not file h.map h.book g.fault h.opens g.first)
+one_object name file a b (inr g) (inr h) =
+    g.same ∙ ap (λ f. Err (stop.NotStore f)) (one_refusal file g.fault h.fault g.first h.first) ∙ sym h.same
+
+pub one_answer : (c : Command) (file : List ℕ) (a b : Result (List ℕ) Stop) → IsAnswer c file a
+    → IsAnswer c file b → a ≡ b
+unfolding IsAnswer
+one_answer (format name k names) file a b g h = g ∙ sym h
+one_answer (get name object) file a b g h = one_object object file a b g h
+one_answer (check name) file a b g h = g ∙ sym h
+one_answer (map_of name) file a b g h = g ∙ sym h
+one_answer (run name) file a b g h = g ∙ sym h
+one_answer (work name number count) file a b g h = g ∙ sym h
+one_answer help file a b g h = g ∙ sym h
+one_answer version file a b g h = g ∙ sym h
+
+-- what the map of a file that opens gives to a name is the answer
+pub given_answer : (at name file : List ℕ) (m : Map) (b : Book) → Opens CLASSES SIZE_MAX file m b
+    → IsAnswer (get at name) file (or_missing (fin.get m name))
+unfolding IsAnswer
+given_answer at name file m b opens = inl (record { map = m; book = b; opens = opens; same = refl })
+
+-- ---- the status
+
+-- the statuses of a file that isn't there, of devices that failed, and of want of memory
+abbrev IsFree : ℕ → Type 0
+IsFree status = (status ≡ 3) ⊎ (status ≡ 7) ⊎ (status ≡ 9) ⊎ (status ≡ 10)
+
+status_by : (answer : Result (List ℕ) Stop) (bytes : List ℕ) (is : Result (List ℕ) Stop → Type 0)
+    (end : Result (Unit {0}) Stop) → ((other : Result (List ℕ) Stop) → is other → answer ≡ other)
+    → EndsBy is bytes end → (status_at end ≡ status_at answer) ⊎ IsFree (status_at end)
+status_by answer bytes is (Ok x) one by = inl (ap status_at (sym (one (Ok bytes) by)))
+status_by answer bytes is (Err stop.NoFile) one by = inr (inl refl)
+status_by answer bytes is (Err stop.Disk) one by = inr (inr (inl refl))
+status_by answer bytes is (Err stop.Sink) one by = inr (inr (inr (inl refl)))
+status_by answer bytes is (Err stop.NoMemory) one by = inr (inr (inr (inr refl)))
+status_by answer bytes is (Err stop.Words) one by = inl (ap status_at (sym (one (Err stop.Words) by.0)))
+status_by answer bytes is (Err (stop.NotStore f)) one by =
+    inl (ap status_at (sym (one (Err (stop.NotStore f)) by.0)))
+status_by answer bytes is (Err (stop.Taken n)) one by =
+    inl (ap status_at (sym (one (Err (stop.Taken n)) by.0)))
+status_by answer bytes is (Err stop.Missing) one by = inl (ap status_at (sym (one (Err stop.Missing) by.0)))
+status_by answer bytes is (Err stop.NotBuilt) one by = inl (ap status_at (sym (one (Err stop.NotBuilt) by.0)))
+
+pub ends_by_the_answer : (c : Command) (file : List ℕ) (answer : Result (List ℕ) Stop) (status : ℕ)
+    (old new : SinkState) → IsAnswer c file answer → Ends (IsAnswer c file) status old new
+    → (status ≡ status_at answer) ⊎ (status ≡ 3) ⊎ (status ≡ 7) ⊎ (status ≡ 9) ⊎ (status ≡ 10)
+ends_by_the_answer c file answer status old new is ends =
+    subst (λ n. (n ≡ status_at answer) ⊎ IsFree n) (sym ends.same_status)
+    (status_by answer ends.bytes (IsAnswer c file) ends.end (λ other h. one_answer c file answer other is h)
+    ends.by)

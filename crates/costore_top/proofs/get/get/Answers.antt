@@ -1,0 +1,11 @@
+use Rattle.std.proofs.Common.{refl, rules}
+use Rattle.costore_top.specs.Getting.{IsObject}
+use Rattle.costore_top.proofs.AnswerLaws.{stopped}
+use Rattle.costore_top.proofs.get.get.Goals as goal
+
+pub returns-in_err-at-clause-answers : goal.returns-in_err-at-clause-answers
+returns-in_err-at-clause-answers g c = λ told.
+    let output = g.O.Sink.state c.args.output.now in
+    let all = stopped (IsObject c.args.name.now (g.D.Disk.state c.args.disk.now).file) output output
+    c.in_err-at.field-0.0 refl c.in_err-at.ensures.looks.only.0 (c.in_err-at.ensures.stopped told) in
+    search rules

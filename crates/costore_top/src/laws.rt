@@ -1,0 +1,30 @@
+//! What holds of the answers, as contracts of functions that do nothing.
+ghost use Rattle.std.specs.Prelude.{◌≡◌, ◌⊎◌, List, ℕ, Option, Result};
+ghost use Rattle.std.specs.FinMap as fin;
+ghost use Rattle.disk_face.specs.Streams.{SinkState};
+ghost use Rattle.segment_layout.specs.Books.{Book};
+ghost use Rattle.store_terms.specs.Maps.{Map};
+ghost use Rattle.table_rules.specs.Opening.{Opens};
+ghost use Rattle.costore_top.specs.Getting.{or_missing};
+ghost use Rattle.costore_top.specs.Outcomes.{Ends, IsAnswer, status_at};
+ghost use Rattle.costore_top.specs.Words.{Command, get};
+
+use crate::Stop;
+use size_class::{CLASSES, SIZE_MAX};
+
+/// There is one answer of a command to the bytes of a file. Of `get` of a file that opens it is what
+/// the file's map gives to the name.
+pub fn one_answer()
+    ensures one { (c : Command) (file : List ℕ) (answer other : Result (List ℕ) Stop) → IsAnswer c file answer
+        → IsAnswer c file other → answer ≡ other }
+    ensures given { (at name file : List ℕ) (m : Map) (b : Book) → Opens CLASSES SIZE_MAX file m b
+        → IsAnswer (get at name) file (or_missing (fin.get m name)) }
+{}
+
+/// A command ends with the status of its answer, unless its file isn't there, a device failed, or
+/// memory was wanting.
+pub fn ends_by_the_answer()
+    ensures { (c : Command) (file : List ℕ) (answer : Result (List ℕ) Stop) (status : ℕ) (old new : SinkState)
+        → IsAnswer c file answer → Ends (IsAnswer c file) status old new → (status ≡ status_at answer)
+        ⊎ (status ≡ 3) ⊎ (status ≡ 7) ⊎ (status ≡ 9) ⊎ (status ≡ 10) }
+{}
