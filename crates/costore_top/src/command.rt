@@ -56,7 +56,8 @@ pub fn format_in<B: Bay, O: Sink>(
     requires divisor { (2 ≤ k) × (k ≤ 64) }
     requires low { 16 ≤ names }
     requires high { names ≤ 65536 }
-    ensures words { (result ≢ Err Stop.Words) × (result ≢ Err Stop.NoMemory) }
+    ensures words { result ≢ Err Stop.Words }
+    ensures memory { result ≢ Err Stop.NoMemory }
     ensures mounted { IsMounted (format file.now k names) (B.state bay.new).last_mount
         (result ≡ Err Stop.Disk) (result ≡ Err Stop.NoFile) }
     ensures answers { IsTrue (B.state bay.old).tells
@@ -83,7 +84,8 @@ fn format<D: Disk, O: Sink>(disk: &mut D, k: u64, names: u64, output: &mut O) ->
     requires divisor { (2 ≤ k) × (k ≤ 64) }
     requires low { 16 ≤ names }
     requires high { names ≤ 65536 }
-    ensures words { (result ≢ Err Stop.Words) × (result ≢ Err Stop.NoFile) × (result ≢ Err Stop.NoMemory) }
+    ensures words { (result ≢ Err Stop.Words) × (result ≢ Err Stop.NoFile) }
+    ensures memory { result ≢ Err Stop.NoMemory }
     ensures answers { IsTrue (D.state disk.old).tells
         → Answers (λ answer. answer ≡ format_answer (D.state disk.old).file) (O.state output.old)
         (O.state output.new) result }

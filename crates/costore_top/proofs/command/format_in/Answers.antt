@@ -7,6 +7,7 @@ use Rattle.costore_top.proofs.command.format_in.Goals as goal
 pub returns-in-Ok-There : goal.returns-in-Ok-There
 returns-in-Ok-There g c = record {
   words = search rules;
+  memory = search rules;
   mounted = search rules;
   answers = search rules;
   nothing_put = search rules;
