@@ -1,6 +1,6 @@
 -- A flush that was interrupted goes on from its moving table: the rules of the table are those of its items.
-use Rattle.std.specs.Prelude.{◌≡◌, ◌⊎◌, ℕ, ◌+◌, ◌-◌, ◌<◌, ◌≤◌, ◌^◌, nat_le, nat_lt, true, false, List, length, slice_index_or, Contains, IsTrue, Some, IsPermutation, refl}
-use Rattle.std.proofs.Common.{arith, sym, ◌∙◌, ap, subst, inl, inr}
+use Rattle.std.specs.Prelude.{◌≡◌, ◌⊎◌, ℕ, ◌+◌, ◌-◌, ◌<◌, ◌≤◌, nat_le, nat_lt, true, false, List, length, slice_index_or, Contains, IsTrue, Some, refl}
+use Rattle.std.proofs.Common.{arith, ◌∙◌, ap, subst, inl, inr}
 use Rattle.std.proofs.lemmas.Bool.{and_from, and_parts, le-leb, lt-ltb, ltb-true}
 use Rattle.std.proofs.lemmas.List.Sorted.{Contains-permutation}
 use Rattle.std.specs.FinMap as fin
@@ -9,11 +9,10 @@ use Rattle.slot_codec.specs.Choice as choice
 use Rattle.slot_codec.specs.declared.codec.Record.{Record}
 use Rattle.store_terms.specs.Weights.{same_name}
 use Rattle.span_math.specs.declared.span.Span.{Span}
-use Rattle.segment_layout.specs.Shapes.{start_of}
 use Rattle.table_rules.specs.Rules.{CanResume}
-use Rattle.table_rules.specs.Tables.{Apart, PlacedTable, end_of_record, is_below_wall, is_suffix, no_record, nth, sizes_above}
+use Rattle.table_rules.specs.Tables.{Apart, PlacedTable, is_below_wall, is_suffix, no_record, nth, sizes_above}
 use Rattle.extent_table.specs.declared.spot.Spot.{Spot}
-use Rattle.extent_table.specs.Extents.{Extents, IsTable, record_of, records_of}
+use Rattle.extent_table.specs.Extents.{Extents, IsTable, records_of}
 use Rattle.spot_terms.specs.Laid.{laid, moving_header}
 use Rattle.spot_terms.proofs.GoneLaws.{apart_by_name}
 use Rattle.spot_terms.proofs.ReadLaws.{record_at}

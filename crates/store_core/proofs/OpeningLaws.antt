@@ -172,18 +172,7 @@ no_memory classes a ready =
 
 -- ---- opening after reading
 
--- a refusal that changed nothing
-pub unchanged_refusal : (a d : disk.State) (why : OpenFault) → Unchanged a d → RefusesUnchanged a d why
-unchanged_refusal a d (fault.Slot slot.Disk) same = tt
-unchanged_refusal a d (fault.Slot slot.Short) same = same
-unchanged_refusal a d (fault.Slot slot.Unformatted) same = same
-unchanged_refusal a d (fault.Slot slot.NoGate) same = same
-unchanged_refusal a d (fault.Slot slot.SameSequence) same = same
-unchanged_refusal a d (fault.Slot (slot.Codec f at)) same = same
-unchanged_refusal a d (fault.Table broken) same = same
-unchanged_refusal a d fault.NoMemory same = same
-
--- and one after a step that changed nothing
+-- a refusal after a step that changed nothing
 later_refusal : (a m d : disk.State) (why : OpenFault) → Unchanged a m → RefusesUnchanged m d why
     → RefusesUnchanged a d why
 later_refusal a m d (fault.Slot slot.Disk) same after = tt
@@ -194,27 +183,6 @@ later_refusal a m d (fault.Slot slot.SameSequence) same after = Unchanged-trans 
 later_refusal a m d (fault.Slot (slot.Codec f at)) same after = Unchanged-trans same after
 later_refusal a m d (fault.Table broken) same after = Unchanged-trans same after
 later_refusal a m d fault.NoMemory same after = Unchanged-trans same after
-
--- the file wasn't read to its end
-pub reading_stopped : {T : Type 0} (classes : ℕ) (a d : disk.State) (why : OpenFault) → Unchanged a d
-    → (IsTrue a.tells → RefusesToOpen classes a.file why)
-    → HasDiskCause {T = T} (fault.Slot slot.Disk) a.faults d.faults (Err why)
-    → IsOpening classes a d (Err why)
-reading_stopped {T} classes a d why same refused cause = record {
-  opened = λ told. tt;
-  over = λ told. tt;
-  fresh = tt;
-  refused = refused;
-  found = λ told t m b o. stops_unchanged same told o why;
-  unchanged = unchanged_refusal a d why same;
-  frame = record { no_turn_back = omega (arith, same.same_turn); stays = same.stays };
-  cause = record {
-    later = cause.later;
-    rose = λ is. cause.rose (let e : why ≡ fault.Slot slot.Disk = (cc) in ap (λ (f : OpenFault). Err f) e);
-    calm = λ other. cause.calm (λ is. other
-        (let e : why ≡ fault.Slot slot.Disk = (cc) in ap (λ (f : OpenFault). Err f) e));
-  };
-}
 
 after_reading : (a m d : disk.State) → Unchanged a m → (result : Result Kept OpenFault)
     → IfErr result (RefusesUnchanged m d) → IfErr result (RefusesUnchanged a d)
