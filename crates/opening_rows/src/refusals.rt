@@ -1,0 +1,111 @@
+//! Files by hand, which are opened or refused without a change.
+use disk_face::Disk;
+use disk_mem::MemDisk;
+use reopen::OpenFault;
+use slot_codec::CodecFault;
+use slot_pair::SlotFault;
+use std::alloc::Global;
+use std::test::Fail;
+use store_core::Store;
+use table_check::TableFault;
+
+/// A byte of a file, by position.
+type Change = (usize, u8);
+
+/// The mark, k = 9, 16 names, and a settled table of sequence 1 with the one object `a` = `hello`.
+const HELLO: [Change; 24] = [
+    (0, b'C'),
+    (1, b'O'),
+    (2, b'S'),
+    (3, b'T'),
+    (4, b'O'),
+    (5, b'R'),
+    (6, b'E'),
+    (7, b'1'),
+    (8, 9),
+    (16, 16),
+    (64, 1),
+    (72, 1),
+    (80, 1),
+    (120, 5),
+    (8552, 1),
+    (8553, b'a'),
+    (8624, 5),
+    (9832, 0xA5),
+    (19602, 0xA5),
+    (19603, b'h'),
+    (19604, b'e'),
+    (19605, b'l'),
+    (19606, b'l'),
+    (19607, b'o'),
+];
+
+/// The changes to records `a` and `b` of 100 bytes each, at 0 and at 50, of which some are of both.
+const SHARED: [Change; 8] = [
+    (80, 2),
+    (120, 0),
+    (152, 200),
+    (8624, 100),
+    (8632, 1),
+    (8633, b'b'),
+    (8696, 50),
+    (8704, 100),
+];
+
+/// Why a file of a length with these changes isn't opened, if it isn't, and how many changing calls
+/// were made.
+fn opening(
+    alloc: Global,
+    length: usize,
+    changes: &[Change],
+) -> Result<(Option<OpenFault>, u64), Fail> {
+    let mut bytes = vec![in alloc; 0u8; length]?;
+    for (at, byte) in HELLO.iter().chain(changes.iter()) {
+        if *at < bytes.len() {
+            bytes[*at] = *byte;
+        }
+    }
+    let mut disk = MemDisk::from_bytes(alloc, &bytes)?;
+    let refusal = match Store::<21>::open(alloc, &mut disk) {
+        Ok(_) => None,
+        Err(fault) => Some(fault),
+    };
+    Ok((refusal, disk.turns()))
+}
+
+fn rule(rule: u8, at: u64) -> Option<OpenFault> {
+    Some(OpenFault::Table(TableFault { rule, at }))
+}
+
+fn slot(fault: SlotFault) -> Option<OpenFault> {
+    Some(OpenFault::Slot(fault))
+}
+
+#[test]
+fn opens_or_refuses_without_a_change(rt: HostRuntime) -> Result<(), Fail> {
+    let rows: [(usize, &[Change], Option<OpenFault>); 10] = [
+        (19_608, &[], None),
+        (19_608, &[(72, 0), (79, 0x20)], None),
+        (
+            19_608,
+            &[(72, 0), (79, 0x40)],
+            slot(SlotFault::Codec(CodecFault::Worn, 64)),
+        ),
+        (19_825, &SHARED, rule(8, 1)),
+        (19_608, &[(8616, 1)], rule(3, 0)),
+        (19_608, &[(888, 1)], rule(6, 2)),
+        (19_607, &[], rule(3, 0)),
+        (19_602, &[], slot(SlotFault::Short)),
+        (63, &[], slot(SlotFault::Short)),
+        (
+            19_608,
+            &[(8553, 0x20)],
+            slot(SlotFault::Codec(CodecFault::NameBytes, 8552)),
+        ),
+    ];
+    for (length, changes, refusal) in rows {
+        let found = opening(rt.alloc(), length, changes)?;
+        assert_eq!(rt; found, (refusal, 0), "{length} bytes, {changes:?}");
+    }
+    Ok(())
+}
