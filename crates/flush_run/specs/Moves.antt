@@ -75,9 +75,9 @@ pub record FoundMover (e : Extents) (b : ℕ) (mv : Move) : Type 0 where
   pub spot : Spot
   pub mover : MovesName e b mv name spot
 
--- What a move of one object may count on: its ranges share no byte and lie below 2^48, the table has the
--- object
--- at its source, and the guard has what was freed, no two of whose objects share a byte.
+-- What a move of one object may count on: its ranges share no byte, its source lies below 2^49 and its target
+-- below 2^48, the table has the object at its source, and the guard has what was freed, no two of whose
+-- objects share a byte.
 pub record CanMove (mv : Move) (e : Extents) (spans : List Span) : Type 0 where
   pub table : IsTable e
   pub mover : HasMover e mv
