@@ -1,0 +1,4 @@
+mod AheadLemmas
+mod BodyLemmas
+mod LineLemmas
+mod RequestLemmas
