@@ -1,4 +1,6 @@
 mod AheadLemmas
+mod AnswerLaws
 mod BodyLemmas
 mod LineLemmas
 mod RequestLemmas
+mod ServingLaws

@@ -1,1 +1,3 @@
 pub mod Inputs
+pub mod Serving
+pub mod Heads

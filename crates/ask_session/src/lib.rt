@@ -3,8 +3,11 @@
 
 mod ahead;
 mod body;
+mod changes;
 mod ends;
+mod heads;
 mod line;
+mod reads;
 mod request;
 
 pub use ends::{End, Turn};
