@@ -165,7 +165,7 @@ refused_is s r o whole is =
     ap (λ (b : Bool). if b then Some why.Broken else option_map refusal_for (refusal (limits_of s) (facts_at s r) r)) whole
     ∙ ap (option_map refusal_for) is
 
-none_is : (o : Option Refusal) → o ≡ None → IsNone o
+pub none_is : (o : Option Refusal) → o ≡ None → IsNone o
 none_is None is = search rules
 none_is (Some x) is = absurd (cc)
 

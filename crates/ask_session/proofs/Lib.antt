@@ -2,5 +2,7 @@ mod AheadLemmas
 mod AnswerLaws
 mod BodyLemmas
 mod LineLemmas
+mod PutLaws
+mod ReplyLaws
 mod RequestLemmas
 mod ServingLaws

@@ -28,6 +28,17 @@ answer_of why.Sink = Err ends.Sink
 answer_of why.Disk = Err ends.Disk
 answer_of why.Broken = Err ends.Disk
 
+-- the end where a device failed in a read
+abbrev pub fault_of : Refusal → End
+fault_of why.Sink = ends.Sink
+fault_of why.Disk = ends.Disk
+fault_of why.Broken = ends.Disk
+fault_of why.BadName = ends.Disk
+fault_of why.TooLong = ends.Disk
+fault_of why.Missing = ends.Disk
+fault_of why.Full = ends.Disk
+fault_of why.Worn = ends.Disk
+
 -- what is replied to a change
 abbrev pub answer_change : Result Done Refusal → Result Reply End
 answer_change (Ok d) = Ok (done_head d)

@@ -1,7 +1,7 @@
 //! The first lines of replies.
 ghost use Rattle.std.specs.Prelude.{◌≡◌, false, codes, IfErr, IfOk, IsTrue, OnErr, Ok, Err};
 ghost use Rattle.ask_text.specs.Replies.{first_line};
-ghost use Rattle.ask_session.specs.Heads.{answer_of, done_head, is_kept};
+ghost use Rattle.ask_session.specs.Heads.{answer_of, done_head, fault_of, is_kept};
 ghost use Rattle.ask_session.specs.Serving.{HasSinkCause, PutsText};
 
 use crate::End;
@@ -108,5 +108,15 @@ pub(crate) fn answer_of(why: Refusal) -> Result<Reply, End>
         Refusal::Worn => Ok(Reply::Refused(Word5::Worn)),
         Refusal::Sink => Err(End::Sink),
         Refusal::Disk | Refusal::Broken => Err(End::Disk),
+    }
+}
+
+/// The end where a device failed in a read.
+pub(crate) fn fault_of(why: Refusal) -> End
+    ensures { result ≡ fault_of why }
+{
+    match why {
+        Refusal::Sink => End::Sink,
+        _ => End::Disk,
     }
 }

@@ -9,10 +9,10 @@ ghost use Rattle.store_core.specs.Stores.{IsStore};
 ghost use Rattle.ask_session.specs.Serving.{HasDiskCause, HasSinkCause, IsServingFault, PutsText, Replies};
 
 use crate::End;
-use crate::heads::{answer_of, put_answer, put_end, say};
+use crate::heads::{answer_of, fault_of, put_answer, put_end, say};
 use ask_text::Reply;
 use disk_face::{Disk, Sink};
-use store_core::{Refusal, Store};
+use store_core::Store;
 
 /// Serves a get.
 pub(crate) fn serve_get<const C: usize, D: Disk, O: Sink>(
@@ -82,8 +82,7 @@ fn give<const C: usize, D: Disk, O: Sink>(
 {
     match store.get(disk, name, output) {
         Ok(_) => put_end(output),
-        Err(Refusal::Sink) => Err(End::Sink),
-        Err(_) => Err(End::Disk),
+        Err(why) => Err(fault_of(why)),
     }
 }
 
@@ -109,7 +108,6 @@ fn give_old<const C: usize, D: Disk, O: Sink>(
 {
     match store.old(disk, name, output) {
         Ok(_) => put_end(output),
-        Err(Refusal::Sink) => Err(End::Sink),
-        Err(_) => Err(End::Disk),
+        Err(why) => Err(fault_of(why)),
     }
 }
