@@ -1,6 +1,7 @@
 mod AheadLemmas
 mod AnswerLaws
 mod BodyLemmas
+mod KindLaws
 mod LineLemmas
 mod PutLaws
 mod ReplyLaws

@@ -5,10 +5,11 @@ use Rattle.std.proofs.lemmas.List.{take-append-drop}
 use Rattle.disk_face.specs.Streams.{Puts}
 use Rattle.ask_session.specs.declared.ends.End.{End}
 use Rattle.ask_session.specs.declared.ends.End.TheVariants as ends
-use Rattle.ask_session.specs.Serving.{IsFront, PutsText, is_disk}
+use Rattle.ask_session.specs.Serving.{IsFront, PutsText, is_disk, is_disk_fault}
 
 -- a text after another
-pub puts_then : {T : Type 0} (xs ys a b c : List ℕ) (result : Result T End) → (ys ≡ [] → ⊥) → b ≡ a ++ xs
+pub puts_then : {T : Type 0} (xs ys a b c : List ℕ) (result : Result T End)
+    → (is_disk_fault result ≡ true → ys ≡ [] → ⊥) → b ≡ a ++ xs
     → PutsText ys b c result → PutsText (xs ++ ys) a c result
 puts_then xs ys a b c (Ok x) some first then = record {
   all = then.all ∙ ap (λ (zs : List ℕ). zs ++ ys) first ∙ append_assoc a xs ys;
@@ -22,7 +23,7 @@ puts_then xs ys a b c (Err end) some first then =
         rest = f.rest;
         given = f.given ∙ ap (λ (zs : List ℕ). zs ++ f.put) first ∙ append_assoc a xs f.put;
         whole = ap (λ (zs : List ℕ). xs ++ zs) f.whole ∙ sym (append_assoc xs f.put f.rest);
-        some = λ cut none. absurd (some (f.whole ∙ ap (λ (zs : List ℕ). zs ++ f.rest) (f.some cut none) ∙ none));
+        some = λ cut none. absurd (some cut (f.whole ∙ ap (λ (zs : List ℕ). zs ++ f.rest) (f.some cut none) ∙ none));
       };
     }
 
@@ -77,3 +78,19 @@ puts_none xs a b end same = record {
 pub puts_as : {T : Type 0} (xs ys a b : List ℕ) (result : Result T End) → xs ≡ ys → PutsText xs a b result
     → PutsText ys a b result
 puts_as xs ys a b result same puts = subst (λ (zs : List ℕ). PutsText zs a b result) same puts
+
+-- a front of a text was put, since the sink failed
+pub puts_sink : {T U E : Type 0} (xs a b : List ℕ) (fault : E) → Puts {T = T} a b xs (Err fault)
+    → PutsText {T = U} xs a b (Err ends.Sink)
+puts_sink xs a b fault puts =
+    let f = puts.front in
+    record {
+      all = tt;
+      front = record {
+        put = take f.0 xs;
+        rest = drop f.0 xs;
+        given = f.2;
+        whole = sym (take-append-drop f.0 xs);
+        some = λ cut none. absurd (cc);
+      };
+    }

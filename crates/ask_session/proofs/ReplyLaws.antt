@@ -18,10 +18,12 @@ use Rattle.store_core.specs.Answers.{AnswersNumber, AnswersRead, facts_at, refus
 use Rattle.slot_codec.specs.Names.{is_name}
 use Rattle.store_core.specs.Reads as reads
 use Rattle.store_core.specs.Connection.{Kept, base_of, limits_of, state_of}
-use Rattle.store_core.specs.States.{Served, first_refusal, name_test, object_in, refusal, unchanged}
+use Rattle.store_core.specs.States.{Served, accepted, first_refusal, name_test, object_in, refusal, unchanged}
 use Rattle.store_core.proofs.ReadingLaws.{object_there}
 use Rattle.store_core.proofs.StoreLaws.{kept_lies, now_lies}
-use Rattle.store_core.proofs.StepLaws.{served_by}
+use Rattle.store_core.proofs.StepLaws.{list_step, served_by}
+use Rattle.store_core.specs.Lines.{lines_of, listing_of}
+use Rattle.std.proofs.lemmas.List.{length-map}
 use Rattle.ask_text.specs.Replies.{first_line, head_of, reply_text, rest_of, told_for}
 use Rattle.ask_text.specs.declared.reply.Reply as text
 use Rattle.ask_text.specs.declared.reply.Reply.TheVariants as head
@@ -227,7 +229,7 @@ module _ {classes : ℕ} (r : Request) (s : Kept) (a : disk.State) (h : IsSound 
       reads_replies r s a d out after result h asks same stays (λ told. ap acknowledges (reply_is told)) kept
       (λ told sink. puts_as _ _ out.given after.given result (text_is told)
       (puts_then (first_line (head.Data size)) (object ++ codes "\n") out.given mid.given after.given result
-      (not_empty_behind object) (whole sink) (puts told (subst IsTrue (sym first_cause.told) sink))))
+      (λ fault. not_empty_behind object) (whole sink) (puts told (subst IsTrue (sym first_cause.told) sink))))
       only disk_cause (record {
         rose = λ fault. omega (arith, sink_cause.rose fault, calm_first);
         calm = on_ok result (λ e. e ∙ calm_first) sink_cause.calm;
@@ -250,6 +252,77 @@ module _ {classes : ℕ} (r : Request) (s : Kept) (a : disk.State) (h : IsSound 
       (λ told. ap acknowledges (reply_is told)) tt
       (λ told sink. puts_as _ _ out.given mid.given (Err end) (text_is told)
       (puts_cut (first_line (head.Data size)) (object ++ codes "\n") out.given mid.given end sink_end (first sink)))
+      (subst IsServingFault (sym sink_end) tt)
+      (record {
+        rose = λ fault. absurd (let e : false ≡ true = sym (ap is_disk sink_end) ∙ fault in cc);
+        later = omega arith;
+      })
+      (record { rose = λ fault. cause.rose fault; calm = tt; later = cause.later; told = cause.told })
+
+-- ---- lists
+
+-- the first line and the lines of a list
+module _ {classes : ℕ} (s : Kept) (a : disk.State) (h : IsSound classes s a) (count : ℕ)
+    (is : count ≡ fin.len s.now) where
+
+  list_stays : IsTrue a.tells → StaysAt s a.file ask.list
+  list_stays told = record {
+    reply = (accepted (limits_of s) (state_of s a.file) ask.list).reply;
+    is = served_by (limits_of s) (state_of s a.file) ask.list None refl;
+    none = refl;
+  }
+
+  list_reply : IsTrue a.tells → reply_at s a.file ask.list ≡ ask.listed (listing_of s.now)
+  list_reply told = sym (list_step s a.file h.sound (h.over told)).replied
+
+  list_text : IsTrue a.tells → first_line (head.List count) ++ lines_of (listing_of s.now)
+      ≡ reply_text (reply_at s a.file ask.list)
+  list_text told =
+      let long : count ≡ length (listing_of s.now) = is ∙ fin.len-entries s.now
+      ∙ sym (length-map (fin.entries s.now) (λ (e : List ℕ × Spot). (e.0, e.1.size))) in
+      ap (λ (m : ℕ). first_line (head.List m) ++ lines_of (listing_of s.now)) long
+      ∙ ap reply_text (sym (list_reply told))
+
+  pub listed_replies : (out mid after : SinkState) (x : Result (Unit {0}) End) (result : Result Bool End) → x ≡ Ok tt
+      → (IsTrue out.tells → PutsText (first_line (head.List count)) out.given mid.given x)
+      → HasSinkCause out mid x → IfOk result (λ kept. kept ≡ false)
+      → (IsTrue mid.tells → PutsText (lines_of (listing_of s.now)) mid.given after.given result)
+      → IfErr result (λ end. end ≡ ends.Sink) → HasSinkCause mid after result
+      → Replies classes ask.list s s a a out after result
+  listed_replies out mid after x result ok first first_cause kept puts only sink_cause =
+      reads_replies ask.list s a a out after result h refl (unchanged_itself a h.ready) list_stays
+      (λ told. ap acknowledges (list_reply told)) kept
+      (λ told sink. puts_as _ _ out.given after.given result (list_text told)
+      (puts_then (first_line (head.List count)) (lines_of (listing_of s.now)) out.given mid.given after.given result
+      (λ fault. absurd (let e : true ≡ false = sym fault ∙ calm in cc)) (whole sink)
+      (puts (subst IsTrue (sym first_cause.told) sink))))
+      (sink_serving result only)
+      (record { rose = λ fault. absurd (let e : true ≡ false = sym fault ∙ calm in cc); later = omega arith })
+      (record {
+        rose = λ fault. omega (arith, sink_cause.rose fault, calm_first);
+        calm = on_ok result (λ e. e ∙ calm_first) sink_cause.calm;
+        later = omega (arith, first_cause.later, sink_cause.later);
+        told = sink_cause.told ∙ first_cause.told;
+      })
+    where
+      calm : is_disk_fault result ≡ false
+      calm = sink_calm result only
+
+      whole : IsTrue out.tells → mid.given ≡ out.given ++ first_line (head.List count)
+      whole sink = (subst (λ (y : Result (Unit {0}) End). PutsText (first_line (head.List count)) out.given mid.given y) ok
+          (first sink)).all
+
+      calm_first : mid.faults ≡ out.faults
+      calm_first = (subst (λ (y : Result (Unit {0}) End). HasSinkCause out mid y) ok first_cause).calm
+
+  pub cut_list : (out mid : SinkState) (end : End) → end ≡ ends.Sink
+      → (IsTrue out.tells → PutsText {T = Unit {0}} (first_line (head.List count)) out.given mid.given (Err end))
+      → HasSinkCause {T = Unit {0}} out mid (Err end) → Replies classes ask.list s s a a out mid (Err end)
+  cut_list out mid end sink_end first cause =
+      reads_replies ask.list s a a out mid (Err end) h refl (unchanged_itself a h.ready) list_stays
+      (λ told. ap acknowledges (list_reply told)) tt
+      (λ told sink. puts_as _ _ out.given mid.given (Err end) (list_text told)
+      (puts_cut (first_line (head.List count)) (lines_of (listing_of s.now)) out.given mid.given end sink_end (first sink)))
       (subst IsServingFault (sym sink_end) tt)
       (record {
         rose = λ fault. absurd (let e : false ≡ true = sym (ap is_disk sink_end) ∙ fault in cc);

@@ -1,3 +1,6 @@
 pub mod Inputs
 pub mod Serving
 pub mod Heads
+pub mod Sittings
+pub mod Inside
+pub mod Turns

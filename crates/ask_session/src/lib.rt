@@ -9,5 +9,8 @@ mod heads;
 mod line;
 mod reads;
 mod request;
+mod serve;
+mod session;
 
 pub use ends::{End, Turn};
+pub use session::Session;

@@ -4,6 +4,7 @@ ghost use Rattle.disk_face.specs.Frames.{Unchanged};
 ghost use Rattle.store_terms.specs.Requests as ask;
 ghost use Rattle.store_core.specs.Answers.{refused_by};
 ghost use Rattle.store_core.specs.Connection.{IsConnected, state_of};
+ghost use Rattle.store_core.specs.Lines.{lines_of, listing_of};
 ghost use Rattle.store_core.specs.States.{object_in};
 ghost use Rattle.store_core.specs.Stores.{IsStore};
 ghost use Rattle.ask_session.specs.Serving.{HasDiskCause, HasSinkCause, IsServingFault, PutsText, Replies};
@@ -57,6 +58,43 @@ pub(crate) fn serve_old<const C: usize, D: Disk, O: Sink>(
             Err(end) => Err(end),
         },
         Err(why) => put_answer(output, answer_of(why)),
+    }
+}
+
+/// Serves a list.
+pub(crate) fn serve_list<const C: usize, D: Disk, O: Sink>(
+    store: &mut Store<C>,
+    disk: &mut D,
+    output: &mut O,
+) -> Result<bool, End>
+    requires ready { IsTrue (D.state disk.old).is_ready }
+    requires over { IsConnected C store.old (D.state disk.old) }
+    requires whole { store.old.is_broken ≡ false }
+    requires sound { IsStore C store.old }
+    ensures { Replies C ask.list store.old store.new (D.state disk.old) (D.state disk.new)
+        (O.state output.old) (O.state output.new) result }
+{
+    match store.stat() {
+        Ok(stat) => match say(output, &Reply::List { count: stat.names }) {
+            Ok(()) => put_list(store, output),
+            Err(end) => Err(end),
+        },
+        Err(_) => Err(End::Disk),
+    }
+}
+
+/// Puts the lines of a list.
+fn put_list<const C: usize, O: Sink>(store: &Store<C>, output: &mut O) -> Result<bool, End>
+    requires whole { store.now.is_broken ≡ false }
+    ensures puts { IsTrue (O.state output.old).tells → PutsText (lines_of (listing_of store.now.now))
+        (O.state output.old).given (O.state output.new).given result }
+    ensures kept { IfOk result (λ kept. kept ≡ false) }
+    ensures only { IfErr result (λ end. end ≡ End.Sink) }
+    ensures cause { HasSinkCause (O.state output.old) (O.state output.new) result }
+{
+    match store.list(output) {
+        Ok(()) => Ok(false),
+        Err(_) => Err(End::Sink),
     }
 }
 
