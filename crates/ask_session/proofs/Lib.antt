@@ -6,4 +6,5 @@ mod LineLemmas
 mod PutLaws
 mod ReplyLaws
 mod RequestLemmas
+mod RunLaws
 mod ServingLaws

@@ -4,3 +4,4 @@ pub mod Heads
 pub mod Sittings
 pub mod Inside
 pub mod Turns
+pub mod Runs

@@ -9,6 +9,7 @@ mod heads;
 mod line;
 mod reads;
 mod request;
+mod run;
 mod serve;
 mod session;
 

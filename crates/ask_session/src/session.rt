@@ -21,7 +21,7 @@ use store_core::Store;
 /// `Sitting`.
 #[derive(Drop)]
 pub struct Session<const C: usize> {
-    store: Store<C>,
+    pub(crate) store: Store<C>,
     ahead: Ahead,
     body: Vec<u8>,
     ended: bool,
