@@ -11,6 +11,7 @@ use Rattle.store_terms.specs.Requests.{Reply, Request}
 use Rattle.segment_layout.specs.Bounds.{Loose}
 use Rattle.table_rules.specs.Opening.{Opens}
 use Rattle.store_core.specs.Connection.{IsConnected, Kept, RestsOnTable, base_of, limits_of, state_of}
+use Rattle.store_core.specs.Stores.{IsStore}
 use Rattle.store_core.specs.States.{Chain, Limits, State}
 use Rattle.ask_text.specs.Inputs.{HasText, request_text}
 use Rattle.ask_text.specs.Replies.{reply_text}
@@ -149,6 +150,7 @@ pub record EndsRun {D I O : Type 0} (disk_of : D → disk.State) (source_of : I 
   pub few : n ≤ budget
   pub last_turn : IsLastTurn classes n sitting new (disk_of mid_disk) (disk_of now) (source_of mid_source)
       (source_of rest) (sink_of mid_sink) (sink_of after) end
+  pub sound : new.store.is_broken ≡ false → IsStore classes new.store
   pub same_disk : is_unserved (turn.Ended end) ≡ true → now ≡ mid_disk
   pub same_sink : is_unserved (turn.Ended end) ≡ true → after ≡ mid_sink
   pub ended : new.ended ≡ (if is_budget end then false else true)

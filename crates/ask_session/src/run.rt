@@ -31,7 +31,7 @@ impl<const C: usize> Session<C> {
         let mut n = 0;
         'turns: while n < BUDGET {
             match self.one(disk, input, output) {
-                Turn::Answered => self.is_sound(),
+                Turn::Answered => {}
                 Turn::Ended(end) => return end,
             }
             n += 1;

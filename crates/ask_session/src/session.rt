@@ -2,6 +2,7 @@
 ghost use Rattle.std.specs.Prelude.{◌≡◌, ◌++◌, [], false, true, if◌then◌else◌, length, IfOk, IfErr, IsTrue};
 ghost use Rattle.disk_face.specs.Counts.{counted};
 ghost use Rattle.store_core.specs.Connection.{IsConnected};
+ghost use Rattle.store_core.specs.Stores.{IsStore};
 ghost use Rattle.ask_session.specs.Inputs.{HasSourceCause};
 ghost use Rattle.ask_session.specs.Sittings.{new_sitting};
 ghost use Rattle.ask_session.specs.Turns.{IsTurn, is_ended, is_unserved, result_of};
@@ -82,6 +83,7 @@ impl<const C: usize> Session<C> {
         ensures turn { IsTurn C self.old self.new (D.state disk.old) (D.state disk.new) (I.state input.old)
             (I.state input.new) (O.state output.old) (O.state output.new) result }
         ensures ended { self.new.ended ≡ is_ended result }
+        ensures sound { self.new.store.is_broken ≡ false → IsStore C self.new.store }
         ensures same_disk { is_unserved result ≡ true → disk.new ≡ disk.old }
         ensures same_sink { is_unserved result ≡ true → output.new ≡ output.old }
         ensures told { (I.state input.new).tells ≡ (I.state input.old).tells }
@@ -105,7 +107,9 @@ impl<const C: usize> Session<C> {
           kept_done = if kept then counted self.old.done 1 else self.old.kept_done;
           kept_turn = if kept then turn else self.old.kept_turn;
         } }
+        ensures sound { self.new.store.is_broken ≡ false → IsStore C self.new.store }
     {
+        let _ = self.store.is_broken();
         self.done = self.done.saturating_add(1);
         if kept {
             self.kept_done = self.done;
@@ -118,7 +122,9 @@ impl<const C: usize> Session<C> {
     fn end(&mut self, end: End) -> Turn
         ensures ended { result ≡ Turn.Ended end }
         ensures flag { self.new ≡ record self.old { ended = true } }
+        ensures sound { self.new.store.is_broken ≡ false → IsStore C self.new.store }
     {
+        let _ = self.store.is_broken();
         self.ended = true;
         Turn::Ended(end)
     }
