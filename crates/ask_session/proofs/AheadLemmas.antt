@@ -19,7 +19,8 @@ pub between_later : (bytes : List ℕ) (from to n : ℕ) → from + n ≤ to →
 between_later bytes from to n within room =
     let long : n ≤ length (drop from bytes) = omega (arith, length-drop from bytes, within, room) in
     sym (ap (drop n) (between_cut bytes from to n within)
-    ∙ drop_at (take n (drop from bytes)) (between bytes (from + n) to) n (length-take-le n (drop from bytes) long))
+    ∙ drop_at (take n (drop from bytes)) (between bytes (from + n) to) n (length-take-le n
+    (drop from bytes) long))
 
 -- the first bytes were copied into the front of a slice
 pub given_front : (bytes front out : List ℕ) (from to n : ℕ) → from + n ≤ to → to ≤ length bytes
@@ -29,4 +30,5 @@ given_front bytes front out from to n within room is =
     let long : n ≤ length (drop from bytes) = omega (arith, length-drop from bytes, within, room) in
     let count : length front ≡ n = ap length is ∙ length-take-le n (drop from bytes) long in
     between_cut bytes from to n within
-    ∙ ap (λ (xs : List ℕ). xs ++ between bytes (from + n) to) (sym is ∙ sym (take_at front (drop n out) n count))
+    ∙ ap (λ (xs : List ℕ). xs ++ between bytes (from + n) to) (sym is
+    ∙ sym (take_at front (drop n out) n count))

@@ -52,7 +52,8 @@ refused_answer ask.full = refl
 refused_answer ask.worn = refl
 
 -- the head that is answered for a refusal
-pub refused_head : {classes : ℕ} (s : Kept) (r : Request) (w : Refused) (a d : disk.State) → IsSound classes s a
+pub refused_head : {classes : ℕ} (s : Kept) (r : Request) (w : Refused) (a d : disk.State)
+    → IsSound classes s a
     → refusal (limits_of s) (facts_at s r) r ≡ Some w → Unchanged a d
     → Answers classes r s s a d (Ok (head.Refused (told_for w)))
 refused_head s r w a d h is same = record {
@@ -67,10 +68,12 @@ refused_head s r w a d h is same = record {
 -- a change that is refused
 refused_change : {classes : ℕ} (s new : Kept) (r : Request) (w : Refused) (a d : disk.State)
     (result : Result Done Refusal) → IsSound classes s a → refusal (limits_of s) (facts_at s r) r ≡ Some w
-    → result ≡ Err (refusal_for w) → NothingChanged s new a d → Answers classes r s new a d (answer_change result)
+    → result ≡ Err (refusal_for w) → NothingChanged s new a d
+    → Answers classes r s new a d (answer_change result)
 refused_change {classes} s new r w a d result h is answer same =
     subst (λ (x : Kept). Answers classes r s x a d (answer_change result)) (sym same.same_store)
-    (subst (λ (x : Result _ _). Answers classes r s s a d x) (sym (ap answer_change answer ∙ refused_answer w))
+    (subst (λ (x : Result _ _). Answers classes r s s a d x) (sym (ap answer_change answer
+    ∙ refused_answer w))
     (refused_head s r w a d h is same.same_disk))
 
 -- ---- served
@@ -87,7 +90,8 @@ pub record IsMade (classes : ℕ) (r : Request) (s new : Kept) (a d : disk.State
       → d.turn ≡ counted a.turn (calls_of (limits_of s) (state_of s a.file) r))
   pub over : IsConnected classes new d
   pub broken : new.is_broken ≡ store.is_disk_fault result
-  pub left : IsTrue a.tells → RestsOnTable (base_of s) s.kept a → Leaves a d (IsServingImage classes s r a.file)
+  pub left : IsTrue a.tells → RestsOnTable (base_of s) s.kept a
+      → Leaves a d (IsServingImage classes s r a.file)
   pub rests : IsTrue a.tells → RestsOnTable (base_of s) s.kept a
       → OnOk result (RestsOnTable (base_of new) new.kept d)
   pub frame : KeepsDisk a d
@@ -111,7 +115,8 @@ pub is_made : {classes : ℕ} (s new : Kept) (r : Request) (a d : disk.State) (r
     → IsMade classes r s new a d result → Answers classes r s new a d (answer_change result)
 is_made s new r a d (Ok x) m = record {
   serves = record {
-    step = λ told calm. subst (λ (y : Reply). Step (limits_of s) (state_of s a.file) r y (state_of new d.file))
+    step = λ told calm. subst (λ (y : Reply). Step (limits_of s) (state_of s a.file) r y
+        (state_of new d.file))
         (m.step told).replied (m.step told);
     block = λ calm. m.block;
     calls = λ told calm least. m.calls told least;
@@ -126,13 +131,14 @@ is_made s new r a d (Ok x) m = record {
   only = tt;
   disk_cause = record { rose = λ e. absurd (cc); later = m.cause.later };
 }
-is_made {classes} s new r a d (Err refused) m = elim m.either as (λ _. Answers classes r s new a d (answer_of refused)) [
-  | inl x ↦ absurd (x.1)
-  | inr x ↦
-    let e : refused ≡ why.Disk = (cc) in
-    subst (λ (y : Refusal). Answers classes r s new a d (answer_of y)) (sym e)
-    (failed (m.broken ∙ ap store.is_disk e))
-]
+is_made {classes} s new r a d (Err refused) m = elim m.either as (λ _. Answers classes r s new a d
+    (answer_of refused)) [
+      | inl x ↦ absurd (x.1)
+      | inr x ↦
+          let e : refused ≡ why.Disk = (cc) in
+          subst (λ (y : Refusal). Answers classes r s new a d (answer_of y)) (sym e)
+          (failed (m.broken ∙ ap store.is_disk e))
+    ]
   where
     failed : new.is_broken ≡ true → Answers classes r s new a d (answer_of why.Disk)
     failed broken = record {
@@ -162,7 +168,8 @@ on_ok (Err e) f p = tt
 pub refused_is : (s : Kept) (r : Request) (o : Option Refused) → s.is_broken ≡ false
     → refusal (limits_of s) (facts_at s r) r ≡ o → refused_by s r ≡ option_map refusal_for o
 refused_is s r o whole is =
-    ap (λ (b : Bool). if b then Some why.Broken else option_map refusal_for (refusal (limits_of s) (facts_at s r) r)) whole
+    ap (λ (b : Bool). if b then Some why.Broken else option_map refusal_for (refusal (limits_of s)
+    (facts_at s r) r)) whole
     ∙ ap (option_map refusal_for) is
 
 pub none_is : (o : Option Refusal) → o ≡ None → IsNone o
@@ -202,15 +209,16 @@ flushed_at : (s : Kept) (file : List ℕ) (c : Change)
     → (next_book s.in_use.block.k (state_of s file).map s.book c).quiet ≡ false
     → IsFlushed s file c (served_at s file (ask.change c))
 flushed_at s file c found quiet = subst (IsFlushed s file c)
-    (sym (served_by (limits_of s) (state_of s file) (ask.change c) None found)) (flushed_change s file c quiet)
+    (sym (served_by (limits_of s) (state_of s file) (ask.change c) None found))
+    (flushed_change s file c quiet)
 
 module _ {classes : ℕ} (s new : Kept) (c : Change) (a d : disk.State) (result : Result Done Refusal)
-    (h : IsSound classes s a) (accepted : refusal (limits_of s) (facts_at s (ask.change c)) (ask.change c) ≡ None)
+    (h : IsSound classes s a) (accepted : refusal (limits_of s) (facts_at s (ask.change c)) (ask.change c)
+    ≡ None)
     (answer : (result ≡ Ok (record { kept = not (is_quiet (charges_of s c)) })) ⊎ (result ≡ Err why.Disk))
     (step : IsTrue a.tells → IfSome (reply_of done_reply result) (λ reply. Step (limits_of s)
     (state_of s a.file) (ask.change c) reply (state_of new d.file)))
     (over : IsConnected classes new d) (broken : new.is_broken ≡ store.is_disk_fault result) where
-
   found : refusal (limits_of s) (facts_of (state_of s a.file) (ask.change c)) (ask.change c) ≡ None
   found = refusal_at s a.file (ask.change c) h.sound ∙ accepted
 
@@ -222,7 +230,8 @@ module _ {classes : ℕ} (s new : Kept) (c : Change) (a d : disk.State) (result 
     step = step;
     block = on_ok result (λ v. ap (λ (x : Kept). x.in_use.block) v.rest) q.value;
     calls = λ told. on_ok result (λ turn least. turn ∙ ap (λ (n : ℕ). counted a.turn n)
-        (sym (quiet_calls_are s a.file c found (quiet_by_book classes s a.file c h.sound (h.over told) ∙ quiet))))
+        (sym (quiet_calls_are s a.file c found (quiet_by_book classes s a.file c h.sound (h.over told)
+        ∙ quiet))))
         q.calls.all;
     over = over;
     broken = broken;
@@ -247,7 +256,13 @@ module _ {classes : ℕ} (s new : Kept) (c : Change) (a d : disk.State) (result 
     left = λ told rests. Leaves-weaken (IsServingImage classes s (ask.change c) a.file) (λ image is. record {
       opens = elim is.opens as (λ _. _) [
         | inl kept ↦ inl kept
-        | inr now ↦ inr (omega (arith, (flushed told).least), rw ((flushed told).map, (flushed told).book) now)
+        | inr now ↦ inr (
+          omega (arith, (flushed told).least),
+          rw (
+            (flushed told).map,
+            (flushed told).book,
+          ) now,
+        )
       ];
       loose = rw (flushed told).map is.loose;
     }) (f.left told rests);
@@ -257,14 +272,18 @@ module _ {classes : ℕ} (s new : Kept) (c : Change) (a d : disk.State) (result 
   }
     where
       flushed : IsTrue a.tells → IsFlushed s a.file c (served_at s a.file (ask.change c))
-      flushed told = flushed_at s a.file c found (quiet_by_book classes s a.file c h.sound (h.over told) ∙ quiet)
+      flushed told = flushed_at s a.file c found (quiet_by_book classes s a.file c h.sound (h.over told)
+          ∙ quiet)
 
 -- a put or a del
-pub change_answers : {classes : ℕ} (s new : Kept) (c : Change) (a d : disk.State) (result : Result Done Refusal)
+pub change_answers : {classes : ℕ} (s new : Kept) (c : Change) (a d : disk.State)
+    (result : Result Done Refusal)
     → IsSound classes s a → AnswersChange (is_quiet (charges_of s c)) (refused_by s (ask.change c)) result
     → (IsSome (refused_by s (ask.change c)) → NothingChanged s new a d)
-    → (IsNone (refused_by s (ask.change c)) → is_quiet (charges_of s c) ≡ true → IsQuietChange classes c s new a d result)
-    → (IsNone (refused_by s (ask.change c)) → is_quiet (charges_of s c) ≡ false → IsFlush classes c s new a d result)
+    → (IsNone (refused_by s (ask.change c)) → is_quiet (charges_of s c) ≡ true
+    → IsQuietChange classes c s new a d result)
+    → (IsNone (refused_by s (ask.change c)) → is_quiet (charges_of s c) ≡ false
+    → IsFlush classes c s new a d result)
     → (s.is_broken ≡ false → IsTrue a.tells → IfSome (reply_of done_reply result) (λ reply. Step (limits_of s)
     (state_of s a.file) (ask.change c) reply (state_of new d.file)))
     → IsConnected classes new d → new.is_broken ≡ (s.is_broken || store.is_disk_fault result)
@@ -293,7 +312,8 @@ change_answers {classes} s new c a d result h answer refused quiet flush step ov
     by (Some w) is = refused_change s new (ask.change c) w a d result h is
         (subst (λ (o : Option Refusal). AnswersChange (is_quiet (charges_of s c)) o result)
         (refused_is s (ask.change c) (Some w) h.whole is) answer)
-        (refused (subst (λ (o : Option Refusal). IsSome o) (sym (refused_is s (ask.change c) (Some w) h.whole is)) refl))
+        (refused (subst (λ (o : Option Refusal). IsSome o) (sym (refused_is s (ask.change c)
+        (Some w) h.whole is)) refl))
 
 -- ---- keep
 
@@ -309,14 +329,23 @@ keep_made {classes} s new a d result h is answer step over broken k = record {
   either = either_answer result _ answer;
   step = step;
   block = on_ok result (λ v. ap (λ (x : Kept). x.in_use.block) v) k.value;
-  calls = λ told. on_ok result (λ v least. absurd (omega (arith, least, ap (λ (x : Served). x.saves.least) (served_is told))))
+  calls = λ told. on_ok result (λ v least. absurd (omega (
+    arith,
+    least,
+    ap (λ (x : Served). x.saves.least)
+        (served_is told),
+  )))
       k.value;
   over = over;
   broken = broken;
   left = λ told rests. Leaves-weaken (IsServingImage classes s ask.keep a.file) (λ image e. record {
     opens = elim e.opens as (λ _. _) [
       | inl kept ↦ inl kept
-      | inr now ↦ inr (omega (arith, ap (λ (x : Served). x.saves.least) (served_is told)), rw (served_is told) now)
+      | inr now ↦ inr (
+        omega (arith, ap (λ (x : Served). x.saves.least) (served_is told)),
+        rw
+            (served_is told) now,
+      )
     ];
     loose = same_length_loose s ask.keep a.file image h.sound (h.over told) e.same_length;
   }) (k.left told rests);
@@ -325,7 +354,8 @@ keep_made {classes} s new a d result h is answer step over broken k = record {
   cause = k.calls.cause;
 }
   where
-    served_is : IsTrue a.tells → served_at s a.file ask.keep ≡ accepted (limits_of s) (state_of s a.file) ask.keep
+    served_is : IsTrue a.tells
+        → served_at s a.file ask.keep ≡ accepted (limits_of s) (state_of s a.file) ask.keep
     served_is told = served_by (limits_of s) (state_of s a.file) ask.keep None
         (refusal_at s a.file ask.keep h.sound ∙ is)
 
@@ -347,8 +377,10 @@ keep_answers {classes} s new a d result h answer refused keeps step over broken 
         (step h.whole) over (broken ∙ ap (λ (b : Bool). b || store.is_disk_fault result) h.whole)
         (keeps (none_is _ (refused_is s ask.keep None h.whole is))))
     by (Some w) is = refused_change s new ask.keep w a d result h is
-        (subst (λ (o : Option Refusal). AnswersKeep o result) (refused_is s ask.keep (Some w) h.whole is) answer)
-        (refused (subst (λ (o : Option Refusal). IsSome o) (sym (refused_is s ask.keep (Some w) h.whole is)) refl))
+        (subst (λ (o : Option Refusal). AnswersKeep o result) (refused_is s ask.keep
+        (Some w) h.whole is) answer)
+        (refused (subst (λ (o : Option Refusal). IsSome o) (sym (refused_is s ask.keep
+        (Some w) h.whole is)) refl))
 
 -- ---- too long
 

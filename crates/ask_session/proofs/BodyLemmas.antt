@@ -14,9 +14,11 @@ pub length_mid : (a k : ℕ) (xs : List ℕ) → a + k ≡ length xs → length 
 length_mid a k xs whole = length-take-le k (drop a xs) (omega (arith, whole, length-drop a xs))
 
 -- the rest of a slice, written anew
-put_rest : (a k : ℕ) (xs ys : List ℕ) → a + k ≡ length xs → length ys ≡ k → put_mid a k xs ys ≡ take a xs ++ ys
+put_rest : (a k : ℕ) (xs ys : List ℕ) → a + k ≡ length xs → length ys ≡ k
+    → put_mid a k xs ys ≡ take a xs ++ ys
 put_rest a k xs ys whole long =
-    let same : length (put_mid a k xs ys) ≡ length xs = same_len_mid a k xs ys (long ∙ sym (length_mid a k xs whole)) in
+    let same : length (put_mid a k xs ys) ≡ length xs = same_len_mid a k xs ys (long
+    ∙ sym (length_mid a k xs whole)) in
     sym (take_all (a + k) (put_mid a k xs ys) (omega (arith, same, whole)))
     ∙ take-put_mid a k xs ys (a + k) (omega (arith, long)) (omega (arith, whole))
 
@@ -27,14 +29,16 @@ pub fill_more : (start out piece now rest : List ℕ) (done k n : ℕ) → done 
 fill_more start out piece now rest done k n whole long within so_far is =
     let front : length (take done out) ≡ done = length-take-le done out (omega (arith, whole)) in
     let more : take (done + n) (take done out ++ piece) ≡ take done out ++ take n piece =
-    ap (λ (m : ℕ). take (m + n) (take done out ++ piece)) (sym front) ∙ take-append-add (take done out) piece n in
+    ap (λ (m : ℕ). take (m + n) (take done out ++ piece)) (sym front)
+    ∙ take-append-add (take done out) piece n in
     so_far ∙ ap (λ (xs : List ℕ). take done out ++ xs) is
     ∙ sym (append_assoc (take done out) (take n piece) rest)
     ∙ ap (λ (xs : List ℕ). xs ++ rest) (sym more)
     ∙ ap (λ (xs : List ℕ). take (done + n) xs ++ rest) (sym (put_rest done k out piece whole long))
 
 -- the newline is missing behind the bytes of an object
-pub no_newline : (object mid : List ℕ) (size : ℕ) (input : List ℕ) → length object ≡ size → input ≡ object ++ mid
+pub no_newline : (object mid : List ℕ) (size : ℕ) (input : List ℕ) → length object ≡ size
+    → input ≡ object ++ mid
     → ((rest : List ℕ) → mid ≡ 10 ∷ rest → ⊥) → LacksObject size input
 no_newline object mid size input long is none other rest other_long other_is =
     none rest (two object other mid (10 ∷ rest) (long ∙ sym other_long) (sym is ∙ other_is))
@@ -78,7 +82,8 @@ filled told input rest bytes body after size long held is = record {
 }
 
 -- the newline stood behind it
-pub with_newline : (told : Type 0) (input mid rest body : List ℕ) (size : ℕ) → HoldsObject told input mid size body
+pub with_newline : (told : Type 0) (input mid rest body : List ℕ) (size : ℕ)
+    → HoldsObject told input mid size body
     → (told → mid ≡ 10 ∷ rest) → HoldsObject told input (10 ∷ rest) size body
 with_newline told input mid rest body size h is = record {
   object = h.object;

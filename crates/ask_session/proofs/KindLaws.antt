@@ -17,7 +17,8 @@ pub record IsPut (r : Request) (name : List ℕ) (size : ℕ) (body : List ℕ) 
   pub held : size ≤ SIZE_MAX → take size body ≡ object
 
 changed_put : (c : Change) (o : Option (List ℕ)) (name body : List ℕ) (size : ℕ) → c.object ≡ o
-    → change_ask c.name o ≡ ask.Put name size → HasBody body (request.change (record { name = c.name; object = o }))
+    → change_ask c.name o ≡ ask.Put name size
+    → HasBody body (request.change (record { name = c.name; object = o }))
     → IsPut (request.change c) name size body
 changed_put c None name body size is asked has = absurd (cc)
 changed_put c (Some object) name body size is asked has =
@@ -27,7 +28,8 @@ changed_put c (Some object) name body size is asked has =
       object = object;
       is = λ i. request.change (record { name = same i; object = is i });
       long = long;
-      held = λ small. ap (λ (n : ℕ). take n body) (sym long) ∙ has (subst (λ (n : ℕ). n ≤ SIZE_MAX) (sym long) small);
+      held = λ small. ap (λ (n : ℕ). take n body) (sym long)
+          ∙ has (subst (λ (n : ℕ). n ≤ SIZE_MAX) (sym long) small);
     }
 
 pub put_is : (r : Request) (name body : List ℕ) (size : ℕ) → ask_of r ≡ ask.Put name size → HasBody body r
@@ -40,7 +42,8 @@ put_is request.back name body size asked has = absurd (cc)
 put_is request.list name body size asked has = absurd (cc)
 put_is request.stat name body size asked has = absurd (cc)
 
-changed_del : (c : Change) (o : Option (List ℕ)) (name : List ℕ) → c.object ≡ o → change_ask c.name o ≡ ask.Del name
+changed_del : (c : Change) (o : Option (List ℕ)) (name : List ℕ) → c.object ≡ o
+    → change_ask c.name o ≡ ask.Del name
     → request.change c ≡ request.change (del_of name)
 changed_del c None name is asked =
     let same : c.name ≡ name = (cc) in λ i. request.change (record { name = same i; object = is i })

@@ -16,14 +16,16 @@ text_is r rest =
     ∙ append_assoc (line_of (ask_of r)) (codes "\n") (body_of r ++ rest)
 
 -- no newline stands within bytes that lack it
-no_front : (xs ys front rest : List ℕ) → Lacks 10 xs → length front < length xs → xs ++ ys ≡ front ++ 10 ∷ rest → ⊥
+no_front : (xs ys front rest : List ℕ) → Lacks 10 xs → length front < length xs
+    → xs ++ ys ≡ front ++ 10 ∷ rest → ⊥
 no_front [] ys front rest lacks low h = omega (arith, low)
 no_front (x ∷ xs) ys [] rest lacks low h = let e : x ≡ 10 = cc in lacks.0 e
 no_front (x ∷ xs) ys (f ∷ front) rest lacks low h =
     no_front xs ys front rest lacks.1 (omega (arith, low)) (let e : xs ++ ys ≡ front ++ 10 ∷ rest = cc in e)
 
 -- there is no newline among the first bytes
-pub no_line : (input line now : List ℕ) → Lacks 10 line → input ≡ line ++ now → (271 ≤ length line) ⊎ (now ≡ [])
+pub no_line : (input line now : List ℕ) → Lacks 10 line → input ≡ line ++ now
+    → (271 ≤ length line) ⊎ (now ≡ [])
     → BeginsNone input
 no_line input line now lacks is far r rest text h =
     let whole : line ++ now ≡ line_of (ask_of r) ++ 10 ∷ (body_of r ++ rest) = sym is ∙ h ∙ text_is r rest in

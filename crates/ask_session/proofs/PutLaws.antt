@@ -23,12 +23,14 @@ puts_then xs ys a b c (Err end) some first then =
         rest = f.rest;
         given = f.given ∙ ap (λ (zs : List ℕ). zs ++ f.put) first ∙ append_assoc a xs f.put;
         whole = ap (λ (zs : List ℕ). xs ++ zs) f.whole ∙ sym (append_assoc xs f.put f.rest);
-        some = λ cut none. absurd (some cut (f.whole ∙ ap (λ (zs : List ℕ). zs ++ f.rest) (f.some cut none) ∙ none));
+        some = λ cut none. absurd (some cut (f.whole ∙ ap (λ (zs : List ℕ). zs ++ f.rest) (f.some cut none)
+            ∙ none));
       };
     }
 
 -- a text that the sink cut off, before another
-pub puts_cut : {T U : Type 0} (xs ys a b : List ℕ) (end : End) → end ≡ ends.Sink → PutsText {T = T} xs a b (Err end)
+pub puts_cut : {T U : Type 0} (xs ys a b : List ℕ) (end : End) → end ≡ ends.Sink
+    → PutsText {T = T} xs a b (Err end)
     → PutsText {T = U} (xs ++ ys) a b (Err end)
 puts_cut xs ys a b end sink then =
     let f : IsFront xs a b (is_disk end) = then.front in

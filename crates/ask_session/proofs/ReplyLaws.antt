@@ -37,7 +37,8 @@ use Rattle.ask_session.proofs.ServingLaws.{IsSound, StaysAt, refusal_at, serves_
 
 -- what is served depends on the disk's fault alone
 serves_as : {T U : Type 0} {classes : ℕ} (r : Request) (s new : Kept) (a d : disk.State) (x : Result T End)
-    (y : Result U End) → is_disk_fault x ≡ is_disk_fault y → Serves classes r s new a d x → Serves classes r s new a d y
+    (y : Result U End) → is_disk_fault x ≡ is_disk_fault y → Serves classes r s new a d x
+    → Serves classes r s new a d y
 serves_as r s new a d x y same h = record {
   step = λ told calm. h.step told (same ∙ calm);
   block = λ calm. h.block (same ∙ calm);
@@ -58,7 +59,8 @@ kept_head (ask.listed entries) = refl
 kept_head (ask.counts names bytes kept_names kept_bytes) = refl
 
 -- What is put of an answer.
-pub record PutsAnswer (out after : SinkState) (answer : Result text.Reply End) (result : Result Bool End) : Type 0 where
+pub record PutsAnswer (out after : SinkState) (answer : Result text.Reply End)
+    (result : Result Bool End) : Type 0 where
   pub put : IsTrue out.tells → IfOk answer (λ x. PutsText (first_line x) out.given after.given result)
   pub kept : IfOk answer (λ x. IfOk result (λ kept. kept ≡ is_kept x))
   pub only : IfOk answer (λ x. IfErr result (λ end. end ≡ ends.Sink))
@@ -68,7 +70,8 @@ pub record PutsAnswer (out after : SinkState) (answer : Result text.Reply End) (
   pub faults : OnErr answer (after.faults ≡ out.faults)
   pub told : after.tells ≡ out.tells
 
-sink_calm : {T : Type 0} (result : Result T End) → IfErr result (λ end. end ≡ ends.Sink) → is_disk_fault result ≡ false
+sink_calm : {T : Type 0} (result : Result T End) → IfErr result (λ end. end ≡ ends.Sink)
+    → is_disk_fault result ≡ false
 sink_calm (Ok x) is = refl
 sink_calm (Err end) is = ap is_disk is
 
@@ -87,13 +90,19 @@ pub answers_replies : {classes : ℕ} (r : Request) (s new : Kept) (a d : disk.S
     → PutsAnswer out after answer result → Replies classes r s new a d out after result
 answers_replies r s new a d out after (Ok x) result h p = record {
   serves = serves_as r s new a d (Ok x) result (sym calm) h.serves;
-  kept = λ told. if_ok_with result (λ kept is. is ∙ ap is_kept (h.replied told) ∙ kept_head (reply_at s a.file r)) p.kept;
+  kept = λ told. if_ok_with result (λ kept is. is ∙ ap is_kept (h.replied told)
+      ∙ kept_head (reply_at s a.file r)) p.kept;
   puts = λ told sink. puts_as (first_line x) (reply_text (reply_at s a.file r)) out.given after.given result
       (ap first_line (h.replied told) ∙ sym (append-nil (first_line (head_of (reply_at s a.file r))))
-      ∙ ap (λ (xs : List ℕ). first_line (head_of (reply_at s a.file r)) ++ xs) (sym (h.line told))) (p.put sink);
+      ∙ ap (λ (xs : List ℕ). first_line (head_of (reply_at s a.file r))
+      ++ xs) (sym (h.line told))) (p.put sink);
   nothing = λ sink changing fault. absurd (let e : true ≡ false = sym fault ∙ calm in cc);
   only = sink_serving result p.only;
-  disk_cause = record { rose = λ fault. absurd (let e : true ≡ false = sym fault ∙ calm in cc); later = h.disk_cause.later };
+  disk_cause = record {
+    rose = λ fault. absurd (let e : true ≡ false = sym fault
+        ∙ calm in cc);
+    later = h.disk_cause.later;
+  };
   sink_cause = p.cause;
 }
   where
@@ -116,7 +125,8 @@ answers_replies {classes} r s new a d out after (Err end) result h p =
     })
   where
     no_sink : is_sink_fault {T = Bool} (Err end) ≡ true → ⊥
-    no_sink fault = let e : false ≡ true = sym (ap (λ (x : End). is_sink_fault {T = Bool} (Err x)) h.only) ∙ fault in absurd (cc)
+    no_sink fault = let e : false ≡ true = sym (ap (λ (x : End). is_sink_fault {T = Bool} (Err x)) h.only)
+        ∙ fault in absurd (cc)
 
 -- ---- reads
 
@@ -124,7 +134,8 @@ pub reads_replies : {classes : ℕ} (r : Request) (s : Kept) (a d : disk.State) 
     (result : Result Bool End) → IsSound classes s a → is_changing r ≡ false → Unchanged a d
     → (IsTrue a.tells → StaysAt s a.file r) → (IsTrue a.tells → acknowledges (reply_at s a.file r) ≡ false)
     → IfOk result (λ kept. kept ≡ false)
-    → (IsTrue a.tells → IsTrue out.tells → PutsText (reply_text (reply_at s a.file r)) out.given after.given result)
+    → (IsTrue a.tells → IsTrue out.tells
+    → PutsText (reply_text (reply_at s a.file r)) out.given after.given result)
     → IfErr result IsServingFault → HasDiskCause a.faults d.faults result → HasSinkCause out after result
     → Replies classes r s s a d out after result
 reads_replies r s a d out after result h asks same stays plain kept puts only disk_cause sink_cause = record {
@@ -171,7 +182,8 @@ read_fault None n x is (inr (inl e)) = inl (cc)
 read_fault None n x is (inr (inr e)) = inr (cc)
 read_fault (Some y) n x is answer = absurd (cc)
 
-module _ (o : Option Refusal) (n : ℕ) (x : Refusal) (served : o ≡ None) (answer : AnswersRead o n (Err x)) where
+module _ (o : Option Refusal) (n : ℕ) (x : Refusal) (served : o
+    ≡ None) (answer : AnswersRead o n (Err x)) where
   pub fault_serving : IsServingFault (fault_of x)
   fault_serving = elim (read_fault o n x served answer) as (λ _. IsServingFault (fault_of x)) [
     | inl e ↦ subst (λ (y : Refusal). IsServingFault (fault_of y)) (sym e) tt
@@ -183,7 +195,8 @@ module _ (o : Option Refusal) (n : ℕ) (x : Refusal) (served : o ≡ None) (ans
   fault_disk before now cause later = record {
     rose = λ fault. elim (read_fault o n x served answer) as (λ _. Rose before.faults now.faults) [
       | inl e ↦ cause.rose (ap (λ (y : Refusal). Err y) e)
-      | inr e ↦ absurd (let f : false ≡ true = sym (ap (λ (y : Refusal). is_disk (fault_of y)) e) ∙ fault in cc)
+      | inr e ↦ absurd (let f : false ≡ true = sym (ap (λ (y : Refusal). is_disk (fault_of y)) e)
+          ∙ fault in cc)
     ];
     later = later;
   }
@@ -192,7 +205,8 @@ module _ (o : Option Refusal) (n : ℕ) (x : Refusal) (served : o ≡ None) (ans
       → HasSinkCause {T = U} before now (Err (fault_of x))
   fault_sink before now cause = record {
     rose = λ fault. elim (read_fault o n x served answer) as (λ _. Rose before.faults now.faults) [
-      | inl e ↦ absurd (let f : false ≡ true = sym (ap (λ (y : Refusal). is_sink (fault_of y)) e) ∙ fault in cc)
+      | inl e ↦ absurd (let f : false ≡ true = sym (ap (λ (y : Refusal). is_sink (fault_of y)) e)
+          ∙ fault in cc)
       | inr e ↦ cause.rose (ap (λ (y : Refusal). Err y) e)
     ];
     calm = tt;
@@ -208,19 +222,21 @@ module _ {classes : ℕ} (r : Request) (s : Kept) (a : disk.State) (h : IsSound 
     (is : IsTrue a.tells → served_at s a.file r ≡ unchanged (state_of s a.file) (ask.found object))
     (none : IsTrue a.tells → calls_of (limits_of s) (state_of s a.file) r ≡ 0)
     (long : IsTrue a.tells → length object ≡ size) where
-
   stays : IsTrue a.tells → StaysAt s a.file r
   stays told = record { reply = ask.found object; is = is told; none = none told }
 
   reply_is : IsTrue a.tells → reply_at s a.file r ≡ ask.found object
   reply_is told = ap (λ (x : Served). x.reply) (is told)
 
-  text_is : IsTrue a.tells → first_line (head.Data size) ++ (object ++ codes "\n") ≡ reply_text (reply_at s a.file r)
+  text_is : IsTrue a.tells
+      → first_line (head.Data size) ++ (object ++ codes "\n") ≡ reply_text (reply_at s a.file r)
   text_is told = ap (λ (m : ℕ). first_line (head.Data m) ++ (object ++ codes "\n")) (sym (long told))
       ∙ ap reply_text (sym (reply_is told))
 
-  pub found_replies : (d : disk.State) (out mid after : SinkState) (x : Result (Unit {0}) End) (result : Result Bool End)
-      → Unchanged a d → x ≡ Ok tt → (IsTrue out.tells → PutsText (first_line (head.Data size)) out.given mid.given x)
+  pub found_replies : (d : disk.State) (out mid after : SinkState) (x : Result (Unit {0}) End)
+      (result : Result Bool End)
+      → Unchanged a d → x ≡ Ok tt → (IsTrue out.tells
+      → PutsText (first_line (head.Data size)) out.given mid.given x)
       → HasSinkCause out mid x → IfOk result (λ kept. kept ≡ false)
       → (IsTrue a.tells → IsTrue mid.tells → PutsText (object ++ codes "\n") mid.given after.given result)
       → IfErr result IsServingFault → HasDiskCause a.faults d.faults result → HasSinkCause mid after result
@@ -238,20 +254,23 @@ module _ {classes : ℕ} (r : Request) (s : Kept) (a : disk.State) (h : IsSound 
       })
     where
       whole : IsTrue out.tells → mid.given ≡ out.given ++ first_line (head.Data size)
-      whole sink = (subst (λ (y : Result (Unit {0}) End). PutsText (first_line (head.Data size)) out.given mid.given y) ok
+      whole sink = (subst (λ (y : Result (Unit {0}) End). PutsText (first_line
+          (head.Data size)) out.given mid.given y) ok
           (first sink)).all
 
       calm_first : mid.faults ≡ out.faults
       calm_first = (subst (λ (y : Result (Unit {0}) End). HasSinkCause out mid y) ok first_cause).calm
 
   pub cut_replies : (out mid : SinkState) (end : End) → end ≡ ends.Sink
-      → (IsTrue out.tells → PutsText {T = Unit {0}} (first_line (head.Data size)) out.given mid.given (Err end))
+      → (IsTrue out.tells → PutsText {T = Unit {0}} (first_line (head.Data size)) out.given mid.given
+      (Err end))
       → HasSinkCause {T = Unit {0}} out mid (Err end) → Replies classes r s s a a out mid (Err end)
   cut_replies out mid end sink_end first cause =
       reads_replies r s a a out mid (Err end) h asks (unchanged_itself a h.ready) stays
       (λ told. ap acknowledges (reply_is told)) tt
       (λ told sink. puts_as _ _ out.given mid.given (Err end) (text_is told)
-      (puts_cut (first_line (head.Data size)) (object ++ codes "\n") out.given mid.given end sink_end (first sink)))
+      (puts_cut (first_line (head.Data size)) (object
+      ++ codes "\n") out.given mid.given end sink_end (first sink)))
       (subst IsServingFault (sym sink_end) tt)
       (record {
         rose = λ fault. absurd (let e : false ≡ true = sym (ap is_disk sink_end) ∙ fault in cc);
@@ -264,7 +283,6 @@ module _ {classes : ℕ} (r : Request) (s : Kept) (a : disk.State) (h : IsSound 
 -- the first line and the lines of a list
 module _ {classes : ℕ} (s : Kept) (a : disk.State) (h : IsSound classes s a) (count : ℕ)
     (is : count ≡ fin.len s.now) where
-
   list_stays : IsTrue a.tells → StaysAt s a.file ask.list
   list_stays told = record {
     reply = (accepted (limits_of s) (state_of s a.file) ask.list).reply;
@@ -283,7 +301,8 @@ module _ {classes : ℕ} (s : Kept) (a : disk.State) (h : IsSound classes s a) (
       ap (λ (m : ℕ). first_line (head.List m) ++ lines_of (listing_of s.now)) long
       ∙ ap reply_text (sym (list_reply told))
 
-  pub listed_replies : (out mid after : SinkState) (x : Result (Unit {0}) End) (result : Result Bool End) → x ≡ Ok tt
+  pub listed_replies : (out mid after : SinkState) (x : Result (Unit {0}) End) (result : Result Bool End)
+      → x ≡ Ok tt
       → (IsTrue out.tells → PutsText (first_line (head.List count)) out.given mid.given x)
       → HasSinkCause out mid x → IfOk result (λ kept. kept ≡ false)
       → (IsTrue mid.tells → PutsText (lines_of (listing_of s.now)) mid.given after.given result)
@@ -293,7 +312,8 @@ module _ {classes : ℕ} (s : Kept) (a : disk.State) (h : IsSound classes s a) (
       reads_replies ask.list s a a out after result h refl (unchanged_itself a h.ready) list_stays
       (λ told. ap acknowledges (list_reply told)) kept
       (λ told sink. puts_as _ _ out.given after.given result (list_text told)
-      (puts_then (first_line (head.List count)) (lines_of (listing_of s.now)) out.given mid.given after.given result
+      (puts_then (first_line (head.List count)) (lines_of
+      (listing_of s.now)) out.given mid.given after.given result
       (λ fault. absurd (let e : true ≡ false = sym fault ∙ calm in cc)) (whole sink)
       (puts (subst IsTrue (sym first_cause.told) sink))))
       (sink_serving result only)
@@ -309,20 +329,23 @@ module _ {classes : ℕ} (s : Kept) (a : disk.State) (h : IsSound classes s a) (
       calm = sink_calm result only
 
       whole : IsTrue out.tells → mid.given ≡ out.given ++ first_line (head.List count)
-      whole sink = (subst (λ (y : Result (Unit {0}) End). PutsText (first_line (head.List count)) out.given mid.given y) ok
+      whole sink = (subst (λ (y : Result (Unit {0}) End). PutsText (first_line
+          (head.List count)) out.given mid.given y) ok
           (first sink)).all
 
       calm_first : mid.faults ≡ out.faults
       calm_first = (subst (λ (y : Result (Unit {0}) End). HasSinkCause out mid y) ok first_cause).calm
 
   pub cut_list : (out mid : SinkState) (end : End) → end ≡ ends.Sink
-      → (IsTrue out.tells → PutsText {T = Unit {0}} (first_line (head.List count)) out.given mid.given (Err end))
+      → (IsTrue out.tells → PutsText {T = Unit {0}} (first_line (head.List count)) out.given mid.given
+      (Err end))
       → HasSinkCause {T = Unit {0}} out mid (Err end) → Replies classes ask.list s s a a out mid (Err end)
   cut_list out mid end sink_end first cause =
       reads_replies ask.list s a a out mid (Err end) h refl (unchanged_itself a h.ready) list_stays
       (λ told. ap acknowledges (list_reply told)) tt
       (λ told sink. puts_as _ _ out.given mid.given (Err end) (list_text told)
-      (puts_cut (first_line (head.List count)) (lines_of (listing_of s.now)) out.given mid.given end sink_end (first sink)))
+      (puts_cut (first_line (head.List count)) (lines_of
+      (listing_of s.now)) out.given mid.given end sink_end (first sink)))
       (subst IsServingFault (sym sink_end) tt)
       (record {
         rose = λ fault. absurd (let e : false ≡ true = sym (ap is_disk sink_end) ∙ fault in cc);
@@ -345,9 +368,11 @@ pub served_is : (s : Kept) (r : Request) → s.is_broken ≡ false → refused_b
     → refusal (limits_of s) (facts_at s r) r ≡ None
 served_is s r whole is = by (refusal (limits_of s) (facts_at s r) r) refl
   where
-    by : (o : Option Refused) → refusal (limits_of s) (facts_at s r) r ≡ o → refusal (limits_of s) (facts_at s r) r ≡ None
+    by : (o : Option Refused) → refusal (limits_of s) (facts_at s r) r ≡ o
+        → refusal (limits_of s) (facts_at s r) r ≡ None
     by None e = e
-    by (Some w) e = absurd (let f : Some (refusal_for w) ≡ None = sym (refused_is s r (Some w) whole e) ∙ is in cc)
+    by (Some w) e = absurd (let f : Some (refusal_for w) ≡ None = sym (refused_is s r (Some w) whole e)
+        ∙ is in cc)
 
 -- what it refuses has a reply
 pub refused_with : (s : Kept) (r : Request) (x : Refusal) → s.is_broken ≡ false → refused_by s r ≡ Some x
@@ -370,12 +395,15 @@ answer_is ask.full = refl
 answer_is ask.worn = refl
 
 -- a refusal that is put
-pub refused_replies : {classes : ℕ} (r : Request) (s : Kept) (a : disk.State) (out after : SinkState) (x : Refusal)
-    (answer : Result text.Reply End) (result : Result Bool End) → IsSound classes s a → refused_by s r ≡ Some x
+pub refused_replies : {classes : ℕ} (r : Request) (s : Kept) (a : disk.State) (out after : SinkState)
+    (x : Refusal)
+    (answer : Result text.Reply End) (result : Result Bool End) → IsSound classes s a
+    → refused_by s r ≡ Some x
     → answer ≡ answer_of x → PutsAnswer out after answer result → Replies classes r s s a a out after result
 refused_replies {classes} r s a out after x answer result h is same puts =
     let w = refused_with s r x h.whole is in
-    let e : Ok (head.Refused (told_for w.0)) ≡ answer = sym (answer_is w.0) ∙ ap answer_of (sym w.2) ∙ sym same in
+    let e : Ok (head.Refused (told_for w.0)) ≡ answer = sym (answer_is w.0) ∙ ap answer_of (sym w.2)
+    ∙ sym same in
     answers_replies r s s a a out after answer result
     (subst (λ (y : Result text.Reply End). Answers classes r s s a a y) e
     (refused_head s r w.0 a a h w.1 (unchanged_itself a h.ready))) puts
@@ -383,7 +411,8 @@ refused_replies {classes} r s a out after x answer result h is same puts =
 -- the object of a get
 pub get_served : {classes : ℕ} (s : Kept) (a : disk.State) (name : List ℕ) → IsSound classes s a
     → refused_by s (ask.get name) ≡ None → IsTrue a.tells
-    → served_at s a.file (ask.get name) ≡ unchanged (state_of s a.file) (ask.found (object_in (state_of s a.file).map name))
+    → served_at s a.file (ask.get name)
+    ≡ unchanged (state_of s a.file) (ask.found (object_in (state_of s a.file).map name))
 get_served s a name h is told = served_by (limits_of s) (state_of s a.file) (ask.get name) None
     (refusal_at s a.file (ask.get name) h.sound ∙ served_is s (ask.get name) h.whole is)
 
@@ -393,11 +422,13 @@ pub get_long : {classes : ℕ} (s : Kept) (a : disk.State) (name : List ℕ) (si
 get_long s a name size h answer told =
     let served = number_served (refused_by s (ask.get name)) (size_at (fin.get s.now name)) size answer in
     object_size (base_of s) a.file s.now name h.sound.now.named (now_lies s a.file h.sound (h.over told))
-    (live_if (is_name name) (fin.contains_key s.now name) (served_is s (ask.get name) h.whole served.0)) ∙ sym served.1
+    (live_if (is_name name) (fin.contains_key s.now name) (served_is s (ask.get name) h.whole served.0))
+    ∙ sym served.1
 
 pub old_served : {classes : ℕ} (s : Kept) (a : disk.State) (name : List ℕ) → IsSound classes s a
     → refused_by s (ask.old name) ≡ None → IsTrue a.tells
-    → served_at s a.file (ask.old name) ≡ unchanged (state_of s a.file) (ask.found (object_in (state_of s a.file).kept name))
+    → served_at s a.file (ask.old name)
+    ≡ unchanged (state_of s a.file) (ask.found (object_in (state_of s a.file).kept name))
 old_served s a name h is told = served_by (limits_of s) (state_of s a.file) (ask.old name) None
     (refusal_at s a.file (ask.old name) h.sound ∙ served_is s (ask.old name) h.whole is)
 
@@ -407,4 +438,5 @@ pub old_long : {classes : ℕ} (s : Kept) (a : disk.State) (name : List ℕ) (si
 old_long s a name size h answer told =
     let served = number_served (refused_by s (ask.old name)) (size_at (fin.get s.kept name)) size answer in
     object_size (base_of s) a.file s.kept name h.sound.kept.named (kept_lies s a.file h.sound (h.over told))
-    (live_if (is_name name) (fin.contains_key s.kept name) (served_is s (ask.old name) h.whole served.0)) ∙ sym served.1
+    (live_if (is_name name) (fin.contains_key s.kept name) (served_is s (ask.old name) h.whole served.0))
+    ∙ sym served.1

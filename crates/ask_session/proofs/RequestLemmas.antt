@@ -29,8 +29,10 @@ bare told input rest body r text has none is = record {
 pub read_bare : (told : Type 0) (input rest body : List ℕ) (a : Ask) → IsAsk a → size_asked a ≡ None
     → (told → input ≡ line_of a ++ 10 ∷ rest) → IsRead told input rest a body
 read_bare told input rest body (ask.Put name size) text none is = absurd (cc)
-read_bare told input rest body (ask.Get name) text none is = bare told input rest body (request.get name) text tt refl is
-read_bare told input rest body (ask.Old name) text none is = bare told input rest body (request.old name) text tt refl is
+read_bare told input rest body (ask.Get name) text none is = bare told input rest body
+    (request.get name) text tt refl is
+read_bare told input rest body (ask.Old name) text none is = bare told input rest body
+    (request.old name) text tt refl is
 read_bare told input rest body (ask.Del name) text none is =
     bare told input rest body (request.change (record { name = name; object = None })) text tt refl is
 read_bare told input rest body ask.Keep text none is = bare told input rest body request.keep text tt refl is
@@ -52,7 +54,8 @@ read_put told input mid rest body name size text is h =
       request = put_request name h.object;
       text = subst IsAsk (sym same) text;
       asked = same;
-      object = λ small. ap (λ (n : ℕ). take n body) h.long ∙ h.held (subst (λ (n : ℕ). n ≤ SIZE_MAX) h.long small);
+      object = λ small. ap (λ (n : ℕ). take n body) h.long
+          ∙ h.held (subst (λ (n : ℕ). n ≤ SIZE_MAX) h.long small);
       whole = λ t. is t
           ∙ ap (λ (xs : List ℕ). line_of (ask.Put name size) ++ 10 ∷ xs)
           (h.whole t ∙ sym (append_assoc h.object (codes "\n") rest))
@@ -60,8 +63,10 @@ read_put told input mid rest body name size text is h =
           ∙ sym (text_is (put_request name h.object) rest);
     }
 
-pub read_sized : (told : Type 0) (input mid rest body : List ℕ) (a : Ask) (size : ℕ) → IsAsk a → Some size ≡ size_asked a
-    → (told → input ≡ line_of a ++ 10 ∷ mid) → HoldsObject told mid (10 ∷ rest) size body → IsRead told input rest a body
+pub read_sized : (told : Type 0) (input mid rest body : List ℕ) (a : Ask) (size : ℕ) → IsAsk a
+    → Some size ≡ size_asked a
+    → (told → input ≡ line_of a ++ 10 ∷ mid) → HoldsObject told mid (10 ∷ rest) size body
+    → IsRead told input rest a body
 read_sized told input mid rest body (ask.Put name n) size text some is h =
     let same : size ≡ n = (cc) in
     read_put told input mid rest body name n text is
@@ -75,16 +80,23 @@ read_sized told input mid rest body ask.List size text some is h = absurd (cc)
 read_sized told input mid rest body ask.Stat size text some is h = absurd (cc)
 
 -- a request whose object is missing
-no_body : (r : Request) (size : ℕ) (mid rest : List ℕ) → LacksObject size mid → Some size ≡ size_asked (ask_of r)
+no_body : (r : Request) (size : ℕ) (mid rest : List ℕ) → LacksObject size mid
+    → Some size ≡ size_asked (ask_of r)
     → mid ≡ body_of r ++ rest → ⊥
 no_body (request.change c) size mid rest lacks some is = of c.object refl
   where
     of : (o : Option (List ℕ)) → c.object ≡ o → ⊥
-    of None e = let n : Some size ≡ None = some ∙ ap (λ (x : Option (List ℕ)). size_asked (ask_of (request.change (record { name = c.name; object = x })))) e in absurd (cc)
+    of None e = let n : Some size ≡ None = some
+        ∙ ap (λ (x : Option (List ℕ)). size_asked (ask_of (request.change
+        (record { name = c.name; object = x })))) e in absurd (cc)
     of (Some object) e =
-        let n : Some size ≡ Some (length object) = some ∙ ap (λ (x : Option (List ℕ)). size_asked (ask_of (request.change (record { name = c.name; object = x })))) e in
+        let n : Some size ≡ Some (length object) = some
+        ∙ ap (λ (x : Option (List ℕ)). size_asked (ask_of (request.change
+        (record { name = c.name; object = x })))) e in
         let m : length object ≡ size = (cc) in
-        lacks object rest m (is ∙ ap (λ (x : Option (List ℕ)). body_of (request.change (record { name = c.name; object = x })) ++ rest) e
+        lacks object rest m (is
+        ∙ ap (λ (x : Option (List ℕ)). body_of (request.change (record { name = c.name; object = x }))
+        ++ rest) e
         ∙ append_assoc object (codes "\n") rest)
 no_body (request.get name) size mid rest lacks some is = absurd (cc)
 no_body (request.old name) size mid rest lacks some is = absurd (cc)

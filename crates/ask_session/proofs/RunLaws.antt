@@ -51,7 +51,8 @@ texts_more [] r all text = (text, tt)
 texts_more (x ∷ rs) r all text = (all.0, texts_more rs r all.1 text)
 
 chain_more : (limits : Limits) (s t : State) (rs : List Request) (replies : List Reply) (states : List State)
-    (r : Request) (reply : Reply) → Chain limits s rs replies states → Step limits (last_state s states) r reply t
+    (r : Request) (reply : Reply) → Chain limits s rs replies states
+    → Step limits (last_state s states) r reply t
     → Chain limits s (rs ++ r ∷ []) (replies ++ reply ∷ []) (states ++ t ∷ [])
 chain_more limits s t [] [] [] r reply chain step = (step, tt)
 chain_more limits s t (x ∷ rs) (y ∷ replies) (z ∷ states) r reply chain step =
@@ -82,7 +83,8 @@ kept_more done kept (x ∷ replies) reply =
     else last_kept (counted done 1) (if acknowledges x then counted done 1 else kept) replies)
     (omega arith)
 
-calls_more : (limits : Limits) (m : ℕ) (s t : State) (states : List State) (rs : List Request) (replies : List Reply)
+calls_more : (limits : Limits) (m : ℕ) (s t : State) (states : List State) (rs : List Request)
+    (replies : List Reply)
     (r : Request) (reply : Reply) → Chain limits s rs replies states
     → calls_since limits m s (states ++ t ∷ []) (rs ++ r ∷ []) (replies ++ reply ∷ [])
     ≡ (if acknowledges reply then 0
@@ -139,22 +141,31 @@ change_makes limits s c false is = inl (record {
 
 accepted_makes : (limits : Limits) (s : State) (r : Request)
     → MakesOne (accepted limits s r) ⊎ MakesNone s (accepted limits s r)
-accepted_makes limits s (ask.change c) = change_makes limits s c (next_book limits.k s.map s.book c).quiet refl
-accepted_makes limits s (ask.get name) = inr (record { least = refl; acknowledged = refl; kept = refl; book = refl })
-accepted_makes limits s (ask.old name) = inr (record { least = refl; acknowledged = refl; kept = refl; book = refl })
-accepted_makes limits s ask.keep = inl (record { least = refl; acknowledged = refl; kept = refl; book = refl })
-accepted_makes limits s ask.back = inr (record { least = refl; acknowledged = refl; kept = refl; book = refl })
-accepted_makes limits s ask.list = inr (record { least = refl; acknowledged = refl; kept = refl; book = refl })
-accepted_makes limits s ask.stat = inr (record { least = refl; acknowledged = refl; kept = refl; book = refl })
+accepted_makes limits s (ask.change c) = change_makes limits s c
+    (next_book limits.k s.map s.book c).quiet refl
+accepted_makes limits s (ask.get name) = inr
+    (record { least = refl; acknowledged = refl; kept = refl; book = refl })
+accepted_makes limits s (ask.old name) = inr
+    (record { least = refl; acknowledged = refl; kept = refl; book = refl })
+accepted_makes limits s ask.keep = inl
+    (record { least = refl; acknowledged = refl; kept = refl; book = refl })
+accepted_makes limits s ask.back = inr
+    (record { least = refl; acknowledged = refl; kept = refl; book = refl })
+accepted_makes limits s ask.list = inr
+    (record { least = refl; acknowledged = refl; kept = refl; book = refl })
+accepted_makes limits s ask.stat = inr
+    (record { least = refl; acknowledged = refl; kept = refl; book = refl })
 
-makes : (limits : Limits) (s : State) (r : Request) → MakesOne (served limits s r) ⊎ MakesNone s (served limits s r)
+makes : (limits : Limits) (s : State) (r : Request)
+    → MakesOne (served limits s r) ⊎ MakesNone s (served limits s r)
 makes limits s r = by (refusal limits (facts_of s r) r) refl
   where
     by : (o : Option Refused) → refusal limits (facts_of s r) r ≡ o
         → MakesOne (served limits s r) ⊎ MakesNone s (served limits s r)
     by None is = subst (λ (x : Served). MakesOne x ⊎ MakesNone s x) (sym (served_by limits s r None is))
         (accepted_makes limits s r)
-    by (Some w) is = subst (λ (x : Served). MakesOne x ⊎ MakesNone s x) (sym (served_by limits s r (Some w) is))
+    by (Some w) is = subst (λ (x : Served). MakesOne x ⊎ MakesNone s x) (sym (served_by limits s r
+        (Some w) is))
         (inr (record { least = refl; acknowledged = refl; kept = refl; book = refl }))
 
 -- ---- one more request
@@ -172,7 +183,6 @@ module _ {classes : ℕ} (s0 : Sitting) (a : disk.State) (i0 : SourceState) (o0 
     (x : IsAnswered classes s1 s2 b d i1 i2 o1 o2)
     (told_source : i2.tells ≡ i1.tells) (calm_source : i2.faults ≡ i1.faults)
     (lawful : IsLawful d) (sound : s2.store.is_broken ≡ false → IsStore classes s2.store) where
-
   abbrev r : Request
   r = x.served.request
 
@@ -233,7 +243,8 @@ module _ {classes : ℕ} (s0 : Sitting) (a : disk.State) (i0 : SourceState) (o0 
         | inr none ↦ absurd (omega (arith, now.0, none.least))
       ]
     ];
-    loose = subst (λ (m : Map). Loose s0.store.in_use.block.k (length image - base_of s0.store) s.map m) (sym (new_map told))
+    loose = subst (λ (m : Map). Loose s0.store.in_use.block.k (length image - base_of s0.store) s.map m)
+        (sym (new_map told))
         (subst (λ (u : SuperBlock). Loose u.k (length image - head_len u.names) s.map
         (served_at s1.store b.file r).state.map) ran.block is.loose);
   }
@@ -264,15 +275,18 @@ module _ {classes : ℕ} (s0 : Sitting) (a : disk.State) (i0 : SourceState) (o0 
   rests_now told rests = x.served.replies.serves.rests (told_b told) unbroken (ran.rests told rests)
 
   -- what may be left after a checkpoint opens to it
-  opens_now : IsTrue a.tells → RestsOnTable (base_of s0.store) s0.store.kept a → (image : List ℕ) → d.may_leave image
+  opens_now : IsTrue a.tells → RestsOnTable (base_of s0.store) s0.store.kept a → (image : List ℕ)
+      → d.may_leave image
       → OpensToKept classes t image
   opens_now told rests image may =
-      let told_d : IsTrue d.tells = subst IsTrue (sym x.served.replies.serves.frame.stays.told) (told_b told) in
+      let told_d : IsTrue d.tells = subst IsTrue (sym x.served.replies.serves.frame.stays.told)
+      (told_b told) in
       (kept_image s2.store (sound unbroken) d.file (x.served.replies.serves.over unbroken told_d) image
       (rests_now told rests image may)).opens
 
   since_now : (kept : Bool) → IsTrue a.tells → RestsOnTable (base_of s0.store) s0.store.kept a → d.turn < last
-      → s0.kept_turn ≤ a.turn → LeftOnly a s0.kept_turn (OpensToKept classes start) → kept ≡ acknowledges reply
+      → s0.kept_turn ≤ a.turn → LeftOnly a s0.kept_turn (OpensToKept classes start)
+      → kept ≡ acknowledges reply
       → LeftOnly d (if kept then d.turn else s1.kept_turn) (OpensToKept classes t)
   since_now true told rests below low was is = λ image since.
       opens_now told rests image (lawful.only_now image below since)
@@ -288,32 +302,39 @@ module _ {classes : ℕ} (s0 : Sitting) (a : disk.State) (i0 : SourceState) (o0 
   turn_low true low = omega arith
   turn_low false low = omega (arith, ran.kept_turn low, x.served.replies.serves.frame.no_turn_back)
 
-  calls_now : (kept : Bool) (m c : ℕ) → IsTrue a.tells → kept ≡ acknowledges reply → b.turn ≡ counted s1.kept_turn m
+  calls_now : (kept : Bool) (m c : ℕ) → IsTrue a.tells → kept ≡ acknowledges reply
+      → b.turn ≡ counted s1.kept_turn m
       → c ≡ (if acknowledges reply then 0 else m + calls_of limits s r)
       → d.turn ≡ counted (if kept then d.turn else s1.kept_turn) c
   calls_now true m c told is turn sum =
       let none : c ≡ 0 = sum ∙ ap (λ (k : Bool). if k then 0 else m + calls_of limits s r) (sym is) in
       omega (arith, none, lawful.turn_fits)
   calls_now false m c told is turn sum =
-      let more : c ≡ m + calls_of limits s r = sum ∙ ap (λ (k : Bool). if k then 0 else m + calls_of limits s r) (sym is) in
-      let least : (served_at s1.store b.file r).saves.least ≡ 0 = elim made as (λ _. (served_at s1.store b.file r).saves.least ≡ 0) [
+      let more : c ≡ m + calls_of limits s r = sum
+      ∙ ap (λ (k : Bool). if k then 0 else m + calls_of limits s r) (sym is) in
+      let least : (served_at s1.store b.file r).saves.least
+      ≡ 0 = elim made as (λ _. (served_at s1.store b.file r).saves.least ≡ 0) [
         | inl one ↦ absurd (let e : true ≡ false = sym one.acknowledged ∙ sym is in cc)
         | inr none ↦ none.least
       ] in
-      let made_calls : d.turn ≡ counted b.turn (calls_of limits s r) = subst (λ (l : Limits). d.turn ≡ counted b.turn (calls_of l s r))
+      let made_calls : d.turn ≡ counted b.turn (calls_of limits s r) = subst (λ (l : Limits). d.turn
+      ≡ counted b.turn (calls_of l s r))
       same_limits (x.served.replies.serves.calls (told_b told) refl least) in
       omega (arith, more, made_calls, turn)
 
   kept_now : (kept : Bool) → IsTrue a.tells → kept ≡ acknowledges reply
       → (if kept then s2.done else s1.kept_done) ≡ last_kept s0.done s0.kept_done (ran.replies ++ reply ∷ [])
   kept_now true told is =
-      let long : length ran.replies ≡ n = chain_long limits start ran.requests ran.replies ran.states (ran.chain told)
+      let long : length ran.replies
+      ≡ n = chain_long limits start ran.requests ran.replies ran.states (ran.chain told)
       ∙ ran.count in
       omega (arith, x.done, ran.done, long) ∙ sym (kept_more s0.done s0.kept_done ran.replies reply
-      ∙ ap (λ (k : Bool). if k then counted s0.done (length ran.replies + 1) else last_kept s0.done s0.kept_done ran.replies)
+      ∙ ap (λ (k : Bool). if k then counted s0.done
+      (length ran.replies + 1) else last_kept s0.done s0.kept_done ran.replies)
       (sym is))
   kept_now false told is = ran.kept_done told ∙ sym (kept_more s0.done s0.kept_done ran.replies reply
-      ∙ ap (λ (k : Bool). if k then counted s0.done (length ran.replies + 1) else last_kept s0.done s0.kept_done ran.replies)
+      ∙ ap (λ (k : Bool). if k then counted s0.done
+      (length ran.replies + 1) else last_kept s0.done s0.kept_done ran.replies)
       (sym is))
 
   pub has_run_more : HasRun classes s0 s2 a d i0 i2 o0 o2 (n + 1)
@@ -347,24 +368,33 @@ module _ {classes : ℕ} (s0 : Sitting) (a : disk.State) (i0 : SourceState) (o0 
     over = x.served.replies.serves.over;
     rests = rests_now;
     left = λ told rests. Leaves-trans
-        (Leaves-weaken (IsRunImage classes s0.store.in_use.block.k (base_of s0.store) start (ran.states ++ t ∷ []))
-        (λ image is. some_more (IsStepImage classes s0.store.in_use.block.k (base_of s0.store) image) start t ran.states is)
+        (Leaves-weaken (IsRunImage classes s0.store.in_use.block.k (base_of s0.store) start (ran.states
+        ++ t ∷ []))
+        (λ image is. some_more (IsStepImage classes s0.store.in_use.block.k
+        (base_of s0.store) image) start t ran.states is)
         (ran.left told rests))
-        (Leaves-weaken (IsRunImage classes s0.store.in_use.block.k (base_of s0.store) start (ran.states ++ t ∷ []))
-        (λ image is. some_last (IsStepImage classes s0.store.in_use.block.k (base_of s0.store) image) start t ran.states
-        (subst (λ (y : State). IsStepImage classes s0.store.in_use.block.k (base_of s0.store) image y t) (ran.newest told)
+        (Leaves-weaken (IsRunImage classes s0.store.in_use.block.k (base_of s0.store) start (ran.states
+        ++ t ∷ []))
+        (λ image is. some_last (IsStepImage classes s0.store.in_use.block.k
+        (base_of s0.store) image) start t ran.states
+        (subst (λ (y : State). IsStepImage classes s0.store.in_use.block.k (base_of s0.store) image y t)
+        (ran.newest told)
         (step_image told image is)))
         (x.served.replies.serves.left (told_b told) (ran.rests told rests)));
-    since = λ told rests below low was. subst (λ (n : ℕ). LeftOnly d n (OpensToKept classes t)) (sym x.kept_turn)
+    since = λ told rests below low was. subst (λ (n : ℕ). LeftOnly d n (OpensToKept classes t))
+        (sym x.kept_turn)
         (since_now x.kept told rests below low was (kept_is told));
     kept_turn = λ low. subst (λ (n : ℕ). n ≤ d.turn) (sym x.kept_turn) (turn_low x.kept low);
-    calls = λ told m turn. subst (λ (k : ℕ). d.turn ≡ counted k (calls_since limits m start (ran.states ++ t ∷ [])
+    calls = λ told m turn. subst (λ (k : ℕ). d.turn ≡ counted k (calls_since limits m start (ran.states
+        ++ t ∷ [])
         (ran.requests ++ r ∷ []) (ran.replies ++ reply ∷ []))) (sym x.kept_turn)
-        (calls_now x.kept (calls_since limits m start ran.states ran.requests ran.replies) _ told (kept_is told)
+        (calls_now x.kept (calls_since limits m start ran.states ran.requests ran.replies) _ told
+        (kept_is told)
         (ran.calls told m turn)
         (calls_more limits m start t ran.states ran.requests ran.replies r reply (ran.chain told)
         ∙ ap (λ (y : State). if acknowledges reply then 0
-        else calls_since limits m start ran.states ran.requests ran.replies + calls_of limits y r) (sym (ran.newest told))));
+        else calls_since limits m start ran.states ran.requests ran.replies + calls_of limits y r) (sym
+        (ran.newest told))));
     frame = record {
       no_turn_back = omega (arith, ran.frame.no_turn_back, x.served.replies.serves.frame.no_turn_back);
       stays = Stays-trans ran.frame.stays x.served.replies.serves.frame.stays;

@@ -38,8 +38,10 @@ pub same_length_loose : {classes : ℕ} (s : Kept) (r : Request) (file image : L
     → IsOver classes s file → length image ≡ length file
     → Loose s.in_use.block.k (length image - base_of s) (state_of s file).map (served_at s file r).state.map
 same_length_loose s r file image h over same =
-    let n : length image - base_of s ≡ book_end s.in_use.block.k s.book = omega (arith, same, over.same_length) in
-    tight_is_loose s.in_use.block.k (length image - base_of s) (state_of s file).map (served_at s file r).state.map
+    let n : length image - base_of s
+    ≡ book_end s.in_use.block.k s.book = omega (arith, same, over.same_length) in
+    tight_is_loose s.in_use.block.k (length image - base_of s) (state_of s file).map
+    (served_at s file r).state.map
     (subst (λ (x : ℕ). Tight s.in_use.block.k x (state_of s file).map) (sym n) (tight_now s file h over))
 
 pub kept_is_serving : {classes : ℕ} (s : Kept) (r : Request) (file image : List ℕ) → IsStore classes s
@@ -76,7 +78,8 @@ same_step s file r stays = record {
   high = omega (arith, ap (λ (x : Served). x.saves.most) stays.is);
 }
 
-pub serves_same : {T : Type 0} {classes : ℕ} (s : Kept) (r : Request) (a d : disk.State) (result : Result T End)
+pub serves_same : {T : Type 0} {classes : ℕ} (s : Kept) (r : Request) (a d : disk.State)
+    (result : Result T End)
     → IsSound classes s a → Unchanged a d → (IsTrue a.tells → StaysAt s a.file r)
     → (is_changing r && is_disk_fault result) ≡ false → Serves classes r s s a d result
 serves_same {T} {classes} s r a d result h same stays calm = record {
@@ -109,10 +112,10 @@ pub refused_stays : {classes : ℕ} (s : Kept) (file : List ℕ) (r : Request) (
     → refusal (limits_of s) (facts_at s r) r ≡ Some w
     → (StaysAt s file r) × (reply_at s file r ≡ ask.refused w)
 refused_stays s file r w h is =
-    let found : refusal (limits_of s) (facts_of (state_of s file) r) r ≡ Some w = refusal_at s file r h ∙ is in
+    let found : refusal (limits_of s) (facts_of (state_of s file) r) r ≡ Some w = refusal_at s file r h
+    ∙ is in
     let same : served_at s file r ≡ unchanged (state_of s file) (ask.refused w) =
-    served_by (limits_of s) (state_of s file) r (Some w) found in
-    (
+    served_by (limits_of s) (state_of s file) r (Some w) found in (
       record { reply = ask.refused w; is = same; none = no_calls r found },
       ap (λ (x : Served). x.reply) same,
     )

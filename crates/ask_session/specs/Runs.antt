@@ -59,8 +59,8 @@ calls_since limits calls s (t ∷ states) (r ∷ requests) [] = calls
 abbrev pub OpensToKept : ℕ → State → List ℕ → Type 0
 OpensToKept classes t image = Opens classes SIZE_MAX image t.kept t.kept_book
 
--- an image that is left in the step from a state to the next: it opens to the checkpoint of one of them, and its data
--- part is within bounds for both maps
+-- an image that is left in the step from a state to the next: it opens to the checkpoint of one of them, and
+-- its data part is within bounds for both maps
 pub record IsStepImage (classes k base : ℕ) (image : List ℕ) (s t : State) : Type 0 where
   pub opens : OpensToKept classes s image ⊎ OpensToKept classes t image
   pub loose : Loose k (length image - base) s.map t.map
@@ -71,10 +71,11 @@ IsRunImage classes k base s states image = SomeStep (IsStepImage classes k base 
 
 -- ---- the run
 
--- So many requests were answered one after another. Their texts stood in front of the unread input, each reply was put
--- whole, and the states after them are a chain of steps. What a crash may leave meanwhile was left in one of them,
--- where the disk rested on the checkpoint's table; it does so again. Since the last acknowledged checkpoint a crash
--- leaves what opens to that alone, and the calls of the requests after it were made.
+-- So many requests were answered one after another. Their texts stood in front of the unread input, each
+-- reply was put whole, and the states after them are a chain of steps. What a crash may leave meanwhile was
+-- left in one of them, where the disk rested on the checkpoint's table; it does so again. Since the last
+-- acknowledged checkpoint a crash leaves what opens to that alone, and the calls of the requests after it
+-- were made.
 pub record HasRun (classes : ℕ) (old new : Sitting) (before now : disk.State) (from rest : SourceState)
     (out after : SinkState) (n : ℕ) : Type 0 where
   pub requests : List Request
@@ -122,7 +123,8 @@ is_budget ends.Source = false
 is_budget ends.Sink = false
 
 -- the last turn of a run, by its end
-abbrev pub IsLastTurn : ℕ → ℕ → Sitting → Sitting → disk.State → disk.State → SourceState → SourceState → SinkState
+abbrev pub IsLastTurn : ℕ → ℕ → Sitting → Sitting → disk.State → disk.State → SourceState → SourceState
+    → SinkState
     → SinkState → End → Type 0
 IsLastTurn classes n s new before now from rest out after ends.Budget = (n ≡ budget) × (new ≡ s)
 IsLastTurn classes n s new before now from rest out after ends.End =
@@ -136,16 +138,20 @@ IsLastTurn classes n s new before now from rest out after ends.Source =
 IsLastTurn classes n s new before now from rest out after ends.Sink =
     IsTurn classes s new before now from rest out after (turn.Ended ends.Sink)
 
--- A run and its end: after the last request that was answered one more turn ended the session, or as many were
--- answered as may be. `mid` are the devices before that turn, which are those after it where no request was served.
-pub record EndsRun {D I O : Type 0} (disk_of : D → disk.State) (source_of : I → SourceState) (sink_of : O → SinkState)
-    (classes : ℕ) (old new : Sitting) (before now : D) (from rest : I) (out after : O) (end : End) : Type 0 where
+-- A run and its end: after the last request that was answered one more turn ended the session, or as many
+-- were answered as may be. `mid` are the devices before that turn, which are those after it where no request
+-- was served.
+pub record EndsRun {D I O : Type 0} (disk_of : D → disk.State) (source_of : I → SourceState) (sink_of : O
+    → SinkState)
+    (classes : ℕ) (old new : Sitting) (before now : D) (from rest : I) (out after : O)
+    (end : End) : Type 0 where
   pub sitting : Sitting
   pub mid_disk : D
   pub mid_source : I
   pub mid_sink : O
   pub n : ℕ
-  pub ran : HasRun classes old sitting (disk_of before) (disk_of mid_disk) (source_of from) (source_of mid_source)
+  pub ran : HasRun classes old sitting (disk_of before) (disk_of mid_disk) (source_of from)
+      (source_of mid_source)
       (sink_of out) (sink_of mid_sink) n
   pub few : n ≤ budget
   pub last_turn : IsLastTurn classes n sitting new (disk_of mid_disk) (disk_of now) (source_of mid_source)

@@ -88,8 +88,9 @@ calls_of limits s ask.stat = 0
 
 -- ---- the store and its disk
 
--- An image that is left while a store over a file serves a request: it opens to the last checkpoint or, where the
--- request makes one, to what stands after it; and its data part is within bounds for the maps before and after.
+-- An image that is left while a store over a file serves a request: it opens to the last checkpoint or,
+-- where the request makes one, to what stands after it; and its data part is within bounds for the maps
+-- before and after.
 pub record IsServingImage (classes : ℕ) (s : Kept) (r : Request) (file image : List ℕ) : Type 0 where
   pub opens : Opens classes SIZE_MAX image (kept_map s file) s.kept_book
       ⊎ ((0 < (served_at s file r).saves.least)
@@ -97,10 +98,10 @@ pub record IsServingImage (classes : ℕ) (s : Kept) (r : Request) (file image :
   pub loose : Loose s.in_use.block.k (length image - base_of s) (state_of s file).map
       (served_at s file r).state.map
 
--- A request was served, but where the disk failed: it is a step, and no changing call of a request that makes no
--- checkpoint goes uncounted. The store is over its file unless it is broken, which it is where the disk failed in a
--- change. What a crash may leave meanwhile are images of serving, where the disk rested on the last checkpoint's
--- table; it does so again.
+-- A request was served, but where the disk failed: it is a step, and no changing call of a request that
+-- makes no checkpoint goes uncounted. The store is over its file unless it is broken, which it is where the
+-- disk failed in a change. What a crash may leave meanwhile are images of serving, where the disk rested on
+-- the last checkpoint's table; it does so again.
 pub record Serves {T : Type 0} (classes : ℕ) (r : Request) (old new : Kept) (before now : disk.State)
     (result : Result T End) : Type 0 where
   pub step : IsTrue before.tells → is_disk_fault result ≡ false → Step (limits_of old)
@@ -153,15 +154,17 @@ IsServingFault ends.Line = ⊥
 IsServingFault ends.Source = ⊥
 IsServingFault ends.Budget = ⊥
 
--- A request was served and its reply put, or a front of it where a device failed: nothing where the disk failed in
--- a change. The answer is whether the reply acknowledges a checkpoint.
-pub record Replies (classes : ℕ) (r : Request) (old new : Kept) (before now : disk.State) (out after : SinkState)
+-- A request was served and its reply put, or a front of it where a device failed: nothing where the disk
+-- failed in a change. The answer is whether the reply acknowledges a checkpoint.
+pub record Replies (classes : ℕ) (r : Request) (old new : Kept) (before now : disk.State)
+    (out after : SinkState)
     (result : Result Bool End) : Type 0 where
   pub serves : Serves classes r old new before now result
   pub kept : IsTrue before.tells → IfOk result (λ kept. kept ≡ acknowledges (reply_at old before.file r))
   pub puts : IsTrue before.tells → IsTrue out.tells
       → PutsText (reply_text (reply_at old before.file r)) out.given after.given result
-  pub nothing : IsTrue out.tells → is_changing r ≡ true → is_disk_fault result ≡ true → after.given ≡ out.given
+  pub nothing : IsTrue out.tells → is_changing r ≡ true → is_disk_fault result ≡ true
+      → after.given ≡ out.given
   pub only : IfErr result IsServingFault
   pub disk_cause : HasDiskCause before.faults now.faults result
   pub sink_cause : HasSinkCause out after result

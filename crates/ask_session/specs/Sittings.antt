@@ -5,8 +5,8 @@ use Rattle.disk_face.specs.Streams.{SourceState}
 use Rattle.store_core.specs.Connection.{Kept}
 use Rattle.store_core.specs.Codes.{kept_code}
 
--- The store; the bytes that were read ahead; whether it ended; how many requests were answered, how many of these
--- the last acknowledged checkpoint holds, and the disk's turn when it was acknowledged.
+-- The store; the bytes that were read ahead; whether it ended; how many requests were answered, how many of
+-- these the last acknowledged checkpoint holds, and the disk's turn when it was acknowledged.
 pub record Sitting : Type 0 where
   pub store : Kept
   pub ahead : List ℕ
@@ -27,7 +27,8 @@ unread s source = s.ahead ++ source.left
 -- how it is stored: as the tuple of its parts
 abbrev pub sitting_code : Coded Sitting
 sitting_code = code_by (Kept × (List ℕ × (Bool × (ℕ × (ℕ × ℕ)))))
-    (coded× kept_code (coded× (coded_list coded_ℕ) (coded× coded_bool (coded× coded_ℕ (coded× coded_ℕ coded_ℕ)))))
+    (coded× kept_code (coded× (coded_list coded_ℕ) (coded× coded_bool (coded× coded_ℕ
+    (coded× coded_ℕ coded_ℕ)))))
     (λ s. (s.store, (s.ahead, (s.ended, (s.done, (s.kept_done, s.kept_turn))))))
     (λ p. record {
       store = p.0;

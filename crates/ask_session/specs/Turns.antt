@@ -45,8 +45,8 @@ pub record IsServed (classes : ℕ) (old new : Sitting) (before now : disk.State
   pub whole : IsTrue from.tells → unread old from ≡ request_text request ++ unread new rest
   pub replies : Replies classes request old.store new.store before now out after result
 
--- The whole reply was put, and is counted. Where it acknowledges a checkpoint, that holds all requests so far, and
--- its turn is the disk's now.
+-- The whole reply was put, and is counted. Where it acknowledges a checkpoint, that holds all requests so
+-- far, and its turn is the disk's now.
 pub record IsAnswered (classes : ℕ) (old new : Sitting) (before now : disk.State) (from rest : SourceState)
     (out after : SinkState) : Type 0 where
   pub kept : Bool

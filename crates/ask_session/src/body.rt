@@ -17,7 +17,8 @@ pub(crate) fn read_object<I: Source>(
     body: &mut [u8],
 ) -> Result<(), End>
     requires room { length body.old ≡ SIZE_MAX }
-    ensures object { OnOk result (HoldsObject (IsTrue (I.state input.old).tells) (ahead.old ++ (I.state input.old).left)
+    ensures object { OnOk result (HoldsObject (IsTrue (I.state input.old).tells) (ahead.old
+        ++ (I.state input.old).left)
         (10 ∷ (ahead.new ++ (I.state input.new).left)) size body.new) }
     ensures only { IfErr result IsInputFault }
     ensures no_end { result ≡ Err End.End → ⊥ }
@@ -74,7 +75,11 @@ fn read_newline<I: Source>(ahead: &mut Ahead, input: &mut I) -> Result<(), End>
 }
 
 /// Fills `out`; false where the input ends before.
-fn fill_body<I: Source>(ahead: &mut Ahead, input: &mut I, out: &mut [u8]) -> Result<bool, SourceFault>
+fn fill_body<I: Source>(
+    ahead: &mut Ahead,
+    input: &mut I,
+    out: &mut [u8],
+) -> Result<bool, SourceFault>
     ensures filled { IsTrue (I.state input.old).tells → result ≡ Ok true
         → ahead.old ++ (I.state input.old).left ≡ out.new ++ (ahead.new ++ (I.state input.new).left) }
     ensures ended { IsTrue (I.state input.old).tells → result ≡ Ok false

@@ -44,7 +44,8 @@ pub(crate) fn serve_long<const C: usize, D: Disk>(
     requires whole { store.old.is_broken ≡ false }
     requires sound { IsStore C store.old }
     requires long { SIZE_MAX < size }
-    ensures { (object : List ℕ) → length object ≡ size → Answers C (ask.change (put_of name.now object)) store.old
+    ensures { (object : List ℕ) → length object ≡ size
+        → Answers C (ask.change (put_of name.now object)) store.old
         store.new (D.state disk.old) (D.state disk.new) result }
 {
     if is_name(name) {
@@ -71,14 +72,18 @@ pub(crate) fn serve_del<const C: usize, D: Disk>(
     requires over { IsConnected C store.old (D.state disk.old) }
     requires whole { store.old.is_broken ≡ false }
     requires sound { IsStore C store.old }
-    ensures { Answers C (ask.change (del_of name.now)) store.old store.new (D.state disk.old) (D.state disk.new)
+    ensures { Answers C (ask.change (del_of name.now)) store.old store.new (D.state disk.old)
+        (D.state disk.new)
         result }
 {
     answer_change(store.del(disk, name))
 }
 
 /// Serves a keep.
-pub(crate) fn serve_keep<const C: usize, D: Disk>(store: &mut Store<C>, disk: &mut D) -> Result<Reply, End>
+pub(crate) fn serve_keep<const C: usize, D: Disk>(
+    store: &mut Store<C>,
+    disk: &mut D,
+) -> Result<Reply, End>
     requires ready { IsTrue (D.state disk.old).is_ready }
     requires over { IsConnected C store.old (D.state disk.old) }
     requires whole { store.old.is_broken ≡ false }
@@ -89,7 +94,10 @@ pub(crate) fn serve_keep<const C: usize, D: Disk>(store: &mut Store<C>, disk: &m
 }
 
 /// Serves a back.
-pub(crate) fn serve_back<const C: usize, D: Disk>(store: &mut Store<C>, disk: &mut D) -> Result<Reply, End>
+pub(crate) fn serve_back<const C: usize, D: Disk>(
+    store: &mut Store<C>,
+    disk: &mut D,
+) -> Result<Reply, End>
     requires ready { IsTrue (D.state disk.old).is_ready }
     requires over { IsConnected C store.old (D.state disk.old) }
     requires whole { store.old.is_broken ≡ false }
@@ -103,7 +111,10 @@ pub(crate) fn serve_back<const C: usize, D: Disk>(store: &mut Store<C>, disk: &m
 }
 
 /// Serves a stat.
-pub(crate) fn serve_stat<const C: usize, D: Disk>(store: &mut Store<C>, disk: &mut D) -> Result<Reply, End>
+pub(crate) fn serve_stat<const C: usize, D: Disk>(
+    store: &mut Store<C>,
+    disk: &mut D,
+) -> Result<Reply, End>
     requires ready { IsTrue (D.state disk.old).is_ready }
     requires over { IsConnected C store.old (D.state disk.old) }
     requires whole { store.old.is_broken ≡ false }

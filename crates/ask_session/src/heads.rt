@@ -11,7 +11,8 @@ use store_core::{Done, Refusal};
 
 /// Puts the first line of a reply.
 pub(crate) fn say<O: Sink>(output: &mut O, reply: &Reply) -> Result<(), End>
-    ensures put { IsTrue (O.state output.old).tells → PutsText (first_line reply.now) (O.state output.old).given
+    ensures put { IsTrue (O.state output.old).tells
+        → PutsText (first_line reply.now) (O.state output.old).given
         (O.state output.new).given result }
     ensures only { IfErr result (λ end. end ≡ End.Sink) }
     ensures cause { HasSinkCause (O.state output.old) (O.state output.new) result }
@@ -67,7 +68,8 @@ pub(crate) fn put_answer<O: Sink>(output: &mut O, answer: Result<Reply, End>) ->
 
 /// Puts the first line of a reply, and answers whether it acknowledges a checkpoint.
 fn put_head<O: Sink>(output: &mut O, reply: &Reply) -> Result<bool, End>
-    ensures put { IsTrue (O.state output.old).tells → PutsText (first_line reply.now) (O.state output.old).given
+    ensures put { IsTrue (O.state output.old).tells
+        → PutsText (first_line reply.now) (O.state output.old).given
         (O.state output.new).given result }
     ensures kept { IfOk result (λ kept. kept ≡ is_kept reply.now) }
     ensures only { IfErr result (λ end. end ≡ End.Sink) }

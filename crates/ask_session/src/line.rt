@@ -51,7 +51,8 @@ fn read_line<I: Source>(
 ) -> Result<bool, SourceFault>
     requires empty { line.old.items ≡ [] }
     ensures lacks { OnOk result (Lacks 10 line.new.items) }
-    ensures whole { IsTrue (I.state input.old).tells → IfOk result (λ found. ahead.old ++ (I.state input.old).left
+    ensures whole { IsTrue (I.state input.old).tells
+        → IfOk result (λ found. ahead.old ++ (I.state input.old).left
         ≡ line.new.items ++ (newline_if found ++ (ahead.new ++ (I.state input.new).left))) }
     ensures long { IsTrue (I.state input.old).tells → result ≡ Ok false → (271 ≤ length line.new.items)
         ⊎ (ahead.new ++ (I.state input.new).left ≡ []) }

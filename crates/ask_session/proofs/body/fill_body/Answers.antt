@@ -19,6 +19,8 @@ pieces-preserved g c =
           let here : IsTrue (g.I.Source.state c.pieces.input).tells = grind arith in
           fill_more (c.args.ahead.now ++ (g.I.Source.state c.args.input.now).left) c.pieces.out c.take.new.out
           (c.pieces.ahead ++ (g.I.Source.state c.pieces.input).left)
-          (c.take.new.self ++ (g.I.Source.state c.take.new.input).left) c.pieces.done k c.in_ok-n.n (omega arith)
-          piece (omega (arith, mid, c.in_ok-n.ensures.bound)) (c.pieces.invariant.filled told) (c.in_ok-n.ensures.taken here).first;
+          (c.take.new.self ++ (g.I.Source.state c.take.new.input).left) c.pieces.done k c.in_ok-n.n
+          (omega arith)
+          piece (omega (arith, mid, c.in_ok-n.ensures.bound)) (c.pieces.invariant.filled told)
+          (c.in_ok-n.ensures.taken here).first;
     }

@@ -20,4 +20,5 @@ returns g c = subst (λ (x : Result Reply End). Answers g.row.C ask.keep
       ready = c.requires.ready;
       fits = (g.met.D.Disk.lawful c.args.disk.now).turn_fits;
     })
-    c.keep.ensures.answer c.keep.ensures.refused c.keep.ensures.kept c.keep.ensures.step c.keep.ensures.over c.keep.ensures.broken)
+    c.keep.ensures.answer c.keep.ensures.refused c.keep.ensures.kept
+    c.keep.ensures.step c.keep.ensures.over c.keep.ensures.broken)

@@ -9,7 +9,8 @@ use Rattle.ask_session.proofs.AnswerLaws.{change_answers}
 use Rattle.ask_session.proofs.changes.serve_put.Goals as goal
 
 pub returns : goal.returns
-returns g c = subst (λ (x : Result Reply End). Answers g.row.C (ask.change (put_of c.args.name.now c.args.object.now))
+returns g c = subst (λ (x : Result Reply End). Answers g.row.C (ask.change
+    (put_of c.args.name.now c.args.object.now))
     c.args.store.now c.put.new.self (g.D.Disk.state c.args.disk.now) (g.D.Disk.state c.put.new.disk) x)
     (sym c.answer_change.ensures)
     (change_answers c.args.store.now c.put.new.self (put_of c.args.name.now c.args.object.now)

@@ -34,7 +34,8 @@ found_one g c = grind arith
 
 line_front : (g : _) (c : goal.In-Err-read_ask g) → IsTrue (g.I.Source.state c.args.input.now).tells
     → c.args.ahead.now ++ (g.I.Source.state c.args.input.now).left
-    ≡ c.read_line.new.line.items ++ 10 ∷ (c.read_line.new.ahead ++ (g.I.Source.state c.read_line.new.input).left)
+    ≡ c.read_line.new.line.items ++ 10 ∷ (c.read_line.new.ahead
+    ++ (g.I.Source.state c.read_line.new.input).left)
 line_front g c told = c.in-Ok-true.ensures.whole told ∙ ap (λ (b : Bool). c.read_line.new.line.items
     ++ (newline_if b ++ (c.read_line.new.ahead ++ (g.I.Source.state c.read_line.new.input).left)))
     (found_one g c)

@@ -50,7 +50,8 @@ returns-in-Err-say g c =
     c.in-Ok.ensures).0 in
     cut_replies (ask.get name) s a h (object_in (state_of s a.file).map name) c.in-Ok.size refl
     (get_served s a name h served) (λ told. refl) (get_long s a name c.in-Ok.size h c.in-Ok.ensures)
-    (g.O.Sink.state c.args.output.now) (g.O.Sink.state c.say.new.output) c.in-Err-say.end c.in-Err-say.ensures.only
+    (g.O.Sink.state c.args.output.now)
+    (g.O.Sink.state c.say.new.output) c.in-Err-say.end c.in-Err-say.ensures.only
     c.in-Err-say.ensures.put c.in-Err-say.ensures.cause
 
 pub returns-in-Err : goal.returns-in-Err
@@ -58,7 +59,8 @@ returns-in-Err g c =
     let s = c.args.store.now in
     let name = c.args.name.now in
     let a = g.D.Disk.state c.args.disk.now in
-    refused_replies (ask.get name) s a (g.O.Sink.state c.args.output.now) (g.O.Sink.state c.put_answer.new.output)
+    refused_replies (ask.get name) s a (g.O.Sink.state c.args.output.now)
+    (g.O.Sink.state c.put_answer.new.output)
     c.in-Err.why c.answer_of.result c.put_answer.result
     (record {
       whole = c.requires.whole;
@@ -67,7 +69,8 @@ returns-in-Err g c =
       ready = c.requires.ready;
       fits = (g.met.D.Disk.lawful c.args.disk.now).turn_fits;
     })
-    (number_refused (refused_by s (ask.get name)) (size_at (fin.get s.now name)) c.in-Err.why c.in-Err.ensures)
+    (number_refused (refused_by s (ask.get name)) (size_at
+    (fin.get s.now name)) c.in-Err.why c.in-Err.ensures)
     c.answer_of.ensures
     (record {
       put = c.put_answer.ensures.put;

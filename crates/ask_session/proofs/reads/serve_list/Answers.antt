@@ -12,7 +12,8 @@ returns-in-Ok-say g c =
       ready = c.requires.ready;
       fits = (g.met.D.Disk.lawful c.args.disk.now).turn_fits;
     })
-    c.in-Ok.stat.names c.in-Ok.ensures.names (g.O.Sink.state c.args.output.now) (g.O.Sink.state c.say.new.output)
+    c.in-Ok.stat.names c.in-Ok.ensures.names (g.O.Sink.state c.args.output.now)
+    (g.O.Sink.state c.say.new.output)
     (g.O.Sink.state c.put_list.new.output) c.say.result c.put_list.result c.in-Ok-say.is
     c.say.ensures.put c.say.ensures.cause c.put_list.ensures.kept c.put_list.ensures.puts c.put_list.ensures.only
     c.put_list.ensures.cause
@@ -27,5 +28,6 @@ returns-in-Err-say g c =
       ready = c.requires.ready;
       fits = (g.met.D.Disk.lawful c.args.disk.now).turn_fits;
     })
-    c.in-Ok.stat.names c.in-Ok.ensures.names (g.O.Sink.state c.args.output.now) (g.O.Sink.state c.say.new.output)
+    c.in-Ok.stat.names c.in-Ok.ensures.names (g.O.Sink.state c.args.output.now)
+    (g.O.Sink.state c.say.new.output)
     c.in-Err-say.end c.in-Err-say.ensures.only c.in-Err-say.ensures.put c.in-Err-say.ensures.cause

@@ -9,7 +9,8 @@ use Rattle.ask_session.proofs.request.read_request.Goals as goal
 pub returns-in_default-clause-read : goal.returns-in_default-clause-read
 returns-in_default-clause-read g c =
     let none : size_asked c.in_ok-ask.ask ≡ None = grind arith in
-    read_bare (IsTrue (g.I.Source.state c.args.input.now).tells) (c.args.ahead.now ++ (g.I.Source.state c.args.input.now).left)
+    read_bare (IsTrue (g.I.Source.state c.args.input.now).tells) (c.args.ahead.now
+    ++ (g.I.Source.state c.args.input.now).left)
     (c.read_first.new.ahead ++ (g.I.Source.state c.read_first.new.input).left) c.args.body.now c.in_ok-ask.ask
     c.in_ok-ask.ensures.ask none c.in_ok-ask.ensures.line
 
@@ -28,7 +29,8 @@ returns-in-Ok-clause-read g c =
 pub returns-in-Err-clause-none : goal.returns-in-Err-clause-none
 returns-in-Err-clause-none g c told is =
     let same : c.in-Err.end ≡ ends.Line = (cc) in
-    let still : IsTrue (g.I.Source.state c.read_first.new.input).tells = grind (arith, c.in_ok-ask.ensures.told) in
+    let still : IsTrue (g.I.Source.state c.read_first.new.input).tells = grind
+    (arith, c.in_ok-ask.ensures.told) in
     no_object (c.args.ahead.now ++ (g.I.Source.state c.args.input.now).left)
     (c.read_first.new.ahead ++ (g.I.Source.state c.read_first.new.input).left) c.in_ok-ask.ask c.in-Some.size
     c.in_ok-ask.ensures.ask c.in-Some.ensures (c.in_ok-ask.ensures.line told)

@@ -22,7 +22,8 @@ turns-preserved g c = record {
       (g.I.Source.state c.turns.input) (g.O.Sink.state c.turns.output) c.one.new.self
       (g.D.Disk.state c.one.new.disk) (g.I.Source.state c.one.new.input) (g.O.Sink.state c.one.new.output)
       c.turns.invariant.ran c.in-Answered.ensures.turn c.in-Answered.ensures.told
-      (c.in-Answered.ensures.cause.calm refl) (g.met.D.Disk.lawful c.one.new.disk) c.in-Answered.ensures.sound;
+      (c.in-Answered.ensures.cause.calm refl)
+      (g.met.D.Disk.lawful c.one.new.disk) c.in-Answered.ensures.sound;
 }
 
 pub returns-in-Ended : goal.returns-in-Ended
@@ -36,13 +37,16 @@ returns-in-Ended g c = record {
   few = omega arith;
   last_turn = last_turn_of g.row.C c.turns.n c.turns.self c.one.new.self (g.D.Disk.state c.turns.disk)
       (g.D.Disk.state c.one.new.disk) (g.I.Source.state c.turns.input) (g.I.Source.state c.one.new.input)
-      (g.O.Sink.state c.turns.output) (g.O.Sink.state c.one.new.output) c.in-Ended.end c.in-Ended.ensures.turn;
+      (g.O.Sink.state c.turns.output)
+      (g.O.Sink.state c.one.new.output) c.in-Ended.end c.in-Ended.ensures.turn;
   sound = c.in-Ended.ensures.sound;
   same_disk = c.in-Ended.ensures.same_disk;
   same_sink = c.in-Ended.ensures.same_sink;
-  ended = c.in-Ended.ensures.ended ∙ not_budget g.row.C c.turns.self c.one.new.self (g.D.Disk.state c.turns.disk)
+  ended = c.in-Ended.ensures.ended
+      ∙ not_budget g.row.C c.turns.self c.one.new.self (g.D.Disk.state c.turns.disk)
       (g.D.Disk.state c.one.new.disk) (g.I.Source.state c.turns.input) (g.I.Source.state c.one.new.input)
-      (g.O.Sink.state c.turns.output) (g.O.Sink.state c.one.new.output) c.in-Ended.end c.in-Ended.ensures.turn;
+      (g.O.Sink.state c.turns.output)
+      (g.O.Sink.state c.one.new.output) c.in-Ended.end c.in-Ended.ensures.turn;
   cause = c.in-Ended.ensures.cause;
 }
 
