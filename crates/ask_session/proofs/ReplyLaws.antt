@@ -43,6 +43,7 @@ serves_as r s new a d x y same h = record {
   step = λ told calm. h.step told (same ∙ calm);
   block = λ calm. h.block (same ∙ calm);
   calls = λ told calm least. h.calls told (same ∙ calm) least;
+  reads = λ asks fault. h.reads asks (same ∙ fault);
   over = h.over;
   broken = h.broken ∙ ap (λ (b : Bool). is_changing r && b) same;
   left = h.left;

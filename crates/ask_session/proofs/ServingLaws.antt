@@ -87,6 +87,7 @@ serves_same {T} {classes} s r a d result h same stays calm = record {
       (state_of s x)) (sym (same.same_file told)) (same_step s a.file r (stays told));
   block = λ calm. refl;
   calls = λ told calm least. omega (arith, same.same_turn, (stays told).none, h.fits);
+  reads = λ asks fault. refl;
   over = λ whole told.
       let told_before : IsTrue a.tells = subst IsTrue same.stays.told told in
       subst (IsOver classes s) (sym (same.same_file told_before)) (h.over told_before);

@@ -98,10 +98,10 @@ pub record IsServingImage (classes : ℕ) (s : Kept) (r : Request) (file image :
   pub loose : Loose s.in_use.block.k (length image - base_of s) (state_of s file).map
       (served_at s file r).state.map
 
--- A request was served, but where the disk failed: it is a step, and no changing call of a request that
--- makes no checkpoint goes uncounted. The store is over its file unless it is broken, which it is where the
--- disk failed in a change. What a crash may leave meanwhile are images of serving, where the disk rested on
--- the last checkpoint's table; it does so again.
+-- A request was served, but where the disk failed: it is a step, and the calls of one that makes no
+-- checkpoint are counted. Where the disk failed in a change the store is broken; where it failed in a read the
+-- store is what it was. A store that isn't broken is over its file. What a crash may leave meanwhile are images
+-- of serving, where the disk rested on the last checkpoint's table; it does so again.
 pub record Serves {T : Type 0} (classes : ℕ) (r : Request) (old new : Kept) (before now : disk.State)
     (result : Result T End) : Type 0 where
   pub step : IsTrue before.tells → is_disk_fault result ≡ false → Step (limits_of old)
@@ -110,6 +110,7 @@ pub record Serves {T : Type 0} (classes : ℕ) (r : Request) (old new : Kept) (b
   pub calls : IsTrue before.tells → is_disk_fault result ≡ false
       → (served_at old before.file r).saves.least ≡ 0
       → now.turn ≡ counted before.turn (calls_of (limits_of old) (state_of old before.file) r)
+  pub reads : is_changing r ≡ false → is_disk_fault result ≡ true → new ≡ old
   pub over : IsConnected classes new now
   pub broken : new.is_broken ≡ (is_changing r && is_disk_fault result)
   pub left : IsTrue before.tells → RestsOnTable (base_of old) old.kept before
