@@ -6,5 +6,6 @@ mod LineLemmas
 mod PutLaws
 mod ReplyLaws
 mod RequestLemmas
+pub mod RunIndexLaws
 mod RunLaws
 mod ServingLaws

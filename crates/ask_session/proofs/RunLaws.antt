@@ -91,7 +91,8 @@ calls_more : (limits : Limits) (m : ℕ) (s t : State) (states : List State) (rs
     else calls_since limits m s states rs replies + calls_of limits (last_state s states) r)
 calls_more limits m s t [] [] [] r reply chain = refl
 calls_more limits m s t (z ∷ states) (x ∷ rs) (y ∷ replies) r reply chain =
-    calls_more limits (if acknowledges y then 0 else m + calls_of limits s x) z t states rs replies r reply chain.1
+    calls_more limits (if acknowledges y then 0 else m + calls_of limits s x) z t states rs replies r
+    reply chain.1
 calls_more limits m s t (z ∷ states) [] [] r reply chain = absurd (chain)
 calls_more limits m s t states [] (y ∷ replies) r reply chain = absurd (chain)
 calls_more limits m s t states (x ∷ rs) [] r reply chain = absurd (chain)
@@ -110,14 +111,14 @@ chain_long limits s (x ∷ rs) (y ∷ replies) [] chain = absurd (chain)
 -- ---- what a request makes
 
 -- a checkpoint of what stands then
-record MakesOne (x : Served) : Type 0 where
+pub record MakesOne (x : Served) : Type 0 where
   pub least : x.saves.least ≡ 1
   pub acknowledged : acknowledges x.reply ≡ true
   pub kept : x.state.kept ≡ x.state.map
   pub book : x.state.kept_book ≡ x.state.book
 
 -- or none
-record MakesNone (s : State) (x : Served) : Type 0 where
+pub record MakesNone (s : State) (x : Served) : Type 0 where
   pub least : x.saves.least ≡ 0
   pub acknowledged : acknowledges x.reply ≡ false
   pub kept : x.state.kept ≡ s.kept
@@ -156,7 +157,7 @@ accepted_makes limits s ask.list = inr
 accepted_makes limits s ask.stat = inr
     (record { least = refl; acknowledged = refl; kept = refl; book = refl })
 
-makes : (limits : Limits) (s : State) (r : Request)
+pub makes : (limits : Limits) (s : State) (r : Request)
     → MakesOne (served limits s r) ⊎ MakesNone s (served limits s r)
 makes limits s r = by (refusal limits (facts_of s r) r) refl
   where
@@ -176,56 +177,56 @@ opens_with {classes} image {m} {m'} {b} {b'} maps books is =
     subst (λ (x : Map). Opens classes SIZE_MAX image x b') (sym maps)
     (subst (λ (y : Book). Opens classes SIZE_MAX image m y) (sym books) is)
 
-module _ {classes : ℕ} (s0 : Sitting) (a : disk.State) (i0 : SourceState) (o0 : SinkState) (n : ℕ)
-    (s1 : Sitting) (b : disk.State) (i1 : SourceState) (o1 : SinkState)
-    (s2 : Sitting) (d : disk.State) (i2 : SourceState) (o2 : SinkState)
-    (ran : HasRun classes s0 s1 a b i0 i1 o0 o1 n)
-    (x : IsAnswered classes s1 s2 b d i1 i2 o1 o2)
-    (told_source : i2.tells ≡ i1.tells) (calm_source : i2.faults ≡ i1.faults)
-    (lawful : IsLawful d) (sound : s2.store.is_broken ≡ false → IsStore classes s2.store) where
+module _ {classes : ℕ} (old : Sitting) (a : disk.State) (old_in : SourceState) (old_out : SinkState) (n : ℕ)
+    (mid : Sitting) (b : disk.State) (mid_in : SourceState) (mid_out : SinkState)
+    (new : Sitting) (d : disk.State) (new_in : SourceState) (new_out : SinkState)
+    (ran : HasRun classes old mid a b old_in mid_in old_out mid_out n)
+    (x : IsAnswered classes mid new b d mid_in new_in mid_out new_out)
+    (told_source : new_in.tells ≡ mid_in.tells) (calm_source : new_in.faults ≡ mid_in.faults)
+    (lawful : IsLawful d) (sound : new.store.is_broken ≡ false → IsStore classes new.store) where
   abbrev r : Request
   r = x.served.request
 
   abbrev limits : Limits
-  limits = limits_of s0.store
+  limits = limits_of old.store
 
   -- the states of the start, before the request, and after it
   abbrev start : State
-  start = state_of s0.store a.file
+  start = state_of old.store a.file
 
   abbrev s : State
-  s = state_of s1.store b.file
+  s = state_of mid.store b.file
 
   abbrev t : State
-  t = state_of s2.store d.file
+  t = state_of new.store d.file
 
   abbrev reply : Reply
-  reply = reply_at s1.store b.file r
+  reply = reply_at mid.store b.file r
 
   told_b : IsTrue a.tells → IsTrue b.tells
   told_b told = subst IsTrue (sym ran.frame.stays.told) told
 
-  told_o : IsTrue o0.tells → IsTrue o1.tells
+  told_o : IsTrue old_out.tells → IsTrue mid_out.tells
   told_o told = subst IsTrue (sym ran.sink_told) told
 
-  same_limits : limits_of s1.store ≡ limits
+  same_limits : limits_of mid.store ≡ limits
   same_limits = ap (λ (u : SuperBlock). record { k = u.k; names = u.names; size_max = SIZE_MAX }) ran.block
 
   step : IsTrue a.tells → Step limits s r reply t
   step told = subst (λ (l : Limits). Step l s r reply t) same_limits
       (x.served.replies.serves.step (told_b told) refl)
 
-  made : MakesOne (served_at s1.store b.file r) ⊎ MakesNone s (served_at s1.store b.file r)
-  made = makes (limits_of s1.store) s r
+  made : MakesOne (served_at mid.store b.file r) ⊎ MakesNone s (served_at mid.store b.file r)
+  made = makes (limits_of mid.store) s r
 
   -- the new state is the one that is served
-  new_kept : IsTrue a.tells → t.kept ≡ (served_at s1.store b.file r).state.kept
+  new_kept : IsTrue a.tells → t.kept ≡ (served_at mid.store b.file r).state.kept
   new_kept told = ap (λ (y : State). y.kept) (x.served.replies.serves.step (told_b told) refl).state
 
-  new_kept_book : IsTrue a.tells → t.kept_book ≡ (served_at s1.store b.file r).state.kept_book
+  new_kept_book : IsTrue a.tells → t.kept_book ≡ (served_at mid.store b.file r).state.kept_book
   new_kept_book told = ap (λ (y : State). y.kept_book) (x.served.replies.serves.step (told_b told) refl).state
 
-  new_map : IsTrue a.tells → t.map ≡ (served_at s1.store b.file r).state.map
+  new_map : IsTrue a.tells → t.map ≡ (served_at mid.store b.file r).state.map
   new_map told = ap (λ (y : State). y.map) (x.served.replies.serves.step (told_b told) refl).state
 
   -- the answer says whether a checkpoint was acknowledged
@@ -233,8 +234,8 @@ module _ {classes : ℕ} (s0 : Sitting) (a : disk.State) (i0 : SourceState) (o0 
   kept_is told = x.served.replies.kept (told_b told)
 
   -- what is left in this step
-  step_image : IsTrue a.tells → (image : List ℕ) → IsServingImage classes s1.store r b.file image
-      → IsStepImage classes s0.store.in_use.block.k (base_of s0.store) image s t
+  step_image : IsTrue a.tells → (image : List ℕ) → IsServingImage classes mid.store r b.file image
+      → IsStepImage classes old.store.in_use.block.k (base_of old.store) image s t
   step_image told image is = record {
     opens = elim is.opens as (λ _. _) [
       | inl kept ↦ inl kept
@@ -243,15 +244,15 @@ module _ {classes : ℕ} (s0 : Sitting) (a : disk.State) (i0 : SourceState) (o0 
         | inr none ↦ absurd (omega (arith, now.0, none.least))
       ]
     ];
-    loose = subst (λ (m : Map). Loose s0.store.in_use.block.k (length image - base_of s0.store) s.map m)
+    loose = subst (λ (m : Map). Loose old.store.in_use.block.k (length image - base_of old.store) s.map m)
         (sym (new_map told))
         (subst (λ (u : SuperBlock). Loose u.k (length image - head_len u.names) s.map
-        (served_at s1.store b.file r).state.map) ran.block is.loose);
+        (served_at mid.store b.file r).state.map) ran.block is.loose);
   }
 
   -- where no checkpoint is made, what is left opens to the one before, which is the one after
   quiet_image : IsTrue a.tells → acknowledges reply ≡ false → (image : List ℕ)
-      → IsServingImage classes s1.store r b.file image → OpensToKept classes t image
+      → IsServingImage classes mid.store r b.file image → OpensToKept classes t image
   quiet_image told plain image is = elim made as (λ _. OpensToKept classes t image) [
     | inl one ↦ absurd (let e : true ≡ false = sym one.acknowledged ∙ plain in cc)
     | inr none ↦ elim is.opens as (λ _. OpensToKept classes t image) [
@@ -267,53 +268,54 @@ module _ {classes : ℕ} (s0 : Sitting) (a : disk.State) (i0 : SourceState) (o0 
     | inr none ↦ opens_with image (new_kept told ∙ none.kept) (new_kept_book told ∙ none.book) is
   ]
 
-  unbroken : s2.store.is_broken ≡ false
+  unbroken : new.store.is_broken ≡ false
   unbroken = x.served.replies.serves.broken ∙ and_none (is_changing r)
 
-  rests_now : IsTrue a.tells → RestsOnTable (base_of s0.store) s0.store.kept a
-      → RestsOnTable (base_of s2.store) s2.store.kept d
+  rests_now : IsTrue a.tells → RestsOnTable (base_of old.store) old.store.kept a
+      → RestsOnTable (base_of new.store) new.store.kept d
   rests_now told rests = x.served.replies.serves.rests (told_b told) unbroken (ran.rests told rests)
 
   -- what may be left after a checkpoint opens to it
-  opens_now : IsTrue a.tells → RestsOnTable (base_of s0.store) s0.store.kept a → (image : List ℕ)
+  opens_now : IsTrue a.tells → RestsOnTable (base_of old.store) old.store.kept a → (image : List ℕ)
       → d.may_leave image
       → OpensToKept classes t image
   opens_now told rests image may =
       let told_d : IsTrue d.tells = subst IsTrue (sym x.served.replies.serves.frame.stays.told)
       (told_b told) in
-      (kept_image s2.store (sound unbroken) d.file (x.served.replies.serves.over unbroken told_d) image
+      (kept_image new.store (sound unbroken) d.file (x.served.replies.serves.over unbroken told_d) image
       (rests_now told rests image may)).opens
 
-  since_now : (kept : Bool) → IsTrue a.tells → RestsOnTable (base_of s0.store) s0.store.kept a → d.turn < last
-      → s0.kept_turn ≤ a.turn → LeftOnly a s0.kept_turn (OpensToKept classes start)
+  since_now : (kept : Bool) → IsTrue a.tells → RestsOnTable (base_of old.store) old.store.kept a
+      → d.turn < last
+      → old.kept_turn ≤ a.turn → LeftOnly a old.kept_turn (OpensToKept classes start)
       → kept ≡ acknowledges reply
-      → LeftOnly d (if kept then d.turn else s1.kept_turn) (OpensToKept classes t)
+      → LeftOnly d (if kept then d.turn else mid.kept_turn) (OpensToKept classes t)
   since_now true told rests below low was is = λ image since.
       opens_now told rests image (lawful.only_now image below since)
   since_now false told rests below low was is =
-      let before : LeftOnly b s1.kept_turn (OpensToKept classes s) =
+      let before : LeftOnly b mid.kept_turn (OpensToKept classes s) =
       ran.since told rests (omega (arith, below, x.served.replies.serves.frame.no_turn_back)) low was in
-      LeftOnly-after s1.kept_turn (OpensToKept classes t) (ran.kept_turn low)
+      LeftOnly-after mid.kept_turn (OpensToKept classes t) (ran.kept_turn low)
       (λ image since. still_kept told (sym is) image (before image since))
-      (Leaves-weaken (OpensToKept classes t) (λ image is2. quiet_image told (sym is) image is2)
+      (Leaves-weaken (OpensToKept classes t) (λ image left. quiet_image told (sym is) image left)
       (x.served.replies.serves.left (told_b told) (ran.rests told rests)))
 
-  turn_low : (kept : Bool) → s0.kept_turn ≤ a.turn → (if kept then d.turn else s1.kept_turn) ≤ d.turn
+  turn_low : (kept : Bool) → old.kept_turn ≤ a.turn → (if kept then d.turn else mid.kept_turn) ≤ d.turn
   turn_low true low = omega arith
   turn_low false low = omega (arith, ran.kept_turn low, x.served.replies.serves.frame.no_turn_back)
 
   calls_now : (kept : Bool) (m c : ℕ) → IsTrue a.tells → kept ≡ acknowledges reply
-      → b.turn ≡ counted s1.kept_turn m
+      → b.turn ≡ counted mid.kept_turn m
       → c ≡ (if acknowledges reply then 0 else m + calls_of limits s r)
-      → d.turn ≡ counted (if kept then d.turn else s1.kept_turn) c
+      → d.turn ≡ counted (if kept then d.turn else mid.kept_turn) c
   calls_now true m c told is turn sum =
       let none : c ≡ 0 = sum ∙ ap (λ (k : Bool). if k then 0 else m + calls_of limits s r) (sym is) in
       omega (arith, none, lawful.turn_fits)
   calls_now false m c told is turn sum =
       let more : c ≡ m + calls_of limits s r = sum
       ∙ ap (λ (k : Bool). if k then 0 else m + calls_of limits s r) (sym is) in
-      let least : (served_at s1.store b.file r).saves.least
-      ≡ 0 = elim made as (λ _. (served_at s1.store b.file r).saves.least ≡ 0) [
+      let least : (served_at mid.store b.file r).saves.least
+      ≡ 0 = elim made as (λ _. (served_at mid.store b.file r).saves.least ≡ 0) [
         | inl one ↦ absurd (let e : true ≡ false = sym one.acknowledged ∙ sym is in cc)
         | inr none ↦ none.least
       ] in
@@ -323,21 +325,22 @@ module _ {classes : ℕ} (s0 : Sitting) (a : disk.State) (i0 : SourceState) (o0 
       omega (arith, more, made_calls, turn)
 
   kept_now : (kept : Bool) → IsTrue a.tells → kept ≡ acknowledges reply
-      → (if kept then s2.done else s1.kept_done) ≡ last_kept s0.done s0.kept_done (ran.replies ++ reply ∷ [])
+      → (if kept then new.done else mid.kept_done) ≡ last_kept old.done old.kept_done (ran.replies
+      ++ reply ∷ [])
   kept_now true told is =
       let long : length ran.replies
       ≡ n = chain_long limits start ran.requests ran.replies ran.states (ran.chain told)
       ∙ ran.count in
-      omega (arith, x.done, ran.done, long) ∙ sym (kept_more s0.done s0.kept_done ran.replies reply
-      ∙ ap (λ (k : Bool). if k then counted s0.done
-      (length ran.replies + 1) else last_kept s0.done s0.kept_done ran.replies)
+      omega (arith, x.done, ran.done, long) ∙ sym (kept_more old.done old.kept_done ran.replies reply
+      ∙ ap (λ (k : Bool). if k then counted old.done
+      (length ran.replies + 1) else last_kept old.done old.kept_done ran.replies)
       (sym is))
-  kept_now false told is = ran.kept_done told ∙ sym (kept_more s0.done s0.kept_done ran.replies reply
-      ∙ ap (λ (k : Bool). if k then counted s0.done
-      (length ran.replies + 1) else last_kept s0.done s0.kept_done ran.replies)
+  kept_now false told is = ran.kept_done told ∙ sym (kept_more old.done old.kept_done ran.replies reply
+      ∙ ap (λ (k : Bool). if k then counted old.done
+      (length ran.replies + 1) else last_kept old.done old.kept_done ran.replies)
       (sym is))
 
-  pub has_run_more : HasRun classes s0 s2 a d i0 i2 o0 o2 (n + 1)
+  pub has_run_more : HasRun classes old new a d old_in new_in old_out new_out (n + 1)
   has_run_more = record {
     requests = ran.requests ++ r ∷ [];
     replies = ran.replies ++ reply ∷ [];
@@ -348,8 +351,9 @@ module _ {classes : ℕ} (s0 : Sitting) (a : disk.State) (i0 : SourceState) (o0 
         let first = ran.whole told in
         let second = x.served.whole (subst IsTrue (sym ran.source_told) told) in
         first ∙ ap (λ (xs : List ℕ). flat_map request_text ran.requests ++ xs) second
-        ∙ sym (append_assoc (flat_map request_text ran.requests) (request_text r) (unread s2 i2))
-        ∙ ap (λ (xs : List ℕ). xs ++ unread s2 i2) (sym (flat_map-append request_text ran.requests (r ∷ [])
+        ∙ sym (append_assoc (flat_map request_text ran.requests) (request_text r) (unread new new_in))
+        ∙ ap (λ (xs : List ℕ). xs
+        ++ unread new new_in) (sym (flat_map-append request_text ran.requests (r ∷ [])
         ∙ ap (λ (xs : List ℕ). flat_map request_text ran.requests ++ xs) (append-nil (request_text r))));
     chain = λ told. chain_more limits start t ran.requests ran.replies ran.states r reply (ran.chain told)
         (subst (λ (y : State). Step limits y r reply t) (ran.newest told) (step told));
@@ -358,8 +362,8 @@ module _ {classes : ℕ} (s0 : Sitting) (a : disk.State) (i0 : SourceState) (o0 
         let first = ran.puts told sink in
         let second = (x.served.replies.puts (told_b told) (told_o sink)).all in
         second ∙ ap (λ (xs : List ℕ). xs ++ reply_text reply) first
-        ∙ append_assoc o0.given (flat_map reply_text ran.replies) (reply_text reply)
-        ∙ ap (λ (xs : List ℕ). o0.given ++ xs) (sym (flat_map-append reply_text ran.replies (reply ∷ [])
+        ∙ append_assoc old_out.given (flat_map reply_text ran.replies) (reply_text reply)
+        ∙ ap (λ (xs : List ℕ). old_out.given ++ xs) (sym (flat_map-append reply_text ran.replies (reply ∷ [])
         ∙ ap (λ (xs : List ℕ). flat_map reply_text ran.replies ++ xs) (append-nil (reply_text reply))));
     done = omega (arith, x.done, ran.done);
     kept_done = λ told. x.kept_done ∙ kept_now x.kept told (kept_is told);
@@ -368,16 +372,16 @@ module _ {classes : ℕ} (s0 : Sitting) (a : disk.State) (i0 : SourceState) (o0 
     over = x.served.replies.serves.over;
     rests = rests_now;
     left = λ told rests. Leaves-trans
-        (Leaves-weaken (IsRunImage classes s0.store.in_use.block.k (base_of s0.store) start (ran.states
+        (Leaves-weaken (IsRunImage classes old.store.in_use.block.k (base_of old.store) start (ran.states
         ++ t ∷ []))
-        (λ image is. some_more (IsStepImage classes s0.store.in_use.block.k
-        (base_of s0.store) image) start t ran.states is)
+        (λ image is. some_more (IsStepImage classes old.store.in_use.block.k
+        (base_of old.store) image) start t ran.states is)
         (ran.left told rests))
-        (Leaves-weaken (IsRunImage classes s0.store.in_use.block.k (base_of s0.store) start (ran.states
+        (Leaves-weaken (IsRunImage classes old.store.in_use.block.k (base_of old.store) start (ran.states
         ++ t ∷ []))
-        (λ image is. some_last (IsStepImage classes s0.store.in_use.block.k
-        (base_of s0.store) image) start t ran.states
-        (subst (λ (y : State). IsStepImage classes s0.store.in_use.block.k (base_of s0.store) image y t)
+        (λ image is. some_last (IsStepImage classes old.store.in_use.block.k
+        (base_of old.store) image) start t ran.states
+        (subst (λ (y : State). IsStepImage classes old.store.in_use.block.k (base_of old.store) image y t)
         (ran.newest told)
         (step_image told image is)))
         (x.served.replies.serves.left (told_b told) (ran.rests told rests)));

@@ -48,7 +48,8 @@ last_kept done kept (reply ∷ replies) =
 -- the changing calls since the last checkpoint was acknowledged, by the state before each request
 abbrev pub calls_since : Limits → ℕ → State → List State → List Request → List Reply → ℕ
 calls_since limits calls s (t ∷ states) (r ∷ requests) (reply ∷ replies) =
-    calls_since limits (if acknowledges reply then 0 else calls + calls_of limits s r) t states requests replies
+    calls_since limits (if acknowledges reply then 0 else calls + calls_of limits s r) t states
+    requests replies
 calls_since limits calls s [] requests replies = calls
 calls_since limits calls s (t ∷ states) [] replies = calls
 calls_since limits calls s (t ∷ states) (r ∷ requests) [] = calls

@@ -99,9 +99,9 @@ pub record IsServingImage (classes : ℕ) (s : Kept) (r : Request) (file image :
       (served_at s file r).state.map
 
 -- A request was served, but where the disk failed: it is a step, and the calls of one that makes no
--- checkpoint are counted. Where the disk failed in a change the store is broken; where it failed in a read the
--- store is what it was. A store that isn't broken is over its file. What a crash may leave meanwhile are images
--- of serving, where the disk rested on the last checkpoint's table; it does so again.
+-- checkpoint are counted. Where the disk failed in a change the store is broken; where it failed in a read
+-- the store is what it was. A store that isn't broken is over its file. What a crash may leave meanwhile
+-- are images of serving, where the disk rested on the last checkpoint's table; it does so again.
 pub record Serves {T : Type 0} (classes : ℕ) (r : Request) (old new : Kept) (before now : disk.State)
     (result : Result T End) : Type 0 where
   pub step : IsTrue before.tells → is_disk_fault result ≡ false → Step (limits_of old)

@@ -15,7 +15,8 @@ returns-in-Ok-say g c =
     c.in-Ok.stat.names c.in-Ok.ensures.names (g.O.Sink.state c.args.output.now)
     (g.O.Sink.state c.say.new.output)
     (g.O.Sink.state c.put_list.new.output) c.say.result c.put_list.result c.in-Ok-say.is
-    c.say.ensures.put c.say.ensures.cause c.put_list.ensures.kept c.put_list.ensures.puts c.put_list.ensures.only
+    c.say.ensures.put c.say.ensures.cause c.put_list.ensures.kept c.put_list.ensures.puts
+    c.put_list.ensures.only
     c.put_list.ensures.cause
 
 pub returns-in-Err-say : goal.returns-in-Err-say

@@ -30,8 +30,10 @@ returns-in-Ok-say g c =
     (found_replies (ask.old name) s a h (object_in (state_of s a.file).kept name) c.in-Ok.size refl
     (old_served s a name h served) (λ told. refl) (old_long s a name c.in-Ok.size h c.in-Ok.ensures)
     (g.D.Disk.state c.give_old.new.disk) (g.O.Sink.state c.args.output.now) (g.O.Sink.state c.say.new.output)
-    (g.O.Sink.state c.give_old.new.output) c.say.result c.give_old.result c.give_old.ensures.frame c.in-Ok-say.is
-    c.say.ensures.put c.say.ensures.cause c.give_old.ensures.kept c.give_old.ensures.puts c.give_old.ensures.only
+    (g.O.Sink.state c.give_old.new.output) c.say.result c.give_old.result c.give_old.ensures.frame
+    c.in-Ok-say.is
+    c.say.ensures.put c.say.ensures.cause c.give_old.ensures.kept c.give_old.ensures.puts
+    c.give_old.ensures.only
     c.give_old.ensures.disk_cause c.give_old.ensures.sink_cause)
 
 pub returns-in-Err-say : goal.returns-in-Err-say

@@ -9,7 +9,8 @@ turns-init g c = record {
   sound = c.is_sound.ensures.store;
   fresh = c.requires.fresh;
   ran = has_run_none c.args.self.now (g.D.Disk.state c.args.disk.now) (g.I.Source.state c.args.input.now)
-      (g.O.Sink.state c.args.output.now) c.requires.whole c.requires.over c.requires.ready c.is_sound.ensures.count;
+      (g.O.Sink.state c.args.output.now) c.requires.whole c.requires.over c.requires.ready
+      c.is_sound.ensures.count;
 }
 
 pub turns-preserved : goal.turns-preserved
