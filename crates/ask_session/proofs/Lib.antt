@@ -1,6 +1,7 @@
 mod AheadLemmas
 mod AnswerLaws
 mod BodyLemmas
+pub mod FrontLaws
 mod KindLaws
 mod LineLemmas
 mod PutLaws

@@ -63,7 +63,7 @@ step_keeps limits s k r reply t step was = elim (makes limits s r)
           let yes : acknowledges reply ≡ true = ap acknowledges step.replied ∙ one.acknowledged in
           subst (λ (b : Bool). KeepsState t (if b then t else k)) (sym yes) (record {
             map = ap (λ (x : State). x.kept) step.state ∙ one.kept
-              ∙ sym (ap (λ (x : State). x.map) step.state);
+                ∙ sym (ap (λ (x : State). x.map) step.state);
             book = ap (λ (x : State). x.kept_book) step.state ∙ one.book
                 ∙ sym (ap (λ (x : State). x.book) step.state);
           })
