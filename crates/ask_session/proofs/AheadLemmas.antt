@@ -1,7 +1,7 @@
 -- Bytes read ahead, of which the first are taken.
 use Rattle.std.proofs.Common.{◌≡◌, ℕ, ◌+◌, ◌-◌, ◌≤◌, List, ◌++◌, length, take, drop, length-drop, ap, sym, ◌∙◌, arith}
 use Rattle.std.proofs.Math.Seq.{take-add}
-use Rattle.std.proofs.lemmas.List.{drop-drop, drop_at, length-take-le, take-append-le, take_at}
+use Rattle.std.proofs.lemmas.List.{drop-drop, drop_at, length-take-le, take_at}
 
 -- what stands between two places
 abbrev pub between : List ℕ → ℕ → ℕ → List ℕ

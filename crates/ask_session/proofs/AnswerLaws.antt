@@ -1,8 +1,7 @@
 -- Requests whose reply is one line: what the answers of the store stand for.
-use Rattle.std.specs.Prelude.{◌≡◌, ◌⊎◌, ℕ, ◌+◌, ◌-◌, ◌<◌, ◌≤◌, nat_lt, Bool, true, false, not, ◌&&◌, ◌||◌, if◌then◌else◌, List, [], length, Option, Some, None, option_map, Result, Ok, Err, IfOk, IfSome, IsNone, IsSome, IsTrue, OnErr, OnOk, refl}
+use Rattle.std.specs.Prelude.{◌≡◌, ◌⊎◌, ℕ, ◌<◌, nat_lt, Bool, true, false, not, ◌&&◌, ◌||◌, if◌then◌else◌, List, [], length, Option, Some, None, option_map, Result, Ok, Err, IfSome, IsNone, IsSome, IsTrue, OnErr, OnOk, refl}
 use Rattle.std.proofs.Common.{arith, rules, lt-ltb, ap, sym, ◌∙◌, subst, inl, inr}
-use Rattle.std.specs.FinMap as fin
-use Rattle.disk_face.specs.Counts.{HasCause, counted, last}
+use Rattle.disk_face.specs.Counts.{HasCause, counted}
 use Rattle.disk_face.specs.States as disk
 use Rattle.disk_face.specs.Frames.{Unchanged}
 use Rattle.disk_face.specs.Moments.{Leaves}
@@ -11,7 +10,7 @@ use Rattle.disk_face.proofs.MomentLaws.{Leaves-weaken}
 use Rattle.size_class.specs.declared.TheConstants.{SIZE_MAX}
 use Rattle.store_terms.specs.Requests as ask
 use Rattle.store_terms.specs.Requests.{Change, Refused, Reply, Request}
-use Rattle.segment_layout.specs.Books.{Next, is_quiet, next_book}
+use Rattle.segment_layout.specs.Books.{is_quiet, next_book}
 use Rattle.slot_codec.specs.Names.{is_name}
 use Rattle.store_core.specs.declared.answers.Refusal.{Refusal}
 use Rattle.store_core.specs.declared.answers.Refusal.TheVariants as why
@@ -19,19 +18,18 @@ use Rattle.store_core.specs.declared.answers.Done.{Done}
 use Rattle.store_core.specs.Answers.{AnswersChange, done_reply, facts_at, refusal_for, refused_by, reply_of}
 use Rattle.store_core.specs.Answers as store
 use Rattle.store_core.specs.Changes.{IsQuietChange, NothingChanged}
-use Rattle.store_core.specs.Connection.{IsConnected, IsOver, Kept, RestsOnTable, base_of, limits_of, state_of}
+use Rattle.store_core.specs.Connection.{IsConnected, Kept, RestsOnTable, base_of, limits_of, state_of}
 use Rattle.store_core.specs.Flushes.{IsFlush}
 use Rattle.store_core.specs.Keeps.{AnswersKeep, KeepsNow}
 use Rattle.store_core.specs.Quiet.{charges_of, put_of, quiet_calls}
-use Rattle.store_core.specs.Stores.{IsStore}
-use Rattle.store_core.specs.States.{Served, State, Step, accepted, facts_of, refusal, served, served_change}
+use Rattle.store_core.specs.States.{Served, Step, accepted, facts_of, refusal, served_change}
 use Rattle.store_core.proofs.QuietLaws.{quiet_by_book}
 use Rattle.store_core.proofs.StepLaws.{served_by}
 use Rattle.ask_text.specs.Replies.{head_of, rest_of, told_for}
 use Rattle.ask_text.specs.declared.reply.Reply.TheVariants as head
 use Rattle.ask_session.specs.Heads.{Answers, answer_change, answer_of, done_head}
-use Rattle.ask_session.specs.Serving.{HasDiskCause, IsServingImage, Serves, calls_of, is_changing, reply_at, served_at}
-use Rattle.ask_session.proofs.ServingLaws.{IsSound, StaysAt, kept_is_serving, refusal_at, refused_stays, same_length_loose, serves_same}
+use Rattle.ask_session.specs.Serving.{IsServingImage, calls_of, is_changing, served_at}
+use Rattle.ask_session.proofs.ServingLaws.{IsSound, kept_is_serving, refusal_at, refused_stays, same_length_loose, serves_same}
 
 -- ---- refused
 

@@ -1,7 +1,7 @@
 -- An object that is read in pieces.
-use Rattle.std.proofs.Common.{◌≡◌, ℕ, ◌+◌, ◌-◌, append-nil, ◌≤◌, ◌<◌, List, [], ◌∷◌, ◌++◌, length, length-append, length-drop, take, drop, append_assoc, ap, sym, ◌∙◌, subst, arith}
+use Rattle.std.proofs.Common.{◌≡◌, ℕ, ◌+◌, ◌-◌, append-nil, ◌≤◌, ◌<◌, List, [], ◌∷◌, ◌++◌, length, length-append, length-drop, take, drop, append_assoc, ap, sym, ◌∙◌, arith}
 use Rattle.std.proofs.Math.Seq.{take-append-add}
-use Rattle.std.proofs.lemmas.List.{length-take-le, take-append-drop, take_all, take_at}
+use Rattle.std.proofs.lemmas.List.{length-take-le, take-append-drop, take_all}
 use Rattle.std.proofs.lemmas.Slice.{take-put_mid}
 use borrow.Rule.Slice.PartMut.{put_mid, same_len_mid}
 use Rattle.std.specs.Prelude.{replicate}

@@ -1,5 +1,5 @@
 -- Replies to requests, by what was answered and put.
-use Rattle.std.specs.Prelude.{◌≡◌, ◌⊎◌, ℕ, ◌+◌, ◌≤◌, Bool, true, false, not, ◌&&◌, is_some, if◌then◌else◌, List, [], ◌∷◌, ◌++◌, length, codes, decimal, Option, Some, None, option_map, Result, Ok, Err, IfErr, IfOk, IfSome, IsTrue, OnErr, OnOk, refl}
+use Rattle.std.specs.Prelude.{◌≡◌, ◌⊎◌, ℕ, ◌+◌, ◌≤◌, Bool, true, false, not, ◌&&◌, is_some, List, [], ◌∷◌, ◌++◌, length, codes, Option, Some, None, Result, Ok, Err, IfErr, IfOk, IsTrue, OnErr, refl}
 use Rattle.std.proofs.Common.{arith, ap, sym, ◌∙◌, subst, inl, inr, append-nil}
 use Rattle.std.specs.FinMap as fin
 use Rattle.disk_face.specs.Counts.{Rose}
@@ -11,20 +11,20 @@ use Rattle.store_terms.specs.Requests as ask
 use Rattle.store_terms.specs.Requests.{Refused, Reply, Request}
 use Rattle.extent_table.specs.declared.spot.Spot.{Spot}
 use Rattle.extent_table.specs.Extents.{Spots}
-use Rattle.spot_terms.specs.Reads.{AreNamed, EndWithin, object_at, read_at}
+use Rattle.spot_terms.specs.Reads.{AreNamed, EndWithin, read_at}
 use Rattle.store_core.specs.declared.answers.Refusal.{Refusal}
 use Rattle.store_core.specs.declared.answers.Refusal.TheVariants as why
 use Rattle.store_core.specs.Answers.{AnswersNumber, AnswersRead, facts_at, refusal_for, refused_by, size_at}
 use Rattle.slot_codec.specs.Names.{is_name}
 use Rattle.store_core.specs.Reads as reads
 use Rattle.store_core.specs.Connection.{Kept, base_of, limits_of, state_of}
-use Rattle.store_core.specs.States.{Served, accepted, first_refusal, name_test, object_in, refusal, unchanged}
+use Rattle.store_core.specs.States.{Served, accepted, first_refusal, object_in, refusal, unchanged}
 use Rattle.store_core.proofs.ReadingLaws.{object_there}
 use Rattle.store_core.proofs.StoreLaws.{kept_lies, now_lies}
 use Rattle.store_core.proofs.StepLaws.{list_step, served_by}
 use Rattle.store_core.specs.Lines.{lines_of, listing_of}
 use Rattle.std.proofs.lemmas.List.{length-map}
-use Rattle.ask_text.specs.Replies.{first_line, head_of, reply_text, rest_of, told_for}
+use Rattle.ask_text.specs.Replies.{first_line, head_of, reply_text, told_for}
 use Rattle.ask_text.specs.declared.reply.Reply as text
 use Rattle.ask_text.specs.declared.reply.Reply.TheVariants as head
 use Rattle.ask_session.specs.declared.ends.End.{End}

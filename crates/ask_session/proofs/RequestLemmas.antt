@@ -1,11 +1,11 @@
 -- The request that stands in front of an input, by its line and its object.
-use Rattle.std.proofs.Common.{◌≡◌, ℕ, ◌<◌, ◌≤◌, List, [], ◌∷◌, ◌++◌, length, take, append_assoc, ap, sym, ◌∙◌, subst, refl, arith, Option, Some, None}
+use Rattle.std.proofs.Common.{◌≡◌, ℕ, ◌≤◌, List, [], ◌∷◌, ◌++◌, length, take, append_assoc, ap, sym, ◌∙◌, subst, refl, Option, Some, None}
 use Rattle.std.specs.Prelude.{codes}
 use Rattle.size_class.specs.declared.TheConstants.{SIZE_MAX}
 use Rattle.store_terms.specs.Requests.{Change, Request}
 use Rattle.store_terms.specs.Requests as request
 use Rattle.ask_text.specs.Asks.{IsAsk, ask_of, line_of}
-use Rattle.ask_text.specs.Inputs.{BeginsNone, HasText, body_of, request_text}
+use Rattle.ask_text.specs.Inputs.{BeginsNone, HasText, body_of}
 use Rattle.ask_text.specs.declared.ask.Ask.{Ask}
 use Rattle.ask_text.specs.declared.ask.Ask.TheVariants as ask
 use Rattle.ask_text.proofs.AskLaws.{lacks-line, line_one}

@@ -1,5 +1,5 @@
 -- One more request of a run.
-use Rattle.std.specs.Prelude.{◌≡◌, ◌⊎◌, ℕ, ◌+◌, ◌-◌, ◌<◌, ◌≤◌, Bool, true, false, ◌&&◌, if◌then◌else◌, List, [], ◌∷◌, ◌++◌, length, flat_map, Option, Some, None, Result, Ok, Err, IsTrue, refl}
+use Rattle.std.specs.Prelude.{◌≡◌, ◌⊎◌, ℕ, ◌+◌, ◌-◌, ◌<◌, ◌≤◌, Bool, true, false, ◌&&◌, if◌then◌else◌, List, [], ◌∷◌, ◌++◌, length, flat_map, Option, Some, None, IsTrue, refl}
 use Rattle.std.specs.List.{AllByRecursion}
 use Rattle.std.proofs.Common.{arith, ap, sym, ◌∙◌, subst, inl, inr, append_assoc, append-nil, length-append}
 use Rattle.std.proofs.lemmas.Grind.{flat_map-append}
@@ -7,8 +7,7 @@ use Rattle.disk_face.specs.Counts.{counted, last}
 use Rattle.disk_face.specs.States as disk
 use Rattle.disk_face.specs.States.{IsLawful}
 use Rattle.disk_face.specs.Streams.{SinkState, SourceState}
-use Rattle.disk_face.specs.Moments.{Leaves, LeftOnly}
-use Rattle.disk_face.specs.Writes.{KeepsDisk}
+use Rattle.disk_face.specs.Moments.{LeftOnly}
 use Rattle.disk_face.proofs.FrameLaws.{Stays-trans}
 use Rattle.disk_face.proofs.MomentLaws.{Leaves-none, Leaves-trans, Leaves-weaken, LeftOnly-after}
 use Rattle.size_class.specs.declared.TheConstants.{SIZE_MAX}
@@ -20,20 +19,20 @@ use Rattle.store_terms.specs.Maps.{Map}
 use Rattle.segment_layout.specs.Books.{Book, next_book}
 use Rattle.segment_layout.specs.Bounds.{Loose}
 use Rattle.table_rules.specs.Opening.{Opens}
-use Rattle.store_core.specs.Connection.{IsConnected, Kept, RestsOnTable, base_of, limits_of, state_of}
+use Rattle.store_core.specs.Connection.{IsConnected, RestsOnTable, base_of, limits_of, state_of}
 use Rattle.store_core.specs.States.{Chain, Limits, Served, State, Step, accepted, facts_of, refusal, served, served_change}
 use Rattle.store_core.specs.Stores.{IsStore}
 use Rattle.store_core.proofs.OverLaws.{kept_image}
-use Rattle.store_core.proofs.StepLaws.{served_as, served_by}
+use Rattle.store_core.proofs.StepLaws.{served_by}
 use Rattle.ask_text.specs.Inputs.{HasText, request_text}
 use Rattle.ask_text.specs.Replies.{reply_text}
-use Rattle.ask_session.specs.Serving.{IsServingImage, Replies, acknowledges, calls_of, is_changing, reply_at, served_at}
+use Rattle.ask_session.specs.Serving.{IsServingImage, acknowledges, calls_of, is_changing, reply_at, served_at}
 use Rattle.ask_session.specs.Sittings.{Sitting, unread}
 use Rattle.ask_session.specs.Turns.{IsAnswered, IsTurn}
 use Rattle.ask_session.specs.declared.ends.End.{End}
 use Rattle.ask_session.specs.declared.ends.End.TheVariants as ends
 use Rattle.ask_session.specs.declared.ends.Turn.TheVariants as turn
-use Rattle.ask_session.specs.Runs.{HasRun, IsLastTurn, IsRunImage, IsStepImage, OpensToKept, SomeStep, budget, calls_since, is_budget, last_kept, last_state}
+use Rattle.ask_session.specs.Runs.{HasRun, IsLastTurn, IsRunImage, IsStepImage, OpensToKept, SomeStep, calls_since, is_budget, last_kept, last_state}
 
 -- ---- lists that grow at their end
 

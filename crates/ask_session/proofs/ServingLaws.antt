@@ -1,21 +1,18 @@
 -- What serving a request does, by what the calls of the store do.
-use Rattle.std.specs.Prelude.{◌≡◌, ◌⊎◌, ℕ, ◌+◌, ◌-◌, ◌<◌, ◌≤◌, Bool, true, false, ◌&&◌, if◌then◌else◌, List, [], length, Option, Some, None, option_map, Result, Ok, Err, IfSome, IsTrue, OnOk, refl}
-use Rattle.std.proofs.Common.{arith, ap, sym, ◌∙◌, subst, inl, inr}
-use Rattle.disk_face.specs.Counts.{HasCause, counted, last}
+use Rattle.std.specs.Prelude.{◌≡◌, ℕ, ◌-◌, ◌≤◌, false, ◌&&◌, List, length, Some, Result, IsTrue, refl}
+use Rattle.std.proofs.Common.{arith, ap, sym, ◌∙◌, subst, inl}
+use Rattle.disk_face.specs.Counts.{last}
 use Rattle.disk_face.specs.States as disk
 use Rattle.disk_face.specs.Frames.{Unchanged}
-use Rattle.disk_face.specs.Moments.{Leaves}
-use Rattle.disk_face.specs.Writes.{KeepsDisk}
 use Rattle.disk_face.proofs.MomentLaws.{Leaves-none, Leaves-weaken}
-use Rattle.size_class.specs.declared.TheConstants.{SIZE_MAX}
 use Rattle.store_terms.specs.Requests as ask
 use Rattle.store_terms.specs.Requests.{Refused, Reply, Request}
 use Rattle.segment_layout.specs.Books.{book_end}
 use Rattle.segment_layout.specs.Bounds.{Loose, Tight}
 use Rattle.segment_layout.proofs.TightLaws.{tight_is_loose}
-use Rattle.store_core.specs.Connection.{IsConnected, IsKeptImage, IsOver, Kept, RestsOnTable, SameOnTable, base_of, kept_map, limits_of, state_of}
+use Rattle.store_core.specs.Connection.{IsKeptImage, IsOver, Kept, SameOnTable, base_of, limits_of, state_of}
 use Rattle.store_core.specs.Stores.{IsStore}
-use Rattle.store_core.specs.States.{Facts, Served, State, Step, facts_of, refusal, served, unchanged}
+use Rattle.store_core.specs.States.{Facts, Served, Step, facts_of, refusal, unchanged}
 use Rattle.store_core.specs.Answers.{facts_at}
 use Rattle.store_core.proofs.StepLaws.{facts_same, served_by}
 use Rattle.store_core.proofs.OverLaws.{kept_image}

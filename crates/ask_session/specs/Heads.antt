@@ -1,5 +1,5 @@
 -- What is replied, by what the store answers.
-use Rattle.std.specs.Prelude.{◌≡◌, ℕ, Bool, true, false, if◌then◌else◌, List, [], Result, Ok, Err, IfErr, IfOk, IsTrue, OnOk}
+use Rattle.std.specs.Prelude.{◌≡◌, ℕ, Bool, true, false, if◌then◌else◌, [], Result, Ok, Err, IfErr, IfOk, IsTrue, OnOk}
 use Rattle.disk_face.specs.States as disk
 use Rattle.store_terms.specs.Requests.{Request}
 use Rattle.store_core.specs.declared.answers.Refusal.{Refusal}

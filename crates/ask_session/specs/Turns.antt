@@ -1,5 +1,5 @@
 -- What one turn of a session does.
-use Rattle.std.specs.Prelude.{◌≡◌, ℕ, Bool, true, false, if◌then◌else◌, List, [], ◌++◌, Result, Ok, Err, IsTrue}
+use Rattle.std.specs.Prelude.{◌≡◌, ℕ, Bool, true, false, if◌then◌else◌, [], ◌++◌, Result, Ok, Err, IsTrue}
 use Rattle.disk_face.specs.Counts.{counted}
 use Rattle.disk_face.specs.States as disk
 use Rattle.disk_face.specs.Streams.{SinkState, SourceState}

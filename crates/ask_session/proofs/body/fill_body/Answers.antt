@@ -1,4 +1,4 @@
-use Rattle.std.proofs.Common.{◌≡◌, ◌-◌, ◌+◌, ◌++◌, IsTrue, length, arith}
+use Rattle.std.proofs.Common.{◌≡◌, ◌-◌, ◌++◌, IsTrue, length, arith}
 use borrow.Rule.Slice.PartMut.{put_mid, same_len_mid}
 use Rattle.ask_session.proofs.BodyLemmas.{fill_more, length_mid}
 use Rattle.ask_session.proofs.body.fill_body.Goals as goal

@@ -1,4 +1,4 @@
-use Rattle.std.proofs.Common.{◌++◌, Ok, true, Bool, IsTrue, arith, ap}
+use Rattle.std.proofs.Common.{◌++◌, Ok, Bool, IsTrue, arith, ap}
 use Rattle.ask_session.specs.Inputs.{HoldsObject}
 use Rattle.ask_session.proofs.BodyLemmas.{no_newline}
 use Rattle.ask_session.proofs.body.read_object.Goals as goal

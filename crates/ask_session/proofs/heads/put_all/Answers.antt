@@ -1,4 +1,4 @@
-use Rattle.std.proofs.Common.{arith, take, drop, sym}
+use Rattle.std.proofs.Common.{take, drop, sym}
 use Rattle.std.proofs.lemmas.List.{take-append-drop}
 use Rattle.ask_session.proofs.heads.put_all.Goals as goal
 

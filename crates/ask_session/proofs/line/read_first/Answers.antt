@@ -1,4 +1,4 @@
-use Rattle.std.proofs.Common.{◌≡◌, ◌++◌, [], ◌∷◌, true, Bool, false, Ok, IsTrue, List, ℕ, arith, ap, subst, ◌∙◌, length}
+use Rattle.std.proofs.Common.{◌≡◌, ◌++◌, ◌∷◌, true, Bool, false, Ok, IsTrue, arith, ap, subst, ◌∙◌, length}
 use Rattle.ask_text.specs.Asks.{AsksForNothing}
 use Rattle.ask_session.specs.Inputs.{newline_if}
 use Rattle.ask_session.proofs.LineLemmas.{line_not_empty, no_ask, no_line, not_empty}

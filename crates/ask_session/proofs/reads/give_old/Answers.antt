@@ -1,4 +1,4 @@
-use Rattle.std.proofs.Common.{◌++◌, ◌∷◌, [], Err, arith, ap, sym, subst, ◌∙◌}
+use Rattle.std.proofs.Common.{◌∷◌, [], Err, arith, sym, subst}
 use Rattle.std.specs.Prelude.{Bool, IsTrue}
 use Rattle.ask_session.specs.Serving.{HasDiskCause, HasSinkCause, IsServingFault}
 use Rattle.ask_session.specs.declared.ends.End.{End}

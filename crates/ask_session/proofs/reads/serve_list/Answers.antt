@@ -1,4 +1,3 @@
-use Rattle.std.proofs.Common.{sym, subst, refl}
 use Rattle.ask_session.proofs.ReplyLaws.{cut_list, listed_replies}
 use Rattle.ask_session.proofs.reads.serve_list.Goals as goal
 

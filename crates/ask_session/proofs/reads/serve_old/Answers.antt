@@ -1,6 +1,5 @@
 use Rattle.std.proofs.Common.{sym, subst, refl}
 use Rattle.std.specs.FinMap as fin
-use Rattle.disk_face.specs.States as disk
 use Rattle.store_terms.specs.Requests as ask
 use Rattle.store_core.specs.Answers.{refused_by, size_at}
 use Rattle.store_core.specs.Connection.{Kept, state_of}

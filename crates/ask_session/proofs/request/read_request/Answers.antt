@@ -1,5 +1,5 @@
-use Rattle.std.proofs.Common.{◌++◌, ◌≡◌, IsTrue, Err, ap, arith, sym, ◌∙◌, refl}
-use Rattle.std.proofs.Common.{None, Some, Bool, subst, ◌∷◌}
+use Rattle.std.proofs.Common.{◌++◌, ◌≡◌, IsTrue, Err, ap, arith}
+use Rattle.std.proofs.Common.{None, Bool, subst, ◌∷◌}
 use Rattle.ask_session.specs.declared.ends.End.{End}
 use Rattle.ask_session.specs.declared.ends.End.TheVariants as ends
 use Rattle.ask_session.specs.Inputs.{HoldsObject, size_asked}
