@@ -1,0 +1,12 @@
+mod AheadLemmas
+mod AnswerLaws
+mod BodyLemmas
+pub mod FrontLaws
+mod KindLaws
+mod LineLemmas
+mod PutLaws
+mod ReplyLaws
+mod RequestLemmas
+pub mod RunIndexLaws
+mod RunLaws
+mod ServingLaws
