@@ -4,3 +4,4 @@ mod AnswerLaws
 mod Statuses
 mod Formatting
 mod WordLists
+mod TextLaws

@@ -1,5 +1,6 @@
 pub mod Words
 pub mod Getting
+pub mod Texts
 pub mod Faults
 pub mod Outcomes
 pub mod Layers

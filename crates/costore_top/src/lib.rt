@@ -2,12 +2,15 @@
 #![tactic(auto)]
 
 mod asked;
+mod check;
 mod command;
 mod copy;
 mod fault;
 mod get;
 mod help;
 mod laws;
+mod lines;
+mod load;
 mod stop;
 mod top;
 mod words;
