@@ -1,9 +1,9 @@
 -- How a layer answers where it stops before it puts any byte, that there is one answer, and which status comes
 -- of it.
-use Rattle.std.specs.Prelude.{◌≡◌, ◌≢◌, ◌⊎◌, ℕ, List, [], length, Result, Ok, Err, refl}
+use Rattle.std.specs.Prelude.{◌≡◌, ◌≢◌, ◌⊎◌, ℕ, List, [], length, Result, Ok, Err, OnErr, IsTrue, refl}
 use Rattle.std.proofs.Common.{arith, ap, sym, ◌∙◌, subst, inl, inr, append-nil}
 use Rattle.std.specs.FinMap as fin
-use Rattle.disk_face.specs.Streams.{SinkState}
+use Rattle.disk_face.specs.Streams.{Puts, SinkState}
 use Rattle.size_class.specs.declared.TheConstants.{CLASSES, SIZE_MAX}
 use Rattle.slot_codec.proofs.StepLaws.{from_ok}
 use Rattle.slot_codec.specs.Choice as choice
@@ -19,7 +19,7 @@ use Rattle.costore_top.specs.declared.stop.StoreFault.TheVariants as store
 use Rattle.costore_top.specs.declared.stop.Stop.{Stop}
 use Rattle.costore_top.specs.declared.stop.Stop.TheVariants as stop
 use Rattle.costore_top.specs.Getting.{IsFirstRefusal, IsObject, IsRefused, StopsAs, fault_of, or_missing}
-use Rattle.costore_top.specs.Texts.{IsTold, check_text}
+use Rattle.costore_top.specs.Texts.{IsTold, check_text, map_text}
 use Rattle.costore_top.specs.Layers.{Answers}
 use Rattle.costore_top.specs.Outcomes.{Ends, EndsBy, IsAnswer, status_at}
 use Rattle.costore_top.specs.Words.{Command, check, format, get, help, map_of, run, version, work}
@@ -46,6 +46,20 @@ stopped answer old new why same no_sink stops = record {
     ends_of (stop.Taken n) not_sink is = (is, refl)
     ends_of stop.Missing not_sink is = (is, refl)
     ends_of stop.NotBuilt not_sink is = (is, refl)
+
+-- a layer puts what it is to answer, unless the sink fails
+pub put_answer : (answer : Result (List ℕ) Stop → Type 0) (bytes : List ℕ) (old new : SinkState)
+    (end : Result (Unit {0}) Stop) → answer (Ok bytes) → OnErr end (end ≡ Err stop.Sink)
+    → (IsTrue old.tells → Puts old.given new.given bytes end) → Answers answer old new end
+put_answer answer bytes old new end is only puts = record {
+  bytes = bytes;
+  ends = ends_of end only;
+  puts = puts;
+}
+  where
+    ends_of : (e : Result (Unit {0}) Stop) → OnErr e (e ≡ Err stop.Sink) → EndsBy answer bytes e
+    ends_of (Ok x) sink = is
+    ends_of (Err e) sink = subst (EndsBy answer bytes) (sym sink) is
 
 -- what stops one command as it is to stops another that answers more
 pub stops_more : (answer other : Result (List ℕ) Stop → Type 0) → ((a : Result (List ℕ) Stop) → answer a → other a)
@@ -125,7 +139,7 @@ unfolding IsAnswer
 one_answer (format name k names) file a b g h = g ∙ sym h
 one_answer (get name object) file a b g h = one_object object file a b g h
 one_answer (check name) file a b g h = one_told check_text file a b g h
-one_answer (map_of name) file a b g h = g ∙ sym h
+one_answer (map_of name) file a b g h = one_told (λ t len. map_text t) file a b g h
 one_answer (run name) file a b g h = g ∙ sym h
 one_answer (work name number count) file a b g h = g ∙ sym h
 one_answer help file a b g h = g ∙ sym h

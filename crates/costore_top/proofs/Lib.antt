@@ -5,3 +5,4 @@ mod Statuses
 mod Formatting
 mod WordLists
 mod TextLaws
+mod GatherLaws

@@ -1,8 +1,9 @@
 -- The table of a file that was opened, as its texts tell it.
-use Rattle.std.specs.Prelude.{◌≡◌, ℕ, List, ◌++◌, length, codes, Ok, refl}
+use Rattle.std.specs.Prelude.{◌≡◌, ℕ, List, ◌++◌, length, codes, slice_get, option_map, Some, Ok, refl}
 use Rattle.std.proofs.Common.{◌∙◌, ap, arith, sym, inl}
 use Rattle.std.proofs.lemmas.Grind.{common_steps}
 use Rattle.std.proofs.lemmas.List.{length-map}
+use Rattle.std.proofs.lemmas.Option.{slice_get-map}
 use Rattle.std.specs.FinMap as fin
 use Rattle.size_class.specs.declared.TheConstants.{CLASSES, SIZE_MAX}
 use Rattle.slot_codec.specs.Choice as choice
@@ -10,7 +11,8 @@ use Rattle.slot_codec.specs.Spelling.{head_len}
 use Rattle.slot_codec.specs.declared.codec.Record.{Record}
 use Rattle.table_rules.specs.Opening.{placed_table}
 use Rattle.table_rules.specs.Tables.{book_of, size_sum}
-use Rattle.extent_table.specs.Extents.{record_of, records_of, volume_of}
+use Rattle.extent_table.specs.declared.spot.Spot.{Spot}
+use Rattle.extent_table.specs.Extents.{Extents, IsTable, record_of, records_of, volume_of}
 use Rattle.extent_table.proofs.ExtentLaws.{records_of-all}
 use Rattle.spot_terms.specs.Reads.{read_at}
 use Rattle.spot_terms.proofs.SpotSumLaws.{records_sum, volume_of-weights}
@@ -39,11 +41,21 @@ check_line t len count bytes data_len a b c d same_count same_bytes same_data fi
     last
 
 -- there is a record for each name, and together they have the names' bytes
+pub count_of : (e : Extents) → IsTable e → length (records_of e.now) ≡ fin.len e.now
+count_of e table = ap length (records_of-all e.now table.now_named)
+    ∙ length-map (fin.entries e.now) record_of
+    ∙ sym (fin.len-entries e.now)
+
 pub records_count : (x : Loaded CLASSES) → KeepsLoaded x
     → length (records_of x.table.now) ≡ fin.len x.table.now
-records_count x keeps = ap length (records_of-all x.table.now keeps.is_table.now_named)
-    ∙ length-map (fin.entries x.table.now) record_of
-    ∙ sym (fin.len-entries x.table.now)
+records_count x keeps = count_of x.table keeps.is_table
+
+-- the record of an entry
+pub record_at : (e : Extents) → IsTable e → (n : ℕ) (name : List ℕ) (s : Spot)
+    → slice_get (fin.entries e.now) n ≡ Some (name, s) → slice_get (records_of e.now) n ≡ Some (record_of (name, s))
+record_at e table n name s is = ap (λ rs. slice_get rs n) (records_of-all e.now table.now_named)
+    ∙ slice_get-map record_of (fin.entries e.now) n
+    ∙ ap (option_map record_of) is
 
 pub records_volume : (x : Loaded CLASSES) → KeepsLoaded x
     → size_sum (records_of x.table.now) ≡ volume_of x.table.now

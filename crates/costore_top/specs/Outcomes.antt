@@ -34,6 +34,7 @@ abbrev pub mounts : Command → Bool
 mounts (format file k names) = true
 mounts (get file name) = true
 mounts (check file) = true
+mounts (map_of file) = true
 mounts _ = false
 
 abbrev pub makes : Command → Bool
@@ -44,6 +45,7 @@ makes _ = false
 abbrev pub reads : Command → Bool
 reads (get file name) = true
 reads (check file) = true
+reads (map_of file) = true
 reads _ = false
 
 -- the file that a command mounts
@@ -51,6 +53,7 @@ abbrev pub file_of : Command → List ℕ
 file_of (format file k names) = file
 file_of (get file name) = file
 file_of (check file) = file
+file_of (map_of file) = file
 file_of _ = []
 
 -- the mount of a command's file, answered so
@@ -66,6 +69,7 @@ unfoldable pub IsAnswer : Command → List ℕ → Result (List ℕ) Stop → Ty
 IsAnswer (format name k names) file answer = answer ≡ format_answer file
 IsAnswer (get name object) file answer = IsObject object file answer
 IsAnswer (check name) file answer = IsChecked file answer
+IsAnswer (map_of name) file answer = IsMapped file answer
 IsAnswer help file answer = answer ≡ Ok HELP.now
 IsAnswer version file answer = answer ≡ Ok VERSION.now
 IsAnswer _ file answer = answer ≡ Err stop.NotBuilt

@@ -1,5 +1,5 @@
 -- The texts of `check` and `map`, against the bytes of the file.
-use Rattle.std.specs.Prelude.{◌≡◌, ◌⊎◌, ℕ, ◌-◌, nat_lt, if◌then◌else◌, List, [], ◌++◌, length, flat_map, slice_index, codes, decimal, Result, Ok}
+use Rattle.std.specs.Prelude.{◌≡◌, ◌⊎◌, ℕ, ◌-◌, ◌≤◌, nat_lt, if◌then◌else◌, List, [], ◌++◌, length, take, flat_map, slice_index, codes, decimal, Result, Ok, OnOk, OnErr}
 use Rattle.byte_ranges.specs.Lists.{below}
 use Rattle.size_class.specs.Classes.{width}
 use Rattle.size_class.specs.declared.TheConstants.{CLASSES, SIZE_MAX}
@@ -61,6 +61,17 @@ abbrev pub map_text : choice.Table → List ℕ
 map_text t = moving_line t.chosen.header t.chosen.header.kind
     ++ flat_map (class_line t.chosen.block.k t.chosen.header) (below width)
     ++ flat_map object_line t.records
+
+-- ---- how lines are put
+
+-- What was put and what is gathered since: these bytes came behind it, and as much was put as before or more;
+-- or where the sink failed, a front of that was put.
+pub record Gathers (put piece put_after piece_after bytes : List ℕ) (result : Result (Unit {0}) Stop) : Type 0
+  where
+    pub all : OnOk result ((put_after ++ piece_after ≡ put ++ (piece ++ bytes))
+        × (length put ≤ length put_after))
+    pub front : OnErr result ((n : ℕ) × (n ≤ length (piece ++ bytes))
+        × (put_after ≡ put ++ take n (piece ++ bytes)))
 
 -- ---- the answers
 

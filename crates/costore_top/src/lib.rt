@@ -11,10 +11,11 @@ mod help;
 mod laws;
 mod lines;
 mod load;
+mod map;
 mod stop;
 mod top;
 mod words;
 
-pub use laws::{ends_by_the_answer, one_answer};
+pub use laws::{ends_by_the_answer, one_answer, worked_texts};
 pub use stop::{Stop, StoreFault};
 pub use top::{Outcome, costore};
