@@ -62,8 +62,8 @@ put_answer answer bytes old new end is only puts = record {
     ends_of (Err e) sink = subst (EndsBy answer bytes) (sym sink) is
 
 -- what stops one command as it is to stops another that answers more
-pub stops_more : (answer other : Result (List ℕ) Stop → Type 0) → ((a : Result (List ℕ) Stop) → answer a → other a)
-    → (why : Stop) → StopsAs answer why → StopsAs other why
+pub stops_more : (answer other : Result (List ℕ) Stop → Type 0)
+    → ((a : Result (List ℕ) Stop) → answer a → other a) → (why : Stop) → StopsAs answer why → StopsAs other why
 stops_more answer other more stop.Disk is = tt
 stops_more answer other more stop.NoMemory is = tt
 stops_more answer other more stop.Sink is = more (Err stop.Sink) is
@@ -120,8 +120,10 @@ one_told text file a b (inl g) (inl h) =
     ∙ ap (λ t. Ok (text t (length file)))
     (from_ok g.table h.table (sym g.opens.read ∙ h.opens.read))
     ∙ sym h.same
-one_told text file a b (inl g) (inr h) = absurd (opens_or_not file g.map g.book h.fault (record { table = g.table; opens = g.opens }) h.first)
-one_told text file a b (inr g) (inl h) = absurd (opens_or_not file h.map h.book g.fault (record { table = h.table; opens = h.opens }) g.first)
+one_told text file a b (inl g) (inr h) =
+    absurd (opens_or_not file g.map g.book h.fault (record { table = g.table; opens = g.opens }) h.first)
+one_told text file a b (inr g) (inl h) =
+    absurd (opens_or_not file h.map h.book g.fault (record { table = h.table; opens = h.opens }) g.first)
 one_told text file a b (inr g) (inr h) = one_stop file a b g h
 
 one_object : (name file : List ℕ) (a b : Result (List ℕ) Stop) → IsObject name file a → IsObject name file b

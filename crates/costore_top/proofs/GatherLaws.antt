@@ -1,5 +1,5 @@
 -- Lines that are gathered one after another, and put in pieces.
-use Rattle.std.specs.Prelude.{◌≡◌, ℕ, zero, suc, ◌+◌, ◌-◌, ◌<◌, ◌≤◌, List, [], ◌∷◌, ◌++◌, length, take, drop, flat_map, slice_get, slice_index_or, Some, Option, option_map, Result, Ok, Err, OnOk, OnErr, refl}
+use Rattle.std.specs.Prelude.{◌≡◌, ℕ, zero, suc, ◌+◌, ◌-◌, ◌<◌, ◌≤◌, List, [], ◌∷◌, ◌++◌, length, take, drop, flat_map, slice_get, slice_index_or, Some, Result, Ok, Err, refl}
 use Rattle.std.proofs.Common.{arith, ap, sym, ◌∙◌, append_assoc, length-append, subst}
 use Rattle.std.proofs.Math.Seq.{take-append-add}
 use Rattle.std.proofs.lemmas.Grind.{flat_map-append}
@@ -11,7 +11,8 @@ use Rattle.costore_top.specs.declared.stop.Stop.{Stop}
 use Rattle.costore_top.specs.Texts.{Gathers}
 
 -- bytes that are gathered alone
-pub pushed : (put piece after bytes : List ℕ) → after ≡ piece ++ bytes → Gathers put piece put after bytes (Ok tt)
+pub pushed : (put piece after bytes : List ℕ) → after ≡ piece ++ bytes
+    → Gathers put piece put after bytes (Ok tt)
 pushed put piece after bytes is = record {
   all = (ap (λ (xs : List ℕ). put ++ xs) is, omega arith);
   front = tt;
@@ -117,7 +118,8 @@ module _ {A : Type 0} (line : A → List ℕ) (xs : List A) where
       → Gathers put piece next after (flat_map line (take (n + 1) xs)) (Ok tt)
   line_more {put} {piece} {mid} {gathered} {next} {room} {after} n x so_far moved added there =
       subst (λ ys. Gathers put piece next after ys (Ok tt))
-      (ap (λ (ys : List ℕ). ys ++ line x) (append-nil (flat_map line (take n xs))) ∙ sym (lines_more n x there))
+      (ap (λ (ys : List ℕ). ys ++ line x) (append-nil (flat_map line (take n xs)))
+      ∙ sym (lines_more n x there))
       (gathered_then (gathered_then so_far (Ok tt) moved) (Ok tt) (pushed next room after (line x) added))
 
   -- the sink failed before a line

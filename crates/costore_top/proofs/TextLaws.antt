@@ -23,7 +23,8 @@ use Rattle.costore_top.specs.Texts.{IsTold, check_text, data_of, kind_text, numb
 -- pieces of a line, one after another
 joined : (s x y z u v w t a b c d : List ℕ) → a ≡ s → b ≡ a ++ x ++ y ++ z → c ≡ b ++ u ++ v ++ w → d ≡ c ++ t
     → d ≡ s ++ x ++ y ++ z ++ u ++ v ++ w ++ t
-joined s x y z u v w t a b c d first second third last = grind (arith, common_steps, first, second, third, last)
+joined s x y z u v w t a b c d first second third last =
+    grind (arith, common_steps, first, second, third, last)
 
 -- the line of `check`, by the numbers that were put
 pub check_line : (t : choice.Table) (len count bytes data_len : ℕ) (a b c d : List ℕ)
@@ -32,12 +33,14 @@ pub check_line : (t : choice.Table) (len count bytes data_len : ℕ) (a b c d : 
     → c ≡ b ++ numbered bytes ++ numbered data_len ++ numbered t.chosen.header.sequence
     → d ≡ c ++ kind_text t.chosen.header.kind → d ≡ check_text t len
 check_line t len count bytes data_len a b c d same_count same_bytes same_data first second third last =
-    joined (codes "store") (numbered t.chosen.block.k) (numbered t.chosen.block.names) (numbered (length t.records))
-    (numbered (size_sum t.records)) (numbered (data_of t len)) (numbered t.chosen.header.sequence)
+    joined (codes "store") (numbered t.chosen.block.k) (numbered t.chosen.block.names)
+    (numbered (length t.records)) (numbered (size_sum t.records)) (numbered (data_of t len)) (numbered t.chosen.header.sequence)
     (kind_text t.chosen.header.kind) a b c d first
-    (second ∙ ap (λ n. a ++ numbered t.chosen.block.k ++ numbered t.chosen.block.names ++ numbered n) same_count)
+    (second
+    ∙ ap (λ n. a ++ numbered t.chosen.block.k ++ numbered t.chosen.block.names ++ numbered n) same_count)
     (third ∙ ap (λ n. b ++ numbered n ++ numbered data_len ++ numbered t.chosen.header.sequence) same_bytes
-    ∙ ap (λ n. b ++ numbered (size_sum t.records) ++ numbered n ++ numbered t.chosen.header.sequence) same_data)
+    ∙ ap (λ n. b ++ numbered (size_sum t.records) ++ numbered n ++ numbered t.chosen.header.sequence)
+    same_data)
     last
 
 -- there is a record for each name, and together they have the names' bytes
@@ -52,7 +55,8 @@ records_count x keeps = count_of x.table keeps.is_table
 
 -- the record of an entry
 pub record_at : (e : Extents) → IsTable e → (n : ℕ) (name : List ℕ) (s : Spot)
-    → slice_get (fin.entries e.now) n ≡ Some (name, s) → slice_get (records_of e.now) n ≡ Some (record_of (name, s))
+    → slice_get (fin.entries e.now) n ≡ Some (name, s)
+    → slice_get (records_of e.now) n ≡ Some (record_of (name, s))
 record_at e table n name s is = ap (λ rs. slice_get rs n) (records_of-all e.now table.now_named)
     ∙ slice_get-map record_of (fin.entries e.now) n
     ∙ ap (option_map record_of) is

@@ -42,15 +42,16 @@ check_text t len = codes "store" ++ numbered t.chosen.block.k ++ numbered t.chos
 -- of a moving table its boundary, wall and slack
 abbrev pub moving_line : Header → Kind → List ℕ
 moving_line h Settled = []
-moving_line h Moving = codes "moving" ++ numbered h.boundary ++ numbered h.wall ++ numbered h.slack ++ codes "\n"
+moving_line h Moving = codes "moving" ++ numbered h.boundary ++ numbered h.wall ++ numbered h.slack
+    ++ codes "\n"
 
 -- of a class with a capacity its number, its capacity, that of its buffer, and what is taken of the buffer
 abbrev pub class_line : ℕ → Header → ℕ → List ℕ
 class_line k h c =
     if nat_lt 0 (slice_index h.caps c)
-      then codes "class" ++ numbered c ++ numbered (slice_index h.caps c)
-          ++ numbered (buffer_of k (slice_index h.caps c)) ++ numbered (taken_in h.used c) ++ codes "\n"
-      else []
+    then codes "class" ++ numbered c ++ numbered (slice_index h.caps c)
+    ++ numbered (buffer_of k (slice_index h.caps c)) ++ numbered (taken_in h.used c) ++ codes "\n"
+    else []
 
 -- of a record its name, its place and its size
 abbrev pub object_line : Record → List ℕ
@@ -76,13 +77,13 @@ pub record Gathers (put piece put_after piece_after bytes : List ℕ) (result : 
 -- ---- the answers
 
 -- The file opens by a table, and the answer is a text of that table and of the file's length.
-pub record IsToldOf (text : choice.Table → ℕ → List ℕ) (file : List ℕ) (answer : Result (List ℕ) Stop) : Type 0
-  where
-    pub table : choice.Table
-    pub map : Map
-    pub book : Book
-    pub opens : OpensBy CLASSES SIZE_MAX table file map book
-    pub same : answer ≡ Ok (text table (length file))
+pub record IsToldOf (text : choice.Table → ℕ → List ℕ) (file : List ℕ) (answer : Result (List ℕ) Stop)
+    : Type 0 where
+  pub table : choice.Table
+  pub map : Map
+  pub book : Book
+  pub opens : OpensBy CLASSES SIZE_MAX table file map book
+  pub same : answer ≡ Ok (text table (length file))
 
 -- what a command is to answer that puts such a text
 abbrev pub IsTold : (choice.Table → ℕ → List ℕ) → List ℕ → Result (List ℕ) Stop → Type 0

@@ -34,8 +34,8 @@ hello = small_table Settled 0 1 0 0 5 (record { name = codes "a"; place = 0; siz
 -- a flush stopped after three objects were moved up
 abbrev pub moved_up : choice.Table
 moved_up = small_table Moving 2 3 239 112 0 (
-  record { name = codes "a"; place = 139; size = 100 } ∷
-  record { name = codes "b"; place = 239; size = 10 } ∷
-  record { name = codes "c"; place = 249; size = 5 } ∷
-  []
-)
+    record { name = codes "a"; place = 139; size = 100 } ∷
+    record { name = codes "b"; place = 239; size = 10 } ∷
+    record { name = codes "c"; place = 249; size = 5 } ∷
+    []
+    )

@@ -57,7 +57,12 @@ fn line_of(loaded: &Loaded<CLASSES>, length: u64) -> ArrayVec<u8, 4096>
     let mut line = ArrayVec::new();
     push(&mut line, b"store");
     push_three(&mut line, loaded.block.k, loaded.block.names, count);
-    push_three(&mut line, loaded.table.volume(), data, loaded.header.sequence);
+    push_three(
+        &mut line,
+        loaded.table.volume(),
+        data,
+        loaded.header.sequence,
+    );
     push(&mut line, kind_text(loaded.header.kind));
     line
 }

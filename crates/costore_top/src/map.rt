@@ -45,7 +45,8 @@ pub fn map<D: Disk, O: Sink>(alloc: Global, disk: &mut D, output: &mut O) -> Res
 fn put_map<O: Sink>(loaded: &Loaded<CLASSES>, output: &mut O) -> Result<(), Stop>
     requires loaded { KeepsLoaded loaded.now }
     ensures put { IsTrue (O.state output.old).tells
-        → Puts (O.state output.old).given (O.state output.new).given (map_text (table_seen loaded.now)) result }
+        → Puts (O.state output.old).given (O.state output.new).given (map_text (table_seen loaded.now))
+        result }
     ensures only { OnErr result (result ≡ Err Stop.Sink) }
     ensures told { (O.state output.new).tells ≡ (O.state output.old).tells }
     ensures cause { HasCause (O.state output.old).faults (O.state output.new).faults result }

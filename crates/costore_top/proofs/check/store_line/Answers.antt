@@ -35,5 +35,6 @@ returns-clause-found g c = λ told.
     let file = (g.D.Disk.state c.args.disk.now).file in
     let is = c.length_of.ensures.length here in
     let long : c.in_ok-length.length ≡ length file = grind (arith, is, same.same_file told) in
-    subst (λ line. IsChecked file (Ok line)) (sym (c.line_of.ensures ∙ ap (check_text (table_seen c.in_ok-loaded.loaded)) long))
+    subst (λ line. IsChecked file (Ok line))
+    (sym (c.line_of.ensures ∙ ap (check_text (table_seen c.in_ok-loaded.loaded)) long))
     (told_of check_text file c.in_ok-loaded.loaded (c.in_ok-loaded.ensures.told told))

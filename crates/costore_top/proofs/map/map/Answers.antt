@@ -1,4 +1,4 @@
-use Rattle.std.proofs.Common.{inr, length, refl, rules}
+use Rattle.std.proofs.Common.{inr, refl, rules}
 use Rattle.reopen.specs.Loads.{table_seen}
 use Rattle.costore_top.specs.Getting.{IsRefused}
 use Rattle.costore_top.specs.Texts.{IsMapped, map_text}
@@ -12,7 +12,8 @@ returns-in_err-loaded-clause-answers g c = λ told.
     let output = g.O.Sink.state c.args.output.now in
     let why = c.in_err-loaded.field-0.0 in
     let all = stopped (IsMapped file) output output why refl c.in_err-loaded.ensures.looks.only.0
-    (stops_more (IsRefused file) (IsMapped file) (λ answer is. inr is) why (c.in_err-loaded.ensures.stopped told))
+    (stops_more (IsRefused file) (IsMapped file) (λ answer is. inr is) why
+    (c.in_err-loaded.ensures.stopped told))
     in
     search rules
 

@@ -8,7 +8,8 @@ pub returns-in_err-make_room-clause-gathered : goal.returns-in_err-make_room-cla
 returns-in_err-make_room-clause-gathered g c = λ told.
     let there : IsTrue (g.O.Sink.state c.classes.output).tells = grind (arith, c.classes.invariant.told) in
     let all = line_stopped (class_line c.args.k c.args.header.now) (below 32) c.classes.c
-    c.in_err-make_room.field-0.0 (c.classes.invariant.so_far told) (c.in_err-make_room.ensures.gathered there) in
+    c.in_err-make_room.field-0.0 (c.classes.invariant.so_far told)
+    (c.in_err-make_room.ensures.gathered there) in
     search rules
 
 pub classes-preserved : goal.classes-preserved

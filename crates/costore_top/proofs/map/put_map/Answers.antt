@@ -1,8 +1,7 @@
-use Rattle.std.proofs.Common.{◌≡◌, ◌++◌, [], IsTrue, Ok, Err, arith, rules}
+use Rattle.std.proofs.Common.{[], IsTrue, Ok, Err, arith, rules}
 use Rattle.std.specs.Prelude.{flat_map}
-use Rattle.byte_ranges.specs.Lists.{below}
 use Rattle.extent_table.specs.Extents.{records_of}
-use Rattle.costore_top.specs.Texts.{Gathers, class_line, moving_line, object_line}
+use Rattle.costore_top.specs.Texts.{moving_line, object_line}
 use Rattle.costore_top.proofs.GatherLaws.{gathered_put, gathered_then, pushed, stopped_put}
 use Rattle.costore_top.proofs.map.put_map.Goals as goal
 

@@ -1,5 +1,4 @@
-use Rattle.std.proofs.Common.{◌≡◌, Some, arith, rules, IsTrue}
-use Rattle.std.specs.Prelude.{slice_get}
+use Rattle.std.proofs.Common.{arith, rules, IsTrue}
 use Rattle.extent_table.specs.Extents.{record_of, records_of}
 use Rattle.costore_top.specs.Texts.{object_line}
 use Rattle.costore_top.proofs.GatherLaws.{line_more, line_stopped, lines_all}
@@ -9,8 +8,8 @@ use Rattle.costore_top.proofs.map.put_objects.Goals as goal
 pub returns-in_err-make_room-clause-gathered : goal.returns-in_err-make_room-clause-gathered
 returns-in_err-make_room-clause-gathered g c = λ told.
     let there : IsTrue (g.O.Sink.state c.names.output).tells = grind (arith, c.names.invariant.told) in
-    let all = line_stopped object_line (records_of c.args.table.now.now) c.names.n c.in_err-make_room.field-0.0
-    (c.names.invariant.so_far told) (c.in_err-make_room.ensures.gathered there) in
+    let all = line_stopped object_line (records_of c.args.table.now.now) c.names.n
+    c.in_err-make_room.field-0.0 (c.names.invariant.so_far told) (c.in_err-make_room.ensures.gathered there) in
     search rules
 
 pub names-preserved : goal.names-preserved
