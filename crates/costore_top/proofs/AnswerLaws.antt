@@ -1,11 +1,12 @@
 -- How a layer answers where it stops before it puts any byte, that there is one answer, and which status
 -- comes of it.
-use Rattle.std.specs.Prelude.{◌≡◌, ◌≢◌, ◌⊎◌, ℕ, List, [], Result, Ok, Err, refl}
+use Rattle.std.specs.Prelude.{◌≡◌, ◌≢◌, ◌⊎◌, ℕ, List, [], length, Result, Ok, Err, OnErr, IsTrue, refl}
 use Rattle.std.proofs.Common.{arith, ap, sym, ◌∙◌, subst, inl, inr, append-nil}
 use Rattle.std.specs.FinMap as fin
-use Rattle.disk_face.specs.Streams.{SinkState}
+use Rattle.disk_face.specs.Streams.{Puts, SinkState}
 use Rattle.size_class.specs.declared.TheConstants.{CLASSES, SIZE_MAX}
 use Rattle.slot_codec.proofs.StepLaws.{from_ok}
+use Rattle.slot_codec.specs.Choice as choice
 use Rattle.store_terms.specs.Maps.{Map}
 use Rattle.segment_layout.specs.Books.{Book}
 use Rattle.table_rules.specs.Opening.{Opens, placed_table}
@@ -17,7 +18,8 @@ use Rattle.costore_top.specs.declared.stop.StoreFault.{StoreFault}
 use Rattle.costore_top.specs.declared.stop.StoreFault.TheVariants as store
 use Rattle.costore_top.specs.declared.stop.Stop.{Stop}
 use Rattle.costore_top.specs.declared.stop.Stop.TheVariants as stop
-use Rattle.costore_top.specs.Getting.{IsFirstRefusal, IsObject, StopsAs, fault_of, or_missing}
+use Rattle.costore_top.specs.Getting.{IsFirstRefusal, IsObject, IsRefused, StopsAs, fault_of, or_missing}
+use Rattle.costore_top.specs.Texts.{IsTold, check_text, map_text}
 use Rattle.costore_top.specs.Layers.{Answers}
 use Rattle.costore_top.specs.Outcomes.{Ends, EndsBy, IsAnswer, status_at}
 use Rattle.costore_top.specs.Words.{Command, check, format, get, help, map_of, run, version, work}
@@ -45,6 +47,33 @@ stopped answer old new why same no_sink stops = record {
     ends_of stop.Missing not_sink is = (is, refl)
     ends_of stop.NotBuilt not_sink is = (is, refl)
 
+-- a layer puts what it is to answer, unless the sink fails
+pub put_answer : (answer : Result (List ℕ) Stop → Type 0) (bytes : List ℕ) (old new : SinkState)
+    (end : Result (Unit {0}) Stop) → answer (Ok bytes) → OnErr end (end ≡ Err stop.Sink)
+    → (IsTrue old.tells → Puts old.given new.given bytes end) → Answers answer old new end
+put_answer answer bytes old new end is only puts = record {
+  bytes = bytes;
+  ends = ends_of end only;
+  puts = puts;
+}
+  where
+    ends_of : (e : Result (Unit {0}) Stop) → OnErr e (e ≡ Err stop.Sink) → EndsBy answer bytes e
+    ends_of (Ok x) sink = is
+    ends_of (Err e) sink = subst (EndsBy answer bytes) (sym sink) is
+
+-- what stops one command as it is to stops another that answers more
+pub stops_more : (answer other : Result (List ℕ) Stop → Type 0)
+    → ((a : Result (List ℕ) Stop) → answer a → other a) → (why : Stop) → StopsAs answer why → StopsAs other why
+stops_more answer other more stop.Disk is = tt
+stops_more answer other more stop.NoMemory is = tt
+stops_more answer other more stop.Sink is = more (Err stop.Sink) is
+stops_more answer other more stop.NoFile is = more (Err stop.NoFile) is
+stops_more answer other more stop.Words is = more (Err stop.Words) is
+stops_more answer other more (stop.NotStore f) is = more (Err (stop.NotStore f)) is
+stops_more answer other more (stop.Taken n) is = more (Err (stop.Taken n)) is
+stops_more answer other more stop.Missing is = more (Err stop.Missing) is
+stops_more answer other more stop.NotBuilt is = more (Err stop.NotBuilt) is
+
 -- ---- one answer
 
 one_refusal : (file : List ℕ) (f g : StoreFault) → IsFirstRefusal file f → IsFirstRefusal file g → f ≡ g
@@ -63,6 +92,11 @@ one_refusal file (store.Table x) (store.Table y) h k =
     let at = one.1 in
     λ i. store.Table (record { rule = rule i; at = at i })
 
+-- a file that is refused stops the command for one reason
+one_stop : (file : List ℕ) (a b : Result (List ℕ) Stop) → IsRefused file a → IsRefused file b → a ≡ b
+one_stop file a b g h =
+    g.same ∙ ap (λ f. Err (stop.NotStore f)) (one_refusal file g.fault h.fault g.first h.first) ∙ sym h.same
+
 -- a file that opens isn't refused
 opens_or_not : (file : List ℕ) (m : Map) (b : Book) (f : StoreFault) → Opens CLASSES SIZE_MAX file m b
     → IsFirstRefusal file f → ⊥
@@ -80,6 +114,19 @@ one_map file m n b c o p =
     ∙ ap (λ t. tables.map_of (head_len t.chosen.block.names) file t.records) same
     ∙ sym p.opens.same_map
 
+one_told : (text : choice.Table → ℕ → List ℕ) (file : List ℕ) (a b : Result (List ℕ) Stop)
+    → IsTold text file a → IsTold text file b → a ≡ b
+one_told text file a b (inl g) (inl h) =
+    g.same
+    ∙ ap (λ t. Ok (text t (length file)))
+    (from_ok g.table h.table (sym g.opens.read ∙ h.opens.read))
+    ∙ sym h.same
+one_told text file a b (inl g) (inr h) =
+    absurd (opens_or_not file g.map g.book h.fault (record { table = g.table; opens = g.opens }) h.first)
+one_told text file a b (inr g) (inl h) =
+    absurd (opens_or_not file h.map h.book g.fault (record { table = h.table; opens = h.opens }) g.first)
+one_told text file a b (inr g) (inr h) = one_stop file a b g h
+
 one_object : (name file : List ℕ) (a b : Result (List ℕ) Stop) → IsObject name file a → IsObject name file b
     → a ≡ b
 one_object name file a b (inl g) (inl h) =
@@ -87,16 +134,15 @@ one_object name file a b (inl g) (inl h) =
     ∙ sym h.same
 one_object name file a b (inl g) (inr h) = absurd (opens_or_not file g.map g.book h.fault g.opens h.first)
 one_object name file a b (inr g) (inl h) = absurd (opens_or_not file h.map h.book g.fault h.opens g.first)
-one_object name file a b (inr g) (inr h) =
-    g.same ∙ ap (λ f. Err (stop.NotStore f)) (one_refusal file g.fault h.fault g.first h.first) ∙ sym h.same
+one_object name file a b (inr g) (inr h) = one_stop file a b g h
 
 pub one_answer : (c : Command) (file : List ℕ) (a b : Result (List ℕ) Stop) → IsAnswer c file a
     → IsAnswer c file b → a ≡ b
 unfolding IsAnswer
 one_answer (format name k names) file a b g h = g ∙ sym h
 one_answer (get name object) file a b g h = one_object object file a b g h
-one_answer (check name) file a b g h = g ∙ sym h
-one_answer (map_of name) file a b g h = g ∙ sym h
+one_answer (check name) file a b g h = one_told check_text file a b g h
+one_answer (map_of name) file a b g h = one_told (λ t len. map_text t) file a b g h
 one_answer (run name) file a b g h = g ∙ sym h
 one_answer (work name number count) file a b g h = g ∙ sym h
 one_answer help file a b g h = g ∙ sym h

@@ -4,8 +4,9 @@ use Rattle.disk_face.specs.Counts.{Rose}
 use Rattle.disk_face.specs.Mounts.{Mount}
 use Rattle.disk_face.specs.Streams.{SinkState}
 use Rattle.disk_face.specs.declared.bay.Mounted.{Mounted}
-use Rattle.costore_top.specs.Words.{Command, format, get, help, version}
+use Rattle.costore_top.specs.Words.{Command, check, format, get, help, map_of, version}
 use Rattle.costore_top.specs.Getting.{IsObject}
+use Rattle.costore_top.specs.Texts.{IsChecked, IsMapped}
 use Rattle.costore_top.specs.Faults.{line_of}
 use Rattle.costore_top.specs.declared.stop.Stop.{Stop}
 use Rattle.costore_top.specs.declared.stop.Stop.TheVariants as stop
@@ -32,6 +33,8 @@ status_at (Err why) = status_of why
 abbrev pub mounts : Command → Bool
 mounts (format file k names) = true
 mounts (get file name) = true
+mounts (check file) = true
+mounts (map_of file) = true
 mounts _ = false
 
 abbrev pub makes : Command → Bool
@@ -41,12 +44,16 @@ makes _ = false
 -- the command reads the table of its file, for which it takes memory
 abbrev pub reads : Command → Bool
 reads (get file name) = true
+reads (check file) = true
+reads (map_of file) = true
 reads _ = false
 
 -- the file that a command mounts
 abbrev pub file_of : Command → List ℕ
 file_of (format file k names) = file
 file_of (get file name) = file
+file_of (check file) = file
+file_of (map_of file) = file
 file_of _ = []
 
 -- the mount of a command's file, answered so
@@ -61,6 +68,8 @@ format_answer file = if length file == 0 then Ok (codes "formatted\n") else Err 
 unfoldable pub IsAnswer : Command → List ℕ → Result (List ℕ) Stop → Type 0
 IsAnswer (format name k names) file answer = answer ≡ format_answer file
 IsAnswer (get name object) file answer = IsObject object file answer
+IsAnswer (check name) file answer = IsChecked file answer
+IsAnswer (map_of name) file answer = IsMapped file answer
 IsAnswer help file answer = answer ≡ Ok HELP.now
 IsAnswer version file answer = answer ≡ Ok VERSION.now
 IsAnswer _ file answer = answer ≡ Err stop.NotBuilt

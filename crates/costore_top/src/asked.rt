@@ -7,7 +7,7 @@ ghost use Rattle.costore_top.specs.Words.{Command, command_of, format};
 ghost use Rattle.costore_top.specs.Outcomes.{IsAnswer, makes, mounts, reads};
 
 use crate::Stop;
-use crate::command::{format_in, get_from};
+use crate::command::{check_from, format_in, get_from, map_from};
 use crate::copy::put_whole;
 use crate::help::{HELP, VERSION};
 use crate::words::Asked;
@@ -48,10 +48,10 @@ pub fn do_asked<B: Bay, O: Sink>(
     match asked {
         Asked::Format(file, k, names) => format_in(bay, file, *k, *names, output),
         Asked::Get(file, name) => get_from(alloc, bay, file, name, output),
+        Asked::Check(file) => check_from(alloc, bay, file, output),
+        Asked::Map(file) => map_from(alloc, bay, file, output),
         Asked::Help => put_whole(output, HELP.as_bytes()),
         Asked::Version => put_whole(output, VERSION.as_bytes()),
-        Asked::Check(_) | Asked::Map(_) | Asked::Run(_) | Asked::Work(_, _, _) => Err(
-            Stop::NotBuilt,
-        ),
+        Asked::Run(_) | Asked::Work(_, _, _) => Err(Stop::NotBuilt),
     }
 }

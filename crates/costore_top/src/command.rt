@@ -5,11 +5,14 @@ ghost use Rattle.costore_top.specs.Getting.{IsObject};
 ghost use Rattle.costore_top.specs.Commands.{Formats, IsDone, IsMounted};
 ghost use Rattle.costore_top.specs.Layers.{Answers, KeepsAt, PutsNone};
 ghost use Rattle.costore_top.specs.Outcomes.{format_answer};
-ghost use Rattle.costore_top.specs.Words.{format, get};
+ghost use Rattle.costore_top.specs.Texts.{IsChecked, IsMapped};
+ghost use Rattle.costore_top.specs.Words.{check, format, get, map_of};
 
 use crate::Stop;
+use crate::check::check;
 use crate::copy::put_whole;
 use crate::get::get;
+use crate::map::map;
 use disk_face::{Bay, Disk, Mounted, Sink, length_of};
 use slot_codec::Name;
 use slot_pair::SlotPair;
@@ -41,6 +44,60 @@ pub fn get_from<B: Bay, O: Sink>(
         // Nothing is made where it isn't asked for.
         Ok(Mounted::Made) => unreachable!(),
         Ok(Mounted::There) => get(alloc, bay, name, output),
+    }
+}
+
+/// `check FILE`.
+pub fn check_from<B: Bay, O: Sink>(
+    alloc: Global,
+    bay: &mut B,
+    file: &str,
+    output: &mut O,
+) -> Result<(), Stop>
+    requires { (B.state bay.old).last_mount ≡ None }
+    ensures words { result ≢ Err Stop.Words }
+    ensures mounted { IsMounted (check file.now) (B.state bay.new).last_mount (result ≡ Err Stop.Disk)
+        (result ≡ Err Stop.NoFile) }
+    ensures answers { IsTrue (B.state bay.old).tells
+        → Answers (IsChecked (B.state bay.old).file) (O.state output.old) (O.state output.new) result }
+    ensures nothing_put { PutsNone output.old output.new result }
+    ensures frame { Untouched (B.state bay.old) (B.state bay.new) }
+    ensures keeps { KeepsAt (B.state bay.old) (B.state bay.new) (O.state output.old) (O.state output.new)
+        result }
+{
+    match bay.mount(file, false) {
+        Err(_) => Err(Stop::Disk),
+        Ok(Mounted::Absent) => Err(Stop::NoFile),
+        // Nothing is made where it isn't asked for.
+        Ok(Mounted::Made) => unreachable!(),
+        Ok(Mounted::There) => check(alloc, bay, output),
+    }
+}
+
+/// `map FILE`.
+pub fn map_from<B: Bay, O: Sink>(
+    alloc: Global,
+    bay: &mut B,
+    file: &str,
+    output: &mut O,
+) -> Result<(), Stop>
+    requires { (B.state bay.old).last_mount ≡ None }
+    ensures words { result ≢ Err Stop.Words }
+    ensures mounted { IsMounted (map_of file.now) (B.state bay.new).last_mount (result ≡ Err Stop.Disk)
+        (result ≡ Err Stop.NoFile) }
+    ensures answers { IsTrue (B.state bay.old).tells
+        → Answers (IsMapped (B.state bay.old).file) (O.state output.old) (O.state output.new) result }
+    ensures nothing_put { PutsNone output.old output.new result }
+    ensures frame { Untouched (B.state bay.old) (B.state bay.new) }
+    ensures keeps { KeepsAt (B.state bay.old) (B.state bay.new) (O.state output.old) (O.state output.new)
+        result }
+{
+    match bay.mount(file, false) {
+        Err(_) => Err(Stop::Disk),
+        Ok(Mounted::Absent) => Err(Stop::NoFile),
+        // Nothing is made where it isn't asked for.
+        Ok(Mounted::Made) => unreachable!(),
+        Ok(Mounted::There) => map(alloc, bay, output),
     }
 }
 

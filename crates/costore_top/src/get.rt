@@ -3,16 +3,16 @@ ghost use Rattle.std.specs.Prelude.{◌≡◌, ◌≢◌, ◌+◌, ◌^◌, ◌<
 ghost use Rattle.byte_ranges.specs.Ranges.{bytes_at};
 ghost use Rattle.disk_face.specs.Frames.{Unchanged};
 ghost use Rattle.reopen.specs.Loads.{IsLoadedFrom, KeepsLoaded};
-ghost use Rattle.costore_top.specs.Getting.{IsObject, StopsAs, stop_of};
+ghost use Rattle.costore_top.specs.Getting.{IsObject, StopsAs};
 ghost use Rattle.costore_top.specs.Layers.{Answers, HasCausesAt, Looks, PutsNone};
 
+use crate::Stop;
 use crate::copy::put_bytes;
-use crate::{Stop, StoreFault};
+use crate::load::load;
 use disk_face::{Disk, Sink};
-use reopen::{Loaded, OpenFault, State, read_state};
+use reopen::Loaded;
 use size_class::CLASSES;
 use slot_codec::{Name, head_len};
-use slot_pair::SlotFault;
 use std::alloc::Global;
 
 /// Puts the bytes of the object of a name and nothing more. The disk stays as it is, and where a
@@ -51,34 +51,6 @@ fn locate<D: Disk>(alloc: Global, disk: &mut D, name: &Name) -> Result<(u64, u64
 {
     let loaded = load(alloc, disk)?;
     spot_in(&loaded, name)
-}
-
-/// The table of a file between requests, or within a flush that was interrupted.
-fn load<D: Disk>(alloc: Global, disk: &mut D) -> Result<Loaded<CLASSES>, Stop>
-    requires ready { IsTrue (D.state disk.old).is_ready }
-    ensures loaded { IfOk result KeepsLoaded }
-    ensures told { IsTrue (D.state disk.old).tells → IfOk result (IsLoadedFrom (D.state disk.old).file) }
-    ensures stopped { (name : List ℕ) → IsTrue (D.state disk.old).tells
-        → IfErr result (StopsAs (IsObject name (D.state disk.old).file)) }
-    ensures looks { Looks (D.state disk.old) (D.state disk.new) result }
-{
-    match read_state(alloc, disk) {
-        Ok(State::Still(loaded)) => Ok(loaded),
-        Ok(State::Moving(loaded)) => Ok(loaded),
-        Err(fault) => Err(stop_of(fault)),
-    }
-}
-
-/// What a fault in opening is to the command.
-fn stop_of(fault: OpenFault) -> Stop
-    ensures { result ≡ stop_of fault }
-{
-    match fault {
-        OpenFault::Slot(SlotFault::Disk) => Stop::Disk,
-        OpenFault::Slot(other) => Stop::NotStore(StoreFault::Slot(other)),
-        OpenFault::Table(broken) => Stop::NotStore(StoreFault::Table(broken)),
-        OpenFault::NoMemory => Stop::NoMemory,
-    }
 }
 
 /// Where the object of a name begins in the file of a table, and how many bytes it has.

@@ -7,8 +7,8 @@ pub const HELP: &str =
 commands:
   costore format FILE K NAMES       makes a store of FILE, which must be new or empty
   costore get FILE NAME             puts the bytes of the object NAME
-  costore check FILE                puts one line about the store (not built yet)
-  costore map FILE                  puts its segments and objects (not built yet)
+  costore check FILE                puts one line about the store
+  costore map FILE                  puts its segments and objects
   costore run FILE                  serves requests from standard input (not built yet)
   costore work FILE NUMBER COUNT    does the jobs of a number (not built yet)
   costore --help                    puts this page
@@ -18,12 +18,19 @@ FILE is any text that isn't empty. NAME is 1 to 63 bytes of printable ASCII with
 K is 2 to 64: a buffer has a k-th of its segment. NAMES is 16 to 65536: how many objects may be live.
 NUMBER is 0 to 18446744073709551615, COUNT is 1 to 1000000. Numbers have no sign and no leading zero.
 
+check puts store K NAMES COUNT BYTES DATA SEQUENCE KIND: how many objects there are and how many bytes they
+have, how many the file has behind its head, the number of its checkpoint, and still, or moving where a
+rebuild was interrupted. map puts a line class C CAPACITY BUFFER TAKEN for each segment that has bytes, and
+object NAME PLACE SIZE for each object; before them moving BOUNDARY WALL SLACK for a moving file.
+
 status: 0 done, 1 faulty words, 3 no such file, 4 no store, 5 the file isn't empty, 6 no such object,
 7 the disk failed, 9 the output failed, 10 out of memory, 12 not built yet.
 At each status but 0 and 9 one line that begins with fault is put last, but where there is no memory for
 the words.
 
-example: costore format blocks 9 1024
+examples: costore format blocks 9 1024
+          costore check blocks
+          costore map blocks
 ";
 
 /// The line that `--version` puts.

@@ -1,5 +1,5 @@
 //! What holds of the answers, as contracts of functions that do nothing.
-ghost use Rattle.std.specs.Prelude.{◌≡◌, ◌⊎◌, List, ℕ, Option, Result};
+ghost use Rattle.std.specs.Prelude.{◌≡◌, ◌⊎◌, List, ℕ, Option, Result, codes};
 ghost use Rattle.std.specs.FinMap as fin;
 ghost use Rattle.disk_face.specs.Streams.{SinkState};
 ghost use Rattle.segment_layout.specs.Books.{Book};
@@ -7,7 +7,9 @@ ghost use Rattle.store_terms.specs.Maps.{Map};
 ghost use Rattle.table_rules.specs.Opening.{Opens};
 ghost use Rattle.costore_top.specs.Getting.{or_missing};
 ghost use Rattle.costore_top.specs.Outcomes.{Ends, IsAnswer, status_at};
+ghost use Rattle.costore_top.specs.Texts.{check_text, map_text};
 ghost use Rattle.costore_top.specs.Words.{Command, get};
+ghost use Rattle.costore_top.specs.Worked.{hello, moved_up};
 
 use crate::Stop;
 use size_class::{CLASSES, SIZE_MAX};
@@ -19,6 +21,16 @@ pub fn one_answer()
         → IsAnswer c file other → answer ≡ other }
     ensures given { (at name file : List ℕ) (m : Map) (b : Book) → Opens CLASSES SIZE_MAX file m b
         → IsAnswer (get at name) file (or_missing (fin.get m name)) }
+{}
+
+/// What `check` and `map` put of two small files with k = 9: one at rest, and one of 19,857 bytes in
+/// the middle of a flush.
+pub fn worked_texts()
+    ensures check_still { check_text hello 19608 ≡ codes "store 9 16 1 5 5 1 still\n" }
+    ensures map_still { map_text hello ≡ codes "class 2 5 0 0\nobject a 0 5\n" }
+    ensures check_moving { check_text moved_up 19857 ≡ codes "store 9 16 3 115 254 3 moving\n" }
+    ensures map_moving { map_text moved_up ≡ codes
+        "moving 2 239 112\nobject a 139 100\nobject b 239 10\nobject c 249 5\n" }
 {}
 
 /// A command ends with the status of its answer, unless its file isn't there, a device failed, or

@@ -2,16 +2,20 @@
 #![tactic(auto)]
 
 mod asked;
+mod check;
 mod command;
 mod copy;
 mod fault;
 mod get;
 mod help;
 mod laws;
+mod lines;
+mod load;
+mod map;
 mod stop;
 mod top;
 mod words;
 
-pub use laws::{ends_by_the_answer, one_answer};
+pub use laws::{ends_by_the_answer, one_answer, worked_texts};
 pub use stop::{Stop, StoreFault};
 pub use top::{Outcome, costore};

@@ -29,7 +29,7 @@ fn keeps_the_status_where_the_fault_line_is_not_put(rt: HostRuntime) -> Result<(
         (&["get", "g", "a"], 3),
         (&["format", "f", "9", "16"], 5),
         (&["get", "f", "b"], 6),
-        (&["check", "f"], 12),
+        (&["work", "f", "1", "1"], 12),
     ];
     for (words, status) in rows {
         let file = disk(rt.alloc(), 19608, &[], &[])?;
@@ -42,7 +42,13 @@ fn keeps_the_status_where_the_fault_line_is_not_put(rt: HostRuntime) -> Result<(
 
 #[test]
 fn says_that_the_sink_failed(rt: HostRuntime) -> Result<(), Fail> {
-    let rows: [&[&str]; 3] = [&["get", "f", "a"], &["--help"], &["--version"]];
+    let rows: [&[&str]; 5] = [
+        &["get", "f", "a"],
+        &["check", "f"],
+        &["map", "f"],
+        &["--help"],
+        &["--version"],
+    ];
     for words in rows {
         let file = disk(rt.alloc(), 19608, &[], &[])?;
         let ran = run_on(rt.alloc(), words, true, file, vec![in rt.alloc(); 1]?)?;

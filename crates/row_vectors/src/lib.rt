@@ -47,6 +47,8 @@ mod runs;
 #[cfg(test)]
 mod spoiled;
 #[cfg(test)]
+mod tables;
+#[cfg(test)]
 mod texts;
 #[cfg(test)]
 mod words;

@@ -6,7 +6,7 @@ use std::test::Fail;
 #[test]
 fn ends_by_the_words(rt: HostRuntime) -> Result<(), Fail> {
     let bytes = image(rt.alloc(), 19608, &[], &[])?;
-    let rows: [(&[&str], u8, &str); 16] = [
+    let rows: [(&[&str], u8, &str); 18] = [
         (&["get", "f", "b"], 6, "fault missing\n"),
         (&["get", "g", "a"], 3, "fault no file\n"),
         (&["get", "f"], 1, "fault words\n"),
@@ -28,7 +28,9 @@ fn ends_by_the_words(rt: HostRuntime) -> Result<(), Fail> {
             12,
             "fault not built\n",
         ),
-        (&["check", "f"], 12, "fault not built\n"),
+        (&["check", "f"], 0, "store 9 16 1 5 5 1 still\n"),
+        (&["check", ""], 1, "fault words\n"),
+        (&["map", "g"], 3, "fault no file\n"),
         (&["format", "f", "9", "16"], 5, "fault taken 19608\n"),
         (&["--version"], 0, "costore 0.1.0\n"),
     ];
@@ -41,14 +43,14 @@ fn ends_by_the_words(rt: HostRuntime) -> Result<(), Fail> {
 }
 
 /// The page of `--help`, word for word.
-const PAGE: [&str; 22] = [
+const PAGE: [&str; 29] = [
     "costore keeps named objects of bytes in one file, within a stated factor of its live bytes.",
     "",
     "commands:",
     "  costore format FILE K NAMES       makes a store of FILE, which must be new or empty",
     "  costore get FILE NAME             puts the bytes of the object NAME",
-    "  costore check FILE                puts one line about the store (not built yet)",
-    "  costore map FILE                  puts its segments and objects (not built yet)",
+    "  costore check FILE                puts one line about the store",
+    "  costore map FILE                  puts its segments and objects",
     "  costore run FILE                  serves requests from standard input (not built yet)",
     "  costore work FILE NUMBER COUNT    does the jobs of a number (not built yet)",
     "  costore --help                    puts this page",
@@ -58,12 +60,19 @@ const PAGE: [&str; 22] = [
     "K is 2 to 64: a buffer has a k-th of its segment. NAMES is 16 to 65536: how many objects may be live.",
     "NUMBER is 0 to 18446744073709551615, COUNT is 1 to 1000000. Numbers have no sign and no leading zero.",
     "",
+    "check puts store K NAMES COUNT BYTES DATA SEQUENCE KIND: how many objects there are and how many bytes they",
+    "have, how many the file has behind its head, the number of its checkpoint, and still, or moving where a",
+    "rebuild was interrupted. map puts a line class C CAPACITY BUFFER TAKEN for each segment that has bytes, and",
+    "object NAME PLACE SIZE for each object; before them moving BOUNDARY WALL SLACK for a moving file.",
+    "",
     "status: 0 done, 1 faulty words, 3 no such file, 4 no store, 5 the file isn't empty, 6 no such object,",
     "7 the disk failed, 9 the output failed, 10 out of memory, 12 not built yet.",
     "At each status but 0 and 9 one line that begins with fault is put last, but where there is no memory for",
     "the words.",
     "",
-    "example: costore format blocks 9 1024",
+    "examples: costore format blocks 9 1024",
+    "          costore check blocks",
+    "          costore map blocks",
 ];
 
 #[test]

@@ -1,6 +1,8 @@
 -- What was read is the one command that the words mean.
-use Rattle.std.proofs.Common.{◌≡◌, IsTrue, subst, sym}
+use Rattle.std.proofs.Common.{◌≡◌, Err, IsTrue, subst, sym}
 use Rattle.costore_top.specs.Words.{command_of, format, texts}
+use Rattle.costore_top.specs.Commands.{IsMounted}
+use Rattle.costore_top.specs.declared.stop.Stop.TheVariants as stop
 use Rattle.costore_top.specs.Layers.{Answers}
 use Rattle.costore_top.specs.Outcomes.{IsAnswer, mounts}
 use Rattle.costore_top.proofs.WordLists.{means_one}
@@ -13,6 +15,14 @@ returns-in-Some-clause-answers g c = λ command means told.
     subst (λ x. Answers (IsAnswer x (g.B.Disk.state c.args.bay.now).file) (g.O.Sink.state c.args.output.now)
     (g.O.Sink.state c.do_asked.new.output) c.do_asked.result) (sym same)
     (c.do_asked.ensures.answers (λ mounted. told (subst (λ x. IsTrue (mounts x)) (sym same) mounted)))
+
+pub returns-in-Some-clause-mounted : goal.returns-in-Some-clause-mounted
+returns-in-Some-clause-mounted g c = λ command means is.
+    let same : command ≡ command_of c.in-Some.asked =
+    means_one (texts c.args.words.now) command (command_of c.in-Some.asked) means c.in-Some.ensures in
+    subst (λ x. IsMounted x (g.B.Disk.state c.do_asked.new.bay).last_mount (c.do_asked.result ≡ Err stop.Disk)
+    (c.do_asked.result ≡ Err stop.NoFile)) (sym same)
+    (c.do_asked.ensures.mounted (subst (λ x. IsTrue (mounts x)) same is))
 
 pub returns-in-Some-clause-formats : goal.returns-in-Some-clause-formats
 returns-in-Some-clause-formats g c = λ file k names means told empty.
