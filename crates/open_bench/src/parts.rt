@@ -45,7 +45,9 @@ pub fn timed<D: Disk>(rt: &HostRuntime, disk: &mut D, is_told: bool) -> io::Resu
         opening = opening.min(micros(rt, start)?);
     }
     if is_told {
-        println!(rt; "find {finding} us, state {reading} us, rules {trying} us, open {opening} us")?;
+        println!(rt;
+            "find {finding} us, state {reading} us, rules {trying} us, open {opening} us"
+        )?;
     }
     Ok(())
 }
