@@ -1,0 +1,6 @@
+//! What the calls of a store cost: laws of its values before and after, for each cost by class at once.
+#![tactic(auto)]
+
+mod laws;
+
+pub use laws::{tables_that_are_no_costs};
