@@ -1,6 +1,7 @@
 -- What the contracts of the calls that change a store say of it and of the disk, before and after.
-use Rattle.std.specs.Prelude.{◌≡◌, Bool, true, false, ◌||◌, Result, IsNone, IsSome, ℕ}
+use Rattle.std.specs.Prelude.{◌≡◌, ◌⊎◌, ℕ, true, false, ◌||◌, List, [], ◌∷◌, length, Result, IsNone, IsSome, IsTrue}
 use Rattle.disk_face.specs.States as disk
+use Rattle.size_class.specs.Classes.{width}
 use Rattle.store_terms.specs.Requests as ask
 use Rattle.store_terms.specs.Requests.{Change}
 use Rattle.segment_layout.specs.Books.{is_quiet}
@@ -13,6 +14,7 @@ use Rattle.store_core.specs.Flushes.{IsFlush}
 use Rattle.store_core.specs.Keeps.{AnswersKeep, KeepsNow}
 use Rattle.store_core.specs.Quiet.{charges_of}
 use Rattle.store_core.specs.Stores.{IsStore}
+use Rattle.store_costs.specs.Paid.{HasOpenLedger}
 
 -- a store is sound unless it is broken
 abbrev pub IsSound : ℕ → Kept → Type 0
@@ -30,6 +32,16 @@ pub record IsChange (classes : ℕ) (c : Change) (old new : Kept) (before now : 
   pub over : IsConnected classes new now
   pub broken : new.is_broken ≡ (old.is_broken || is_disk_fault result)
 
+-- A put or a removal of a sound store, which didn't fail, and whose bytes the ledger counts: of each class, and
+-- no number stands at its last value.
+pub record IsCounted (classes : ℕ) (c : Change) (old new : Kept) (before now : disk.State)
+    (result : Result Done Refusal) : Type 0 where
+  pub call : IsChange classes c old new before now result
+  pub fine : is_disk_fault result ≡ false
+  pub sound : IsSound classes old
+  pub full : length old.asked ≡ width
+  pub counts : HasOpenLedger new
+
 -- What a keep says of them.
 pub record IsKeep (classes : ℕ) (old new : Kept) (before now : disk.State) (result : Result Done Refusal) : Type 0
   where
@@ -40,3 +52,37 @@ pub record IsKeep (classes : ℕ) (old new : Kept) (before now : disk.State) (re
 -- what going back makes of a store
 abbrev pub gone_back : Kept → Kept
 gone_back s = record s { now = s.kept; book = s.kept_book }
+
+-- ---- sessions, of a store with disks that each have a state
+
+-- a put or a removal, over a file that the disk tells
+pub record Changes {D : Type 0} (state : D → disk.State) (classes : ℕ) (old new : Kept) : Type 0 where
+  pub c : Change
+  pub before : D
+  pub now : D
+  pub result : Result Done Refusal
+  pub counted : IsCounted classes c old new (state before) (state now) result
+  pub over : IsConnected classes old (state before)
+  pub told : IsTrue (state before).tells
+
+-- a keep
+pub record Keeps {D : Type 0} (state : D → disk.State) (classes : ℕ) (old new : Kept) : Type 0 where
+  pub before : D
+  pub now : D
+  pub result : Result Done Refusal
+  pub call : IsKeep classes old new (state before) (state now) result
+
+-- going back, by a sound store
+pub record GoesBack (classes : ℕ) (old new : Kept) : Type 0 where
+  pub store : IsStore classes old
+  pub back : new ≡ gone_back old
+
+-- a call of a store: a put or a removal, a keep, going back, or one that leaves the store
+abbrev pub IsCall : {D : Type 0} → (D → disk.State) → ℕ → Kept → Kept → Type 0
+IsCall state classes old new = Changes state classes old new ⊎ Keeps state classes old new
+    ⊎ GoesBack classes old new ⊎ (new ≡ old)
+
+-- one call after another, with the store after each
+abbrev pub Session : {D : Type 0} → (D → disk.State) → ℕ → Kept → List Kept → Kept → Type 0
+Session state classes s [] t = t ≡ s
+Session state classes s (mid ∷ rest) t = IsCall state classes s mid × Session state classes mid rest t

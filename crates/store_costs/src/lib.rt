@@ -3,4 +3,4 @@
 
 mod laws;
 
-pub use laws::{a_store_is_weighed, tables_that_are_no_costs};
+pub use laws::{a_put_is_paid_for, a_store_is_weighed, tables_that_are_no_costs};
