@@ -1,19 +1,26 @@
 //! What the calls of a store move is paid for, as contracts of functions that do nothing.
-ghost use Rattle.std.specs.Prelude.{◌≡◌, ℕ, ◌+◌, ◌*◌, ◌^◌, ◌≤◌, true, List, Result, IsTrue};
+ghost use Rattle.std.specs.Prelude.{◌≡◌, ℕ, ◌+◌, ◌*◌, ◌^◌, ◌≤◌, true, List, Result, IsSome, IsTrue};
+ghost use Rattle.std.specs.FinMap as fin;
+ghost use Rattle.size_class.specs.declared.TheConstants.{SIZE_MAX};
+ghost use Rattle.store_terms.specs.Requests as ask;
 ghost use Rattle.store_terms.specs.Requests.{Change};
-ghost use Rattle.segment_layout.specs.Books.{is_quiet};
+ghost use Rattle.segment_layout.specs.Books.{empty_book, is_quiet};
+ghost use Rattle.table_rules.specs.Opening.{Opens};
 ghost use Rattle.move_cost.specs.Costs.{IsCost, factor, potential, weigh};
 ghost use Rattle.cost_laws.specs.Cells.{NoCellFalls};
 ghost use Rattle.cost_laws.specs.Moves.{rise};
 ghost use Rattle.cost_laws.specs.Paid.{IsWeighed};
+ghost use Rattle.cost_laws.specs.Sessions.{IsPaidFor};
 ghost use Rattle.store_core.specs.declared.answers.Refusal.{Refusal};
 ghost use Rattle.store_core.specs.declared.answers.Done.{Done};
+ghost use Rattle.store_core.specs.Answers.{refused_by};
 ghost use Rattle.store_core.specs.Connection.{IsConnected, IsOver, Kept, kept_map};
 ghost use Rattle.store_core.specs.Keeps.{now_map};
+ghost use Rattle.store_core.specs.Opened.{IsFresh, IsOpened};
 ghost use Rattle.store_core.specs.Quiet.{charges_of};
 ghost use Rattle.store_core.specs.Stores.{IsStore};
-ghost use Rattle.store_costs.specs.Calls.{IsCounted};
-ghost use Rattle.store_costs.specs.Paid.{Pays};
+ghost use Rattle.store_costs.specs.Calls.{IsCall, IsChange, IsCounted, IsKeep, Session, gone_back};
+ghost use Rattle.store_costs.specs.Paid.{HasPaid, MovesNothing, Pays};
 
 use disk_face::Disk;
 
@@ -41,6 +48,52 @@ pub fn a_put_is_paid_for<D: Disk>()
         (result : Result Done Refusal) → IsCost C cost → IsCounted C c old new (D.state before) (D.state now) result
         → weigh C cost (rise old.moved new.moved) ≤ factor old.in_use.block.k
         * weigh C cost (rise old.asked new.asked) + potential C cost old.in_use.block.k old.book.grid }
+{}
+
+/// A keep moves nothing and asks for nothing, and the book stays, whether the disk fails or not; so it is
+/// of a put or a removal that is refused. Going back doesn't raise the potential.
+pub fn other_calls_move_nothing<D: Disk>()
+    ensures keep { (C : ℕ) (old new : Kept) (before now : D) (result : Result Done Refusal)
+        → IsKeep C old new (D.state before) (D.state now) result → MovesNothing old new }
+    ensures refused { (C : ℕ) (c : Change) (old new : Kept) (before now : D) (result : Result Done Refusal)
+        → IsChange C c old new (D.state before) (D.state now) result
+        → IsSome (refused_by old (ask.change c)) → MovesNothing old new }
+    ensures nothing { (C : ℕ) (cost : ℕ → ℕ) (old new : Kept) → MovesNothing old new → Pays C cost old new }
+    ensures less { (C : ℕ) (cost : ℕ → ℕ) (s : Kept) → IsStore C s
+        → potential C cost s.in_use.block.k s.kept_book.grid
+        ≤ potential C cost s.in_use.block.k s.book.grid }
+    ensures back { (C : ℕ) (cost : ℕ → ℕ) (s : Kept) → IsStore C s → Pays C cost s (gone_back s) }
+{}
+
+/// What a store moved is paid for as it is opened, and after each of its calls, so at any time in a
+/// session; a file that nothing was put in yet begins with no potential. So in all no more is moved than
+/// the factor times what is asked for, and the potential at first. A later session begins with the book
+/// of the last checkpoint, so what sessions move adds up.
+pub fn a_session_of_a_store_is_paid_for<D: Disk>()
+    ensures opens { (C : ℕ) (cost : ℕ → ℕ) (s : Kept) → IsFresh C s
+        → HasPaid C cost (potential C cost s.in_use.block.k s.book.grid) s }
+    ensures new { (C : ℕ) (cost : ℕ → ℕ) (s : Kept) (file now : List ℕ) → IsFresh C s → IsOpened C file now s
+        → Opens C SIZE_MAX file fin.empty empty_book → HasPaid C cost 0 s }
+    ensures call { (C : ℕ) (cost : ℕ → ℕ) (first : ℕ) (old new : Kept) → IsCost C cost
+        → IsCall D.state C old new → HasPaid C cost first old → HasPaid C cost first new }
+    ensures quiet { (C : ℕ) (cost : ℕ → ℕ) (first : ℕ) (c : Change) (old new : Kept) (before now : D)
+        (result : Result Done Refusal) → IsCost C cost
+        → IsCounted C c old new (D.state before) (D.state now) result
+        → is_quiet (charges_of old c) ≡ true → HasPaid C cost first old → HasPaid C cost first new }
+    ensures session { (C : ℕ) (cost : ℕ → ℕ) (s : Kept) (between : List Kept) (t : Kept) → IsCost C cost
+        → IsFresh C s → Session D.state C s between t
+        → HasPaid C cost (potential C cost s.in_use.block.k s.book.grid) t }
+    ensures books { (C : ℕ) (cost : ℕ → ℕ) (first : ℕ) (s : Kept) (file : List ℕ) → IsCost C cost
+        → IsStore C s → IsOver C s file → HasPaid C cost first s
+        → IsPaidFor C s.in_use.block.k cost first (now_map s file) (kept_map s file) s.book s.kept_book
+        s.moved s.asked }
+    ensures in_all { (C : ℕ) (cost : ℕ → ℕ) (first : ℕ) (s : Kept) → HasPaid C cost first s
+        → weigh C cost s.moved ≤ factor s.in_use.block.k * weigh C cost s.asked + first }
+    ensures later { (C : ℕ) (cost : ℕ → ℕ) (first : ℕ) (s t : Kept) → IsStore C s → HasPaid C cost first s
+        → t.in_use.block.k ≡ s.in_use.block.k
+        → HasPaid C cost (potential C cost s.in_use.block.k s.kept_book.grid) t
+        → weigh C cost s.moved + weigh C cost t.moved + potential C cost t.in_use.block.k t.book.grid
+        ≤ factor s.in_use.block.k * (weigh C cost s.asked + weigh C cost t.asked) + first }
 {}
 
 /// A cost that triples from one class to the next is none, be there but two classes.

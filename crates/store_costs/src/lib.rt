@@ -3,4 +3,7 @@
 
 mod laws;
 
-pub use laws::{a_put_is_paid_for, a_store_is_weighed, tables_that_are_no_costs};
+pub use laws::{
+    a_put_is_paid_for, a_session_of_a_store_is_paid_for, a_store_is_weighed, other_calls_move_nothing,
+    tables_that_are_no_costs,
+};
