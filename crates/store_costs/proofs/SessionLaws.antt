@@ -98,6 +98,15 @@ both_books_paid C cost first s file is h over paid = record {
 
 -- ---- one session after another
 
+-- a store that is opened on the file of an earlier one begins with the book of its checkpoint
+pub opened_again : (C : ℕ) (s t : Kept) (file now : List ℕ) → IsOver C s file → IsOpened C file now t
+    → t.book ≡ s.kept_book
+opened_again C s t file now over o =
+    let found : Opens C SIZE_MAX file o.m o.b = record { table = o.table; opens = o.found } in
+    let saved : Opens C SIZE_MAX file (kept_map s file) s.kept_book =
+    record { table = over.table; opens = over.checkpoint.opens } in
+    ap (λ (x : State). x.book) o.state ∙ one_book found saved
+
 pub sessions_add : (C : ℕ) (cost : ℕ → ℕ) (first : ℕ) (s t : Kept) → IsStore C s → HasPaid C cost first s
     → t.in_use.block.k ≡ s.in_use.block.k
     → HasPaid C cost (potential C cost s.in_use.block.k s.kept_book.grid) t

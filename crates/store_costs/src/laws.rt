@@ -89,6 +89,8 @@ pub fn a_session_of_a_store_is_paid_for<D: Disk>()
         s.moved s.asked }
     ensures in_all { (C : ℕ) (cost : ℕ → ℕ) (first : ℕ) (s : Kept) → HasPaid C cost first s
         → weigh C cost s.moved ≤ factor s.in_use.block.k * weigh C cost s.asked + first }
+    ensures again { (C : ℕ) (s t : Kept) (file now : List ℕ) → IsOver C s file → IsOpened C file now t
+        → t.book ≡ s.kept_book }
     ensures later { (C : ℕ) (cost : ℕ → ℕ) (first : ℕ) (s t : Kept) → IsStore C s → HasPaid C cost first s
         → t.in_use.block.k ≡ s.in_use.block.k
         → HasPaid C cost (potential C cost s.in_use.block.k s.kept_book.grid) t

@@ -4,7 +4,7 @@
 mod calls;
 mod laws;
 
-pub use calls::paid_put;
+pub use calls::{paid_back, paid_del, paid_keep, paid_put};
 pub use laws::{
     a_put_is_paid_for, a_session_of_a_store_is_paid_for, a_store_is_weighed, other_calls_move_nothing,
     tables_that_are_no_costs,

@@ -1,15 +1,29 @@
 use Rattle.store_core.specs.Quiet.{put_of}
-use Rattle.store_costs.proofs.ChangeLaws.{change_pays}
+use Rattle.store_costs.proofs.CallLaws.{counted_has_paid, counted_pays}
 use Rattle.store_costs.proofs.calls.paid_put.Goals as goal
+
+pub returns-clause-counted : goal.returns-clause-counted
+returns-clause-counted g c fine low =
+    let ensured = c.put.ensures in
+    record {
+      call = record {
+        answer = ensured.answer;
+        refused = ensured.refused;
+        quiet = ensured.quiet;
+        flush = ensured.flush;
+        over = ensured.over;
+        broken = ensured.broken;
+      };
+      fine = fine;
+      sound = c.is_known.ensures.sound;
+      full = c.is_known.ensures.full;
+      counts = low;
+    }
 
 pub returns-clause-paid : goal.returns-clause-paid
 returns-clause-paid g c fine low told cost is =
-    change_pays (put_of c.args.name.now c.args.bytes.now) c.args.store.now c.put.new.self
-    (g.D.Disk.state c.args.disk.now) (g.D.Disk.state c.put.new.disk) c.put.result (record {
-      answer = c.put.ensures.answer;
-      refused = c.put.ensures.refused;
-      quiet = c.put.ensures.quiet;
-      flush = c.put.ensures.flush;
-      over = c.put.ensures.over;
-      broken = c.put.ensures.broken;
-    }) fine c.is_known.ensures.sound c.is_known.ensures.full low cost is c.requires.over told
+    counted_pays (returns-clause-counted g c fine low) c.requires.over told cost is
+
+pub returns-clause-session : goal.returns-clause-session
+returns-clause-session g c fine low told cost first is paid =
+    counted_has_paid (returns-clause-counted g c fine low) c.requires.over told cost first is paid

@@ -1,5 +1,5 @@
 use Rattle.store_costs.proofs.ChangeLaws.{quiet_has_paid}
-use Rattle.store_costs.proofs.SessionLaws.{both_books_paid, call_has_paid, formatted_has_paid, in_all, opened_has_paid, session_pays, sessions_add}
+use Rattle.store_costs.proofs.SessionLaws.{both_books_paid, call_has_paid, formatted_has_paid, in_all, opened_again, opened_has_paid, session_pays, sessions_add}
 use Rattle.store_costs.proofs.laws.a_session_of_a_store_is_paid_for.Goals as goal
 
 pub returns-clause-opens : goal.returns-clause-opens
@@ -27,3 +27,6 @@ returns-clause-in_all g c = in_all
 
 pub returns-clause-later : goal.returns-clause-later
 returns-clause-later g c = sessions_add
+
+pub returns-clause-again : goal.returns-clause-again
+returns-clause-again g c = opened_again
