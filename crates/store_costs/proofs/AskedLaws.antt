@@ -1,7 +1,7 @@
 -- A row that counts bytes by class, once those of some sizes are added: where no number stands at its last
 -- value, each class rose by the bytes of its sizes.
-use Rattle.std.specs.Prelude.{◌≡◌, ◌≢◌, ℕ, ◌+◌, ◌<◌, ◌≤◌, min, List, [], ◌∷◌, ◌++◌, fold, length, sum_by, Option, Some, None, option_map, slice_index, slice_set, refl}
-use Rattle.std.proofs.Common.{arith, sym, ◌∙◌, ap, subst, inl, inr}
+use Rattle.std.specs.Prelude.{◌≡◌, ℕ, ◌+◌, ◌<◌, min, List, [], ◌∷◌, ◌++◌, fold, length, sum_by, Option, Some, None, option_map, slice_index, refl}
+use Rattle.std.proofs.Common.{arith, sym, ◌∙◌, ap, inl, inr}
 use Rattle.std.proofs.lemmas.Bool.{cases_eq}
 use Rattle.std.proofs.lemmas.List.{length-set, get_or-set_same, get_or-set_other}
 use Rattle.std.proofs.lemmas.List.Sums.{sum_by-cons}
@@ -15,8 +15,6 @@ use Rattle.segment_layout.specs.Books.{item_of, new_item, some_size, volumes_of_
 use Rattle.segment_layout.proofs.BalanceLaws.{bytes_in, bytes_in-none, bytes_in-other, bytes_in-same}
 use Rattle.segment_layout.proofs.BookLaws.{volumes_of_sizes-index}
 use Rattle.extent_table.specs.declared.spot.Spot.{Spot}
-use Rattle.extent_table.specs.Extents.{Spots}
-use Rattle.cost_laws.specs.Asked.{asked_row}
 use Rattle.cost_laws.specs.Paid.{AsksNext}
 use Rattle.flush_run.specs.Calls.{IsOpenRow}
 use Rattle.flush_start.specs.Sized.{IsSizedBy}
@@ -53,7 +51,8 @@ added-index row size full low d =
 
 -- all of some sizes
 pub all_added : (row : List ℕ) (sizes : List ℕ) → length row ≡ width → IsOpenRow (fold added row sizes)
-    → (d : ℕ) → slice_index (fold added row sizes) d ≡ slice_index row d + sum_by (λ size. bytes_in d size) sizes
+    → (d : ℕ) → slice_index (fold added row sizes) d
+    ≡ slice_index row d + sum_by (λ size. bytes_in d size) sizes
 all_added row [] full low d = omega arith
 all_added row (size ∷ sizes) full low d =
     let mid = added row size in

@@ -13,15 +13,16 @@ use Rattle.store_costs.proofs.ChangeLaws.{change_has_paid, change_pays, nothing_
 use Rattle.store_costs.proofs.OtherLaws.{back_has_paid, back_pays}
 
 module _ {C : ℕ} {c : Change} {old new : Kept} {before now : disk.State} {result : Result Done Refusal}
-    (x : IsCounted C c old new before now result) (over : IsConnected C old before) (told : IsTrue before.tells)
-    (cost : ℕ → ℕ) where
+    (x : IsCounted C c old new before now result) (over : IsConnected C old before)
+    (told : IsTrue before.tells) (cost : ℕ → ℕ) where
   pub counted_pays : IsCost C cost → Pays C cost old new
   counted_pays is =
       change_pays c old new before now result x.call x.fine x.sound x.full x.counts cost is over told
 
   pub counted_has_paid : (first : ℕ) → IsCost C cost → HasPaid C cost first old → HasPaid C cost first new
   counted_has_paid first is paid =
-      change_has_paid c old new before now result x.call x.fine x.sound x.full x.counts cost is over told first paid
+      change_has_paid c old new before now result x.call x.fine x.sound x.full x.counts cost is over told
+      first paid
 
 -- ---- going back, done or refused
 
@@ -47,6 +48,7 @@ module _ (C : ℕ) {T : Type 0} (old new : Kept) where
       → OnErr result (new ≡ old) → (cost : ℕ → ℕ) (first : ℕ) → HasPaid C cost first old
       → HasPaid C cost first new
   back_then_paid (Ok x) done refused cost first paid =
-      subst (λ (s : Kept). HasPaid C cost first s) (sym done.back) (back_has_paid old cost first done.store paid)
+      subst (λ (s : Kept). HasPaid C cost first s) (sym done.back)
+      (back_has_paid old cost first done.store paid)
   back_then_paid (Err why) done refused cost first paid =
       nothing_has_paid C cost first old new (same_moves_nothing old new refused) paid

@@ -1,5 +1,5 @@
 -- A put or a removal that doesn't answer that the disk failed is paid for.
-use Rattle.std.specs.Prelude.{◌≡◌, ℕ, ◌+◌, ◌*◌, ◌≤◌, ◌⊎◌, Bool, true, false, not, ◌||◌, ◌-◌, List, length, Option, Some, None, option_map, Result, Ok, Err, IsNone, IsSome, IsTrue, OnOk, slice_index, refl}
+use Rattle.std.specs.Prelude.{◌≡◌, ℕ, ◌+◌, ◌*◌, ◌≤◌, ◌⊎◌, Bool, true, false, not, ◌||◌, ◌-◌, List, length, Option, Some, None, option_map, Result, Ok, IsNone, IsSome, IsTrue, OnOk, slice_index, refl}
 use Rattle.std.proofs.Common.{arith, sym, ◌∙◌, ap, subst, inl, inr}
 use Rattle.std.proofs.lemmas.Bool.{cases_Bool, cases_lt}
 use Rattle.std.proofs.lemmas.List.{get_or_past}
@@ -17,12 +17,11 @@ use Rattle.move_cost.specs.Costs.{IsCost, factor, potential, rate, weigh}
 use Rattle.cost_laws.specs.Moves.{next_grid, rise}
 use Rattle.cost_laws.proofs.MoveLaws.{rise-index}
 use Rattle.store_core.specs.declared.answers.Refusal.{Refusal}
-use Rattle.store_core.specs.declared.answers.Refusal.TheVariants as why
 use Rattle.store_core.specs.declared.answers.Done.{Done}
 use Rattle.store_core.specs.Answers.{AnswersChange, facts_at, is_disk_fault, refusal_for, refused_by}
-use Rattle.store_core.specs.Changes.{ChangesQuietly, IsQuietChange}
+use Rattle.store_core.specs.Changes.{ChangesQuietly}
 use Rattle.store_core.specs.Connection.{IsConnected, IsOver, Kept, base_of, limits_of}
-use Rattle.store_core.specs.Flushes.{ChangesByFlush, IsFlush}
+use Rattle.store_core.specs.Flushes.{ChangesByFlush}
 use Rattle.store_core.specs.Keeps.{now_map}
 use Rattle.store_core.specs.Quiet.{charges_of}
 use Rattle.store_core.specs.States.{refusal}
@@ -63,9 +62,10 @@ nothing_has_paid C cost first old new n paid = record {
   full = ap length n.asked ∙ paid.full;
   paid = subst (λ (k : ℕ). IsPaid C k cost first new.moved new.asked new.book.grid) (sym n.divisor)
       (subst (λ (b : Book). IsPaid C old.in_use.block.k cost first new.moved new.asked b.grid) (sym n.book)
-      (subst (λ (row : List ℕ). IsPaid C old.in_use.block.k cost first row new.asked old.book.grid) (sym n.moved)
-      (subst (λ (row : List ℕ). IsPaid C old.in_use.block.k cost first old.moved row old.book.grid) (sym n.asked)
-      paid.paid)));
+      (subst (λ (row : List ℕ). IsPaid C old.in_use.block.k cost first row new.asked old.book.grid)
+      (sym n.moved)
+      (subst (λ (row : List ℕ). IsPaid C old.in_use.block.k cost first old.moved row old.book.grid)
+      (sym n.asked) paid.paid)));
 }
 
 pub same_moves_nothing : (old new : Kept) → new ≡ old → MovesNothing old new
@@ -98,15 +98,17 @@ module _ {C : ℕ} (c : Change) (old new : Kept) (before now : disk.State) (resu
     where
       by : (o : Option Refusal) → why_not ≡ o → AnswersChange (is_quiet (charges_of old c)) o result
           → (new ≡ old) ⊎ IsServed c old result
-      by (Some why) is answer = inl (call.refused (subst (λ (x : Option Refusal). IsSome x) (sym is) refl)).same_store
+      by (Some why) is answer =
+          inl (call.refused (subst (λ (x : Option Refusal). IsSome x) (sym is) refl)).same_store
       by None is answer = elim answer as (λ _. (new ≡ old) ⊎ IsServed c old result) [
         | inl ok ↦ inr (record {
-            whole = whole_if_served old.is_broken
-                (option_map refusal_for (refusal (limits_of old) (facts_at old (ask.change c)) (ask.change c))) is;
-            served = subst (λ (x : Option Refusal). IsNone x) (sym is) refl;
-            done = record { kept = not (is_quiet (charges_of old c)) };
-            is_ok = ok;
-          })
+          whole = whole_if_served old.is_broken
+              (option_map refusal_for
+              (refusal (limits_of old) (facts_at old (ask.change c)) (ask.change c))) is;
+          served = subst (λ (x : Option Refusal). IsNone x) (sym is) refl;
+          done = record { kept = not (is_quiet (charges_of old c)) };
+          is_ok = ok;
+        })
         | inr failed ↦ absurd (let bad : false ≡ true = sym fine ∙ ap is_disk_fault failed in cc)
       ]
 
@@ -162,8 +164,8 @@ module _ {C : ℕ} (c : Change) (old new : Kept) (before now : disk.State) (resu
     flush_served loud s =
         let h = sound s.whole in
         let v = flush_value loud s in
-        let n = flush_next old h 0 (zeros old h) (in_zeros old h) c new loud before now result (call.flush s.served loud)
-        v full low in
+        let n = flush_next old h 0 (zeros old h) (in_zeros old h) c new loud before now result
+        (call.flush s.served loud) v full low in
         omega (arith, next_paid old h 0 (zeros old h) (in_zeros old h) c new n cost is)
 
     pub any_pays : MovesPay
@@ -177,8 +179,8 @@ module _ {C : ℕ} (c : Change) (old new : Kept) (before now : disk.State) (resu
 
     -- ---- a flush, on a disk that tells
 
-    module _ (over : IsConnected C old before) (told : IsTrue before.tells) (loud : is_quiet (charges_of old c) ≡ false)
-        (s : IsServed c old result) where
+    module _ (over : IsConnected C old before) (told : IsTrue before.tells)
+        (loud : is_quiet (charges_of old c) ≡ false) (s : IsServed c old result) where
       abbrev h : IsStore C old
       h = sound s.whole
 
@@ -186,8 +188,8 @@ module _ {C : ℕ} (c : Change) (old new : Kept) (before now : disk.State) (resu
       within = now_lies old before.file h (over s.whole told)
 
       n : IsNext (now_map old before.file) c old new
-      n = flush_next old h (base_of old) before.file within c new loud before now result (call.flush s.served loud)
-          (flush_value loud s) full low
+      n = flush_next old h (base_of old) before.file within c new loud before now result
+          (call.flush s.served loud) (flush_value loud s) full low
 
       now_over : IsOver C new now.file
       now_over = call.over (call.broken ∙ (λ i. s.whole i || fine i))
@@ -201,7 +203,8 @@ module _ {C : ℕ} (c : Change) (old new : Kept) (before now : disk.State) (resu
       told_pays = next_pays old h (base_of old) before.file within c new n cost is grid
 
       told_session : (first : ℕ) → HasPaid C cost first old → HasPaid C cost first new
-      told_session first paid = next_has_paid old h (base_of old) before.file within c new n cost is first grid
+      told_session first paid =
+          next_has_paid old h (base_of old) before.file within c new n cost is first grid
           (ap (λ (b : SuperBlock). b.k) (flush_value loud s).same_block) paid
 
     pub change_pays : IsConnected C old before → IsTrue before.tells → Pays C cost old new
@@ -213,8 +216,8 @@ module _ {C : ℕ} (c : Change) (old new : Kept) (before now : disk.State) (resu
       ]
     ]
 
-    pub change_has_paid : IsConnected C old before → IsTrue before.tells → (first : ℕ) → HasPaid C cost first old
-        → HasPaid C cost first new
+    pub change_has_paid : IsConnected C old before → IsTrue before.tells → (first : ℕ)
+        → HasPaid C cost first old → HasPaid C cost first new
     change_has_paid over told first paid =
         elim (cases_Bool (is_quiet (charges_of old c))) as (λ _. HasPaid C cost first new) [
           | inl quiet ↦ quiet_has_paid quiet first paid

@@ -1,6 +1,6 @@
--- What a change that was made moves is paid for: a quiet one on any disk, and a flush by the book that it leads
--- to.
-use Rattle.std.specs.Prelude.{◌≡◌, ℕ, ◌+◌, ◌*◌, ◌<◌, ◌≤◌, true, false, List, ◌++◌, length, Result, Ok, IsTrue, slice_index}
+-- What a change that was made moves is paid for: a quiet one on any disk, and a flush by the book that it
+-- leads to.
+use Rattle.std.specs.Prelude.{◌≡◌, ℕ, true, false, List, ◌++◌, length, Result, Ok, slice_index}
 use Rattle.std.proofs.Common.{arith, sym, ◌∙◌, ap, subst}
 use Rattle.std.specs.FinMap as fin
 use Rattle.disk_face.specs.States as disk
@@ -14,7 +14,7 @@ use Rattle.segment_layout.specs.Shapes.{boundary_of}
 use Rattle.spot_terms.specs.Reads.{EndWithin, read_at}
 use Rattle.table_rules.specs.Opening.{Opens, placed_table}
 use Rattle.table_rules.specs.Tables.{book_of}
-use Rattle.move_cost.specs.Costs.{IsCost, factor, potential, weigh}
+use Rattle.move_cost.specs.Costs.{IsCost}
 use Rattle.cost_laws.specs.Moves.{MovesNext, next_grid, rise}
 use Rattle.cost_laws.specs.Paid.{ArePaid, AsksNext, IsPaid, IsWeighed}
 use Rattle.cost_laws.proofs.PaidLaws.{cheap_call, paid_next}
@@ -23,7 +23,7 @@ use Rattle.flush_run.specs.Calls.{IsOpenRow}
 use Rattle.store_core.specs.declared.answers.Refusal.{Refusal}
 use Rattle.store_core.specs.declared.answers.Done.{Done}
 use Rattle.store_core.specs.Changes.{ChangesQuietly}
-use Rattle.store_core.specs.Connection.{IsOver, Kept, base_of, kept_map}
+use Rattle.store_core.specs.Connection.{IsOver, Kept, kept_map}
 use Rattle.store_core.specs.Flushes.{ChangesByFlush, IsFlush, book_after, map_after}
 use Rattle.store_core.specs.Keeps.{now_map}
 use Rattle.store_core.specs.Quiet.{asked_after, charges_of, sizes_at}
@@ -47,8 +47,8 @@ pub record IsNext (m : Map) (c : Change) (old new : Kept) : Type 0 where
   pub asks : AsksNext m c old.asked new.asked
   pub full : length new.asked ≡ length old.asked
 
-module _ {C : ℕ} (old : Kept) (h : IsStore C old) (base : ℕ) (file : List ℕ) (within : EndWithin base file old.now)
-    (c : Change) where
+module _ {C : ℕ} (old : Kept) (h : IsStore C old) (base : ℕ) (file : List ℕ)
+    (within : EndWithin base file old.now) (c : Change) where
   abbrev k : ℕ
   k = old.in_use.block.k
 
@@ -126,7 +126,8 @@ module _ {C : ℕ} (old : Kept) (h : IsStore C old) (base : ℕ) (file : List �
     next_paid = cheap_call C k cost m old.book c w old.moved new.moved old.asked new.asked n.moves n.asks
 
     pub next_pays : new.book.grid ≡ next_grid k m old.book c → Pays C cost old new
-    next_pays grid = subst (ArePaid C k cost (rise old.moved new.moved) (rise old.asked new.asked) old.book.grid)
+    next_pays grid = subst
+        (ArePaid C k cost (rise old.moved new.moved) (rise old.asked new.asked) old.book.grid)
         (sym grid) next_paid
 
     pub next_has_paid : (first : ℕ) → new.book.grid ≡ next_grid k m old.book c → new.in_use.block.k ≡ k
@@ -135,7 +136,8 @@ module _ {C : ℕ} (old : Kept) (h : IsStore C old) (base : ℕ) (file : List �
       full = n.full ∙ paid.full;
       paid =
           let next : IsPaid C k cost first new.moved new.asked (next_grid k m old.book c) =
-          paid_next C k cost m old.book c w first old.moved new.moved old.asked new.asked n.moves n.asks paid.paid in
+          paid_next C k cost m old.book c w first old.moved new.moved old.asked new.asked n.moves n.asks
+          paid.paid in
           subst (λ (n : ℕ). IsPaid C n cost first new.moved new.asked new.book.grid) (sym divisor)
           (subst (IsPaid C k cost first new.moved new.asked) (sym grid) next);
     }

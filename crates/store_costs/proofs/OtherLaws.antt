@@ -5,7 +5,6 @@ use Rattle.disk_face.specs.States as disk
 use Rattle.store_terms.specs.Requests as ask
 use Rattle.store_terms.specs.Requests.{Change}
 use Rattle.move_cost.specs.Costs.{potential}
-use Rattle.cost_laws.specs.Paid.{IsPaid}
 use Rattle.cost_laws.proofs.CellLaws.{potential_rises}
 use Rattle.cost_laws.proofs.PaidLaws.{paid_back}
 use Rattle.store_core.specs.declared.answers.Refusal.{Refusal}

@@ -17,7 +17,7 @@ use Rattle.store_core.specs.Keeps.{now_map}
 use Rattle.store_core.specs.Opened.{IsFresh, IsOpened}
 use Rattle.store_core.specs.States.{State}
 use Rattle.store_core.specs.Stores.{IsStore}
-use Rattle.store_costs.specs.Calls.{Changes, GoesBack, IsCall, Keeps, Session}
+use Rattle.store_costs.specs.Calls.{IsCall, Session}
 use Rattle.store_costs.specs.Paid.{HasPaid}
 use Rattle.store_costs.proofs.ChangeLaws.{change_has_paid, nothing_has_paid, same_moves_nothing}
 use Rattle.store_costs.proofs.MadeLaws.{one_book}
@@ -39,8 +39,8 @@ opened_has_paid C cost s fresh =
     }
 
 -- a store that nothing was put in yet has no potential
-pub formatted_has_paid : (C : ℕ) (cost : ℕ → ℕ) (s : Kept) (file now : List ℕ) → IsFresh C s → IsOpened C file now s
-    → Opens C SIZE_MAX file fin.empty empty_book → HasPaid C cost 0 s
+pub formatted_has_paid : (C : ℕ) (cost : ℕ → ℕ) (s : Kept) (file now : List ℕ) → IsFresh C s
+    → IsOpened C file now s → Opens C SIZE_MAX file fin.empty empty_book → HasPaid C cost 0 s
 formatted_has_paid C cost s file now fresh o opens =
     let k = s.in_use.block.k in
     let found : Opens C SIZE_MAX file o.m o.b = record { table = o.table; opens = o.found } in
@@ -55,8 +55,8 @@ module _ {D : Type 0} (state : D → disk.State) (C : ℕ) (cost : ℕ → ℕ) 
   pub call_has_paid : (first : ℕ) (old new : Kept) → IsCall state C old new → HasPaid C cost first old
       → HasPaid C cost first new
   call_has_paid first old new call paid = elim call as (λ _. HasPaid C cost first new) [
-    | inl x ↦ change_has_paid x.c old new (state x.before) (state x.now) x.result x.counted.call x.counted.fine
-        x.counted.sound x.counted.full x.counted.counts cost is x.over x.told first paid
+    | inl x ↦ change_has_paid x.c old new (state x.before) (state x.now) x.result x.counted.call
+        x.counted.fine x.counted.sound x.counted.full x.counted.counts cost is x.over x.told first paid
     | inr others ↦ elim others as (λ _. HasPaid C cost first new) [
       | inl x ↦ nothing_has_paid C cost first old new
           (keep_moves_nothing old new (state x.before) (state x.now) x.result x.call) paid
@@ -86,9 +86,10 @@ pub in_all : (C : ℕ) (cost : ℕ → ℕ) (first : ℕ) (s : Kept) → HasPaid
     → weigh C cost s.moved ≤ factor s.in_use.block.k * weigh C cost s.asked + first
 in_all C cost first s paid = omega (arith, paid.paid)
 
-pub both_books_paid : (C : ℕ) (cost : ℕ → ℕ) (first : ℕ) (s : Kept) (file : List ℕ) → IsCost C cost → IsStore C s
-    → IsOver C s file → HasPaid C cost first s
-    → IsPaidFor C s.in_use.block.k cost first (now_map s file) (kept_map s file) s.book s.kept_book s.moved s.asked
+pub both_books_paid : (C : ℕ) (cost : ℕ → ℕ) (first : ℕ) (s : Kept) (file : List ℕ) → IsCost C cost
+    → IsStore C s → IsOver C s file → HasPaid C cost first s
+    → IsPaidFor C s.in_use.block.k cost first (now_map s file) (kept_map s file) s.book s.kept_book s.moved
+    s.asked
 both_books_paid C cost first s file is h over paid = record {
   weighed = weighed_by_file s file cost h over is;
   kept_weighed = kept_by_file s file cost h over is;

@@ -1,14 +1,12 @@
 -- The book of a store is weighed by each cost, and a change charges what its places say.
-use Rattle.std.specs.Prelude.{◌≡◌, ℕ, List, [], ◌++◌, if◌then◌else◌}
-use Rattle.std.proofs.Common.{arith, sym, ◌∙◌, ap, subst}
+use Rattle.std.specs.Prelude.{◌≡◌, ℕ, List, ◌++◌}
+use Rattle.std.proofs.Common.{sym, ◌∙◌, ap, subst}
 use Rattle.std.specs.FinMap as fin
-use Rattle.size_class.specs.Classes.{width}
 use Rattle.size_class.specs.declared.TheConstants.{SIZE_MAX}
 use Rattle.store_terms.specs.Maps.{Map}
 use Rattle.store_terms.specs.Requests.{Change}
 use Rattle.segment_layout.specs.Balance.{IsBalanced}
 use Rattle.segment_layout.specs.Books.{Book, charge_all, charge_change, new_item, old_item}
-use Rattle.spot_terms.specs.LaidOut.{shown_book}
 use Rattle.spot_terms.specs.Quiet.{gone_items}
 use Rattle.spot_terms.specs.Reads.{EndWithin, read_at}
 use Rattle.spot_terms.proofs.NextQuietLaws.{old_item-is}

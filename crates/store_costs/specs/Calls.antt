@@ -32,8 +32,8 @@ pub record IsChange (classes : ℕ) (c : Change) (old new : Kept) (before now : 
   pub over : IsConnected classes new now
   pub broken : new.is_broken ≡ (old.is_broken || is_disk_fault result)
 
--- A put or a removal of a sound store, which didn't fail, and whose bytes the ledger counts: of each class, and
--- no number stands at its last value.
+-- A put or a removal of a sound store in which the disk didn't fail, and which the ledger counts: it has a
+-- number for each class, and none stands at its last value.
 pub record IsCounted (classes : ℕ) (c : Change) (old new : Kept) (before now : disk.State)
     (result : Result Done Refusal) : Type 0 where
   pub call : IsChange classes c old new before now result
@@ -43,11 +43,11 @@ pub record IsCounted (classes : ℕ) (c : Change) (old new : Kept) (before now :
   pub counts : HasOpenLedger new
 
 -- What a keep says of them.
-pub record IsKeep (classes : ℕ) (old new : Kept) (before now : disk.State) (result : Result Done Refusal) : Type 0
-  where
-    pub answer : AnswersKeep (refused_by old ask.keep) result
-    pub refused : IsSome (refused_by old ask.keep) → NothingChanged old new before now
-    pub kept : IsNone (refused_by old ask.keep) → KeepsNow classes old new before now result
+pub record IsKeep (classes : ℕ) (old new : Kept) (before now : disk.State)
+    (result : Result Done Refusal) : Type 0 where
+  pub answer : AnswersKeep (refused_by old ask.keep) result
+  pub refused : IsSome (refused_by old ask.keep) → NothingChanged old new before now
+  pub kept : IsNone (refused_by old ask.keep) → KeepsNow classes old new before now result
 
 -- what going back makes of a store
 abbrev pub gone_back : Kept → Kept

@@ -39,13 +39,16 @@ pub fn a_store_is_weighed()
 /// On any disk what it moves is paid for by what it asks for and by the potential before.
 pub fn a_put_is_paid_for<D: Disk>()
     ensures told { (C : ℕ) (cost : ℕ → ℕ) (c : Change) (old new : Kept) (before now : D)
-        (result : Result Done Refusal) → IsCost C cost → IsCounted C c old new (D.state before) (D.state now) result
+        (result : Result Done Refusal) → IsCost C cost
+        → IsCounted C c old new (D.state before) (D.state now) result
         → IsConnected C old (D.state before) → IsTrue (D.state before).tells → Pays C cost old new }
     ensures quiet { (C : ℕ) (cost : ℕ → ℕ) (c : Change) (old new : Kept) (before now : D)
-        (result : Result Done Refusal) → IsCost C cost → IsCounted C c old new (D.state before) (D.state now) result
+        (result : Result Done Refusal) → IsCost C cost
+        → IsCounted C c old new (D.state before) (D.state now) result
         → is_quiet (charges_of old c) ≡ true → Pays C cost old new }
     ensures any { (C : ℕ) (cost : ℕ → ℕ) (c : Change) (old new : Kept) (before now : D)
-        (result : Result Done Refusal) → IsCost C cost → IsCounted C c old new (D.state before) (D.state now) result
+        (result : Result Done Refusal) → IsCost C cost
+        → IsCounted C c old new (D.state before) (D.state now) result
         → weigh C cost (rise old.moved new.moved) ≤ factor old.in_use.block.k
         * weigh C cost (rise old.asked new.asked) + potential C cost old.in_use.block.k old.book.grid }
 {}

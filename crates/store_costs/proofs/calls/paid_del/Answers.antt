@@ -1,4 +1,3 @@
-use Rattle.store_core.specs.Quiet.{del_of}
 use Rattle.store_costs.proofs.CallLaws.{counted_has_paid, counted_pays}
 use Rattle.store_costs.proofs.calls.paid_del.Goals as goal
 

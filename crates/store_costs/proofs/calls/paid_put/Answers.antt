@@ -1,4 +1,3 @@
-use Rattle.store_core.specs.Quiet.{put_of}
 use Rattle.store_costs.proofs.CallLaws.{counted_has_paid, counted_pays}
 use Rattle.store_costs.proofs.calls.paid_put.Goals as goal
 

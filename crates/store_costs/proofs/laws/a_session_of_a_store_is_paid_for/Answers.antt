@@ -13,8 +13,8 @@ returns-clause-call g c C cost first old new is = call_has_paid g.D.Disk.state C
 
 pub returns-clause-quiet : goal.returns-clause-quiet
 returns-clause-quiet g c C cost first change old new before now result is x quiet =
-    quiet_has_paid change old new (g.D.Disk.state before) (g.D.Disk.state now) result x.call x.fine x.sound x.full
-    x.counts cost is quiet first
+    quiet_has_paid change old new (g.D.Disk.state before) (g.D.Disk.state now) result x.call x.fine
+    x.sound x.full x.counts cost is quiet first
 
 pub returns-clause-session : goal.returns-clause-session
 returns-clause-session g c C cost s between t is = session_pays g.D.Disk.state C cost is s between t
