@@ -1,13 +1,16 @@
 -- What a store moved is paid for as it is opened, and after each of its calls.
-use Rattle.std.specs.Prelude.{◌≡◌, ℕ, ◌+◌, ◌*◌, ◌≤◌, List, [], ◌∷◌, length}
+use Rattle.std.specs.Prelude.{◌≡◌, ℕ, zero, suc, ◌+◌, ◌-◌, ◌*◌, ◌≤◌, List, [], ◌∷◌, ◌++◌, length, replicate, take, Ok, refl}
 use Rattle.std.proofs.Common.{arith, sym, ◌∙◌, ap, subst, inl, inr}
-use Rattle.std.specs.FinMap as fin
 use Rattle.disk_face.specs.States as disk
-use Rattle.size_class.specs.Classes.{width, zero_row}
+use Rattle.size_class.specs.Classes.{width, zero_grid, zero_row}
 use Rattle.size_class.specs.declared.TheConstants.{SIZE_MAX}
 use Rattle.size_class.proofs.ClassLaws.{length-zero_row}
-use Rattle.segment_layout.specs.Books.{Book, empty_book}
-use Rattle.table_rules.specs.Opening.{Opens}
+use Rattle.slot_codec.specs.Choice as choice
+use Rattle.slot_pair.specs.Formats.{HasFirstTable, first_header, first_table}
+use Rattle.segment_layout.specs.Books.{Book}
+use Rattle.segment_layout.specs.Shapes.{settled_grid}
+use Rattle.table_rules.specs.Opening.{Opens, placed_table}
+use Rattle.table_rules.specs.Tables.{book_of}
 use Rattle.move_cost.specs.Costs.{IsCost, factor, potential, weigh}
 use Rattle.cost_laws.specs.Paid.{IsPaid}
 use Rattle.cost_laws.specs.Sessions.{IsPaidFor}
@@ -38,16 +41,49 @@ opened_has_paid C cost s fresh =
           (paid_first C k cost s.book.grid));
     }
 
+-- the first header has taken nothing of any buffer
+first_rows : (z : List ℕ) (n b : ℕ) → b ≤ n → take b (replicate n z) ++ replicate (n - b) z ≡ replicate n z
+first_rows z n zero low =
+    let all : n - 0 ≡ n = omega arith in
+    ap (λ (x : ℕ). replicate x z) all
+first_rows z zero (suc b) low = absurd (omega (arith, low))
+first_rows z (suc n) (suc b) low =
+    let left : suc n - suc b ≡ n - b = omega arith in
+    ap (λ (x : ℕ). z ∷ (take b (replicate n z) ++ replicate x z)) left
+    ∙ ap (λ (rows : List (List ℕ)). z ∷ rows) (first_rows z n b (omega (arith, low)))
+
+first_grid : first_header.used ≡ zero_grid
+unfolding first_header zero_grid zero_row
+first_grid = refl
+
+settled_nothing : (C : ℕ) → C ≤ width → settled_grid C zero_grid ≡ zero_grid
+unfolding zero_grid
+settled_nothing C low = first_rows zero_row width C low
+
+its_grid : (C : ℕ) (file : List ℕ) (k names : ℕ)
+    → (book_of (placed_table C SIZE_MAX file (first_table k names))).grid ≡ settled_grid C first_header.used
+unfolding first_header
+its_grid C file k names = refl
+
+none_taken : (C : ℕ) (file : List ℕ) (k names : ℕ) → C ≤ width
+    → (book_of (placed_table C SIZE_MAX file (first_table k names))).grid ≡ zero_grid
+none_taken C file k names low = its_grid C file k names ∙ ap (settled_grid C) first_grid
+    ∙ settled_nothing C low
+
 -- a store that nothing was put in yet has no potential
-pub formatted_has_paid : (C : ℕ) (cost : ℕ → ℕ) (s : Kept) (file now : List ℕ) → IsFresh C s
-    → IsOpened C file now s → Opens C SIZE_MAX file fin.empty empty_book → HasPaid C cost 0 s
-formatted_has_paid C cost s file now fresh o opens =
-    let k = s.in_use.block.k in
-    let found : Opens C SIZE_MAX file o.m o.b = record { table = o.table; opens = o.found } in
-    let book : s.book ≡ empty_book = ap (λ (t : State). t.book) o.state ∙ one_book found opens in
-    let none : potential C cost k s.book.grid ≡ 0 =
-    ap (λ (b : Book). potential C cost k b.grid) book ∙ potential_none C k cost in
-    subst (λ (first : ℕ). HasPaid C cost first s) none (opened_has_paid C cost s fresh)
+pub formatted_has_paid : (C : ℕ) (cost : ℕ → ℕ) (k names : ℕ) (s : Kept) (file now : List ℕ)
+    → HasFirstTable k names file → IsFresh C s → IsOpened C file now s → HasPaid C cost 0 s
+formatted_has_paid C cost k names s file now first fresh o =
+    let divisor = s.in_use.block.k in
+    let one : o.table ≡ first_table k names =
+    (let both : Ok o.table ≡ Ok (first_table k names) = sym o.found.read ∙ first.table in cc) in
+    let grid : s.book.grid ≡ zero_grid =
+    ap (λ (t : State). t.book.grid) o.state ∙ ap (λ (b : Book). b.grid) o.found.same_book
+    ∙ ap (λ (t : choice.Table). (book_of (placed_table C SIZE_MAX file t)).grid) one
+    ∙ none_taken C file k names fresh.store.now.few in
+    let none : potential C cost divisor s.book.grid ≡ 0 =
+    ap (potential C cost divisor) grid ∙ potential_none C divisor cost in
+    subst (λ (n : ℕ). HasPaid C cost n s) none (opened_has_paid C cost s fresh)
 
 -- ---- after each call
 
@@ -79,6 +115,15 @@ module _ {D : Type 0} (state : D → disk.State) (C : ℕ) (cost : ℕ → ℕ) 
   session_pays s between t fresh session =
       calls_have_paid (potential C cost s.in_use.block.k s.book.grid) s between t session
       (opened_has_paid C cost s fresh)
+
+  -- so all that was asked of a newly formatted file pays for all that was moved
+  pub formatted_pays : (k names : ℕ) (s : Kept) (file now : List ℕ) (between : List Kept) (t : Kept)
+      → HasFirstTable k names file → IsFresh C s → IsOpened C file now s → Session state C s between t
+      → weigh C cost t.moved ≤ factor t.in_use.block.k * weigh C cost t.asked
+  formatted_pays k names s file now between t first fresh o session =
+      let paid = calls_have_paid 0 s between t session
+      (formatted_has_paid C cost k names s file now first fresh o) in
+      omega (arith, paid.paid)
 
 -- ---- at any time
 

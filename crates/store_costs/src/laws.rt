@@ -1,11 +1,9 @@
 //! What the calls of a store move is paid for, as contracts of functions that do nothing.
 ghost use Rattle.std.specs.Prelude.{◌≡◌, ℕ, ◌+◌, ◌*◌, ◌^◌, ◌≤◌, true, List, Result, IsSome, IsTrue};
-ghost use Rattle.std.specs.FinMap as fin;
-ghost use Rattle.size_class.specs.declared.TheConstants.{SIZE_MAX};
 ghost use Rattle.store_terms.specs.Requests as ask;
 ghost use Rattle.store_terms.specs.Requests.{Change};
-ghost use Rattle.segment_layout.specs.Books.{empty_book, is_quiet};
-ghost use Rattle.table_rules.specs.Opening.{Opens};
+ghost use Rattle.segment_layout.specs.Books.{is_quiet};
+ghost use Rattle.slot_pair.specs.Formats.{HasFirstTable};
 ghost use Rattle.move_cost.specs.Costs.{IsCost, factor, potential, weigh};
 ghost use Rattle.cost_laws.specs.Cells.{NoCellFalls};
 ghost use Rattle.cost_laws.specs.Moves.{rise};
@@ -69,14 +67,14 @@ pub fn other_calls_move_nothing<D: Disk>()
 {}
 
 /// What a store moved is paid for as it is opened, and after each of its calls, so at any time in a
-/// session; a file that nothing was put in yet begins with no potential. So in all no more is moved than
-/// the factor times what is asked for, and the potential at first. A later session begins with the book
-/// of the last checkpoint, so what sessions move adds up.
+/// session. So in all no more is moved than the factor times what is asked for, and the potential at
+/// first; a newly formatted file begins with none. A later session begins with the book of the last
+/// checkpoint, so what sessions move adds up.
 pub fn a_session_of_a_store_is_paid_for<D: Disk>()
     ensures opens { (C : ℕ) (cost : ℕ → ℕ) (s : Kept) → IsFresh C s
         → HasPaid C cost (potential C cost s.in_use.block.k s.book.grid) s }
-    ensures new { (C : ℕ) (cost : ℕ → ℕ) (s : Kept) (file now : List ℕ) → IsFresh C s → IsOpened C file now s
-        → Opens C SIZE_MAX file fin.empty empty_book → HasPaid C cost 0 s }
+    ensures new { (C : ℕ) (cost : ℕ → ℕ) (k names : ℕ) (s : Kept) (file now : List ℕ)
+        → HasFirstTable k names file → IsFresh C s → IsOpened C file now s → HasPaid C cost 0 s }
     ensures call { (C : ℕ) (cost : ℕ → ℕ) (first : ℕ) (old new : Kept) → IsCost C cost
         → IsCall D.state C old new → HasPaid C cost first old → HasPaid C cost first new }
     ensures quiet { (C : ℕ) (cost : ℕ → ℕ) (first : ℕ) (c : Change) (old new : Kept) (before now : D)
@@ -86,6 +84,10 @@ pub fn a_session_of_a_store_is_paid_for<D: Disk>()
     ensures session { (C : ℕ) (cost : ℕ → ℕ) (s : Kept) (between : List Kept) (t : Kept) → IsCost C cost
         → IsFresh C s → Session D.state C s between t
         → HasPaid C cost (potential C cost s.in_use.block.k s.book.grid) t }
+    ensures formatted { (C : ℕ) (cost : ℕ → ℕ) (k names : ℕ) (s : Kept) (file now : List ℕ)
+        (between : List Kept) (t : Kept) → IsCost C cost → HasFirstTable k names file → IsFresh C s
+        → IsOpened C file now s → Session D.state C s between t
+        → weigh C cost t.moved ≤ factor t.in_use.block.k * weigh C cost t.asked }
     ensures books { (C : ℕ) (cost : ℕ → ℕ) (first : ℕ) (s : Kept) (file : List ℕ) → IsCost C cost
         → IsStore C s → IsOver C s file → HasPaid C cost first s
         → IsPaidFor C s.in_use.block.k cost first (now_map s file) (kept_map s file) s.book s.kept_book

@@ -1,5 +1,5 @@
 use Rattle.store_costs.proofs.ChangeLaws.{quiet_has_paid}
-use Rattle.store_costs.proofs.SessionLaws.{both_books_paid, call_has_paid, formatted_has_paid, in_all, opened_again, opened_has_paid, session_pays, sessions_add}
+use Rattle.store_costs.proofs.SessionLaws.{both_books_paid, call_has_paid, formatted_has_paid, formatted_pays, in_all, opened_again, opened_has_paid, session_pays, sessions_add}
 use Rattle.store_costs.proofs.laws.a_session_of_a_store_is_paid_for.Goals as goal
 
 pub returns-clause-opens : goal.returns-clause-opens
@@ -30,3 +30,7 @@ returns-clause-later g c = sessions_add
 
 pub returns-clause-again : goal.returns-clause-again
 returns-clause-again g c = opened_again
+
+pub returns-clause-formatted : goal.returns-clause-formatted
+returns-clause-formatted g c C cost k names s file now between t is =
+    formatted_pays g.D.Disk.state C cost is k names s file now between t
