@@ -1,11 +1,11 @@
 //! The calls that change a store, with what their moves are paid for. Each does what the store's own does.
-ghost use Rattle.std.specs.Prelude.{◌≡◌, ℕ, false, IsTrue, OnErr, OnOk, length};
+ghost use Rattle.std.specs.Prelude.{◌≡◌, ◌↔◌, ℕ, true, false, IsErr, IsTrue, OnErr, OnOk, length};
 ghost use Rattle.size_class.specs.Classes.{width};
 ghost use Rattle.move_cost.specs.Costs.{IsCost};
 ghost use Rattle.store_core.specs.Answers.{is_disk_fault};
 ghost use Rattle.store_core.specs.Connection.{IsConnected};
 ghost use Rattle.store_core.specs.Quiet.{del_of, put_of};
-ghost use Rattle.store_costs.specs.Calls.{GoesBack, IsCounted, IsKeep, IsSound};
+ghost use Rattle.store_costs.specs.Calls.{GoesBack, IsChange, IsCounted, IsKeep, IsSound};
 ghost use Rattle.store_costs.specs.Paid.{HasOpenLedger, HasPaid, MovesNothing, Pays};
 
 use disk_face::Disk;
@@ -20,6 +20,8 @@ pub fn paid_put<const C: usize, D: Disk>(
 ) -> Result<Done, Refusal>
     requires ready { IsTrue (D.state disk.old).is_ready }
     requires over { IsConnected C store.old (D.state disk.old) }
+    ensures call { IsChange C (put_of name.now bytes.now) store.old store.new (D.state disk.old)
+        (D.state disk.new) result }
     ensures counted { is_disk_fault result ≡ false → HasOpenLedger store.new
         → IsCounted C (put_of name.now bytes.now) store.old store.new (D.state disk.old)
         (D.state disk.new) result }
@@ -29,7 +31,6 @@ pub fn paid_put<const C: usize, D: Disk>(
     ensures session { is_disk_fault result ≡ false → HasOpenLedger store.new
         → IsTrue (D.state disk.old).tells → (cost : ℕ → ℕ) (first : ℕ) → IsCost C cost
         → HasPaid C cost first store.old → HasPaid C cost first store.new }
-    ensures over { IsConnected C store.new (D.state disk.new) }
 {
     is_known(store);
     store.put(disk, name, bytes)
@@ -43,6 +44,8 @@ pub fn paid_del<const C: usize, D: Disk>(
 ) -> Result<Done, Refusal>
     requires ready { IsTrue (D.state disk.old).is_ready }
     requires over { IsConnected C store.old (D.state disk.old) }
+    ensures call { IsChange C (del_of name.now) store.old store.new (D.state disk.old) (D.state disk.new)
+        result }
     ensures counted { is_disk_fault result ≡ false → HasOpenLedger store.new
         → IsCounted C (del_of name.now) store.old store.new (D.state disk.old) (D.state disk.new) result }
     ensures paid { is_disk_fault result ≡ false → HasOpenLedger store.new
@@ -51,7 +54,6 @@ pub fn paid_del<const C: usize, D: Disk>(
     ensures session { is_disk_fault result ≡ false → HasOpenLedger store.new
         → IsTrue (D.state disk.old).tells → (cost : ℕ → ℕ) (first : ℕ) → IsCost C cost
         → HasPaid C cost first store.old → HasPaid C cost first store.new }
-    ensures over { IsConnected C store.new (D.state disk.new) }
 {
     is_known(store);
     store.del(disk, name)
@@ -75,6 +77,7 @@ pub fn paid_keep<const C: usize, D: Disk>(
 
 /// Goes back to the last checkpoint.
 pub fn paid_back<const C: usize>(store: &mut Store<C>) -> Result<(), Refusal>
+    ensures answer { IsErr result ↔ (store.old.is_broken ≡ true) }
     ensures back { OnOk result (GoesBack C store.old store.new) }
     ensures unchanged { OnErr result (store.new ≡ store.old) }
     ensures paid { (cost : ℕ → ℕ) → Pays C cost store.old store.new }
