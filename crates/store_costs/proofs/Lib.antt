@@ -1,0 +1,7 @@
+pub mod AskedLaws
+pub mod WeighedLaws
+pub mod MadeLaws
+pub mod ChangeLaws
+pub mod OtherLaws
+pub mod SessionLaws
+pub mod CallLaws

@@ -1,0 +1,88 @@
+-- What the contracts of the calls that change a store say of it and of the disk, before and after.
+use Rattle.std.specs.Prelude.{◌≡◌, ◌⊎◌, ℕ, true, false, ◌||◌, List, [], ◌∷◌, length, Result, IsNone, IsSome, IsTrue}
+use Rattle.disk_face.specs.States as disk
+use Rattle.size_class.specs.Classes.{width}
+use Rattle.store_terms.specs.Requests as ask
+use Rattle.store_terms.specs.Requests.{Change}
+use Rattle.segment_layout.specs.Books.{is_quiet}
+use Rattle.store_core.specs.declared.answers.Refusal.{Refusal}
+use Rattle.store_core.specs.declared.answers.Done.{Done}
+use Rattle.store_core.specs.Answers.{AnswersChange, is_disk_fault, refused_by}
+use Rattle.store_core.specs.Changes.{IsQuietChange, NothingChanged}
+use Rattle.store_core.specs.Connection.{IsConnected, Kept}
+use Rattle.store_core.specs.Flushes.{IsFlush}
+use Rattle.store_core.specs.Keeps.{AnswersKeep, KeepsNow}
+use Rattle.store_core.specs.Quiet.{charges_of}
+use Rattle.store_core.specs.Stores.{IsStore}
+use Rattle.store_costs.specs.Paid.{HasOpenLedger}
+
+-- a store is sound unless it is broken
+abbrev pub IsSound : ℕ → Kept → Type 0
+IsSound classes s = s.is_broken ≡ false → IsStore classes s
+
+-- What a put or a removal says of a store and a disk.
+pub record IsChange (classes : ℕ) (c : Change) (old new : Kept) (before now : disk.State)
+    (result : Result Done Refusal) : Type 0 where
+  pub answer : AnswersChange (is_quiet (charges_of old c)) (refused_by old (ask.change c)) result
+  pub refused : IsSome (refused_by old (ask.change c)) → NothingChanged old new before now
+  pub quiet : IsNone (refused_by old (ask.change c)) → is_quiet (charges_of old c) ≡ true
+      → IsQuietChange classes c old new before now result
+  pub flush : IsNone (refused_by old (ask.change c)) → is_quiet (charges_of old c) ≡ false
+      → IsFlush classes c old new before now result
+  pub over : IsConnected classes new now
+  pub broken : new.is_broken ≡ (old.is_broken || is_disk_fault result)
+
+-- A put or a removal of a sound store in which the disk didn't fail, and which the ledger counts: it has a
+-- number for each class, and none stands at its last value.
+pub record IsCounted (classes : ℕ) (c : Change) (old new : Kept) (before now : disk.State)
+    (result : Result Done Refusal) : Type 0 where
+  pub call : IsChange classes c old new before now result
+  pub fine : is_disk_fault result ≡ false
+  pub sound : IsSound classes old
+  pub full : length old.asked ≡ width
+  pub counts : HasOpenLedger new
+
+-- What a keep says of them.
+pub record IsKeep (classes : ℕ) (old new : Kept) (before now : disk.State)
+    (result : Result Done Refusal) : Type 0 where
+  pub answer : AnswersKeep (refused_by old ask.keep) result
+  pub refused : IsSome (refused_by old ask.keep) → NothingChanged old new before now
+  pub kept : IsNone (refused_by old ask.keep) → KeepsNow classes old new before now result
+
+-- what going back makes of a store
+abbrev pub gone_back : Kept → Kept
+gone_back s = record s { now = s.kept; book = s.kept_book }
+
+-- ---- sessions, of a store with disks that each have a state
+
+-- a put or a removal, over a file that the disk tells
+pub record Changes {D : Type 0} (state : D → disk.State) (classes : ℕ) (old new : Kept) : Type 0 where
+  pub c : Change
+  pub before : D
+  pub now : D
+  pub result : Result Done Refusal
+  pub counted : IsCounted classes c old new (state before) (state now) result
+  pub over : IsConnected classes old (state before)
+  pub told : IsTrue (state before).tells
+
+-- a keep
+pub record Keeps {D : Type 0} (state : D → disk.State) (classes : ℕ) (old new : Kept) : Type 0 where
+  pub before : D
+  pub now : D
+  pub result : Result Done Refusal
+  pub call : IsKeep classes old new (state before) (state now) result
+
+-- going back, by a sound store
+pub record GoesBack (classes : ℕ) (old new : Kept) : Type 0 where
+  pub store : IsStore classes old
+  pub back : new ≡ gone_back old
+
+-- a call of a store: a put or a removal, a keep, going back, or one that leaves the store
+abbrev pub IsCall : {D : Type 0} → (D → disk.State) → ℕ → Kept → Kept → Type 0
+IsCall state classes old new = Changes state classes old new ⊎ Keeps state classes old new
+    ⊎ GoesBack classes old new ⊎ (new ≡ old)
+
+-- one call after another, with the store after each
+abbrev pub Session : {D : Type 0} → (D → disk.State) → ℕ → Kept → List Kept → Kept → Type 0
+Session state classes s [] t = t ≡ s
+Session state classes s (mid ∷ rest) t = IsCall state classes s mid × Session state classes mid rest t
