@@ -1,5 +1,5 @@
--- How a layer answers where it stops before it puts any byte, that there is one answer, and which status comes
--- of it.
+-- How a layer answers where it stops before it puts any byte, that there is one answer, and which status
+-- comes of it.
 use Rattle.std.specs.Prelude.{◌≡◌, ◌≢◌, ◌⊎◌, ℕ, List, [], length, Result, Ok, Err, OnErr, IsTrue, refl}
 use Rattle.std.proofs.Common.{arith, ap, sym, ◌∙◌, subst, inl, inr, append-nil}
 use Rattle.std.specs.FinMap as fin
@@ -63,7 +63,8 @@ put_answer answer bytes old new end is only puts = record {
 
 -- what stops one command as it is to stops another that answers more
 pub stops_more : (answer other : Result (List ℕ) Stop → Type 0)
-    → ((a : Result (List ℕ) Stop) → answer a → other a) → (why : Stop) → StopsAs answer why → StopsAs other why
+    → ((a : Result (List ℕ) Stop) → answer a → other a) → (why : Stop) → StopsAs answer why
+    → StopsAs other why
 stops_more answer other more stop.Disk is = tt
 stops_more answer other more stop.NoMemory is = tt
 stops_more answer other more stop.Sink is = more (Err stop.Sink) is
@@ -86,7 +87,8 @@ one_refusal file (store.Table x) (store.Table y) h k =
     let same : h.table ≡ k.table = from_ok h.table k.table (sym h.read ∙ k.read) in
     let first : FirstBroken (placed_table CLASSES SIZE_MAX file h.table) y.rule
     y.at = subst (λ t. FirstBroken (placed_table CLASSES SIZE_MAX file t) y.rule y.at) (sym same) k.first in
-    let one = first_is_one (placed_table CLASSES SIZE_MAX file h.table) x.rule x.at y.rule y.at h.first first in
+    let one =
+    first_is_one (placed_table CLASSES SIZE_MAX file h.table) x.rule x.at y.rule y.at h.first first in
     let rule = one.0 in
     let at = one.1 in
     λ i. store.Table (record { rule = rule i; at = at i })

@@ -78,6 +78,6 @@ module _ (classes most : ℕ) (t : choice.Table) (file : List ℕ) (m : Map) (b 
       ∙ length-map t.records (entry_of (head_len t.chosen.block.names) file)
 
   pub bytes_counted : volume m ≡ size_sum t.records
-  bytes_counted = ap (λ (es : List (List ℕ × List ℕ)). sum_by length (map (λ (e : List ℕ × List ℕ). e.1) es)) entries
-      ∙ sizes_are (head_len t.chosen.block.names) file t.records
-      (record_within classes most t file m b o)
+  bytes_counted =
+      ap (λ (es : List (List ℕ × List ℕ)). sum_by length (map (λ (e : List ℕ × List ℕ). e.1) es)) entries
+      ∙ sizes_are (head_len t.chosen.block.names) file t.records (record_within classes most t file m b o)
