@@ -9,7 +9,7 @@ use Rattle.slot_codec.proofs.StepLaws.{from_ok}
 use Rattle.slot_codec.specs.Choice as choice
 use Rattle.store_terms.specs.Maps.{Map}
 use Rattle.segment_layout.specs.Books.{Book}
-use Rattle.table_rules.specs.Opening.{Opens, placed_table}
+use Rattle.table_rules.specs.Opening.{Opens, OpensBy, placed_table}
 use Rattle.slot_codec.specs.Spelling.{head_len}
 use Rattle.table_rules.specs.Tables as tables
 use Rattle.table_rules.specs.Rules.{FirstBroken}
@@ -63,7 +63,8 @@ put_answer answer bytes old new end is only puts = record {
 
 -- what stops one command as it is to stops another that answers more
 pub stops_more : (answer other : Result (List ℕ) Stop → Type 0)
-    → ((a : Result (List ℕ) Stop) → answer a → other a) → (why : Stop) → StopsAs answer why → StopsAs other why
+    → ((a : Result (List ℕ) Stop) → answer a → other a) → (why : Stop) → StopsAs answer why
+    → StopsAs other why
 stops_more answer other more stop.Disk is = tt
 stops_more answer other more stop.NoMemory is = tt
 stops_more answer other more stop.Sink is = more (Err stop.Sink) is
@@ -153,6 +154,19 @@ pub given_answer : (at name file : List ℕ) (m : Map) (b : Book) → Opens CLAS
     → IsAnswer (get at name) file (or_missing (fin.get m name))
 unfolding IsAnswer
 given_answer at name file m b opens = inl (record { map = m; book = b; opens = opens; same = refl })
+
+-- a text of the table by which the file opens is the answer of the command that puts it
+pub checked_answer : (at file : List ℕ) (t : choice.Table) (m : Map) (b : Book)
+    → OpensBy CLASSES SIZE_MAX t file m b → IsAnswer (check at) file (Ok (check_text t (length file)))
+unfolding IsAnswer
+checked_answer at file t m b opens =
+    inl (record { table = t; map = m; book = b; opens = opens; same = refl })
+
+pub mapped_answer : (at file : List ℕ) (t : choice.Table) (m : Map) (b : Book)
+    → OpensBy CLASSES SIZE_MAX t file m b → IsAnswer (map_of at) file (Ok (map_text t))
+unfolding IsAnswer
+mapped_answer at file t m b opens =
+    inl (record { table = t; map = m; book = b; opens = opens; same = refl })
 
 -- ---- the status
 

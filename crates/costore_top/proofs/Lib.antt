@@ -6,3 +6,4 @@ mod Formatting
 mod WordLists
 mod TextLaws
 mod GatherLaws
+mod MapLaws

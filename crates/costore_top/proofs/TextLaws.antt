@@ -34,7 +34,8 @@ pub check_line : (t : choice.Table) (len count bytes data_len : ℕ) (a b c d : 
     → d ≡ c ++ kind_text t.chosen.header.kind → d ≡ check_text t len
 check_line t len count bytes data_len a b c d same_count same_bytes same_data first second third last =
     joined (codes "store") (numbered t.chosen.block.k) (numbered t.chosen.block.names)
-    (numbered (length t.records)) (numbered (size_sum t.records)) (numbered (data_of t len)) (numbered t.chosen.header.sequence)
+    (numbered (length t.records)) (numbered (size_sum t.records)) (numbered (data_of t len))
+    (numbered t.chosen.header.sequence)
     (kind_text t.chosen.header.kind) a b c d first
     (second
     ∙ ap (λ n. a ++ numbered t.chosen.block.k ++ numbered t.chosen.block.names ++ numbered n) same_count)

@@ -1,26 +1,42 @@
 //! What holds of the answers, as contracts of functions that do nothing.
-ghost use Rattle.std.specs.Prelude.{◌≡◌, ◌⊎◌, List, ℕ, Option, Result, codes};
+ghost use Rattle.std.specs.Prelude.{◌≡◌, ◌⊎◌, List, ℕ, Ok, Option, Result, codes, length};
 ghost use Rattle.std.specs.FinMap as fin;
 ghost use Rattle.disk_face.specs.Streams.{SinkState};
+ghost use Rattle.slot_codec.specs.Choice as choice;
 ghost use Rattle.segment_layout.specs.Books.{Book};
-ghost use Rattle.store_terms.specs.Maps.{Map};
-ghost use Rattle.table_rules.specs.Opening.{Opens};
+ghost use Rattle.store_terms.specs.Maps.{Map, volume};
+ghost use Rattle.table_rules.specs.Opening.{Opens, OpensBy};
+ghost use Rattle.table_rules.specs.Tables.{size_sum};
 ghost use Rattle.costore_top.specs.Getting.{or_missing};
 ghost use Rattle.costore_top.specs.Outcomes.{Ends, IsAnswer, status_at};
 ghost use Rattle.costore_top.specs.Texts.{check_text, map_text};
-ghost use Rattle.costore_top.specs.Words.{Command, get};
+ghost use Rattle.costore_top.specs.Words.{Command, check, get, map_of};
 ghost use Rattle.costore_top.specs.Worked.{hello, moved_up};
 
 use crate::Stop;
 use size_class::{CLASSES, SIZE_MAX};
 
 /// There is one answer of a command to the bytes of a file. Of `get` of a file that opens it is what
-/// the file's map gives to the name.
+/// the file's map gives to the name; of `check` and `map` it is their text of the table by which it
+/// opens.
 pub fn one_answer()
     ensures one { (c : Command) (file : List ℕ) (answer other : Result (List ℕ) Stop) → IsAnswer c file answer
         → IsAnswer c file other → answer ≡ other }
     ensures given { (at name file : List ℕ) (m : Map) (b : Book) → Opens CLASSES SIZE_MAX file m b
         → IsAnswer (get at name) file (or_missing (fin.get m name)) }
+    ensures checked { (at file : List ℕ) (t : choice.Table) (m : Map) (b : Book)
+        → OpensBy CLASSES SIZE_MAX t file m b → IsAnswer (check at) file (Ok (check_text t (length file))) }
+    ensures mapped { (at file : List ℕ) (t : choice.Table) (m : Map) (b : Book)
+        → OpensBy CLASSES SIZE_MAX t file m b → IsAnswer (map_of at) file (Ok (map_text t)) }
+{}
+
+/// The table by which a file opens has a record for each name of the map for which the file stands,
+/// and their sizes together are the map's bytes. So `check` tells how many names and bytes there are.
+pub fn told_of_the_map()
+    ensures names { (t : choice.Table) (file : List ℕ) (m : Map) (b : Book)
+        → OpensBy CLASSES SIZE_MAX t file m b → length t.records ≡ fin.len m }
+    ensures bytes { (t : choice.Table) (file : List ℕ) (m : Map) (b : Book)
+        → OpensBy CLASSES SIZE_MAX t file m b → size_sum t.records ≡ volume m }
 {}
 
 /// What `check` and `map` put of two small files with k = 9: one at rest, and one of 19,857 bytes in

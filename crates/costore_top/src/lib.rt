@@ -16,6 +16,6 @@ mod stop;
 mod top;
 mod words;
 
-pub use laws::{ends_by_the_answer, one_answer, worked_texts};
+pub use laws::{ends_by_the_answer, one_answer, told_of_the_map, worked_texts};
 pub use stop::{Stop, StoreFault};
 pub use top::{Outcome, costore};

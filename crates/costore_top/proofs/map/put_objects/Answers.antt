@@ -9,7 +9,8 @@ pub returns-in_err-make_room-clause-gathered : goal.returns-in_err-make_room-cla
 returns-in_err-make_room-clause-gathered g c = λ told.
     let there : IsTrue (g.O.Sink.state c.names.output).tells = grind (arith, c.names.invariant.told) in
     let all = line_stopped object_line (records_of c.args.table.now.now) c.names.n
-    c.in_err-make_room.field-0.0 (c.names.invariant.so_far told) (c.in_err-make_room.ensures.gathered there) in
+    c.in_err-make_room.field-0.0 (c.names.invariant.so_far told)
+    (c.in_err-make_room.ensures.gathered there) in
     search rules
 
 pub names-preserved : goal.names-preserved
