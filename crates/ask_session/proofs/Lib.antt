@@ -1,0 +1,10 @@
+mod AheadLemmas
+mod AnswerLaws
+mod BodyLemmas
+mod KindLaws
+mod LineLemmas
+mod PutLaws
+mod ReplyLaws
+mod RequestLemmas
+mod RunLaws
+mod ServingLaws

@@ -1,0 +1,25 @@
+use Rattle.std.proofs.Common.{sym, subst}
+use Rattle.std.specs.Prelude.{Result}
+use Rattle.store_core.specs.Quiet.{del_of}
+use Rattle.store_terms.specs.Requests as ask
+use Rattle.ask_text.specs.declared.reply.Reply.{Reply}
+use Rattle.ask_session.specs.declared.ends.End.{End}
+use Rattle.ask_session.specs.Heads.{Answers}
+use Rattle.ask_session.proofs.AnswerLaws.{change_answers}
+use Rattle.ask_session.proofs.changes.serve_del.Goals as goal
+
+pub returns : goal.returns
+returns g c = subst (λ (x : Result Reply End). Answers g.row.C (ask.change (del_of c.args.name.now))
+    c.args.store.now c.del.new.self (g.D.Disk.state c.args.disk.now) (g.D.Disk.state c.del.new.disk) x)
+    (sym c.answer_change.ensures)
+    (change_answers c.args.store.now c.del.new.self (del_of c.args.name.now)
+    (g.D.Disk.state c.args.disk.now) (g.D.Disk.state c.del.new.disk) c.del.result
+    (record {
+      whole = c.requires.whole;
+      sound = c.requires.sound;
+      over = c.requires.over c.requires.whole;
+      ready = c.requires.ready;
+      fits = (g.met.D.Disk.lawful c.args.disk.now).turn_fits;
+    })
+    c.del.ensures.answer c.del.ensures.refused c.del.ensures.quiet c.del.ensures.flush c.del.ensures.step
+    c.del.ensures.over c.del.ensures.broken)

@@ -1,0 +1,23 @@
+use Rattle.std.proofs.Common.{sym, subst}
+use Rattle.std.specs.Prelude.{Result}
+use Rattle.store_terms.specs.Requests as ask
+use Rattle.ask_text.specs.declared.reply.Reply.{Reply}
+use Rattle.ask_session.specs.declared.ends.End.{End}
+use Rattle.ask_session.specs.Heads.{Answers}
+use Rattle.ask_session.proofs.AnswerLaws.{keep_answers}
+use Rattle.ask_session.proofs.changes.serve_keep.Goals as goal
+
+pub returns : goal.returns
+returns g c = subst (λ (x : Result Reply End). Answers g.row.C ask.keep
+    c.args.store.now c.keep.new.self (g.D.Disk.state c.args.disk.now) (g.D.Disk.state c.keep.new.disk) x)
+    (sym c.answer_change.ensures)
+    (keep_answers c.args.store.now c.keep.new.self
+    (g.D.Disk.state c.args.disk.now) (g.D.Disk.state c.keep.new.disk) c.keep.result
+    (record {
+      whole = c.requires.whole;
+      sound = c.requires.sound;
+      over = c.requires.over c.requires.whole;
+      ready = c.requires.ready;
+      fits = (g.met.D.Disk.lawful c.args.disk.now).turn_fits;
+    })
+    c.keep.ensures.answer c.keep.ensures.refused c.keep.ensures.kept c.keep.ensures.step c.keep.ensures.over c.keep.ensures.broken)

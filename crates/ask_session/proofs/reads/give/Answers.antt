@@ -1,0 +1,35 @@
+use Rattle.std.proofs.Common.{◌++◌, ◌∷◌, [], Err, arith, ap, sym, subst, ◌∙◌}
+use Rattle.std.specs.Prelude.{Bool, IsTrue}
+use Rattle.ask_session.specs.Serving.{HasDiskCause, HasSinkCause, IsServingFault}
+use Rattle.ask_session.specs.declared.ends.End.{End}
+use Rattle.ask_session.proofs.AnswerLaws.{none_is}
+use Rattle.ask_session.proofs.PutLaws.{puts_front, puts_then}
+use Rattle.ask_session.proofs.ReplyLaws.{fault_disk, fault_serving, fault_sink}
+use Rattle.ask_session.proofs.reads.give.Goals as goal
+
+pub returns-in-Ok-clause-puts : goal.returns-in-Ok-clause-puts
+returns-in-Ok-clause-puts g c told sink =
+    let first = ((c.in-Ok.ensures.gives sink).front (none_is _ c.requires.served) told).all in
+    let still : IsTrue (g.O.Sink.state c.get.new.sink).tells = grind (arith, c.in-Ok.ensures.sink_cause.told) in
+    puts_then _ (10 ∷ []) _ _ _ c.put_end.result (λ fault none. absurd (cc)) first (c.put_end.ensures.put still)
+
+pub returns-in-Err : goal.returns-in-Err
+returns-in-Err g c =
+    let answer = c.in-Err.ensures.answer in
+    let served = c.requires.served in
+    record {
+      puts = λ told sink. puts_front _ _ _ c.in-Err.why c.fault_of.result
+          ((c.in-Err.ensures.gives sink).front (none_is _ served) told);
+      kept = tt;
+      only = subst IsServingFault (sym c.fault_of.ensures) (fault_serving _ _ c.in-Err.why served answer);
+      store = c.in-Err.ensures.store;
+      frame = c.in-Err.ensures.frame;
+      disk_cause = subst (λ (x : End). HasDiskCause {T = Bool} (g.D.Disk.state c.args.disk.now).faults
+          (g.D.Disk.state c.get.new.disk).faults (Err x)) (sym c.fault_of.ensures)
+          (fault_disk _ _ c.in-Err.why served answer (g.D.Disk.state c.args.disk.now) (g.D.Disk.state c.get.new.disk)
+          c.in-Err.ensures.disk_cause c.in-Err.ensures.frame.later);
+      sink_cause = subst (λ (x : End). HasSinkCause {T = Bool} (g.O.Sink.state c.args.output.now)
+          (g.O.Sink.state c.get.new.sink) (Err x)) (sym c.fault_of.ensures)
+          (fault_sink _ _ c.in-Err.why served answer (g.O.Sink.state c.args.output.now)
+          (g.O.Sink.state c.get.new.sink) c.in-Err.ensures.sink_cause);
+    }

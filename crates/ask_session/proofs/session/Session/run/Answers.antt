@@ -1,0 +1,60 @@
+use Rattle.std.proofs.Common.{arith, refl, false, true, ap, sym, ◌∙◌}
+use Rattle.ask_session.specs.Turns.{is_ended}
+use Rattle.ask_session.proofs.RunLaws.{has_run_more, has_run_none, last_turn_of, not_budget}
+use Rattle.ask_session.proofs.session.Session.run.Goals as goal
+
+pub turns-init : goal.turns-init
+turns-init g c = record {
+  few = omega arith;
+  fresh = c.requires.fresh;
+  ran = has_run_none c.args.self.now (g.D.Disk.state c.args.disk.now) (g.I.Source.state c.args.input.now)
+      (g.O.Sink.state c.args.output.now) c.requires.whole c.requires.over c.requires.ready c.is_sound.ensures.count;
+}
+
+pub turns-preserved : goal.turns-preserved
+turns-preserved g c = record {
+  few = omega arith;
+  fresh = grind (arith, c.in-Answered.ensures.ended);
+  ran = has_run_more c.args.self.now (g.D.Disk.state c.args.disk.now) (g.I.Source.state c.args.input.now)
+      (g.O.Sink.state c.args.output.now) c.turns.n c.turns.self (g.D.Disk.state c.turns.disk)
+      (g.I.Source.state c.turns.input) (g.O.Sink.state c.turns.output) c.one.new.self
+      (g.D.Disk.state c.one.new.disk) (g.I.Source.state c.one.new.input) (g.O.Sink.state c.one.new.output)
+      c.turns.invariant.ran c.in-Answered.ensures.turn c.in-Answered.ensures.told
+      (c.in-Answered.ensures.cause.calm refl) (g.met.D.Disk.lawful c.one.new.disk) c.is_sound-in-Answered.ensures.store;
+}
+
+pub returns-in-Ended : goal.returns-in-Ended
+returns-in-Ended g c = record {
+  sitting = c.turns.self;
+  mid_disk = c.turns.disk;
+  mid_source = c.turns.input;
+  mid_sink = c.turns.output;
+  n = c.turns.n;
+  ran = c.turns.invariant.ran;
+  few = omega arith;
+  last_turn = last_turn_of g.row.C c.turns.n c.turns.self c.one.new.self (g.D.Disk.state c.turns.disk)
+      (g.D.Disk.state c.one.new.disk) (g.I.Source.state c.turns.input) (g.I.Source.state c.one.new.input)
+      (g.O.Sink.state c.turns.output) (g.O.Sink.state c.one.new.output) c.in-Ended.end c.in-Ended.ensures.turn;
+  same_disk = c.in-Ended.ensures.same_disk;
+  same_sink = c.in-Ended.ensures.same_sink;
+  ended = c.in-Ended.ensures.ended ∙ not_budget g.row.C c.turns.self c.one.new.self (g.D.Disk.state c.turns.disk)
+      (g.D.Disk.state c.one.new.disk) (g.I.Source.state c.turns.input) (g.I.Source.state c.one.new.input)
+      (g.O.Sink.state c.turns.output) (g.O.Sink.state c.one.new.output) c.in-Ended.end c.in-Ended.ensures.turn;
+  cause = c.in-Ended.ensures.cause;
+}
+
+pub returns : goal.returns
+returns g c = record {
+  sitting = c.turns.self;
+  mid_disk = c.turns.disk;
+  mid_source = c.turns.input;
+  mid_sink = c.turns.output;
+  n = c.turns.n;
+  ran = c.turns.invariant.ran;
+  few = c.turns.invariant.few;
+  last_turn = (omega arith, refl);
+  same_disk = λ is. refl;
+  same_sink = λ is. refl;
+  ended = c.turns.invariant.fresh;
+  cause = record { later = omega arith; rose = λ is. absurd (cc); calm = λ is. refl };
+}

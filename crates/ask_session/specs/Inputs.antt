@@ -1,0 +1,111 @@
+-- What is read of an input: bytes that were read ahead, and then what the source has left.
+use Rattle.std.specs.Prelude.{◌≡◌, ◌⊎◌, ℕ, ◌+◌, ◌≤◌, ◌<◌, Bool, true, false, List, [], ◌∷◌, ◌++◌, length, take, drop, Option, Some, None, Result, Ok, Err, IfOk, OnErr}
+use Rattle.std.specs.List.{AllByRecursion}
+use Rattle.disk_face.specs.Counts.{Rose}
+use Rattle.store_terms.specs.Requests.{Request}
+use Rattle.store_terms.specs.Requests as ask
+use Rattle.size_class.specs.declared.TheConstants.{SIZE_MAX}
+use Rattle.ask_text.specs.declared.ask.Ask.{Ask}
+use Rattle.ask_text.specs.declared.ask.Ask.TheVariants as line
+use Rattle.ask_text.specs.Asks.{ask_of}
+use Rattle.ask_text.specs.Inputs.{HasText, request_text}
+use Rattle.ask_session.specs.declared.ends.End.{End}
+use Rattle.ask_session.specs.declared.ends.End.TheVariants as ends
+
+-- ---- bytes
+
+-- the bytes of one byte, or of none
+abbrev pub byte_of : Option ℕ → List ℕ
+byte_of None = []
+byte_of (Some b) = b ∷ []
+
+-- The first byte was taken, or none where nothing was left.
+pub record TakesByte {E : Type 0} (before now : List ℕ) (result : Result (Option ℕ) E) : Type 0 where
+  pub first : IfOk result (λ b. before ≡ byte_of b ++ now)
+  pub ended : result ≡ Ok None → before ≡ []
+  pub none : OnErr result (now ≡ before)
+
+-- So many bytes were dropped, and at least one where there may be one and one was left.
+pub record Drops {E : Type 0} (most : ℕ) (before now : List ℕ) (result : Result ℕ E) : Type 0 where
+  pub within : IfOk result (λ n. n ≤ length before)
+  pub rest : IfOk result (λ n. now ≡ drop n before)
+  pub ended : IfOk result (λ n. 0 < most → n ≡ 0 → before ≡ [])
+
+-- a newline, where one was found
+abbrev pub newline_if : Bool → List ℕ
+newline_if false = []
+newline_if true = 10 ∷ []
+
+-- the byte doesn't stand in the list
+abbrev pub Lacks : ℕ → List ℕ → Type 0
+Lacks c xs = AllByRecursion (λ x. x ≡ c → ⊥) xs
+
+-- ---- requests
+
+-- how long the object is that follows a line
+abbrev pub size_asked : Ask → Option ℕ
+size_asked (line.Put name size) = Some size
+size_asked (line.Get name) = None
+size_asked (line.Old name) = None
+size_asked (line.Del name) = None
+size_asked line.Keep = None
+size_asked line.Back = None
+size_asked line.List = None
+size_asked line.Stat = None
+
+-- no object of so many bytes stands in front with a newline behind it
+abbrev pub LacksObject : ℕ → List ℕ → Type 0
+LacksObject size input = (object rest : List ℕ) → length object ≡ size → input ≡ object ++ 10 ∷ rest → ⊥
+
+-- An object of so many bytes stood in front, and stands in a buffer where that has room for it.
+pub record HoldsObject (told : Type 0) (input rest : List ℕ) (size : ℕ) (body : List ℕ) : Type 0 where
+  pub object : List ℕ
+  pub long : length object ≡ size
+  pub held : size ≤ SIZE_MAX → take size body ≡ object
+  pub whole : told → input ≡ object ++ rest
+
+-- the object of a put stands in the buffer, where it isn't too long
+abbrev pub HasBody : List ℕ → Request → Type 0
+HasBody body (ask.change c) = of c.object
+  where
+    of : Option (List ℕ) → Type 0
+    of None = Unit {0}
+    of (Some object) = length object ≤ SIZE_MAX → take (length object) body ≡ object
+HasBody body _ = Unit {0}
+
+-- A request stood in front of the input: it asks for this, and its object stands in the buffer.
+pub record IsRead (told : Type 0) (input rest : List ℕ) (a : Ask) (body : List ℕ) : Type 0 where
+  pub request : Request
+  pub text : HasText request
+  pub asked : ask_of request ≡ a
+  pub object : HasBody body request
+  pub whole : told → input ≡ request_text request ++ rest
+
+-- ---- ends
+
+-- an end that comes of the input alone
+abbrev pub IsInputFault : End → Type 0
+IsInputFault ends.End = Unit {0}
+IsInputFault ends.Line = Unit {0}
+IsInputFault ends.Source = Unit {0}
+IsInputFault ends.Disk = ⊥
+IsInputFault ends.Sink = ⊥
+IsInputFault ends.Budget = ⊥
+
+abbrev pub is_source : End → Bool
+is_source ends.Source = true
+is_source ends.End = false
+is_source ends.Line = false
+is_source ends.Disk = false
+is_source ends.Sink = false
+is_source ends.Budget = false
+
+abbrev pub is_source_fault : {T : Type 0} → Result T End → Bool
+is_source_fault (Ok x) = false
+is_source_fault (Err end) = is_source end
+
+-- a source's fault has its cause, and no other answer comes where a call of it failed
+pub record HasSourceCause {T : Type 0} (before now : ℕ) (result : Result T End) : Type 0 where
+  pub later : before ≤ now
+  pub rose : is_source_fault result ≡ true → Rose before now
+  pub calm : is_source_fault result ≡ false → now ≡ before

@@ -1,0 +1,155 @@
+-- A run of a session: requests that are answered one after another.
+use Rattle.std.specs.Prelude.{◌≡◌, ◌⊎◌, ℕ, ◌+◌, ◌-◌, ◌<◌, ◌≤◌, Bool, true, false, if◌then◌else◌, List, [], ◌∷◌, ◌++◌, length, flat_map, Result, Err, IsTrue}
+use Rattle.std.specs.List.{AllByRecursion}
+use Rattle.disk_face.specs.Counts.{counted, last}
+use Rattle.disk_face.specs.States as disk
+use Rattle.disk_face.specs.Streams.{SinkState, SourceState}
+use Rattle.disk_face.specs.Moments.{Leaves, LeftOnly}
+use Rattle.disk_face.specs.Writes.{KeepsDisk}
+use Rattle.size_class.specs.declared.TheConstants.{SIZE_MAX}
+use Rattle.store_terms.specs.Requests.{Reply, Request}
+use Rattle.segment_layout.specs.Bounds.{Loose}
+use Rattle.table_rules.specs.Opening.{Opens}
+use Rattle.store_core.specs.Connection.{IsConnected, Kept, RestsOnTable, base_of, limits_of, state_of}
+use Rattle.store_core.specs.States.{Chain, Limits, State}
+use Rattle.ask_text.specs.Inputs.{HasText, request_text}
+use Rattle.ask_text.specs.Replies.{reply_text}
+use Rattle.ask_session.specs.declared.ends.End.{End}
+use Rattle.ask_session.specs.declared.ends.End.TheVariants as ends
+use Rattle.ask_session.specs.declared.ends.Turn.TheVariants as turn
+use Rattle.ask_session.specs.Serving.{acknowledges, calls_of}
+use Rattle.ask_session.specs.Sittings.{Sitting, unread}
+use Rattle.ask_session.specs.Turns.{IsTurn, is_unserved}
+use Rattle.ask_session.specs.Inputs.{HasSourceCause}
+
+-- how many requests one run answers at most
+abbrev pub budget : ℕ
+budget = 4294967296
+
+-- ---- states one after another
+
+-- the last of the states, or the first where none follows
+abbrev pub last_state : State → List State → State
+last_state s [] = s
+last_state s (t ∷ states) = last_state t states
+
+-- two states that follow one another have this
+abbrev pub SomeStep : (State → State → Type 0) → State → List State → Type 0
+SomeStep P s [] = ⊥
+SomeStep P s (t ∷ states) = P s t ⊎ SomeStep P t states
+
+-- the number of the last request that was answered with a checkpoint, where so many were answered before
+abbrev pub last_kept : ℕ → ℕ → List Reply → ℕ
+last_kept done kept [] = kept
+last_kept done kept (reply ∷ replies) =
+    last_kept (counted done 1) (if acknowledges reply then counted done 1 else kept) replies
+
+-- the changing calls since the last checkpoint was acknowledged, by the state before each request
+abbrev pub calls_since : Limits → ℕ → State → List State → List Request → List Reply → ℕ
+calls_since limits calls s (t ∷ states) (r ∷ requests) (reply ∷ replies) =
+    calls_since limits (if acknowledges reply then 0 else calls + calls_of limits s r) t states requests replies
+calls_since limits calls s [] requests replies = calls
+calls_since limits calls s (t ∷ states) [] replies = calls
+calls_since limits calls s (t ∷ states) (r ∷ requests) [] = calls
+
+-- ---- images
+
+-- an image opens to the checkpoint of a state
+abbrev pub OpensToKept : ℕ → State → List ℕ → Type 0
+OpensToKept classes t image = Opens classes SIZE_MAX image t.kept t.kept_book
+
+-- an image that is left in the step from a state to the next: it opens to the checkpoint of one of them, and its data
+-- part is within bounds for both maps
+pub record IsStepImage (classes k base : ℕ) (image : List ℕ) (s t : State) : Type 0 where
+  pub opens : OpensToKept classes s image ⊎ OpensToKept classes t image
+  pub loose : Loose k (length image - base) s.map t.map
+
+-- an image that is left in one of the steps
+abbrev pub IsRunImage : ℕ → ℕ → ℕ → State → List State → List ℕ → Type 0
+IsRunImage classes k base s states image = SomeStep (IsStepImage classes k base image) s states
+
+-- ---- the run
+
+-- So many requests were answered one after another. Their texts stood in front of the unread input, each reply was put
+-- whole, and the states after them are a chain of steps. What a crash may leave meanwhile was left in one of them,
+-- where the disk rested on the checkpoint's table; it does so again. Since the last acknowledged checkpoint a crash
+-- leaves what opens to that alone, and the calls of the requests after it were made.
+pub record HasRun (classes : ℕ) (old new : Sitting) (before now : disk.State) (from rest : SourceState)
+    (out after : SinkState) (n : ℕ) : Type 0 where
+  pub requests : List Request
+  pub replies : List Reply
+  pub states : List State
+  pub count : length requests ≡ n
+  pub texts : AllByRecursion HasText requests
+  pub whole : IsTrue from.tells → unread old from ≡ flat_map request_text requests ++ unread new rest
+  pub chain : IsTrue before.tells → Chain (limits_of old.store) (state_of old.store before.file) requests
+      replies states
+  pub newest : IsTrue before.tells → state_of new.store now.file
+      ≡ last_state (state_of old.store before.file) states
+  pub puts : IsTrue before.tells → IsTrue out.tells → after.given ≡ out.given ++ flat_map reply_text replies
+  pub done : new.done ≡ counted old.done n
+  pub kept_done : IsTrue before.tells → new.kept_done ≡ last_kept old.done old.kept_done replies
+  pub block : new.store.in_use.block ≡ old.store.in_use.block
+  pub unbroken : new.store.is_broken ≡ false
+  pub over : IsConnected classes new.store now
+  pub rests : IsTrue before.tells → RestsOnTable (base_of old.store) old.store.kept before
+      → RestsOnTable (base_of new.store) new.store.kept now
+  pub left : IsTrue before.tells → RestsOnTable (base_of old.store) old.store.kept before
+      → Leaves before now (IsRunImage classes old.store.in_use.block.k (base_of old.store)
+      (state_of old.store before.file) states)
+  pub since : IsTrue before.tells → RestsOnTable (base_of old.store) old.store.kept before → now.turn < last
+      → old.kept_turn ≤ before.turn
+      → LeftOnly before old.kept_turn (OpensToKept classes (state_of old.store before.file))
+      → LeftOnly now new.kept_turn (OpensToKept classes (state_of new.store now.file))
+  pub kept_turn : old.kept_turn ≤ before.turn → new.kept_turn ≤ now.turn
+  pub calls : IsTrue before.tells → (m : ℕ) → before.turn ≡ counted old.kept_turn m
+      → now.turn ≡ counted new.kept_turn (calls_since (limits_of old.store) m
+      (state_of old.store before.file) states requests replies)
+  pub frame : KeepsDisk before now
+  pub source_told : rest.tells ≡ from.tells
+  pub source_calm : rest.faults ≡ from.faults
+  pub sink_told : after.tells ≡ out.tells
+  pub sink_calm : after.faults ≡ out.faults
+  pub disk_later : before.faults ≤ now.faults
+
+abbrev pub is_budget : End → Bool
+is_budget ends.Budget = true
+is_budget ends.End = false
+is_budget ends.Line = false
+is_budget ends.Disk = false
+is_budget ends.Source = false
+is_budget ends.Sink = false
+
+-- the last turn of a run, by its end
+abbrev pub IsLastTurn : ℕ → ℕ → Sitting → Sitting → disk.State → disk.State → SourceState → SourceState → SinkState
+    → SinkState → End → Type 0
+IsLastTurn classes n s new before now from rest out after ends.Budget = (n ≡ budget) × (new ≡ s)
+IsLastTurn classes n s new before now from rest out after ends.End =
+    IsTurn classes s new before now from rest out after (turn.Ended ends.End)
+IsLastTurn classes n s new before now from rest out after ends.Line =
+    IsTurn classes s new before now from rest out after (turn.Ended ends.Line)
+IsLastTurn classes n s new before now from rest out after ends.Disk =
+    IsTurn classes s new before now from rest out after (turn.Ended ends.Disk)
+IsLastTurn classes n s new before now from rest out after ends.Source =
+    IsTurn classes s new before now from rest out after (turn.Ended ends.Source)
+IsLastTurn classes n s new before now from rest out after ends.Sink =
+    IsTurn classes s new before now from rest out after (turn.Ended ends.Sink)
+
+-- A run and its end: after the last request that was answered one more turn ended the session, or as many were
+-- answered as may be. `mid` are the devices before that turn, which are those after it where no request was served.
+pub record EndsRun {D I O : Type 0} (disk_of : D → disk.State) (source_of : I → SourceState) (sink_of : O → SinkState)
+    (classes : ℕ) (old new : Sitting) (before now : D) (from rest : I) (out after : O) (end : End) : Type 0 where
+  pub sitting : Sitting
+  pub mid_disk : D
+  pub mid_source : I
+  pub mid_sink : O
+  pub n : ℕ
+  pub ran : HasRun classes old sitting (disk_of before) (disk_of mid_disk) (source_of from) (source_of mid_source)
+      (sink_of out) (sink_of mid_sink) n
+  pub few : n ≤ budget
+  pub last_turn : IsLastTurn classes n sitting new (disk_of mid_disk) (disk_of now) (source_of mid_source)
+      (source_of rest) (sink_of mid_sink) (sink_of after) end
+  pub same_disk : is_unserved (turn.Ended end) ≡ true → now ≡ mid_disk
+  pub same_sink : is_unserved (turn.Ended end) ≡ true → after ≡ mid_sink
+  pub ended : new.ended ≡ (if is_budget end then false else true)
+  pub cause : HasSourceCause {T = Unit {0}} (source_of mid_source).faults (source_of rest).faults (Err end)

@@ -1,0 +1,83 @@
+-- What one turn of a session does.
+use Rattle.std.specs.Prelude.{◌≡◌, ℕ, Bool, true, false, if◌then◌else◌, List, [], ◌++◌, Result, Ok, Err, IsTrue}
+use Rattle.disk_face.specs.Counts.{counted}
+use Rattle.disk_face.specs.States as disk
+use Rattle.disk_face.specs.Streams.{SinkState, SourceState}
+use Rattle.store_terms.specs.Requests.{Request}
+use Rattle.ask_text.specs.Inputs.{BeginsNone, HasText, request_text}
+use Rattle.ask_session.specs.declared.ends.End.{End}
+use Rattle.ask_session.specs.declared.ends.End.TheVariants as ends
+use Rattle.ask_session.specs.declared.ends.Turn.{Turn}
+use Rattle.ask_session.specs.declared.ends.Turn.TheVariants as turn
+use Rattle.ask_session.specs.Serving.{Replies}
+use Rattle.ask_session.specs.Sittings.{Sitting, unread}
+
+abbrev pub is_ended : Turn → Bool
+is_ended turn.Answered = false
+is_ended (turn.Ended end) = true
+
+-- an end, as an error
+abbrev pub result_of : Turn → Result (Unit {0}) End
+result_of turn.Answered = Ok tt
+result_of (turn.Ended end) = Err end
+
+-- the session ended before a request was served
+abbrev pub is_unserved : Turn → Bool
+is_unserved turn.Answered = false
+is_unserved (turn.Ended ends.End) = true
+is_unserved (turn.Ended ends.Line) = true
+is_unserved (turn.Ended ends.Source) = true
+is_unserved (turn.Ended ends.Disk) = false
+is_unserved (turn.Ended ends.Sink) = false
+is_unserved (turn.Ended ends.Budget) = true
+
+-- the counts stay
+pub record SameCounts (old new : Sitting) : Type 0 where
+  pub done : new.done ≡ old.done
+  pub kept_done : new.kept_done ≡ old.kept_done
+  pub kept_turn : new.kept_turn ≡ old.kept_turn
+
+-- A request stood in front of the unread input, and was served; its reply was put, or a front of it.
+pub record IsServed (classes : ℕ) (old new : Sitting) (before now : disk.State) (from rest : SourceState)
+    (out after : SinkState) (result : Result Bool End) : Type 0 where
+  pub request : Request
+  pub text : HasText request
+  pub whole : IsTrue from.tells → unread old from ≡ request_text request ++ unread new rest
+  pub replies : Replies classes request old.store new.store before now out after result
+
+-- The whole reply was put, and is counted. Where it acknowledges a checkpoint, that holds all requests so far, and
+-- its turn is the disk's now.
+pub record IsAnswered (classes : ℕ) (old new : Sitting) (before now : disk.State) (from rest : SourceState)
+    (out after : SinkState) : Type 0 where
+  pub kept : Bool
+  pub served : IsServed classes old new before now from rest out after (Ok kept)
+  pub done : new.done ≡ counted old.done 1
+  pub kept_done : new.kept_done ≡ (if kept then new.done else old.kept_done)
+  pub kept_turn : new.kept_turn ≡ (if kept then now.turn else old.kept_turn)
+
+-- a device failed while a request was served or its reply was put
+pub record IsStopped (classes : ℕ) (old new : Sitting) (before now : disk.State) (from rest : SourceState)
+    (out after : SinkState) (end : End) : Type 0 where
+  pub served : IsServed classes old new before now from rest out after (Err end)
+  pub counts : SameCounts old new
+
+-- no request was served
+pub record IsUnserved (old new : Sitting) : Type 0 where
+  pub store : new.store ≡ old.store
+  pub counts : SameCounts old new
+
+-- what a turn did, by its answer
+abbrev pub IsTurn : ℕ → Sitting → Sitting → disk.State → disk.State → SourceState → SourceState → SinkState
+    → SinkState → Turn → Type 0
+IsTurn classes old new before now from rest out after turn.Answered =
+    IsAnswered classes old new before now from rest out after
+IsTurn classes old new before now from rest out after (turn.Ended ends.Disk) =
+    IsStopped classes old new before now from rest out after ends.Disk
+IsTurn classes old new before now from rest out after (turn.Ended ends.Sink) =
+    IsStopped classes old new before now from rest out after ends.Sink
+IsTurn classes old new before now from rest out after (turn.Ended ends.Source) = IsUnserved old new
+IsTurn classes old new before now from rest out after (turn.Ended ends.End) =
+    IsUnserved old new × (IsTrue from.tells → unread old from ≡ [])
+IsTurn classes old new before now from rest out after (turn.Ended ends.Line) =
+    IsUnserved old new × (IsTrue from.tells → (unread old from ≡ [] → ⊥) × BeginsNone (unread old from))
+IsTurn classes old new before now from rest out after (turn.Ended ends.Budget) = ⊥

@@ -1,0 +1,115 @@
+//! Reading the object of a put, and its newline.
+ghost use Rattle.std.specs.Prelude.{◌≡◌, ◌≤◌, ◌<◌, ◌++◌, ◌∷◌, ℕ, List, false, true, length, drop, IfOk, IfErr, IsTrue, Err, Ok, OnOk};
+ghost use Rattle.disk_face.specs.Counts.{HasCause};
+ghost use Rattle.ask_session.specs.Inputs.{HasSourceCause, HoldsObject, IsInputFault, LacksObject};
+
+use crate::End;
+use crate::ahead::Ahead;
+use disk_face::{Source, SourceFault};
+use size_class::SIZE_MAX;
+
+/// Reads an object of so many bytes, and the newline behind it, into the front of `body`. One that is
+/// longer than `body` is read and dropped.
+pub(crate) fn read_object<I: Source>(
+    ahead: &mut Ahead,
+    input: &mut I,
+    size: u64,
+    body: &mut [u8],
+) -> Result<(), End>
+    requires room { length body.old ≡ SIZE_MAX }
+    ensures object { OnOk result (HoldsObject (IsTrue (I.state input.old).tells) (ahead.old ++ (I.state input.old).left)
+        (10 ∷ (ahead.new ++ (I.state input.new).left)) size body.new) }
+    ensures only { IfErr result IsInputFault }
+    ensures no_end { result ≡ Err End.End → ⊥ }
+    ensures none { IsTrue (I.state input.old).tells → result ≡ Err End.Line
+        → LacksObject size (ahead.old ++ (I.state input.old).left) }
+    ensures told { (I.state input.new).tells ≡ (I.state input.old).tells }
+    ensures cause { HasSourceCause (I.state input.old).faults (I.state input.new).faults result }
+{
+    match take_body(ahead, input, size, body) {
+        Ok(true) => read_newline(ahead, input),
+        Ok(false) => Err(End::Line),
+        Err(SourceFault) => Err(End::Source),
+    }
+}
+
+/// Takes so many bytes into the front of `body`, or drops them where it has no room for them; false
+/// where the input ends before.
+fn take_body<I: Source>(
+    ahead: &mut Ahead,
+    input: &mut I,
+    size: u64,
+    body: &mut [u8],
+) -> Result<bool, SourceFault>
+    requires room { length body.old ≡ SIZE_MAX }
+    ensures object { result ≡ Ok true → HoldsObject (IsTrue (I.state input.old).tells)
+        (ahead.old ++ (I.state input.old).left) (ahead.new ++ (I.state input.new).left) size body.new }
+    ensures ended { IsTrue (I.state input.old).tells → result ≡ Ok false
+        → length (ahead.old ++ (I.state input.old).left) < size }
+    ensures told { (I.state input.new).tells ≡ (I.state input.old).tells }
+    ensures cause { HasCause (I.state input.old).faults (I.state input.new).faults result }
+{
+    if size > SIZE_MAX {
+        return drop_body(ahead, input, size);
+    }
+    fill_body(ahead, input, &mut body[..size as usize])
+}
+
+/// Takes a newline.
+fn read_newline<I: Source>(ahead: &mut Ahead, input: &mut I) -> Result<(), End>
+    ensures taken { IsTrue (I.state input.old).tells → OnOk result
+        (ahead.old ++ (I.state input.old).left ≡ 10 ∷ (ahead.new ++ (I.state input.new).left)) }
+    ensures only { IfErr result IsInputFault }
+    ensures no_end { result ≡ Err End.End → ⊥ }
+    ensures none { IsTrue (I.state input.old).tells → result ≡ Err End.Line
+        → (rest : List ℕ) → ahead.old ++ (I.state input.old).left ≡ 10 ∷ rest → ⊥ }
+    ensures told { (I.state input.new).tells ≡ (I.state input.old).tells }
+    ensures cause { HasSourceCause (I.state input.old).faults (I.state input.new).faults result }
+{
+    match ahead.next(input) {
+        Ok(Some(b'\n')) => Ok(()),
+        Ok(_) => Err(End::Line),
+        Err(SourceFault) => Err(End::Source),
+    }
+}
+
+/// Fills `out`; false where the input ends before.
+fn fill_body<I: Source>(ahead: &mut Ahead, input: &mut I, out: &mut [u8]) -> Result<bool, SourceFault>
+    ensures filled { IsTrue (I.state input.old).tells → result ≡ Ok true
+        → ahead.old ++ (I.state input.old).left ≡ out.new ++ (ahead.new ++ (I.state input.new).left) }
+    ensures ended { IsTrue (I.state input.old).tells → result ≡ Ok false
+        → length (ahead.old ++ (I.state input.old).left) < length out.old }
+    ensures told { (I.state input.new).tells ≡ (I.state input.old).tells }
+    ensures cause { HasCause (I.state input.old).faults (I.state input.new).faults result }
+{
+    let mut done = 0;
+    'pieces: while done < out.len() {
+        let n = ahead.take(input, &mut out[done..])?;
+        if n == 0 {
+            return Ok(false);
+        }
+        done += n;
+    }
+    Ok(true)
+}
+
+/// Drops so many bytes; false where the input ends before.
+fn drop_body<I: Source>(ahead: &mut Ahead, input: &mut I, size: u64) -> Result<bool, SourceFault>
+    ensures dropped { IsTrue (I.state input.old).tells → result ≡ Ok true
+        → (size ≤ length (ahead.old ++ (I.state input.old).left))
+        × (ahead.new ++ (I.state input.new).left ≡ drop size (ahead.old ++ (I.state input.old).left)) }
+    ensures ended { IsTrue (I.state input.old).tells → result ≡ Ok false
+        → length (ahead.old ++ (I.state input.old).left) < size }
+    ensures told { (I.state input.new).tells ≡ (I.state input.old).tells }
+    ensures cause { HasCause (I.state input.old).faults (I.state input.new).faults result }
+{
+    let mut done = 0;
+    'pieces: while done < size {
+        let n = ahead.pass(input, size - done)?;
+        if n == 0 {
+            return Ok(false);
+        }
+        done += n;
+    }
+    Ok(true)
+}

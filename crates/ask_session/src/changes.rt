@@ -1,0 +1,132 @@
+//! Requests whose reply is one line.
+ghost use Rattle.std.specs.Prelude.{◌≡◌, ◌<◌, ◌≤◌, ℕ, List, false, length, Some, IsTrue};
+ghost use Rattle.size_class.specs.declared.TheConstants.{SIZE_MAX};
+ghost use Rattle.slot_codec.specs.Names.{is_name};
+ghost use Rattle.store_terms.specs.Requests as ask;
+ghost use Rattle.store_core.specs.Connection.{IsConnected};
+ghost use Rattle.store_core.specs.Stores.{IsStore};
+ghost use Rattle.store_core.specs.Quiet.{del_of, put_of};
+ghost use Rattle.ask_session.specs.Heads.{Answers, answer_change};
+
+use crate::End;
+use crate::heads::{answer_of, done_head};
+use ask_text::{Reply, Word5};
+use disk_face::Disk;
+use slot_codec::Name;
+use store_core::{Done, Refusal, Store};
+
+/// Serves a put of an object that isn't too long.
+pub(crate) fn serve_put<const C: usize, D: Disk>(
+    store: &mut Store<C>,
+    disk: &mut D,
+    name: &[u8],
+    object: &[u8],
+) -> Result<Reply, End>
+    requires ready { IsTrue (D.state disk.old).is_ready }
+    requires over { IsConnected C store.old (D.state disk.old) }
+    requires whole { store.old.is_broken ≡ false }
+    requires sound { IsStore C store.old }
+    ensures { Answers C (ask.change (put_of name.now object.now)) store.old store.new (D.state disk.old)
+        (D.state disk.new) result }
+{
+    answer_change(store.put(disk, name, object))
+}
+
+/// Serves a put of an object that is too long, whose bytes were dropped.
+pub(crate) fn serve_long<const C: usize, D: Disk>(
+    store: &mut Store<C>,
+    disk: &mut D,
+    name: &[u8],
+    size: u64,
+) -> Result<Reply, End>
+    requires ready { IsTrue (D.state disk.old).is_ready }
+    requires over { IsConnected C store.old (D.state disk.old) }
+    requires whole { store.old.is_broken ≡ false }
+    requires sound { IsStore C store.old }
+    requires long { SIZE_MAX < size }
+    ensures { (object : List ℕ) → length object ≡ size → Answers C (ask.change (put_of name.now object)) store.old
+        store.new (D.state disk.old) (D.state disk.new) result }
+{
+    if is_name(name) {
+        Ok(Reply::Refused(Word5::Size))
+    } else {
+        Ok(Reply::Refused(Word5::Name))
+    }
+}
+
+/// Whether bytes are a name.
+fn is_name(bytes: &[u8]) -> bool
+    ensures { result ≡ is_name bytes.now }
+{
+    Name::new(bytes).is_some()
+}
+
+/// Serves a del.
+pub(crate) fn serve_del<const C: usize, D: Disk>(
+    store: &mut Store<C>,
+    disk: &mut D,
+    name: &[u8],
+) -> Result<Reply, End>
+    requires ready { IsTrue (D.state disk.old).is_ready }
+    requires over { IsConnected C store.old (D.state disk.old) }
+    requires whole { store.old.is_broken ≡ false }
+    requires sound { IsStore C store.old }
+    ensures { Answers C (ask.change (del_of name.now)) store.old store.new (D.state disk.old) (D.state disk.new)
+        result }
+{
+    answer_change(store.del(disk, name))
+}
+
+/// Serves a keep.
+pub(crate) fn serve_keep<const C: usize, D: Disk>(store: &mut Store<C>, disk: &mut D) -> Result<Reply, End>
+    requires ready { IsTrue (D.state disk.old).is_ready }
+    requires over { IsConnected C store.old (D.state disk.old) }
+    requires whole { store.old.is_broken ≡ false }
+    requires sound { IsStore C store.old }
+    ensures { Answers C ask.keep store.old store.new (D.state disk.old) (D.state disk.new) result }
+{
+    answer_change(store.keep(disk))
+}
+
+/// Serves a back.
+pub(crate) fn serve_back<const C: usize, D: Disk>(store: &mut Store<C>, disk: &mut D) -> Result<Reply, End>
+    requires ready { IsTrue (D.state disk.old).is_ready }
+    requires over { IsConnected C store.old (D.state disk.old) }
+    requires whole { store.old.is_broken ≡ false }
+    requires sound { IsStore C store.old }
+    ensures { Answers C ask.back store.old store.new (D.state disk.old) (D.state disk.new) result }
+{
+    match store.back() {
+        Ok(()) => Ok(Reply::Ok),
+        Err(_) => Err(End::Disk),
+    }
+}
+
+/// Serves a stat.
+pub(crate) fn serve_stat<const C: usize, D: Disk>(store: &mut Store<C>, disk: &mut D) -> Result<Reply, End>
+    requires ready { IsTrue (D.state disk.old).is_ready }
+    requires over { IsConnected C store.old (D.state disk.old) }
+    requires whole { store.old.is_broken ≡ false }
+    requires sound { IsStore C store.old }
+    ensures { Answers C ask.stat store.old store.new (D.state disk.old) (D.state disk.new) result }
+{
+    match store.stat() {
+        Ok(stat) => Ok(Reply::Stat {
+            names: stat.names,
+            bytes: stat.bytes,
+            kept_names: stat.kept_names,
+            kept_bytes: stat.kept_bytes,
+        }),
+        Err(_) => Err(End::Disk),
+    }
+}
+
+/// What is replied to a change.
+fn answer_change(answer: Result<Done, Refusal>) -> Result<Reply, End>
+    ensures { result ≡ answer_change answer }
+{
+    match answer {
+        Ok(done) => Ok(done_head(done)),
+        Err(why) => answer_of(why),
+    }
+}

@@ -1,0 +1,151 @@
+//! Requests whose reply is an object or a list.
+ghost use Rattle.std.specs.Prelude.{◌≡◌, ◌++◌, false, codes, IfErr, IfOk, IsTrue, None};
+ghost use Rattle.disk_face.specs.Frames.{Unchanged};
+ghost use Rattle.store_terms.specs.Requests as ask;
+ghost use Rattle.store_core.specs.Answers.{refused_by};
+ghost use Rattle.store_core.specs.Connection.{IsConnected, state_of};
+ghost use Rattle.store_core.specs.Lines.{lines_of, listing_of};
+ghost use Rattle.store_core.specs.States.{object_in};
+ghost use Rattle.store_core.specs.Stores.{IsStore};
+ghost use Rattle.ask_session.specs.Serving.{HasDiskCause, HasSinkCause, IsServingFault, PutsText, Replies};
+
+use crate::End;
+use crate::heads::{answer_of, fault_of, put_answer, put_end, say};
+use ask_text::Reply;
+use disk_face::{Disk, Sink};
+use store_core::Store;
+
+/// Serves a get.
+pub(crate) fn serve_get<const C: usize, D: Disk, O: Sink>(
+    store: &mut Store<C>,
+    disk: &mut D,
+    name: &[u8],
+    output: &mut O,
+) -> Result<bool, End>
+    requires ready { IsTrue (D.state disk.old).is_ready }
+    requires over { IsConnected C store.old (D.state disk.old) }
+    requires whole { store.old.is_broken ≡ false }
+    requires sound { IsStore C store.old }
+    ensures { Replies C (ask.get name.now) store.old store.new (D.state disk.old) (D.state disk.new)
+        (O.state output.old) (O.state output.new) result }
+{
+    match store.size(name) {
+        Ok(size) => match say(output, &Reply::Data { size }) {
+            Ok(()) => give(store, disk, name, output),
+            Err(end) => Err(end),
+        },
+        Err(why) => put_answer(output, answer_of(why)),
+    }
+}
+
+/// Serves an old.
+pub(crate) fn serve_old<const C: usize, D: Disk, O: Sink>(
+    store: &mut Store<C>,
+    disk: &mut D,
+    name: &[u8],
+    output: &mut O,
+) -> Result<bool, End>
+    requires ready { IsTrue (D.state disk.old).is_ready }
+    requires over { IsConnected C store.old (D.state disk.old) }
+    requires whole { store.old.is_broken ≡ false }
+    requires sound { IsStore C store.old }
+    ensures { Replies C (ask.old name.now) store.old store.new (D.state disk.old) (D.state disk.new)
+        (O.state output.old) (O.state output.new) result }
+{
+    match store.old_size(name) {
+        Ok(size) => match say(output, &Reply::Data { size }) {
+            Ok(()) => give_old(store, disk, name, output),
+            Err(end) => Err(end),
+        },
+        Err(why) => put_answer(output, answer_of(why)),
+    }
+}
+
+/// Serves a list.
+pub(crate) fn serve_list<const C: usize, D: Disk, O: Sink>(
+    store: &mut Store<C>,
+    disk: &mut D,
+    output: &mut O,
+) -> Result<bool, End>
+    requires ready { IsTrue (D.state disk.old).is_ready }
+    requires over { IsConnected C store.old (D.state disk.old) }
+    requires whole { store.old.is_broken ≡ false }
+    requires sound { IsStore C store.old }
+    ensures { Replies C ask.list store.old store.new (D.state disk.old) (D.state disk.new)
+        (O.state output.old) (O.state output.new) result }
+{
+    match store.stat() {
+        Ok(stat) => match say(output, &Reply::List { count: stat.names }) {
+            Ok(()) => put_list(store, output),
+            Err(end) => Err(end),
+        },
+        Err(_) => Err(End::Disk),
+    }
+}
+
+/// Puts the lines of a list.
+fn put_list<const C: usize, O: Sink>(store: &Store<C>, output: &mut O) -> Result<bool, End>
+    requires whole { store.now.is_broken ≡ false }
+    ensures puts { IsTrue (O.state output.old).tells → PutsText (lines_of (listing_of store.now.now))
+        (O.state output.old).given (O.state output.new).given result }
+    ensures kept { IfOk result (λ kept. kept ≡ false) }
+    ensures only { IfErr result (λ end. end ≡ End.Sink) }
+    ensures cause { HasSinkCause (O.state output.old) (O.state output.new) result }
+{
+    match store.list(output) {
+        Ok(()) => Ok(false),
+        Err(_) => Err(End::Sink),
+    }
+}
+
+/// Puts the bytes of an object, and a newline.
+fn give<const C: usize, D: Disk, O: Sink>(
+    store: &mut Store<C>,
+    disk: &mut D,
+    name: &[u8],
+    output: &mut O,
+) -> Result<bool, End>
+    requires ready { IsTrue (D.state disk.old).is_ready }
+    requires over { IsConnected C store.old (D.state disk.old) }
+    requires served { refused_by store.old (ask.get name.now) ≡ None }
+    ensures puts { IsTrue (D.state disk.old).tells → IsTrue (O.state output.old).tells
+        → PutsText (object_in (state_of store.old (D.state disk.old).file).map name.now ++ codes "\n")
+        (O.state output.old).given (O.state output.new).given result }
+    ensures kept { IfOk result (λ kept. kept ≡ false) }
+    ensures only { IfErr result IsServingFault }
+    ensures store { store.new ≡ store.old }
+    ensures frame { Unchanged (D.state disk.old) (D.state disk.new) }
+    ensures disk_cause { HasDiskCause (D.state disk.old).faults (D.state disk.new).faults result }
+    ensures sink_cause { HasSinkCause (O.state output.old) (O.state output.new) result }
+{
+    match store.get(disk, name, output) {
+        Ok(_) => put_end(output),
+        Err(why) => Err(fault_of(why)),
+    }
+}
+
+/// Puts the bytes of an object of the last checkpoint, and a newline.
+fn give_old<const C: usize, D: Disk, O: Sink>(
+    store: &mut Store<C>,
+    disk: &mut D,
+    name: &[u8],
+    output: &mut O,
+) -> Result<bool, End>
+    requires ready { IsTrue (D.state disk.old).is_ready }
+    requires over { IsConnected C store.old (D.state disk.old) }
+    requires served { refused_by store.old (ask.old name.now) ≡ None }
+    ensures puts { IsTrue (D.state disk.old).tells → IsTrue (O.state output.old).tells
+        → PutsText (object_in (state_of store.old (D.state disk.old).file).kept name.now ++ codes "\n")
+        (O.state output.old).given (O.state output.new).given result }
+    ensures kept { IfOk result (λ kept. kept ≡ false) }
+    ensures only { IfErr result IsServingFault }
+    ensures store { store.new ≡ store.old }
+    ensures frame { Unchanged (D.state disk.old) (D.state disk.new) }
+    ensures disk_cause { HasDiskCause (D.state disk.old).faults (D.state disk.new).faults result }
+    ensures sink_cause { HasSinkCause (O.state output.old) (O.state output.new) result }
+{
+    match store.old(disk, name, output) {
+        Ok(_) => put_end(output),
+        Err(why) => Err(fault_of(why)),
+    }
+}

@@ -1,0 +1,51 @@
+//! Reading a request.
+ghost use Rattle.std.specs.Prelude.{◌≡◌, ◌++◌, [], length, IfOk, IfErr, IsTrue, Err};
+ghost use Rattle.ask_text.specs.Inputs.{BeginsNone};
+ghost use Rattle.ask_session.specs.Inputs.{HasSourceCause, IsInputFault, IsRead, size_asked};
+
+use crate::End;
+use crate::ahead::Ahead;
+use crate::body::read_object;
+use crate::line::read_first;
+use ask_text::Ask;
+use disk_face::Source;
+use size_class::SIZE_MAX;
+
+/// Reads the next request: what its line asks for, and the object of a put into the front of `body`.
+pub(crate) fn read_request<I: Source>(
+    ahead: &mut Ahead,
+    input: &mut I,
+    body: &mut [u8],
+) -> Result<Ask, End>
+    requires room { length body.old ≡ SIZE_MAX }
+    ensures read { IfOk result (λ ask. IsRead (IsTrue (I.state input.old).tells)
+        (ahead.old ++ (I.state input.old).left) (ahead.new ++ (I.state input.new).left) ask body.new) }
+    ensures only { IfErr result IsInputFault }
+    ensures end { IsTrue (I.state input.old).tells → result ≡ Err End.End
+        → ahead.old ++ (I.state input.old).left ≡ [] }
+    ensures none { IsTrue (I.state input.old).tells → result ≡ Err End.Line
+        → BeginsNone (ahead.old ++ (I.state input.old).left) }
+    ensures some { IsTrue (I.state input.old).tells → result ≡ Err End.Line
+        → ahead.old ++ (I.state input.old).left ≡ [] → ⊥ }
+    ensures told { (I.state input.new).tells ≡ (I.state input.old).tells }
+    ensures cause { HasSourceCause (I.state input.old).faults (I.state input.new).faults result }
+{
+    let ask = read_first(ahead, input)?;
+    let Some(size) = object_size(&ask) else {
+        return Ok(ask);
+    };
+    match read_object(ahead, input, size, body) {
+        Ok(()) => Ok(ask),
+        Err(end) => Err(end),
+    }
+}
+
+/// How long the object is that follows a line.
+fn object_size(ask: &Ask) -> Option<u64>
+    ensures { result ≡ size_asked ask.now }
+{
+    match ask {
+        Ask::Put { size, .. } => Some(*size),
+        _ => None,
+    }
+}

@@ -1,0 +1,50 @@
+//! A run of a session: one turn after another.
+ghost use Rattle.std.specs.Prelude.{◌≡◌, ◌≤◌, false, IsTrue};
+ghost use Rattle.disk_face.specs.Counts.{last};
+ghost use Rattle.store_core.specs.Connection.{IsConnected};
+ghost use Rattle.store_core.specs.Stores.{IsStore};
+ghost use Rattle.ask_session.specs.Runs.{EndsRun};
+
+use crate::{End, Session, Turn};
+use disk_face::{Disk, Sink, Source};
+
+/// How many requests one run answers at most.
+const BUDGET: u64 = 1 << 32;
+
+impl<const C: usize> Session<C> {
+    /// Reads requests, serves them, and puts their replies, until the session ends or as many were
+    /// answered as one run may, which are 2^32.
+    pub fn run<D: Disk, I: Source, O: Sink>(
+        &mut self,
+        disk: &mut D,
+        input: &mut I,
+        output: &mut O,
+    ) -> End
+        requires ready { IsTrue (D.state disk.old).is_ready }
+        requires over { IsConnected C self.old.store (D.state disk.old) }
+        requires whole { self.old.store.is_broken ≡ false }
+        requires fresh { self.old.ended ≡ false }
+        ensures { EndsRun D.state I.state O.state C self.old self.new disk.old disk.new input.old input.new
+            output.old output.new result }
+    {
+        self.is_sound();
+        let mut n = 0;
+        'turns: while n < BUDGET {
+            match self.one(disk, input, output) {
+                Turn::Answered => self.is_sound(),
+                Turn::Ended(end) => return end,
+            }
+            n += 1;
+        }
+        End::Budget
+    }
+
+    /// What holds of each session, and of its store while that isn't broken.
+    fn is_sound(&self)
+        ensures store { self.now.store.is_broken ≡ false → IsStore C self.now.store }
+        ensures count { self.now.done ≤ last }
+    {
+        let _ = self.done();
+        let _ = self.store.is_broken();
+    }
+}

@@ -1,0 +1,83 @@
+//! Serving a request.
+ghost use Rattle.std.specs.Prelude.{◌≡◌, ◌≤◌, ℕ, List, false, length, take, IsTrue};
+ghost use Rattle.size_class.specs.declared.TheConstants.{SIZE_MAX};
+ghost use Rattle.store_terms.specs.Requests as ask;
+ghost use Rattle.store_terms.specs.Requests.{Request};
+ghost use Rattle.store_core.specs.Connection.{IsConnected};
+ghost use Rattle.store_core.specs.Quiet.{put_of};
+ghost use Rattle.store_core.specs.Stores.{IsStore};
+ghost use Rattle.ask_text.specs.Asks.{ask_of};
+ghost use Rattle.ask_session.specs.Heads.{Answers};
+ghost use Rattle.ask_session.specs.Inputs.{HasBody};
+ghost use Rattle.ask_session.specs.Serving.{Replies};
+
+use crate::End;
+use crate::changes::{serve_back, serve_del, serve_keep, serve_long, serve_put, serve_stat};
+use crate::heads::put_answer;
+use crate::reads::{serve_get, serve_list, serve_old};
+use ask_text::{Ask, Reply};
+use disk_face::{Disk, Sink};
+use size_class::SIZE_MAX;
+use store_core::Store;
+
+/// Serves the request that a line asks for, with its object in the front of `body`, and puts its reply:
+/// whether that acknowledges a checkpoint.
+pub(crate) fn serve<const C: usize, D: Disk, O: Sink>(
+    store: &mut Store<C>,
+    disk: &mut D,
+    output: &mut O,
+    ask: &Ask,
+    body: &[u8],
+) -> Result<bool, End>
+    requires ready { IsTrue (D.state disk.old).is_ready }
+    requires over { IsConnected C store.old (D.state disk.old) }
+    requires whole { store.old.is_broken ≡ false }
+    requires room { length body.now ≡ SIZE_MAX }
+    ensures { (r : Request) → ask_of r ≡ ask.now → HasBody body.now r → Replies C r store.old store.new
+        (D.state disk.old) (D.state disk.new) (O.state output.old) (O.state output.new) result }
+{
+    is_sound(store);
+    match ask {
+        Ask::Put { name, size } => {
+            put_answer(output, serve_sized(store, disk, name.as_bytes(), *size, body))
+        }
+        Ask::Get { name } => serve_get(store, disk, name.as_bytes(), output),
+        Ask::Old { name } => serve_old(store, disk, name.as_bytes(), output),
+        Ask::Del { name } => put_answer(output, serve_del(store, disk, name.as_bytes())),
+        Ask::Keep => put_answer(output, serve_keep(store, disk)),
+        Ask::Back => put_answer(output, serve_back(store, disk)),
+        Ask::List => serve_list(store, disk, output),
+        Ask::Stat => put_answer(output, serve_stat(store, disk)),
+    }
+}
+
+/// Serves a put of an object of this size.
+fn serve_sized<const C: usize, D: Disk>(
+    store: &mut Store<C>,
+    disk: &mut D,
+    name: &[u8],
+    size: u64,
+    body: &[u8],
+) -> Result<Reply, End>
+    requires ready { IsTrue (D.state disk.old).is_ready }
+    requires over { IsConnected C store.old (D.state disk.old) }
+    requires whole { store.old.is_broken ≡ false }
+    requires sound { IsStore C store.old }
+    requires room { length body.now ≡ SIZE_MAX }
+    ensures { (object : List ℕ) → length object ≡ size → (size ≤ SIZE_MAX → take size body.now ≡ object)
+        → Answers C (ask.change (put_of name.now object)) store.old store.new (D.state disk.old)
+        (D.state disk.new) result }
+{
+    if size > SIZE_MAX {
+        return serve_long(store, disk, name, size);
+    }
+    serve_put(store, disk, name, &body[..size as usize])
+}
+
+/// What holds of a store that isn't broken.
+fn is_sound<const C: usize>(store: &Store<C>)
+    requires whole { store.now.is_broken ≡ false }
+    ensures { IsStore C store.now }
+{
+    let _ = store.is_broken();
+}

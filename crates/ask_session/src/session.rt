@@ -1,0 +1,160 @@
+//! A session, and one turn of it.
+ghost use Rattle.std.specs.Prelude.{◌≡◌, ◌++◌, [], false, true, if◌then◌else◌, length, IfOk, IfErr, IsTrue};
+ghost use Rattle.disk_face.specs.Counts.{counted};
+ghost use Rattle.store_core.specs.Connection.{IsConnected};
+ghost use Rattle.ask_session.specs.Inputs.{HasSourceCause};
+ghost use Rattle.ask_session.specs.Sittings.{new_sitting};
+ghost use Rattle.ask_session.specs.Turns.{IsTurn, is_ended, is_unserved, result_of};
+
+use crate::ahead::Ahead;
+use crate::request::read_request;
+use crate::serve::serve;
+use crate::{End, Turn};
+use disk_face::{Disk, Sink, Source};
+use size_class::SIZE_MAX;
+use slot_codec::NoMemory;
+use std::alloc::Global;
+use std::marker::Model;
+use store_core::Store;
+
+/// A store that serves requests from a source, and puts its replies to a sink. Contracts see it as a
+/// `Sitting`.
+#[derive(Drop)]
+pub struct Session<const C: usize> {
+    pub(crate) store: Store<C>,
+    ahead: Ahead,
+    body: Vec<u8>,
+    ended: bool,
+    done: u64,
+    kept_done: u64,
+    kept_turn: u64,
+}
+
+impl<const C: usize> Model for Session<C> {
+    ghost use Rattle.ask_session.specs.Sittings.{Sitting, sitting_code};
+
+    ghost Value = { Sitting };
+
+    ghost coded = { sitting_code };
+
+    ghost use Rattle.ask_session.specs.Inside.{HasRoom, sitting_of};
+
+    ghost view = { sitting_of };
+
+    ghost invariant = { HasRoom };
+}
+
+impl<const C: usize> Session<C> {
+    /// A session of a store, with the memory that it will ever have. `turn` is the disk's turn that is
+    /// told until a checkpoint is acknowledged. Where there is no memory the store comes back.
+    pub fn new(alloc: Global, store: Store<C>, turn: u64) -> Result<Session<C>, (Store<C>, NoMemory)>
+        ensures ok { IfOk result (λ session. session ≡ new_sitting store.entry turn) }
+        ensures refused { IfErr result (λ back. back.0 ≡ store.entry) }
+    {
+        let Ok(ahead) = Ahead::new(alloc) else {
+            return Err((store, NoMemory));
+        };
+        let Ok(body) = vec![in alloc; 0; SIZE_MAX as usize] else {
+            return Err((store, NoMemory));
+        };
+        Ok(Session {
+            store,
+            ahead,
+            body,
+            ended: false,
+            done: 0,
+            kept_done: 0,
+            kept_turn: turn,
+        })
+    }
+
+    /// Reads one request, serves it, and puts its reply.
+    pub fn one<D: Disk, I: Source, O: Sink>(
+        &mut self,
+        disk: &mut D,
+        input: &mut I,
+        output: &mut O,
+    ) -> Turn
+        requires ready { IsTrue (D.state disk.old).is_ready }
+        requires over { IsConnected C self.old.store (D.state disk.old) }
+        requires whole { self.old.store.is_broken ≡ false }
+        requires fresh { self.old.ended ≡ false }
+        ensures turn { IsTurn C self.old self.new (D.state disk.old) (D.state disk.new) (I.state input.old)
+            (I.state input.new) (O.state output.old) (O.state output.new) result }
+        ensures ended { self.new.ended ≡ is_ended result }
+        ensures same_disk { is_unserved result ≡ true → disk.new ≡ disk.old }
+        ensures same_sink { is_unserved result ≡ true → output.new ≡ output.old }
+        ensures told { (I.state input.new).tells ≡ (I.state input.old).tells }
+        ensures cause { HasSourceCause (I.state input.old).faults (I.state input.new).faults
+            (result_of result) }
+    {
+        match read_request(&mut self.ahead, input, &mut self.body) {
+            Ok(ask) => match serve(&mut self.store, disk, output, &ask, &self.body) {
+                Ok(kept) => self.count(kept, disk.turns()),
+                Err(end) => self.end(end),
+            },
+            Err(end) => self.end(end),
+        }
+    }
+
+    /// Counts a request that was answered.
+    fn count(&mut self, kept: bool, turn: u64) -> Turn
+        ensures answered { result ≡ Turn.Answered }
+        ensures counts { self.new ≡ record self.old {
+          done = counted self.old.done 1;
+          kept_done = if kept then counted self.old.done 1 else self.old.kept_done;
+          kept_turn = if kept then turn else self.old.kept_turn;
+        } }
+    {
+        self.done = self.done.saturating_add(1);
+        if kept {
+            self.kept_done = self.done;
+            self.kept_turn = turn;
+        }
+        Turn::Answered
+    }
+
+    /// Ends the session.
+    fn end(&mut self, end: End) -> Turn
+        ensures ended { result ≡ Turn.Ended end }
+        ensures flag { self.new ≡ record self.old { ended = true } }
+    {
+        self.ended = true;
+        Turn::Ended(end)
+    }
+
+    /// Whether the session ended.
+    pub fn ended(&self) -> bool
+        ensures { result ≡ self.now.ended }
+    {
+        self.ended
+    }
+
+    /// How many requests were answered; it stays at its last value.
+    pub fn done(&self) -> u64
+        ensures { result ≡ self.now.done }
+    {
+        self.done
+    }
+
+    /// How many of them the last acknowledged checkpoint holds.
+    pub fn kept_done(&self) -> u64
+        ensures { result ≡ self.now.kept_done }
+    {
+        self.kept_done
+    }
+
+    /// The disk's turn when that checkpoint was acknowledged.
+    pub fn kept_turn(&self) -> u64
+        ensures { result ≡ self.now.kept_turn }
+    {
+        self.kept_turn
+    }
+
+    /// Gives the store back.
+    pub fn into_store(self) -> Store<C>
+        ensures { result ≡ self.entry.store }
+    {
+        self.store
+    }
+}
