@@ -6,5 +6,5 @@ mod LineLemmas
 mod PutLaws
 mod ReplyLaws
 mod RequestLemmas
-mod RunLaws
+pub mod RunLaws
 mod ServingLaws

@@ -95,7 +95,7 @@ calls_more limits m s t states [] (y ∷ replies) r reply chain = absurd (chain)
 calls_more limits m s t states (x ∷ rs) [] r reply chain = absurd (chain)
 calls_more limits m s t [] (x ∷ rs) (y ∷ replies) r reply chain = absurd (chain)
 
-chain_long : (limits : Limits) (s : State) (rs : List Request) (replies : List Reply) (states : List State)
+pub chain_long : (limits : Limits) (s : State) (rs : List Request) (replies : List Reply) (states : List State)
     → Chain limits s rs replies states → length replies ≡ length rs
 chain_long limits s [] [] [] chain = refl
 chain_long limits s (x ∷ rs) (y ∷ replies) (z ∷ states) chain =
@@ -108,14 +108,14 @@ chain_long limits s (x ∷ rs) (y ∷ replies) [] chain = absurd (chain)
 -- ---- what a request makes
 
 -- a checkpoint of what stands then
-record MakesOne (x : Served) : Type 0 where
+pub record MakesOne (x : Served) : Type 0 where
   pub least : x.saves.least ≡ 1
   pub acknowledged : acknowledges x.reply ≡ true
   pub kept : x.state.kept ≡ x.state.map
   pub book : x.state.kept_book ≡ x.state.book
 
 -- or none
-record MakesNone (s : State) (x : Served) : Type 0 where
+pub record MakesNone (s : State) (x : Served) : Type 0 where
   pub least : x.saves.least ≡ 0
   pub acknowledged : acknowledges x.reply ≡ false
   pub kept : x.state.kept ≡ s.kept
@@ -147,7 +147,7 @@ accepted_makes limits s ask.back = inr (record { least = refl; acknowledged = re
 accepted_makes limits s ask.list = inr (record { least = refl; acknowledged = refl; kept = refl; book = refl })
 accepted_makes limits s ask.stat = inr (record { least = refl; acknowledged = refl; kept = refl; book = refl })
 
-makes : (limits : Limits) (s : State) (r : Request) → MakesOne (served limits s r) ⊎ MakesNone s (served limits s r)
+pub makes : (limits : Limits) (s : State) (r : Request) → MakesOne (served limits s r) ⊎ MakesNone s (served limits s r)
 makes limits s r = by (refusal limits (facts_of s r) r) refl
   where
     by : (o : Option Refused) → refusal limits (facts_of s r) r ≡ o
@@ -159,7 +159,7 @@ makes limits s r = by (refusal limits (facts_of s r) r) refl
 
 -- ---- one more request
 
-opens_with : {classes : ℕ} (image : List ℕ) {m m' : Map} {b b' : Book} → m' ≡ m → b' ≡ b
+pub opens_with : {classes : ℕ} (image : List ℕ) {m m' : Map} {b b' : Book} → m' ≡ m → b' ≡ b
     → Opens classes SIZE_MAX image m b → Opens classes SIZE_MAX image m' b'
 opens_with {classes} image {m} {m'} {b} {b'} maps books is =
     subst (λ (x : Map). Opens classes SIZE_MAX image x b') (sym maps)
@@ -288,6 +288,19 @@ module _ {classes : ℕ} (s0 : Sitting) (a : disk.State) (i0 : SourceState) (o0 
   turn_low true low = omega arith
   turn_low false low = omega (arith, ran.kept_turn low, x.served.replies.serves.frame.no_turn_back)
 
+  turn_up : (kept : Bool) → s0.kept_turn ≤ a.turn → s0.kept_turn ≤ (if kept then d.turn else s1.kept_turn)
+  turn_up true low = omega (arith, low, ran.frame.no_turn_back, x.served.replies.serves.frame.no_turn_back)
+  turn_up false low = ran.turn_rises low
+
+  unkept_now : (kept : Bool) → s2.kept_done ≡ (if kept then s2.done else s1.kept_done)
+      → s2.kept_turn ≡ (if kept then d.turn else s1.kept_turn)
+      → (s2.kept_turn ≡ s0.kept_turn) ⊎ (0 < s2.kept_done)
+  unkept_now true number turn = inr (omega (arith, number, x.done))
+  unkept_now false number turn = elim ran.unkept as (λ _. (s2.kept_turn ≡ s0.kept_turn) ⊎ (0 < s2.kept_done)) [
+    | inl same ↦ inl (turn ∙ same)
+    | inr some ↦ inr (omega (arith, number, some))
+  ]
+
   calls_now : (kept : Bool) (m c : ℕ) → IsTrue a.tells → kept ≡ acknowledges reply → b.turn ≡ counted s1.kept_turn m
       → c ≡ (if acknowledges reply then 0 else m + calls_of limits s r)
       → d.turn ≡ counted (if kept then d.turn else s1.kept_turn) c
@@ -358,6 +371,8 @@ module _ {classes : ℕ} (s0 : Sitting) (a : disk.State) (i0 : SourceState) (o0 
     since = λ told rests below low was. subst (λ (n : ℕ). LeftOnly d n (OpensToKept classes t)) (sym x.kept_turn)
         (since_now x.kept told rests below low was (kept_is told));
     kept_turn = λ low. subst (λ (n : ℕ). n ≤ d.turn) (sym x.kept_turn) (turn_low x.kept low);
+    turn_rises = λ low. subst (λ (n : ℕ). s0.kept_turn ≤ n) (sym x.kept_turn) (turn_up x.kept low);
+    unkept = unkept_now x.kept x.kept_done x.kept_turn;
     calls = λ told m turn. subst (λ (k : ℕ). d.turn ≡ counted k (calls_since limits m start (ran.states ++ t ∷ [])
         (ran.requests ++ r ∷ []) (ran.replies ++ reply ∷ []))) (sym x.kept_turn)
         (calls_now x.kept (calls_since limits m start ran.states ran.requests ran.replies) _ told (kept_is told)
@@ -400,6 +415,8 @@ has_run_none {classes} s a i o whole over ready fits = record {
       (state_of s.store a.file) []);
   since = λ told rests below low was. was;
   kept_turn = λ low. low;
+  turn_rises = λ low. omega arith;
+  unkept = inl refl;
   calls = λ told m turn. turn;
   frame = record {
     no_turn_back = omega arith;
