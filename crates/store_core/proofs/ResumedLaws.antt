@@ -178,6 +178,7 @@ module _ {C : ℕ} (x : Loaded C) (loads : KeepsLoaded x) (moving : x.header.kin
           m = f.new_map;
           b = f.new_book;
           found = (from told).opens;
+          block = block_found;
           state = ended_state hands f last told_ends names_now block_now s is_flushed base_now still_told;
           continues = subst (λ z. ContinuesFrom z x.header.sequence hands.slots.sequence) (sym moving) (
             omega (arith, later, ap (λ (u : choice.InUse). u.sequence) starts.in_use, loads.sequence),

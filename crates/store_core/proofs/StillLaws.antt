@@ -424,6 +424,7 @@ module _ {C : ℕ} (x : Loaded C) (loads : KeepsLoaded x) (still : x.header.kind
           m = done_map;
           b = done_book;
           found = (from told).opens;
+          block = loads.same_block;
           state = still_state last.file done_map done_book ends.slot ends.opens ends.long;
           continues = subst (λ y. ContinuesFrom y x.header.sequence x.slots.sequence) (sym still)
               loads.sequence;

@@ -71,12 +71,13 @@ ContinuesFrom kind.Settled found new = new ≡ found
 ContinuesFrom kind.Moving found new = (found + 1 ≤ new) × (new < found + 2 ^ 18)
 
 -- The file opened by its table to a map and a book, which are those of the store over the file now, and of
--- its checkpoint. The sequence is the one found, or rose by less than 2^18 where the table was a moving one.
+-- its checkpoint. The superblock is that of the table. The sequence is the one found, or rose by less than 2^18 where the table was a moving one.
 pub record IsOpened (classes : ℕ) (file now : List ℕ) (s : Kept) : Type 0 where
   pub table : choice.Table
   pub m : Map
   pub b : Book
   pub found : OpensBy classes SIZE_MAX table file m b
+  pub block : s.in_use.block ≡ table.chosen.block
   pub state : state_of s now ≡ state_at m b s.in_use.sequence
   pub continues : ContinuesFrom table.chosen.header.kind table.chosen.header.sequence s.in_use.sequence
 
