@@ -44,6 +44,9 @@ stopped answer old new why same no_sink stops = record {
     ends_of (stop.Taken n) not_sink is = (is, refl)
     ends_of stop.Missing not_sink is = (is, refl)
     ends_of stop.NotBuilt not_sink is = (is, refl)
+    ends_of (stop.Line n) not_sink is = (is, refl)
+    ends_of stop.Source not_sink is = (is, refl)
+    ends_of stop.Budget not_sink is = (is, refl)
 
 -- ---- one answer
 
@@ -129,6 +132,10 @@ status_by answer bytes is (Err (stop.Taken n)) one by =
     inl (ap status_at (sym (one (Err (stop.Taken n)) by.0)))
 status_by answer bytes is (Err stop.Missing) one by = inl (ap status_at (sym (one (Err stop.Missing) by.0)))
 status_by answer bytes is (Err stop.NotBuilt) one by = inl (ap status_at (sym (one (Err stop.NotBuilt) by.0)))
+status_by answer bytes is (Err (stop.Line n)) one by =
+    inl (ap status_at (sym (one (Err (stop.Line n)) by.0)))
+status_by answer bytes is (Err stop.Source) one by = inl (ap status_at (sym (one (Err stop.Source) by.0)))
+status_by answer bytes is (Err stop.Budget) one by = inl (ap status_at (sym (one (Err stop.Budget) by.0)))
 
 pub ends_by_the_answer : (c : Command) (file : List ℕ) (answer : Result (List ℕ) Stop) (status : ℕ)
     (old new : SinkState) → IsAnswer c file answer → Ends (IsAnswer c file) status old new

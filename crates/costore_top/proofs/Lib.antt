@@ -4,3 +4,5 @@ mod AnswerLaws
 mod Statuses
 mod Formatting
 mod WordLists
+mod RunLists
+mod SessionLemmas

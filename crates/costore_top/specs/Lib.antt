@@ -4,3 +4,5 @@ pub mod Faults
 pub mod Outcomes
 pub mod Layers
 pub mod Commands
+pub mod Headline
+pub mod Sessions

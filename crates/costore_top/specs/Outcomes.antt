@@ -4,7 +4,7 @@ use Rattle.disk_face.specs.Counts.{Rose}
 use Rattle.disk_face.specs.Mounts.{Mount}
 use Rattle.disk_face.specs.Streams.{SinkState}
 use Rattle.disk_face.specs.declared.bay.Mounted.{Mounted}
-use Rattle.costore_top.specs.Words.{Command, format, get, help, version}
+use Rattle.costore_top.specs.Words.{Command, format, get, help, run, version}
 use Rattle.costore_top.specs.Getting.{IsObject}
 use Rattle.costore_top.specs.Faults.{line_of}
 use Rattle.costore_top.specs.declared.stop.Stop.{Stop}
@@ -21,6 +21,9 @@ status_of stop.Missing = 6
 status_of stop.Disk = 7
 status_of stop.Sink = 9
 status_of stop.NoMemory = 10
+status_of (stop.Line n) = 2
+status_of stop.Source = 8
+status_of stop.Budget = 11
 status_of stop.NotBuilt = 12
 
 -- the status of a command that ends so
@@ -32,6 +35,7 @@ status_at (Err why) = status_of why
 abbrev pub mounts : Command → Bool
 mounts (format file k names) = true
 mounts (get file name) = true
+mounts (run file) = true
 mounts _ = false
 
 abbrev pub makes : Command → Bool
@@ -41,12 +45,19 @@ makes _ = false
 -- the command reads the table of its file, for which it takes memory
 abbrev pub reads : Command → Bool
 reads (get file name) = true
+reads (run file) = true
 reads _ = false
+
+-- the command serves requests from its input
+abbrev pub serves : Command → Bool
+serves (run file) = true
+serves _ = false
 
 -- the file that a command mounts
 abbrev pub file_of : Command → List ℕ
 file_of (format file k names) = file
 file_of (get file name) = file
+file_of (run file) = file
 file_of _ = []
 
 -- the mount of a command's file, answered so

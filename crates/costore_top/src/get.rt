@@ -70,7 +70,7 @@ fn load<D: Disk>(alloc: Global, disk: &mut D) -> Result<Loaded<CLASSES>, Stop>
 }
 
 /// What a fault in opening is to the command.
-fn stop_of(fault: OpenFault) -> Stop
+pub fn stop_of(fault: OpenFault) -> Stop
     ensures { result ≡ stop_of fault }
 {
     match fault {

@@ -8,6 +8,7 @@ mod fault;
 mod get;
 mod help;
 mod laws;
+mod run;
 mod stop;
 mod top;
 mod words;

@@ -165,6 +165,9 @@ fn status_at(end: &Result<(), Stop>) -> u8
         Err(Stop::Disk) => 7,
         Err(Stop::Sink) => 9,
         Err(Stop::NoMemory) => 10,
+        Err(Stop::Line(_)) => 2,
+        Err(Stop::Source) => 8,
+        Err(Stop::Budget) => 11,
         Err(Stop::NotBuilt) => 12,
     }
 }

@@ -1,0 +1,73 @@
+-- How a session over a file went, step by step.
+use Rattle.std.specs.Prelude.{◌≡◌, ◌⊎◌, ℕ, ◌+◌, false, Result, Ok, Err}
+use Rattle.disk_face.specs.Counts.{counted}
+use Rattle.disk_face.specs.States.{State}
+use Rattle.disk_face.specs.Streams.{SinkState, SourceState}
+use Rattle.size_class.specs.declared.TheConstants.{CLASSES}
+use Rattle.store_core.specs.Connection.{Kept}
+use Rattle.store_core.specs.Opened.{IsOpening}
+use Rattle.store_core.specs.Stores.{IsStore}
+use Rattle.reopen.specs.declared.fault.OpenFault.{OpenFault}
+use Rattle.ask_session.specs.Sittings.{Sitting, new_sitting}
+use Rattle.ask_session.specs.Runs.{EndsRun}
+use Rattle.ask_session.specs.declared.ends.End.{End}
+use Rattle.ask_session.specs.declared.ends.End.TheVariants as ends
+use Rattle.costore_top.specs.Getting.{stop_of}
+use Rattle.costore_top.specs.declared.stop.Stop.{Stop}
+use Rattle.costore_top.specs.declared.stop.Stop.TheVariants as stop
+use Rattle.costore_top.specs.declared.run.Ended.{Ended}
+
+-- how the program ends where a session ended so, after so many requests were answered
+abbrev pub end_of : End → ℕ → Result (Unit {0}) Stop
+end_of ends.End done = Ok tt
+end_of ends.Line done = Err (stop.Line (counted done 1))
+end_of ends.Disk done = Err stop.Disk
+end_of ends.Source done = Err stop.Source
+end_of ends.Sink done = Err stop.Sink
+end_of ends.Budget done = Err stop.Budget
+
+-- the end of a session, and its three numbers
+abbrev pub ended_as : End → Sitting → Ended
+ended_as end s = record {
+  end = end_of end s.done;
+  done = s.done;
+  kept_done = s.kept_done;
+  kept_turn = s.kept_turn;
+}
+
+-- no session was begun
+abbrev pub unserved : Stop → ℕ → Ended
+unserved why turn = record { end = Err why; done = 0; kept_done = 0; kept_turn = turn }
+
+-- the file wasn't opened
+pub record IsUnopened (before now : State) (e : Ended) : Type 0 where
+  pub fault : OpenFault
+  pub opening : IsOpening CLASSES before now (Err fault)
+  pub ended : e ≡ unserved (stop_of fault) now.turn
+
+-- it was opened, and there was no memory for a session
+pub record IsUnbegun (before now : State) (e : Ended) : Type 0 where
+  pub store : Kept
+  pub opening : IsOpening CLASSES before now (Ok store)
+  pub ended : e ≡ unserved stop.NoMemory now.turn
+
+-- It was opened, at `mid`, and a session of its store ran to its end.
+pub record HasSession {D I O : Type 0} (disk_of : D → State) (source_of : I → SourceState) (sink_of : O → SinkState)
+    (before now : D) (from rest : I) (out after : O) (e : Ended) : Type 0 where
+  pub store : Kept
+  pub mid : D
+  pub new : Sitting
+  pub end : End
+  pub opening : IsOpening CLASSES (disk_of before) (disk_of mid) (Ok store)
+  pub ran : EndsRun disk_of source_of sink_of CLASSES (new_sitting store (disk_of mid).turn) new mid now from rest out
+      after end
+  pub sound : new.store.is_broken ≡ false → IsStore CLASSES new.store
+  pub ended : e ≡ ended_as end new
+
+-- A session over an open file went so; where none was begun, no stream was called.
+abbrev pub Went : {D I O : Type 0} → (D → State) → (I → SourceState) → (O → SinkState) → D → D → I → I → O → O → Ended
+    → Type 0
+Went disk_of source_of sink_of before now from rest out after e =
+    ((IsUnopened (disk_of before) (disk_of now) e ⊎ IsUnbegun (disk_of before) (disk_of now) e)
+    × (rest ≡ from) × (after ≡ out))
+    ⊎ HasSession disk_of source_of sink_of before now from rest out after e
