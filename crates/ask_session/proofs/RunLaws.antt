@@ -37,11 +37,11 @@ use Rattle.ask_session.specs.Runs.{HasRun, IsLastTurn, IsRunImage, IsStepImage, 
 
 -- ---- lists that grow at their end
 
-and_none : (b : Bool) → (b && false) ≡ false
+pub and_none : (b : Bool) → (b && false) ≡ false
 and_none true = refl
 and_none false = refl
 
-last_more : (s t : State) (states : List State) → last_state s (states ++ t ∷ []) ≡ t
+pub last_more : (s t : State) (states : List State) → last_state s (states ++ t ∷ []) ≡ t
 last_more s t [] = refl
 last_more s t (u ∷ states) = last_more u t states
 
@@ -61,13 +61,13 @@ chain_more limits s t [] (y ∷ replies) states r reply chain step = absurd (cha
 chain_more limits s t (x ∷ rs) [] states r reply chain step = absurd (chain)
 chain_more limits s t (x ∷ rs) (y ∷ replies) [] r reply chain step = absurd (chain)
 
-some_more : (P : State → State → Type 0) (s t : State) (states : List State) → SomeStep P s states
+pub some_more : (P : State → State → Type 0) (s t : State) (states : List State) → SomeStep P s states
     → SomeStep P s (states ++ t ∷ [])
 some_more P s t [] some = absurd (some)
 some_more P s t (u ∷ states) (inl is) = inl is
 some_more P s t (u ∷ states) (inr some) = inr (some_more P u t states some)
 
-some_last : (P : State → State → Type 0) (s t : State) (states : List State) → P (last_state s states) t
+pub some_last : (P : State → State → Type 0) (s t : State) (states : List State) → P (last_state s states) t
     → SomeStep P s (states ++ t ∷ [])
 some_last P s t [] is = inl is
 some_last P s t (u ∷ states) is = inr (some_last P u t states is)

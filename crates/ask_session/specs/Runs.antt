@@ -150,6 +150,7 @@ pub record EndsRun {D I O : Type 0} (disk_of : D → disk.State) (source_of : I 
   pub ran : HasRun classes old sitting (disk_of before) (disk_of mid_disk) (source_of from) (source_of mid_source)
       (sink_of out) (sink_of mid_sink) n
   pub few : n ≤ budget
+  pub fewer : is_budget end ≡ false → n < budget
   pub last_turn : IsLastTurn classes n sitting new (disk_of mid_disk) (disk_of now) (source_of mid_source)
       (source_of rest) (sink_of mid_sink) (sink_of after) end
   pub same_disk : is_unserved (turn.Ended end) ≡ true → now ≡ mid_disk

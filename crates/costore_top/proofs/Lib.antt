@@ -6,3 +6,5 @@ mod Formatting
 mod WordLists
 mod RunLists
 mod SessionLemmas
+mod OpeningLemmas
+mod RunLaws

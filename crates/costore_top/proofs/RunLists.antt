@@ -85,7 +85,7 @@ begins_none r rest text is =
 -- ---- checkpoints
 
 -- an image shows the checkpoint of the first state, or what stood after an acknowledged request
-abbrev Shows : List ℕ → State → List Reply → List State → Type 0
+abbrev pub Shows : List ℕ → State → List Reply → List State → Type 0
 Shows image s replies states = run.OpensToKept CLASSES s image
     ⊎ ((i : ℕ) × IsKept replies i × OpensTo (state_after s states i) image)
 
@@ -141,11 +141,11 @@ first_kept image limits s (r ∷ rs) [] (t ∷ states) chain some = absurd (chai
 
 -- The checkpoint of the last state is that of the first, where none was acknowledged, or what stood after the last
 -- request that was acknowledged.
-abbrev LastIs : ℕ → ℕ → State → List Reply → List State → Type 0
+abbrev pub LastIs : ℕ → ℕ → State → List Reply → List State → Type 0
 LastIs done kept s replies states =
     ((last_kept done kept replies ≡ kept) × ((last_state s states).kept ≡ s.kept)
     × ((last_state s states).kept_book ≡ s.kept_book))
-    ⊎ ((i : ℕ) × (last_kept done kept replies ≡ done + i)
+    ⊎ ((i : ℕ) × IsKept replies i × (last_kept done kept replies ≡ done + i)
     × ((last_state s states).kept ≡ (state_after s states i).map)
     × ((last_state s states).kept_book ≡ (state_after s states i).book))
 
@@ -163,6 +163,7 @@ module _ (limits : Limits) (s t : State) (r : Request) (reply : Reply) (step : S
       as (λ _. LastIs done kept s (reply ∷ replies) (t ∷ states)) [
         | inl one ↦ inr (
             1,
+            is,
             number ∙ ap (λ (k : Bool). if k then counted done 1 else kept) is ∙ one_more,
             same ∙ now_kept limits s t r reply step ∙ one.kept ∙ ap (λ (y : State). y.map) (sym step.state),
             book ∙ now_book limits s t r reply step ∙ one.book ∙ ap (λ (y : State). y.book) (sym step.state),
@@ -179,10 +180,10 @@ module _ (limits : Limits) (s t : State) (r : Request) (reply : Reply) (step : S
           )
       ]
 
-  last_more : LastIs (counted done 1) (if acknowledges reply then counted done 1 else kept) t replies states
+  kept_last : LastIs (counted done 1) (if acknowledges reply then counted done 1 else kept) t replies states
       → LastIs done kept s (reply ∷ replies) (t ∷ states)
-  last_more (inl same) = same_by (acknowledges reply) refl same.0 same.1 same.2
-  last_more (inr one) = inr (suc one.0, omega (arith, one.1, one_more), one.2, one.3)
+  kept_last (inl same) = same_by (acknowledges reply) refl same.0 same.1 same.2
+  kept_last (inr one) = inr (suc one.0, kept_later reply replies one.0 one.1, omega (arith, one.2, one_more), one.3, one.4)
 
 pub last_is : (limits : Limits) (done kept : ℕ) (s : State) (rs : List Request) (replies : List Reply)
     (states : List State) → Chain limits s rs replies states → done + length rs ≤ last
@@ -190,7 +191,7 @@ pub last_is : (limits : Limits) (done kept : ℕ) (s : State) (rs : List Request
 last_is limits done kept s [] [] [] chain few = inl (refl, refl, refl)
 last_is limits done kept s (r ∷ rs) (reply ∷ replies) (t ∷ states) chain few =
     let one : counted done 1 ≡ done + 1 = omega (arith, few) in
-    last_more limits s t r reply chain.0 done kept (omega (arith, few)) replies states
+    kept_last limits s t r reply chain.0 done kept (omega (arith, few)) replies states
     (last_is limits (counted done 1) (if acknowledges reply then counted done 1 else kept) t rs replies states
     chain.1 (omega (arith, few, one)))
 last_is limits done kept s [] [] (t ∷ states) chain few = absurd (chain)

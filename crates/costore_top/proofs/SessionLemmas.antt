@@ -1,4 +1,6 @@
 -- How a session went, from the steps that its functions take.
+use Rattle.costore_top.proofs.OpeningLemmas.{Opened}
+use Rattle.costore_top.proofs.RunLaws.{tight_over}
 use Rattle.std.specs.Prelude.{◌≡◌, ℕ, false, Result, Ok, Err, IsTrue, refl}
 use Rattle.std.proofs.Common.{ap, sym, ◌∙◌, subst, inl, inr}
 use Rattle.disk_face.specs.States.{State}

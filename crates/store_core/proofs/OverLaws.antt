@@ -94,7 +94,7 @@ same_objects base spots a b named within same = by_index base (records_of spots)
 
 -- ---- a store over a file
 
-same_block : {classes : ℕ} (s : Kept) (file : List ℕ) (t : choice.Table) → HasCheckpoint classes s file t
+pub same_block : {classes : ℕ} (s : Kept) (file : List ℕ) (t : choice.Table) → HasCheckpoint classes s file t
     → t.chosen.block ≡ s.in_use.block
 same_block s file t c =
     let p = chosen_parts file t.chosen (table_chosen file t c.opens.read).0 in
