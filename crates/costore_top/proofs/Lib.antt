@@ -8,3 +8,5 @@ mod RunLists
 mod SessionLemmas
 mod OpeningLemmas
 mod RunLaws
+mod UnservedLaws
+mod SettledLaws

@@ -50,7 +50,7 @@ turn_of kind.Settled t m b file first now s is settled = is
 turn_of kind.Moving t m b file first now s is settled = absurd (cc)
 
 module _ (t : choice.Table) (m : Map) (b : Book) (old first : State) (mount : AfterMount old first)
-    (calm : first.faults ≡ old.faults) (told : IsTrue old.tells) (o : OpensBy CLASSES SIZE_MAX t old.file m b) where
+    (told : IsTrue old.tells) (o : OpensBy CLASSES SIZE_MAX t old.file m b) where
   pub told_first : IsTrue first.tells
   told_first = mount.told ∙ told
 
@@ -85,8 +85,9 @@ module _ (t : choice.Table) (m : Map) (b : Book) (old first : State) (mount : Af
         (subst (λ (f : List ℕ). Leaves first a (IsFoundImage CLASSES m b (length f))) file_first
         ((opening.found told_first t m b opens_first).left room (rests_first rests)))
 
-    pub opened_by : (s : Kept) → IsOpening CLASSES first a (Ok s) → Opened t m b old a s
-    opened_by s opening =
+    pub opened_by : (s : Kept) → first.faults ≡ old.faults → IsOpening CLASSES first a (Ok s)
+        → Opened t m b old a s
+    opened_by s calm opening =
         let found : OpensFound CLASSES t m b first a (Ok s) = opening.found told_first t m b opens_first in
         let is : IsOpened CLASSES first.file a.file s = opening.opened told_first in
         let one : FoundSame is.table t is.m m is.b b =

@@ -43,7 +43,7 @@ use Rattle.costore_top.specs.Outcomes.{PutsLast, line_at, status_at}
 use Rattle.costore_top.specs.declared.stop.Stop.{Stop}
 use Rattle.costore_top.specs.declared.stop.Stop.TheVariants as stop
 use Rattle.costore_top.specs.declared.top.Outcome.{Outcome}
-use Rattle.costore_top.proofs.RunLists.{IsNext, LastIs, Splits, first_kept, last_is, next_is, none_next, some_weaker, splits}
+use Rattle.costore_top.proofs.RunLists.{IsNext, LastIs, Splits, begins_none, first_kept, last_is, next_is, none_next, some_weaker, splits}
 use Rattle.costore_top.proofs.OpeningLemmas.{Opened, left_old}
 
 -- ---- a store over a file
@@ -260,7 +260,7 @@ module _ {t : choice.Table} {m : Map} {b : Book} {requests : List Request} {end 
     same_states : served_states status limits start states split.others ≡ states
     same_states = ap (λ (x : Bool). if x then states ++ next_states limits last_one split.others else states) not_nine
 
-    pub between_requests : RunsAs u t m b requests end counts old c from rest out after
+    between_requests : RunsAs u t m b requests end counts old c from rest out after
     between_requests = record {
       start = start;
       starts = starts;
@@ -302,6 +302,79 @@ module _ {t : choice.Table} {m : Map} {b : Book} {requests : List Request} {end 
           (omega (arith, ap (λ (y : store.State). y.sequence) newest))
           (λ was. ran.rests op.told (op.rests was))));
     }
+
+  module _ (after : SinkState) (rest : SourceState) (sound : IsStore CLASSES s1.store)
+      (ending : Result (Unit {0}) Stop) (numbered : NumbersLine s1.done ending)
+      (line : IsTrue out.tells → PutsLast o1.given after.given (line_at ending) (Rose out.faults after.faults)) where
+    abbrev RunsWith : ℕ → Type 0
+    RunsWith status = RunsAs u t m b requests end (record {
+      status = status;
+      done = s1.done;
+      kept_done = s1.kept_done;
+      kept_turn = s1.kept_turn;
+    }) old c from rest out after
+
+    some_left : n < budget → s1.done ≡ budget → ⊥
+    some_left fewer is = omega (arith, is, done_is, fewer)
+
+    pub input_ended : 0 ≡ status_at ending → n < budget → unread s1 i1 ≡ [] → RunsWith 0
+    input_ended status_is fewer empty =
+        let none = none_next split.others (unread s1 i1) end split.asks (subst BeginsNone (sym empty) begins_none) in
+        between_requests after rest 0 refl refl (λ is. omega (arith, is)) (λ is. omega (arith, is)) sound ending
+        status_is numbered line (record {
+          known = refl;
+          done = λ is. (none.0, sym none.1 ∙ empty);
+          line = λ is. absurd (omega (arith, is));
+          absent = λ is. absurd (omega (arith, is));
+          disk = λ is. absurd (omega (arith, is));
+          sink = λ is. absurd (omega (arith, is));
+          memory = λ is. absurd (omega (arith, is));
+          limit = (λ is. absurd (omega (arith, is)), λ is. absurd (some_left fewer is));
+        })
+
+    pub line_failed : 2 ≡ status_at ending → n < budget → (unread s1 i1 ≡ [] → ⊥) → BeginsNone (unread s1 i1)
+        → RunsWith 2
+    line_failed status_is fewer some begins =
+        let none = none_next split.others (unread s1 i1) end split.asks begins in
+        between_requests after rest 2 refl refl (λ is. omega (arith, is)) (λ is. omega (arith, is)) sound ending
+        status_is numbered line (record {
+          known = refl;
+          done = λ is. absurd (omega (arith, is));
+          line = λ is. (none.0, λ empty. some (none.1 ∙ empty));
+          absent = λ is. absurd (omega (arith, is));
+          disk = λ is. absurd (omega (arith, is));
+          sink = λ is. absurd (omega (arith, is));
+          memory = λ is. absurd (omega (arith, is));
+          limit = (λ is. absurd (omega (arith, is)), λ is. absurd (some_left fewer is));
+        })
+
+    pub source_failed : 8 ≡ status_at ending → n < budget → RunsWith 8
+    source_failed status_is fewer =
+        between_requests after rest 8 refl refl (λ is. omega (arith, is)) (λ is. omega (arith, is)) sound ending
+        status_is numbered line (record {
+          known = refl;
+          done = λ is. absurd (omega (arith, is));
+          line = λ is. absurd (omega (arith, is));
+          absent = λ is. absurd (omega (arith, is));
+          disk = λ is. absurd (omega (arith, is));
+          sink = λ is. absurd (omega (arith, is));
+          memory = λ is. absurd (omega (arith, is));
+          limit = (λ is. absurd (omega (arith, is)), λ is. absurd (some_left fewer is));
+        })
+
+    pub all_answered : 11 ≡ status_at ending → n ≡ budget → RunsWith 11
+    all_answered status_is all =
+        between_requests after rest 11 refl refl (λ is. omega (arith, is)) (λ is. omega (arith, is)) sound ending
+        status_is numbered line (record {
+          known = refl;
+          done = λ is. absurd (omega (arith, is));
+          line = λ is. absurd (omega (arith, is));
+          absent = λ is. absurd (omega (arith, is));
+          disk = λ is. absurd (omega (arith, is));
+          sink = λ is. absurd (omega (arith, is));
+          memory = λ is. absurd (omega (arith, is));
+          limit = (λ is. done_is ∙ all, λ is. refl);
+        })
 
   -- ---- a device failed while a request was served or its reply was put
 

@@ -1,6 +1,8 @@
 -- How a session over a file went, step by step.
-use Rattle.std.specs.Prelude.{◌≡◌, ◌⊎◌, ℕ, ◌+◌, false, Result, Ok, Err}
-use Rattle.disk_face.specs.Counts.{counted}
+use Rattle.std.specs.Prelude.{◌≡◌, ◌⊎◌, ℕ, ◌+◌, false, Result, None, Ok, Err}
+use Rattle.disk_face.specs.Counts.{Rose, counted}
+use Rattle.disk_face.specs.Frames.{AfterMount}
+use Rattle.disk_face.specs.declared.bay.Mounted.TheVariants.{Absent, There}
 use Rattle.disk_face.specs.States.{State}
 use Rattle.disk_face.specs.Streams.{SinkState, SourceState}
 use Rattle.size_class.specs.declared.TheConstants.{CLASSES}
@@ -12,10 +14,13 @@ use Rattle.ask_session.specs.Sittings.{Sitting, new_sitting}
 use Rattle.ask_session.specs.Runs.{EndsRun}
 use Rattle.ask_session.specs.declared.ends.End.{End}
 use Rattle.ask_session.specs.declared.ends.End.TheVariants as ends
+use Rattle.costore_top.specs.Words.{Command}
+use Rattle.costore_top.specs.Outcomes.{mounted, status_at}
 use Rattle.costore_top.specs.Getting.{stop_of}
 use Rattle.costore_top.specs.declared.stop.Stop.{Stop}
 use Rattle.costore_top.specs.declared.stop.Stop.TheVariants as stop
 use Rattle.costore_top.specs.declared.run.Ended.{Ended}
+use Rattle.costore_top.specs.declared.top.Outcome.{Outcome}
 
 -- how the program ends where a session ended so, after so many requests were answered
 abbrev pub end_of : End → ℕ → Result (Unit {0}) Stop
@@ -71,3 +76,29 @@ Went disk_of source_of sink_of before now from rest out after e =
     ((IsUnopened (disk_of before) (disk_of now) e ⊎ IsUnbegun (disk_of before) (disk_of now) e)
     × (rest ≡ from) × (after ≡ out))
     ⊎ HasSession disk_of source_of sink_of before now from rest out after e
+
+-- The file of a command wasn't mounted: the disk failed, or the file isn't there.
+pub record IsUnmounted (c : Command) (before now : State) (e : Ended) : Type 0 where
+  pub mount : AfterMount before now
+  pub which : ((e ≡ unserved stop.Disk 0) × (now.last_mount ≡ None) × Rose before.faults now.faults)
+      ⊎ ((e ≡ unserved stop.NoFile 0) × (now.last_mount ≡ mounted c Absent) × (now.faults ≡ before.faults))
+
+-- It was mounted, at `first`, and a session over it went so.
+pub record IsServed {D I O : Type 0} (disk_of : D → State) (source_of : I → SourceState) (sink_of : O → SinkState)
+    (c : Command) (before now : D) (from rest : I) (out after : O) (e : Ended) : Type 0 where
+  pub first : D
+  pub mount : AfterMount (disk_of before) (disk_of first)
+  pub there : (disk_of first).last_mount ≡ mounted c There
+  pub calm : (disk_of first).faults ≡ (disk_of before).faults
+  pub went : Went disk_of source_of sink_of first now from rest out after e
+
+-- A command that serves requests went so; where its file wasn't mounted, no stream was called.
+abbrev pub WentFrom : {D I O : Type 0} → (D → State) → (I → SourceState) → (O → SinkState) → Command → D → D → I → I → O
+    → O → Ended → Type 0
+WentFrom disk_of source_of sink_of c before now from rest out after e =
+    (IsUnmounted c (disk_of before) (disk_of now) e × (rest ≡ from) × (after ≡ out))
+    ⊎ IsServed disk_of source_of sink_of c before now from rest out after e
+
+-- the status and the numbers of an end
+abbrev pub outcome_of : Ended → Outcome
+outcome_of e = record { status = status_at e.end; done = e.done; kept_done = e.kept_done; kept_turn = e.kept_turn }

@@ -1,15 +1,16 @@
 //! The command `run`: a session over a file.
-ghost use Rattle.std.specs.Prelude.{◌≡◌, false, Ok, IsTrue};
+ghost use Rattle.std.specs.Prelude.{◌≡◌, false, None, Ok, IsTrue};
 ghost use Rattle.size_class.specs.declared.TheConstants.{CLASSES};
 ghost use Rattle.store_core.specs.Connection.{IsConnected};
 ghost use Rattle.store_core.specs.Opened.{IsOpening};
 ghost use Rattle.store_core.specs.Stores.{IsStore};
-ghost use Rattle.costore_top.specs.Sessions.{Went, end_of, ended_as, unserved};
+ghost use Rattle.costore_top.specs.Sessions.{Went, WentFrom, end_of, ended_as, unserved};
+ghost use Rattle.costore_top.specs.Words.{run};
 
 use crate::Stop;
 use crate::get::stop_of;
 use ask_session::{End, Session};
-use disk_face::{Disk, Sink, Source};
+use disk_face::{Bay, Disk, Mounted, Sink, Source};
 use size_class::CLASSES;
 use std::alloc::Global;
 use store_core::Store;
@@ -23,8 +24,29 @@ pub struct Ended {
     pub kept_turn: u64,
 }
 
+/// Mounts the file, opens it, and serves the requests of the input until the session ends.
+pub fn serve_file<B: Bay, I: Source, O: Sink>(
+    alloc: Global,
+    bay: &mut B,
+    file: &str,
+    input: &mut I,
+    output: &mut O,
+) -> Ended
+    requires { (B.state bay.old).last_mount ≡ None }
+    ensures { WentFrom B.state I.state O.state (run file.now) bay.old bay.new input.old input.new output.old
+        output.new result }
+{
+    match bay.mount(file, false) {
+        Err(_) => unserved(Stop::Disk, 0),
+        Ok(Mounted::Absent) => unserved(Stop::NoFile, 0),
+        // Nothing is made where it isn't asked for.
+        Ok(Mounted::Made) => unreachable!(),
+        Ok(Mounted::There) => serve_from(alloc, bay, input, output),
+    }
+}
+
 /// Opens the file, and serves the requests of the input until the session ends.
-pub fn serve_from<D: Disk, I: Source, O: Sink>(
+fn serve_from<D: Disk, I: Source, O: Sink>(
     alloc: Global,
     disk: &mut D,
     input: &mut I,
