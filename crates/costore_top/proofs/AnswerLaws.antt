@@ -67,7 +67,7 @@ one_refusal file (store.Table x) (store.Table y) h k =
     λ i. store.Table (record { rule = rule i; at = at i })
 
 -- a file that opens isn't refused
-opens_or_not : (file : List ℕ) (m : Map) (b : Book) (f : StoreFault) → Opens CLASSES SIZE_MAX file m b
+pub opens_or_not : (file : List ℕ) (m : Map) (b : Book) (f : StoreFault) → Opens CLASSES SIZE_MAX file m b
     → IsFirstRefusal file f → ⊥
 opens_or_not file m b (store.Slot f) o (r, a, is_f) = let read = o.opens.read in absurd (cc)
 opens_or_not file m b (store.Table x) o h =

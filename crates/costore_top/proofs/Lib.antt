@@ -10,3 +10,4 @@ mod OpeningLemmas
 mod RunLaws
 mod UnservedLaws
 mod SettledLaws
+mod HeadlineLaws

@@ -57,7 +57,7 @@ module _ (t : choice.Table) (m : Map) (b : Book) (old first : State) (mount : Af
   pub file_first : first.file ≡ old.file
   file_first = mount.same_file told
 
-  opens_first : OpensBy CLASSES SIZE_MAX t first.file m b
+  pub opens_first : OpensBy CLASSES SIZE_MAX t first.file m b
   opens_first = subst (λ (f : List ℕ). OpensBy CLASSES SIZE_MAX t f m b) (sym file_first) o
 
   pub rests_first : RestsOnFound t old → RestsOnFound t first
