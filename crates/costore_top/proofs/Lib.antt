@@ -11,3 +11,5 @@ mod RunLaws
 mod UnservedLaws
 mod SettledLaws
 mod HeadlineLaws
+mod ClauseLaws
+mod WentLaws

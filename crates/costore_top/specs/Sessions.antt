@@ -1,5 +1,5 @@
 -- How a session over a file went, step by step.
-use Rattle.std.specs.Prelude.{◌≡◌, ◌⊎◌, ℕ, ◌+◌, false, Result, None, Ok, Err}
+use Rattle.std.specs.Prelude.{◌≡◌, ◌⊎◌, ℕ, ◌+◌, ◌≤◌, false, Result, None, Ok, Err}
 use Rattle.disk_face.specs.Counts.{Rose, counted}
 use Rattle.disk_face.specs.Frames.{AfterMount}
 use Rattle.disk_face.specs.declared.bay.Mounted.TheVariants.{Absent, There}
@@ -80,6 +80,7 @@ Went disk_of source_of sink_of before now from rest out after e =
 -- The file of a command wasn't mounted: the disk failed, or the file isn't there.
 pub record IsUnmounted (c : Command) (before now : State) (e : Ended) : Type 0 where
   pub mount : AfterMount before now
+  pub later : before.faults ≤ now.faults
   pub which : ((e ≡ unserved stop.Disk 0) × (now.last_mount ≡ None) × Rose before.faults now.faults)
       ⊎ ((e ≡ unserved stop.NoFile 0) × (now.last_mount ≡ mounted c Absent) × (now.faults ≡ before.faults))
 
@@ -98,6 +99,25 @@ abbrev pub WentFrom : {D I O : Type 0} → (D → State) → (I → SourceState)
 WentFrom disk_of source_of sink_of c before now from rest out after e =
     (IsUnmounted c (disk_of before) (disk_of now) e × (rest ≡ from) × (after ≡ out))
     ⊎ IsServed disk_of source_of sink_of c before now from rest out after e
+
+-- What the command that serves requests does to its devices. No count falls, and a device's own fault comes only where
+-- its count rose; where all is done the sink's didn't. What is told stays told.
+pub record KeepsRun (old new : State) (from rest : SourceState) (out after : SinkState) (status : ℕ) : Type 0 where
+  pub later : old.faults ≤ new.faults
+  pub rose : status ≡ 7 → Rose old.faults new.faults
+  pub no_turn_back : old.turn ≤ new.turn
+  pub told : new.tells ≡ old.tells
+  pub images_told : new.tells_images ≡ old.tells_images
+  pub source_later : from.faults ≤ rest.faults
+  pub source_rose : status ≡ 8 → Rose from.faults rest.faults
+  pub sink_later : out.faults ≤ after.faults
+  pub sink_rose : status ≡ 9 → Rose out.faults after.faults
+  pub sink_calm : status ≡ 0 → after.faults ≡ out.faults
+  pub sink_told : after.tells ≡ out.tells
+
+-- the file wasn't there, or isn't opened, or memory was wanting
+abbrev pub IsUnserved : ℕ → Type 0
+IsUnserved status = (status ≡ 3) ⊎ (status ≡ 4) ⊎ (status ≡ 10)
 
 -- the status and the numbers of an end
 abbrev pub outcome_of : Ended → Outcome
