@@ -13,3 +13,4 @@ mod SettledLaws
 mod HeadlineLaws
 mod ClauseLaws
 mod WentLaws
+mod EndLaws

@@ -1,11 +1,14 @@
 -- How a session over a file went, step by step.
-use Rattle.std.specs.Prelude.{◌≡◌, ◌⊎◌, ℕ, ◌+◌, ◌≤◌, false, Result, None, Ok, Err}
+use Rattle.std.specs.Prelude.{◌≡◌, ◌⊎◌, ℕ, ◌+◌, ◌≤◌, false, List, Result, None, Ok, Err}
 use Rattle.disk_face.specs.Counts.{Rose, counted}
 use Rattle.disk_face.specs.Frames.{AfterMount}
 use Rattle.disk_face.specs.declared.bay.Mounted.TheVariants.{Absent, There}
 use Rattle.disk_face.specs.States.{State}
 use Rattle.disk_face.specs.Streams.{SinkState, SourceState}
-use Rattle.size_class.specs.declared.TheConstants.{CLASSES}
+use Rattle.size_class.specs.declared.TheConstants.{CLASSES, SIZE_MAX}
+use Rattle.store_terms.specs.Maps.{Map}
+use Rattle.segment_layout.specs.Books.{Book}
+use Rattle.table_rules.specs.Opening.{Opens}
 use Rattle.store_core.specs.Connection.{Kept}
 use Rattle.store_core.specs.Opened.{IsOpening}
 use Rattle.store_core.specs.Stores.{IsStore}
@@ -118,6 +121,10 @@ pub record KeepsRun (old new : State) (from rest : SourceState) (out after : Sin
 -- the file wasn't there, or isn't opened, or memory was wanting
 abbrev pub IsUnserved : ℕ → Type 0
 IsUnserved status = (status ≡ 3) ⊎ (status ≡ 4) ⊎ (status ≡ 10)
+
+-- no map and no book is what the file opens to
+abbrev pub NeverOpens : List ℕ → Type 0
+NeverOpens file = (m : Map) (b : Book) → Opens CLASSES SIZE_MAX file m b → ⊥
 
 -- the status and the numbers of an end
 abbrev pub outcome_of : Ended → Outcome

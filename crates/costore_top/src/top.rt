@@ -119,7 +119,7 @@ fn do_words<B: Bay, O: Sink>(
 
 /// Puts the fault line of a command that stopped, and answers the status. Where that put fails, the
 /// status stays.
-fn finish<O: Sink>(end: Result<(), Stop>, output: &mut O) -> Outcome
+pub fn finish<O: Sink>(end: Result<(), Stop>, output: &mut O) -> Outcome
     ensures status { result ≡ record { status = status_at end; done = 0; kept_done = 0; kept_turn = 0 } }
     ensures line { IsTrue (O.state output.old).tells
         → PutsLast (O.state output.old).given (O.state output.new).given (line_at end)
