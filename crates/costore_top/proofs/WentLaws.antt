@@ -23,7 +23,9 @@ use Rattle.reopen.specs.declared.fault.OpenFault.{OpenFault}
 use Rattle.reopen.specs.declared.fault.OpenFault.TheVariants as opening
 use Rattle.costore_top.specs.Commands.{IsMounted}
 use Rattle.costore_top.specs.Getting.{IsFirstRefusal, IsRefused, stop_of}
-use Rattle.costore_top.specs.Headline.{HasMounted, IsKeptTurn}
+use Rattle.costore_top.specs.Headline.{HasMounted, IsKeptTurn, is_session}
+use Rattle.ask_session.specs.declared.ends.End.{End}
+use Rattle.ask_session.specs.declared.ends.End.TheVariants as ends
 use Rattle.costore_top.specs.Outcomes.{Ends, EndsBy, PutsLast, PutsLine, PutsOut, line_at, mounted, status_at, status_of}
 use Rattle.costore_top.specs.Sessions.{HasSession, IsServed, IsUnbegun, IsUnmounted, IsUnopened, IsUnserved, KeepsRun, Went, WentFrom, ended_as, end_of, outcome_of, unserved}
 use Rattle.costore_top.specs.Words.{Command, run}
@@ -354,3 +356,35 @@ module _ {D I O : Type 0} (disk_of : D → State) (source_of : I → SourceState
           (is.opening.refused told_first))), sink)
       by (inl (inr is, source, sink)) = absurd (never_opened z is.store is.opening)
       by (inr y) = absurd (never_opened (disk_of y.mid) y.store y.opening)
+
+  -- ---- the statuses
+
+  abbrev IsKnown : ℕ → Type 0
+  IsKnown status = (is_session status ≡ true) ⊎ (status ≡ 4)
+
+  known_session : (how : End) (done : ℕ) → IsKnown (status_at (end_of how done))
+  known_session ends.End done = inl refl
+  known_session ends.Line done = inl refl
+  known_session ends.Disk done = inl refl
+  known_session ends.Source done = inl refl
+  known_session ends.Sink done = inl refl
+  known_session ends.Budget done = inl refl
+
+  known_unopened : (n : ℕ) → (n ≡ 4) ⊎ (n ≡ 7) ⊎ (n ≡ 10) → IsKnown n
+  known_unopened n (inl four) = inr four
+  known_unopened n (inr (inl seven)) = inl (ap is_session seven)
+  known_unopened n (inr (inr ten)) = inl (ap is_session ten)
+
+  pub known : WentFrom disk_of source_of sink_of (run file) before now from rest out mid_out e
+      → IsKnown (status_at e.end)
+  known (inl (is, source, sink)) = elim is.which as (λ _. IsKnown (status_at e.end)) [
+    | inl failed ↦ inl (ap (λ (y : Ended). is_session (status_at y.end)) failed.0)
+    | inr gone ↦ inl (ap (λ (y : Ended). is_session (status_at y.end)) gone.0)
+  ]
+  known (inr x) = by x.went
+    where
+      by : Went disk_of source_of sink_of x.first now from rest out mid_out e → IsKnown (status_at e.end)
+      by (inl (inl is, source, sink)) = subst (λ (y : Ended). IsKnown (status_at y.end)) (sym is.ended)
+          (known_unopened (status_of (stop_of is.fault)) (status_unopened is.fault))
+      by (inl (inr is, source, sink)) = inl (ap (λ (y : Ended). is_session (status_at y.end)) is.ended)
+      by (inr y) = subst (λ (w : Ended). IsKnown (status_at w.end)) (sym y.ended) (known_session y.end y.new.done)

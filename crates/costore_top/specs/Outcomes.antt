@@ -72,6 +72,7 @@ format_answer file = if length file == 0 then Ok (codes "formatted\n") else Err 
 unfoldable pub IsAnswer : Command → List ℕ → Result (List ℕ) Stop → Type 0
 IsAnswer (format name k names) file answer = answer ≡ format_answer file
 IsAnswer (get name object) file answer = IsObject object file answer
+IsAnswer (run name) file answer = ⊥
 IsAnswer help file answer = answer ≡ Ok HELP.now
 IsAnswer version file answer = answer ≡ Ok VERSION.now
 IsAnswer _ file answer = answer ≡ Err stop.NotBuilt

@@ -1,7 +1,7 @@
 -- How a session over a file went, step by step.
-use Rattle.std.specs.Prelude.{◌≡◌, ◌⊎◌, ℕ, ◌+◌, ◌≤◌, false, List, Result, None, Ok, Err}
+use Rattle.std.specs.Prelude.{◌≡◌, ◌⊎◌, ℕ, ◌+◌, ◌≤◌, false, List, IsTrue, Result, None, Ok, Err}
 use Rattle.disk_face.specs.Counts.{Rose, counted}
-use Rattle.disk_face.specs.Frames.{AfterMount}
+use Rattle.disk_face.specs.Frames.{AfterMount, Untouched}
 use Rattle.disk_face.specs.declared.bay.Mounted.TheVariants.{Absent, There}
 use Rattle.disk_face.specs.States.{State}
 use Rattle.disk_face.specs.Streams.{SinkState, SourceState}
@@ -18,7 +18,8 @@ use Rattle.ask_session.specs.Runs.{EndsRun}
 use Rattle.ask_session.specs.declared.ends.End.{End}
 use Rattle.ask_session.specs.declared.ends.End.TheVariants as ends
 use Rattle.costore_top.specs.Words.{Command}
-use Rattle.costore_top.specs.Outcomes.{mounted, status_at}
+use Rattle.costore_top.specs.Outcomes.{PutsLine, mounted, status_at}
+use Rattle.costore_top.specs.Headline.{HasMounted, IsKeptTurn}
 use Rattle.costore_top.specs.Getting.{stop_of}
 use Rattle.costore_top.specs.declared.stop.Stop.{Stop}
 use Rattle.costore_top.specs.declared.stop.Stop.TheVariants as stop
@@ -121,6 +122,16 @@ pub record KeepsRun (old new : State) (from rest : SourceState) (out after : Sin
 -- the file wasn't there, or isn't opened, or memory was wanting
 abbrev pub IsUnserved : ℕ → Type 0
 IsUnserved status = (status ≡ 3) ⊎ (status ≡ 4) ⊎ (status ≡ 10)
+
+-- What the command that serves requests does whatever the file and the devices tell. Where no request was read the input
+-- is as it was, and the fault line is all that is put; where the file isn't there or is refused, it stays as it was.
+pub record ServesSo (o : Outcome) (old new : State) (from rest : SourceState) (out after : SinkState)
+    (same_input : Type 0) : Type 0 where
+  pub keeps : KeepsRun old new from rest out after o.status
+  pub turn : IsKeptTurn o (HasMounted new) old.turn new.turn
+  pub unread : IsUnserved o.status → same_input
+  pub untouched : (o.status ≡ 3) ⊎ (o.status ≡ 4) → Untouched old new
+  pub line_alone : IsTrue out.tells → IsUnserved o.status → PutsLine o.status out after
 
 -- no map and no book is what the file opens to
 abbrev pub NeverOpens : List ℕ → Type 0

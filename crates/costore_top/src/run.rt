@@ -1,15 +1,14 @@
 //! The command `run`: a session over a file.
-ghost use Rattle.std.specs.Prelude.{◌≡◌, ◌⊎◌, false, None, Ok, IsTrue};
-ghost use Rattle.disk_face.specs.Frames.{Untouched};
+ghost use Rattle.std.specs.Prelude.{◌≡◌, ◌⊎◌, false, true, None, Ok, IsTrue};
 ghost use Rattle.size_class.specs.declared.TheConstants.{CLASSES};
 ghost use Rattle.store_core.specs.Connection.{IsConnected};
 ghost use Rattle.store_core.specs.Opened.{IsOpening};
 ghost use Rattle.store_core.specs.Stores.{IsStore};
 ghost use Rattle.costore_top.specs.Commands.{IsMounted};
 ghost use Rattle.costore_top.specs.Getting.{IsRefused};
-ghost use Rattle.costore_top.specs.Headline.{HasMounted, IsKeptTurn, RunsFrom};
-ghost use Rattle.costore_top.specs.Outcomes.{Ends, PutsLine};
-ghost use Rattle.costore_top.specs.Sessions.{IsUnserved, KeepsRun, NeverOpens, Went, WentFrom, end_of, ended_as, unserved};
+ghost use Rattle.costore_top.specs.Headline.{RunsFrom, is_session};
+ghost use Rattle.costore_top.specs.Outcomes.{Ends};
+ghost use Rattle.costore_top.specs.Sessions.{NeverOpens, ServesSo, Went, WentFrom, end_of, ended_as, unserved};
 ghost use Rattle.costore_top.specs.Words.{run};
 
 use crate::get::stop_of;
@@ -44,17 +43,11 @@ pub fn run_file<B: Bay, I: Source, O: Sink>(
         (O.state output.old) (O.state output.new) }
     ensures refused { IsTrue (B.state bay.old).tells → NeverOpens (B.state bay.old).file
         → Ends (IsRefused (B.state bay.old).file) result.status (O.state output.old) (O.state output.new) }
+    ensures known { (is_session result.status ≡ true) ⊎ (result.status ≡ 4) }
     ensures mounted { IsMounted (run file.now) (B.state bay.new).last_mount (result.status ≡ 7)
         (result.status ≡ 3) }
-    ensures turn { IsKeptTurn result (HasMounted (B.state bay.new)) (B.state bay.old).turn
-        (B.state bay.new).turn }
-    ensures unread { IsUnserved result.status → input.new ≡ input.old }
-    ensures untouched { (result.status ≡ 3) ⊎ (result.status ≡ 4)
-        → Untouched (B.state bay.old) (B.state bay.new) }
-    ensures line_alone { IsTrue (O.state output.old).tells → IsUnserved result.status
-        → PutsLine result.status (O.state output.old) (O.state output.new) }
-    ensures keeps { KeepsRun (B.state bay.old) (B.state bay.new) (I.state input.old) (I.state input.new)
-        (O.state output.old) (O.state output.new) result.status }
+    ensures serves { ServesSo result (B.state bay.old) (B.state bay.new) (I.state input.old)
+        (I.state input.new) (O.state output.old) (O.state output.new) (input.new ≡ input.old) }
 {
     let ended = serve_file(alloc, bay, file, input, output);
     let outcome = finish(ended.end, output);
