@@ -8,5 +8,5 @@ mod PutLaws
 mod ReplyLaws
 mod RequestLemmas
 pub mod RunIndexLaws
-mod RunLaws
+pub mod RunLaws
 mod ServingLaws

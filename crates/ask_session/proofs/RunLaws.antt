@@ -36,11 +36,11 @@ use Rattle.ask_session.specs.Runs.{HasRun, IsLastTurn, IsRunImage, IsStepImage, 
 
 -- ---- lists that grow at their end
 
-and_none : (b : Bool) → (b && false) ≡ false
+pub and_none : (b : Bool) → (b && false) ≡ false
 and_none true = refl
 and_none false = refl
 
-last_more : (s t : State) (states : List State) → last_state s (states ++ t ∷ []) ≡ t
+pub last_more : (s t : State) (states : List State) → last_state s (states ++ t ∷ []) ≡ t
 last_more s t [] = refl
 last_more s t (u ∷ states) = last_more u t states
 
@@ -61,13 +61,13 @@ chain_more limits s t [] (y ∷ replies) states r reply chain step = absurd (cha
 chain_more limits s t (x ∷ rs) [] states r reply chain step = absurd (chain)
 chain_more limits s t (x ∷ rs) (y ∷ replies) [] r reply chain step = absurd (chain)
 
-some_more : (P : State → State → Type 0) (s t : State) (states : List State) → SomeStep P s states
+pub some_more : (P : State → State → Type 0) (s t : State) (states : List State) → SomeStep P s states
     → SomeStep P s (states ++ t ∷ [])
 some_more P s t [] some = absurd (some)
 some_more P s t (u ∷ states) (inl is) = inl is
 some_more P s t (u ∷ states) (inr some) = inr (some_more P u t states some)
 
-some_last : (P : State → State → Type 0) (s t : State) (states : List State) → P (last_state s states) t
+pub some_last : (P : State → State → Type 0) (s t : State) (states : List State) → P (last_state s states) t
     → SomeStep P s (states ++ t ∷ [])
 some_last P s t [] is = inl is
 some_last P s t (u ∷ states) is = inr (some_last P u t states is)
@@ -97,7 +97,7 @@ calls_more limits m s t states [] (y ∷ replies) r reply chain = absurd (chain)
 calls_more limits m s t states (x ∷ rs) [] r reply chain = absurd (chain)
 calls_more limits m s t [] (x ∷ rs) (y ∷ replies) r reply chain = absurd (chain)
 
-chain_long : (limits : Limits) (s : State) (rs : List Request) (replies : List Reply) (states : List State)
+pub chain_long : (limits : Limits) (s : State) (rs : List Request) (replies : List Reply) (states : List State)
     → Chain limits s rs replies states → length replies ≡ length rs
 chain_long limits s [] [] [] chain = refl
 chain_long limits s (x ∷ rs) (y ∷ replies) (z ∷ states) chain =
@@ -170,7 +170,7 @@ makes limits s r = by (refusal limits (facts_of s r) r) refl
 
 -- ---- one more request
 
-opens_with : {classes : ℕ} (image : List ℕ) {m m' : Map} {b b' : Book} → m' ≡ m → b' ≡ b
+pub opens_with : {classes : ℕ} (image : List ℕ) {m m' : Map} {b b' : Book} → m' ≡ m → b' ≡ b
     → Opens classes SIZE_MAX image m b → Opens classes SIZE_MAX image m' b'
 opens_with {classes} image {m} {m'} {b} {b'} maps books is =
     subst (λ (x : Map). Opens classes SIZE_MAX image x b') (sym maps)
@@ -303,6 +303,19 @@ module _ {classes : ℕ} (old : Sitting) (a : disk.State) (old_in : SourceState)
   turn_low true low = omega arith
   turn_low false low = omega (arith, ran.kept_turn low, x.served.replies.serves.frame.no_turn_back)
 
+  turn_up : (kept : Bool) → old.kept_turn ≤ a.turn → old.kept_turn ≤ (if kept then d.turn else mid.kept_turn)
+  turn_up true low = omega (arith, low, ran.frame.no_turn_back, x.served.replies.serves.frame.no_turn_back)
+  turn_up false low = ran.turn_rises low
+
+  unkept_now : (kept : Bool) → new.kept_done ≡ (if kept then new.done else mid.kept_done)
+      → new.kept_turn ≡ (if kept then d.turn else mid.kept_turn)
+      → (new.kept_turn ≡ old.kept_turn) ⊎ (0 < new.kept_done)
+  unkept_now true number turn = inr (omega (arith, number, x.done))
+  unkept_now false number turn = elim ran.unkept as (λ _. (new.kept_turn ≡ old.kept_turn) ⊎ (0 < new.kept_done)) [
+    | inl same ↦ inl (turn ∙ same)
+    | inr some ↦ inr (omega (arith, number, some))
+  ]
+
   calls_now : (kept : Bool) (m c : ℕ) → IsTrue a.tells → kept ≡ acknowledges reply
       → b.turn ≡ counted mid.kept_turn m
       → c ≡ (if acknowledges reply then 0 else m + calls_of limits s r)
@@ -388,6 +401,8 @@ module _ {classes : ℕ} (old : Sitting) (a : disk.State) (old_in : SourceState)
         (sym x.kept_turn)
         (since_now x.kept told rests below low was (kept_is told));
     kept_turn = λ low. subst (λ (n : ℕ). n ≤ d.turn) (sym x.kept_turn) (turn_low x.kept low);
+    turn_rises = λ low. subst (λ (n : ℕ). old.kept_turn ≤ n) (sym x.kept_turn) (turn_up x.kept low);
+    unkept = unkept_now x.kept x.kept_done x.kept_turn;
     calls = λ told m turn. subst (λ (k : ℕ). d.turn ≡ counted k (calls_since limits m start (ran.states
         ++ t ∷ [])
         (ran.requests ++ r ∷ []) (ran.replies ++ reply ∷ []))) (sym x.kept_turn)
@@ -433,6 +448,8 @@ has_run_none {classes} s a i o whole over ready fits = record {
       (state_of s.store a.file) []);
   since = λ told rests below low was. was;
   kept_turn = λ low. low;
+  turn_rises = λ low. omega arith;
+  unkept = inl refl;
   calls = λ told m turn. turn;
   frame = record {
     no_turn_back = omega arith;

@@ -76,7 +76,7 @@ IsRunImage classes k base s states image = SomeStep (IsStepImage classes k base 
 -- reply was put whole, and the states after them are a chain of steps. What a crash may leave meanwhile was
 -- left in one of them, where the disk rested on the checkpoint's table; it does so again. Since the last
 -- acknowledged checkpoint a crash leaves what opens to that alone, and the calls of the requests after it
--- were made.
+-- were made. The turn that is told never falls, and stays while no checkpoint was acknowledged.
 pub record HasRun (classes : ℕ) (old new : Sitting) (before now : disk.State) (from rest : SourceState)
     (out after : SinkState) (n : ℕ) : Type 0 where
   pub requests : List Request
@@ -105,6 +105,8 @@ pub record HasRun (classes : ℕ) (old new : Sitting) (before now : disk.State) 
       → LeftOnly before old.kept_turn (OpensToKept classes (state_of old.store before.file))
       → LeftOnly now new.kept_turn (OpensToKept classes (state_of new.store now.file))
   pub kept_turn : old.kept_turn ≤ before.turn → new.kept_turn ≤ now.turn
+  pub turn_rises : old.kept_turn ≤ before.turn → old.kept_turn ≤ new.kept_turn
+  pub unkept : (new.kept_turn ≡ old.kept_turn) ⊎ (0 < new.kept_done)
   pub calls : IsTrue before.tells → (m : ℕ) → before.turn ≡ counted old.kept_turn m
       → now.turn ≡ counted new.kept_turn (calls_since (limits_of old.store) m
       (state_of old.store before.file) states requests replies)
@@ -155,6 +157,7 @@ pub record EndsRun {D I O : Type 0} (disk_of : D → disk.State) (source_of : I 
       (source_of mid_source)
       (sink_of out) (sink_of mid_sink) n
   pub few : n ≤ budget
+  pub fewer : is_budget end ≡ false → n < budget
   pub last_turn : IsLastTurn classes n sitting new (disk_of mid_disk) (disk_of now) (source_of mid_source)
       (source_of rest) (sink_of mid_sink) (sink_of after) end
   pub sound : new.store.is_broken ≡ false → IsStore classes new.store

@@ -46,6 +46,9 @@ stopped answer old new why same no_sink stops = record {
     ends_of (stop.Taken n) not_sink is = (is, refl)
     ends_of stop.Missing not_sink is = (is, refl)
     ends_of stop.NotBuilt not_sink is = (is, refl)
+    ends_of (stop.Line n) not_sink is = (is, refl)
+    ends_of stop.Source not_sink is = (is, refl)
+    ends_of stop.Budget not_sink is = (is, refl)
 
 -- a layer puts what it is to answer, unless the sink fails
 pub put_answer : (answer : Result (List ℕ) Stop → Type 0) (bytes : List ℕ) (old new : SinkState)
@@ -74,6 +77,9 @@ stops_more answer other more (stop.NotStore f) is = more (Err (stop.NotStore f))
 stops_more answer other more (stop.Taken n) is = more (Err (stop.Taken n)) is
 stops_more answer other more stop.Missing is = more (Err stop.Missing) is
 stops_more answer other more stop.NotBuilt is = more (Err stop.NotBuilt) is
+stops_more answer other more (stop.Line n) is = more (Err (stop.Line n)) is
+stops_more answer other more stop.Source is = more (Err stop.Source) is
+stops_more answer other more stop.Budget is = more (Err stop.Budget) is
 
 -- ---- one answer
 
@@ -99,7 +105,7 @@ one_stop file a b g h =
     g.same ∙ ap (λ f. Err (stop.NotStore f)) (one_refusal file g.fault h.fault g.first h.first) ∙ sym h.same
 
 -- a file that opens isn't refused
-opens_or_not : (file : List ℕ) (m : Map) (b : Book) (f : StoreFault) → Opens CLASSES SIZE_MAX file m b
+pub opens_or_not : (file : List ℕ) (m : Map) (b : Book) (f : StoreFault) → Opens CLASSES SIZE_MAX file m b
     → IsFirstRefusal file f → ⊥
 opens_or_not file m b (store.Slot f) o (r, a, is_f) = let read = o.opens.read in absurd (cc)
 opens_or_not file m b (store.Table x) o h =
@@ -144,7 +150,7 @@ one_answer (format name k names) file a b g h = g ∙ sym h
 one_answer (get name object) file a b g h = one_object object file a b g h
 one_answer (check name) file a b g h = one_told check_text file a b g h
 one_answer (map_of name) file a b g h = one_told (λ t len. map_text t) file a b g h
-one_answer (run name) file a b g h = g ∙ sym h
+one_answer (run name) file a b g h = absurd (g)
 one_answer (work name number count) file a b g h = g ∙ sym h
 one_answer help file a b g h = g ∙ sym h
 one_answer version file a b g h = g ∙ sym h
@@ -189,6 +195,10 @@ status_by answer bytes is (Err (stop.Taken n)) one by =
     inl (ap status_at (sym (one (Err (stop.Taken n)) by.0)))
 status_by answer bytes is (Err stop.Missing) one by = inl (ap status_at (sym (one (Err stop.Missing) by.0)))
 status_by answer bytes is (Err stop.NotBuilt) one by = inl (ap status_at (sym (one (Err stop.NotBuilt) by.0)))
+status_by answer bytes is (Err (stop.Line n)) one by =
+    inl (ap status_at (sym (one (Err (stop.Line n)) by.0)))
+status_by answer bytes is (Err stop.Source) one by = inl (ap status_at (sym (one (Err stop.Source) by.0)))
+status_by answer bytes is (Err stop.Budget) one by = inl (ap status_at (sym (one (Err stop.Budget) by.0)))
 
 pub ends_by_the_answer : (c : Command) (file : List ℕ) (answer : Result (List ℕ) Stop) (status : ℕ)
     (old new : SinkState) → IsAnswer c file answer → Ends (IsAnswer c file) status old new

@@ -69,6 +69,9 @@ done_by (Err stop.Missing) is = absurd (omega (arith, is))
 done_by (Err stop.Disk) is = absurd (omega (arith, is))
 done_by (Err stop.NoMemory) is = absurd (omega (arith, is))
 done_by (Err stop.NotBuilt) is = absurd (omega (arith, is))
+done_by (Err (stop.Line n)) is = absurd (omega (arith, is))
+done_by (Err stop.Source) is = absurd (omega (arith, is))
+done_by (Err stop.Budget) is = absurd (omega (arith, is))
 
 pub disk_by : (end : Result (Unit {0}) Stop) → status_at end ≡ 7 → end ≡ Err stop.Disk
 disk_by (Ok tt) is = absurd (omega (arith, is))
@@ -81,6 +84,9 @@ disk_by (Err stop.Missing) is = absurd (omega (arith, is))
 disk_by (Err stop.Disk) is = refl
 disk_by (Err stop.NoMemory) is = absurd (omega (arith, is))
 disk_by (Err stop.NotBuilt) is = absurd (omega (arith, is))
+disk_by (Err (stop.Line n)) is = absurd (omega (arith, is))
+disk_by (Err stop.Source) is = absurd (omega (arith, is))
+disk_by (Err stop.Budget) is = absurd (omega (arith, is))
 
 pub formats_by : {a b : State} (k names : ℕ) (end : Result (Unit {0}) Stop)
     → Formats k names a b (IsDone end)

@@ -7,3 +7,13 @@ mod WordLists
 mod TextLaws
 mod GatherLaws
 mod MapLaws
+mod RunLists
+mod SessionLemmas
+mod OpeningLemmas
+mod RunLaws
+mod UnservedLaws
+mod SettledLaws
+mod HeadlineLaws
+mod ClauseLaws
+mod WentLaws
+mod EndLaws

@@ -36,7 +36,7 @@ put_last old new bytes result puts cause = record {
     whole_of (Err e) p rose = inr rose
 
 -- a count that rose later has risen since before
-later_rose : {between now : List ℕ} {line : List ℕ} (a b n : ℕ) → a ≤ b
+pub later_rose : {between now : List ℕ} {line : List ℕ} (a b n : ℕ) → a ≤ b
     → PutsLast between now line (Rose b n) → PutsLast between now line (Rose a n)
 later_rose {between} {now} {line} a b n later last = record {
   front = last.front;

@@ -45,4 +45,7 @@ line_of stop.Missing = codes "fault missing\n"
 line_of stop.Disk = codes "fault disk\n"
 line_of stop.Sink = []
 line_of stop.NoMemory = codes "fault memory\n"
+line_of (stop.Line n) = codes "fault request " ++ decimal n ++ codes "\n"
+line_of stop.Source = codes "fault source\n"
+line_of stop.Budget = codes "fault budget\n"
 line_of stop.NotBuilt = codes "fault not built\n"

@@ -6,3 +6,5 @@ pub mod Faults
 pub mod Outcomes
 pub mod Layers
 pub mod Commands
+pub mod Headline
+pub mod Sessions

@@ -4,7 +4,7 @@ use Rattle.disk_face.specs.Counts.{Rose}
 use Rattle.disk_face.specs.Mounts.{Mount}
 use Rattle.disk_face.specs.Streams.{SinkState}
 use Rattle.disk_face.specs.declared.bay.Mounted.{Mounted}
-use Rattle.costore_top.specs.Words.{Command, check, format, get, help, map_of, version}
+use Rattle.costore_top.specs.Words.{Command, check, format, get, help, map_of, run, version}
 use Rattle.costore_top.specs.Getting.{IsObject}
 use Rattle.costore_top.specs.Texts.{IsChecked, IsMapped}
 use Rattle.costore_top.specs.Faults.{line_of}
@@ -22,6 +22,9 @@ status_of stop.Missing = 6
 status_of stop.Disk = 7
 status_of stop.Sink = 9
 status_of stop.NoMemory = 10
+status_of (stop.Line n) = 2
+status_of stop.Source = 8
+status_of stop.Budget = 11
 status_of stop.NotBuilt = 12
 
 -- the status of a command that ends so
@@ -35,6 +38,7 @@ mounts (format file k names) = true
 mounts (get file name) = true
 mounts (check file) = true
 mounts (map_of file) = true
+mounts (run file) = true
 mounts _ = false
 
 abbrev pub makes : Command → Bool
@@ -46,7 +50,13 @@ abbrev pub reads : Command → Bool
 reads (get file name) = true
 reads (check file) = true
 reads (map_of file) = true
+reads (run file) = true
 reads _ = false
+
+-- the command serves requests from its input
+abbrev pub serves : Command → Bool
+serves (run file) = true
+serves _ = false
 
 -- the file that a command mounts
 abbrev pub file_of : Command → List ℕ
@@ -54,6 +64,7 @@ file_of (format file k names) = file
 file_of (get file name) = file
 file_of (check file) = file
 file_of (map_of file) = file
+file_of (run file) = file
 file_of _ = []
 
 -- the mount of a command's file, answered so
@@ -70,6 +81,7 @@ IsAnswer (format name k names) file answer = answer ≡ format_answer file
 IsAnswer (get name object) file answer = IsObject object file answer
 IsAnswer (check name) file answer = IsChecked file answer
 IsAnswer (map_of name) file answer = IsMapped file answer
+IsAnswer (run name) file answer = ⊥
 IsAnswer help file answer = answer ≡ Ok HELP.now
 IsAnswer version file answer = answer ≡ Ok VERSION.now
 IsAnswer _ file answer = answer ≡ Err stop.NotBuilt

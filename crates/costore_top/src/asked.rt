@@ -4,7 +4,7 @@ ghost use Rattle.disk_face.specs.Frames.{Untouched};
 ghost use Rattle.costore_top.specs.Commands.{Formats, IsDone, IsMounted};
 ghost use Rattle.costore_top.specs.Layers.{Answers, KeepsAt, PutsNone};
 ghost use Rattle.costore_top.specs.Words.{Command, command_of, format};
-ghost use Rattle.costore_top.specs.Outcomes.{IsAnswer, makes, mounts, reads};
+ghost use Rattle.costore_top.specs.Outcomes.{IsAnswer, makes, mounts, reads, serves};
 
 use crate::Stop;
 use crate::command::{check_from, format_in, get_from, map_from};
@@ -14,7 +14,7 @@ use crate::words::Asked;
 use disk_face::{Bay, Mounted, Sink};
 use std::alloc::Global;
 
-/// Does what is asked, but for the fault line.
+/// Does what is asked, but for the fault line, where no session is asked for.
 #[tactic(auto, unfolding(crate::specs::Outcomes::IsAnswer))]
 pub fn do_asked<B: Bay, O: Sink>(
     alloc: Global,
@@ -23,6 +23,7 @@ pub fn do_asked<B: Bay, O: Sink>(
     output: &mut O,
 ) -> Result<(), Stop>
     requires none { (B.state bay.old).last_mount ≡ None }
+    requires no_session { IsFalse (serves (command_of asked.now)) }
     requires ranges { (file : List ℕ) (k names : ℕ) → command_of asked.now ≡ format file k names
         → (2 ≤ k) × (k ≤ 64) × (16 ≤ names) × (names ≤ 65536) }
     ensures words { result ≢ Err Stop.Words }
@@ -52,6 +53,8 @@ pub fn do_asked<B: Bay, O: Sink>(
         Asked::Map(file) => map_from(alloc, bay, file, output),
         Asked::Help => put_whole(output, HELP.as_bytes()),
         Asked::Version => put_whole(output, VERSION.as_bytes()),
-        Asked::Run(_) | Asked::Work(_, _, _) => Err(Stop::NotBuilt),
+        Asked::Work(_, _, _) => Err(Stop::NotBuilt),
+        // A session is none of these.
+        Asked::Run(_) => unreachable!(),
     }
 }

@@ -32,6 +32,13 @@ pub fn fault_line(why: Stop) -> ArrayVec<u8, 128>
         Stop::Disk => push(&mut line, b"fault disk\n"),
         Stop::Sink => {}
         Stop::NoMemory => push(&mut line, b"fault memory\n"),
+        Stop::Line(number) => {
+            push(&mut line, b"fault request ");
+            push_number(&mut line, number);
+            push(&mut line, b"\n");
+        }
+        Stop::Source => push(&mut line, b"fault source\n"),
+        Stop::Budget => push(&mut line, b"fault budget\n"),
         Stop::NotBuilt => push(&mut line, b"fault not built\n"),
     }
     line

@@ -12,6 +12,7 @@ mod laws;
 mod lines;
 mod load;
 mod map;
+mod run;
 mod stop;
 mod top;
 mod words;

@@ -28,7 +28,7 @@ pub fn load<D: Disk>(alloc: Global, disk: &mut D) -> Result<Loaded<CLASSES>, Sto
 }
 
 /// What a fault in opening is to the command.
-fn stop_of(fault: OpenFault) -> Stop
+pub fn stop_of(fault: OpenFault) -> Stop
     ensures { result ≡ stop_of fault }
 {
     match fault {

@@ -25,8 +25,13 @@ pub enum Stop {
     Missing,
     Disk,
     Sink,
-    /// There is too little memory for the table of the file.
+    /// There is too little memory for the table of the file, or for a session.
     NoMemory,
+    /// The request of this number, from 1, is no request.
+    Line(u64),
+    Source,
+    /// As many requests were answered as one session may.
+    Budget,
     /// What is asked can't be done yet.
     NotBuilt,
 }

@@ -119,7 +119,7 @@ fn do_words<B: Bay, O: Sink>(
 
 /// Puts the fault line of a command that stopped, and answers the status. Where that put fails, the
 /// status stays.
-fn finish<O: Sink>(end: Result<(), Stop>, output: &mut O) -> Outcome
+pub fn finish<O: Sink>(end: Result<(), Stop>, output: &mut O) -> Outcome
     ensures status { result ≡ record { status = status_at end; done = 0; kept_done = 0; kept_turn = 0 } }
     ensures line { IsTrue (O.state output.old).tells
         → PutsLast (O.state output.old).given (O.state output.new).given (line_at end)
@@ -165,6 +165,9 @@ fn status_at(end: &Result<(), Stop>) -> u8
         Err(Stop::Disk) => 7,
         Err(Stop::Sink) => 9,
         Err(Stop::NoMemory) => 10,
+        Err(Stop::Line(_)) => 2,
+        Err(Stop::Source) => 8,
+        Err(Stop::Budget) => 11,
         Err(Stop::NotBuilt) => 12,
     }
 }

@@ -1,4 +1,5 @@
-use Rattle.std.proofs.Common.{arith, refl, ◌∙◌}
+use Rattle.std.proofs.Common.{◌≡◌, arith, refl, false, true, ap, sym, ◌∙◌}
+use Rattle.ask_session.specs.Turns.{is_ended}
 use Rattle.ask_session.proofs.RunLaws.{has_run_more, has_run_none, last_turn_of, not_budget}
 use Rattle.ask_session.proofs.session.Session.run.Goals as goal
 
@@ -35,6 +36,7 @@ returns-in-Ended g c = record {
   n = c.turns.n;
   ran = c.turns.invariant.ran;
   few = omega arith;
+  fewer = λ is. omega arith;
   last_turn = last_turn_of g.row.C c.turns.n c.turns.self c.one.new.self (g.D.Disk.state c.turns.disk)
       (g.D.Disk.state c.one.new.disk) (g.I.Source.state c.turns.input) (g.I.Source.state c.one.new.input)
       (g.O.Sink.state c.turns.output)
@@ -59,6 +61,7 @@ returns g c = record {
   n = c.turns.n;
   ran = c.turns.invariant.ran;
   few = c.turns.invariant.few;
+  fewer = λ is. absurd (let e : true ≡ false = is in cc);
   last_turn = (omega arith, refl);
   sound = c.turns.invariant.sound;
   same_disk = λ is. refl;

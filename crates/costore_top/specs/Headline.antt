@@ -1,0 +1,295 @@
+-- The headline: what a session over a store's file answers, how long the file is meanwhile, and what a crash leaves.
+use Rattle.std.specs.Prelude.{◌≡◌, ◌≢◌, ◌⊎◌, ℕ, zero, suc, ◌+◌, ◌-◌, ◌^◌, ◌<◌, ◌≤◌, ◌↔◌, ◌==◌, Bool, true, false, ◌||◌, if◌then◌else◌, List, [], ◌∷◌, ◌++◌, length, flat_map, Result, Ok, Err, IsTrue}
+use Rattle.disk_face.specs.Counts.{IsCalm, Rose, counted, last}
+use Rattle.disk_face.specs.States as disk
+use Rattle.disk_face.specs.Moments.{LeftOnly}
+use Rattle.disk_face.specs.Mounts.{is_mounted}
+use Rattle.disk_face.specs.Streams.{SinkState, SourceState}
+use Rattle.size_class.specs.declared.TheConstants.{CLASSES, SIZE_MAX}
+use Rattle.slot_codec.specs.Choice as choice
+use Rattle.slot_codec.specs.Spelling.{head_len}
+use Rattle.slot_codec.specs.declared.codec.SuperBlock.{SuperBlock}
+use Rattle.slot_codec.specs.declared.codec.Kind.{Kind}
+use Rattle.slot_codec.specs.declared.codec.Kind.TheVariants as kind
+use Rattle.store_terms.specs.Maps.{Map}
+use Rattle.store_terms.specs.Requests.{Reply, Request}
+use Rattle.segment_layout.specs.Books.{Book, book_end}
+use Rattle.segment_layout.specs.Bounds.{Loose, Tight}
+use Rattle.table_rules.specs.Opening.{Opens, OpensBy}
+use Rattle.store_core.specs.States.{Chain, Limits, State, served}
+use Rattle.store_core.specs.Opened.{RestsOnFound, found_base, state_at, turn_after_cut}
+use Rattle.ask_text.specs.Inputs.{Asks}
+use Rattle.ask_text.specs.Replies.{reply_text}
+use Rattle.ask_session.specs.Serving.{acknowledges, is_changing}
+use Rattle.ask_session.specs.Runs.{SomeStep, budget, calls_since, last_kept, last_state}
+use Rattle.costore_top.specs.Outcomes.{PutsLast, line_at, status_at}
+use Rattle.costore_top.specs.declared.stop.Stop.{Stop}
+use Rattle.costore_top.specs.declared.stop.Stop.TheVariants as stop
+use Rattle.costore_top.specs.declared.top.Outcome.{Outcome}
+
+-- ---- a run of requests
+
+-- the limits of a store with a superblock
+abbrev pub limits_with : SuperBlock → Limits
+limits_with u = record { k = u.k; names = u.names; size_max = SIZE_MAX }
+
+-- the sequence at the start: the one found, or for a moving table one that its flush rose to
+abbrev pub BeginsFrom : Kind → ℕ → ℕ → Type 0
+BeginsFrom kind.Settled found sequence = sequence ≡ found
+BeginsFrom kind.Moving found sequence = (found ≤ sequence) × (sequence ≤ found + 2 ^ 18)
+
+-- the state in which a session begins over a file that opens by a table to a map and a book
+pub record Starts (t : choice.Table) (m : Map) (b : Book) (s : State) : Type 0 where
+  pub state : s ≡ state_at m b s.sequence
+  pub sequence : BeginsFrom t.chosen.header.kind t.chosen.header.sequence s.sequence
+
+-- The first requests of an input were answered one after another: those and the others, the replies, and the state
+-- after each.
+pub record Ran (limits : Limits) (start : State) (requests : List Request) (n : ℕ) : Type 0 where
+  pub answered : List Request
+  pub others : List Request
+  pub split : requests ≡ answered ++ others
+  pub count : length answered ≡ n
+  pub replies : List Reply
+  pub states : List State
+  pub chain : Chain limits start answered replies states
+
+-- the state after so many of them
+abbrev pub state_after : State → List State → ℕ → State
+state_after s states zero = s
+state_after s [] (suc n) = s
+state_after s (t ∷ states) (suc n) = state_after t states n
+
+-- the request of this number, from 1, was answered with a checkpoint
+abbrev pub IsKept : List Reply → ℕ → Type 0
+IsKept [] n = ⊥
+IsKept (reply ∷ replies) zero = ⊥
+IsKept (reply ∷ replies) (suc zero) = IsTrue (acknowledges reply)
+IsKept (reply ∷ replies) (suc (suc n)) = IsKept replies (suc n)
+
+-- ---- the request that comes next
+
+abbrev pub next_reply : Limits → State → List Request → List ℕ
+next_reply limits s [] = []
+next_reply limits s (r ∷ others) = reply_text (served limits s r).reply
+
+-- it may change the map, or saves a checkpoint
+abbrev pub next_is_changing : List Request → Bool
+next_is_changing [] = false
+next_is_changing (r ∷ others) = is_changing r
+
+-- the state after it, but for its sequence
+abbrev pub next_states : Limits → State → List Request → List State
+next_states limits s [] = []
+next_states limits s (r ∷ others) = (served limits s r).state ∷ []
+
+-- how far it may raise the sequence
+abbrev pub next_saves : Limits → State → List Request → ℕ
+next_saves limits s [] = 0
+next_saves limits s (r ∷ others) = (served limits s r).saves.most
+
+-- an image opens to the map and the book of a state
+abbrev pub OpensTo : State → List ℕ → Type 0
+OpensTo s image = Opens CLASSES SIZE_MAX image s.map s.book
+
+-- it makes a checkpoint, and an image opens to that
+abbrev pub OpensToNext : Limits → State → List Request → List ℕ → Type 0
+OpensToNext limits s [] image = ⊥
+OpensToNext limits s (r ∷ others) image =
+    (0 < (served limits s r).saves.least) × OpensTo (served limits s r).state image
+
+-- where it makes a checkpoint, each of these images opens to that
+abbrev pub NextIsSafe : Limits → State → List Request → (List ℕ → Type 0) → Type 0
+NextIsSafe limits s [] images = Unit {0}
+NextIsSafe limits s (r ∷ others) images = 0 < (served limits s r).saves.least
+    → (image : List ℕ) → images image → OpensTo (served limits s r).state image
+
+-- ---- statuses
+
+-- the statuses of a session
+abbrev pub is_session : ℕ → Bool
+is_session status = (status == 0) || (status == 2) || (status == 3) || (status == 7) || (status == 8) || (status == 9)
+    || (status == 10) || (status == 11)
+
+-- the session served its requests, and no disk or sink failed
+abbrev pub is_whole : ℕ → Bool
+is_whole status = (status == 0) || (status == 2) || (status == 8) || (status == 11)
+
+-- the disk or the sink failed
+abbrev pub has_failed : ℕ → Bool
+has_failed status = (status == 7) || (status == 9)
+
+-- opening had an end that isn't want of memory
+abbrev pub has_opened : ℕ → Bool
+has_opened status = if status == 3 then false else if status == 10 then false else true
+
+-- the states that the requests leave: where the sink failed the next one was served too, but its reply wasn't put whole
+abbrev pub served_states : ℕ → Limits → State → List State → List Request → List State
+served_states status limits start states others =
+    if status == 9 then states ++ next_states limits (last_state start states) others else states
+
+-- ---- replies
+
+-- A front of the next reply: nothing unless disk or sink failed; where the disk failed not the whole of it, and nothing
+-- of a request that may change the store.
+pub record IsPartial (status : ℕ) (limits : Limits) (s : State) (others : List Request) (partial : List ℕ) : Type 0
+  where
+    pub none : has_failed status ≡ false → partial ≡ []
+    pub front : (rest : List ℕ) × (next_reply limits s others ≡ partial ++ rest)
+    pub cut : status ≡ 7 → next_reply limits s others ≡ partial → partial ≡ []
+    pub changing : status ≡ 7 → next_is_changing others ≡ true → partial ≡ []
+
+-- a faulty request has the number after those that were answered
+abbrev pub NumbersLine : ℕ → Result (Unit {0}) Stop → Type 0
+NumbersLine n (Err (stop.Line number)) = number ≡ n + 1
+NumbersLine n _ = Unit {0}
+
+-- What was put: the replies, a front of the next one, and the line of the end.
+pub record HasReplied (limits : Limits) (s : State) (replies : List Reply) (others : List Request) (status n : ℕ)
+    (out after : SinkState) : Type 0 where
+  pub between : List ℕ
+  pub partial : List ℕ
+  pub end : Result (Unit {0}) Stop
+  pub put : between ≡ out.given ++ flat_map reply_text replies ++ partial
+  pub front : IsPartial status limits s others partial
+  pub same_status : status ≡ status_at end
+  pub numbered : NumbersLine n end
+  pub line : PutsLast between after.given (line_at end) (Rose out.faults after.faults)
+
+-- How far the session came, by its status: `end` is what the input has behind its requests.
+pub record HowFar (status n : ℕ) (others : List Request) (end : List ℕ) (from rest : SourceState) : Type 0 where
+  pub known : is_session status ≡ true
+  pub done : status ≡ 0 → (others ≡ []) × (end ≡ [])
+  pub line : status ≡ 2 → (others ≡ []) × (end ≢ [])
+  pub absent : status ≡ 3 → n ≡ 0
+  pub disk : status ≡ 7 → (others ≢ []) ⊎ (n ≡ 0)
+  pub sink : status ≡ 9 → others ≢ []
+  pub memory : status ≡ 10 → (n ≡ 0) × (rest ≡ from)
+  pub limit : (status ≡ 11) ↔ (n ≡ budget)
+
+-- ---- lengths
+
+-- the data part ends where the layout of a state does, and is within the bound of its map and of its kept map
+pub record EndsTight (k base : ℕ) (s : State) (file : List ℕ) : Type 0 where
+  pub same_length : length file ≡ base + book_end k s.book
+  pub now : Tight k (length file - base) s.map
+  pub kept : Tight k (length file - base) s.kept
+
+-- an image is as long as the start's layout, or within the bound of a step
+abbrev pub IsWithinBounds : ℕ → ℕ → State → List State → List ℕ → Type 0
+IsWithinBounds k base start states image = (length image ≡ base + book_end k start.book)
+    ⊎ SomeStep (λ s t. Loose k (length image - base) s.map t.map) start states
+
+-- Each image is within bounds: of a settled table since opening returned, which is at `opened`, and of a moving one
+-- since the call began, but for those that are no longer than the file found.
+pub record IsLong (k base : ℕ) (t : choice.Table) (opened : ℕ) (start : State) (states : List State)
+    (old new : disk.State) : Type 0 where
+  pub settled : t.chosen.header.kind ≡ kind.Settled → opened ≤ new.turn
+      → LeftOnly new opened (IsWithinBounds k base start states)
+  pub moving : t.chosen.header.kind ≡ kind.Moving → LeftOnly new old.turn
+      (λ image. (length image ≤ length old.file) ⊎ IsWithinBounds k base start states image)
+
+-- opening of a settled table returned at that turn, which is told until a checkpoint is acknowledged
+pub record IsTold (opened kept_done kept_turn : ℕ) : Type 0 where
+  pub low : opened ≤ kept_turn
+  pub first : kept_done ≡ 0 → kept_turn ≡ opened
+
+-- ---- crashes
+
+-- an image opens to what was found, or to what stood after a request that was answered with a checkpoint
+abbrev pub OpensToKept : State → List Reply → List State → List ℕ → Type 0
+OpensToKept start replies states image = OpensTo start image
+    ⊎ ((i : ℕ) × IsKept replies i × OpensTo (state_after start states i) image)
+
+-- the disk or the sink failed, and an image opens to the checkpoint of the request that was then served
+abbrev pub OpensToBeing : ℕ → Limits → State → List Request → List ℕ → Type 0
+OpensToBeing status limits s others image = IsTrue (has_failed status) × OpensToNext limits s others image
+
+-- What a crash leaves: at any moment an acknowledged checkpoint or the one then being written; since the last was
+-- acknowledged that one alone, or the one then being written; and once a sink failed at the reply of a checkpoint, that
+-- checkpoint.
+pub record IsCrashSafe (limits : Limits) (start s : State) (replies : List Reply) (states : List State)
+    (others : List Request) (o : Outcome) (opened : Type 0) (old new : disk.State) : Type 0 where
+  pub crash : LeftOnly new old.turn
+      (λ image. OpensToKept start replies states image ⊎ OpensToBeing o.status limits s others image)
+  pub since : opened → LeftOnly new o.kept_turn
+      (λ image. OpensTo (state_after start states o.kept_done) image ⊎ OpensToBeing o.status limits s others image)
+  pub safe : o.status ≡ 9 → NextIsSafe limits s others new.may_leave
+
+-- ---- what is acknowledged
+
+-- Which turn is told, whatever the devices tell: 0 where the call ended before opening. Else it lies within the call, and
+-- where the file is refused or memory is wanting it is the last.
+pub record IsKeptTurn (o : Outcome) (opened : Type 0) (before now : ℕ) : Type 0 where
+  pub unopened : (opened → ⊥) → o.kept_turn ≡ 0
+  pub low : opened → before ≤ o.kept_turn
+  pub high : opened → o.kept_turn ≤ now
+  pub refused : (o.status ≡ 4) ⊎ (o.status ≡ 10) → o.kept_turn ≡ now
+
+-- The number of the last request that was answered with a checkpoint; and the turns since are the changing calls of the
+-- requests after it.
+pub record IsAcknowledged (limits : Limits) (start : State) (answered : List Request) (replies : List Reply)
+    (states : List State) (o : Outcome) (now : ℕ) : Type 0 where
+  pub number : o.kept_done ≡ last_kept 0 0 replies
+  pub turns : IsTrue (is_whole o.status)
+      → now ≡ counted o.kept_turn (calls_since limits 0 start states answered replies)
+
+-- ---- the next call
+
+-- The next call may begin here: the content opens to the checkpoint of a state, by the same superblock and with a
+-- sequence that is no greater, and where the disk rested on its table it rests on this one.
+pub record IsNextStart (found : choice.Table) (s : State) (sequence : ℕ) (old new : disk.State) : Type 0 where
+  pub table : choice.Table
+  pub opens : OpensBy CLASSES SIZE_MAX table new.file s.kept s.kept_book
+  pub block : table.chosen.block ≡ found.chosen.block
+  pub not_worn : table.chosen.header.sequence ≤ sequence
+  pub rests : RestsOnFound found old → RestsOnFound table new
+
+-- ---- the whole
+
+-- a file is mounted
+abbrev pub HasMounted : disk.State → Type 0
+HasMounted d = IsTrue (is_mounted d.last_mount)
+
+-- when opening of a settled file returns
+abbrev pub turn_opened : choice.Table → Book → disk.State → ℕ
+turn_opened t b old = turn_after_cut (found_base t + book_end t.chosen.block.k b) old.file old.turn
+
+-- What a session over a file does that has a superblock, opens by a table to a map and a book, and whose input asks for
+-- these requests. What is said of images is said of a disk that rested on that table, and below the last turn; what is
+-- said of lengths, of a disk whose count of faults didn't rise.
+pub record RunsAs (u : SuperBlock) (t : choice.Table) (m : Map) (b : Book) (requests : List Request) (end : List ℕ)
+    (o : Outcome) (old new : disk.State) (from rest : SourceState) (out after : SinkState) : Type 0 where
+  pub start : State
+  pub starts : Starts t m b start
+  pub ran : Ran (limits_with u) start requests o.done
+  -- the replies are the map's
+  pub far : HowFar o.status o.done ran.others end from rest
+  pub replies : IsTrue out.tells → HasReplied (limits_with u) (last_state start ran.states) ran.replies ran.others
+      o.status o.done out after
+  -- between requests, also where the sink failed after one
+  pub between : IsTrue (is_whole o.status) ⊎ (o.status ≡ 9) → EndsTight u.k (head_len u.names)
+      (last_state start (served_states o.status (limits_with u) start ran.states ran.others)) new.file
+  -- within a request
+  pub within : IsCalm old.faults new.faults → RestsOnFound t old → new.turn < last → IsLong u.k (head_len u.names) t
+      (turn_opened t b old) start (served_states o.status (limits_with u) start ran.states ran.others) old new
+  pub opened : IsCalm old.faults new.faults → t.chosen.header.kind ≡ kind.Settled → IsTrue (has_opened o.status)
+      → IsTold (turn_opened t b old) o.kept_done o.kept_turn
+  -- a crash at any moment
+  pub crash : RestsOnFound t old → new.turn < last → IsCrashSafe (limits_with u) start (last_state start ran.states)
+      ran.replies ran.states ran.others o (HasMounted new) old new
+  -- what is acknowledged
+  pub acknowledged : IsAcknowledged (limits_with u) start ran.answered ran.replies ran.states o new.turn
+  -- where the disk didn't fail, the next call may begin
+  pub next_start : IsCalm old.faults new.faults → IsNextStart t
+      (last_state start (served_states o.status (limits_with u) start ran.states ran.others))
+      ((last_state start ran.states).sequence
+      + (if o.status == 9 then next_saves (limits_with u) (last_state start ran.states) ran.others else 0)) old new
+
+-- The headline: so it is of every file that opens by a table whose sequence leaves room, and of every input.
+abbrev pub RunsFrom : Outcome → disk.State → disk.State → SourceState → SourceState → SinkState → SinkState → Type 0
+RunsFrom o old new from rest out after =
+    (t : choice.Table) (m : Map) (b : Book) (requests : List Request) (end : List ℕ)
+    → OpensBy CLASSES SIZE_MAX t old.file m b → t.chosen.header.sequence < 2 ^ 62 - 2 ^ 19
+    → Asks from.left requests end
+    → RunsAs t.chosen.block t m b requests end o old new from rest out after
