@@ -14,3 +14,4 @@ mod HeadlineLaws
 mod ClauseLaws
 mod WentLaws
 mod EndLaws
+mod OtherLaws

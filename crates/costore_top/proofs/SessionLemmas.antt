@@ -1,11 +1,4 @@
 -- How a session went, from the steps that its functions take.
-use Rattle.costore_top.proofs.OpeningLemmas.{Opened}
-use Rattle.costore_top.proofs.RunLaws.{tight_over}
-use Rattle.costore_top.proofs.UnservedLaws.{unserved_runs}
-use Rattle.costore_top.proofs.SettledLaws.{ends_with_layout}
-use Rattle.costore_top.proofs.HeadlineLaws.{headline}
-use Rattle.costore_top.proofs.ClauseLaws.{session_keeps}
-use Rattle.costore_top.proofs.WentLaws.{whole}
 use Rattle.std.specs.Prelude.{◌≡◌, ℕ, false, Result, Ok, Err, IsTrue, refl}
 use Rattle.std.proofs.Common.{ap, sym, ◌∙◌, subst, inl, inr}
 use Rattle.disk_face.specs.States.{State}
