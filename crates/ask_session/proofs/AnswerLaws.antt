@@ -129,9 +129,9 @@ is_made s new r a d (Ok x) m = record {
 is_made {classes} s new r a d (Err refused) m = elim m.either as (λ _. Answers classes r s new a d (answer_of refused)) [
   | inl x ↦ absurd (x.1)
   | inr x ↦
-    let e : refused ≡ why.Disk = (cc) in
-    subst (λ (y : Refusal). Answers classes r s new a d (answer_of y)) (sym e)
-    (failed (m.broken ∙ ap store.is_disk e))
+      let e : refused ≡ why.Disk = (cc) in
+      subst (λ (y : Refusal). Answers classes r s new a d (answer_of y)) (sym e)
+      (failed (m.broken ∙ ap store.is_disk e))
 ]
   where
     failed : new.is_broken ≡ true → Answers classes r s new a d (answer_of why.Disk)
@@ -210,7 +210,6 @@ module _ {classes : ℕ} (s new : Kept) (c : Change) (a d : disk.State) (result 
     (step : IsTrue a.tells → IfSome (reply_of done_reply result) (λ reply. Step (limits_of s)
     (state_of s a.file) (ask.change c) reply (state_of new d.file)))
     (over : IsConnected classes new d) (broken : new.is_broken ≡ store.is_disk_fault result) where
-
   found : refusal (limits_of s) (facts_of (state_of s a.file) (ask.change c)) (ask.change c) ≡ None
   found = refusal_at s a.file (ask.change c) h.sound ∙ accepted
 

@@ -208,7 +208,6 @@ module _ {classes : ℕ} (r : Request) (s : Kept) (a : disk.State) (h : IsSound 
     (is : IsTrue a.tells → served_at s a.file r ≡ unchanged (state_of s a.file) (ask.found object))
     (none : IsTrue a.tells → calls_of (limits_of s) (state_of s a.file) r ≡ 0)
     (long : IsTrue a.tells → length object ≡ size) where
-
   stays : IsTrue a.tells → StaysAt s a.file r
   stays told = record { reply = ask.found object; is = is told; none = none told }
 
@@ -264,7 +263,6 @@ module _ {classes : ℕ} (r : Request) (s : Kept) (a : disk.State) (h : IsSound 
 -- the first line and the lines of a list
 module _ {classes : ℕ} (s : Kept) (a : disk.State) (h : IsSound classes s a) (count : ℕ)
     (is : count ≡ fin.len s.now) where
-
   list_stays : IsTrue a.tells → StaysAt s a.file ask.list
   list_stays told = record {
     reply = (accepted (limits_of s) (state_of s a.file) ask.list).reply;

@@ -172,7 +172,6 @@ module _ {classes : ℕ} (s0 : Sitting) (a : disk.State) (i0 : SourceState) (o0 
     (x : IsAnswered classes s1 s2 b d i1 i2 o1 o2)
     (told_source : i2.tells ≡ i1.tells) (calm_source : i2.faults ≡ i1.faults)
     (lawful : IsLawful d) (sound : s2.store.is_broken ≡ false → IsStore classes s2.store) where
-
   abbrev r : Request
   r = x.served.request
 

@@ -111,8 +111,7 @@ pub refused_stays : {classes : ℕ} (s : Kept) (file : List ℕ) (r : Request) (
 refused_stays s file r w h is =
     let found : refusal (limits_of s) (facts_of (state_of s file) r) r ≡ Some w = refusal_at s file r h ∙ is in
     let same : served_at s file r ≡ unchanged (state_of s file) (ask.refused w) =
-    served_by (limits_of s) (state_of s file) r (Some w) found in
-    (
+    served_by (limits_of s) (state_of s file) r (Some w) found in (
       record { reply = ask.refused w; is = same; none = no_calls r found },
       ap (λ (x : Served). x.reply) same,
     )

@@ -74,7 +74,11 @@ fn read_newline<I: Source>(ahead: &mut Ahead, input: &mut I) -> Result<(), End>
 }
 
 /// Fills `out`; false where the input ends before.
-fn fill_body<I: Source>(ahead: &mut Ahead, input: &mut I, out: &mut [u8]) -> Result<bool, SourceFault>
+fn fill_body<I: Source>(
+    ahead: &mut Ahead,
+    input: &mut I,
+    out: &mut [u8],
+) -> Result<bool, SourceFault>
     ensures filled { IsTrue (I.state input.old).tells → result ≡ Ok true
         → ahead.old ++ (I.state input.old).left ≡ out.new ++ (ahead.new ++ (I.state input.new).left) }
     ensures ended { IsTrue (I.state input.old).tells → result ≡ Ok false

@@ -78,7 +78,10 @@ pub(crate) fn serve_del<const C: usize, D: Disk>(
 }
 
 /// Serves a keep.
-pub(crate) fn serve_keep<const C: usize, D: Disk>(store: &mut Store<C>, disk: &mut D) -> Result<Reply, End>
+pub(crate) fn serve_keep<const C: usize, D: Disk>(
+    store: &mut Store<C>,
+    disk: &mut D,
+) -> Result<Reply, End>
     requires ready { IsTrue (D.state disk.old).is_ready }
     requires over { IsConnected C store.old (D.state disk.old) }
     requires whole { store.old.is_broken ≡ false }
@@ -89,7 +92,10 @@ pub(crate) fn serve_keep<const C: usize, D: Disk>(store: &mut Store<C>, disk: &m
 }
 
 /// Serves a back.
-pub(crate) fn serve_back<const C: usize, D: Disk>(store: &mut Store<C>, disk: &mut D) -> Result<Reply, End>
+pub(crate) fn serve_back<const C: usize, D: Disk>(
+    store: &mut Store<C>,
+    disk: &mut D,
+) -> Result<Reply, End>
     requires ready { IsTrue (D.state disk.old).is_ready }
     requires over { IsConnected C store.old (D.state disk.old) }
     requires whole { store.old.is_broken ≡ false }
@@ -103,7 +109,10 @@ pub(crate) fn serve_back<const C: usize, D: Disk>(store: &mut Store<C>, disk: &m
 }
 
 /// Serves a stat.
-pub(crate) fn serve_stat<const C: usize, D: Disk>(store: &mut Store<C>, disk: &mut D) -> Result<Reply, End>
+pub(crate) fn serve_stat<const C: usize, D: Disk>(
+    store: &mut Store<C>,
+    disk: &mut D,
+) -> Result<Reply, End>
     requires ready { IsTrue (D.state disk.old).is_ready }
     requires over { IsConnected C store.old (D.state disk.old) }
     requires whole { store.old.is_broken ≡ false }

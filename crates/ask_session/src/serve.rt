@@ -39,7 +39,10 @@ pub(crate) fn serve<const C: usize, D: Disk, O: Sink>(
     is_sound(store);
     match ask {
         Ask::Put { name, size } => {
-            put_answer(output, serve_sized(store, disk, name.as_bytes(), *size, body))
+            put_answer(
+                output,
+                serve_sized(store, disk, name.as_bytes(), *size, body),
+            )
         }
         Ask::Get { name } => serve_get(store, disk, name.as_bytes(), output),
         Ask::Old { name } => serve_old(store, disk, name.as_bytes(), output),

@@ -47,7 +47,11 @@ impl<const C: usize> Model for Session<C> {
 impl<const C: usize> Session<C> {
     /// A session of a store, with the memory that it will ever have. `turn` is the disk's turn that is
     /// told until a checkpoint is acknowledged. Where there is no memory the store comes back.
-    pub fn new(alloc: Global, store: Store<C>, turn: u64) -> Result<Session<C>, (Store<C>, NoMemory)>
+    pub fn new(
+        alloc: Global,
+        store: Store<C>,
+        turn: u64,
+    ) -> Result<Session<C>, (Store<C>, NoMemory)>
         ensures ok { IfOk result (λ session. session ≡ new_sitting store.entry turn) }
         ensures refused { IfErr result (λ back. back.0 ≡ store.entry) }
     {

@@ -1,9 +1,9 @@
 -- Words that ask for a session, and words that don't.
-use Rattle.std.specs.Prelude.{◌≡◌, ◌⊎◌, ◌↔◌, ℕ, Bool, true, false, List, IsTrue, IsFalse}
+use Rattle.std.specs.Prelude.{◌≡◌, ◌⊎◌, ◌↔◌, ℕ, true, false, List}
 use Rattle.std.proofs.Common.{ap, arith, sym, ◌∙◌, inl, inr}
 use Rattle.costore_top.specs.Headline.{is_session}
-use Rattle.costore_top.specs.Outcomes.{IsOther, serves}
-use Rattle.costore_top.specs.Words.{Command, Means, MeansNone, run}
+use Rattle.costore_top.specs.Outcomes.{IsOther}
+use Rattle.costore_top.specs.Words.{Means, MeansNone, run}
 
 -- words that ask for a session ask for nothing else
 pub not_other : {A : Type 0} (file : List ℕ) (texts : List (List ℕ)) → Means texts (run file) → IsOther texts → A
