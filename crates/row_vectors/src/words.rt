@@ -41,7 +41,7 @@ fn ends_by_the_words(rt: HostRuntime) -> Result<(), Fail> {
 }
 
 /// The page of `--help`, word for word.
-const PAGE: [&str; 22] = [
+const PAGE: [&str; 23] = [
     "costore keeps named objects of bytes in one file, within a stated factor of its live bytes.",
     "",
     "commands:",
@@ -49,7 +49,7 @@ const PAGE: [&str; 22] = [
     "  costore get FILE NAME             puts the bytes of the object NAME",
     "  costore check FILE                puts one line about the store (not built yet)",
     "  costore map FILE                  puts its segments and objects (not built yet)",
-    "  costore run FILE                  serves requests from standard input (not built yet)",
+    "  costore run FILE                  serves requests from standard input",
     "  costore work FILE NUMBER COUNT    does the jobs of a number (not built yet)",
     "  costore --help                    puts this page",
     "  costore --version                 puts the version",
@@ -58,8 +58,9 @@ const PAGE: [&str; 22] = [
     "K is 2 to 64: a buffer has a k-th of its segment. NAMES is 16 to 65536: how many objects may be live.",
     "NUMBER is 0 to 18446744073709551615, COUNT is 1 to 1000000. Numbers have no sign and no leading zero.",
     "",
-    "status: 0 done, 1 faulty words, 3 no such file, 4 no store, 5 the file isn't empty, 6 no such object,",
-    "7 the disk failed, 9 the output failed, 10 out of memory, 12 not built yet.",
+    "status: 0 done, 1 faulty words, 2 a faulty request, 3 no such file, 4 no store, 5 the file isn't empty,",
+    "6 no such object, 7 the disk failed, 8 the input failed, 9 the output failed, 10 out of memory,",
+    "11 too many requests, 12 not built yet.",
     "At each status but 0 and 9 one line that begins with fault is put last, but where there is no memory for",
     "the words.",
     "",
