@@ -1,26 +1,11 @@
 -- What the command that serves requests keeps, however it went.
-use Rattle.std.specs.Prelude.{◌≡◌, ◌≢◌, ◌⊎◌, ◌↔◌, ℕ, ◌+◌, ◌<◌, ◌≤◌, Bool, true, false, List, [], ◌++◌, length, Option, Some, None, Result, Ok, Err, IsOk, IsTrue, OnOk, refl}
-use Rattle.std.proofs.Common.{arith, ap, sym, ◌∙◌, subst, inl, inr, append-nil}
-use Rattle.disk_face.specs.Counts.{Rose, counted, last}
+use Rattle.std.specs.Prelude.{◌≡◌, ◌≢◌, ℕ, ◌≤◌, true, Result, refl}
+use Rattle.std.proofs.Common.{arith, ap, ◌∙◌, subst, inl, inr}
+use Rattle.disk_face.specs.Counts.{Rose}
 use Rattle.disk_face.specs.States.{State}
-use Rattle.disk_face.specs.Frames.{AfterMount, Unchanged, Untouched}
-use Rattle.disk_face.specs.Mounts.{Mount, is_mounted}
 use Rattle.disk_face.specs.Streams.{SinkState, SourceState}
-use Rattle.disk_face.specs.declared.bay.Mounted.{Mounted}
-use Rattle.disk_face.specs.declared.bay.Mounted.TheVariants.{Absent, There}
-use Rattle.disk_face.proofs.FrameLaws.{Untouched-then}
-use Rattle.disk_face.proofs.MomentLaws.{Leaves-call}
-use Rattle.size_class.specs.declared.TheConstants.{CLASSES, SIZE_MAX}
-use Rattle.slot_codec.specs.Choice as choice
-use Rattle.slot_pair.specs.declared.find.SlotFault.TheVariants as slot
-use Rattle.store_terms.specs.Maps.{Map}
-use Rattle.segment_layout.specs.Books.{Book}
-use Rattle.table_rules.specs.Opening.{Opens}
+use Rattle.size_class.specs.declared.TheConstants.{CLASSES}
 use Rattle.store_core.specs.Connection.{Kept}
-use Rattle.store_core.specs.Opened.{IsOpened, IsOpening, RefusesUnchanged}
-use Rattle.reopen.specs.Refusals.{RefusesToOpen}
-use Rattle.reopen.specs.declared.fault.OpenFault.{OpenFault}
-use Rattle.reopen.specs.declared.fault.OpenFault.TheVariants as opening
 use Rattle.ask_session.specs.Sittings.{Sitting, new_sitting}
 use Rattle.ask_session.specs.Runs.{EndsRun}
 use Rattle.ask_session.specs.Inputs.{is_source}
@@ -28,16 +13,9 @@ use Rattle.ask_session.specs.Serving.{is_disk, is_sink}
 use Rattle.ask_session.specs.Turns.{IsStopped}
 use Rattle.ask_session.specs.declared.ends.End.{End}
 use Rattle.ask_session.specs.declared.ends.End.TheVariants as ends
-use Rattle.costore_top.specs.Commands.{IsMounted}
-use Rattle.costore_top.specs.Getting.{IsFirstRefusal, IsRefused, stop_of}
-use Rattle.costore_top.specs.Headline.{HasMounted, IsKeptTurn}
-use Rattle.costore_top.specs.Outcomes.{Ends, EndsBy, PutsLast, PutsLine, line_at, mounted, status_at, status_of}
-use Rattle.costore_top.specs.Sessions.{HasSession, IsServed, IsUnbegun, IsUnmounted, IsUnopened, IsUnserved, KeepsRun, Went, WentFrom, ended_as, end_of, outcome_of, unserved}
-use Rattle.costore_top.specs.Words.{Command, run}
+use Rattle.costore_top.specs.Outcomes.{status_at}
+use Rattle.costore_top.specs.Sessions.{IsUnserved, end_of}
 use Rattle.costore_top.specs.declared.stop.Stop.{Stop}
-use Rattle.costore_top.specs.declared.stop.Stop.TheVariants as stop
-use Rattle.costore_top.specs.declared.stop.StoreFault.TheVariants as fault
-use Rattle.costore_top.specs.declared.run.Ended.{Ended}
 
 -- what the session's devices are once it ended
 pub record SessionKeeps (a z : State) (from rest : SourceState) (out mid_out : SinkState) (end : Result (Unit {0}) Stop)

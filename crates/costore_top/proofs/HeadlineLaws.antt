@@ -1,17 +1,16 @@
 -- The headline of the command that serves requests, from how it went.
-use Rattle.std.specs.Prelude.{◌≡◌, ◌≢◌, ◌⊎◌, ℕ, ◌+◌, ◌-◌, ◌^◌, ◌<◌, ◌≤◌, Bool, true, false, List, [], length, Option, Some, None, Result, Ok, Err, IsTrue, refl}
+use Rattle.std.specs.Prelude.{◌≡◌, ℕ, ◌+◌, ◌-◌, ◌^◌, ◌<◌, ◌≤◌, true, false, List, length, Result, Ok, Err, IsTrue, refl}
 use Rattle.std.proofs.Common.{arith, ap, sym, ◌∙◌, subst, inl, inr}
-use Rattle.disk_face.specs.Counts.{IsCalm, Rose, counted, last}
+use Rattle.disk_face.specs.Counts.{Rose, counted, last}
 use Rattle.disk_face.specs.States.{IsLawful, State}
 use Rattle.disk_face.specs.Frames.{AfterMount, Unchanged}
 use Rattle.disk_face.specs.Moments.{Leaves, LeftOnly}
-use Rattle.disk_face.specs.Mounts.{Mount, is_mounted}
+use Rattle.disk_face.specs.Mounts.{is_mounted}
 use Rattle.disk_face.specs.Streams.{SinkState, SourceState}
-use Rattle.disk_face.specs.declared.bay.Mounted.TheVariants.{Absent, There}
+use Rattle.disk_face.specs.declared.bay.Mounted.TheVariants.{Absent}
 use Rattle.disk_face.proofs.MomentLaws.{Leaves-call, Leaves-trans, Leaves-weaken}
 use Rattle.size_class.specs.declared.TheConstants.{CLASSES, SIZE_MAX}
 use Rattle.slot_codec.specs.Choice as choice
-use Rattle.slot_codec.specs.Spelling.{head_len}
 use Rattle.slot_codec.specs.declared.codec.SuperBlock.{SuperBlock}
 use Rattle.slot_codec.specs.declared.codec.Kind.{Kind}
 use Rattle.slot_codec.specs.declared.codec.Kind.TheVariants as kind
@@ -20,25 +19,25 @@ use Rattle.store_terms.specs.Maps.{Map}
 use Rattle.store_terms.specs.Requests.{Request}
 use Rattle.segment_layout.specs.Books.{Book, book_end}
 use Rattle.table_rules.specs.Opening.{OpensBy}
-use Rattle.store_core.specs.Connection.{Kept, RestsOnTable, base_of, state_of}
+use Rattle.store_core.specs.Connection.{Kept, state_of}
 use Rattle.store_core.specs.Stores.{IsStore}
 use Rattle.store_core.specs.States as store
 use Rattle.store_core.specs.Opened.{IsFoundImage, IsOpening, RestsOnFound, SameOnFound, found_base, state_at}
 use Rattle.store_core.proofs.OpeningLaws.{found_image}
-use Rattle.reopen.specs.Refusals.{BreaksFirst, RefusesToOpen}
+use Rattle.reopen.specs.Refusals.{RefusesToOpen}
 use Rattle.reopen.specs.declared.fault.OpenFault.{OpenFault}
 use Rattle.reopen.specs.declared.fault.OpenFault.TheVariants as opening
-use Rattle.ask_text.specs.Inputs.{Asks, BeginsNone}
-use Rattle.ask_session.specs.Sittings.{Sitting, new_sitting, unread}
+use Rattle.ask_text.specs.Inputs.{Asks}
+use Rattle.ask_session.specs.Sittings.{Sitting, new_sitting}
 use Rattle.ask_session.specs.Turns.{IsUnserved, is_unserved}
 use Rattle.ask_session.specs.declared.ends.Turn.TheVariants as turn
 use Rattle.ask_session.specs.Runs.{EndsRun, budget}
 use Rattle.ask_session.specs.declared.ends.End.{End}
 use Rattle.ask_session.specs.declared.ends.End.TheVariants as ends
 use Rattle.costore_top.specs.Getting.{stop_of}
-use Rattle.costore_top.specs.Headline.{BeginsFrom, HasMounted, HowFar, IsNextStart, NumbersLine, RunsAs, RunsFrom, Starts, turn_opened}
+use Rattle.costore_top.specs.Headline.{BeginsFrom, HasMounted, HowFar, IsNextStart, RunsAs, Starts, turn_opened}
 use Rattle.costore_top.specs.Outcomes.{PutsLast, line_at, mounted, status_at}
-use Rattle.costore_top.specs.Sessions.{HasSession, IsServed, IsUnbegun, IsUnmounted, IsUnopened, Went, WentFrom, ended_as, end_of, outcome_of, unserved}
+use Rattle.costore_top.specs.Sessions.{IsServed, IsUnbegun, IsUnopened, Went, WentFrom, ended_as, end_of, outcome_of, unserved}
 use Rattle.costore_top.specs.Words.{Command}
 use Rattle.costore_top.specs.declared.stop.Stop.{Stop}
 use Rattle.costore_top.specs.declared.stop.Stop.TheVariants as stop
@@ -48,7 +47,7 @@ use Rattle.costore_top.specs.declared.top.Outcome.{Outcome}
 use Rattle.costore_top.proofs.AnswerLaws.{opens_or_not}
 use Rattle.costore_top.proofs.OpeningLemmas.{Opened, left_first, left_opening, opened_by, opens_first, rests_first, told_first}
 use Rattle.costore_top.proofs.RunLaws.{all_answered, disk_failed, input_ended, line_failed, next_over, sink_failed, source_failed}
-use Rattle.costore_top.proofs.SettledLaws.{EndsWithLayout, ends_with_layout}
+use Rattle.costore_top.proofs.SettledLaws.{ends_with_layout}
 use Rattle.costore_top.proofs.UnservedLaws.{unserved_runs}
 
 -- ---- a file that opens isn't refused
@@ -236,7 +235,6 @@ module _ {D I O : Type 0} (disk_of : D → State) (source_of : I → SourceState
       unopened_by e opening.NoMemory memory is ended line =
           subst (λ (y : Ended). Runs (outcome_of y)) (sym ended) (wants_memory is.unchanged
           (subst (λ (y : Ended). PutsEnd y.end) ended line))
-
       unopened_by e (opening.Slot slot.Short) none is ended line = elim none [ ]
       unopened_by e (opening.Slot slot.Unformatted) none is ended line = elim none [ ]
       unopened_by e (opening.Slot slot.NoGate) none is ended line = elim none [ ]
@@ -300,11 +298,11 @@ module _ {D I O : Type 0} (disk_of : D → State) (source_of : I → SourceState
             (Rose (sink_of out).faults after.faults)) (y.same_sink unserved_how) (line_now sink_told)
 
         carried : (status : ℕ) → status ≡ status_at ending → RunsAs s.in_use.block t m b requests end (record {
-              status = status;
-              done = y.sitting.done;
-              kept_done = y.sitting.kept_done;
-              kept_turn = y.sitting.kept_turn;
-            }) old (disk_of y.mid_disk) (source_of from) (source_of rest) (sink_of out) after
+          status = status;
+          done = y.sitting.done;
+          kept_done = y.sitting.kept_done;
+          kept_turn = y.sitting.kept_turn;
+        }) old (disk_of y.mid_disk) (source_of from) (source_of rest) (sink_of out) after
             → Runs (outcome_of e)
         carried status is runs =
             let same : outcome_of e ≡ record {

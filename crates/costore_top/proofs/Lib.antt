@@ -17,3 +17,4 @@ mod HeadlineLaws
 mod ClauseLaws
 mod WentLaws
 mod EndLaws
+mod OtherLaws

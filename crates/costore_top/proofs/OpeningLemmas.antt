@@ -1,11 +1,11 @@
 -- What mounting and opening a file leave that opens by a table.
-use Rattle.std.specs.Prelude.{◌≡◌, ◌⊎◌, ℕ, ◌+◌, ◌-◌, ◌^◌, ◌<◌, ◌≤◌, false, List, length, Result, Ok, Err, IsTrue, refl}
-use Rattle.std.proofs.Common.{arith, ap, sym, ◌∙◌, subst, inl, inr}
+use Rattle.std.specs.Prelude.{◌≡◌, ℕ, ◌+◌, ◌-◌, ◌^◌, ◌<◌, ◌≤◌, false, List, length, Result, Ok, IsTrue}
+use Rattle.std.proofs.Common.{arith, ap, sym, ◌∙◌, subst}
 use Rattle.disk_face.specs.Counts.{last}
 use Rattle.disk_face.specs.States.{IsLawful, State}
 use Rattle.disk_face.specs.Frames.{AfterMount}
 use Rattle.disk_face.specs.Moments.{Leaves, LeftOnly}
-use Rattle.disk_face.proofs.MomentLaws.{Leaves-call, Leaves-trans, Leaves-weaken, LeftOnly-after}
+use Rattle.disk_face.proofs.MomentLaws.{Leaves-call, Leaves-trans}
 use Rattle.size_class.specs.declared.TheConstants.{CLASSES, SIZE_MAX}
 use Rattle.slot_codec.specs.Choice as choice
 use Rattle.slot_codec.specs.declared.codec.Kind.{Kind}

@@ -1,11 +1,9 @@
 -- The headline of a session, from how the session went.
-use Rattle.std.specs.Prelude.{◌≡◌, ◌≢◌, ◌⊎◌, ℕ, suc, ◌+◌, ◌-◌, ◌*◌, ◌<◌, ◌≤◌, ◌==◌, Bool, true, false, ◌&&◌, if◌then◌else◌, List, [], ◌∷◌, ◌++◌, length, flat_map, Result, Ok, Err, IsTrue, refl}
-use Rattle.std.proofs.Common.{arith, ap, sym, ◌∙◌, subst, inl, inr, append_assoc, append-nil}
+use Rattle.std.specs.Prelude.{◌≡◌, ◌≢◌, ◌⊎◌, ℕ, ◌+◌, ◌-◌, ◌<◌, ◌≤◌, ◌==◌, Bool, true, false, ◌&&◌, if◌then◌else◌, List, [], ◌∷◌, ◌++◌, length, flat_map, Result, IsTrue, refl}
+use Rattle.std.proofs.Common.{arith, ap, sym, ◌∙◌, subst, inl, inr, append-nil}
 use Rattle.std.proofs.lemmas.List.{append_cancel_left}
 use Rattle.disk_face.specs.Counts.{IsCalm, Rose, counted, last}
 use Rattle.disk_face.specs.States.{IsLawful, State}
-use Rattle.disk_face.specs.States as disk
-use Rattle.disk_face.specs.Frames.{AfterMount}
 use Rattle.disk_face.specs.Moments.{Leaves, LeftOnly}
 use Rattle.disk_face.specs.Streams.{SinkState, SourceState}
 use Rattle.disk_face.proofs.MomentLaws.{Leaves-weaken, LeftOnly-after}
@@ -16,7 +14,7 @@ use Rattle.slot_codec.specs.declared.codec.SuperBlock.{SuperBlock}
 use Rattle.slot_codec.specs.declared.codec.Kind.TheVariants as kind
 use Rattle.slot_codec.proofs.ChoiceLaws.{chosen_sequence, table_chosen}
 use Rattle.store_terms.specs.Maps.{Map}
-use Rattle.store_terms.specs.Requests.{Reply, Request}
+use Rattle.store_terms.specs.Requests.{Request}
 use Rattle.segment_layout.specs.Books.{Book, book_end}
 use Rattle.segment_layout.specs.Bounds.{Loose, Tight}
 use Rattle.table_rules.specs.Opening.{Opens, OpensBy}
@@ -24,27 +22,25 @@ use Rattle.store_core.specs.Connection.{IsOver, Kept, RestsOnTable, base_of, lim
 use Rattle.store_core.specs.Stores.{IsStore}
 use Rattle.store_core.specs.States as store
 use Rattle.store_core.specs.States.{Limits, Served, Step, served}
-use Rattle.store_core.specs.Opened.{IsFoundImage, RestsOnFound, state_at}
+use Rattle.store_core.specs.Opened.{IsFoundImage, RestsOnFound}
 use Rattle.store_core.proofs.OpenedLaws.{tight_kept, tight_now}
 use Rattle.store_core.proofs.OpeningLaws.{alike_found}
 use Rattle.store_core.proofs.OverLaws.{kept_image, same_block}
-use Rattle.ask_text.specs.Inputs.{Asks, BeginsNone, HasText, request_text}
+use Rattle.ask_text.specs.Inputs.{Asks, BeginsNone}
 use Rattle.ask_text.specs.Replies.{reply_text}
-use Rattle.ask_session.specs.Serving.{IsFront, IsServingImage, Replies, is_changing, is_disk, is_disk_fault, reply_at, served_at}
+use Rattle.ask_session.specs.Serving.{IsFront, IsServingImage, is_changing, is_disk, reply_at, served_at}
 use Rattle.ask_session.specs.Sittings.{Sitting, new_sitting, unread}
-use Rattle.ask_session.specs.Turns.{IsServed, IsStopped, IsUnserved, SameCounts}
+use Rattle.ask_session.specs.Turns.{IsStopped}
 use Rattle.ask_session.specs.Runs as run
 use Rattle.ask_session.specs.Runs.{HasRun, IsRunImage, IsStepImage, SomeStep, budget, calls_since, last_kept, last_state}
 use Rattle.ask_session.specs.declared.ends.End.{End}
-use Rattle.ask_session.specs.declared.ends.End.TheVariants as ends
 use Rattle.ask_session.proofs.RunLaws.{and_none, last_more, makes, opens_with, some_last, some_more}
-use Rattle.costore_top.specs.Headline.{EndsTight, HasReplied, HowFar, IsAcknowledged, IsCrashSafe, IsKept, IsLong, IsNextStart, IsPartial, IsTold, IsWithinBounds, NextIsSafe, NumbersLine, OpensTo, OpensToBeing, OpensToKept, OpensToNext, Ran, RunsAs, Starts, has_failed, is_whole, limits_with, next_reply, next_saves, next_states, served_states, state_after, turn_opened}
+use Rattle.costore_top.specs.Headline.{EndsTight, HasReplied, HowFar, IsLong, IsNextStart, IsPartial, IsTold, IsWithinBounds, NumbersLine, OpensTo, OpensToBeing, OpensToKept, OpensToNext, Ran, RunsAs, Starts, has_failed, limits_with, next_reply, next_saves, next_states, served_states, state_after, turn_opened}
 use Rattle.costore_top.specs.Outcomes.{PutsLast, line_at, status_at}
 use Rattle.costore_top.specs.declared.stop.Stop.{Stop}
-use Rattle.costore_top.specs.declared.stop.Stop.TheVariants as stop
 use Rattle.costore_top.specs.declared.top.Outcome.{Outcome}
 use Rattle.costore_top.proofs.RunLists.{IsNext, LastIs, Splits, begins_none, first_kept, last_is, next_is, none_next, some_weaker, splits}
-use Rattle.costore_top.proofs.OpeningLemmas.{Opened, left_old}
+use Rattle.costore_top.proofs.OpeningLemmas.{Opened}
 
 -- ---- a store over a file
 
@@ -409,9 +405,9 @@ module _ {t : choice.Table} {m : Map} {b : Book} {requests : List Request} {end 
         as (λ _. run.OpensToKept CLASSES last_one image ⊎ OpensToNext limits last_one others image) [
           | inl kept ↦ inl (subst (λ (y : store.State). run.OpensToKept CLASSES y image) newest kept)
           | inr one ↦ inr (
-              subst (λ (y : Served). 0 < y.saves.least) served_is one.0,
-              subst (λ (y : Served). Opens CLASSES SIZE_MAX image y.state.map y.state.book) served_is one.1,
-            )
+            subst (λ (y : Served). 0 < y.saves.least) served_is one.0,
+            subst (λ (y : Served). Opens CLASSES SIZE_MAX image y.state.map y.state.book) served_is one.1,
+          )
         ]
 
     loose_z : (image : List ℕ) → IsServingImage CLASSES s1.store r c.file image
@@ -493,186 +489,192 @@ module _ {t : choice.Table} {m : Map} {b : Book} {requests : List Request} {end 
     module _ (after : SinkState) (ending : Result (Unit {0}) Stop) (numbered : NumbersLine new.done ending)
         (fewer : n < budget)
         (line : IsTrue out.tells → PutsLast o2.given after.given (line_at ending) (Rose out.faults after.faults))
-        where
-      abbrev counts_of : ℕ → Outcome
-      counts_of status =
-          record { status = status; done = new.done; kept_done = new.kept_done; kept_turn = new.kept_turn }
+      where
+        abbrev counts_of : ℕ → Outcome
+        counts_of status =
+            record { status = status; done = new.done; kept_done = new.kept_done; kept_turn = new.kept_turn }
 
-      abbrev RunsTo : ℕ → Type 0
-      RunsTo status = RunsAs u t m b requests end (counts_of status) old z from rest out after
+        abbrev RunsTo : ℕ → Type 0
+        RunsTo status = RunsAs u t m b requests end (counts_of status) old z from rest out after
 
-      not_all : new.done ≡ budget → ⊥
-      not_all is = omega (arith, is, x.counts.done, done_is, fewer)
+        not_all : new.done ≡ budget → ⊥
+        not_all is = omega (arith, is, x.counts.done, done_is, fewer)
 
-      next_some : others ≡ [] → ⊥
-      next_some is = absurd (cc)
+        next_some : others ≡ [] → ⊥
+        next_some is = absurd (cc)
 
-      number_z : new.kept_done ≡ last_kept 0 0 ran.replies
-      number_z = x.counts.kept_done ∙ number
+        number_z : new.kept_done ≡ last_kept 0 0 ran.replies
+        number_z = x.counts.kept_done ∙ number
 
-      module _ (disk : is_disk bad ≡ true) (status_is : 7 ≡ status_at ending) where
-        never : {A : Type 0} → IsCalm old.faults z.faults → A
-        never calm = absurd (omega (arith, calm.same, calm.below, op.faults, ran.disk_later,
-            x.served.replies.disk_cause.rose disk))
+        module _ (disk : is_disk bad ≡ true) (status_is : 7 ≡ status_at ending) where
+          never : {A : Type 0} → IsCalm old.faults z.faults → A
+          never calm = absurd (omega (
+            arith,
+            calm.same,
+            calm.below,
+            op.faults,
+            ran.disk_later,
+            x.served.replies.disk_cause.rose disk,
+          ))
 
-        pub disk_failed : RunsTo 7
-        disk_failed = record {
-          start = start;
-          starts = starts;
-          ran = ran_of new.done others next.is x.counts.done;
-          far = record {
-            known = refl;
-            done = λ is. absurd (omega (arith, is));
-            line = λ is. absurd (omega (arith, is));
-            absent = λ is. absurd (omega (arith, is));
-            disk = λ is. inl next_some;
-            sink = λ is. absurd (omega (arith, is));
-            memory = λ is. absurd (omega (arith, is));
-            limit = (λ is. absurd (omega (arith, is)), λ is. absurd (not_all is));
-          };
-          replies = λ told. replied_z after 7 refl (λ is. disk) ending status_is numbered told (line told);
-          between = λ is. absurd (elim is as (λ _. ⊥) [
-            | inl whole ↦ (let e : false ≡ true = whole in absurd (cc))
-            | inr nine ↦ omega (arith, nine)
-          ]);
-          within = λ calm rests below. never calm;
-          opened = λ calm settled has. never calm;
-          crash = λ rests below. record {
-            crash = crash_z 7 refl rests below;
-            since = λ mounted. since_z 7 refl rests below;
-            safe = λ is. absurd (omega (arith, is));
-          };
-          acknowledged = record {
-            number = number_z;
-            turns = λ is. let e : false ≡ true = is in absurd (cc);
-          };
-          next_start = λ calm. never calm;
-        }
+          pub disk_failed : RunsTo 7
+          disk_failed = record {
+            start = start;
+            starts = starts;
+            ran = ran_of new.done others next.is x.counts.done;
+            far = record {
+              known = refl;
+              done = λ is. absurd (omega (arith, is));
+              line = λ is. absurd (omega (arith, is));
+              absent = λ is. absurd (omega (arith, is));
+              disk = λ is. inl next_some;
+              sink = λ is. absurd (omega (arith, is));
+              memory = λ is. absurd (omega (arith, is));
+              limit = (λ is. absurd (omega (arith, is)), λ is. absurd (not_all is));
+            };
+            replies = λ told. replied_z after 7 refl (λ is. disk) ending status_is numbered told (line told);
+            between = λ is. absurd (elim is as (λ _. ⊥) [
+              | inl whole ↦ (let e : false ≡ true = whole in absurd (cc))
+              | inr nine ↦ omega (arith, nine)
+            ]);
+            within = λ calm rests below. never calm;
+            opened = λ calm settled has. never calm;
+            crash = λ rests below. record {
+              crash = crash_z 7 refl rests below;
+              since = λ mounted. since_z 7 refl rests below;
+              safe = λ is. absurd (omega (arith, is));
+            };
+            acknowledged = record {
+              number = number_z;
+              turns = λ is. let e : false ≡ true = is in absurd (cc);
+            };
+            next_start = λ calm. never calm;
+          }
 
-      module _ (quiet : is_disk bad ≡ false) (status_is : 9 ≡ status_at ending)
-          (sound : new.store.is_broken ≡ false → IsStore CLASSES new.store) where
-        abbrev t2 : store.State
-        t2 = state_of new.store z.file
+        module _ (quiet : is_disk bad ≡ false) (status_is : 9 ≡ status_at ending)
+            (sound : new.store.is_broken ≡ false → IsStore CLASSES new.store) where
+          abbrev t2 : store.State
+          t2 = state_of new.store z.file
 
-        step : Step (limits_of s1.store) (state_of s1.store c.file) r (reply_at s1.store c.file r) t2
-        step = x.served.replies.serves.step told_now quiet
+          step : Step (limits_of s1.store) (state_of s1.store c.file) r (reply_at s1.store c.file r) t2
+          step = x.served.replies.serves.step told_now quiet
 
-        t2_is : t2 ≡ record next_one.state { sequence = t2.sequence }
-        t2_is = step.state ∙ ap (λ (y : Served). record y.state { sequence = t2.sequence }) served_is
+          t2_is : t2 ≡ record next_one.state { sequence = t2.sequence }
+          t2_is = step.state ∙ ap (λ (y : Served). record y.state { sequence = t2.sequence }) served_is
 
-        unbroken_z : new.store.is_broken ≡ false
-        unbroken_z = x.served.replies.serves.broken ∙ ap (λ (q : Bool). is_changing r && q) quiet
-            ∙ and_none (is_changing r)
+          unbroken_z : new.store.is_broken ≡ false
+          unbroken_z = x.served.replies.serves.broken ∙ ap (λ (q : Bool). is_changing r && q) quiet
+              ∙ and_none (is_changing r)
 
-        over_z : IsOver CLASSES new.store z.file
-        over_z = x.served.replies.serves.over unbroken_z (x.served.replies.serves.frame.stays.told ∙ told_now)
+          over_z : IsOver CLASSES new.store z.file
+          over_z = x.served.replies.serves.over unbroken_z (x.served.replies.serves.frame.stays.told ∙ told_now)
 
-        block_z : new.store.in_use.block ≡ u
-        block_z = x.served.replies.serves.block quiet ∙ ran.block
+          block_z : new.store.in_use.block ≡ u
+          block_z = x.served.replies.serves.block quiet ∙ ran.block
 
-        rests_z : RestsOnFound t old → RestsOnTable (base_of new.store) new.store.kept z
-        rests_z rests = x.served.replies.serves.rests told_now unbroken_z (ran.rests op.told (op.rests rests))
+          rests_z : RestsOnFound t old → RestsOnTable (base_of new.store) new.store.kept z
+          rests_z rests = x.served.replies.serves.rests told_now unbroken_z (ran.rests op.told (op.rests rests))
 
-        tight_z : EndsTight u.k (head_len u.names) next_one.state z.file
-        tight_z =
-            let e = subst (λ (y : store.State). EndsTight u.k (head_len u.names) y z.file) t2_is
-            (tight_over new.store z.file u (sound unbroken_z) over_z block_z) in
-            record { same_length = e.same_length; now = e.now; kept = e.kept }
+          tight_z : EndsTight u.k (head_len u.names) next_one.state z.file
+          tight_z =
+              let e = subst (λ (y : store.State). EndsTight u.k (head_len u.names) y z.file) t2_is
+              (tight_over new.store z.file u (sound unbroken_z) over_z block_z) in
+              record { same_length = e.same_length; now = e.now; kept = e.kept }
 
-        last_served : last_state start (states ++ next_one.state ∷ []) ≡ next_one.state
-        last_served = last_more start next_one.state states
+          last_served : last_state start (states ++ next_one.state ∷ []) ≡ next_one.state
+          last_served = last_more start next_one.state states
 
-        -- what may be left then opens to the checkpoint that the request made
-        safe_z : RestsOnFound t old → 0 < next_one.saves.least → (image : List ℕ) → z.may_leave image
-            → OpensTo next_one.state image
-        safe_z rests least image left = elim (makes limits last_one r) as (λ _. OpensTo next_one.state image) [
-          | inl one ↦ opens_with image (sym one.kept ∙ ap (λ (y : store.State). y.kept) (sym t2_is))
-              (sym one.book ∙ ap (λ (y : store.State). y.kept_book) (sym t2_is))
-              (kept_image new.store (sound unbroken_z) z.file over_z image (rests_z rests image left)).opens
-          | inr none ↦ absurd (omega (arith, least, none.least))
-        ]
+          -- what may be left then opens to the checkpoint that the request made
+          safe_z : RestsOnFound t old → 0 < next_one.saves.least → (image : List ℕ) → z.may_leave image
+              → OpensTo next_one.state image
+          safe_z rests least image left = elim (makes limits last_one r) as (λ _. OpensTo next_one.state image) [
+            | inl one ↦ opens_with image (sym one.kept ∙ ap (λ (y : store.State). y.kept) (sym t2_is))
+                (sym one.book ∙ ap (λ (y : store.State). y.kept_book) (sym t2_is))
+                (kept_image new.store (sound unbroken_z) z.file over_z image (rests_z rests image left)).opens
+            | inr none ↦ absurd (omega (arith, least, none.least))
+          ]
 
-        -- one more step
-        longer : (image : List ℕ) → IsWithinBounds u.k (base_of s) start states image
-            → IsWithinBounds u.k (base_of s) start (states ++ next_one.state ∷ []) image
-        longer image is = elim is
-            as (λ _. IsWithinBounds u.k (base_of s) start (states ++ next_one.state ∷ []) image) [
-              | inl same ↦ inl same
-              | inr some ↦ inr (some_more (λ x y. Loose u.k (length image - base_of s) x.map y.map) start
-                  next_one.state states some)
-            ]
+          -- one more step
+          longer : (image : List ℕ) → IsWithinBounds u.k (base_of s) start states image
+              → IsWithinBounds u.k (base_of s) start (states ++ next_one.state ∷ []) image
+          longer image is = elim is
+              as (λ _. IsWithinBounds u.k (base_of s) start (states ++ next_one.state ∷ []) image) [
+                | inl same ↦ inl same
+                | inr some ↦ inr (some_more (λ x y. Loose u.k (length image - base_of s) x.map y.map) start
+                    next_one.state states some)
+              ]
 
-        loose_next : (image : List ℕ) → IsServingImage CLASSES s1.store r c.file image
-            → IsWithinBounds u.k (base_of s) start (states ++ next_one.state ∷ []) image
-        loose_next image is = inr (some_last (λ x y. Loose u.k (length image - base_of s) x.map y.map) start
-            next_one.state states (loose_z image is))
+          loose_next : (image : List ℕ) → IsServingImage CLASSES s1.store r c.file image
+              → IsWithinBounds u.k (base_of s) start (states ++ next_one.state ∷ []) image
+          loose_next image is = inr (some_last (λ x y. Loose u.k (length image - base_of s) x.map y.map) start
+              next_one.state states (loose_z image is))
 
-        long_z : RestsOnFound t old → z.turn < last → IsLong u.k (base_of s) t (turn_opened t b old) start
-            (states ++ next_one.state ∷ []) old z
-        long_z rests below =
-            let was = long_c rests (omega (arith, below, turn_z)) in
-            let within = λ (image : List ℕ). IsWithinBounds u.k (base_of s) start (states ++ next_one.state ∷ []) image in
-            record {
-              settled = λ settled later.
-                  let low : turn_opened t b old ≤ c.turn = omega (arith, op.turn settled, turn_c) in
-                  LeftOnly-after (turn_opened t b old) within low
-                  (λ image since. longer image (was.settled settled low image since))
-                  (Leaves-weaken within loose_next (left_z rests));
-              moving = λ moving.
-                  let P = λ (image : List ℕ). (length image ≤ length old.file) ⊎ within image in
-                  LeftOnly-after old.turn P (omega (arith, op.later, turn_c))
-                  (λ image since. elim (was.moving moving image since) as (λ _. P image) [
-                    | inl short ↦ inl short
-                    | inr is ↦ inr (longer image is)
-                  ]) (Leaves-weaken P (λ image is. inr (loose_next image is)) (left_z rests));
-            }
+          long_z : RestsOnFound t old → z.turn < last → IsLong u.k (base_of s) t (turn_opened t b old) start
+              (states ++ next_one.state ∷ []) old z
+          long_z rests below =
+              let was = long_c rests (omega (arith, below, turn_z)) in
+              let within = λ (image : List ℕ). IsWithinBounds u.k (base_of s) start (states ++ next_one.state ∷ []) image in
+              record {
+                settled = λ settled later.
+                    let low : turn_opened t b old ≤ c.turn = omega (arith, op.turn settled, turn_c) in
+                    LeftOnly-after (turn_opened t b old) within low
+                    (λ image since. longer image (was.settled settled low image since))
+                    (Leaves-weaken within loose_next (left_z rests));
+                moving = λ moving.
+                    let P = λ (image : List ℕ). (length image ≤ length old.file) ⊎ within image in
+                    LeftOnly-after old.turn P (omega (arith, op.later, turn_c))
+                    (λ image since. elim (was.moving moving image since) as (λ _. P image) [
+                      | inl short ↦ inl short
+                      | inr is ↦ inr (longer image is)
+                    ]) (Leaves-weaken P (λ image is. inr (loose_next image is)) (left_z rests));
+              }
 
-        next_z : IsNextStart t next_one.state (last_one.sequence + next_one.saves.most) old z
-        next_z =
-            let low : new.store.in_use.sequence ≤ last_one.sequence + next_one.saves.most = omega (
-              arith,
-              step.high,
-              ap (λ (y : store.State). y.sequence) newest,
-              ap (λ (y : Served). y.saves.most) served_is,
-            ) in
-            let e = subst (λ (y : store.State). IsNextStart t y (last_one.sequence + next_one.saves.most) old z) t2_is
-            (next_over t new.store old z (last_one.sequence + next_one.saves.most) (sound unbroken_z) over_z
-            (block_z ∙ op.block) low rests_z) in
-            record { table = e.table; opens = e.opens; block = e.block; not_worn = e.not_worn; rests = e.rests }
+          next_z : IsNextStart t next_one.state (last_one.sequence + next_one.saves.most) old z
+          next_z =
+              let low : new.store.in_use.sequence ≤ last_one.sequence + next_one.saves.most = omega (
+                arith,
+                step.high,
+                ap (λ (y : store.State). y.sequence) newest,
+                ap (λ (y : Served). y.saves.most) served_is,
+              ) in
+              let e = subst (λ (y : store.State). IsNextStart t y (last_one.sequence + next_one.saves.most) old z) t2_is
+              (next_over t new.store old z (last_one.sequence + next_one.saves.most) (sound unbroken_z) over_z
+              (block_z ∙ op.block) low rests_z) in
+              record { table = e.table; opens = e.opens; block = e.block; not_worn = e.not_worn; rests = e.rests }
 
-        pub sink_failed : RunsTo 9
-        sink_failed = record {
-          start = start;
-          starts = starts;
-          ran = ran_of new.done others next.is x.counts.done;
-          far = record {
-            known = refl;
-            done = λ is. absurd (omega (arith, is));
-            line = λ is. absurd (omega (arith, is));
-            absent = λ is. absurd (omega (arith, is));
-            disk = λ is. absurd (omega (arith, is));
-            sink = λ is. next_some;
-            memory = λ is. absurd (omega (arith, is));
-            limit = (λ is. absurd (omega (arith, is)), λ is. absurd (not_all is));
-          };
-          replies = λ told. replied_z after 9 refl (λ is. absurd (omega (arith, is))) ending status_is numbered told
-              (line told);
-          between = λ is. subst (λ (y : store.State). EndsTight u.k (head_len u.names) y z.file) (sym last_served)
-              tight_z;
-          within = λ calm rests below. long_z rests below;
-          opened = λ calm settled has. record {
-            low = omega (arith, x.counts.kept_turn, (told_c settled).low);
-            first = λ none. x.counts.kept_turn ∙ (told_c settled).first (sym x.counts.kept_done ∙ none);
-          };
-          crash = λ rests below. record {
-            crash = crash_z 9 refl rests below;
-            since = λ mounted. since_z 9 refl rests below;
-            safe = λ is. safe_z rests;
-          };
-          acknowledged = record {
-            number = number_z;
-            turns = λ is. let e : false ≡ true = is in absurd (cc);
-          };
-          next_start = λ calm. subst (λ (y : store.State). IsNextStart t y
-              (last_one.sequence + next_one.saves.most) old z) (sym last_served) next_z;
-        }
+          pub sink_failed : RunsTo 9
+          sink_failed = record {
+            start = start;
+            starts = starts;
+            ran = ran_of new.done others next.is x.counts.done;
+            far = record {
+              known = refl;
+              done = λ is. absurd (omega (arith, is));
+              line = λ is. absurd (omega (arith, is));
+              absent = λ is. absurd (omega (arith, is));
+              disk = λ is. absurd (omega (arith, is));
+              sink = λ is. next_some;
+              memory = λ is. absurd (omega (arith, is));
+              limit = (λ is. absurd (omega (arith, is)), λ is. absurd (not_all is));
+            };
+            replies = λ told. replied_z after 9 refl (λ is. absurd (omega (arith, is))) ending status_is numbered told
+                (line told);
+            between = λ is. subst (λ (y : store.State). EndsTight u.k (head_len u.names) y z.file) (sym last_served)
+                tight_z;
+            within = λ calm rests below. long_z rests below;
+            opened = λ calm settled has. record {
+              low = omega (arith, x.counts.kept_turn, (told_c settled).low);
+              first = λ none. x.counts.kept_turn ∙ (told_c settled).first (sym x.counts.kept_done ∙ none);
+            };
+            crash = λ rests below. record {
+              crash = crash_z 9 refl rests below;
+              since = λ mounted. since_z 9 refl rests below;
+              safe = λ is. safe_z rests;
+            };
+            acknowledged = record {
+              number = number_z;
+              turns = λ is. let e : false ≡ true = is in absurd (cc);
+            };
+            next_start = λ calm. subst (λ (y : store.State). IsNextStart t y
+                (last_one.sequence + next_one.saves.most) old z) (sym last_served) next_z;
+          }

@@ -1,11 +1,9 @@
 -- Lists of a run: which requests of an input were answered, and which state each checkpoint has.
-use Rattle.std.specs.Prelude.{◌≡◌, ◌⊎◌, ℕ, zero, suc, ◌+◌, ◌<◌, ◌≤◌, Bool, true, false, if◌then◌else◌, List, [], ◌∷◌, ◌++◌, length, flat_map, IsTrue, refl, codes}
+use Rattle.std.specs.Prelude.{◌≡◌, ◌⊎◌, ℕ, zero, suc, ◌+◌, ◌≤◌, Bool, true, false, if◌then◌else◌, List, [], ◌∷◌, ◌++◌, length, flat_map, refl, codes}
 use Rattle.std.specs.List.{AllByRecursion}
 use Rattle.std.proofs.Common.{arith, ap, sym, ◌∙◌, subst, inl, inr, append_assoc, append-nil, length-append}
 use Rattle.disk_face.specs.Counts.{counted, last}
-use Rattle.store_terms.specs.Maps.{Map}
 use Rattle.store_terms.specs.Requests.{Reply, Request}
-use Rattle.segment_layout.specs.Books.{Book}
 use Rattle.store_core.specs.States.{Chain, Limits, State, Step, served}
 use Rattle.ask_text.specs.Asks.{ask_of, line_of}
 use Rattle.ask_text.specs.Inputs.{Asks, BeginsNone, HasText, body_of, request_text}
@@ -13,9 +11,9 @@ use Rattle.ask_text.proofs.InputLaws.{text_one}
 use Rattle.ask_session.specs.Serving.{acknowledges}
 use Rattle.ask_session.specs.Runs.{SomeStep, last_kept, last_state}
 use Rattle.ask_session.specs.Runs as run
-use Rattle.ask_session.proofs.RunLaws.{MakesNone, MakesOne, makes, opens_with}
+use Rattle.ask_session.proofs.RunLaws.{makes, opens_with}
 use Rattle.size_class.specs.declared.TheConstants.{CLASSES}
-use Rattle.costore_top.specs.Headline.{IsKept, OpensTo, OpensToKept, state_after}
+use Rattle.costore_top.specs.Headline.{IsKept, OpensTo, state_after}
 
 -- ---- requests
 
@@ -110,11 +108,11 @@ module _ (limits : Limits) (s t : State) (r : Request) (reply : Reply) (step : S
   shows_here image replies states opens = elim (makes limits s r)
       as (λ _. Shows image s (reply ∷ replies) (t ∷ states)) [
         | inl one ↦ inr (
-            1,
-            replied_as ∙ one.acknowledged,
-            opens_with image (ap (λ (y : State). y.map) step.state ∙ sym one.kept ∙ sym now_kept)
-                (ap (λ (y : State). y.book) step.state ∙ sym one.book ∙ sym now_book) opens,
-          )
+          1,
+          replied_as ∙ one.acknowledged,
+          opens_with image (ap (λ (y : State). y.map) step.state ∙ sym one.kept ∙ sym now_kept)
+              (ap (λ (y : State). y.book) step.state ∙ sym one.book ∙ sym now_book) opens,
+        )
         | inr none ↦ inl (opens_with image (sym none.kept ∙ sym now_kept) (sym none.book ∙ sym now_book) opens)
       ]
 
@@ -162,22 +160,22 @@ module _ (limits : Limits) (s t : State) (r : Request) (reply : Reply) (step : S
   same_by true is number same book = elim (makes limits s r)
       as (λ _. LastIs done kept s (reply ∷ replies) (t ∷ states)) [
         | inl one ↦ inr (
-            1,
-            is,
-            number ∙ ap (λ (k : Bool). if k then counted done 1 else kept) is ∙ one_more,
-            same ∙ now_kept limits s t r reply step ∙ one.kept ∙ ap (λ (y : State). y.map) (sym step.state),
-            book ∙ now_book limits s t r reply step ∙ one.book ∙ ap (λ (y : State). y.book) (sym step.state),
-          )
+          1,
+          is,
+          number ∙ ap (λ (k : Bool). if k then counted done 1 else kept) is ∙ one_more,
+          same ∙ now_kept limits s t r reply step ∙ one.kept ∙ ap (λ (y : State). y.map) (sym step.state),
+          book ∙ now_book limits s t r reply step ∙ one.book ∙ ap (λ (y : State). y.book) (sym step.state),
+        )
         | inr none ↦ absurd (let e : true ≡ false = sym is ∙ replied_as limits s t r reply step ∙ none.acknowledged in cc)
       ]
   same_by false is number same book = elim (makes limits s r)
       as (λ _. LastIs done kept s (reply ∷ replies) (t ∷ states)) [
         | inl one ↦ absurd (let e : true ≡ false = sym one.acknowledged ∙ sym (replied_as limits s t r reply step) ∙ is in cc)
         | inr none ↦ inl (
-            number ∙ ap (λ (k : Bool). if k then counted done 1 else kept) is,
-            same ∙ now_kept limits s t r reply step ∙ none.kept,
-            book ∙ now_book limits s t r reply step ∙ none.book,
-          )
+          number ∙ ap (λ (k : Bool). if k then counted done 1 else kept) is,
+          same ∙ now_kept limits s t r reply step ∙ none.kept,
+          book ∙ now_book limits s t r reply step ∙ none.book,
+        )
       ]
 
   kept_last : LastIs (counted done 1) (if acknowledges reply then counted done 1 else kept) t replies states

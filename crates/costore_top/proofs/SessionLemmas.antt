@@ -1,12 +1,5 @@
 -- How a session went, from the steps that its functions take.
-use Rattle.costore_top.proofs.OpeningLemmas.{Opened}
-use Rattle.costore_top.proofs.RunLaws.{tight_over}
-use Rattle.costore_top.proofs.UnservedLaws.{unserved_runs}
-use Rattle.costore_top.proofs.SettledLaws.{ends_with_layout}
-use Rattle.costore_top.proofs.HeadlineLaws.{headline}
-use Rattle.costore_top.proofs.ClauseLaws.{session_keeps}
-use Rattle.costore_top.proofs.WentLaws.{whole}
-use Rattle.std.specs.Prelude.{◌≡◌, ℕ, false, Result, Ok, Err, IsTrue, refl}
+use Rattle.std.specs.Prelude.{◌≡◌, ℕ, false, Ok, Err, refl}
 use Rattle.std.proofs.Common.{ap, sym, ◌∙◌, subst, inl, inr}
 use Rattle.disk_face.specs.States.{State}
 use Rattle.disk_face.specs.Streams.{SinkState, SourceState}
@@ -17,7 +10,7 @@ use Rattle.store_core.specs.Stores.{IsStore}
 use Rattle.ask_session.specs.Sittings.{Sitting, new_sitting}
 use Rattle.ask_session.specs.Runs.{EndsRun}
 use Rattle.ask_session.specs.declared.ends.End.{End}
-use Rattle.costore_top.specs.Sessions.{HasSession, IsUnbegun, IsUnopened, Went, ended_as, unserved}
+use Rattle.costore_top.specs.Sessions.{Went, ended_as, unserved}
 use Rattle.costore_top.specs.Getting.{stop_of}
 use Rattle.costore_top.specs.declared.stop.Stop.TheVariants as stop
 use Rattle.costore_top.specs.declared.run.Ended.{Ended}
@@ -49,17 +42,25 @@ module _ {D I O : Type 0} (disk_of : D → State) (source_of : I → SourceState
   pub went_unbegun : (first now : D) (from : I) (out : O) (store : Kept) (turn : ℕ) (e : Ended)
       → IsOpening CLASSES (disk_of first) (disk_of now) (Ok store) → turn ≡ (disk_of now).turn
       → e ≡ unserved stop.NoMemory turn → Went disk_of source_of sink_of first now from from out out e
-  went_unbegun first now from out store turn e opening at is = inl (inr (record {
-    store = store;
-    opening = opening;
-    ended = is ∙ ap (λ (n : ℕ). unserved stop.NoMemory n) at;
-  }), refl, refl)
+  went_unbegun first now from out store turn e opening at is = inl (
+    inr (record {
+      store = store;
+      opening = opening;
+      ended = is ∙ ap (λ (n : ℕ). unserved stop.NoMemory n) at;
+    }),
+    refl,
+    refl,
+  )
 
   pub went_unopened : (first now : D) (from : I) (out : O) (why : OpenFault) (turn : ℕ) (e : Ended)
       → IsOpening CLASSES (disk_of first) (disk_of now) (Err why) → turn ≡ (disk_of now).turn
       → e ≡ unserved (stop_of why) turn → Went disk_of source_of sink_of first now from from out out e
-  went_unopened first now from out why turn e opening at is = inl (inl (record {
-    fault = why;
-    opening = opening;
-    ended = is ∙ ap (λ (n : ℕ). unserved (stop_of why) n) at;
-  }), refl, refl)
+  went_unopened first now from out why turn e opening at is = inl (
+    inl (record {
+      fault = why;
+      opening = opening;
+      ended = is ∙ ap (λ (n : ℕ). unserved (stop_of why) n) at;
+    }),
+    refl,
+    refl,
+  )

@@ -1,14 +1,13 @@
 -- How long a file is that opens by a settled table.
-use Rattle.std.specs.Prelude.{◌≡◌, ℕ, ◌+◌, ◌-◌, ◌<◌, ◌≤◌, ◌^◌, nat_lt, Bool, true, false, if◌then◌else◌, List, [], ◌++◌, length, take, drop, slice_index, refl}
-use Rattle.std.proofs.Common.{arith, ap, sym, ◌∙◌, subst, inl, inr, lit<}
+use Rattle.std.specs.Prelude.{◌≡◌, ℕ, ◌+◌, ◌<◌, ◌≤◌, nat_lt, List, length, take, drop, slice_index, refl}
+use Rattle.std.proofs.Common.{arith, ap, ◌∙◌, inl, inr}
 use Rattle.std.proofs.lemmas.Bool.{cases_lt, lt-ltb, le-ltb, cond-false, cond-true}
 use Rattle.std.proofs.lemmas.List.{take-append-drop}
 use Rattle.std.proofs.lemmas.List.Sums.{sum_by-append}
-use Rattle.size_class.specs.Classes.{class_of, width}
+use Rattle.size_class.specs.Classes.{class_of}
 use Rattle.size_class.proofs.ClassLaws.{class_low, power_rises}
 use Rattle.size_class.specs.declared.TheConstants.{CLASSES, SIZE_MAX}
 use Rattle.slot_codec.specs.Choice as choice
-use Rattle.slot_codec.specs.Spelling.{head_len}
 use Rattle.slot_codec.specs.declared.codec.Record.{Record}
 use Rattle.slot_codec.specs.declared.codec.Kind.{Kind}
 use Rattle.slot_codec.specs.declared.codec.Kind.TheVariants as kind
@@ -21,9 +20,9 @@ use Rattle.segment_layout.proofs.BookLaws.{sum_by_none, volumes_of_sizes-index}
 use Rattle.segment_layout.proofs.ShapeLaws.{end_of-rest}
 use Rattle.segment_layout.proofs.SumLaws.{sum_by_same_places}
 use Rattle.table_rules.specs.Opening.{OpensBy, placed_table}
-use Rattle.table_rules.specs.Tables.{PlacedTable, book_of, boundary_of_kind, end_of_record, last_end, no_record, nth, sizes}
+use Rattle.table_rules.specs.Tables.{PlacedTable, boundary_of_kind, end_of_record, last_end, no_record, nth, sizes}
 use Rattle.spot_terms.proofs.OpenedLaws.{opens_long}
-use Rattle.store_core.specs.Opened.{found_base, turn_after_cut}
+use Rattle.store_core.specs.Opened.{found_base}
 use Rattle.disk_face.specs.Counts.{counted, last}
 use Rattle.disk_face.specs.States.{State}
 use Rattle.costore_top.specs.Headline.{turn_opened}
@@ -105,11 +104,16 @@ pub ends_with_layout : (t : choice.Table) (m : Map) (b : Book) (old : State)
 ends_with_layout t m b old o settled below low =
     let far = found_base t + book_end t.chosen.block.k b in
     elim (cases_lt far (length old.file)) as (λ _. EndsWithLayout t b old) [
-      | inl longer ↦ absurd (omega (arith, below, low, cond-true (nat_lt far (length old.file)) (counted old.turn 2)
-          old.turn (lt-ltb far (length old.file) longer)))
+      | inl longer ↦ absurd (omega (
+        arith,
+        below,
+        low,
+        cond-true (nat_lt far (length old.file)) (counted old.turn 2)
+            old.turn (lt-ltb far (length old.file) longer),
+      ))
       | inr not ↦ record {
-          same_turn = cond-false (nat_lt far (length old.file)) (counted old.turn 2) old.turn
-              (le-ltb far (length old.file) not);
-          same_length = omega (arith, not, layout_within t old.file m b o settled);
-        }
+        same_turn = cond-false (nat_lt far (length old.file)) (counted old.turn 2) old.turn
+            (le-ltb far (length old.file) not);
+        same_length = omega (arith, not, layout_within t old.file m b o settled);
+      }
     ]

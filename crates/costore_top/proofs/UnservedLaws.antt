@@ -1,11 +1,11 @@
 -- The headline where no session was begun.
-use Rattle.std.specs.Prelude.{◌≡◌, ◌≢◌, ◌⊎◌, ℕ, ◌+◌, ◌<◌, ◌≤◌, ◌==◌, Bool, true, false, if◌then◌else◌, List, [], ◌++◌, length, Result, IsTrue, refl}
+use Rattle.std.specs.Prelude.{◌≡◌, ◌≢◌, ℕ, ◌+◌, ◌<◌, ◌≤◌, ◌==◌, Bool, true, false, if◌then◌else◌, List, [], ◌++◌, length, Result, IsTrue, refl}
 use Rattle.std.proofs.Common.{arith, ap, sym, ◌∙◌, subst, inl, inr, append-nil}
-use Rattle.disk_face.specs.Counts.{IsCalm, Rose, counted, last}
+use Rattle.disk_face.specs.Counts.{IsCalm, Rose, last}
 use Rattle.disk_face.specs.States.{IsLawful, State}
 use Rattle.disk_face.specs.Moments.{Leaves, LeftOnly}
 use Rattle.disk_face.specs.Streams.{SinkState, SourceState}
-use Rattle.disk_face.proofs.MomentLaws.{Leaves-weaken, LeftOnly-after}
+use Rattle.disk_face.proofs.MomentLaws.{LeftOnly-after}
 use Rattle.size_class.specs.declared.TheConstants.{CLASSES, SIZE_MAX}
 use Rattle.slot_codec.specs.Choice as choice
 use Rattle.slot_codec.specs.Spelling.{head_len}
@@ -19,7 +19,7 @@ use Rattle.store_core.specs.States as store
 use Rattle.store_core.specs.Opened.{IsFoundImage, RestsOnFound}
 use Rattle.ask_session.specs.Runs.{last_state}
 use Rattle.ask_session.proofs.RunLaws.{opens_with}
-use Rattle.costore_top.specs.Headline.{HasMounted, HowFar, IsCrashSafe, IsLong, IsNextStart, IsTold, IsWithinBounds, NumbersLine, OpensTo, RunsAs, Starts, has_opened, is_whole, limits_with, next_reply, next_saves, next_states, served_states, turn_opened}
+use Rattle.costore_top.specs.Headline.{HasMounted, HowFar, IsLong, IsNextStart, NumbersLine, OpensTo, RunsAs, Starts, has_opened, is_whole, limits_with, next_reply, next_saves, next_states, served_states, turn_opened}
 use Rattle.costore_top.specs.Outcomes.{PutsLast, line_at, status_at}
 use Rattle.costore_top.specs.declared.stop.Stop.{Stop}
 use Rattle.costore_top.specs.declared.top.Outcome.{Outcome}

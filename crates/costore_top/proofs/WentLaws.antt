@@ -1,12 +1,11 @@
 -- What holds of the command that serves requests in each way that it may go.
-use Rattle.std.specs.Prelude.{◌≡◌, ◌≢◌, ◌⊎◌, ◌↔◌, ℕ, ◌+◌, ◌<◌, ◌≤◌, Bool, true, false, List, [], ◌++◌, length, take, Option, Some, None, Result, Ok, Err, IsOk, IsTrue, OnOk, refl}
-use Rattle.std.proofs.Common.{arith, ap, sym, ◌∙◌, subst, inl, inr, append-nil}
+use Rattle.std.specs.Prelude.{◌≡◌, ◌≢◌, ◌⊎◌, ℕ, ◌≤◌, true, false, List, [], None, Ok, Err, IsTrue, refl}
+use Rattle.std.proofs.Common.{arith, ap, sym, ◌∙◌, subst, inl, inr}
 use Rattle.disk_face.specs.Counts.{Rose}
 use Rattle.disk_face.specs.States.{State}
 use Rattle.disk_face.specs.Frames.{AfterMount, Unchanged, Untouched}
-use Rattle.disk_face.specs.Mounts.{Mount, is_mounted}
+use Rattle.disk_face.specs.Mounts.{is_mounted}
 use Rattle.disk_face.specs.Streams.{SinkState, SourceState}
-use Rattle.disk_face.specs.declared.bay.Mounted.{Mounted}
 use Rattle.disk_face.specs.declared.bay.Mounted.TheVariants.{Absent, There}
 use Rattle.disk_face.proofs.FrameLaws.{Untouched-then}
 use Rattle.disk_face.proofs.MomentLaws.{Leaves-call}
@@ -17,19 +16,18 @@ use Rattle.store_terms.specs.Maps.{Map}
 use Rattle.segment_layout.specs.Books.{Book}
 use Rattle.table_rules.specs.Opening.{Opens}
 use Rattle.store_core.specs.Connection.{Kept}
-use Rattle.store_core.specs.Opened.{IsOpened, IsOpening, RefusesUnchanged}
+use Rattle.store_core.specs.Opened.{IsOpening, RefusesUnchanged}
 use Rattle.reopen.specs.Refusals.{RefusesToOpen}
 use Rattle.reopen.specs.declared.fault.OpenFault.{OpenFault}
 use Rattle.reopen.specs.declared.fault.OpenFault.TheVariants as opening
 use Rattle.costore_top.specs.Commands.{IsMounted}
-use Rattle.costore_top.specs.Getting.{IsFirstRefusal, IsRefused, stop_of}
+use Rattle.costore_top.specs.Getting.{IsRefused, stop_of}
 use Rattle.costore_top.specs.Headline.{HasMounted, IsKeptTurn, is_session}
 use Rattle.ask_session.specs.declared.ends.End.{End}
 use Rattle.ask_session.specs.declared.ends.End.TheVariants as ends
-use Rattle.costore_top.specs.Outcomes.{Ends, EndsBy, PutsLast, PutsLine, PutsOut, line_at, mounted, status_at, status_of}
-use Rattle.costore_top.specs.Sessions.{HasSession, IsServed, IsUnbegun, IsUnmounted, IsUnopened, IsUnserved, KeepsRun, Went, WentFrom, ended_as, end_of, outcome_of, unserved}
-use Rattle.costore_top.specs.Words.{Command, run}
-use Rattle.costore_top.specs.declared.stop.Stop.{Stop}
+use Rattle.costore_top.specs.Outcomes.{EndsBy, mounted, status_at, status_of}
+use Rattle.costore_top.specs.Sessions.{IsServed, IsUnserved, KeepsRun, Went, WentFrom, end_of, outcome_of, unserved}
+use Rattle.costore_top.specs.Words.{run}
 use Rattle.costore_top.specs.declared.stop.Stop.TheVariants as stop
 use Rattle.costore_top.specs.declared.stop.StoreFault.TheVariants as fault
 use Rattle.costore_top.specs.declared.run.Ended.{Ended}
@@ -331,10 +329,13 @@ module _ {D I O : Type 0} (disk_of : D → State) (source_of : I → SourceState
   pub refused_by : IsTrue old.tells → ((m : Map) (b : Book) → Opens CLASSES SIZE_MAX old.file m b → ⊥)
       → WentFrom disk_of source_of sink_of (run file) before now from rest out mid_out e
       → EndsBy (IsRefused old.file) [] e.end × (mid_out ≡ out)
-  refused_by told never (inl (is, source, sink)) = (elim is.which as (λ _. EndsBy (IsRefused old.file) [] e.end) [
-    | inl failed ↦ subst (λ (y : Ended). EndsBy (IsRefused old.file) [] y.end) (sym failed.0) (inr refl)
-    | inr gone ↦ subst (λ (y : Ended). EndsBy (IsRefused old.file) [] y.end) (sym gone.0) refl
-  ], sink)
+  refused_by told never (inl (is, source, sink)) = (
+    elim is.which as (λ _. EndsBy (IsRefused old.file) [] e.end) [
+      | inl failed ↦ subst (λ (y : Ended). EndsBy (IsRefused old.file) [] y.end) (sym failed.0) (inr refl)
+      | inr gone ↦ subst (λ (y : Ended). EndsBy (IsRefused old.file) [] y.end) (sym gone.0) refl
+    ],
+    sink,
+  )
   refused_by told never (inr x) = by x.went
     where
       told_first : IsTrue (disk_of x.first).tells
@@ -351,9 +352,12 @@ module _ {D I O : Type 0} (disk_of : D → State) (source_of : I → SourceState
 
       by : Went disk_of source_of sink_of x.first now from rest out mid_out e
           → EndsBy (IsRefused old.file) [] e.end × (mid_out ≡ out)
-      by (inl (inl is, source, sink)) = (subst (λ (y : Ended). EndsBy (IsRefused old.file) [] y.end) (sym is.ended)
-          (refuses is.fault (subst (λ (f : List ℕ). RefusesToOpen CLASSES f is.fault) same_file
-          (is.opening.refused told_first))), sink)
+      by (inl (inl is, source, sink)) = (
+        subst (λ (y : Ended). EndsBy (IsRefused old.file) [] y.end) (sym is.ended)
+            (refuses is.fault (subst (λ (f : List ℕ). RefusesToOpen CLASSES f is.fault) same_file
+            (is.opening.refused told_first))),
+        sink,
+      )
       by (inl (inr is, source, sink)) = absurd (never_opened z is.store is.opening)
       by (inr y) = absurd (never_opened (disk_of y.mid) y.store y.opening)
 

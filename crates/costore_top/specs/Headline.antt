@@ -1,5 +1,5 @@
 -- The headline: what a session over a store's file answers, how long the file is meanwhile, and what a crash leaves.
-use Rattle.std.specs.Prelude.{◌≡◌, ◌≢◌, ◌⊎◌, ℕ, zero, suc, ◌+◌, ◌-◌, ◌^◌, ◌<◌, ◌≤◌, ◌↔◌, ◌==◌, Bool, true, false, ◌||◌, if◌then◌else◌, List, [], ◌∷◌, ◌++◌, length, flat_map, Result, Ok, Err, IsTrue}
+use Rattle.std.specs.Prelude.{◌≡◌, ◌≢◌, ◌⊎◌, ℕ, zero, suc, ◌+◌, ◌-◌, ◌^◌, ◌<◌, ◌≤◌, ◌↔◌, ◌==◌, Bool, true, false, ◌||◌, if◌then◌else◌, List, [], ◌∷◌, ◌++◌, length, flat_map, Result, Err, IsTrue}
 use Rattle.disk_face.specs.Counts.{IsCalm, Rose, counted, last}
 use Rattle.disk_face.specs.States as disk
 use Rattle.disk_face.specs.Moments.{LeftOnly}

@@ -1,10 +1,10 @@
 -- The statuses of the program, what each command answers, and what it puts.
-use Rattle.std.specs.Prelude.{◌≡◌, ◌⊎◌, ℕ, ◌==◌, ◌≤◌, Bool, true, false, if◌then◌else◌, List, [], ◌++◌, length, take, codes, Option, Some, Result, Ok, Err, IsOk, IsTrue}
+use Rattle.std.specs.Prelude.{◌≡◌, ◌⊎◌, ℕ, ◌==◌, ◌≤◌, Bool, true, false, if◌then◌else◌, List, [], ◌++◌, length, take, codes, Option, Some, Result, Ok, Err, IsFalse, IsOk, IsTrue}
 use Rattle.disk_face.specs.Counts.{Rose}
 use Rattle.disk_face.specs.Mounts.{Mount}
 use Rattle.disk_face.specs.Streams.{SinkState}
 use Rattle.disk_face.specs.declared.bay.Mounted.{Mounted}
-use Rattle.costore_top.specs.Words.{Command, check, format, get, help, map_of, run, version}
+use Rattle.costore_top.specs.Words.{Command, Means, check, format, get, help, map_of, run, version}
 use Rattle.costore_top.specs.Getting.{IsObject}
 use Rattle.costore_top.specs.Texts.{IsChecked, IsMapped}
 use Rattle.costore_top.specs.Faults.{line_of}
@@ -57,6 +57,10 @@ reads _ = false
 abbrev pub serves : Command → Bool
 serves (run file) = true
 serves _ = false
+
+-- the words ask for no session
+abbrev pub IsOther : List (List ℕ) → Type 0
+IsOther words = (c : Command) → Means words c → IsFalse (serves c)
 
 -- the file that a command mounts
 abbrev pub file_of : Command → List ℕ

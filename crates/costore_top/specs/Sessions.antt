@@ -1,5 +1,5 @@
 -- How a session over a file went, step by step.
-use Rattle.std.specs.Prelude.{◌≡◌, ◌⊎◌, ℕ, ◌+◌, ◌≤◌, false, List, IsTrue, Result, None, Ok, Err}
+use Rattle.std.specs.Prelude.{◌≡◌, ◌⊎◌, ℕ, ◌≤◌, false, List, IsTrue, Result, None, Ok, Err}
 use Rattle.disk_face.specs.Counts.{Rose, counted}
 use Rattle.disk_face.specs.Frames.{AfterMount, Untouched}
 use Rattle.disk_face.specs.declared.bay.Mounted.TheVariants.{Absent, There}

@@ -9,7 +9,7 @@ commands:
   costore get FILE NAME             puts the bytes of the object NAME
   costore check FILE                puts one line about the store
   costore map FILE                  puts its segments and objects
-  costore run FILE                  serves requests from standard input (not built yet)
+  costore run FILE                  serves requests from standard input
   costore work FILE NUMBER COUNT    does the jobs of a number (not built yet)
   costore --help                    puts this page
   costore --version                 puts the version
@@ -23,8 +23,9 @@ have, how many the file has behind its head, the number of its checkpoint, and s
 rebuild was interrupted. map puts a line class C CAPACITY BUFFER TAKEN for each segment that has bytes, and
 object NAME PLACE SIZE for each object; before them moving BOUNDARY WALL SLACK for a moving file.
 
-status: 0 done, 1 faulty words, 3 no such file, 4 no store, 5 the file isn't empty, 6 no such object,
-7 the disk failed, 9 the output failed, 10 out of memory, 12 not built yet.
+status: 0 done, 1 faulty words, 2 a faulty request, 3 no such file, 4 no store, 5 the file isn't empty,
+6 no such object, 7 the disk failed, 8 the input failed, 9 the output failed, 10 out of memory,
+11 too many requests, 12 not built yet.
 At each status but 0 and 9 one line that begins with fault is put last, but where there is no memory for
 the words.
 

@@ -1,17 +1,21 @@
 //! The top call: what the program does with its words, its disk and its streams.
-ghost use Rattle.std.specs.Prelude.{◌≡◌, ◌≢◌, ◌⊎◌, ◌↔◌, ◌<◌, ◌≤◌, ℕ, List, None, Ok, Err, OnOk, IsTrue, IsFalse, length};
+ghost use Rattle.std.specs.Prelude.{◌≡◌, ◌≢◌, ◌⊎◌, ◌↔◌, ◌<◌, ◌≤◌, ℕ, List, None, Ok, Err, OnOk, IsTrue, IsFalse, MatchOption, true, length};
 ghost use Rattle.disk_face.specs.Counts.{Rose};
 ghost use Rattle.disk_face.specs.Frames.{Untouched};
 ghost use Rattle.costore_top.specs.Commands.{Formats, IsDone, IsMounted};
-ghost use Rattle.costore_top.specs.Words.{Command, Means, MeansNone, format, texts};
-ghost use Rattle.costore_top.specs.Outcomes.{Ends, PutsLast, PutsLine, IsAnswer, line_at, makes, mounts, reads, status_at};
+ghost use Rattle.costore_top.specs.Words.{Command, Means, MeansNone, format, run, texts};
+ghost use Rattle.costore_top.specs.Getting.{IsRefused};
+ghost use Rattle.costore_top.specs.Headline.{RunsFrom, is_session};
+ghost use Rattle.costore_top.specs.Sessions.{NeverOpens, ServesSo};
+ghost use Rattle.costore_top.specs.Outcomes.{Ends, IsOther, PutsLast, PutsLine, IsAnswer, line_at, makes, mounts, reads, serves, status_at};
 ghost use Rattle.costore_top.specs.Layers.{Answers, Keeps, KeepsAt, PutsNone};
 ghost use Rattle.costore_top.specs.Faults.{line_of};
 
 use crate::Stop;
 use crate::asked::do_asked;
 use crate::fault::fault_line;
-use crate::words::read_words;
+use crate::run::run_file;
+use crate::words::{Asked, read_words};
 use disk_face::{Bay, Mounted, Sink, Source};
 use std::alloc::Global;
 
@@ -19,11 +23,15 @@ use std::alloc::Global;
 /// that serves none.
 #[derive(Clone, Copy, Debug, PartialEq, Eq)]
 pub struct Outcome {
-    /// 0 done, 1 faulty words, 3 no file, 4 no store, 5 not an empty file, 6 no such object, 7 the
-    /// disk failed, 9 the sink failed, 10 too little memory, 12 not built yet.
+    /// 0 done, 1 faulty words, 2 a faulty request, 3 no file, 4 no store, 5 not an empty file, 6 no
+    /// such object, 7 the disk failed, 8 the source failed, 9 the sink failed, 10 too little memory, 11
+    /// as many requests as one session answers, 12 not built yet.
     pub status: u8,
+    /// How many requests were answered.
     pub done: u64,
+    /// How many of them the last acknowledged checkpoint holds.
     pub kept_done: u64,
+    /// The disk's turn when that checkpoint was made, or when the file was opened.
     pub kept_turn: u64,
 }
 
@@ -51,18 +59,18 @@ pub fn costore<B: Bay, I: Source, O: Sink>(
 
     // Then the bytes of the file decide the status, and what is put, by the one answer that there is to
     // them. Only memory may be wanting for the table that is read, before anything is put.
-    ensures ends { (c : Command) → Means (texts words.now) c
+    ensures ends { (c : Command) → Means (texts words.now) c → IsFalse (serves c)
         → (IsTrue (mounts c) → IsTrue (B.state bay.old).tells)
         → Ends (IsAnswer c (B.state bay.old).file) result.status (O.state output.old) (O.state output.new) }
     ensures memory { (c : Command) → Means (texts words.now) c → IsFalse (reads c) → result.status ≢ 10 }
-    ensures line_alone { IsTrue (O.state output.old).tells
+    ensures line_alone { IsOther (texts words.now) → IsTrue (O.state output.old).tells
         → (result.status ≡ 0) ⊎ (result.status ≡ 7) ⊎ (result.status ≡ 9)
         ⊎ PutsLine result.status (O.state output.old) (O.state output.new) }
 
     // `format` alone makes changing calls, and only on an empty file. It tells that a file is formatted
     // only once that file is safe: where the disk failed, the fault line is all that is put.
-    ensures frame { ((c : Command) → Means (texts words.now) c → IsFalse (makes c))
-        → Untouched (B.state bay.old) (B.state bay.new) }
+    ensures frame { IsOther (texts words.now) → ((c : Command) → Means (texts words.now) c
+        → IsFalse (makes c)) → Untouched (B.state bay.old) (B.state bay.new) }
     ensures formats { (file : List ℕ) (k names : ℕ) → Means (texts words.now) (format file k names)
         → IsTrue (B.state bay.old).tells → length (B.state bay.old).file ≡ 0
         → Formats k names (B.state bay.old) (B.state bay.new) ((result.status ≡ 0) ⊎ (result.status ≡ 9)) }
@@ -70,25 +78,53 @@ pub fn costore<B: Bay, I: Source, O: Sink>(
         → IsTrue (O.state output.old).tells → result.status ≡ 7
         → PutsLine 7 (O.state output.old) (O.state output.new) }
 
-    // What every call keeps. The devices' own faults have their causes.
-    ensures keeps { Keeps (B.state bay.old) (B.state bay.new) (O.state output.old) (O.state output.new)
+    // What every other call than `run` keeps. The devices' own faults have their causes.
+    ensures keeps { IsOther (texts words.now) → Keeps (B.state bay.old) (B.state bay.new) (O.state output.old) (O.state output.new)
         (result.status ≡ 7) (result.status ≡ 9) (result.status ≡ 0) }
-    ensures input { input.new ≡ input.old }
-    ensures numbers { (result.done ≡ 0) × (result.kept_done ≡ 0) × (result.kept_turn ≡ 0) }
+    ensures input { IsOther (texts words.now) → input.new ≡ input.old }
+    ensures numbers { IsOther (texts words.now) → (result.done ≡ 0) × (result.kept_done ≡ 0) × (result.kept_turn ≡ 0) }
+
+    // `run` serves the requests of the input. Of a file that opens, and a disk and an input that tell, this
+    // is the headline; a file that doesn't open ends the call as its first refusal says.
+    ensures headline { (file : List ℕ) → Means (texts words.now) (run file)
+        → IsTrue (B.state bay.old).tells → IsTrue (I.state input.old).tells
+        → RunsFrom result (B.state bay.old) (B.state bay.new) (I.state input.old) (I.state input.new)
+        (O.state output.old) (O.state output.new) }
+    ensures refused { (file : List ℕ) → Means (texts words.now) (run file) → IsTrue (B.state bay.old).tells
+        → NeverOpens (B.state bay.old).file
+        → Ends (IsRefused (B.state bay.old).file) result.status (O.state output.old) (O.state output.new) }
+    ensures known { (file : List ℕ) → Means (texts words.now) (run file)
+        → (is_session result.status ≡ true) ⊎ (result.status ≡ 4) }
+    ensures serves { (file : List ℕ) → Means (texts words.now) (run file) → ServesSo result
+        (B.state bay.old) (B.state bay.new) (I.state input.old) (I.state input.new) (O.state output.old)
+        (O.state output.new) (input.new ≡ input.old) }
 {
-    let _ = input;
+    if let Some(file) = file_to_run(words) {
+        return run_file(alloc, bay, file, input, output);
+    }
     let end = do_words(alloc, words, bay, output);
     finish(end, output)
 }
 
-/// Does what the words ask, but for the fault line.
+/// The file over which the words ask for a session, or none where they ask for none.
+fn file_to_run<'a>(words: &[&'a str]) -> Option<&'a str>
+    ensures { MatchOption result (IsOther (texts words.now)) (λ file. Means (texts words.now) (run file.now)) }
+{
+    match read_words(words) {
+        Some(Asked::Run(file)) => Some(file),
+        _ => None,
+    }
+}
+
+/// Does what the words ask, but for the fault line, where they ask for no session.
 fn do_words<B: Bay, O: Sink>(
     alloc: Global,
     words: &[&str],
     bay: &mut B,
     output: &mut O,
 ) -> Result<(), Stop>
-    requires { (B.state bay.old).last_mount ≡ None }
+    requires none { (B.state bay.old).last_mount ≡ None }
+    requires no_session { IsOther (texts words.now) }
     ensures words { (result ≡ Err Stop.Words) ↔ MeansNone (texts words.now) }
     ensures nothing_done { MeansNone (texts words.now) → bay.new ≡ bay.old }
     ensures unmounted { (c : Command) → Means (texts words.now) c → IsFalse (mounts c)

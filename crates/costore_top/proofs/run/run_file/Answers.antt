@@ -1,9 +1,9 @@
-use Rattle.std.proofs.Common.{◌≡◌, ◌⊎◌, true, ap, sym, ◌∙◌, subst}
+use Rattle.std.proofs.Common.{◌≡◌, ◌⊎◌, true, ap, sym, subst}
 use Rattle.costore_top.specs.Commands.{IsMounted}
 use Rattle.costore_top.specs.Getting.{IsRefused}
 use Rattle.costore_top.specs.Headline.{HasMounted, IsKeptTurn, RunsAs, is_session}
 use Rattle.costore_top.specs.Outcomes.{status_at}
-use Rattle.costore_top.specs.Sessions.{IsUnserved, outcome_of}
+use Rattle.costore_top.specs.Sessions.{IsUnserved}
 use Rattle.costore_top.specs.Words.{run}
 use Rattle.costore_top.specs.declared.top.Outcome.{Outcome}
 use Rattle.costore_top.proofs.EndLaws.{ends_after, keeps_after, line_after, only_line}

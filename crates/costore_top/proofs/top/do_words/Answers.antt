@@ -29,3 +29,6 @@ returns-in-Some-clause-formats g c = λ file k names means told empty.
     c.do_asked.ensures.formats file k names
     (sym (means_one (texts c.args.words.now) (format file k names) (command_of c.in-Some.asked) means
     c.in-Some.ensures)) told empty
+
+pub do_asked-requires-clause-no_session : goal.do_asked-requires-clause-no_session
+do_asked-requires-clause-no_session g c = c.requires.no_session (command_of c.in-Some.asked) c.in-Some.ensures
