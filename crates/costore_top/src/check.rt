@@ -3,7 +3,7 @@ ghost use Rattle.std.specs.Prelude.{◌≡◌, ◌≢◌, ◌≤◌, Ok, Err, If
 ghost use Rattle.disk_face.specs.Frames.{Unchanged};
 ghost use Rattle.reopen.specs.Loads.{KeepsLoaded, table_seen};
 ghost use Rattle.costore_top.specs.Getting.{StopsAs};
-ghost use Rattle.costore_top.specs.Layers.{Answers, HasCausesAt, Looks, PutsNone};
+ghost use Rattle.costore_top.specs.Layers.{Answers, HasCausesAt, IsPlain, Looks, PutsNone};
 ghost use Rattle.costore_top.specs.Texts.{IsChecked, check_text, kind_text};
 
 use crate::Stop;
@@ -27,6 +27,7 @@ pub fn check<D: Disk, O: Sink>(alloc: Global, disk: &mut D, output: &mut O) -> R
     ensures nothing_put { PutsNone output.old output.new result }
     ensures causes { HasCausesAt (D.state disk.old) (D.state disk.new) (O.state output.old)
         (O.state output.new) result }
+    ensures plain { IfErr result IsPlain }
     ensures frame { Unchanged (D.state disk.old) (D.state disk.new) }
 {
     let line = store_line(alloc, disk)?;
@@ -41,6 +42,7 @@ fn store_line<D: Disk>(alloc: Global, disk: &mut D) -> Result<ArrayVec<u8, 4096>
     ensures stopped { IsTrue (D.state disk.old).tells
         → IfErr result (StopsAs (IsChecked (D.state disk.old).file)) }
     ensures looks { Looks (D.state disk.old) (D.state disk.new) result }
+    ensures plain { IfErr result IsPlain }
 {
     let loaded = load(alloc, disk)?;
     let length = length_of(disk).map_err(|_| Stop::Disk)?;

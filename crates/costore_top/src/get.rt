@@ -4,7 +4,7 @@ ghost use Rattle.byte_ranges.specs.Ranges.{bytes_at};
 ghost use Rattle.disk_face.specs.Frames.{Unchanged};
 ghost use Rattle.reopen.specs.Loads.{IsLoadedFrom, KeepsLoaded};
 ghost use Rattle.costore_top.specs.Getting.{IsObject, StopsAs};
-ghost use Rattle.costore_top.specs.Layers.{Answers, HasCausesAt, Looks, PutsNone};
+ghost use Rattle.costore_top.specs.Layers.{Answers, HasCausesAt, IsPlain, Looks, PutsNone};
 
 use crate::Stop;
 use crate::copy::put_bytes;
@@ -29,6 +29,7 @@ pub fn get<D: Disk, O: Sink>(
         → Answers (IsObject name.now (D.state disk.old).file) (O.state output.old) (O.state output.new)
         result }
     ensures nothing_put { PutsNone output.old output.new result }
+    ensures plain { IfErr result IsPlain }
     ensures causes { HasCausesAt (D.state disk.old) (D.state disk.new) (O.state output.old)
         (O.state output.new) result }
     ensures frame { Unchanged (D.state disk.old) (D.state disk.new) }
@@ -48,6 +49,7 @@ fn locate<D: Disk>(alloc: Global, disk: &mut D, name: &Name) -> Result<(u64, u64
         → IfOk result (λ at. at.0 + at.1 ≤ length (D.state disk.old).file) }
     ensures ranges { IfOk result (λ at. at.0 + at.1 < 2 ^ 64) }
     ensures looks { Looks (D.state disk.old) (D.state disk.new) result }
+    ensures plain { IfErr result IsPlain }
 {
     let loaded = load(alloc, disk)?;
     spot_in(&loaded, name)

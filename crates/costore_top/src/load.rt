@@ -2,7 +2,7 @@
 ghost use Rattle.std.specs.Prelude.{◌≡◌, IfOk, IfErr, IsTrue};
 ghost use Rattle.reopen.specs.Loads.{IsLoadedFrom, KeepsLoaded};
 ghost use Rattle.costore_top.specs.Getting.{IsRefused, StopsAs, stop_of};
-ghost use Rattle.costore_top.specs.Layers.{Looks};
+ghost use Rattle.costore_top.specs.Layers.{IsPlain, Looks};
 
 use crate::{Stop, StoreFault};
 use disk_face::Disk;
@@ -19,6 +19,7 @@ pub fn load<D: Disk>(alloc: Global, disk: &mut D) -> Result<Loaded<CLASSES>, Sto
     ensures stopped { IsTrue (D.state disk.old).tells
         → IfErr result (StopsAs (IsRefused (D.state disk.old).file)) }
     ensures looks { Looks (D.state disk.old) (D.state disk.new) result }
+    ensures plain { IfErr result IsPlain }
 {
     match read_state(alloc, disk) {
         Ok(State::Still(loaded)) => Ok(loaded),
@@ -29,7 +30,8 @@ pub fn load<D: Disk>(alloc: Global, disk: &mut D) -> Result<Loaded<CLASSES>, Sto
 
 /// What a fault in opening is to the command.
 pub fn stop_of(fault: OpenFault) -> Stop
-    ensures { result ≡ stop_of fault }
+    ensures same { result ≡ stop_of fault }
+    ensures plain { IsPlain result }
 {
     match fault {
         OpenFault::Slot(SlotFault::Disk) => Stop::Disk,

@@ -1,5 +1,5 @@
 //! The command `map`: the segments of the file, and where its objects stand.
-ghost use Rattle.std.specs.Prelude.{◌≡◌, ◌≢◌, ◌+◌, ◌^◌, ◌<◌, ◌≤◌, ◌++◌, Err, IsTrue, OnErr, flat_map, sum};
+ghost use Rattle.std.specs.Prelude.{◌≡◌, ◌≢◌, ◌+◌, ◌^◌, ◌<◌, ◌≤◌, ◌++◌, Err, IfErr, IsTrue, OnErr, flat_map, sum};
 ghost use Rattle.arrayvec.specs.ArrayVec.{array_vec_len};
 ghost use Rattle.byte_ranges.specs.Lists.{below};
 ghost use Rattle.disk_face.specs.Counts.{HasCause};
@@ -11,7 +11,7 @@ ghost use Rattle.slot_codec.specs.Reading.{all_in_range};
 ghost use Rattle.table_check.specs.Frames.{AreSmall};
 ghost use Rattle.extent_table.specs.Extents.{IsTable, record_of, records_of};
 ghost use Rattle.reopen.specs.Loads.{KeepsLoaded, table_seen};
-ghost use Rattle.costore_top.specs.Layers.{Answers, HasCausesAt, PutsNone};
+ghost use Rattle.costore_top.specs.Layers.{Answers, HasCausesAt, IsPlain, PutsNone};
 ghost use Rattle.costore_top.specs.Texts.{Gathers, IsMapped, class_line, map_text, moving_line, object_line};
 
 use crate::Stop;
@@ -32,6 +32,7 @@ pub fn map<D: Disk, O: Sink>(alloc: Global, disk: &mut D, output: &mut O) -> Res
     ensures words { (result ≢ Err Stop.Words) × (result ≢ Err Stop.NoFile) }
     ensures answers { IsTrue (D.state disk.old).tells
         → Answers (IsMapped (D.state disk.old).file) (O.state output.old) (O.state output.new) result }
+    ensures plain { IfErr result IsPlain }
     ensures nothing_put { PutsNone output.old output.new result }
     ensures causes { HasCausesAt (D.state disk.old) (D.state disk.new) (O.state output.old)
         (O.state output.new) result }
