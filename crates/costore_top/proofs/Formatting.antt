@@ -1,5 +1,5 @@
 -- What is left of an empty file that is formatted, and of the same after it was looked at.
-use Rattle.std.specs.Prelude.{◌≡◌, ◌⊎◌, ℕ, List, [], length, IsTrue, Result, Ok, Err, refl}
+use Rattle.std.specs.Prelude.{◌≡◌, ◌≢◌, ◌⊎◌, ℕ, List, [], length, IsTrue, Result, Ok, Err, IfErr, refl}
 use Rattle.std.proofs.Common.{◌∙◌, ap, arith, inl, inr, sym}
 use Rattle.std.proofs.lemmas.List.{nil_from_length}
 use Rattle.disk_face.specs.Counts.{counted}
@@ -10,6 +10,7 @@ use Rattle.disk_face.proofs.MomentLaws.{Leaves-trans, Leaves-weaken}
 use Rattle.slot_pair.proofs.FormatLaws.{short_is_none}
 use Rattle.slot_pair.specs.Formats.{IsNoneOrFirst}
 use Rattle.costore_top.specs.Commands.{Formats, IsDone, IsFormatted}
+use Rattle.costore_top.specs.Layers.{IsPlain}
 use Rattle.costore_top.specs.Outcomes.{status_at}
 use Rattle.costore_top.specs.declared.stop.Stop.{Stop}
 use Rattle.costore_top.specs.declared.stop.Stop.TheVariants as stop
@@ -96,3 +97,20 @@ formats_by k names end formats = record {
   images = formats.images;
   formatted = λ is. formats.formatted (done_by end is);
 }
+
+-- the statuses of a session alone
+pub plain_status : (end : Result (Unit {0}) Stop) → IfErr end IsPlain → (status_at end ≢ 2) × (status_at end ≢ 8)
+    × (status_at end ≢ 11)
+plain_status (Ok x) is = (λ e. omega (arith, e), λ e. omega (arith, e), λ e. omega (arith, e))
+plain_status (Err stop.Sink) is = (λ e. omega (arith, e), λ e. omega (arith, e), λ e. omega (arith, e))
+plain_status (Err stop.Words) is = (λ e. omega (arith, e), λ e. omega (arith, e), λ e. omega (arith, e))
+plain_status (Err stop.NoFile) is = (λ e. omega (arith, e), λ e. omega (arith, e), λ e. omega (arith, e))
+plain_status (Err (stop.NotStore f)) is = (λ e. omega (arith, e), λ e. omega (arith, e), λ e. omega (arith, e))
+plain_status (Err (stop.Taken n)) is = (λ e. omega (arith, e), λ e. omega (arith, e), λ e. omega (arith, e))
+plain_status (Err stop.Missing) is = (λ e. omega (arith, e), λ e. omega (arith, e), λ e. omega (arith, e))
+plain_status (Err stop.Disk) is = (λ e. omega (arith, e), λ e. omega (arith, e), λ e. omega (arith, e))
+plain_status (Err stop.NoMemory) is = (λ e. omega (arith, e), λ e. omega (arith, e), λ e. omega (arith, e))
+plain_status (Err stop.NotBuilt) is = (λ e. omega (arith, e), λ e. omega (arith, e), λ e. omega (arith, e))
+plain_status (Err (stop.Line n)) is = absurd (is.2 n refl)
+plain_status (Err stop.Source) is = absurd (is.0 refl)
+plain_status (Err stop.Budget) is = absurd (is.1 refl)

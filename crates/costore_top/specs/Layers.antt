@@ -46,6 +46,10 @@ pub record Looks {T : Type 0} (old new : State) (result : Result T Stop) : Type 
   pub cause : HasDiskCause stop.Disk old.faults new.faults result
   pub frame : Unchanged old new
 
+-- a reason to stop that isn't one of a session's alone
+abbrev pub IsPlain : Stop → Type 0
+IsPlain why = (why ≢ stop.Source) × (why ≢ stop.Budget) × ((n : ℕ) → why ≢ stop.Line n)
+
 -- A layer that is to answer so ends by it, and puts its bytes, or a front of them where it stopped.
 pub record Answers (answer : Result (List ℕ) Stop → Type 0) (old new : SinkState)
     (end : Result (Unit {0}) Stop) : Type 0 where

@@ -1,8 +1,8 @@
 //! What is asked of the program, but for the fault line.
-ghost use Rattle.std.specs.Prelude.{◌≡◌, ◌≢◌, ◌≤◌, ℕ, List, None, Ok, Err, IsTrue, IsFalse, length};
+ghost use Rattle.std.specs.Prelude.{◌≡◌, ◌≢◌, ◌≤◌, ℕ, List, None, Ok, Err, IfErr, IsTrue, IsFalse, length};
 ghost use Rattle.disk_face.specs.Frames.{Untouched};
 ghost use Rattle.costore_top.specs.Commands.{Formats, IsDone, IsMounted};
-ghost use Rattle.costore_top.specs.Layers.{Answers, KeepsAt, PutsNone};
+ghost use Rattle.costore_top.specs.Layers.{Answers, IsPlain, KeepsAt, PutsNone};
 ghost use Rattle.costore_top.specs.Words.{Command, command_of, format};
 ghost use Rattle.costore_top.specs.Outcomes.{IsAnswer, makes, mounts, reads, serves};
 
@@ -37,6 +37,7 @@ pub fn do_asked<B: Bay, O: Sink>(
         (O.state output.new) result }
     ensures memory { IsFalse (reads (command_of asked.now)) → result ≢ Err Stop.NoMemory }
     ensures nothing_put { PutsNone output.old output.new result }
+    ensures plain { IfErr result IsPlain }
     ensures frame { IsFalse (makes (command_of asked.now)) → Untouched (B.state bay.old) (B.state bay.new) }
     ensures formats { (file : List ℕ) (k names : ℕ) → command_of asked.now ≡ format file k names
         → IsTrue (B.state bay.old).tells → length (B.state bay.old).file ≡ 0

@@ -1,9 +1,9 @@
 //! Each command, but for the fault line.
-ghost use Rattle.std.specs.Prelude.{◌≡◌, ◌≢◌, ◌≤◌, None, Ok, Err, IsTrue, length};
+ghost use Rattle.std.specs.Prelude.{◌≡◌, ◌≢◌, ◌≤◌, None, Ok, Err, IfErr, IsTrue, length};
 ghost use Rattle.disk_face.specs.Frames.{Untouched};
 ghost use Rattle.costore_top.specs.Getting.{IsObject};
 ghost use Rattle.costore_top.specs.Commands.{Formats, IsDone, IsMounted};
-ghost use Rattle.costore_top.specs.Layers.{Answers, KeepsAt, PutsNone};
+ghost use Rattle.costore_top.specs.Layers.{Answers, IsPlain, KeepsAt, PutsNone};
 ghost use Rattle.costore_top.specs.Outcomes.{format_answer};
 ghost use Rattle.costore_top.specs.Words.{format, get};
 
@@ -31,6 +31,7 @@ pub fn get_from<B: Bay, O: Sink>(
         → Answers (IsObject name.now (B.state bay.old).file) (O.state output.old) (O.state output.new)
         result }
     ensures nothing_put { PutsNone output.old output.new result }
+    ensures plain { IfErr result IsPlain }
     ensures frame { Untouched (B.state bay.old) (B.state bay.new) }
     ensures keeps { KeepsAt (B.state bay.old) (B.state bay.new) (O.state output.old) (O.state output.new)
         result }
@@ -64,6 +65,7 @@ pub fn format_in<B: Bay, O: Sink>(
         → Answers (λ answer. answer ≡ format_answer (B.state bay.old).file) (O.state output.old)
         (O.state output.new) result }
     ensures nothing_put { PutsNone output.old output.new result }
+    ensures plain { IfErr result IsPlain }
     ensures formats { IsTrue (B.state bay.old).tells → length (B.state bay.old).file ≡ 0
         → Formats k names (B.state bay.old) (B.state bay.new) (IsDone result) }
     ensures silent { result ≡ Err Stop.Disk → output.new ≡ output.old }
@@ -90,6 +92,7 @@ fn format<D: Disk, O: Sink>(disk: &mut D, k: u64, names: u64, output: &mut O) ->
         → Answers (λ answer. answer ≡ format_answer (D.state disk.old).file) (O.state output.old)
         (O.state output.new) result }
     ensures nothing_put { PutsNone output.old output.new result }
+    ensures plain { IfErr result IsPlain }
     ensures formats { IsTrue (D.state disk.old).tells → length (D.state disk.old).file ≡ 0
         → Formats k names (D.state disk.old) (D.state disk.new) (IsDone result) }
     ensures silent { result ≡ Err Stop.Disk → output.new ≡ output.old }

@@ -4,7 +4,7 @@ ghost use Rattle.byte_ranges.specs.Ranges.{bytes_at};
 ghost use Rattle.disk_face.specs.Frames.{Unchanged};
 ghost use Rattle.reopen.specs.Loads.{IsLoadedFrom, KeepsLoaded};
 ghost use Rattle.costore_top.specs.Getting.{IsObject, StopsAs, stop_of};
-ghost use Rattle.costore_top.specs.Layers.{Answers, HasCausesAt, Looks, PutsNone};
+ghost use Rattle.costore_top.specs.Layers.{Answers, HasCausesAt, IsPlain, Looks, PutsNone};
 
 use crate::copy::put_bytes;
 use crate::{Stop, StoreFault};
@@ -29,6 +29,7 @@ pub fn get<D: Disk, O: Sink>(
         → Answers (IsObject name.now (D.state disk.old).file) (O.state output.old) (O.state output.new)
         result }
     ensures nothing_put { PutsNone output.old output.new result }
+    ensures plain { IfErr result IsPlain }
     ensures causes { HasCausesAt (D.state disk.old) (D.state disk.new) (O.state output.old)
         (O.state output.new) result }
     ensures frame { Unchanged (D.state disk.old) (D.state disk.new) }
@@ -48,6 +49,7 @@ fn locate<D: Disk>(alloc: Global, disk: &mut D, name: &Name) -> Result<(u64, u64
         → IfOk result (λ at. at.0 + at.1 ≤ length (D.state disk.old).file) }
     ensures ranges { IfOk result (λ at. at.0 + at.1 < 2 ^ 64) }
     ensures looks { Looks (D.state disk.old) (D.state disk.new) result }
+    ensures plain { IfErr result IsPlain }
 {
     let loaded = load(alloc, disk)?;
     spot_in(&loaded, name)
@@ -61,6 +63,7 @@ fn load<D: Disk>(alloc: Global, disk: &mut D) -> Result<Loaded<CLASSES>, Stop>
     ensures stopped { (name : List ℕ) → IsTrue (D.state disk.old).tells
         → IfErr result (StopsAs (IsObject name (D.state disk.old).file)) }
     ensures looks { Looks (D.state disk.old) (D.state disk.new) result }
+    ensures plain { IfErr result IsPlain }
 {
     match read_state(alloc, disk) {
         Ok(State::Still(loaded)) => Ok(loaded),
@@ -71,7 +74,8 @@ fn load<D: Disk>(alloc: Global, disk: &mut D) -> Result<Loaded<CLASSES>, Stop>
 
 /// What a fault in opening is to the command.
 pub fn stop_of(fault: OpenFault) -> Stop
-    ensures { result ≡ stop_of fault }
+    ensures same { result ≡ stop_of fault }
+    ensures plain { IsPlain result }
 {
     match fault {
         OpenFault::Slot(SlotFault::Disk) => Stop::Disk,

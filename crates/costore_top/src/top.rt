@@ -1,5 +1,5 @@
 //! The top call: what the program does with its words, its disk and its streams.
-ghost use Rattle.std.specs.Prelude.{◌≡◌, ◌≢◌, ◌⊎◌, ◌↔◌, ◌<◌, ◌≤◌, ℕ, List, None, Ok, Err, OnOk, IsTrue, IsFalse, MatchOption, true, length};
+ghost use Rattle.std.specs.Prelude.{◌≡◌, ◌≢◌, ◌⊎◌, ◌↔◌, ◌<◌, ◌≤◌, ℕ, List, None, Ok, Err, IfErr, OnOk, IsTrue, IsFalse, MatchOption, true, length};
 ghost use Rattle.disk_face.specs.Counts.{Rose};
 ghost use Rattle.disk_face.specs.Frames.{Untouched};
 ghost use Rattle.costore_top.specs.Commands.{Formats, IsDone, IsMounted};
@@ -8,7 +8,7 @@ ghost use Rattle.costore_top.specs.Getting.{IsRefused};
 ghost use Rattle.costore_top.specs.Headline.{RunsFrom, is_session};
 ghost use Rattle.costore_top.specs.Sessions.{NeverOpens, ServesSo};
 ghost use Rattle.costore_top.specs.Outcomes.{Ends, IsOther, PutsLast, PutsLine, IsAnswer, line_at, makes, mounts, reads, serves, status_at};
-ghost use Rattle.costore_top.specs.Layers.{Answers, Keeps, KeepsAt, PutsNone};
+ghost use Rattle.costore_top.specs.Layers.{Answers, IsPlain, Keeps, KeepsAt, PutsNone};
 ghost use Rattle.costore_top.specs.Faults.{line_of};
 
 use crate::Stop;
@@ -81,6 +81,8 @@ pub fn costore<B: Bay, I: Source, O: Sink>(
     // What every other call than `run` keeps. The devices' own faults have their causes.
     ensures keeps { IsOther (texts words.now) → Keeps (B.state bay.old) (B.state bay.new) (O.state output.old) (O.state output.new)
         (result.status ≡ 7) (result.status ≡ 9) (result.status ≡ 0) }
+    ensures no_session { IsOther (texts words.now)
+        → (result.status ≢ 2) × (result.status ≢ 8) × (result.status ≢ 11) }
     ensures input { IsOther (texts words.now) → input.new ≡ input.old }
     ensures numbers { IsOther (texts words.now) → (result.done ≡ 0) × (result.kept_done ≡ 0) × (result.kept_turn ≡ 0) }
 
@@ -137,6 +139,7 @@ fn do_words<B: Bay, O: Sink>(
     ensures memory { (c : Command) → Means (texts words.now) c → IsFalse (reads c)
         → result ≢ Err Stop.NoMemory }
     ensures nothing_put { PutsNone output.old output.new result }
+    ensures plain { IfErr result IsPlain }
     ensures frame { ((c : Command) → Means (texts words.now) c → IsFalse (makes c))
         → Untouched (B.state bay.old) (B.state bay.new) }
     ensures formats { (file : List ℕ) (k names : ℕ) → Means (texts words.now) (format file k names)

@@ -11,6 +11,7 @@ returns-in-Ok-There g c = record {
   mounted = search rules;
   answers = search rules;
   nothing_put = search rules;
+  plain = search rules;
   formats = λ told empty.
       let same : Untouched (g.B.Disk.state c.args.bay.now) (g.B.Disk.state c.mount.new.self) = search rules in
       let here : IsTrue (g.B.Disk.state c.mount.new.self).tells = subst IsTrue (sym same.told) told in

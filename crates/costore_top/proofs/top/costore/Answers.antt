@@ -1,8 +1,8 @@
 -- The end of the command, and what was put before the line that tells it.
-use Rattle.std.proofs.Common.{◌≡◌, ◌⊎◌, ap, subst, sym, ◌∙◌}
+use Rattle.std.proofs.Common.{◌≡◌, ◌≢◌, ◌⊎◌, ap, subst, sym, ◌∙◌}
 use Rattle.costore_top.specs.Commands.{Formats}
 use Rattle.costore_top.specs.Outcomes.{IsAnswer, status_at}
-use Rattle.costore_top.proofs.Formatting.{disk_by, formats_by}
+use Rattle.costore_top.proofs.Formatting.{disk_by, formats_by, plain_status}
 use Rattle.costore_top.specs.Words.{run, texts}
 use Rattle.costore_top.proofs.OtherLaws.{not_other, not_words}
 use Rattle.costore_top.proofs.Statuses.{ended, line_after_none}
@@ -72,3 +72,13 @@ returns-clause-refused g c = λ file means.
 pub returns-clause-known : goal.returns-clause-known
 returns-clause-known g c = λ file means.
     not_other file (texts c.args.words.now) means c.in_default.ensures
+
+pub returns-in-Some-clause-no_session : goal.returns-in-Some-clause-no_session
+returns-in-Some-clause-no_session g c = λ other.
+    not_other c.in-Some.file.now (texts c.args.words.now) c.in-Some.ensures other
+
+pub returns-clause-no_session : goal.returns-clause-no_session
+returns-clause-no_session g c = λ other.
+    let status : c.finish.result.status ≡ status_at c.do_words-end.result = cc in
+    subst (λ n. (n ≢ 2) × (n ≢ 8) × (n ≢ 11)) (sym status)
+    (plain_status c.do_words-end.result c.do_words-end.ensures.plain)
