@@ -1,31 +1,32 @@
 //! The guard of held space.
-ghost use Rattle.std.specs.Prelude.{◌≡◌, ◌<◌, ◌≤◌, ◌↔◌, [], All, Any, IfOk, IsFalse, IsTrue, length};
-ghost use Rattle.held_guard.specs.Freed.{AreApart, Joins};
+ghost use Rattle.std.specs.Prelude.{◌≡◌, ◌<◌, ◌≤◌, ◌↔◌, ◌*◌, ◌+◌, ℕ, [], All, Any, IfOk, IsFalse, IsTrue, length, slice_index_or};
+ghost use Rattle.held_guard.specs.Freed.{AreInOrder, Joins};
+ghost use Rattle.span_math.specs.Lists.{RisesWithin};
 ghost use Rattle.span_math.specs.Spans.{IsApart, SharesByte};
+ghost use Rattle.span_math.specs.declared.span.Span.{Span as AnySpan};
 
+use crate::search::begun_before;
 use slot_codec::NoMemory;
-use span_math::{Span, any_meets};
+use span_math::{Span, SpanList, Steps, meets};
 use std::alloc::Global;
-use std::marker::Model;
+use std::marker::{Brand, Model};
+use std::sync::ledger::{Blank, Ledger};
 
-/// The spans of the last checkpoint's objects that don't stand there now. Contracts see which spans
-/// it has, in no order that is promised, and for how many it has room.
+/// The spans of the last checkpoint's objects that don't stand there now. Contracts see them sorted by
+/// place, and for how many it has room.
 #[derive(Drop)]
 pub struct Guard {
-    room: u64,
-    spans: Vec<Span>,
+    list: SpanList,
 }
 
 impl Model for Guard {
-    ghost use Rattle.std.specs.Prelude.{◌≤◌, vec_len, vec_capacity};
-    ghost use Rattle.held_guard.specs.Freed.{AreApart, Freed};
+    ghost use Rattle.held_guard.specs.Freed.{AreInOrder, Freed};
 
     ghost Value = { Freed };
 
-    ghost view = { λ guard. record { room = guard.room; spans = guard.spans.items } };
+    ghost view = { λ guard. record { room = guard.list.room; spans = guard.list.spans } };
 
-    ghost invariant = { λ guard. (vec_len guard.spans ≤ guard.room)
-        × (guard.room ≤ vec_capacity guard.spans) × AreApart guard.spans.items };
+    ghost invariant = { λ guard. AreInOrder guard.list.spans };
 }
 
 impl Guard {
@@ -36,25 +37,35 @@ impl Guard {
         ensures empty { IfOk result (λ guard. guard.spans ≡ []) }
         ensures room { IfOk result (λ guard. guard.room ≡ names) }
     {
-        match Vec::with_capacity(alloc, names as usize) {
-            Ok(spans) => Ok(Guard { room: names, spans }),
-            Err(_) => Err(NoMemory),
-        }
+        let list = SpanList::with_room(alloc, names)?;
+        Ok(Guard { list })
     }
 
-    /// Holds a span that was freed: an object of the last checkpoint doesn't stand there any more. An
-    /// empty span isn't held.
+    /// Holds a span that was freed: an object of the last checkpoint doesn't stand there any more. It
+    /// meets none that is held. An empty span isn't held.
     pub fn freed(&mut self, span: Span)
         requires room { length self.old.spans < self.old.room }
         requires apart { All (λ other. IsApart other span) self.old.spans }
         ensures joins { 0 < span.size → Joins span self.old.spans self.new.spans }
+        ensures order { AreInOrder self.new.spans }
         ensures empty { span.size ≡ 0 → self.new.spans ≡ self.old.spans }
         ensures room { self.new.room ≡ self.old.room }
-        ensures apart { AreApart self.new.spans }
     {
         if span.size > 0 {
-            self.spans.push_reserved(span);
+            let place = place_of::<Brand>(&self.list, span.end(), Blank::new(1));
+            self.list.insert(place, span);
         }
+    }
+
+    /// Whether a span shares a byte with one that is held. Each held span that it looks at is a step: of
+    /// `n` that are held an r with 2^r at most 4n + 2.
+    pub fn touches_in<L: Ledger>(&self, span: Span, steps: &mut Steps<L>) -> bool
+        ensures shares { IsTrue result ↔ Any (λ held. SharesByte held span) self.now.spans }
+        ensures apart { IsFalse result → All (λ held. IsApart held span) self.now.spans }
+        ensures steps { RisesWithin (4 * length self.now.spans + 2) steps.old steps.new }
+    {
+        let begun = begun_before(&self.list, span.end(), steps);
+        begun > 0 && meets(self.list.look(begun - 1, steps), span)
     }
 
     /// Whether a span shares a byte with one that is held.
@@ -62,7 +73,7 @@ impl Guard {
         ensures shares { IsTrue result ↔ Any (λ held. SharesByte held span) self.now.spans }
         ensures apart { IsFalse result → All (λ held. IsApart held span) self.now.spans }
     {
-        any_meets(&self.spans, span)
+        has_touched::<Brand>(self, span, Blank::new(1))
     }
 
     /// Holds nothing any more: a checkpoint was saved, or the store went back to one.
@@ -70,6 +81,33 @@ impl Guard {
         ensures empty { self.new.spans ≡ [] }
         ensures room { self.new.room ≡ self.old.room }
     {
-        self.spans.clear();
+        self.list.clear();
     }
+}
+
+/// How many spans of a list in order begin before an end, where nobody asks for the steps.
+fn place_of<L: Ledger>(list: &SpanList, end: u64, blank: Blank) -> u64
+    requires order { AreInOrder list.now.spans }
+    requires name { blank.name ≡ L.name }
+    requires parts { blank.parts ≡ L.parts }
+    requires some { 0 < blank.parts }
+    ensures within { result ≤ length list.now.spans }
+    ensures below { (k : ℕ) (d : AnySpan) → k < result → (slice_index_or list.now.spans k d).place < end }
+    ensures above { (k : ℕ) (d : AnySpan) → result ≤ k → k < length list.now.spans
+        → end ≤ (slice_index_or list.now.spans k d).place }
+{
+    let mut steps = Steps::<L>::new(blank);
+    begun_before(list, end, &mut steps)
+}
+
+/// Whether a span shares a byte with one that is held, where nobody asks for the steps.
+fn has_touched<L: Ledger>(guard: &Guard, span: Span, blank: Blank) -> bool
+    requires name { blank.name ≡ L.name }
+    requires parts { blank.parts ≡ L.parts }
+    requires some { 0 < blank.parts }
+    ensures shares { IsTrue result ↔ Any (λ held. SharesByte held span) guard.now.spans }
+    ensures apart { IsFalse result → All (λ held. IsApart held span) guard.now.spans }
+{
+    let mut steps = Steps::<L>::new(blank);
+    guard.touches_in(span, &mut steps)
 }

@@ -3,5 +3,8 @@
 #![tactic(auto)]
 
 mod guard;
+mod search;
+#[cfg(test)]
+mod tests;
 
 pub use guard::Guard;

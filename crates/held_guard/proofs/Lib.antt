@@ -1,0 +1,3 @@
+pub mod SearchLaws
+pub mod TouchLaws
+pub mod JoinLaws
