@@ -4,26 +4,29 @@ ghost use Rattle.std.specs.Prelude.{◌≡◌, ◌+◌, ◌<◌, ◌≤◌, [], 
 use crate::{Span, Steps};
 use slot_codec::NoMemory;
 use std::alloc::Global;
+use std::collections::VecDeque;
 use std::marker::Model;
 use std::sync::ledger::Ledger;
 
 /// A list of spans with room for a number of them that is chosen once. Its spans are read by `look`
-/// alone.
+/// alone. It is a ring: a span that is inserted moves the fewer of those before it and those behind it.
 #[derive(Drop)]
 pub struct SpanList {
     room: u64,
-    spans: Vec<Span>,
+    spans: VecDeque<Span>,
 }
 
 impl Model for SpanList {
-    ghost use Rattle.std.specs.Prelude.{◌≤◌, vec_len, vec_capacity};
+    ghost use Rattle.std.specs.Prelude.{◌≤◌};
+    ghost use Rattle.std.specs.VecDeque.{deque_len, deque_capacity};
     ghost use Rattle.span_math.specs.Lists.{SpansInRoom};
 
     ghost Value = { SpansInRoom };
 
     ghost view = { λ list. record { room = list.room; spans = list.spans.items } };
 
-    ghost invariant = { λ list. (vec_len list.spans ≤ list.room) × (list.room ≤ vec_capacity list.spans) };
+    ghost invariant = { λ list. (deque_len list.spans ≤ list.room)
+        × (list.room ≤ deque_capacity list.spans) };
 }
 
 impl SpanList {
@@ -32,7 +35,7 @@ impl SpanList {
         ensures empty { IfOk result (λ list. list.spans ≡ []) }
         ensures room { IfOk result (λ list. list.room ≡ n) }
     {
-        match Vec::with_capacity(alloc, n as usize) {
+        match VecDeque::with_capacity(alloc, n as usize) {
             Ok(spans) => Ok(SpanList { room: n, spans }),
             Err(_) => Err(NoMemory),
         }
@@ -52,7 +55,7 @@ impl SpanList {
         ensures step { steps.new ≡ steps.old + 1 }
     {
         steps.take();
-        self.spans[i as usize]
+        *self.spans.get(i as usize).unwrap()
     }
 
     /// A span stands at `i` from here on, and those from `i` on stand one further.
