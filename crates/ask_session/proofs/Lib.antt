@@ -1,12 +1,12 @@
 mod AheadLemmas
-mod AnswerLaws
+pub mod AnswerLaws
 mod BodyLemmas
 pub mod FrontLaws
 mod KindLaws
 mod LineLemmas
 mod PutLaws
-mod ReplyLaws
+pub mod ReplyLaws
 mod RequestLemmas
 pub mod RunIndexLaws
 pub mod RunLaws
-mod ServingLaws
+pub mod ServingLaws

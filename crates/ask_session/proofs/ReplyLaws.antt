@@ -36,7 +36,7 @@ use Rattle.ask_session.proofs.PutLaws.{not_empty_behind, puts_as, puts_cut, puts
 use Rattle.ask_session.proofs.ServingLaws.{IsSound, StaysAt, refusal_at, serves_same, unchanged_itself}
 
 -- what is served depends on the disk's fault alone
-serves_as : {T U : Type 0} {classes : ℕ} (r : Request) (s new : Kept) (a d : disk.State) (x : Result T End)
+pub serves_as : {T U : Type 0} {classes : ℕ} (r : Request) (s new : Kept) (a d : disk.State) (x : Result T End)
     (y : Result U End) → is_disk_fault x ≡ is_disk_fault y → Serves classes r s new a d x
     → Serves classes r s new a d y
 serves_as r s new a d x y same h = record {

@@ -49,7 +49,7 @@ texts_more : (rs : List Request) (r : Request) → AllByRecursion HasText rs →
 texts_more [] r all text = (text, tt)
 texts_more (x ∷ rs) r all text = (all.0, texts_more rs r all.1 text)
 
-chain_more : (limits : Limits) (s t : State) (rs : List Request) (replies : List Reply) (states : List State)
+pub chain_more : (limits : Limits) (s t : State) (rs : List Request) (replies : List Reply) (states : List State)
     (r : Request) (reply : Reply) → Chain limits s rs replies states
     → Step limits (last_state s states) r reply t
     → Chain limits s (rs ++ r ∷ []) (replies ++ reply ∷ []) (states ++ t ∷ [])

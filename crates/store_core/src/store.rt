@@ -8,7 +8,11 @@ use data_area::Ledger;
 use flush_plan::Item;
 use flush_run::Hands;
 use segment_layout::Layout;
+use slot_codec::{HEADER_LEN, RECORD_LEN, SUPERBLOCK_LEN};
 use std::marker::Model;
+
+/// How long a file would be before its data part, were there room for no name.
+const HEAD_LEN_OF_NONE: u64 = (SUPERBLOCK_LEN + 2 * (HEADER_LEN + 1) + 1) as u64;
 
 /// A store over its disk: where the objects stand now, and where they stood at the last checkpoint.
 /// Contracts see it as `Kept`.
@@ -60,6 +64,14 @@ impl<const C: usize> Store<C> {
             length: self.hands.layout.end(),
             sequence: self.hands.slots.sequence(),
         }
+    }
+
+    /// How many names there may be.
+    pub fn names(&self) -> u64
+        ensures { result ≡ self.now.in_use.block.names }
+    {
+        // The data part stands behind two slots, each with room for a record of each name.
+        (self.hands.base - HEAD_LEN_OF_NONE) / (2 * RECORD_LEN as u64)
     }
 
     /// The bytes moved, and those put and removed, since the store was opened.

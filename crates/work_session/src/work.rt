@@ -1,0 +1,61 @@
+//! The work of a number.
+ghost use Rattle.std.specs.Prelude.{◌≡◌, ◌≤◌, ◌+◌, Err, IfOk, IsTrue};
+ghost use Rattle.disk_face.specs.Writes.{KeepsDisk};
+ghost use Rattle.store_core.specs.Connection.{IsConnected};
+ghost use Rattle.store_core.specs.Opened.{IsFresh};
+ghost use Rattle.work_maker.specs.Jobs.{jobs};
+ghost use Rattle.work_session.specs.Works.{HasDone, HasStopped};
+
+use crate::Summary;
+use crate::jobs::do_jobs;
+use crate::pattern::counting;
+use crate::summary::summary;
+use disk_face::{Disk, DiskFault};
+use slot_codec::NoMemory;
+use std::alloc::Global;
+use store_core::Store;
+use work_maker::Work;
+
+/// Why a work wasn't done.
+#[derive(Clone, Copy, Debug, PartialEq, Eq)]
+pub enum WorkFault {
+    /// The disk failed in a job. Those before it were done.
+    Disk,
+    /// There is no memory for the bytes of objects. No job was begun.
+    NoMemory,
+}
+
+/// Does the jobs of a number by a store that was opened: `count` of them, from 1 to 1,000,000, and a
+/// checkpoint, and sums up what they came to. What gets give is dropped. After the bytes of objects are
+/// made, which are 8,447, no memory is taken.
+pub fn do_work<const C: usize, D: Disk>(
+    alloc: Global,
+    store: Store<C>,
+    disk: &mut D,
+    number: u64,
+    count: u64,
+) -> Result<Summary, WorkFault>
+    requires ready { IsTrue (D.state disk.old).is_ready }
+    requires over { IsConnected C store (D.state disk.old) }
+    requires fresh { IsFresh C store }
+    requires least { 1 ≤ count }
+    requires most { count ≤ 1000000 }
+    ensures done { IfOk result (HasDone C store.entry (jobs number count store.entry.in_use.block.names)
+        (D.state disk.old) (D.state disk.new)) }
+    ensures stopped { result ≡ Err WorkFault.Disk
+        → HasStopped C store.entry (jobs number count store.entry.in_use.block.names) (D.state disk.old)
+        (D.state disk.new) }
+    ensures memory { result ≡ Err WorkFault.NoMemory → disk.new ≡ disk.old }
+    ensures frame { KeepsDisk (D.state disk.old) (D.state disk.new) }
+    ensures later { (D.state disk.old).faults ≤ (D.state disk.new).faults }
+{
+    let Ok(pattern) = counting(alloc) else {
+        return Err(WorkFault::NoMemory);
+    };
+    let mut store = store;
+    let mut work = Work::new(number, count, store.names());
+    match do_jobs(&mut store, disk, pattern.as_slice(), &mut work) {
+        Ok(tally) => Ok(summary(&store, count + 1, tally)),
+        Err(DiskFault) => Err(WorkFault::Disk),
+    }
+}
