@@ -1,0 +1,9 @@
+mod CallLaws
+mod DoesLaws
+mod DoneLaws
+mod LedgerLaws
+mod PatternLaws
+mod RowLaws
+mod WholeLaws
+mod WorkLaws
+mod WorkingLaws

@@ -3,6 +3,7 @@ use Rattle.std.specs.Prelude.{◌≡◌, ℕ, ◌+◌, ◌*◌, ◌^◌, ◌%◌
 use Rattle.std.specs.FinMap as fin
 use Rattle.disk_face.specs.States as disk
 use Rattle.size_class.specs.Classes.{width}
+use Rattle.size_class.specs.declared.TheConstants.{SIZE_MAX}
 use Rattle.store_terms.specs.Requests as ask
 use Rattle.store_terms.specs.Requests.{Request}
 use Rattle.segment_layout.specs.Books.{book_end}
@@ -44,7 +45,7 @@ IsShort job.Keep = Unit {0}
 
 -- a get gives at most so many bytes: no object of a store has more
 abbrev pub most_read : ℕ
-most_read = 2 ^ 36
+most_read = SIZE_MAX
 
 -- in one job no class of the ledger rises by more
 abbrev pub most_rise : ℕ

@@ -1,5 +1,5 @@
 //! One job, done by a store.
-ghost use Rattle.std.specs.Prelude.{◌≡◌, ◌≤◌, ◌^◌, ◌<◌, ℕ, List, false, IsTrue};
+ghost use Rattle.std.specs.Prelude.{◌≡◌, ◌≤◌, ◌^◌, ◌<◌, ℕ, List, false, IsTrue, length};
 ghost use Rattle.store_core.specs.Connection.{IsConnected};
 ghost use Rattle.store_core.specs.Quiet.{del_of, put_of};
 ghost use Rattle.store_core.specs.Stores.{IsStore};
@@ -54,6 +54,7 @@ fn put_object<const C: usize, D: Disk>(
     requires over { IsConnected C store.old (D.state disk.old) }
     requires whole { store.old.is_broken ≡ false }
     requires sound { IsStore C store.old }
+    requires short { length object.now ≤ 8192 }
     ensures { Does C (ask.change (put_of name.now object.now)) store.old store.new (D.state disk.old)
         (D.state disk.new) result }
 {

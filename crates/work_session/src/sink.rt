@@ -4,6 +4,7 @@ ghost use Rattle.std.specs.Prelude.{[], false, true};
 use disk_face::{Sink, SinkFault};
 
 /// Takes all bytes, and keeps none.
+#[derive(Drop)]
 pub(crate) struct Dropped;
 
 impl Sink for Dropped {

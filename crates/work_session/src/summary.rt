@@ -1,5 +1,5 @@
 //! What is summed up of the jobs of a number.
-ghost use Rattle.std.specs.Prelude.{◌≡◌, ◌<◌, ◌≤◌, ◌+◌, ◌*◌, ◌^◌, false, slice_index};
+ghost use Rattle.std.specs.Prelude.{◌≡◌, ◌<◌, ◌≤◌, ◌+◌, ◌*◌, ◌^◌, ℕ, false, slice_index};
 ghost use Rattle.std.specs.FinMap as fin;
 ghost use Rattle.byte_ranges.specs.Lists.{sum_below};
 ghost use Rattle.size_class.specs.Rows.{cells_of};
@@ -42,11 +42,13 @@ pub struct Summary {
 }
 
 /// The summary of so many jobs, of which this was counted, by a store that did them.
-pub(crate) fn summary<const C: usize>(store: &Store<C>, requests: u64, tally: Tally) -> Summary
+pub(crate) fn sum_up<const C: usize>(store: &Store<C>, requests: u64, tally: Tally) -> Summary
     requires whole { store.now.is_broken ≡ false }
+    requires sound { IsStore C store.now }
     ensures tally { HasTally tally requests result }
     ensures end { EndsAt store.now result }
     ensures lines { LinesOf C store.now.moved store.now.asked result }
+    ensures zeros { (c : ℕ) → C ≤ c → slice_index store.now.moved c ≡ 0 }
 {
     let (names, bytes) = size(store);
     let ledger = store.ledger();

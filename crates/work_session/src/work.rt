@@ -9,7 +9,7 @@ ghost use Rattle.work_session.specs.Works.{HasDone, HasStopped};
 use crate::Summary;
 use crate::jobs::do_jobs;
 use crate::pattern::counting;
-use crate::summary::summary;
+use crate::summary::sum_up;
 use disk_face::{Disk, DiskFault};
 use slot_codec::NoMemory;
 use std::alloc::Global;
@@ -55,7 +55,7 @@ pub fn do_work<const C: usize, D: Disk>(
     let mut store = store;
     let mut work = Work::new(number, count, store.names());
     match do_jobs(&mut store, disk, pattern.as_slice(), &mut work) {
-        Ok(tally) => Ok(summary(&store, count + 1, tally)),
+        Ok(tally) => Ok(sum_up(&store, count + 1, tally)),
         Err(DiskFault) => Err(WorkFault::Disk),
     }
 }

@@ -1,0 +1,29 @@
+use Rattle.std.proofs.Common.{sym, subst}
+use Rattle.std.specs.Prelude.{Result}
+use Rattle.store_terms.specs.Requests as ask
+use Rattle.ask_text.specs.declared.reply.Reply.{Reply}
+use Rattle.ask_session.specs.declared.ends.End.{End}
+use Rattle.work_session.specs.Jobs.{Does}
+use Rattle.work_session.proofs.DoesLaws.{keep_does}
+use Rattle.work_session.proofs.job.keep.Goals as goal
+
+pub returns : goal.returns
+returns g c = subst (λ (x : Result Reply End). Does g.row.C ask.keep c.args.store.now c.keep.new.self
+    (g.D.Disk.state c.args.disk.now) (g.D.Disk.state c.keep.new.disk) x)
+    (sym c.answer_change.ensures)
+    (keep_does c.args.store.now c.keep.new.self
+    (g.D.Disk.state c.args.disk.now) (g.D.Disk.state c.keep.new.disk)
+    (record {
+      whole = c.requires.whole;
+      sound = c.requires.sound;
+      over = c.requires.over c.requires.whole;
+      ready = c.requires.ready;
+      fits = (g.met.D.Disk.lawful c.args.disk.now).turn_fits;
+    })
+    c.keep.result
+    (record {
+      answer = c.keep.ensures.answer;
+      refused = c.keep.ensures.refused;
+      kept = c.keep.ensures.kept;
+    })
+    c.keep.ensures.step c.keep.ensures.over c.keep.ensures.broken c.is_sound.ensures)

@@ -1,0 +1,35 @@
+use Rattle.std.proofs.Common.{sym, subst}
+use Rattle.std.specs.Prelude.{Result}
+use Rattle.store_core.specs.Quiet.{put_of}
+use Rattle.store_terms.specs.Requests as ask
+use Rattle.ask_text.specs.declared.reply.Reply.{Reply}
+use Rattle.ask_session.specs.declared.ends.End.{End}
+use Rattle.work_session.specs.Jobs.{Does}
+use Rattle.work_session.proofs.DoesLaws.{change_does}
+use Rattle.work_session.proofs.DoneLaws.{put_short}
+use Rattle.work_session.proofs.job.put_object.Goals as goal
+
+pub returns : goal.returns
+returns g c = subst (λ (x : Result Reply End). Does g.row.C (ask.change
+    (put_of c.args.name.now c.args.object.now)) c.args.store.now c.put.new.self (g.D.Disk.state c.args.disk.now)
+    (g.D.Disk.state c.put.new.disk) x)
+    (sym c.answer_change.ensures)
+    (change_does c.args.store.now c.put.new.self (put_of c.args.name.now c.args.object.now)
+    (g.D.Disk.state c.args.disk.now) (g.D.Disk.state c.put.new.disk) c.put.result
+    (record {
+      whole = c.requires.whole;
+      sound = c.requires.sound;
+      over = c.requires.over c.requires.whole;
+      ready = c.requires.ready;
+      fits = (g.met.D.Disk.lawful c.args.disk.now).turn_fits;
+    })
+    (put_short c.args.name.now c.args.object.now c.requires.short)
+    (record {
+      answer = c.put.ensures.answer;
+      refused = c.put.ensures.refused;
+      quiet = c.put.ensures.quiet;
+      flush = c.put.ensures.flush;
+      over = c.put.ensures.over;
+      broken = c.put.ensures.broken;
+    })
+    c.put.ensures.step c.is_sound.ensures)

@@ -1,0 +1,42 @@
+use Rattle.std.proofs.Common.{ap, arith, sym, subst}
+use Rattle.std.specs.Prelude.{Err, Result}
+use Rattle.store_terms.specs.Requests as ask
+use Rattle.store_core.specs.Connection.{Kept}
+use Rattle.ask_text.specs.declared.reply.Reply.{Reply}
+use Rattle.ask_session.specs.declared.ends.End.{End}
+use Rattle.ask_session.proofs.ServingLaws.{IsSound}
+use Rattle.work_session.specs.Jobs.{Does}
+use Rattle.work_session.proofs.DoesLaws.{get_gives, get_stops}
+use Rattle.work_session.proofs.job.read.Goals as goal
+
+pub returns-in-Ok : goal.returns-in-Ok
+returns-in-Ok g c = subst (λ (x : Kept). Does g.row.C (ask.get c.args.name.now) c.args.store.now x
+    (g.D.Disk.state c.args.disk.now) (g.D.Disk.state c.get.new.disk) _)
+    (sym c.in-Ok.ensures.store)
+    (get_gives c.args.store.now (g.D.Disk.state c.args.disk.now) (g.D.Disk.state c.get.new.disk) c.args.name.now
+    (record {
+      whole = c.requires.whole;
+      sound = c.requires.sound;
+      over = c.requires.over c.requires.whole;
+      ready = c.requires.ready;
+      fits = (g.met.D.Disk.lawful c.args.disk.now).turn_fits;
+    })
+    c.in-Ok.ensures.frame c.in-Ok.size c.in-Ok.ensures.answer)
+
+pub returns-in-Err : goal.returns-in-Err
+returns-in-Err g c = subst (λ (x : Kept). Does g.row.C (ask.get c.args.name.now) c.args.store.now x
+    (g.D.Disk.state c.args.disk.now) (g.D.Disk.state c.get.new.disk) c.answer_of.result)
+    (sym c.in-Err.ensures.store)
+    (subst (λ (x : Result Reply End). Does g.row.C (ask.get c.args.name.now) c.args.store.now c.args.store.now
+    (g.D.Disk.state c.args.disk.now) (g.D.Disk.state c.get.new.disk) x)
+    (sym c.answer_of.ensures)
+    (get_stops c.args.store.now (g.D.Disk.state c.args.disk.now) (g.D.Disk.state c.get.new.disk) c.args.name.now
+    (record {
+      whole = c.requires.whole;
+      sound = c.requires.sound;
+      over = c.requires.over c.requires.whole;
+      ready = c.requires.ready;
+      fits = (g.met.D.Disk.lawful c.args.disk.now).turn_fits;
+    })
+    c.in-Err.ensures.frame c.in-Err.why c.in-Err.ensures.answer c.in-Err.ensures.disk_cause
+    (λ sink. omega (arith, c.in-Err.ensures.sink_cause.rose (ap Err sink)))))

@@ -1,0 +1,35 @@
+use Rattle.std.proofs.Common.{sym, subst}
+use Rattle.std.specs.Prelude.{Result}
+use Rattle.store_core.specs.Quiet.{del_of}
+use Rattle.store_terms.specs.Requests as ask
+use Rattle.ask_text.specs.declared.reply.Reply.{Reply}
+use Rattle.ask_session.specs.declared.ends.End.{End}
+use Rattle.work_session.specs.Jobs.{Does}
+use Rattle.work_session.proofs.DoesLaws.{change_does}
+use Rattle.work_session.proofs.DoneLaws.{del_short}
+use Rattle.work_session.proofs.job.remove.Goals as goal
+
+pub returns : goal.returns
+returns g c = subst (λ (x : Result Reply End). Does g.row.C (ask.change
+    (del_of c.args.name.now)) c.args.store.now c.del.new.self (g.D.Disk.state c.args.disk.now)
+    (g.D.Disk.state c.del.new.disk) x)
+    (sym c.answer_change.ensures)
+    (change_does c.args.store.now c.del.new.self (del_of c.args.name.now)
+    (g.D.Disk.state c.args.disk.now) (g.D.Disk.state c.del.new.disk) c.del.result
+    (record {
+      whole = c.requires.whole;
+      sound = c.requires.sound;
+      over = c.requires.over c.requires.whole;
+      ready = c.requires.ready;
+      fits = (g.met.D.Disk.lawful c.args.disk.now).turn_fits;
+    })
+    (del_short c.args.name.now)
+    (record {
+      answer = c.del.ensures.answer;
+      refused = c.del.ensures.refused;
+      quiet = c.del.ensures.quiet;
+      flush = c.del.ensures.flush;
+      over = c.del.ensures.over;
+      broken = c.del.ensures.broken;
+    })
+    c.del.ensures.step c.is_sound.ensures)
