@@ -117,7 +117,7 @@ module _ {classes : ℕ} (s new : Kept) (a d : disk.State) (h : IsSound classes 
     where
       kept : (done : Done) → result ≡ Ok done → refused_by s ask.keep ≡ None → done ≡ record { kept = true }
           → Charges classes ask.keep s new a d
-      kept done is none yes =
+      kept done is none answered =
           let served = x.kept (subst (λ (o : Option Refusal). IsNone o) (sym none) refl) in
           let value : new ≡ kept_now s = at_ok result done is served.value in
           let calls = at_ok result done is served.calls.all in
@@ -127,7 +127,7 @@ module _ {classes : ℕ} (s new : Kept) (a d : disk.State) (h : IsSound classes 
           let is_step = subst (λ (y : Result Done Refusal). IfSome (reply_of done_reply y) (λ reply. Step
           (limits_of s) (state_of s a.file) ask.keep reply (state_of new d.file))) is step in
           let reply : reply_at s a.file ask.keep ≡ ask.kept =
-          sym is_step.replied ∙ ap (λ (y : Done). done_reply y) yes in
+          sym is_step.replied ∙ ap (λ (y : Done). done_reply y) answered in
           nothing_charged ask.keep s new a d (keep_moves_nothing s new a d result x) (λ e. refl)
           (omega (
             arith,
@@ -138,8 +138,8 @@ module _ {classes : ℕ} (s new : Kept) (a d : disk.State) (h : IsSound classes 
 
       by : (r : Result Done Refusal) → result ≡ r → (o : Option Refusal) → refused_by s ask.keep ≡ o
           → AnswersKeep o result → OnOk (answer_change r) (Charges classes ask.keep s new a d)
-      by (Ok done) is None none (inl yes) = kept done is none (let e : Ok done ≡ Ok (record { kept = true }) =
-          sym is ∙ yes in cc)
+      by (Ok done) is None none (inl answered) = kept done is none (let e : Ok done ≡ Ok (record { kept = true }) =
+          sym is ∙ answered in cc)
       by (Ok done) is None none (inr bad) = absurd (let e : Ok done ≡ Err why.Disk = sym is ∙ bad in cc)
       by (Ok done) is (Some w) some answer = absurd (let e : Ok done ≡ Err w = sym is ∙ answer in cc)
       by (Err w) is None none (inl bad) = absurd (let e : Err w ≡ Ok (record { kept = true }) = sym is ∙ bad in cc)
@@ -246,7 +246,7 @@ module _ {classes : ℕ} (s : Kept) (a d : disk.State) (name : List ℕ) (h : Is
     cause = record { rose = λ fault. cause.rose refl; later = same.later };
   }
     where
-      by : (o : Option Refusal) → refused_by s r ≡ o → Serves classes r s s a d (Err ends.Disk)
+      by : (o : Option Refusal) → refused_by s r ≡ o → Serves {T = text.Reply} classes r s s a d (Err ends.Disk)
       by None is = serves_same s r a d (Err ends.Disk) h same (λ told. record {
         reply = ask.found (object_in (state_of s a.file).map name);
         is = get_served s a name h is told;

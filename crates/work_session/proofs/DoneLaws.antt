@@ -1,8 +1,8 @@
 -- What a job does, by what the calls of the store do.
-use Rattle.std.specs.Prelude.{◌≡◌, ◌⊎◌, ℕ, zero, suc, ◌+◌, ◌-◌, ◌*◌, ◌^◌, ◌<◌, ◌≤◌, Bool, true, false, not, ◌&&◌, ◌||◌, if◌then◌else◌, List, [], ◌∷◌, ◌++◌, cond, is_some, length, map, slice_index, sum_by, Option, Some, None, option_map, Result, Ok, Err, IfErr, IfOk, IfSome, IsNone, IsSome, IsTrue, OnOk, refl}
+use Rattle.std.specs.Prelude.{◌≡◌, ◌⊎◌, ℕ, zero, suc, ◌+◌, ◌-◌, ◌*◌, ◌^◌, ◌<◌, ◌≤◌, nat_lt, Bool, true, false, not, ◌&&◌, ◌||◌, if◌then◌else◌, List, [], ◌∷◌, ◌++◌, cond, is_some, length, map, slice_index, sum_by, Option, Some, None, option_map, Result, Ok, Err, IfErr, IfOk, IfSome, IsNone, IsSome, IsTrue, OnOk, refl}
 use Rattle.std.proofs.Common.{arith, ap, sym, ◌∙◌, subst, inl, inr}
 use Rattle.std.proofs.Math.Nat.{mul-le-mul_right}
-use Rattle.std.proofs.lemmas.Bool.{cases_Bool, cond-false}
+use Rattle.std.proofs.lemmas.Bool.{cases_Bool, cond-false, lt-ltb}
 use Rattle.std.proofs.lemmas.List.{length-map}
 use Rattle.std.proofs.lemmas.List.Sums.{sum_by-append, sum_by-cons}
 use Rattle.std.specs.FinMap as fin
@@ -163,7 +163,10 @@ IsShortChange c = sum_by (λ (n : ℕ). n) (new_item c) ≤ SIZE_MAX
 
 sum_some : (size : ℕ) → sum_by (λ (n : ℕ). n) (some_size size) ≤ size
 sum_some zero = omega arith
-sum_some (suc n) = omega (arith, sum_by-cons (λ (n : ℕ). n) (suc n) [])
+sum_some (suc n) =
+    let some : nat_lt 0 (suc n) ≡ true = lt-ltb 0 (suc n) (omega arith) in
+    let one : some_size (suc n) ≡ suc n ∷ [] = ap (λ (b : Bool). if b then suc n ∷ [] else []) some in
+    omega (arith, ap (sum_by (λ (n : ℕ). n)) one, sum_by-cons (λ (n : ℕ). n) (suc n) [])
 
 pub put_short : (name object : List ℕ) → length object ≤ 8192 → IsShortChange (put_of name object)
 put_short name object short = omega (arith, short, sum_some (length object))

@@ -1,7 +1,7 @@
 -- An object of a job is a part of the bytes that count up.
 use Rattle.std.specs.Prelude.{◌≡◌, ℕ, zero, suc, ◌+◌, ◌%◌, ◌<◌, ◌≤◌, ◌==◌, nat_lt, Bool, true, false, if◌then◌else◌, List, [], ◌∷◌, drop, length, take, map, slice_index, slice_set, Option, Some, None, refl}
 use Rattle.std.proofs.Common.{arith, ap, sym, ◌∙◌, subst, inl, inr, length-drop}
-use Rattle.std.proofs.lemmas.List.{get_or-drop, get_or-set_other, get_or-set_same, get_or-take, length-take}
+use Rattle.std.proofs.lemmas.List.{get_or-drop, get_or-set_other, get_or-set_same, get_or-take, length-take-le}
 use Rattle.std.proofs.lemmas.Bool.{cases_eq}
 use Rattle.std.proofs.lemmas.Grind.{same_number_lists}
 use Rattle.byte_ranges.proofs.ListLaws.{length-map_below, map_below-index}
@@ -20,7 +20,7 @@ pub part_is : (pattern : List ℕ) (first size : ℕ) → IsPattern pattern → 
     → take size (drop first pattern) ≡ counting_bytes first size
 part_is pattern first size p low short =
     let long : length (take size (drop first pattern)) ≡ size =
-    length-take size (drop first pattern) (omega (arith, length-drop first pattern, p.long)) in
+    length-take-le size (drop first pattern) (omega (arith, length-drop first pattern, p.long)) in
     same_number_lists (take size (drop first pattern)) (counting_bytes first size)
     (long ∙ sym (length-map_below (λ t. (first + t) % 256) size))
     (λ i h.
@@ -70,7 +70,11 @@ short_from : (names i n : ℕ) (words : Lcg) (x : Job) (rest : List Request)
 short_from names i zero words x rest is =
     short_job x (subst IsShortRequest (first_is ask.keep (asked_by x) [] rest is) tt)
 short_from names i (suc n) words x rest is =
-    short_job x (subst IsShortRequest (first_is _ (asked_by x) _ rest is) (short_drawn names i _ _ _))
+    let x' = pcg32 words in
+    let y' = pcg32 x'.1 in
+    let z' = pcg32 y'.1 in
+    short_job x (subst IsShortRequest (first_is (job_drawn names i x'.0 y'.0 z'.0) (asked_by x)
+    (jobs_from names (i + 1) n z'.1) rest is) (short_drawn names i x'.0 y'.0 z'.0))
 
 pub short_next : (work : Work) (x : Job) (rest : List Request) → jobs_left work ≡ asked_by x ∷ rest → IsShort x
 short_next work x rest is = by work.is_done is

@@ -19,13 +19,22 @@ use Rattle.store_core.proofs.StoreLaws.{now_lies}
 use Rattle.store_costs.proofs.SessionLaws.{in_all}
 use Rattle.store_costs.proofs.WeighedLaws.{sized_now}
 use Rattle.ask_session.specs.Runs.{OpensToKept, last_state}
+use Rattle.rand_pcg.specs.Lcg.{started, increment_of}
+use Rattle.rand_pcg.specs.Pcg.{multiplier_64}
+use Rattle.work_maker.specs.Jobs.{jobs as jobs_of}
+use Rattle.work_maker.proofs.ListLaws.{how_many}
 use Rattle.work_session.specs.Counts.{asked_in, calls_in}
 use Rattle.work_session.specs.Jobs.{EndsAt, HasTally, IsWorking}
 use Rattle.work_session.specs.Works.{ArePaidLines, CountsOf, HasDone, HasWorked, IsLine, IsPaidLine, LinesOf}
 use Rattle.work_session.specs.declared.summary.Cost.{Cost}
 use Rattle.work_session.specs.declared.summary.Summary.{Summary}
 use Rattle.work_session.specs.declared.tally.Tally.{Tally}
-use Rattle.work_session.proofs.CallLaws.{calls_by_weight}
+use Rattle.work_session.proofs.CallLaws.{calls_by_weight, linear_weighs}
+
+-- how many jobs a number has
+pub jobs_long : (number count names : ℕ) → length (jobs_of number count names) ≡ count + 1
+jobs_long number count names =
+    how_many names 1 count (started 64 multiplier_64 number (increment_of 64 1))
 
 module _ {classes : ℕ} (old new : Kept) (jobs : List Request) (a d : disk.State) (t : Tally) (x : Summary)
     (w : IsWorking classes old new jobs [] a d t) (tally : HasTally t (length jobs) x) (end : EndsAt new x)
@@ -100,6 +109,8 @@ module _ {classes : ℕ} (old new : Kept) (jobs : List Request) (a d : disk.Stat
     few = omega (arith, w.few, tally.ok, tally.kept, tally.refused, tally.all, ap length all_jobs);
     counts = counts;
     lines = lines;
+    same = ap (λ (n : ℕ). n * 2 ^ (classes - 1)) lines.all
+        ∙ linear_weighs classes w.ran.sound.now.few new.moved ∙ sym lines.by_linear.moved;
     asked = λ told e. (w.ledger told).asked e
         ∙ ap (λ (rs : List Request). asked_in start rs w.replies w.states e) (sym all_jobs);
     paid = paid;

@@ -154,6 +154,7 @@ module _ {classes : ℕ} (old mid : Kept) (a b : disk.State) (jobs : List Reques
           (limits_of old) (last_state start states) r image) (λ image is. inr (job_image told image is))
           (serves.left (told_b told) (ran.rests told rests)));
       rose = omega (arith, ran.later, cause.rose failed);
+      later = omega (arith, ran.later, cause.later);
       frame = record {
         no_turn_back = omega (arith, ran.frame.no_turn_back, serves.frame.no_turn_back);
         stays = Stays-trans ran.frame.stays serves.frame.stays;

@@ -62,3 +62,9 @@ module _ {classes : ℕ} (old mid new : Kept) (all left : List Request) (r : Req
   working_stopped end does =
       work_stopped old mid a b x.jobs x.replies x.states x.ran r new d (Err end) does.serves does.cause
       (ap is_disk does.only) all left x.split
+
+-- the same jobs are left
+pub as_left : {classes : ℕ} {old new : Kept} {all xs ys : List Request} {a d : disk.State} {t : Tally}
+    → IsWorking classes old new all xs a d t → xs ≡ ys → IsWorking classes old new all ys a d t
+as_left {classes} {old} {new} {all} {xs} {ys} {a} {d} {t} w same =
+    subst (λ (rs : List Request). IsWorking classes old new all rs a d t) same w

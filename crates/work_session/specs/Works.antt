@@ -69,14 +69,12 @@ pub record IsLine (classes : ℕ) (cost : ℕ → ℕ) (moved_row asked_row : Li
   pub moved : line.moved ≡ weigh classes cost moved_row
   pub asked : line.asked ≡ weigh classes cost asked_row
 
--- The three lines of costs are of the same two rows, and the bytes moved are those of the first row, which
--- each weigh the same by the first cost.
+-- The three lines of costs are of the same two rows, and the bytes moved are those of the first row.
 pub record LinesOf (classes : ℕ) (moved_row asked_row : List ℕ) (x : Summary) : Type 0 where
   pub by_linear : IsLine classes linear moved_row asked_row x.linear
   pub by_flat : IsLine classes flat moved_row asked_row x.flat
   pub by_seek : IsLine classes seek moved_row asked_row x.seek
   pub all : x.moved ≡ sum_below classes (slice_index moved_row)
-  pub same : x.moved * 2 ^ (classes - 1) ≡ x.linear.moved
 
 -- what was moved is paid for by what was asked for, and by the potential of a book
 abbrev pub IsPaidLine : ℕ → (ℕ → ℕ) → ℕ → List (List ℕ) → Cost → Type 0
@@ -89,7 +87,7 @@ pub record ArePaidLines (classes k : ℕ) (grid : List (List ℕ)) (x : Summary)
 
 -- All jobs were done, and were summed up. On a disk that tells its content the counts are those of the replies
 -- of the store's states, and the bytes asked for those of the changes that were done. A crash leaves the last
--- checkpoint. The changing calls are at most those of the jobs, and of the bytes that were moved: one for an
+-- checkpoint. Each byte moved weighs the same by the first cost. The changing calls are at most those of the jobs, and of the bytes that were moved: one for an
 -- object's least size in each class, and one more for each 65,536 bytes.
 pub record HasDone (classes : ℕ) (old : Kept) (jobs : List Request) (before now : disk.State) (x : Summary) : Type 0
   where
@@ -104,6 +102,7 @@ pub record HasDone (classes : ℕ) (old : Kept) (jobs : List Request) (before no
     pub counts : IsTrue before.tells
         → CountsOf old.in_use.block.k replies (last_state (state_of old before.file) states) x
     pub lines : LinesOf classes moved_row asked_row x
+    pub same : x.moved * 2 ^ (classes - 1) ≡ x.linear.moved
     pub asked : IsTrue before.tells → (d : ℕ)
         → slice_index asked_row d ≡ asked_in (state_of old before.file) jobs replies states d
     pub paid : IsTrue before.tells → ArePaidLines classes old.in_use.block.k old.book.grid x
@@ -131,4 +130,5 @@ pub record HasStopped (classes : ℕ) (old : Kept) (jobs : List Request) (before
       (state_of old before.file) states image ⊎ IsJobImage classes (base_of old) (limits_of old)
       (last_state (state_of old before.file) states) next image)
   pub rose : Rose before.faults now.faults
+  pub later : before.faults ≤ now.faults
   pub frame : KeepsDisk before now

@@ -8,11 +8,11 @@ use Rattle.work_session.proofs.DoesLaws.{keep_does}
 use Rattle.work_session.proofs.job.keep.Goals as goal
 
 pub returns : goal.returns
-returns g c = subst (λ (x : Result Reply End). Does g.row.C ask.keep c.args.store.now c.keep.new.self
-    (g.D.Disk.state c.args.disk.now) (g.D.Disk.state c.keep.new.disk) x)
+returns g c = subst (λ (x : Result Reply End). Does g.row.C ask.keep c.args.store.now c.keep-answer.new.self
+    (g.D.Disk.state c.args.disk.now) (g.D.Disk.state c.keep-answer.new.disk) x)
     (sym c.answer_change.ensures)
-    (keep_does c.args.store.now c.keep.new.self
-    (g.D.Disk.state c.args.disk.now) (g.D.Disk.state c.keep.new.disk)
+    (keep_does c.args.store.now c.keep-answer.new.self
+    (g.D.Disk.state c.args.disk.now) (g.D.Disk.state c.keep-answer.new.disk)
     (record {
       whole = c.requires.whole;
       sound = c.requires.sound;
@@ -20,10 +20,10 @@ returns g c = subst (λ (x : Result Reply End). Does g.row.C ask.keep c.args.sto
       ready = c.requires.ready;
       fits = (g.met.D.Disk.lawful c.args.disk.now).turn_fits;
     })
-    c.keep.result
+    c.keep-answer.result
     (record {
-      answer = c.keep.ensures.answer;
-      refused = c.keep.ensures.refused;
-      kept = c.keep.ensures.kept;
+      answer = c.keep-answer.ensures.answer;
+      refused = c.keep-answer.ensures.refused;
+      kept = c.keep-answer.ensures.kept;
     })
-    c.keep.ensures.step c.keep.ensures.over c.keep.ensures.broken c.is_sound.ensures)
+    c.keep-answer.ensures.step c.keep-answer.ensures.over c.keep-answer.ensures.broken c.is_sound.ensures)

@@ -11,11 +11,11 @@ use Rattle.work_session.proofs.job.put_object.Goals as goal
 
 pub returns : goal.returns
 returns g c = subst (λ (x : Result Reply End). Does g.row.C (ask.change
-    (put_of c.args.name.now c.args.object.now)) c.args.store.now c.put.new.self (g.D.Disk.state c.args.disk.now)
-    (g.D.Disk.state c.put.new.disk) x)
+    (put_of c.args.name.now c.args.object.now)) c.args.store.now c.put-answer.new.self (g.D.Disk.state c.args.disk.now)
+    (g.D.Disk.state c.put-answer.new.disk) x)
     (sym c.answer_change.ensures)
-    (change_does c.args.store.now c.put.new.self (put_of c.args.name.now c.args.object.now)
-    (g.D.Disk.state c.args.disk.now) (g.D.Disk.state c.put.new.disk) c.put.result
+    (change_does c.args.store.now c.put-answer.new.self (put_of c.args.name.now c.args.object.now)
+    (g.D.Disk.state c.args.disk.now) (g.D.Disk.state c.put-answer.new.disk) c.put-answer.result
     (record {
       whole = c.requires.whole;
       sound = c.requires.sound;
@@ -25,11 +25,11 @@ returns g c = subst (λ (x : Result Reply End). Does g.row.C (ask.change
     })
     (put_short c.args.name.now c.args.object.now c.requires.short)
     (record {
-      answer = c.put.ensures.answer;
-      refused = c.put.ensures.refused;
-      quiet = c.put.ensures.quiet;
-      flush = c.put.ensures.flush;
-      over = c.put.ensures.over;
-      broken = c.put.ensures.broken;
+      answer = c.put-answer.ensures.answer;
+      refused = c.put-answer.ensures.refused;
+      quiet = c.put-answer.ensures.quiet;
+      flush = c.put-answer.ensures.flush;
+      over = c.put-answer.ensures.over;
+      broken = c.put-answer.ensures.broken;
     })
-    c.put.ensures.step c.is_sound.ensures)
+    c.put-answer.ensures.step c.is_sound.ensures)

@@ -1,8 +1,9 @@
 use Rattle.std.proofs.Common.{ap, arith, sym, subst}
-use Rattle.std.specs.Prelude.{Err, Result}
+use Rattle.std.specs.Prelude.{Err, Ok, Result}
 use Rattle.store_terms.specs.Requests as ask
 use Rattle.store_core.specs.Connection.{Kept}
 use Rattle.ask_text.specs.declared.reply.Reply.{Reply}
+use Rattle.ask_text.specs.declared.reply.Reply.TheVariants as head
 use Rattle.ask_session.specs.declared.ends.End.{End}
 use Rattle.ask_session.proofs.ServingLaws.{IsSound}
 use Rattle.work_session.specs.Jobs.{Does}
@@ -11,7 +12,7 @@ use Rattle.work_session.proofs.job.read.Goals as goal
 
 pub returns-in-Ok : goal.returns-in-Ok
 returns-in-Ok g c = subst (λ (x : Kept). Does g.row.C (ask.get c.args.name.now) c.args.store.now x
-    (g.D.Disk.state c.args.disk.now) (g.D.Disk.state c.get.new.disk) _)
+    (g.D.Disk.state c.args.disk.now) (g.D.Disk.state c.get.new.disk) (Ok (head.Data c.in-Ok.size)))
     (sym c.in-Ok.ensures.store)
     (get_gives c.args.store.now (g.D.Disk.state c.args.disk.now) (g.D.Disk.state c.get.new.disk) c.args.name.now
     (record {

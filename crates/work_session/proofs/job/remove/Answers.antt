@@ -11,11 +11,11 @@ use Rattle.work_session.proofs.job.remove.Goals as goal
 
 pub returns : goal.returns
 returns g c = subst (λ (x : Result Reply End). Does g.row.C (ask.change
-    (del_of c.args.name.now)) c.args.store.now c.del.new.self (g.D.Disk.state c.args.disk.now)
-    (g.D.Disk.state c.del.new.disk) x)
+    (del_of c.args.name.now)) c.args.store.now c.del-answer.new.self (g.D.Disk.state c.args.disk.now)
+    (g.D.Disk.state c.del-answer.new.disk) x)
     (sym c.answer_change.ensures)
-    (change_does c.args.store.now c.del.new.self (del_of c.args.name.now)
-    (g.D.Disk.state c.args.disk.now) (g.D.Disk.state c.del.new.disk) c.del.result
+    (change_does c.args.store.now c.del-answer.new.self (del_of c.args.name.now)
+    (g.D.Disk.state c.args.disk.now) (g.D.Disk.state c.del-answer.new.disk) c.del-answer.result
     (record {
       whole = c.requires.whole;
       sound = c.requires.sound;
@@ -25,11 +25,11 @@ returns g c = subst (λ (x : Result Reply End). Does g.row.C (ask.change
     })
     (del_short c.args.name.now)
     (record {
-      answer = c.del.ensures.answer;
-      refused = c.del.ensures.refused;
-      quiet = c.del.ensures.quiet;
-      flush = c.del.ensures.flush;
-      over = c.del.ensures.over;
-      broken = c.del.ensures.broken;
+      answer = c.del-answer.ensures.answer;
+      refused = c.del-answer.ensures.refused;
+      quiet = c.del-answer.ensures.quiet;
+      flush = c.del-answer.ensures.flush;
+      over = c.del-answer.ensures.over;
+      broken = c.del-answer.ensures.broken;
     })
-    c.del.ensures.step c.is_sound.ensures)
+    c.del-answer.ensures.step c.is_sound.ensures)
