@@ -211,8 +211,12 @@ module _ {classes : ℕ} (s : Kept) (a d : disk.State) (name : List ℕ) (h : Is
         sound = h.sound;
         replied = λ told. ap head.Data (sym (get_long s a name size h number told))
             ∙ sym (ap (λ (y : Served). head_of y.reply) (get_served s a name h served.0 told));
-        small = omega (arith, served.1, there_short (fin.get s.now name)
-            (small_if_there s h.sound name (fin.get s.now name) refl));
+        small = omega (
+          arith,
+          served.1,
+          there_short (fin.get s.now name)
+              (small_if_there s h.sound name (fin.get s.now name) refl),
+        );
         charges = λ told full. none_charged;
         only = tt;
         cause = record { rose = λ fault. absurd (cc); later = same.later };

@@ -24,8 +24,8 @@ use Rattle.rand_pcg.specs.Pcg.{multiplier_64}
 use Rattle.work_maker.specs.Jobs.{jobs as jobs_of}
 use Rattle.work_maker.proofs.ListLaws.{how_many}
 use Rattle.work_session.specs.Counts.{asked_in, calls_in}
-use Rattle.work_session.specs.Jobs.{EndsAt, HasTally, IsWorking}
-use Rattle.work_session.specs.Works.{ArePaidLines, CountsOf, HasDone, HasWorked, IsLine, IsPaidLine, LinesOf}
+use Rattle.work_session.specs.Jobs.{HasTally, IsWorking}
+use Rattle.work_session.specs.Works.{ArePaidLines, CountsOf, EndsAt, HasDone, HasWorked, IsLine, IsPaidLine, LinesOf}
 use Rattle.work_session.specs.declared.summary.Cost.{Cost}
 use Rattle.work_session.specs.declared.summary.Summary.{Summary}
 use Rattle.work_session.specs.declared.tally.Tally.{Tally}
@@ -39,91 +39,90 @@ jobs_long number count names =
 module _ {classes : ℕ} (old new : Kept) (jobs : List Request) (a d : disk.State) (t : Tally) (x : Summary)
     (w : IsWorking classes old new jobs [] a d t) (tally : HasTally t (length jobs) x) (end : EndsAt new x)
     (lines : LinesOf classes new.moved new.asked x) (zeros : (c : ℕ) → classes ≤ c → slice_index new.moved c ≡ 0)
-    where
-  all_jobs : jobs ≡ w.jobs
-  all_jobs = w.split ∙ append-nil w.jobs
+  where
+    all_jobs : jobs ≡ w.jobs
+    all_jobs = w.split ∙ append-nil w.jobs
 
-  abbrev start : State
-  start = state_of old a.file
+    abbrev start : State
+    start = state_of old a.file
 
-  abbrev last : State
-  last = last_state start w.states
+    abbrev last : State
+    last = last_state start w.states
 
-  abbrev k : ℕ
-  k = old.in_use.block.k
+    abbrev k : ℕ
+    k = old.in_use.block.k
 
-  told_d : IsTrue a.tells → IsTrue d.tells
-  told_d told = subst IsTrue (sym w.ran.frame.stays.told) told
+    told_d : IsTrue a.tells → IsTrue d.tells
+    told_d told = subst IsTrue (sym w.ran.frame.stays.told) told
 
-  over : IsTrue a.tells → IsOver classes new d.file
-  over told = w.ran.over w.ran.unbroken (told_d told)
+    over : IsTrue a.tells → IsOver classes new d.file
+    over told = w.ran.over w.ran.unbroken (told_d told)
 
-  same_divisor : new.in_use.block.k ≡ k
-  same_divisor = ap (λ (u : SuperBlock). u.k) w.ran.block
+    same_divisor : new.in_use.block.k ≡ k
+    same_divisor = ap (λ (u : SuperBlock). u.k) w.ran.block
 
-  counts : IsTrue a.tells → CountsOf k w.replies last x
-  counts told =
-      let h = w.counts told in
-      let newest = w.ran.newest told in
-      record {
-        ok = tally.ok ∙ h.ok;
-        kept = tally.kept ∙ h.kept;
-        read = tally.read ∙ h.read;
-        refused = tally.refused ∙ h.refused;
-        names = end.names ∙ sym (len-read_at (base_of new) d.file new.now w.ran.sound.now.named)
-            ∙ ap (λ (s : State). fin.len s.map) newest;
-        bytes = end.bytes ∙ sym (sized_volume (state_of new d.file).map new.now
-            (sized_now new w.ran.sound (base_of new) d.file (now_lies new d.file w.ran.sound (over told))))
-            ∙ ap (λ (s : State). volume s.map) newest;
-        long = end.long ∙ ap (λ (n : ℕ). book_end n new.book) same_divisor
-            ∙ ap (λ (s : State). book_end k s.book) newest;
-      }
+    counts : IsTrue a.tells → CountsOf k w.replies last x
+    counts told =
+        let h = w.counts told in
+        let newest = w.ran.newest told in
+        record {
+          ok = tally.ok ∙ h.ok;
+          kept = tally.kept ∙ h.kept;
+          read = tally.read ∙ h.read;
+          refused = tally.refused ∙ h.refused;
+          names = end.names ∙ sym (len-read_at (base_of new) d.file new.now w.ran.sound.now.named)
+              ∙ ap (λ (s : State). fin.len s.map) newest;
+          bytes = end.bytes ∙ sym (sized_volume (state_of new d.file).map new.now
+              (sized_now new w.ran.sound (base_of new) d.file (now_lies new d.file w.ran.sound (over told))))
+              ∙ ap (λ (s : State). volume s.map) newest;
+          long = end.long ∙ ap (λ (n : ℕ). book_end n new.book) same_divisor
+              ∙ ap (λ (s : State). book_end k s.book) newest;
+        }
 
-  paid_line : (cost : ℕ → ℕ) → IsCost classes cost → (line : Cost) → IsLine classes cost new.moved new.asked line
-      → IsTrue a.tells → IsPaidLine classes cost k old.book.grid line
-  paid_line cost is line h told =
-      subst (λ (n : ℕ). line.moved ≤ factor n * line.asked + potential classes cost k old.book.grid) same_divisor
-      (omega (
+    paid_line : (cost : ℕ → ℕ) → IsCost classes cost → (line : Cost) → IsLine classes cost new.moved new.asked line
+        → IsTrue a.tells → IsPaidLine classes cost k old.book.grid line
+    paid_line cost is line h told =
+        subst (λ (n : ℕ). line.moved ≤ factor n * line.asked + potential classes cost k old.book.grid) same_divisor
+        (omega (
+          arith,
+          in_all classes cost (potential classes cost k old.book.grid) new ((w.ledger told).paid cost is),
+          h.moved,
+          ap (λ (n : ℕ). factor new.in_use.block.k * n) h.asked,
+        ))
+
+    paid : IsTrue a.tells → ArePaidLines classes k old.book.grid x
+    paid told = record {
+      by_linear = paid_line linear (linear_is classes) x.linear lines.by_linear told;
+      by_flat = paid_line flat (flat_is classes) x.flat lines.by_flat told;
+      by_seek = paid_line seek (seek_is classes) x.seek lines.by_seek told;
+    }
+
+    pub has_done : HasDone classes old jobs a d x
+    has_done = record {
+      new = new;
+      replies = w.replies;
+      states = w.states;
+      ran = subst (λ (rs : List Request). HasWorked classes old new rs w.replies w.states a d) (sym all_jobs) w.ran;
+      requests = tally.all;
+      few = omega (arith, w.few, tally.ok, tally.kept, tally.refused, tally.all, ap length all_jobs);
+      counts = counts;
+      ends = end;
+      lines = lines;
+      same = ap (λ (n : ℕ). n * 2 ^ (classes - 1)) lines.all
+          ∙ linear_weighs classes w.ran.sound.now.few new.moved ∙ sym lines.by_linear.moved;
+      asked = λ told e. (w.ledger told).asked e
+          ∙ ap (λ (rs : List Request). asked_in start rs w.replies w.states e) (sym all_jobs);
+      paid = paid;
+      calls = λ told. omega (
         arith,
-        in_all classes cost (potential classes cost k old.book.grid) new ((w.ledger told).paid cost is),
-        h.moved,
-        ap (λ (n : ℕ). factor new.in_use.block.k * n) h.asked,
-      ))
-
-  paid : IsTrue a.tells → ArePaidLines classes k old.book.grid x
-  paid told = record {
-    by_linear = paid_line linear (linear_is classes) x.linear lines.by_linear told;
-    by_flat = paid_line flat (flat_is classes) x.flat lines.by_flat told;
-    by_seek = paid_line seek (seek_is classes) x.seek lines.by_seek told;
-  }
-
-  pub has_done : HasDone classes old jobs a d x
-  has_done = record {
-    new = new;
-    replies = w.replies;
-    states = w.states;
-    moved_row = new.moved;
-    asked_row = new.asked;
-    ran = subst (λ (rs : List Request). HasWorked classes old new rs w.replies w.states a d) (sym all_jobs) w.ran;
-    requests = tally.all;
-    few = omega (arith, w.few, tally.ok, tally.kept, tally.refused, tally.all, ap length all_jobs);
-    counts = counts;
-    lines = lines;
-    same = ap (λ (n : ℕ). n * 2 ^ (classes - 1)) lines.all
-        ∙ linear_weighs classes w.ran.sound.now.few new.moved ∙ sym lines.by_linear.moved;
-    asked = λ told e. (w.ledger told).asked e
-        ∙ ap (λ (rs : List Request). asked_in start rs w.replies w.states e) (sym all_jobs);
-    paid = paid;
-    calls = λ told. omega (
-      arith,
-      (w.ledger told).calls,
-      calls_by_weight classes w.ran.sound.now.few new.moved zeros,
-      ap (λ (n : ℕ). n / 2 ^ (classes - 1)) lines.by_flat.moved,
-      ap (λ (n : ℕ). n / 65536) lines.all,
-      ap (λ (rs : List Request). calls_in start rs w.replies w.states) all_jobs,
-    );
-    opens = λ told. subst (λ (s : State). OpensToKept classes s d.file) (w.ran.newest told)
-        (record { table = (over told).table; opens = (over told).checkpoint.opens });
-    all = λ told rests image may. subst (λ (s : State). OpensToKept classes s image) (w.ran.newest told)
-        (kept_image new w.ran.sound d.file (over told) image (w.ran.rests told rests image may)).opens;
-  }
+        (w.ledger told).calls,
+        calls_by_weight classes w.ran.sound.now.few new.moved zeros,
+        ap (λ (n : ℕ). n / 2 ^ (classes - 1)) lines.by_flat.moved,
+        ap (λ (n : ℕ). n / 65536) lines.all,
+        ap (λ (rs : List Request). calls_in start rs w.replies w.states) all_jobs,
+      );
+      opens = λ told. subst (λ (s : State). OpensToKept classes s d.file) (w.ran.newest told)
+          (record { table = (over told).table; opens = (over told).checkpoint.opens });
+      all = λ told rests image may. subst (λ (s : State). OpensToKept classes s image) (w.ran.newest told)
+          (kept_image new w.ran.sound d.file (over told) image (w.ran.rests told rests image may)).opens;
+    }

@@ -1,13 +1,10 @@
 -- What one job does, and what is known of a store between two jobs.
 use Rattle.std.specs.Prelude.{◌≡◌, ℕ, ◌+◌, ◌*◌, ◌^◌, ◌%◌, ◌<◌, ◌≤◌, List, [], ◌∷◌, ◌++◌, length, slice_index, sum_by, Result, IfErr, IfOk, IsTrue, OnOk}
-use Rattle.std.specs.FinMap as fin
 use Rattle.disk_face.specs.States as disk
 use Rattle.size_class.specs.Classes.{width}
 use Rattle.size_class.specs.declared.TheConstants.{SIZE_MAX}
 use Rattle.store_terms.specs.Requests as ask
 use Rattle.store_terms.specs.Requests.{Request}
-use Rattle.segment_layout.specs.Books.{book_end}
-use Rattle.extent_table.specs.Extents.{volume_of}
 use Rattle.flush_run.specs.Calls.{move_calls, risen}
 use Rattle.move_cost.specs.Costs.{IsCost, potential}
 use Rattle.store_core.specs.Connection.{Kept, limits_of, state_of}
@@ -107,12 +104,6 @@ pub record HasTally (t : Tally) (requests : ℕ) (x : Summary) : Type 0 where
   pub kept : x.kept ≡ t.kept
   pub read : x.read ≡ t.read
   pub refused : x.refused ≡ t.refused
-
--- and the numbers of a store at the end
-pub record EndsAt (s : Kept) (x : Summary) : Type 0 where
-  pub names : x.names ≡ fin.len s.now
-  pub bytes : x.bytes ≡ volume_of s.now
-  pub long : x.length ≡ book_end s.in_use.block.k s.book
 
 -- ---- between two jobs
 

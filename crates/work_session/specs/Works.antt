@@ -10,6 +10,7 @@ use Rattle.size_class.specs.declared.TheConstants.{SIZE_MAX}
 use Rattle.store_terms.specs.Maps.{volume}
 use Rattle.store_terms.specs.Requests.{Reply, Request}
 use Rattle.segment_layout.specs.Books.{book_end}
+use Rattle.extent_table.specs.Extents.{volume_of}
 use Rattle.segment_layout.specs.Bounds.{Loose}
 use Rattle.table_rules.specs.Opening.{Opens}
 use Rattle.move_cost.specs.Costs.{IsCost, factor, flat, linear, potential, seek, weigh}
@@ -64,6 +65,12 @@ pub record CountsOf (k : ℕ) (replies : List Reply) (s : State) (x : Summary) :
   pub bytes : x.bytes ≡ volume s.map
   pub long : x.length ≡ book_end k s.book
 
+-- whatever the disk tells, these numbers are those of the store at the end
+pub record EndsAt (s : Kept) (x : Summary) : Type 0 where
+  pub names : x.names ≡ fin.len s.now
+  pub bytes : x.bytes ≡ volume_of s.now
+  pub long : x.length ≡ book_end s.in_use.block.k s.book
+
 -- a line of costs has what the moved and the asked bytes weigh by a cost
 pub record IsLine (classes : ℕ) (cost : ℕ → ℕ) (moved_row asked_row : List ℕ) (line : Cost) : Type 0 where
   pub moved : line.moved ≡ weigh classes cost moved_row
@@ -85,26 +92,26 @@ pub record ArePaidLines (classes k : ℕ) (grid : List (List ℕ)) (x : Summary)
   pub by_flat : IsPaidLine classes flat k grid x.flat
   pub by_seek : IsPaidLine classes seek k grid x.seek
 
--- All jobs were done, and were summed up. On a disk that tells its content the counts are those of the replies
--- of the store's states, and the bytes asked for those of the changes that were done. A crash leaves the last
--- checkpoint. Each byte moved weighs the same by the first cost. The changing calls are at most those of the jobs, and of the bytes that were moved: one for an
--- object's least size in each class, and one more for each 65,536 bytes.
+-- All jobs were done, and were summed up with the bytes that the store's ledger has. On a disk that tells its
+-- content the counts are those of the replies, and the bytes asked for those of the changes that were done. The
+-- content opens to the last checkpoint, and so does what a crash leaves. Each byte moved weighs the same by the
+-- first cost. The changing calls are at most those of the jobs, and of the bytes that were moved: one for each
+-- least size of an object of its class, and one for each 65,536 bytes.
 pub record HasDone (classes : ℕ) (old : Kept) (jobs : List Request) (before now : disk.State) (x : Summary) : Type 0
   where
     pub new : Kept
     pub replies : List Reply
     pub states : List State
-    pub moved_row : List ℕ
-    pub asked_row : List ℕ
     pub ran : HasWorked classes old new jobs replies states before now
     pub requests : x.requests ≡ length jobs
     pub few : x.ok + x.kept + x.refused ≤ x.requests
     pub counts : IsTrue before.tells
         → CountsOf old.in_use.block.k replies (last_state (state_of old before.file) states) x
-    pub lines : LinesOf classes moved_row asked_row x
+    pub ends : EndsAt new x
+    pub lines : LinesOf classes new.moved new.asked x
     pub same : x.moved * 2 ^ (classes - 1) ≡ x.linear.moved
     pub asked : IsTrue before.tells → (d : ℕ)
-        → slice_index asked_row d ≡ asked_in (state_of old before.file) jobs replies states d
+        → slice_index new.asked d ≡ asked_in (state_of old before.file) jobs replies states d
     pub paid : IsTrue before.tells → ArePaidLines classes old.in_use.block.k old.book.grid x
     pub calls : IsTrue before.tells → now.turn
         ≤ before.turn + calls_in (state_of old before.file) jobs replies states

@@ -17,12 +17,22 @@ jobs-init g c = subst (λ (t : Tally). IsWorking g.row.C c.args.store.now c.args
 pub do_job-requires : goal.do_job-requires
 do_job-requires g c = (
   omega arith,
-  (c.jobs.invariant.ran.frame.stays.ready,
-  (c.jobs.invariant.ran.over,
-  (c.jobs.invariant.ran.unbroken,
-  (c.jobs.invariant.ran.sound,
-  (c.requires.pattern,
-  short_next c.jobs.work c.in-Some.job (jobs_left c.next.new.self) c.in-Some.ensures.next))))),
+  (
+    c.jobs.invariant.ran.frame.stays.ready,
+    (
+      c.jobs.invariant.ran.over,
+      (
+        c.jobs.invariant.ran.unbroken,
+        (
+          c.jobs.invariant.ran.sound,
+          (
+            c.requires.pattern,
+            short_next c.jobs.work c.in-Some.job (jobs_left c.next.new.self) c.in-Some.ensures.next,
+          ),
+        ),
+      ),
+    ),
+  ),
 )
 
 pub jobs-preserved : goal.jobs-preserved

@@ -9,16 +9,24 @@ use Rattle.work_session.proofs.work.do_work.Goals as goal
 pub do_jobs-requires : goal.do_jobs-requires
 do_jobs-requires g c = (
   omega arith,
-  (c.requires.ready,
-  (c.requires.over,
-  (c.requires.fresh,
-  (subst IsPattern (sym c.as_slice.ensures.value) c.in-Ok.ensures,
-  omega (
-    arith,
-    ap length c.new-work.ensures,
-    jobs_long c.args.number c.args.count c.names.result,
-    c.requires.most,
-  ))))),
+  (
+    c.requires.ready,
+    (
+      c.requires.over,
+      (
+        c.requires.fresh,
+        (
+          subst IsPattern (sym c.as_slice.ensures.value) c.in-Ok.ensures,
+          omega (
+            arith,
+            ap length c.new-work.ensures,
+            jobs_long c.args.number c.args.count c.names.result,
+            c.requires.most,
+          ),
+        ),
+      ),
+    ),
+  ),
 )
 
 pub returns-in-Ok-do_jobs-clause-done : goal.returns-in-Ok-do_jobs-clause-done
