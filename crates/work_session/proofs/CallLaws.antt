@@ -41,7 +41,8 @@ calls_add old new later =
       sum_below_le width (λ c. before c + more c) (λ c. class_calls c (slice_index new c)) each,
     )
   where
-    each : (c : ℕ) → c < width → class_calls c (slice_index old c) + class_calls c (slice_index (risen old new) c)
+    each : (c : ℕ) → c < width → class_calls c (slice_index old c) + class_calls c (slice_index
+        (risen old new) c)
         ≤ class_calls c (slice_index new c)
     each c low =
         let rose : slice_index (risen old new) c ≡ slice_index new c - slice_index old c =
@@ -67,7 +68,8 @@ module _ (C : ℕ) (low : C ≤ width) (row : List ℕ) where
   pub linear_weighs : sum_below C (slice_index row) * 2 ^ (C - 1) ≡ weigh C linear row
   linear_weighs =
       let scaled : 2 ^ (C - 1) * sum_below C (slice_index row)
-      ≡ sum_below C (λ c. 2 ^ (C - 1) * slice_index row c) = sum_below_times (2 ^ (C - 1)) C (slice_index row) in
+      ≡ sum_below C (λ c. 2 ^ (C - 1) * slice_index row c) = sum_below_times (2 ^ (C - 1)) C
+      (slice_index row) in
       let same : sum_below C (λ c. 2 ^ (C - 1) * slice_index row c) ≡ weigh C linear row =
       sum_below_agree C (λ c. 2 ^ (C - 1) * slice_index row c) (λ c. slice_index row c * rate C linear c)
       (λ c h. omega (arith, ap (λ (n : ℕ). n * slice_index row c) (pow_split C c h))) in
@@ -99,7 +101,8 @@ module _ (C : ℕ) (low : C ≤ width) (row : List ℕ) where
         (le-div_iff_mul-le (omega (arith, one-le-pow (C - 1) 2 (omega arith)))).1 (omega (
           arith,
           sum_below_times (2 ^ (C - 1)) width f,
-          sum_below_le width (λ c. 2 ^ (C - 1) * f c) (λ c. slice_index row c * rate C flat c) (λ c h. least c),
+          sum_below_le width (λ c. 2 ^ (C - 1) * f c) (λ c. slice_index row c * rate C flat c)
+              (λ c h. least c),
           sum_below_rest C width (λ c. slice_index row c * rate C flat c) low (λ c past.
               let none : 0 * rate C flat c ≡ 0 = omega arith in
               ap (λ (n : ℕ). n * rate C flat c) (zeros c past) ∙ none),

@@ -56,14 +56,16 @@ refused_charges {classes} r s new a d x h is same none =
     let w = refused_with s r x h.whole is in
     let reply : reply_at s a.file r ≡ ask.refused w.0 = (refused_stays s a.file r w.0 h.sound w.1).1 in
     nothing_charged r s new a d (same_moves_nothing s new same.same_store)
-    (λ e. ap (λ (y : Reply). asked_by (state_of s a.file) r y e) reply ∙ refused_asks (state_of s a.file) r w.0 e)
+    (λ e. ap (λ (y : Reply). asked_by (state_of s a.file) r y e) reply
+    ∙ refused_asks (state_of s a.file) r w.0 e)
     (omega (arith, same.same_disk.same_turn))
 
 -- ---- changes
 
 change_result : {classes : ℕ} (s new : Kept) (c : Change) (a d : disk.State) (result : Result Done Refusal)
     → IsSound classes s a → IsShortChange c → IsChange classes c s new a d result
-    → IfSome (reply_of done_reply result) (λ reply. Step (limits_of s) (state_of s a.file) (ask.change c) reply
+    → IfSome (reply_of done_reply result) (λ reply. Step (limits_of s) (state_of s a.file)
+    (ask.change c) reply
     (state_of new d.file))
     → OnOk (answer_change result) (IsStore classes new) → IsTrue a.tells → length s.asked ≡ width
     → OnOk (answer_change result) (Charges classes (ask.change c) s new a d)
@@ -78,7 +80,8 @@ change_result {classes} s new c a d (Err w) h short x step sound told full =
     by None is (inl bad) = absurd (cc)
     by None is (inr failed) =
         let disk_failed : w ≡ why.Disk = cc in
-        subst (λ (y : Refusal). OnOk (answer_of y) (Charges classes (ask.change c) s new a d)) (sym disk_failed) tt
+        subst (λ (y : Refusal). OnOk (answer_of y) (Charges classes (ask.change c) s new a d))
+        (sym disk_failed) tt
     by (Some y) is answer = always (answer_of w) (refused_charges (ask.change c) s new a d y h is
         (x.refused (subst (λ (o : Option Refusal). IsSome o) (sym is) refl)) (λ t w. refl))
 
@@ -138,19 +141,23 @@ module _ {classes : ℕ} (s new : Kept) (a d : disk.State) (h : IsSound classes 
 
       by : (r : Result Done Refusal) → result ≡ r → (o : Option Refusal) → refused_by s ask.keep ≡ o
           → AnswersKeep o result → OnOk (answer_change r) (Charges classes ask.keep s new a d)
-      by (Ok done) is None none (inl answered) = kept done is none (let e : Ok done ≡ Ok (record { kept = true }) =
+      by (Ok done) is None none (inl answered) = kept done is none (let e : Ok done
+          ≡ Ok (record { kept = true }) =
           sym is ∙ answered in cc)
       by (Ok done) is None none (inr bad) = absurd (let e : Ok done ≡ Err why.Disk = sym is ∙ bad in cc)
       by (Ok done) is (Some w) some answer = absurd (let e : Ok done ≡ Err w = sym is ∙ answer in cc)
-      by (Err w) is None none (inl bad) = absurd (let e : Err w ≡ Ok (record { kept = true }) = sym is ∙ bad in cc)
+      by (Err w) is None none (inl bad) = absurd (let e : Err w ≡ Ok (record { kept = true }) = sym is
+          ∙ bad in cc)
       by (Err w) is None none (inr failed) =
           let disk_failed : w ≡ why.Disk = let e : Err w ≡ Err why.Disk = sym is ∙ failed in cc in
-          subst (λ (y : Refusal). OnOk (answer_of y) (Charges classes ask.keep s new a d)) (sym disk_failed) tt
+          subst (λ (y : Refusal). OnOk (answer_of y) (Charges classes ask.keep s new a d))
+          (sym disk_failed) tt
       by (Err w) is (Some y) some answer = always (answer_of w) (refused_charges ask.keep s new a d y h some
           (x.refused (subst (λ (o : Option Refusal). IsSome o) (sym some) refl)) (λ t w. refl))
 
   pub keep_does : (result : Result Done Refusal) → IsKeep classes s new a d result
-      → (s.is_broken ≡ false → IsTrue a.tells → IfSome (reply_of done_reply result) (λ reply. Step (limits_of s)
+      → (s.is_broken ≡ false → IsTrue a.tells → IfSome (reply_of done_reply result) (λ reply. Step
+      (limits_of s)
       (state_of s a.file) ask.keep reply (state_of new d.file)))
       → IsConnected classes new d
       → new.is_broken ≡ (s.is_broken || store.is_disk_fault result)
@@ -195,7 +202,8 @@ module _ {classes : ℕ} (s : Kept) (a d : disk.State) (name : List ℕ) (h : Is
   n = size_at (fin.get s.now name)
 
   none_charged : Charges classes r s s a d
-  none_charged = nothing_charged r s s a d (same_moves_nothing s s refl) (λ e. refl) (omega (arith, same.same_turn))
+  none_charged = nothing_charged r s s a d (same_moves_nothing s s refl) (λ e. refl) (omega
+      (arith, same.same_turn))
 
   pub get_gives : (size : ℕ) → AnswersRead (refused_by s r) n (Ok size)
       → Does classes r s s a d (Ok (head.Data size))
@@ -250,7 +258,8 @@ module _ {classes : ℕ} (s : Kept) (a d : disk.State) (name : List ℕ) (h : Is
     cause = record { rose = λ fault. cause.rose refl; later = same.later };
   }
     where
-      by : (o : Option Refusal) → refused_by s r ≡ o → Serves {T = text.Reply} classes r s s a d (Err ends.Disk)
+      by : (o : Option Refusal) → refused_by s r ≡ o → Serves {T = text.Reply} classes r s s a d
+          (Err ends.Disk)
       by None is = serves_same s r a d (Err ends.Disk) h same (λ told. record {
         reply = ask.found (object_in (state_of s a.file).map name);
         is = get_served s a name h is told;
@@ -258,13 +267,15 @@ module _ {classes : ℕ} (s : Kept) (a d : disk.State) (name : List ℕ) (h : Is
       }) refl
       by (Some x) is =
           let w = refused_with s r x h.whole is in
-          serves_same s r a d (Err ends.Disk) h same (λ told. (refused_stays s a.file r w.0 h.sound w.1).0) refl
+          serves_same s r a d (Err ends.Disk) h same (λ told.
+          (refused_stays s a.file r w.0 h.sound w.1).0) refl
 
   pub get_stops : (x : Refusal) → AnswersRead (refused_by s r) n (Err x)
       → reads.HasDiskCause {T = ℕ} a d (Err x) → (x ≡ why.Sink → ⊥) → Does classes r s s a d (answer_of x)
   get_stops x answer cause no_sink = by (refused_by s r) refl answer
     where
-      by : (o : Option Refusal) → refused_by s r ≡ o → AnswersRead o n (Err x) → Does classes r s s a d (answer_of x)
+      by : (o : Option Refusal) → refused_by s r ≡ o → AnswersRead o n (Err x)
+          → Does classes r s s a d (answer_of x)
       by (Some y) is answer =
           let e : y ≡ x = cc in
           get_refused x (is ∙ ap (λ (z : Refusal). Some z) e)

@@ -149,7 +149,8 @@ after_sizes s c m sized q = by c.object
     set object true = refl
     set object false = sized q
 
-    by : (o : Option (List ℕ)) → option_map length (fin.get (changed (record { name = c.name; object = o }) m) q)
+    by : (o : Option (List ℕ)) → option_map length (fin.get (changed
+        (record { name = c.name; object = o }) m) q)
         ≡ size_after s (record { name = c.name; object = o }) q
     by None = ap (option_map length) (fin.get-remove name_order m c.name q) ∙ cut (same_name q c.name)
     by (Some object) =
@@ -233,7 +234,8 @@ module _ {classes : ℕ} (s new : Kept) (c : Change) (a d : disk.State) (done : 
 
   paid : HasOpenLedger new → (cost : ℕ → ℕ) (first : ℕ) → IsCost classes cost → HasPaid classes cost first s
       → HasPaid classes cost first new
-  paid low cost first is was = change_has_paid c s new a d (Ok done) x refl (λ whole. h.sound) full low cost is
+  paid low cost first is was = change_has_paid c s new a d (Ok done) x refl
+      (λ whole. h.sound) full low cost is
       (λ whole told. h.over told) told first was
 
   quiet_charges : is_quiet (charges_of s c) ≡ true → Charges classes (ask.change c) s new a d

@@ -93,7 +93,8 @@ module _ {classes : ℕ} (old mid new : Kept) (a b d : disk.State) (jobs : List 
       arith,
       x.asked open_ledger c,
       ledger.asked c,
-      asked_more (limits_of old) (state_of old a.file) (state_of new d.file) jobs replies states r reply c chain,
+      asked_more (limits_of old) (state_of old a.file)
+          (state_of new d.file) jobs replies states r reply c chain,
       ap (λ (s : State). asked_by s r reply c) newest,
     );
     paid = λ cost is. x.paid open_ledger cost (potential classes cost old.in_use.block.k old.book.grid) is
@@ -103,7 +104,8 @@ module _ {classes : ℕ} (old mid new : Kept) (a b d : disk.State) (jobs : List 
       x.calls open_ledger,
       ledger.calls,
       calls_add mid.moved new.moved (x.later open_ledger),
-      calls_more (limits_of old) (state_of old a.file) (state_of new d.file) jobs replies states r reply chain,
+      calls_more (limits_of old) (state_of old a.file)
+          (state_of new d.file) jobs replies states r reply chain,
       ap (λ (s : State). calls_by s (state_of new d.file) r reply) newest,
     );
   }
@@ -146,7 +148,8 @@ tally_more replies reply head t h is =
 
 -- each job is counted once at most
 pub tally_few : (t : Tally) (head : text.Reply)
-    → (tally_with t head).ok + (tally_with t head).kept + (tally_with t head).refused ≤ t.ok + t.kept + t.refused + 1
+    → (tally_with t head).ok + (tally_with t head).kept + (tally_with t head).refused
+    ≤ t.ok + t.kept + t.refused + 1
 tally_few t said.Ok = omega arith
 tally_few t said.Kept = omega arith
 tally_few t (said.Data size) = omega arith

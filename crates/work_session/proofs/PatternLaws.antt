@@ -45,7 +45,12 @@ IsShortRequest ask.list = Unit {0}
 IsShortRequest ask.stat = Unit {0}
 
 short_job : (x : Job) → IsShortRequest (asked_by x) → IsShort x
-short_job (job.Put name size first) short = omega (arith, short, length-map_below (λ t. (first + t) % 256) size)
+short_job (job.Put name size first) short = omega (
+  arith,
+  short,
+  length-map_below (λ t.
+      (first + t) % 256) size,
+)
 short_job (job.Del name) short = tt
 short_job (job.Get name) short = tt
 short_job job.Keep short = tt
@@ -54,7 +59,11 @@ short_drawn : (names i x y z : ℕ) → IsShortRequest (job_drawn names i x y z)
 short_drawn names i x y z = by (nat_lt (y % 8) 5) (y % 8 == 5) (y % 8 == 6)
   where
     by : (a b c : Bool) → IsShortRequest (
-        if a then ask.change (record { name = name_drawn names x; object = Some (counting_bytes i (1 + z % 8192)) })
+        if a then ask.change (record {
+          name = name_drawn names x;
+          object = Some (counting_bytes i
+              (1 + z % 8192));
+        })
         else if b then ask.change (record { name = name_drawn names x; object = None })
         else if c then ask.get (name_drawn names x) else ask.keep)
     by true b c = omega (arith, length-map_below (λ t. (i + t) % 256) (1 + z % 8192))
@@ -76,10 +85,12 @@ short_from names i (suc n) words x rest is =
     short_job x (subst IsShortRequest (first_is (job_drawn names i x'.0 y'.0 z'.0) (asked_by x)
     (jobs_from names (i + 1) n z'.1) rest is) (short_drawn names i x'.0 y'.0 z'.0))
 
-pub short_next : (work : Work) (x : Job) (rest : List Request) → jobs_left work ≡ asked_by x ∷ rest → IsShort x
+pub short_next : (work : Work) (x : Job) (rest : List Request) → jobs_left work ≡ asked_by x ∷ rest
+    → IsShort x
 short_next work x rest is = by work.is_done is
   where
-    by : (b : Bool) → (if b then [] else jobs_from work.names work.next work.draws work.words) ≡ asked_by x ∷ rest
+    by : (b : Bool) → (if b then [] else jobs_from work.names work.next work.draws work.words)
+        ≡ asked_by x ∷ rest
         → IsShort x
     by true none = absurd (cc)
     by false some = short_from work.names work.next work.draws work.words x rest some
@@ -91,6 +102,7 @@ pub more_bytes : (bytes : List ℕ) (j : ℕ) → j < length bytes
     → slice_index (slice_set bytes j (j % 256)) i ≡ i % 256
 more_bytes bytes j within so_far i low = elim (cases_eq i j) [
   | inr other ↦ get_or-set_other bytes j i (j % 256) 0 other ∙ so_far i (omega (arith, low, other))
-  | inl same ↦ ap (slice_index (slice_set bytes j (j % 256))) same ∙ get_or-set_same bytes j (j % 256) 0 within
+  | inl same ↦ ap (slice_index (slice_set bytes j (j % 256))) same
+      ∙ get_or-set_same bytes j (j % 256) 0 within
       ∙ ap (λ (n : ℕ). n % 256) (sym same)
 ]

@@ -38,7 +38,8 @@ jobs_long number count names =
 
 module _ {classes : ℕ} (old new : Kept) (jobs : List Request) (a d : disk.State) (t : Tally) (x : Summary)
     (w : IsWorking classes old new jobs [] a d t) (tally : HasTally t (length jobs) x) (end : EndsAt new x)
-    (lines : LinesOf classes new.moved new.asked x) (zeros : (c : ℕ) → classes ≤ c → slice_index new.moved c ≡ 0)
+    (lines : LinesOf classes new.moved new.asked x) (zeros : (c : ℕ) → classes ≤ c
+    → slice_index new.moved c ≡ 0)
   where
     all_jobs : jobs ≡ w.jobs
     all_jobs = w.split ∙ append-nil w.jobs
@@ -79,10 +80,12 @@ module _ {classes : ℕ} (old new : Kept) (jobs : List Request) (a d : disk.Stat
               ∙ ap (λ (s : State). book_end k s.book) newest;
         }
 
-    paid_line : (cost : ℕ → ℕ) → IsCost classes cost → (line : Cost) → IsLine classes cost new.moved new.asked line
+    paid_line : (cost : ℕ → ℕ) → IsCost classes cost → (line : Cost)
+        → IsLine classes cost new.moved new.asked line
         → IsTrue a.tells → IsPaidLine classes cost k old.book.grid line
     paid_line cost is line h told =
-        subst (λ (n : ℕ). line.moved ≤ factor n * line.asked + potential classes cost k old.book.grid) same_divisor
+        subst (λ (n : ℕ). line.moved
+        ≤ factor n * line.asked + potential classes cost k old.book.grid) same_divisor
         (omega (
           arith,
           in_all classes cost (potential classes cost k old.book.grid) new ((w.ledger told).paid cost is),
@@ -102,7 +105,8 @@ module _ {classes : ℕ} (old new : Kept) (jobs : List Request) (a d : disk.Stat
       new = new;
       replies = w.replies;
       states = w.states;
-      ran = subst (λ (rs : List Request). HasWorked classes old new rs w.replies w.states a d) (sym all_jobs) w.ran;
+      ran = subst (λ (rs : List Request). HasWorked classes old new rs w.replies w.states a d)
+          (sym all_jobs) w.ran;
       requests = tally.all;
       few = omega (arith, w.few, tally.ok, tally.kept, tally.refused, tally.all, ap length all_jobs);
       counts = counts;

@@ -90,17 +90,19 @@ module _ {classes : ℕ} (old mid : Kept) (a b : disk.State) (jobs : List Reques
     step_image told image is = record {
       opens = elim is.opens as (λ _. _) [
         | inl kept ↦ inl kept
-        | inr now ↦ elim (makes (limits_of mid) s r) as (λ _. OpensToKept classes s image ⊎ OpensToKept classes t image) [
-          | inl one ↦ inr (opens_with image (new_kept told ∙ one.kept) (new_book told ∙ one.book) now.1)
-          | inr none ↦ absurd (omega (arith, now.0, none.least))
-        ]
+        | inr now ↦ elim (makes (limits_of mid) s r) as
+            (λ _. OpensToKept classes s image ⊎ OpensToKept classes t image) [
+              | inl one ↦ inr (opens_with image (new_kept told ∙ one.kept) (new_book told ∙ one.book) now.1)
+              | inr none ↦ absurd (omega (arith, now.0, none.least))
+            ]
       ];
       loose = subst (λ (m : Map). Loose k (length image - base) s.map m) (sym (new_map told))
           (subst (λ (u : SuperBlock). Loose u.k (length image - head_len u.names) s.map
           (served_at mid b.file r).state.map) ran.block is.loose);
     }
 
-    pub worked_more : HasWorked classes old new (jobs ++ r ∷ []) (replies ++ reply ∷ []) (states ++ t ∷ []) a d
+    pub worked_more : HasWorked classes old new (jobs ++ r ∷ []) (replies ++ reply ∷ [])
+        (states ++ t ∷ []) a d
     worked_more = record {
       chain = λ told. chain_more (limits_of old) start t jobs replies states r reply (ran.chain told)
           (subst (λ (y : State). Step (limits_of old) y r reply t) (ran.newest told) (step told));

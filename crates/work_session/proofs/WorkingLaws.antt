@@ -38,7 +38,8 @@ module _ {classes : ℕ} (old mid new : Kept) (all left : List Request) (r : Req
   told_b : IsTrue a.tells → IsTrue b.tells
   told_b told = subst IsTrue (sym x.ran.frame.stays.told) told
 
-  module _ (head : text.Reply) (does : Does classes r mid new b d (Ok head)) (few : length all ≤ 1000001) where
+  module _ (head : text.Reply) (does : Does classes r mid new b d (Ok head)) (few : length all
+      ≤ 1000001) where
     pub working_more : IsWorking classes old new all left a d (tally_with t head)
     working_more = record {
       jobs = x.jobs ++ r ∷ [];
@@ -53,7 +54,8 @@ module _ {classes : ℕ} (old mid new : Kept) (all left : List Request) (r : Req
       read_few = omega (arith, tally_read t head, x.read_few, does.small, length-append x.jobs (r ∷ []));
       ledger = λ told.
           let so_far = x.ledger told in
-          ledger_more old mid new a b d x.jobs x.replies x.states so_far (x.ran.chain told) (x.ran.newest told) r
+          ledger_more old mid new a b d x.jobs x.replies x.states so_far (x.ran.chain told)
+          (x.ran.newest told) r
           (does.charges (told_b told) (full_row old mid a b x.jobs x.replies x.states so_far))
           (omega (arith, few_jobs, few));
     }

@@ -66,9 +66,9 @@ asked_in s (r ∷ requests) (reply ∷ replies) [] d = 0
 
 -- ---- calls
 
--- A request makes at most so many changing calls beside those that move bytes, from one state to the next: one
--- for the bytes of a put that makes no checkpoint; for each checkpoint those of its save, and 4 more where a
--- change makes it.
+-- A request makes at most so many changing calls beside those that move bytes, from one state to the next:
+-- one for the bytes of a put that makes no checkpoint; for each checkpoint those of its save, and 4 more
+-- where a change makes it.
 abbrev pub calls_by : State → State → Request → Reply → ℕ
 calls_by s t (ask.change c) ask.done = quiet_calls c
 calls_by s t (ask.change c) ask.kept = 4 + (t.sequence - s.sequence) * save_calls (fin.len t.map)

@@ -26,7 +26,8 @@ use Rattle.work_session.specs.Works.{HasWorked}
 
 -- ---- objects
 
--- bytes that count up from 0, each modulo 256: as many as an object of 8,192 may reach to from one of the first 256
+-- bytes that count up from 0, each modulo 256: as many as an object of 8,192 bytes reaches that begins at one
+-- of the first 256
 pub record IsPattern (bytes : List ℕ) : Type 0 where
   pub long : length bytes ≡ 8447
   pub each : (j : ℕ) → j < 8447 → slice_index bytes j ≡ j % 256

@@ -44,8 +44,8 @@ pub record HasWorked (classes : ℕ) (old new : Kept) (jobs : List Request) (rep
   pub later : before.faults ≤ now.faults
   pub frame : KeepsDisk before now
 
--- An image that is left while a job is done in a state: it opens to the last checkpoint or, where the job makes
--- one, to what stands after it; and its data part is within bounds for the maps before and after.
+-- An image that is left while a job is done in a state: it opens to the last checkpoint or, where the job
+-- makes one, to what stands after it; and its data part is within bounds for the maps before and after.
 pub record IsJobImage (classes base : ℕ) (limits : Limits) (s : State) (r : Request) (image : List ℕ) : Type 0
   where
     pub opens : OpensToKept classes s image ⊎ ((0 < (served limits s r).saves.least)
@@ -93,11 +93,12 @@ pub record ArePaidLines (classes k : ℕ) (grid : List (List ℕ)) (x : Summary)
   pub by_seek : IsPaidLine classes seek k grid x.seek
 
 -- All jobs were done, and were summed up with the bytes that the store's ledger has. On a disk that tells its
--- content the counts are those of the replies, and the bytes asked for those of the changes that were done. The
--- content opens to the last checkpoint, and so does what a crash leaves. Each byte moved weighs the same by the
--- first cost. The changing calls are at most those of the jobs, and of the bytes that were moved: one for each
--- least size of an object of its class, and one for each 65,536 bytes.
-pub record HasDone (classes : ℕ) (old : Kept) (jobs : List Request) (before now : disk.State) (x : Summary) : Type 0
+-- content the counts are those of the replies, and the bytes asked for those of the changes that were done.
+-- The content opens to the last checkpoint, and so does what a crash leaves. Each byte moved weighs the same
+-- by the first cost. The changing calls are at most those of the jobs, and of the bytes that were moved: one
+-- for each least size of an object of its class, and one for each 65,536 bytes.
+pub record HasDone (classes : ℕ) (old : Kept) (jobs : List Request) (before now : disk.State)
+    (x : Summary) : Type 0
   where
     pub new : Kept
     pub replies : List Reply
@@ -121,9 +122,10 @@ pub record HasDone (classes : ℕ) (old : Kept) (jobs : List Request) (before no
     pub all : IsTrue before.tells → RestsOnTable (base_of old) old.kept before → (image : List ℕ)
         → now.may_leave image → OpensToKept classes (last_state (state_of old before.file) states) image
 
--- The disk failed in a job, and those before it were done. What a crash may leave was left in a step of those, or
--- in the job that failed.
-pub record HasStopped (classes : ℕ) (old : Kept) (jobs : List Request) (before now : disk.State) : Type 0 where
+-- The disk failed in a job, and those before it were done. What a crash may leave was left in a step of
+-- those, or in the job that failed.
+pub record HasStopped (classes : ℕ) (old : Kept) (jobs : List Request)
+    (before now : disk.State) : Type 0 where
   pub done : List Request
   pub next : Request
   pub others : List Request

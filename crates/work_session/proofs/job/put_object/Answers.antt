@@ -11,7 +11,8 @@ use Rattle.work_session.proofs.job.put_object.Goals as goal
 
 pub returns : goal.returns
 returns g c = subst (λ (x : Result Reply End). Does g.row.C (ask.change
-    (put_of c.args.name.now c.args.object.now)) c.args.store.now c.put-answer.new.self (g.D.Disk.state c.args.disk.now)
+    (put_of c.args.name.now c.args.object.now)) c.args.store.now c.put-answer.new.self
+    (g.D.Disk.state c.args.disk.now)
     (g.D.Disk.state c.put-answer.new.disk) x)
     (sym c.answer_change.ensures)
     (change_does c.args.store.now c.put-answer.new.self (put_of c.args.name.now c.args.object.now)

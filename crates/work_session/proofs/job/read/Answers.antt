@@ -14,7 +14,8 @@ pub returns-in-Ok : goal.returns-in-Ok
 returns-in-Ok g c = subst (λ (x : Kept). Does g.row.C (ask.get c.args.name.now) c.args.store.now x
     (g.D.Disk.state c.args.disk.now) (g.D.Disk.state c.get.new.disk) (Ok (head.Data c.in-Ok.size)))
     (sym c.in-Ok.ensures.store)
-    (get_gives c.args.store.now (g.D.Disk.state c.args.disk.now) (g.D.Disk.state c.get.new.disk) c.args.name.now
+    (get_gives c.args.store.now (g.D.Disk.state c.args.disk.now)
+    (g.D.Disk.state c.get.new.disk) c.args.name.now
     (record {
       whole = c.requires.whole;
       sound = c.requires.sound;
@@ -31,7 +32,8 @@ returns-in-Err g c = subst (λ (x : Kept). Does g.row.C (ask.get c.args.name.now
     (subst (λ (x : Result Reply End). Does g.row.C (ask.get c.args.name.now) c.args.store.now c.args.store.now
     (g.D.Disk.state c.args.disk.now) (g.D.Disk.state c.get.new.disk) x)
     (sym c.answer_of.ensures)
-    (get_stops c.args.store.now (g.D.Disk.state c.args.disk.now) (g.D.Disk.state c.get.new.disk) c.args.name.now
+    (get_stops c.args.store.now (g.D.Disk.state c.args.disk.now)
+    (g.D.Disk.state c.get.new.disk) c.args.name.now
     (record {
       whole = c.requires.whole;
       sound = c.requires.sound;
