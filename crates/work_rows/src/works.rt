@@ -5,7 +5,6 @@ use disk_mem::PlainDisk;
 use size_class::CLASSES;
 use slot_pair::SlotPair;
 use std::alloc::Global;
-use std::process::Abort;
 use std::test::Fail;
 use store_core::Store;
 use work_session::{Cost, Summary, do_work};

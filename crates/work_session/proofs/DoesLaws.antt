@@ -1,8 +1,7 @@
 -- What a job does and is answered: a change, a keep, or a get.
-use Rattle.std.specs.Prelude.{◌≡◌, ◌⊎◌, ℕ, ◌+◌, ◌<◌, ◌≤◌, Bool, true, false, ◌||◌, if◌then◌else◌, List, length, slice_index, Option, Some, None, Result, Ok, Err, IfOk, IfSome, IsNone, IsSome, IsTrue, OnOk, refl}
+use Rattle.std.specs.Prelude.{◌≡◌, ℕ, ◌≤◌, true, false, ◌||◌, List, length, Option, Some, None, Result, Ok, Err, IfSome, IsNone, IsSome, IsTrue, OnOk, refl}
 use Rattle.std.proofs.Common.{arith, ap, sym, ◌∙◌, subst, inl, inr}
 use Rattle.std.specs.FinMap as fin
-use Rattle.disk_face.specs.Counts.{Rose}
 use Rattle.disk_face.specs.States as disk
 use Rattle.disk_face.specs.Frames.{Unchanged}
 use Rattle.size_class.specs.Classes.{width}
@@ -28,7 +27,6 @@ use Rattle.store_core.proofs.StepLaws.{always}
 use Rattle.store_core.proofs.StoreLaws.{small_if_there}
 use Rattle.segment_layout.specs.Books.{is_quiet}
 use Rattle.store_costs.specs.Calls.{IsChange, IsKeep}
-use Rattle.store_costs.specs.Paid.{MovesNothing}
 use Rattle.store_costs.proofs.ChangeLaws.{same_moves_nothing}
 use Rattle.store_costs.proofs.OtherLaws.{keep_moves_nothing}
 use Rattle.ask_text.specs.Replies.{head_of, told_for}
@@ -43,7 +41,7 @@ use Rattle.ask_session.proofs.ReplyLaws.{get_long, get_served, number_served, re
 use Rattle.ask_session.proofs.ServingLaws.{IsSound, refused_stays, serves_same}
 use Rattle.work_session.specs.Counts.{asked_by, calls_by}
 use Rattle.work_session.specs.Jobs.{Charges, Does, most_read}
-use Rattle.work_session.proofs.DoneLaws.{IsShortChange, change_charges, nothing_charged, refused_asks, small_change, small_refused, sound_if}
+use Rattle.work_session.proofs.DoneLaws.{IsShortChange, change_charges, nothing_charged, refused_asks, small_change, sound_if}
 
 -- ---- refused
 

@@ -1,56 +1,50 @@
 -- What a job does, by what the calls of the store do.
-use Rattle.std.specs.Prelude.{◌≡◌, ◌⊎◌, ℕ, zero, suc, ◌+◌, ◌-◌, ◌*◌, ◌^◌, ◌<◌, ◌≤◌, nat_lt, Bool, true, false, not, ◌&&◌, ◌||◌, if◌then◌else◌, List, [], ◌∷◌, ◌++◌, cond, is_some, length, map, slice_index, sum_by, Option, Some, None, option_map, Result, Ok, Err, IfErr, IfOk, IfSome, IsNone, IsSome, IsTrue, OnOk, refl}
+use Rattle.std.specs.Prelude.{◌≡◌, ℕ, zero, suc, ◌+◌, ◌-◌, ◌*◌, ◌≤◌, nat_lt, Bool, true, false, not, ◌&&◌, ◌||◌, if◌then◌else◌, List, [], ◌∷◌, ◌++◌, cond, is_some, length, slice_index, sum_by, Option, Some, None, option_map, Result, Ok, Err, IfOk, IfSome, IsNone, IsTrue, OnOk, refl}
 use Rattle.std.proofs.Common.{arith, ap, sym, ◌∙◌, subst, inl, inr}
 use Rattle.std.proofs.Math.Nat.{mul-le-mul_right}
 use Rattle.std.proofs.lemmas.Bool.{cases_Bool, cond-false, lt-ltb}
 use Rattle.std.proofs.lemmas.List.{length-map}
 use Rattle.std.proofs.lemmas.List.Sums.{sum_by-append, sum_by-cons}
 use Rattle.std.specs.FinMap as fin
-use Rattle.disk_face.specs.Counts.{counted, last}
 use Rattle.disk_face.specs.States as disk
-use Rattle.disk_face.specs.Writes.{KeepsDisk}
 use Rattle.size_class.specs.Classes.{width}
 use Rattle.size_class.specs.declared.TheConstants.{SIZE_MAX}
 use Rattle.slot_pair.specs.Saves.{save_calls}
-use Rattle.store_terms.specs.Maps.{Map, volume}
+use Rattle.store_terms.specs.Maps.{Map}
 use Rattle.store_terms.specs.Requests as ask
 use Rattle.store_terms.specs.Requests.{Change, Reply, Request, changed}
 use Rattle.store_terms.specs.Weights.{same_name}
 use Rattle.store_terms.proofs.MapLaws.{name_order}
-use Rattle.segment_layout.specs.Books.{is_quiet, new_item, next_book, some_size, volumes}
+use Rattle.segment_layout.specs.Books.{is_quiet, new_item, some_size}
 use Rattle.extent_table.specs.declared.spot.Spot.{Spot}
-use Rattle.extent_table.specs.Extents.{Spots, volume_of}
+use Rattle.extent_table.specs.Extents.{Spots}
 use Rattle.spot_terms.proofs.EntryLaws.{get-remove_here, insert-remove}
 use Rattle.spot_terms.specs.Reads.{EndWithin}
-use Rattle.flush_run.specs.Calls.{move_calls, risen}
 use Rattle.flush_run.specs.Parts.{size_in}
 use Rattle.flush_start.specs.Sized.{IsSizedBy}
 use Rattle.flush_start.proofs.SizedLaws.{sized_entries, sized_gone, sized_volume}
 use Rattle.move_cost.specs.Costs.{IsCost}
-use Rattle.cost_laws.specs.Asked.{asked_row}
-use Rattle.cost_laws.specs.Moves.{MovesNext}
-use Rattle.cost_laws.specs.Paid.{AsksNext}
 use Rattle.store_core.specs.declared.answers.Refusal.{Refusal}
 use Rattle.store_core.specs.declared.answers.Refusal.TheVariants as why
 use Rattle.store_core.specs.declared.answers.Done.{Done}
-use Rattle.store_core.specs.Answers.{AnswersChange, done_reply, refused_by, size_at}
-use Rattle.store_core.specs.Changes.{ChangesQuietly, IsQuietChange}
+use Rattle.store_core.specs.Answers.{AnswersChange, done_reply, refused_by}
+use Rattle.store_core.specs.Changes.{ChangesQuietly}
 use Rattle.store_core.specs.Connection.{IsOver, Kept, base_of, limits_of, state_of}
 use Rattle.store_core.specs.Flushes.{ChangesByFlush, IsFlush, names_after, size_after}
 use Rattle.store_core.specs.Keeps.{now_map}
-use Rattle.store_core.specs.Quiet.{asked_after, charges_of, del_of, put_of, quiet_calls, sizes_at}
-use Rattle.store_core.specs.States.{State, Step, served}
+use Rattle.store_core.specs.Quiet.{asked_after, charges_of, del_of, put_of, sizes_at}
+use Rattle.store_core.specs.States.{State, Step}
 use Rattle.store_core.specs.Stores.{IsStore}
 use Rattle.store_core.proofs.StoreLaws.{few_bytes, now_lies, small_if_there}
 use Rattle.store_costs.specs.Calls.{IsChange}
 use Rattle.store_costs.specs.Paid.{HasOpenLedger, HasPaid, MovesNothing}
 use Rattle.store_costs.proofs.ChangeLaws.{change_has_paid, nothing_has_paid}
-use Rattle.store_costs.proofs.MadeLaws.{IsNext, flush_next, quiet_next}
+use Rattle.store_costs.proofs.MadeLaws.{flush_next, quiet_next}
 use Rattle.store_costs.proofs.WeighedLaws.{sized_now}
 use Rattle.ask_text.specs.declared.reply.Reply as text
 use Rattle.ask_session.specs.declared.ends.End.{End}
 use Rattle.ask_session.specs.Heads.{answer_change, answer_of, done_head}
-use Rattle.ask_session.specs.Serving.{is_changing, is_disk_fault, reply_at, served_at}
+use Rattle.ask_session.specs.Serving.{is_changing, is_disk_fault, reply_at}
 use Rattle.ask_session.proofs.RunLaws.{and_none}
 use Rattle.ask_session.proofs.ServingLaws.{IsSound}
 use Rattle.work_session.specs.Counts.{asked_by, calls_by}

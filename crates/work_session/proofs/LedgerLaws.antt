@@ -1,5 +1,5 @@
 -- The ledger, the counts and the calls after one more job.
-use Rattle.std.specs.Prelude.{◌≡◌, ℕ, ◌+◌, ◌*◌, ◌^◌, ◌<◌, ◌≤◌, List, [], ◌∷◌, ◌++◌, length, slice_index, sum_by, IsTrue, refl}
+use Rattle.std.specs.Prelude.{◌≡◌, ℕ, ◌+◌, ◌≤◌, List, [], ◌∷◌, ◌++◌, length, slice_index, refl}
 use Rattle.std.proofs.Common.{arith, ap, sym, ◌∙◌, subst, length-append}
 use Rattle.std.proofs.lemmas.List.Sums.{sum_by_push}
 use Rattle.byte_ranges.proofs.ListLaws.{zeros_at}
@@ -7,13 +7,12 @@ use Rattle.disk_face.specs.States as disk
 use Rattle.size_class.specs.Classes.{width, zero_row}
 use Rattle.store_terms.specs.Requests as ask
 use Rattle.store_terms.specs.Requests.{Reply, Request}
-use Rattle.flush_run.specs.Calls.{move_calls, risen}
-use Rattle.move_cost.specs.Costs.{IsCost, linear, potential}
+use Rattle.move_cost.specs.Costs.{linear, potential}
 use Rattle.move_cost.specs.Lawful.{linear_is}
 use Rattle.store_core.specs.Connection.{Kept, limits_of, state_of}
 use Rattle.store_core.specs.Opened.{IsFresh}
 use Rattle.store_core.specs.States.{Chain, Limits, State}
-use Rattle.store_costs.specs.Paid.{HasOpenLedger, HasPaid}
+use Rattle.store_costs.specs.Paid.{HasOpenLedger}
 use Rattle.store_costs.proofs.SessionLaws.{opened_has_paid}
 use Rattle.ask_text.specs.Replies.{head_of}
 use Rattle.ask_text.specs.declared.reply.Reply as text
@@ -21,7 +20,7 @@ use Rattle.ask_text.specs.declared.reply.Reply.TheVariants as said
 use Rattle.ask_session.specs.Serving.{reply_at}
 use Rattle.ask_session.specs.Runs.{last_state}
 use Rattle.work_session.specs.Counts.{asked_by, asked_in, calls_by, calls_in, kept_of, ok_of, read_of, refused_of}
-use Rattle.work_session.specs.Jobs.{Charges, HasLedger, TallyOf, most_read, most_rise, read_head, tally_with}
+use Rattle.work_session.specs.Jobs.{Charges, HasLedger, TallyOf, read_head, tally_with}
 use Rattle.work_session.specs.declared.tally.Tally.{Tally}
 use Rattle.work_session.proofs.CallLaws.{calls_add}
 

@@ -1,9 +1,8 @@
 -- All jobs of a work, and its summary.
-use Rattle.std.specs.Prelude.{◌≡◌, ℕ, ◌+◌, ◌-◌, ◌*◌, ◌/◌, ◌^◌, ◌<◌, ◌≤◌, List, [], ◌++◌, length, slice_index, sum_by, IsTrue, refl}
+use Rattle.std.specs.Prelude.{◌≡◌, ℕ, ◌+◌, ◌-◌, ◌*◌, ◌/◌, ◌^◌, ◌≤◌, List, [], length, slice_index, IsTrue}
 use Rattle.std.proofs.Common.{arith, ap, sym, ◌∙◌, subst, append-nil}
 use Rattle.std.specs.FinMap as fin
 use Rattle.disk_face.specs.States as disk
-use Rattle.size_class.specs.Classes.{width}
 use Rattle.slot_codec.specs.declared.codec.SuperBlock.{SuperBlock}
 use Rattle.store_terms.specs.Maps.{volume}
 use Rattle.store_terms.specs.Requests.{Request}
@@ -11,7 +10,7 @@ use Rattle.segment_layout.specs.Books.{book_end}
 use Rattle.flush_start.proofs.SizedLaws.{sized_volume}
 use Rattle.move_cost.specs.Costs.{IsCost, factor, flat, linear, potential, seek}
 use Rattle.move_cost.specs.Lawful.{flat_is, linear_is, seek_is}
-use Rattle.store_core.specs.Connection.{IsOver, Kept, RestsOnTable, base_of, kept_map, limits_of, state_of}
+use Rattle.store_core.specs.Connection.{IsOver, Kept, base_of, state_of}
 use Rattle.store_core.specs.States.{State}
 use Rattle.store_core.proofs.OverLaws.{kept_image}
 use Rattle.store_core.proofs.StateLaws.{len-read_at}

@@ -1,9 +1,7 @@
 -- One more job of a work.
-use Rattle.std.specs.Prelude.{◌≡◌, ◌⊎◌, ℕ, ◌+◌, ◌-◌, ◌<◌, ◌≤◌, true, false, List, [], ◌∷◌, ◌++◌, length, Result, Ok, Err, IsTrue, OnOk, refl}
+use Rattle.std.specs.Prelude.{◌≡◌, ◌⊎◌, ℕ, ◌-◌, ◌≤◌, true, false, List, [], ◌∷◌, ◌++◌, length, Result, Ok, IsTrue, refl}
 use Rattle.std.proofs.Common.{arith, ap, sym, ◌∙◌, subst, inl, inr}
-use Rattle.disk_face.specs.Counts.{Rose}
 use Rattle.disk_face.specs.States as disk
-use Rattle.disk_face.specs.Moments.{Leaves}
 use Rattle.disk_face.proofs.FrameLaws.{Stays-trans}
 use Rattle.disk_face.proofs.MomentLaws.{Leaves-none, Leaves-trans, Leaves-weaken}
 use Rattle.size_class.specs.declared.TheConstants.{SIZE_MAX}
@@ -12,14 +10,13 @@ use Rattle.slot_codec.specs.Spelling.{head_len}
 use Rattle.store_terms.specs.Maps.{Map}
 use Rattle.store_terms.specs.Requests.{Reply, Request}
 use Rattle.segment_layout.specs.Bounds.{Loose}
-use Rattle.table_rules.specs.Opening.{Opens}
-use Rattle.store_core.specs.Connection.{IsConnected, Kept, RestsOnTable, base_of, limits_of, state_of}
-use Rattle.store_core.specs.States.{Chain, Limits, State, Step}
+use Rattle.store_core.specs.Connection.{IsConnected, Kept, base_of, limits_of, state_of}
+use Rattle.store_core.specs.States.{Limits, State, Step}
 use Rattle.store_core.specs.Stores.{IsStore}
 use Rattle.ask_session.specs.declared.ends.End.{End}
 use Rattle.ask_session.specs.Serving.{HasDiskCause, IsServingImage, Serves, is_changing, is_disk_fault, reply_at, served_at}
 use Rattle.ask_session.specs.Runs.{IsRunImage, IsStepImage, OpensToKept, last_state}
-use Rattle.ask_session.proofs.RunLaws.{MakesNone, MakesOne, and_none, chain_more, last_more, makes, opens_with, some_last, some_more}
+use Rattle.ask_session.proofs.RunLaws.{and_none, chain_more, last_more, makes, opens_with, some_last, some_more}
 use Rattle.work_session.specs.Works.{HasStopped, HasWorked, IsJobImage}
 
 -- no job was done yet

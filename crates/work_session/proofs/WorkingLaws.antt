@@ -1,15 +1,14 @@
 -- Jobs that were done and counted, one after another.
-use Rattle.std.specs.Prelude.{◌≡◌, ℕ, ◌+◌, ◌*◌, ◌≤◌, true, false, List, [], ◌∷◌, ◌++◌, length, Result, Ok, Err, IsTrue, refl}
+use Rattle.std.specs.Prelude.{◌≡◌, ℕ, ◌+◌, ◌≤◌, List, [], ◌∷◌, ◌++◌, length, Ok, Err, IsTrue, refl}
 use Rattle.std.proofs.Common.{arith, ap, sym, ◌∙◌, subst, append_assoc, length-append}
 use Rattle.disk_face.specs.States as disk
-use Rattle.store_terms.specs.Requests.{Reply, Request}
+use Rattle.store_terms.specs.Requests.{Request}
 use Rattle.store_core.specs.Connection.{IsConnected, Kept, state_of}
 use Rattle.store_core.specs.Opened.{IsFresh}
 use Rattle.ask_text.specs.declared.reply.Reply as text
 use Rattle.ask_session.specs.declared.ends.End.{End}
-use Rattle.ask_session.specs.declared.ends.End.TheVariants as ends
-use Rattle.ask_session.specs.Serving.{is_disk, is_disk_fault, reply_at}
-use Rattle.work_session.specs.Jobs.{Does, IsWorking, most_read, no_tally, tally_with}
+use Rattle.ask_session.specs.Serving.{is_disk, reply_at}
+use Rattle.work_session.specs.Jobs.{Does, IsWorking, no_tally, tally_with}
 use Rattle.work_session.specs.Works.{HasStopped}
 use Rattle.work_session.specs.declared.tally.Tally.{Tally}
 use Rattle.work_session.proofs.LedgerLaws.{full_row, ledger_more, ledger_none, tally_few, tally_more, tally_read}

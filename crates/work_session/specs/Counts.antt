@@ -1,5 +1,5 @@
 -- What is counted of jobs: their replies, the bytes that they ask for, and the calls that they may make.
-use Rattle.std.specs.Prelude.{ℕ, ◌+◌, ◌-◌, ◌*◌, List, [], ◌∷◌, length, sum_by, slice_index}
+use Rattle.std.specs.Prelude.{ℕ, ◌+◌, ◌-◌, ◌*◌, List, [], ◌∷◌, length, slice_index}
 use Rattle.std.specs.FinMap as fin
 use Rattle.slot_pair.specs.Saves.{save_calls}
 use Rattle.store_terms.specs.Requests as ask

@@ -1,5 +1,5 @@
 -- What one job does, and what is known of a store between two jobs.
-use Rattle.std.specs.Prelude.{◌≡◌, ℕ, ◌+◌, ◌*◌, ◌^◌, ◌%◌, ◌<◌, ◌≤◌, List, [], ◌∷◌, ◌++◌, length, slice_index, sum_by, Result, IfErr, IfOk, IsTrue, OnOk}
+use Rattle.std.specs.Prelude.{◌≡◌, ℕ, ◌+◌, ◌*◌, ◌^◌, ◌%◌, ◌<◌, ◌≤◌, List, ◌++◌, length, slice_index, sum_by, Result, IfErr, IfOk, IsTrue, OnOk}
 use Rattle.disk_face.specs.States as disk
 use Rattle.size_class.specs.Classes.{width}
 use Rattle.size_class.specs.declared.TheConstants.{SIZE_MAX}
@@ -7,7 +7,7 @@ use Rattle.store_terms.specs.Requests as ask
 use Rattle.store_terms.specs.Requests.{Request}
 use Rattle.flush_run.specs.Calls.{move_calls, risen}
 use Rattle.move_cost.specs.Costs.{IsCost, potential}
-use Rattle.store_core.specs.Connection.{Kept, limits_of, state_of}
+use Rattle.store_core.specs.Connection.{Kept, state_of}
 use Rattle.store_core.specs.States.{State}
 use Rattle.store_core.specs.Stores.{IsStore}
 use Rattle.store_costs.specs.Paid.{HasOpenLedger, HasPaid}

@@ -1,5 +1,5 @@
 -- The work of a store: jobs that are done one after another, and what is summed up of them.
-use Rattle.std.specs.Prelude.{◌≡◌, ◌⊎◌, ℕ, ◌+◌, ◌-◌, ◌*◌, ◌/◌, ◌^◌, ◌<◌, ◌≤◌, false, List, [], ◌∷◌, ◌++◌, length, slice_index, sum_by, IsTrue}
+use Rattle.std.specs.Prelude.{◌≡◌, ◌⊎◌, ℕ, ◌+◌, ◌-◌, ◌*◌, ◌/◌, ◌^◌, ◌<◌, ◌≤◌, false, List, ◌∷◌, ◌++◌, length, slice_index, sum_by, IsTrue}
 use Rattle.std.specs.FinMap as fin
 use Rattle.byte_ranges.specs.Lists.{sum_below}
 use Rattle.disk_face.specs.Counts.{Rose}
@@ -13,7 +13,7 @@ use Rattle.segment_layout.specs.Books.{book_end}
 use Rattle.extent_table.specs.Extents.{volume_of}
 use Rattle.segment_layout.specs.Bounds.{Loose}
 use Rattle.table_rules.specs.Opening.{Opens}
-use Rattle.move_cost.specs.Costs.{IsCost, factor, flat, linear, potential, seek, weigh}
+use Rattle.move_cost.specs.Costs.{factor, flat, linear, potential, seek, weigh}
 use Rattle.store_core.specs.Connection.{IsConnected, Kept, RestsOnTable, base_of, limits_of, state_of}
 use Rattle.store_core.specs.States.{Chain, Limits, State, served}
 use Rattle.store_core.specs.Stores.{IsStore}

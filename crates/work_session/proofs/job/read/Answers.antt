@@ -5,7 +5,6 @@ use Rattle.store_core.specs.Connection.{Kept}
 use Rattle.ask_text.specs.declared.reply.Reply.{Reply}
 use Rattle.ask_text.specs.declared.reply.Reply.TheVariants as head
 use Rattle.ask_session.specs.declared.ends.End.{End}
-use Rattle.ask_session.proofs.ServingLaws.{IsSound}
 use Rattle.work_session.specs.Jobs.{Does}
 use Rattle.work_session.proofs.DoesLaws.{get_gives, get_stops}
 use Rattle.work_session.proofs.job.read.Goals as goal

@@ -1,4 +1,4 @@
-use Rattle.std.proofs.Common.{arith, ◌≤◌, ◌+◌, ap, sym, subst, length}
+use Rattle.std.proofs.Common.{arith, sym, subst}
 use Rattle.work_maker.specs.Making.{asked_by, jobs_left}
 use Rattle.work_session.specs.Jobs.{IsWorking}
 use Rattle.work_session.specs.declared.tally.Tally.{Tally}
