@@ -45,7 +45,6 @@ stopped answer old new why same no_sink stops = record {
     ends_of (stop.NotStore f) not_sink is = (is, refl)
     ends_of (stop.Taken n) not_sink is = (is, refl)
     ends_of stop.Missing not_sink is = (is, refl)
-    ends_of stop.NotBuilt not_sink is = (is, refl)
     ends_of (stop.Line n) not_sink is = (is, refl)
     ends_of stop.Source not_sink is = (is, refl)
     ends_of stop.Budget not_sink is = (is, refl)
@@ -76,7 +75,6 @@ stops_more answer other more stop.Words is = more (Err stop.Words) is
 stops_more answer other more (stop.NotStore f) is = more (Err (stop.NotStore f)) is
 stops_more answer other more (stop.Taken n) is = more (Err (stop.Taken n)) is
 stops_more answer other more stop.Missing is = more (Err stop.Missing) is
-stops_more answer other more stop.NotBuilt is = more (Err stop.NotBuilt) is
 stops_more answer other more (stop.Line n) is = more (Err (stop.Line n)) is
 stops_more answer other more stop.Source is = more (Err stop.Source) is
 stops_more answer other more stop.Budget is = more (Err stop.Budget) is
@@ -151,7 +149,7 @@ one_answer (get name object) file a b g h = one_object object file a b g h
 one_answer (check name) file a b g h = one_told check_text file a b g h
 one_answer (map_of name) file a b g h = one_told (λ t len. map_text t) file a b g h
 one_answer (run name) file a b g h = absurd (g)
-one_answer (work name number count) file a b g h = g ∙ sym h
+one_answer (work name number count) file a b g h = absurd (g)
 one_answer help file a b g h = g ∙ sym h
 one_answer version file a b g h = g ∙ sym h
 
@@ -194,7 +192,6 @@ status_by answer bytes is (Err (stop.NotStore f)) one by =
 status_by answer bytes is (Err (stop.Taken n)) one by =
     inl (ap status_at (sym (one (Err (stop.Taken n)) by.0)))
 status_by answer bytes is (Err stop.Missing) one by = inl (ap status_at (sym (one (Err stop.Missing) by.0)))
-status_by answer bytes is (Err stop.NotBuilt) one by = inl (ap status_at (sym (one (Err stop.NotBuilt) by.0)))
 status_by answer bytes is (Err (stop.Line n)) one by =
     inl (ap status_at (sym (one (Err (stop.Line n)) by.0)))
 status_by answer bytes is (Err stop.Source) one by = inl (ap status_at (sym (one (Err stop.Source) by.0)))

@@ -10,7 +10,7 @@ use Rattle.costore_top.specs.declared.stop.Stop.{Stop}
 use Rattle.costore_top.specs.declared.stop.Stop.TheVariants as stop
 use Rattle.costore_top.proofs.Statuses.{later_rose}
 
-calm_by : {P : Type 0} (end : Result (Unit {0}) Stop) → OnOk end P → status_at end ≡ 0 → P
+pub calm_by : {P : Type 0} (end : Result (Unit {0}) Stop) → OnOk end P → status_at end ≡ 0 → P
 calm_by (Ok x) calm is = calm
 calm_by (Err stop.Words) calm is = absurd (omega (arith, is))
 calm_by (Err stop.NoFile) calm is = absurd (omega (arith, is))
@@ -23,7 +23,6 @@ calm_by (Err stop.NoMemory) calm is = absurd (omega (arith, is))
 calm_by (Err (stop.Line n)) calm is = absurd (omega (arith, is))
 calm_by (Err stop.Source) calm is = absurd (omega (arith, is))
 calm_by (Err stop.Budget) calm is = absurd (omega (arith, is))
-calm_by (Err stop.NotBuilt) calm is = absurd (omega (arith, is))
 
 module _ (old z : State) (from rest : SourceState) (out mid after : SinkState) (end : Result (Unit {0}) Stop)
     (status : ℕ) (is : status ≡ status_at end) (keeps : KeepsRun old z from rest out mid (status_at end))

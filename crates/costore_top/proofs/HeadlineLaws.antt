@@ -57,7 +57,7 @@ pub data WhyUnopened : OpenFault → Type 0 where
   disk : WhyUnopened (opening.Slot slot.Disk)
   memory : WhyUnopened opening.NoMemory
 
-why_unopened : (t : choice.Table) (m : Map) (b : Book) (file : List ℕ) (why : OpenFault)
+pub why_unopened : (t : choice.Table) (m : Map) (b : Book) (file : List ℕ) (why : OpenFault)
     → OpensBy CLASSES SIZE_MAX t file m b → RefusesToOpen CLASSES file why → WhyUnopened why
 why_unopened t m b file (opening.Slot slot.Disk) o is = disk
 why_unopened t m b file opening.NoMemory o is = memory
@@ -73,7 +73,7 @@ never_true : IsTrue false → ⊥
 never_true is = let e : true ≡ false = sym is in absurd (cc)
 
 -- the sequence at the start may be the one found
-begins_itself : (k : Kind) (found : ℕ) → BeginsFrom k found found
+pub begins_itself : (k : Kind) (found : ℕ) → BeginsFrom k found found
 begins_itself kind.Settled found = refl
 begins_itself kind.Moving found = (omega arith, omega arith)
 

@@ -18,3 +18,7 @@ mod ClauseLaws
 mod WentLaws
 mod EndLaws
 mod OtherLaws
+mod WorkLaws
+mod DoingLemmas
+mod DidLaws
+mod WorkingLaws

@@ -204,3 +204,16 @@ pub some_weaker : (P Q : State → State → Type 0) (s : State) (states : List 
 some_weaker P Q s [] weaker some = absurd (some)
 some_weaker P Q s (t ∷ states) weaker (inl is) = inl (weaker s t is)
 some_weaker P Q s (t ∷ states) weaker (inr some) = inr (some_weaker P Q t states weaker some)
+
+-- the checkpoint of the last state is one of an answered request, or the first state's
+pub last_shown : (image : List ℕ) (limits : Limits) (s : State) (rs : List Request) (replies : List Reply)
+    (states : List State) → Chain limits s rs replies states → run.OpensToKept CLASSES (last_state s states) image
+    → Shows image s replies states
+last_shown image limits s [] [] [] chain kept = inl kept
+last_shown image limits s (r ∷ rs) (reply ∷ replies) (t ∷ states) chain kept =
+    shows_later limits s t r reply chain.0 image replies states
+    (last_shown image limits t rs replies states chain.1 kept)
+last_shown image limits s [] [] (t ∷ states) chain kept = absurd (chain)
+last_shown image limits s [] (reply ∷ replies) states chain kept = absurd (chain)
+last_shown image limits s (r ∷ rs) [] states chain kept = absurd (chain)
+last_shown image limits s (r ∷ rs) (reply ∷ replies) [] chain kept = absurd (chain)

@@ -6,8 +6,9 @@ use Rattle.std.proofs.Common.{arith, ap, sym, ◌∙◌, subst, inl, inr}
 use Rattle.disk_face.specs.Counts.{HasCause, Rose}
 use Rattle.std.proofs.lemmas.List.{take_all}
 use Rattle.disk_face.specs.Streams.{Puts, SinkState}
-use Rattle.costore_top.specs.Outcomes.{Ends, IsFront, PutsLast, PutsLine, line_at, status_at}
-use Rattle.costore_top.specs.Layers.{Answers}
+use Rattle.costore_top.specs.Faults.{line_of}
+use Rattle.costore_top.specs.Outcomes.{Ends, IsFront, PutsLast, PutsLine, line_at, status_at, status_of}
+use Rattle.costore_top.specs.Layers.{Answers, PutsNone}
 
 -- all bytes are a front of them
 pub Puts-front : {T E : Type 0} (before now bytes : List ℕ) (result : Result T E)
@@ -83,3 +84,25 @@ line_after_none old mid new end same disk told line = record {
       (subst (λ s. PutsLast s.given new.given (line_at end) (Rose s.faults new.faults)) same
       (line (subst (λ s. IsTrue s.tells) (sym same) told)));
 }
+
+-- where no device failed, a command that stopped has put its line alone
+pub line_unless : {O : Type 0} (sink_of : O → SinkState) (old mid : O) (new : SinkState)
+    (end : Result (Unit {0}) Stop) (status : ℕ) → status ≡ status_at end → PutsNone old mid end
+    → IsTrue (sink_of old).tells → (IsTrue (sink_of mid).tells
+    → PutsLast (sink_of mid).given new.given (line_at end) (Rose (sink_of mid).faults new.faults))
+    → (status ≡ 0) ⊎ (status ≡ 7) ⊎ (status ≡ 9) ⊎ PutsLine status (sink_of old) new
+line_unless sink_of old mid new (Ok x) status is none told line = inl is
+line_unless {O} sink_of old mid new (Err why) status is none told line = elim none
+    as (λ _. (status ≡ 0) ⊎ (status ≡ 7) ⊎ (status ≡ 9) ⊎ PutsLine status (sink_of old) new) [
+      | inl disk ↦ inr (inl (is ∙ ap status_of disk))
+      | inr rest ↦ elim rest as (λ _. (status ≡ 0) ⊎ (status ≡ 7) ⊎ (status ≡ 9) ⊎ PutsLine status (sink_of old) new) [
+        | inl sink ↦ inr (inr (inl (is ∙ ap status_of sink)))
+        | inr same ↦ inr (inr (inr (record {
+          why = why;
+          same_status = is;
+          line = subst (λ (x : O). PutsLast (sink_of x).given new.given (line_of why)
+              (Rose (sink_of x).faults new.faults)) same
+              (line (subst (λ (x : O). IsTrue (sink_of x).tells) (sym same) told));
+        })))
+      ]
+    ]

@@ -183,13 +183,13 @@ status_unopened (opening.Slot (slot.Codec f at)) = inl refl
 status_unopened (opening.Table broken) = inl refl
 status_unopened opening.NoMemory = inr (inr refl)
 
-not_status : (why : OpenFault) (n : ℕ) → n ≢ 4 → n ≢ 7 → n ≢ 10 → status_of (stop_of why) ≢ n
+pub not_status : (why : OpenFault) (n : ℕ) → n ≢ 4 → n ≢ 7 → n ≢ 10 → status_of (stop_of why) ≢ n
 not_status why n four seven ten is = elim (status_unopened why) as (λ _. ⊥) [
   | inl x ↦ four (sym is ∙ x)
   | inr rest ↦ elim rest as (λ _. ⊥) [ inl x ↦ seven (sym is ∙ x) | inr x ↦ ten (sym is ∙ x) ]
 ]
 
-disk_by : (why : OpenFault) → status_of (stop_of why) ≡ 7 → why ≡ opening.Slot slot.Disk
+pub disk_by : (why : OpenFault) → status_of (stop_of why) ≡ 7 → why ≡ opening.Slot slot.Disk
 disk_by (opening.Slot slot.Disk) is = refl
 disk_by (opening.Slot slot.Short) is = absurd (omega (arith, is))
 disk_by (opening.Slot slot.Unformatted) is = absurd (omega (arith, is))
@@ -198,6 +198,47 @@ disk_by (opening.Slot slot.SameSequence) is = absurd (omega (arith, is))
 disk_by (opening.Slot (slot.Codec f at)) is = absurd (omega (arith, is))
 disk_by (opening.Table broken) is = absurd (omega (arith, is))
 disk_by opening.NoMemory is = absurd (omega (arith, is))
+
+-- a file that was only mounted
+pub mount_untouched : (a b : State) → AfterMount a b → a.faults ≤ b.faults → Untouched a b
+mount_untouched a b mount later = record {
+  same_file = mount.same_file;
+  images = mount.images;
+  since = Leaves-call a.may_leave mount.time mount.images;
+  same_turn = mount.same_turn;
+  later = later;
+  told = mount.told;
+  images_told = mount.images_told;
+}
+
+-- a refusal that isn't the disk's changes nothing
+pub refused_unchanged : (a b : State) (why : OpenFault) → status_of (stop_of why) ≡ 4 → RefusesUnchanged a b why
+    → Unchanged a b
+refused_unchanged a b (opening.Slot slot.Disk) four is = absurd (omega (arith, four))
+refused_unchanged a b (opening.Slot slot.Short) four is = is
+refused_unchanged a b (opening.Slot slot.Unformatted) four is = is
+refused_unchanged a b (opening.Slot slot.NoGate) four is = is
+refused_unchanged a b (opening.Slot slot.SameSequence) four is = is
+refused_unchanged a b (opening.Slot (slot.Codec f at)) four is = is
+refused_unchanged a b (opening.Table broken) four is = is
+refused_unchanged a b opening.NoMemory four is = is
+
+-- a refusal ends a command as the first refusal of the file says
+pub refuses : (file : List ℕ) (why : OpenFault) → RefusesToOpen CLASSES file why
+    → EndsBy (IsRefused file) [] (Err (stop_of why))
+refuses file (opening.Slot slot.Disk) is = inr refl
+refuses file (opening.Slot slot.Short) is =
+    (record { fault = fault.Slot slot.Short; first = (choice.too_short, is, refl); same = refl }, refl)
+refuses file (opening.Slot slot.Unformatted) is =
+    (record { fault = fault.Slot slot.Unformatted; first = (choice.unformatted, is, refl); same = refl }, refl)
+refuses file (opening.Slot slot.NoGate) is =
+    (record { fault = fault.Slot slot.NoGate; first = (choice.no_gate, is, refl); same = refl }, refl)
+refuses file (opening.Slot slot.SameSequence) is =
+    (record { fault = fault.Slot slot.SameSequence; first = (choice.same_sequence, is, refl); same = refl }, refl)
+refuses file (opening.Slot (slot.Codec f at)) is =
+    (record { fault = fault.Slot (slot.Codec f at); first = (choice.codec f at, is, refl); same = refl }, refl)
+refuses file (opening.Table broken) is = (record { fault = fault.Table broken; first = is; same = refl }, refl)
+refuses file opening.NoMemory is = refl
 
 module _ {D I O : Type 0} (disk_of : D → State) (source_of : I → SourceState) (sink_of : O → SinkState)
     (file : List ℕ) (before now : D) (from rest : I) (out mid_out : O) (e : Ended) where
@@ -264,28 +305,6 @@ module _ {D I O : Type 0} (disk_of : D → State) (source_of : I → SourceState
 
   -- ---- a file that is refused
 
-  mount_untouched : (a b : State) → AfterMount a b → a.faults ≤ b.faults → Untouched a b
-  mount_untouched a b mount later = record {
-    same_file = mount.same_file;
-    images = mount.images;
-    since = Leaves-call a.may_leave mount.time mount.images;
-    same_turn = mount.same_turn;
-    later = later;
-    told = mount.told;
-    images_told = mount.images_told;
-  }
-
-  refused_unchanged : (a b : State) (why : OpenFault) → status_of (stop_of why) ≡ 4 → RefusesUnchanged a b why
-      → Unchanged a b
-  refused_unchanged a b (opening.Slot slot.Disk) four is = absurd (omega (arith, four))
-  refused_unchanged a b (opening.Slot slot.Short) four is = is
-  refused_unchanged a b (opening.Slot slot.Unformatted) four is = is
-  refused_unchanged a b (opening.Slot slot.NoGate) four is = is
-  refused_unchanged a b (opening.Slot slot.SameSequence) four is = is
-  refused_unchanged a b (opening.Slot (slot.Codec f at)) four is = is
-  refused_unchanged a b (opening.Table broken) four is = is
-  refused_unchanged a b opening.NoMemory four is = is
-
   -- it stays as it is
   pub untouched : WentFrom disk_of source_of sink_of (run file) before now from rest out mid_out e
       → (status_at e.end ≡ 3) ⊎ (status_at e.end ≡ 4) → Untouched old z
@@ -309,21 +328,6 @@ module _ {D I O : Type 0} (disk_of : D → State) (source_of : I → SourceState
           (sink_of out) (sink_of mid_out) w.end (disk_of y.mid).turn w.kept_turn) (sym y.ended)
           (session_keeps disk_of source_of sink_of y.mid now from rest out mid_out y.store y.new y.end y.ran) in
           absurd (elim status as (λ _. ⊥) [ inl n ↦ k.served (inl n) | inr n ↦ k.served (inr (inl n)) ])
-
-  refuses : (why : OpenFault) → RefusesToOpen CLASSES old.file why → EndsBy (IsRefused old.file) [] (Err (stop_of why))
-  refuses (opening.Slot slot.Disk) is = inr refl
-  refuses (opening.Slot slot.Short) is =
-      (record { fault = fault.Slot slot.Short; first = (choice.too_short, is, refl); same = refl }, refl)
-  refuses (opening.Slot slot.Unformatted) is =
-      (record { fault = fault.Slot slot.Unformatted; first = (choice.unformatted, is, refl); same = refl }, refl)
-  refuses (opening.Slot slot.NoGate) is =
-      (record { fault = fault.Slot slot.NoGate; first = (choice.no_gate, is, refl); same = refl }, refl)
-  refuses (opening.Slot slot.SameSequence) is =
-      (record { fault = fault.Slot slot.SameSequence; first = (choice.same_sequence, is, refl); same = refl }, refl)
-  refuses (opening.Slot (slot.Codec f at)) is =
-      (record { fault = fault.Slot (slot.Codec f at); first = (choice.codec f at, is, refl); same = refl }, refl)
-  refuses (opening.Table broken) is = (record { fault = fault.Table broken; first = is; same = refl }, refl)
-  refuses opening.NoMemory is = refl
 
   -- a file that isn't opened ends the command as its first refusal says
   pub refused_by : IsTrue old.tells → ((m : Map) (b : Book) → Opens CLASSES SIZE_MAX old.file m b → ⊥)
@@ -354,7 +358,7 @@ module _ {D I O : Type 0} (disk_of : D → State) (source_of : I → SourceState
           → EndsBy (IsRefused old.file) [] e.end × (mid_out ≡ out)
       by (inl (inl is, source, sink)) = (
         subst (λ (y : Ended). EndsBy (IsRefused old.file) [] y.end) (sym is.ended)
-            (refuses is.fault (subst (λ (f : List ℕ). RefusesToOpen CLASSES f is.fault) same_file
+            (refuses old.file is.fault (subst (λ (f : List ℕ). RefusesToOpen CLASSES f is.fault) same_file
             (is.opening.refused told_first))),
         sink,
       )

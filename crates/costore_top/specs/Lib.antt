@@ -1,6 +1,7 @@
 pub mod Words
 pub mod Getting
 pub mod Texts
+pub mod Summaries
 pub mod Worked
 pub mod Faults
 pub mod Outcomes
@@ -8,3 +9,5 @@ pub mod Layers
 pub mod Commands
 pub mod Headline
 pub mod Sessions
+pub mod Working
+pub mod Doing

@@ -4,7 +4,7 @@ use Rattle.disk_face.specs.Counts.{Rose}
 use Rattle.disk_face.specs.Mounts.{Mount}
 use Rattle.disk_face.specs.Streams.{SinkState}
 use Rattle.disk_face.specs.declared.bay.Mounted.{Mounted}
-use Rattle.costore_top.specs.Words.{Command, Means, check, format, get, help, map_of, run, version}
+use Rattle.costore_top.specs.Words.{Command, Means, check, format, get, help, map_of, run, version, work}
 use Rattle.costore_top.specs.Getting.{IsObject}
 use Rattle.costore_top.specs.Texts.{IsChecked, IsMapped}
 use Rattle.costore_top.specs.Faults.{line_of}
@@ -25,7 +25,6 @@ status_of stop.NoMemory = 10
 status_of (stop.Line n) = 2
 status_of stop.Source = 8
 status_of stop.Budget = 11
-status_of stop.NotBuilt = 12
 
 -- the status of a command that ends so
 abbrev pub status_at : {A : Type 0} → Result A Stop → ℕ
@@ -39,6 +38,7 @@ mounts (get file name) = true
 mounts (check file) = true
 mounts (map_of file) = true
 mounts (run file) = true
+mounts (work file number count) = true
 mounts _ = false
 
 abbrev pub makes : Command → Bool
@@ -51,16 +51,22 @@ reads (get file name) = true
 reads (check file) = true
 reads (map_of file) = true
 reads (run file) = true
+reads (work file number count) = true
 reads _ = false
 
--- the command serves requests from its input
+-- the command serves requests, those of its input or those of a number
 abbrev pub serves : Command → Bool
 serves (run file) = true
+serves (work file number count) = true
 serves _ = false
 
--- the words ask for no session
+-- the words don't ask for requests to be served
 abbrev pub IsOther : List (List ℕ) → Type 0
 IsOther words = (c : Command) → Means words c → IsFalse (serves c)
+
+-- the words don't ask for the requests of the input
+abbrev pub IsNoSession : List (List ℕ) → Type 0
+IsNoSession words = (file : List ℕ) → Means words (run file) → ⊥
 
 -- the file that a command mounts
 abbrev pub file_of : Command → List ℕ
@@ -69,6 +75,7 @@ file_of (get file name) = file
 file_of (check file) = file
 file_of (map_of file) = file
 file_of (run file) = file
+file_of (work file number count) = file
 file_of _ = []
 
 -- the mount of a command's file, answered so
@@ -86,9 +93,9 @@ IsAnswer (get name object) file answer = IsObject object file answer
 IsAnswer (check name) file answer = IsChecked file answer
 IsAnswer (map_of name) file answer = IsMapped file answer
 IsAnswer (run name) file answer = ⊥
+IsAnswer (work name number count) file answer = ⊥
 IsAnswer help file answer = answer ≡ Ok HELP.now
 IsAnswer version file answer = answer ≡ Ok VERSION.now
-IsAnswer _ file answer = answer ≡ Err stop.NotBuilt
 
 -- A command that is to answer so may end so, where these are the bytes that it puts: it has put all that it
 -- is to answer; or the sink failed meanwhile, or the disk did, then or before; or its file isn't there, or

@@ -5,6 +5,8 @@ use Rattle.std.specs.Borrow.{Bor}
 use Rattle.slot_codec.specs.Names.{IsName}
 use Rattle.costore_top.specs.declared.words.Asked.{Asked}
 use Rattle.costore_top.specs.declared.words.Asked.TheVariants as asked
+use Rattle.costore_top.specs.declared.words.Serving.{Serving}
+use Rattle.costore_top.specs.declared.words.Serving.TheVariants as serving
 
 -- what the program may be asked to do
 pub data Command : Type 0 where
@@ -67,3 +69,8 @@ command_of (asked.Run file) = run file.now
 command_of (asked.Work file number count) = work file.now number count
 command_of asked.Help = help
 command_of asked.Version = version
+
+-- the command that serves requests
+abbrev pub serving_of : Serving → Command
+serving_of (serving.Run file) = run file.now
+serving_of (serving.Work file number count) = work file.now number count

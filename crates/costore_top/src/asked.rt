@@ -14,7 +14,7 @@ use crate::words::Asked;
 use disk_face::{Bay, Mounted, Sink};
 use std::alloc::Global;
 
-/// Does what is asked, but for the fault line, where no session is asked for.
+/// Does what is asked, but for the fault line, where no requests are to be served.
 #[tactic(auto, unfolding(crate::specs::Outcomes::IsAnswer))]
 pub fn do_asked<B: Bay, O: Sink>(
     alloc: Global,
@@ -54,8 +54,7 @@ pub fn do_asked<B: Bay, O: Sink>(
         Asked::Map(file) => map_from(alloc, bay, file, output),
         Asked::Help => put_whole(output, HELP.as_bytes()),
         Asked::Version => put_whole(output, VERSION.as_bytes()),
-        Asked::Work(_, _, _) => Err(Stop::NotBuilt),
-        // A session is none of these.
-        Asked::Run(_) => unreachable!(),
+        // What serves requests is none of these.
+        Asked::Run(_) | Asked::Work(_, _, _) => unreachable!(),
     }
 }

@@ -39,7 +39,6 @@ pub fn fault_line(why: Stop) -> ArrayVec<u8, 128>
         }
         Stop::Source => push(&mut line, b"fault source\n"),
         Stop::Budget => push(&mut line, b"fault budget\n"),
-        Stop::NotBuilt => push(&mut line, b"fault not built\n"),
     }
     line
 }

@@ -10,7 +10,7 @@ commands:
   costore check FILE                puts one line about the store
   costore map FILE                  puts its segments and objects
   costore run FILE                  serves requests from standard input
-  costore work FILE NUMBER COUNT    does the jobs of a number (not built yet)
+  costore work FILE NUMBER COUNT    does COUNT jobs that NUMBER draws, and puts a summary
   costore --help                    puts this page
   costore --version                 puts the version
 
@@ -23,15 +23,22 @@ have, how many the file has behind its head, the number of its checkpoint, and s
 rebuild was interrupted. map puts a line class C CAPACITY BUFFER TAKEN for each segment that has bytes, and
 object NAME PLACE SIZE for each object; before them moving BOUNDARY WALL SLACK for a moving file.
 
+work puts, removes and reads objects named o0, o1 and so on, saves, and then puts twelve lines: requests,
+ok and kept (those done without a checkpoint and with one), read (bytes), refused; names, bytes and length
+at the end; moved (bytes); and linear, flat and seek, what the bytes moved and those asked for cost.
+
 status: 0 done, 1 faulty words, 2 a faulty request, 3 no such file, 4 no store, 5 the file isn't empty,
 6 no such object, 7 the disk failed, 8 the input failed, 9 the output failed, 10 out of memory,
-11 too many requests, 12 not built yet.
+11 too many requests.
 At each status but 0 and 9 one line that begins with fault is put last, but where there is no memory for
 the words.
 
 examples: costore format blocks 9 1024
+          printf 'put a 5\\nhello\\nkeep\\n' | costore run blocks
+          costore get blocks a
           costore check blocks
           costore map blocks
+          costore work blocks 1 1000
 ";
 
 /// The line that `--version` puts.

@@ -1,19 +1,25 @@
 //! What holds of the answers, as contracts of functions that do nothing.
-ghost use Rattle.std.specs.Prelude.{◌≡◌, ◌⊎◌, List, ℕ, Ok, Option, Result, codes, length};
+ghost use Rattle.std.specs.Prelude.{◌≡◌, ◌⊎◌, ◌++◌, ◌-◌, ◌^◌, ◌<◌, List, ℕ, Ok, Option, Result, codes, length};
 ghost use Rattle.std.specs.FinMap as fin;
+ghost use Rattle.disk_face.specs.Counts.{IsCalm};
 ghost use Rattle.disk_face.specs.Streams.{SinkState};
+ghost use Rattle.disk_face.specs.declared.bay.Mounted.TheVariants.{There};
 ghost use Rattle.slot_codec.specs.Choice as choice;
 ghost use Rattle.segment_layout.specs.Books.{Book};
 ghost use Rattle.store_terms.specs.Maps.{Map, volume};
 ghost use Rattle.table_rules.specs.Opening.{Opens, OpensBy};
 ghost use Rattle.table_rules.specs.Tables.{size_sum};
+ghost use Rattle.costore_top.specs.Commands.{IsMounted};
 ghost use Rattle.costore_top.specs.Getting.{or_missing};
-ghost use Rattle.costore_top.specs.Outcomes.{Ends, IsAnswer, status_at};
+ghost use Rattle.costore_top.specs.Outcomes.{Ends, IsAnswer, mounted, status_at};
+ghost use Rattle.costore_top.specs.Summaries.{eleven_jobs, summary_text};
 ghost use Rattle.costore_top.specs.Texts.{check_text, map_text};
-ghost use Rattle.costore_top.specs.Words.{Command, check, get, map_of};
+ghost use Rattle.costore_top.specs.Words.{Command, check, get, map_of, work};
 ghost use Rattle.costore_top.specs.Worked.{hello, moved_up};
+ghost use Rattle.costore_top.specs.Working.{WorksFrom, WorksSo};
 
 use crate::Stop;
+use disk_face::{Bay, Mounted, Sink};
 use size_class::{CLASSES, SIZE_MAX};
 
 /// There is one answer of a command to the bytes of a file. Of `get` of a file that opens it is what
@@ -49,10 +55,31 @@ pub fn worked_texts()
         "moving 2 239 112\nobject a 139 100\nobject b 239 10\nobject c 249 5\n" }
 {}
 
+/// What `work` puts of eleven jobs, whose moves weigh as those of three puts of 5, 10 and 100 bytes.
+pub fn worked_summary()
+    ensures { summary_text eleven_jobs
+        ≡ codes "requests 11\nok 4\nkept 3\nread 4096\nrefused 2\nnames 3\nbytes 115\nlength 127\n"
+        ++ codes "moved 325\nlinear 340787200 120586240\nflat 8847360 4259840\nseek 907018240 393216000\n" }
+{}
+
 /// A command ends with the status of its answer, unless its file isn't there, a device failed, or
 /// memory was wanting.
 pub fn ends_by_the_answer()
     ensures { (c : Command) (file : List ℕ) (answer : Result (List ℕ) Stop) (status : ℕ) (old new : SinkState)
         → IsAnswer c file answer → Ends (IsAnswer c file) status old new → (status ≡ status_at answer)
         ⊎ (status ≡ 3) ⊎ (status ≡ 7) ⊎ (status ≡ 9) ⊎ (status ≡ 10) }
+{}
+
+/// Where the words are `work FILE NUMBER COUNT`, the mount finds the file, it opens by a table whose
+/// sequence leaves room, and no count of failures rises, all jobs are done or memory is wanting.
+pub fn jobs_are_done<B: Bay, O: Sink>()
+    ensures { (t : choice.Table) (m : Map) (b : Book) (file : List ℕ) (number count status : ℕ) (old new : B)
+        (out after : O) → OpensBy CLASSES SIZE_MAX t (B.state old).file m b
+        → t.chosen.header.sequence < 2 ^ 62 - 2 ^ 19
+        → WorksFrom number count status (B.state old) (B.state new) (O.state out) (O.state after)
+        → WorksSo status (B.state old) (B.state new) (O.state out) (O.state after)
+        → IsMounted (work file number count) (B.state new).last_mount (status ≡ 7) (status ≡ 3)
+        → (B.state new).last_mount ≡ mounted (work file number count) There
+        → IsCalm (B.state old).faults (B.state new).faults → IsCalm (O.state out).faults (O.state after).faults
+        → (status ≡ 0) ⊎ (status ≡ 10) }
 {}

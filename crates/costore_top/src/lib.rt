@@ -14,9 +14,13 @@ mod load;
 mod map;
 mod run;
 mod stop;
+mod summary;
 mod top;
 mod words;
+mod work;
 
-pub use laws::{ends_by_the_answer, one_answer, told_of_the_map, worked_texts};
+pub use laws::{
+    ends_by_the_answer, jobs_are_done, one_answer, told_of_the_map, worked_summary, worked_texts,
+};
 pub use stop::{Stop, StoreFault};
 pub use top::{Outcome, costore};

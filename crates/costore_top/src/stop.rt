@@ -32,6 +32,4 @@ pub enum Stop {
     Source,
     /// As many requests were answered as one session may.
     Budget,
-    /// What is asked can't be done yet.
-    NotBuilt,
 }

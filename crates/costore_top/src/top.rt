@@ -1,13 +1,14 @@
 //! The top call: what the program does with its words, its disk and its streams.
-ghost use Rattle.std.specs.Prelude.{◌≡◌, ◌≢◌, ◌⊎◌, ◌↔◌, ◌<◌, ◌≤◌, ℕ, List, None, Ok, Err, IfErr, OnOk, IsTrue, IsFalse, MatchOption, true, length};
+ghost use Rattle.std.specs.Prelude.{◌≡◌, ◌≢◌, ◌⊎◌, ◌↔◌, ◌<◌, ◌≤◌, ℕ, List, None, Ok, Err, IfErr, OnOk, IsTrue, IsFalse, true, length};
 ghost use Rattle.disk_face.specs.Counts.{Rose};
 ghost use Rattle.disk_face.specs.Frames.{Untouched};
 ghost use Rattle.costore_top.specs.Commands.{Formats, IsDone, IsMounted};
-ghost use Rattle.costore_top.specs.Words.{Command, Means, MeansNone, format, run, texts};
+ghost use Rattle.costore_top.specs.Words.{Command, Means, MeansNone, format, run, texts, work};
 ghost use Rattle.costore_top.specs.Getting.{IsRefused};
 ghost use Rattle.costore_top.specs.Headline.{RunsFrom, is_session};
 ghost use Rattle.costore_top.specs.Sessions.{NeverOpens, ServesSo};
-ghost use Rattle.costore_top.specs.Outcomes.{Ends, IsOther, PutsLast, PutsLine, IsAnswer, line_at, makes, mounts, reads, serves, status_at};
+ghost use Rattle.costore_top.specs.Working.{WorksFrom, WorksSo};
+ghost use Rattle.costore_top.specs.Outcomes.{Ends, IsNoSession, IsOther, PutsLast, PutsLine, IsAnswer, line_at, makes, mounts, reads, serves, status_at};
 ghost use Rattle.costore_top.specs.Layers.{Answers, IsPlain, Keeps, KeepsAt, PutsNone};
 ghost use Rattle.costore_top.specs.Faults.{line_of};
 
@@ -15,17 +16,18 @@ use crate::Stop;
 use crate::asked::do_asked;
 use crate::fault::fault_line;
 use crate::run::run_file;
-use crate::words::{Asked, read_words};
+use crate::words::{Serving, read_serving, read_words};
+use crate::work::work_file;
 use disk_face::{Bay, Mounted, Sink, Source};
 use std::alloc::Global;
 
-/// How the program ends. The three numbers are of a session's requests; they are 0 for a command
-/// that serves none.
+/// How the program ends. The three numbers are of the requests of the input; they are 0 for a command
+/// that serves none of these.
 #[derive(Clone, Copy, Debug, PartialEq, Eq)]
 pub struct Outcome {
     /// 0 done, 1 faulty words, 2 a faulty request, 3 no file, 4 no store, 5 not an empty file, 6 no
     /// such object, 7 the disk failed, 8 the source failed, 9 the sink failed, 10 too little memory, 11
-    /// as many requests as one session answers, 12 not built yet.
+    /// as many requests as one session answers.
     pub status: u8,
     /// How many requests were answered.
     pub done: u64,
@@ -36,8 +38,8 @@ pub struct Outcome {
 }
 
 /// The whole program: does what the words of the command line ask, without the program's name, with
-/// the files of a bay that has mounted none. It takes memory for the table of a file alone. At each
-/// status but 0 and 9 one line is put last that tells why.
+/// the files of a bay that has mounted none. It takes memory for the table of a file, and for the bytes
+/// of which `work` makes objects. At each status but 0 and 9 one line is put last that tells why.
 pub fn costore<B: Bay, I: Source, O: Sink>(
     alloc: Global,
     words: &[&str],
@@ -78,47 +80,56 @@ pub fn costore<B: Bay, I: Source, O: Sink>(
         → IsTrue (O.state output.old).tells → result.status ≡ 7
         → PutsLine 7 (O.state output.old) (O.state output.new) }
 
-    // What every other call than `run` keeps. The devices' own faults have their causes.
-    ensures keeps { IsOther (texts words.now) → Keeps (B.state bay.old) (B.state bay.new) (O.state output.old) (O.state output.new)
-        (result.status ≡ 7) (result.status ≡ 9) (result.status ≡ 0) }
-    ensures no_session { IsOther (texts words.now)
+    // What every other call than `run` and `work` keeps. The devices' own faults have their causes.
+    ensures keeps { IsOther (texts words.now) → Keeps (B.state bay.old) (B.state bay.new)
+        (O.state output.old) (O.state output.new) (result.status ≡ 7) (result.status ≡ 9)
+        (result.status ≡ 0) }
+
+    // No call but `run` reads the input, and the three numbers are of its requests.
+    ensures input { IsNoSession (texts words.now) → input.new ≡ input.old }
+    ensures no_session { IsNoSession (texts words.now)
         → (result.status ≢ 2) × (result.status ≢ 8) × (result.status ≢ 11) }
-    ensures input { IsOther (texts words.now) → input.new ≡ input.old }
-    ensures numbers { IsOther (texts words.now) → (result.done ≡ 0) × (result.kept_done ≡ 0) × (result.kept_turn ≡ 0) }
+    ensures numbers { IsNoSession (texts words.now)
+        → (result.done ≡ 0) × (result.kept_done ≡ 0) × (result.kept_turn ≡ 0) }
+
+    // A file that doesn't open ends these two calls as its first refusal says.
+    ensures refused { (c : Command) → Means (texts words.now) c → IsTrue (serves c)
+        → IsTrue (B.state bay.old).tells → NeverOpens (B.state bay.old).file
+        → Ends (IsRefused (B.state bay.old).file) result.status (O.state output.old) (O.state output.new) }
 
     // `run` serves the requests of the input. Of a file that opens, and a disk and an input that tell, this
-    // is the headline; a file that doesn't open ends the call as its first refusal says.
+    // is the headline.
     ensures headline { (file : List ℕ) → Means (texts words.now) (run file)
         → IsTrue (B.state bay.old).tells → IsTrue (I.state input.old).tells
         → RunsFrom result (B.state bay.old) (B.state bay.new) (I.state input.old) (I.state input.new)
         (O.state output.old) (O.state output.new) }
-    ensures refused { (file : List ℕ) → Means (texts words.now) (run file) → IsTrue (B.state bay.old).tells
-        → NeverOpens (B.state bay.old).file
-        → Ends (IsRefused (B.state bay.old).file) result.status (O.state output.old) (O.state output.new) }
     ensures known { (file : List ℕ) → Means (texts words.now) (run file)
         → (is_session result.status ≡ true) ⊎ (result.status ≡ 4) }
     ensures serves { (file : List ℕ) → Means (texts words.now) (run file) → ServesSo result
         (B.state bay.old) (B.state bay.new) (I.state input.old) (I.state input.new) (O.state output.old)
         (O.state output.new) (input.new ≡ input.old) }
+
+    // `work` serves the jobs of a number, and puts a summary of them.
+    ensures works { (file : List ℕ) (number count : ℕ) → Means (texts words.now) (work file number count)
+        → IsTrue (B.state bay.old).tells → WorksFrom number count result.status (B.state bay.old)
+        (B.state bay.new) (O.state output.old) (O.state output.new) }
+    ensures keeps_working { (file : List ℕ) (number count : ℕ)
+        → Means (texts words.now) (work file number count) → WorksSo result.status (B.state bay.old)
+        (B.state bay.new) (O.state output.old) (O.state output.new) }
 {
-    if let Some(file) = file_to_run(words) {
-        return run_file(alloc, bay, file, input, output);
+    match read_serving(words) {
+        Some(Serving::Run(file)) => run_file(alloc, bay, file, input, output),
+        Some(Serving::Work(file, number, count)) => {
+            work_file(alloc, bay, file, number, count, output)
+        }
+        None => {
+            let end = do_words(alloc, words, bay, output);
+            finish(end, output)
+        }
     }
-    let end = do_words(alloc, words, bay, output);
-    finish(end, output)
 }
 
-/// The file over which the words ask for a session, or none where they ask for none.
-fn file_to_run<'a>(words: &[&'a str]) -> Option<&'a str>
-    ensures { MatchOption result (IsOther (texts words.now)) (λ file. Means (texts words.now) (run file.now)) }
-{
-    match read_words(words) {
-        Some(Asked::Run(file)) => Some(file),
-        _ => None,
-    }
-}
-
-/// Does what the words ask, but for the fault line, where they ask for no session.
+/// Does what the words ask, but for the fault line, where they ask for no requests to be served.
 fn do_words<B: Bay, O: Sink>(
     alloc: Global,
     words: &[&str],
@@ -207,6 +218,5 @@ fn status_at(end: &Result<(), Stop>) -> u8
         Err(Stop::Line(_)) => 2,
         Err(Stop::Source) => 8,
         Err(Stop::Budget) => 11,
-        Err(Stop::NotBuilt) => 12,
     }
 }

@@ -1,7 +1,8 @@
 //! The command that the words of the command line mean.
 ghost use Rattle.std.specs.Prelude.{◌≡◌, ◌≤◌, ◌↔◌, ◌∷◌, [], ℕ, IsTrue, MatchOption};
 ghost use Rattle.std.specs.Fmt.{decimal};
-ghost use Rattle.costore_top.specs.Words.{Means, MeansNone, texts, command_of};
+ghost use Rattle.costore_top.specs.Outcomes.{IsOther};
+ghost use Rattle.costore_top.specs.Words.{Means, MeansNone, texts, command_of, serving_of};
 
 use itoa::Buffer;
 use slot_codec::Name;
@@ -19,6 +20,26 @@ pub enum Asked<'a> {
     Work(&'a str, u64, u64),
     Help,
     Version,
+}
+
+/// A command that serves requests.
+pub enum Serving<'a> {
+    /// Those of the input, over the file.
+    Run(&'a str),
+    /// Those of a number, over the file: the number, and how many (1 to 1,000,000).
+    Work(&'a str, u64, u64),
+}
+
+/// Which requests the words ask to be served, or none where they ask for none.
+pub fn read_serving<'a>(words: &[&'a str]) -> Option<Serving<'a>>
+    ensures { MatchOption result (IsOther (texts words.now))
+        (λ asked. Means (texts words.now) (serving_of asked)) }
+{
+    match read_words(words) {
+        Some(Asked::Run(file)) => Some(Serving::Run(file)),
+        Some(Asked::Work(file, number, count)) => Some(Serving::Work(file, number, count)),
+        _ => None,
+    }
 }
 
 /// What the words ask for, or none where they are no command.

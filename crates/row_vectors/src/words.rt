@@ -6,7 +6,7 @@ use std::test::Fail;
 #[test]
 fn ends_by_the_words(rt: HostRuntime) -> Result<(), Fail> {
     let bytes = image(rt.alloc(), 19608, &[], &[])?;
-    let rows: [(&[&str], u8, &str); 18] = [
+    let rows: [(&[&str], u8, &str); 19] = [
         (&["get", "f", "b"], 6, "fault missing\n"),
         (&["get", "g", "a"], 3, "fault no file\n"),
         (&["get", "f"], 1, "fault words\n"),
@@ -23,10 +23,11 @@ fn ends_by_the_words(rt: HostRuntime) -> Result<(), Fail> {
             "fault words\n",
         ),
         (&["work", "f", "0", "0"], 1, "fault words\n"),
+        (&["work", "f", "0", "1000001"], 1, "fault words\n"),
         (
-            &["work", "f", "18446744073709551615", "1000000"],
-            12,
-            "fault not built\n",
+            &["work", "g", "18446744073709551615", "1000000"],
+            3,
+            "fault no file\n",
         ),
         (&["check", "f"], 0, "store 9 16 1 5 5 1 still\n"),
         (&["check", ""], 1, "fault words\n"),
@@ -43,7 +44,7 @@ fn ends_by_the_words(rt: HostRuntime) -> Result<(), Fail> {
 }
 
 /// The page of `--help`, word for word.
-const PAGE: [&str; 30] = [
+const PAGE: [&str; 37] = [
     "costore keeps named objects of bytes in one file, within a stated factor of its live bytes.",
     "",
     "commands:",
@@ -52,7 +53,7 @@ const PAGE: [&str; 30] = [
     "  costore check FILE                puts one line about the store",
     "  costore map FILE                  puts its segments and objects",
     "  costore run FILE                  serves requests from standard input",
-    "  costore work FILE NUMBER COUNT    does the jobs of a number (not built yet)",
+    "  costore work FILE NUMBER COUNT    does COUNT jobs that NUMBER draws, and puts a summary",
     "  costore --help                    puts this page",
     "  costore --version                 puts the version",
     "",
@@ -65,15 +66,22 @@ const PAGE: [&str; 30] = [
     "rebuild was interrupted. map puts a line class C CAPACITY BUFFER TAKEN for each segment that has bytes, and",
     "object NAME PLACE SIZE for each object; before them moving BOUNDARY WALL SLACK for a moving file.",
     "",
+    "work puts, removes and reads objects named o0, o1 and so on, saves, and then puts twelve lines: requests,",
+    "ok and kept (those done without a checkpoint and with one), read (bytes), refused; names, bytes and length",
+    "at the end; moved (bytes); and linear, flat and seek, what the bytes moved and those asked for cost.",
+    "",
     "status: 0 done, 1 faulty words, 2 a faulty request, 3 no such file, 4 no store, 5 the file isn't empty,",
     "6 no such object, 7 the disk failed, 8 the input failed, 9 the output failed, 10 out of memory,",
-    "11 too many requests, 12 not built yet.",
+    "11 too many requests.",
     "At each status but 0 and 9 one line that begins with fault is put last, but where there is no memory for",
     "the words.",
     "",
     "examples: costore format blocks 9 1024",
+    "          printf 'put a 5\\nhello\\nkeep\\n' | costore run blocks",
+    "          costore get blocks a",
     "          costore check blocks",
     "          costore map blocks",
+    "          costore work blocks 1 1000",
 ];
 
 #[test]
