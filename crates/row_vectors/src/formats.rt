@@ -1,98 +1,113 @@
-//! Formatting, and every image that a crash may leave of it.
+//! Formats, what they leave of a file, and formats that stop.
+use crate::answers::try_answer;
 use crate::images::disk;
-use crate::runs::{Ran, run, run_on};
+use crate::runs::run_on;
 use disk_face::Disk;
+use disk_fuse::Fuse;
 use disk_mem::{Choice, MemDisk};
 use std::alloc::Global;
 use std::process::Abort;
 use std::test::Fail;
 
-/// A disk on which an absent file `f` was formatted, with k = 9 and 16 names.
-fn formatted(rt: &impl Abort, alloc: Global) -> Result<MemDisk, Fail> {
-    let words = ["format", "f", "9", "16"];
-    let ran = run_on(alloc, &words, false, MemDisk::new(alloc), Vec::new(alloc))?;
-    assert_eq!(rt; ran.status, 0);
-    assert_eq!(rt; ran.put.as_slice(), b"formatted\n".as_slice());
-    Ok(ran.disk)
-}
+const FORMAT: [&str; 4] = ["format", "f", "9", "16"];
 
-/// What `get f a` comes to on an image of a turn.
-fn get_at(
+/// What a command puts of a file that is there. The disk is given back.
+fn try_command(
     rt: &impl Abort,
     alloc: Global,
-    disk: &MemDisk,
-    turn: u64,
-    choice: Choice,
-) -> Result<Ran<MemDisk>, Fail> {
-    assert!(rt; turn <= disk.turns());
-    let bytes = disk.image(turn, choice)?;
-    run(alloc, &["get", "f", "a"], &bytes)
+    file: MemDisk,
+    words: &[&str],
+    status: u8,
+    puts: &str,
+) -> Result<MemDisk, Fail> {
+    let ran = run_on(alloc, words, true, file, Vec::new(alloc))?;
+    try_answer(rt, ran, status, puts)
 }
 
 #[test]
-fn formats_in_ten_calls(rt: HostRuntime) -> Result<(), Fail> {
-    let mut disk = formatted(&rt, rt.alloc())?;
-    assert_eq!(rt; disk.turns(), 10);
-    assert_eq!(rt; disk.len()?, 19603);
-    let rows = [
-        (0, 4, "fault store slot 1\n"),
-        (1, 4, "fault store codec 1 at 0\n"),
-        (2, 4, "fault store slot 1\n"),
-        (3, 4, "fault store slot 1\n"),
-        (4, 4, "fault store slot 1\n"),
-        (5, 4, "fault store slot 1\n"),
-        (6, 4, "fault store slot 1\n"),
-        (7, 4, "fault store slot 1\n"),
-        (8, 4, "fault store slot 2\n"),
-        (9, 6, "fault missing\n"),
-        (10, 6, "fault missing\n"),
+fn formats_a_file_that_is_not_there(rt: HostRuntime) -> Result<(), Fail> {
+    let none = MemDisk::new(rt.alloc());
+    let ran = run_on(rt.alloc(), &FORMAT, false, none, Vec::new(rt.alloc()))?;
+    let mut file = try_answer(&rt, ran, 0, "formatted\n")?;
+    assert_eq!(rt; (file.turns(), file.len()?), (10, 19_603));
+    let rows: [(&[&str], u8, &str); 3] = [
+        (&["get", "f", "a"], 6, "fault missing\n"),
+        (&["check", "f"], 0, "store 9 16 0 0 0 1 still\n"),
+        (&["map", "f"], 0, ""),
     ];
-    for (turn, status, puts) in rows {
-        let ran = get_at(&rt, rt.alloc(), &disk, turn, Choice::Newest)?;
-        assert_eq!(rt; ran.put.as_slice(), puts.as_bytes(), "turn {turn}");
-        assert_eq!(rt; ran.status, status, "turn {turn}");
+    for (words, status, puts) in rows {
+        file = try_command(&rt, rt.alloc(), file, words, status, puts)?;
     }
+    assert_eq!(rt; file.turns(), 10);
     Ok(())
 }
 
-#[test]
-fn leaves_no_store_or_the_empty_one(rt: HostRuntime) -> Result<(), Fail> {
-    let disk = formatted(&rt, rt.alloc())?;
-    let choices = [
-        Choice::Durable,
-        Choice::Newest,
-        Choice::Torn(0),
-        Choice::Torn(1),
-        Choice::Torn(0x5A),
-        Choice::Torn(0xA5),
-    ];
-    for turn in 0..11 {
-        for choice in choices {
-            let ran = get_at(&rt, rt.alloc(), &disk, turn, choice)?;
-            assert!(rt; ran.status == 4 || ran.status == 6, "turn {turn}");
-            assert!(rt; turn < 10 || ran.status == 6, "turn {turn}");
-        }
-    }
+/// A format of a file of some bytes, which leaves each of them.
+fn try_taken(rt: &impl Abort, alloc: Global, length: usize, puts: &str) -> Result<(), Fail> {
+    let file = disk(alloc, length, &[], &[])?;
+    let before = file.image(0, Choice::Newest)?;
+    let after = try_command(rt, alloc, file, &FORMAT, 5, puts)?;
+    assert_eq!(rt; after.turns(), 0);
+    let kept = after.image(0, Choice::Newest)?;
+    assert!(rt; kept.len() == length && kept.as_slice() == before.as_slice());
     Ok(())
 }
 
 #[test]
 fn leaves_a_file_that_is_not_empty(rt: HostRuntime) -> Result<(), Fail> {
-    for (length, puts) in [
-        (1, "fault taken 1\n"),
-        (64, "fault taken 64\n"),
-        (19608, "fault taken 19608\n"),
-    ] {
-        let file = disk(rt.alloc(), length, &[], &[])?;
-        let before = file.image(0, Choice::Newest)?;
-        let words = ["format", "f", "9", "16"];
-        let ran = run_on(rt.alloc(), &words, true, file, Vec::new(rt.alloc()))?;
-        assert_eq!(rt; ran.status, 5);
-        assert_eq!(rt; ran.put.as_slice(), puts.as_bytes());
-        assert_eq!(rt; ran.disk.turns(), 0);
-        let kept = ran.disk.image(0, Choice::Newest)?;
-        assert_eq!(rt; kept.len(), length);
-        assert!(rt; kept.as_slice() == before.as_slice());
+    try_taken(&rt, rt.alloc(), 1, "fault taken 1\n")?;
+    try_taken(&rt, rt.alloc(), 64, "fault taken 64\n")?;
+    try_taken(&rt, rt.alloc(), 19608, "fault taken 19608\n")
+}
+
+/// What a format over a disk that makes so many changing calls comes to, and then `get f a` of what is left.
+#[derive(Clone, Copy)]
+struct Stop {
+    calls: u64,
+    formats: (u8, &'static str),
+    gets: (u8, &'static str),
+}
+
+/// Formats over a disk that fails after so many changing calls.
+fn try_stop(rt: &impl Abort, alloc: Global, stop: &Stop) -> Result<(), Fail> {
+    let fuse = Fuse::stop_after(MemDisk::new(alloc), stop.calls);
+    let ran = run_on(alloc, &FORMAT, false, fuse, Vec::new(alloc))?;
+    let file = try_answer(rt, ran, stop.formats.0, stop.formats.1)?.into_inner();
+    assert_eq!(rt; file.turns(), stop.calls);
+    try_command(
+        rt,
+        alloc,
+        file,
+        &["get", "f", "a"],
+        stop.gets.0,
+        stop.gets.1,
+    )?;
+    Ok(())
+}
+
+macro_rules! stops {
+    ($($calls:literal => $status:literal $formats:literal, $gets:literal $puts:literal;)*) => {
+        [$(Stop { calls: $calls, formats: ($status, $formats), gets: ($gets, $puts) }),*]
+    };
+}
+
+#[test]
+fn is_no_store_where_a_format_stopped(rt: HostRuntime) -> Result<(), Fail> {
+    let stops = stops! {
+        0 => 7 "fault disk\n", 4 "fault store slot 1\n";
+        1 => 7 "fault disk\n", 4 "fault store codec 1 at 0\n";
+        2 => 7 "fault disk\n", 4 "fault store slot 1\n";
+        3 => 7 "fault disk\n", 4 "fault store slot 1\n";
+        4 => 7 "fault disk\n", 4 "fault store slot 1\n";
+        5 => 7 "fault disk\n", 4 "fault store slot 1\n";
+        6 => 7 "fault disk\n", 4 "fault store slot 1\n";
+        7 => 7 "fault disk\n", 4 "fault store slot 1\n";
+        8 => 7 "fault disk\n", 4 "fault store slot 2\n";
+        9 => 7 "fault disk\n", 6 "fault missing\n";
+        10 => 0 "formatted\n", 6 "fault missing\n";
+    };
+    for stop in &stops {
+        try_stop(&rt, rt.alloc(), stop)?;
     }
     Ok(())
 }

@@ -1,8 +1,9 @@
 //! What `get` answers on changed images.
-use crate::images::{Change, disk, image};
-use crate::moving::MOVING;
-use crate::runs::{run, run_on};
+use crate::answers::try_answer;
+use crate::images::{Change, MOVING, disk, image};
+use crate::runs::{ended, run, run_on};
 use disk_face::Disk;
+use disk_mem::MemDisk;
 use std::alloc::Global;
 use std::process::Abort;
 use std::test::Fail;
@@ -27,8 +28,8 @@ fn try_rows(rt: &impl Abort, alloc: Global, rows: &[Row]) -> Result<(), Fail> {
     for row in rows {
         let bytes = image(alloc, row.length, row.changes, &[])?;
         let ran = run(alloc, &["get", "f", "a"], &bytes)?;
-        assert_eq!(rt; ran.put.as_slice(), row.puts.as_bytes(), "{}", row.puts);
-        assert_eq!(rt; ran.status, row.status, "{}", row.puts);
+        let file = try_answer(rt, ran, row.status, row.puts)?;
+        assert_eq!(rt; file.turns(), 0, "{}", row.puts);
     }
     Ok(())
 }
@@ -102,18 +103,31 @@ fn gets_what_the_rules_let_through(rt: HostRuntime) -> Result<(), Fail> {
     try_rows(&rt, rt.alloc(), &rows)
 }
 
+/// `get` of an object whose first and last byte are told.
+fn try_ends(
+    rt: &impl Abort,
+    alloc: Global,
+    name: &str,
+    file: MemDisk,
+    length: usize,
+) -> Result<(), Fail> {
+    let ran = run_on(alloc, &["get", "f", name], true, file, Vec::new(alloc))?;
+    assert_eq!(rt; ran.outcome, ended(0), "{name}");
+    assert_eq!(rt; ran.disk.turns(), 0, "{name}");
+    assert_eq!(rt; ran.put.len(), length, "{name}");
+    assert!(rt;
+        ran.put.starts_with(b"<") && ran.put.ends_with(b">"),
+        "{name}"
+    );
+    Ok(())
+}
+
 #[test]
 fn gets_the_objects_of_a_moving_file_as_they_stand(rt: HostRuntime) -> Result<(), Fail> {
     for (name, at, length) in [("a", 19_742, 100), ("b", 19_842, 10), ("c", 19_852, 5)] {
         let ends = [(at, b'<'), (at + (length - 1), b'>')];
         let file = disk(rt.alloc(), 19_857, &MOVING, &ends)?;
-        let words = ["get", "f", name];
-        let ran = run_on(rt.alloc(), &words, true, file, Vec::new(rt.alloc()))?;
-        assert_eq!(rt; ran.status, 0, "{name}");
-        assert_eq!(rt; ran.put.len(), length, "{name}");
-        assert_eq!(rt; ran.put.first().copied(), Some(b'<'), "{name}");
-        assert_eq!(rt; ran.put.last().copied(), Some(b'>'), "{name}");
-        assert_eq!(rt; ran.disk.turns(), 0, "{name}");
+        try_ends(&rt, rt.alloc(), name, file, length)?;
     }
     Ok(())
 }
@@ -129,14 +143,7 @@ fn gets_an_object_before_what_a_flush_left(rt: HostRuntime) -> Result<(), Fail> 
         (19_856, 0x5A),
     ];
     let file = disk(rt.alloc(), 19_857, &changes, &bytes)?;
-    let words = ["get", "f", "a"];
-    let ran = run_on(rt.alloc(), &words, true, file, Vec::new(rt.alloc()))?;
-    assert_eq!(rt; ran.status, 0);
-    assert_eq!(rt; ran.put.len(), 100);
-    assert_eq!(rt; ran.put.first().copied(), Some(b'<'));
-    assert_eq!(rt; ran.put.last().copied(), Some(b'>'));
-    assert_eq!(rt; ran.disk.turns(), 0);
-    Ok(())
+    try_ends(&rt, rt.alloc(), "a", file, 100)
 }
 
 #[test]
@@ -154,8 +161,7 @@ fn gets_what_the_rules_of_moving_tables_let_through(rt: HostRuntime) -> Result<(
     for (length, changes, status, puts) in rows {
         let bytes = image(rt.alloc(), length, &MOVING, changes)?;
         let ran = run(rt.alloc(), &["get", "f", "d"], &bytes)?;
-        assert_eq!(rt; ran.put.as_slice(), puts.as_bytes(), "{puts}");
-        assert_eq!(rt; ran.status, status, "{puts}");
+        try_answer(&rt, ran, status, puts)?;
     }
     Ok(())
 }

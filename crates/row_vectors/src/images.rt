@@ -49,6 +49,28 @@ pub const LONG: [Change; 9] = [
     (29602, b'k'),
 ];
 
+/// The changes to a table that is moved from boundary 2 on, behind a wall of 239 with a slack of 112,
+/// in a file of 19,857 bytes: `a` of 100 bytes at 139, `b` of 10 at 239, `c` of 5 at 249.
+pub const MOVING: [Change; 17] = [
+    (65, 1),
+    (66, 2),
+    (80, 3),
+    (88, 239),
+    (96, 112),
+    (120, 0),
+    (8616, 139),
+    (8624, 100),
+    (8632, 1),
+    (8633, b'b'),
+    (8696, 239),
+    (8704, 10),
+    (8712, 1),
+    (8713, b'c'),
+    (8776, 249),
+    (8784, 5),
+    (9832, 0xA5),
+];
+
 /// The image of some length, changed twice; all other bytes are 0.
 pub fn image(
     alloc: Global,

@@ -1,4 +1,4 @@
-//! Worked rows of the whole program: its words and a file, and what it puts and leaves.
+//! Worked commands of the whole program, and runs of it over devices in memory.
 #![tactic(auto)]
 
 ghost use Rattle.std.specs.Prelude.{◌≡◌, None};
@@ -23,9 +23,7 @@ pub fn serve<D: Disk>(
 }
 
 #[cfg(test)]
-mod both;
-#[cfg(test)]
-mod crashes;
+mod answers;
 #[cfg(test)]
 mod failing_disks;
 #[cfg(test)]
@@ -34,21 +32,12 @@ mod failing_sinks;
 mod formats;
 #[cfg(test)]
 mod gets;
-#[cfg(test)]
-mod images;
+pub mod images;
+pub mod inputs;
 #[cfg(test)]
 mod limits;
-#[cfg(test)]
-mod moving;
-#[cfg(test)]
-mod openings;
-#[cfg(test)]
-mod runs;
-#[cfg(test)]
-mod spoiled;
+pub mod runs;
 #[cfg(test)]
 mod tables;
-#[cfg(test)]
-mod texts;
 #[cfg(test)]
 mod words;

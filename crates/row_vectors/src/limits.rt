@@ -1,6 +1,7 @@
 //! The largest sizes that the limits name.
+use crate::answers::try_answer;
 use crate::images::image;
-use crate::runs::{run, run_on};
+use crate::runs::{ended, run, run_on};
 use disk_face::Disk;
 use disk_mem::MemDisk;
 use std::test::Fail;
@@ -18,7 +19,7 @@ fn gets_an_object_of_the_greatest_size(rt: HostRuntime) -> Result<(), Fail> {
         bytes[19_603..1_068_179].copy_from_slice(&object);
     }
     let ran = run(rt.alloc(), &["get", "f", "a"], &bytes)?;
-    assert_eq!(rt; ran.status, 0);
+    assert_eq!(rt; ran.outcome, ended(0));
     assert_eq!(rt; ran.put.len(), 1_048_576);
     assert!(rt; ran.put.as_slice() == object.as_slice());
     Ok(())
@@ -29,19 +30,10 @@ fn formats_room_for_the_most_names(rt: HostRuntime) -> Result<(), Fail> {
     let words = ["format", "f", "64", "65536"];
     let none = MemDisk::new(rt.alloc());
     let ran = run_on(rt.alloc(), &words, false, none, Vec::new(rt.alloc()))?;
-    assert_eq!(rt; ran.status, 0);
-    assert_eq!(rt; ran.put.as_slice(), b"formatted\n".as_slice());
-    let mut file = ran.disk;
-    assert_eq!(rt; file.turns(), 10);
-    assert_eq!(rt; file.len()?, 10_502_803);
-    let after = run_on(
-        rt.alloc(),
-        &["get", "f", "a"],
-        true,
-        file,
-        Vec::new(rt.alloc()),
-    )?;
-    assert_eq!(rt; after.status, 6);
-    assert_eq!(rt; after.put.as_slice(), b"fault missing\n".as_slice());
+    let mut file = try_answer(&rt, ran, 0, "formatted\n")?;
+    assert_eq!(rt; (file.turns(), file.len()?), (10, 10_502_803));
+    let none = Vec::new(rt.alloc());
+    let after = run_on(rt.alloc(), &["get", "f", "a"], true, file, none)?;
+    try_answer(&rt, after, 6, "fault missing\n")?;
     Ok(())
 }

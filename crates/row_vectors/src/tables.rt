@@ -1,7 +1,8 @@
 //! What `check` and `map` put of changed images.
-use crate::images::{Change, image};
-use crate::moving::MOVING;
+use crate::answers::try_answer;
+use crate::images::{Change, MOVING, image};
 use crate::runs::run;
+use disk_face::Disk;
 use std::alloc::Global;
 use std::process::Abort;
 use std::test::Fail;
@@ -28,8 +29,8 @@ fn try_rows(rt: &impl Abort, alloc: Global, first: &[Change], rows: &[Row]) -> R
         let bytes = image(alloc, row.length, first, row.changes)?;
         for (words, text) in [(["check", "f"], row.check), (["map", "f"], row.map)] {
             let ran = run(alloc, &words, &bytes)?;
-            assert_eq!(rt; ran.put.as_slice(), text.as_bytes(), "{text}");
-            assert_eq!(rt; ran.status, row.status, "{text}");
+            let file = try_answer(rt, ran, row.status, text)?;
+            assert_eq!(rt; file.turns(), 0, "{text}");
         }
     }
     Ok(())

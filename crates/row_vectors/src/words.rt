@@ -1,12 +1,14 @@
 //! What the words of the command line come to.
+use crate::answers::try_answer;
 use crate::images::image;
-use crate::runs::run;
+use crate::runs::{ended, run};
+use std::alloc::Global;
 use std::test::Fail;
 
 #[test]
 fn ends_by_the_words(rt: HostRuntime) -> Result<(), Fail> {
     let bytes = image(rt.alloc(), 19608, &[], &[])?;
-    let rows: [(&[&str], u8, &str); 19] = [
+    let rows: [(&[&str], u8, &str); 20] = [
         (&["get", "f", "b"], 6, "fault missing\n"),
         (&["get", "g", "a"], 3, "fault no file\n"),
         (&["get", "f"], 1, "fault words\n"),
@@ -29,6 +31,15 @@ fn ends_by_the_words(rt: HostRuntime) -> Result<(), Fail> {
             3,
             "fault no file\n",
         ),
+        // The first job of this number reads a name that isn't there.
+        (
+            &["work", "f", "18446744073709551615", "1"],
+            0,
+            concat!(
+                "requests 2\nok 0\nkept 1\nread 0\nrefused 1\nnames 1\nbytes 5\nlength 5\nmoved 0\n",
+                "linear 0 0\nflat 0 0\nseek 0 0\n"
+            ),
+        ),
         (&["check", "f"], 0, "store 9 16 1 5 5 1 still\n"),
         (&["check", ""], 1, "fault words\n"),
         (&["map", "g"], 3, "fault no file\n"),
@@ -37,8 +48,7 @@ fn ends_by_the_words(rt: HostRuntime) -> Result<(), Fail> {
     ];
     for (words, status, puts) in rows {
         let ran = run(rt.alloc(), words, &bytes)?;
-        assert_eq!(rt; ran.put.as_slice(), puts.as_bytes(), "{words:?}");
-        assert_eq!(rt; ran.status, status, "{words:?}");
+        try_answer(&rt, ran, status, puts)?;
     }
     Ok(())
 }
@@ -84,15 +94,21 @@ const PAGE: [&str; 37] = [
     "          costore work blocks 1 1000",
 ];
 
-#[test]
-fn puts_the_whole_page(rt: HostRuntime) -> Result<(), Fail> {
-    let ran = run(rt.alloc(), &["--help"], &[])?;
-    assert_eq!(rt; ran.status, 0);
-    let mut page = Vec::new(rt.alloc());
+/// The page as the program puts it.
+fn page(alloc: Global) -> Result<Vec<u8>, Fail> {
+    let mut page = Vec::new(alloc);
     for line in PAGE {
         page.extend_from_slice(line.as_bytes())?;
         page.push(b'\n')?;
     }
+    Ok(page)
+}
+
+#[test]
+fn puts_the_whole_page(rt: HostRuntime) -> Result<(), Fail> {
+    let ran = run(rt.alloc(), &["--help"], &[])?;
+    let page = page(rt.alloc())?;
+    assert_eq!(rt; ran.outcome, ended(0));
     assert_eq!(rt; ran.put.as_slice(), page.as_slice());
     Ok(())
 }

@@ -1,8 +1,8 @@
 //! Saving a table of names, and every image that a crash may leave of it.
-use crate::runs::run;
 use disk_face::Disk;
 use disk_mem::{Choice, MemDisk};
 use extent_table::{Spot, Table, a_table_can_be_saved};
+use row_vectors::runs::run;
 use slot_codec::{HEADER_LEN, Header, Kind, Name, RECORD_LEN, read_header, read_record};
 use slot_pair::SlotPair;
 use std::alloc::Global;
@@ -116,15 +116,18 @@ fn leaves_the_old_table_or_the_new_one(rt: HostRuntime) -> Result<(), Fail> {
             assert!(rt; turn <= disk.turns());
             let bytes = disk.image(turn, choice)?;
             let ran = run(rt.alloc(), &["get", "f", "a"], &bytes)?;
-            let puts = if ran.status == 0 {
+            let puts = if ran.outcome.status == 0 {
                 "hello"
             } else {
                 "fault missing\n"
             };
             assert_eq!(rt; ran.put.as_slice(), puts.as_bytes(), "turn {turn}");
-            assert!(rt; ran.status == 6 || ran.status == 0, "turn {turn}");
-            assert!(rt; 17 <= turn || ran.status == 6, "turn {turn}");
-            assert!(rt; turn < 19 || ran.status == 0, "turn {turn}");
+            assert!(rt;
+                ran.outcome.status == 6 || ran.outcome.status == 0,
+                "turn {turn}"
+            );
+            assert!(rt; 17 <= turn || ran.outcome.status == 6, "turn {turn}");
+            assert!(rt; turn < 19 || ran.outcome.status == 0, "turn {turn}");
         }
     }
     Ok(())

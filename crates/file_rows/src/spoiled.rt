@@ -1,7 +1,6 @@
 //! Worked files of which one byte is spoiled: `plain_opening` and `read_state` agree on each.
 use crate::both::refusal_of;
-use crate::images::{Change, disk};
-use crate::moving::MOVING;
+use row_vectors::images::{Change, MOVING, disk};
 use std::alloc::Global;
 use std::process::Abort;
 use std::test::Fail;

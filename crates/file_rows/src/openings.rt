@@ -1,7 +1,7 @@
 //! A worked file, its changes, and what each opens to, by `plain_opening` and by `read_state` alike.
 use crate::both::refusal_of;
-use crate::images::{Change, disk};
 use plain_opening::{Refusal, open};
+use row_vectors::images::{Change, disk};
 use slot_codec::{CodecFault, Name};
 use slot_pair::SlotFault;
 use std::alloc::Global;

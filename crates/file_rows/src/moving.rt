@@ -1,31 +1,9 @@
 //! A worked file with a moving table, its changes, and what each opens to.
-use crate::images::{Change, disk};
 use crate::openings::{Row, try_rows};
 use plain_opening::{Refusal, open};
+use row_vectors::images::{MOVING, disk};
 use slot_codec::Name;
 use std::test::Fail;
-
-/// The changes to a table that is moved from boundary 2 on, behind a wall of 239 with a slack of 112,
-/// in a file of 19,857 bytes: `a` of 100 bytes at 139, `b` of 10 at 239, `c` of 5 at 249.
-pub const MOVING: [Change; 17] = [
-    (65, 1),
-    (66, 2),
-    (80, 3),
-    (88, 239),
-    (96, 112),
-    (120, 0),
-    (8616, 139),
-    (8624, 100),
-    (8632, 1),
-    (8633, b'b'),
-    (8696, 239),
-    (8704, 10),
-    (8712, 1),
-    (8713, b'c'),
-    (8776, 249),
-    (8784, 5),
-    (9832, 0xA5),
-];
 
 macro_rules! rows {
     ($($what:literal: $length:literal, $changes:expr => $refusal:expr;)*) => {

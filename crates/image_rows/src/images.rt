@@ -1,0 +1,44 @@
+//! Images of a disk, and what the program makes of each.
+use disk_face::Disk;
+use disk_mem::{Choice, MemDisk};
+use row_vectors::runs::run;
+use std::alloc::Global;
+use std::process::Abort;
+use std::test::Fail;
+
+/// What the last sync left, what reads give, and these with one value in each byte that isn't synced or
+/// that the next call writes.
+pub const CHOICES: [Choice; 5] = [
+    Choice::Durable,
+    Choice::Newest,
+    Choice::Torn(0),
+    Choice::Torn(0x5A),
+    Choice::Torn(0xA5),
+];
+
+/// The image of a turn.
+pub fn image_at(
+    rt: &impl Abort,
+    disk: &MemDisk,
+    turn: u64,
+    choice: Choice,
+) -> Result<Vec<u8>, Fail> {
+    assert!(rt; turn <= disk.turns());
+    Ok(disk.image(turn, choice)?)
+}
+
+/// What `check f` puts of a file, by its status.
+pub fn try_check(
+    rt: &impl Abort,
+    alloc: Global,
+    file: &[u8],
+    status: u8,
+    puts: &str,
+    at: (u64, Choice),
+) -> Result<(), Fail> {
+    let ran = run(alloc, &["check", "f"], file)?;
+    assert_eq!(rt; ran.put.as_slice(), puts.as_bytes(), "turn {at:?}");
+    assert_eq!(rt; ran.outcome.status, status, "turn {at:?}");
+    assert_eq!(rt; ran.disk.turns(), 0, "turn {at:?}");
+    Ok(())
+}

@@ -1,0 +1,69 @@
+//! A put of 10 bytes in place of 100: each image opens to the one or to the other.
+use crate::maps::{NONE, ONE, TEN};
+use crate::moments::{Stage, Story, try_turns};
+use disk_face::Disk;
+use row_vectors::inputs::{KEPT, PUT_A};
+use row_vectors::runs::{formatted, joined, session};
+use std::test::Fail;
+
+/// After a format of 10 calls, `a` of 100 bytes is put in 12, and `a` of 10 bytes in 20.
+const SESSION: Story = Story {
+    stages: &[
+        Stage {
+            from: 9,
+            counts: "0 0",
+            sequence: 1,
+            kind: "still",
+            resumes: 0,
+            end: 0,
+            puts: NONE,
+            calls: 19,
+            after: "store 9 16 1 7 7 3 still\n",
+        },
+        Stage {
+            from: 19,
+            counts: "1 100",
+            sequence: 2,
+            kind: "still",
+            resumes: 0,
+            end: 111,
+            puts: ONE,
+            calls: 8,
+            after: "store 9 16 2 107 111 3 still\n",
+        },
+        Stage {
+            from: 31,
+            counts: "1 10",
+            sequence: 3,
+            kind: "moving",
+            resumes: 10,
+            end: 11,
+            puts: TEN,
+            calls: 28,
+            after: "store 9 16 2 17 18 7 still\n",
+        },
+        Stage {
+            from: 39,
+            counts: "1 10",
+            sequence: 4,
+            kind: "still",
+            resumes: 0,
+            end: 11,
+            puts: TEN,
+            calls: 28,
+            after: "store 9 16 2 17 18 7 still\n",
+        },
+    ],
+    newest: &[(8, 0), (11, 312), (21, 111), (23, 132), (41, 11)],
+    durable: &[(10, 0), (15, 312), (22, 111), (27, 132), (42, 11)],
+};
+
+#[test]
+fn goes_on_from_each_turn_of_a_replacement(rt: HostRuntime) -> Result<(), Fail> {
+    let input = joined(rt.alloc(), &[PUT_A, "put a 10\nabcdefghij\n"])?;
+    let ran = session(rt.alloc(), formatted(rt.alloc(), "9")?, &input, 7)?;
+    let puts = joined(rt.alloc(), &[KEPT, KEPT])?;
+    assert_eq!(rt; ran.put.as_slice(), puts.as_slice());
+    assert_eq!(rt; ran.disk.turns(), 42);
+    try_turns(&rt, rt.alloc(), &ran.disk, &SESSION, (22, 43))
+}

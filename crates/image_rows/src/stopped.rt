@@ -1,0 +1,78 @@
+//! A flush that stopped within or behind its first save, and an empty session that goes on with it.
+use crate::images::{image_at, try_check};
+use crate::requests::served;
+use costore_top::Outcome;
+use disk_face::Disk;
+use disk_mem::{Choice, MemDisk};
+use row_vectors::runs::session;
+use std::alloc::Global;
+use std::process::Abort;
+use std::test::Fail;
+
+/// An image of a turn of the put of 5 bytes, and what `check` puts of it and of what an opening leaves.
+#[derive(Clone, Copy)]
+struct Row {
+    turn: u64,
+    choice: Choice,
+    stopped: &'static str,
+    calls: u64,
+    opened: &'static str,
+}
+
+macro_rules! rows {
+    ($($turn:literal, $choice:expr => $stopped:expr, $calls:literal, $opened:expr;)*) => {
+        [$(Row { turn: $turn, choice: $choice, stopped: $stopped, calls: $calls, opened: $opened }),*]
+    };
+}
+
+/// The flush before its first checkpoint, and the file once it is opened.
+const BEFORE: &str = "store 9 16 1 100 254 2 still\n";
+
+const OLD: &str = "store 9 16 1 100 111 2 still\n";
+
+/// The flush from there on, and the file once it is opened.
+const MOVING: &str = "store 9 16 3 115 254 3 moving\n";
+
+const NEW: &str = "store 9 16 3 115 127 4 still\n";
+
+/// Opens an image by a session without a request.
+fn try_row(rt: &impl Abort, alloc: Global, disk: &MemDisk, row: &Row) -> Result<(), Fail> {
+    // The put begins at the 23rd turn.
+    let at = (row.turn.saturating_add(23), row.choice);
+    let image = image_at(rt, disk, at.0, at.1)?;
+    assert_eq!(rt; image.len(), 19_857, "turn {at:?}");
+    try_check(rt, alloc, &image, 0, row.stopped, at)?;
+    let ran = session(alloc, MemDisk::from_bytes(alloc, &image)?, b"", 1)?;
+    let outcome = Outcome {
+        status: 0,
+        done: 0,
+        kept_done: 0,
+        kept_turn: row.calls,
+    };
+    assert_eq!(rt; ran.put.len(), 0, "turn {at:?}");
+    assert_eq!(rt; ran.outcome, outcome, "turn {at:?}");
+    let opened = image_at(rt, &ran.disk, row.calls, Choice::Durable)?;
+    try_check(rt, alloc, &opened, 0, row.opened, at)
+}
+
+#[test]
+fn goes_on_with_a_flush_that_stopped(rt: HostRuntime) -> Result<(), Fail> {
+    // The fourth call packs, the fifth to the eleventh save: the tenth opens the gate.
+    let rows = rows! {
+        3, Choice::Torn(0x5A) => BEFORE, 2, OLD;
+        9, Choice::Durable => BEFORE, 2, OLD;
+        9, Choice::Newest => BEFORE, 2, OLD;
+        9, Choice::Torn(0) => BEFORE, 2, OLD;
+        9, Choice::Torn(0xA5) => MOVING, 12, NEW;
+        10, Choice::Durable => BEFORE, 2, OLD;
+        10, Choice::Newest => MOVING, 12, NEW;
+        10, Choice::Torn(0) => BEFORE, 2, OLD;
+        10, Choice::Torn(0xA5) => MOVING, 12, NEW;
+        11, Choice::Durable => MOVING, 12, NEW;
+    };
+    let disk = served(&rt, rt.alloc())?;
+    for row in &rows {
+        try_row(&rt, rt.alloc(), &disk, row)?;
+    }
+    Ok(())
+}
