@@ -15,3 +15,5 @@ mod hundreds;
 mod sessions;
 #[cfg(test)]
 mod sizes;
+#[cfg(test)]
+mod works;

@@ -1,0 +1,73 @@
+//! The command `work` over new files, and the summaries that a plain program in another language found of the same jobs.
+use disk_mem::PlainDisk;
+use row_vectors::runs::{ended, run_on};
+use std::alloc::Global;
+use std::process::Abort;
+use std::test::Fail;
+
+/// How many bytes the disk has room for.
+const ROOM: u64 = 1 << 25;
+
+/// The summary of 5,000 jobs of number 1 at a divisor of 9 and with 4,096 names.
+const FIVE_THOUSAND: &str = concat!(
+    "requests 5001\nok 3277\nkept 646\nread 824408\nrefused 879\nnames 2078\nbytes 8445335\n",
+    "length 9285713\nmoved 312503692\nlinear 327683871342592 18021297946624\n",
+    "flat 106595055616 6675100416\nseek 334505954902016 18448504373248\n",
+);
+
+/// Formats a new file with this divisor and so many names, and tries the summary of jobs over it.
+fn try_work(
+    rt: &impl Abort,
+    alloc: Global,
+    [k, names, number, count]: [&str; 4],
+    summary: &str,
+) -> Result<(), Fail> {
+    let new = PlainDisk::with_room(alloc, ROOM)?;
+    let made = run_on(
+        alloc,
+        &["format", "f", k, names],
+        false,
+        new,
+        Vec::new(alloc),
+    )?;
+    let words = ["work", "f", number, count];
+    let ran = run_on(alloc, &words, true, made.disk, Vec::new(alloc))?;
+    assert_eq!(rt; ran.put.as_slice(), summary.as_bytes(), "{summary}");
+    assert_eq!(rt; ran.outcome, ended(0));
+    Ok(())
+}
+
+#[test]
+fn sums_up_two_thousand_jobs(rt: HostRuntime) -> Result<(), Fail> {
+    let first = concat!(
+        "requests 2001\nok 1252\nkept 290\nread 120922\nrefused 431\nnames 1070\nbytes 4375307\n",
+        "length 4787964\nmoved 110498382\nlinear 115865951404032 6284945391616\n",
+        "flat 37638902784 2335734784\nseek 118274841182208 6434432417792\n",
+    );
+    let seventh = concat!(
+        "requests 2001\nok 1315\nkept 359\nread 881057\nrefused 108\nnames 57\nbytes 227563\n",
+        "length 331223\nmoved 34041866\nlinear 35695483682816 9957081612288\n",
+        "flat 11769705216 3787857408\nseek 36448744816640 10199504486400\n",
+    );
+    try_work(&rt, rt.alloc(), ["9", "4096", "1", "2000"], first)?;
+    try_work(&rt, rt.alloc(), ["2", "64", "7", "2000"], seventh)
+}
+
+#[test]
+fn does_the_same_jobs_again_over_another_file(rt: HostRuntime) -> Result<(), Fail> {
+    let words = ["9", "4096", "1", "5000"];
+    try_work(&rt, rt.alloc(), words, FIVE_THOUSAND)?;
+    try_work(&rt, rt.alloc(), words, FIVE_THOUSAND)?;
+    // The length is within 10/8 of the live bytes, and by each cost what was moved is at most 561 times what
+    // was asked for.
+    assert!(rt; 8 * 9_285_713 <= 10 * 8_445_335);
+    let costs: [[u64; 2]; 3] = [
+        [327_683_871_342_592, 18_021_297_946_624],
+        [106_595_055_616, 6_675_100_416],
+        [334_505_954_902_016, 18_448_504_373_248],
+    ];
+    for [moved, asked] in costs {
+        assert!(rt; moved <= 561 * asked);
+    }
+    Ok(())
+}
