@@ -24,7 +24,7 @@ const PIECES_A_SYNC: u64 = 64;
 
 fn main(rt: HostRuntime) -> io::Result<()> {
     let count = pieces(&rt)?;
-    let mut bay = FileBay::new(&rt, rt.alloc());
+    let mut bay = FileBay::new(&rt);
     let Ok(Mounted::Made | Mounted::There) = bay.mount(NAME, true) else {
         return Err(failed(DiskFault));
     };

@@ -1,3 +1,5 @@
-pub mod Bays
+pub mod Hosts
+pub mod Parts
 pub mod Mounted
+pub mod Bays
 pub mod Streams

@@ -1,142 +1,195 @@
 //! A bay of real files.
-ghost use Rattle.std.specs.Prelude.{◌≡◌, ◌≤◌, None, is_some, true, false, refl, [], IfOk, IsTrue, IsFalse};
-ghost use Rattle.disk_face.specs.Counts.{counted};
-ghost use Rattle.disk_face.specs.Mounts.{has_file, is_mounted};
-ghost use Rattle.disk_file.specs.Mounted.{mount_of, untold};
+ghost use Rattle.std.specs.Prelude.{◌≡◌, ◌≤◌, ◌+◌, ◌<◌, ◌⊎◌, ◌↔◌, None, Some, Ok, refl, [], length, is_some, IfOk, IsErr, IsOk, OnErr, OnOk, IsTrue, IsFalse};
+ghost use Rattle.byte_ranges.specs.Ranges.{bytes_at, overwritten, resized};
+ghost use Rattle.disk_face.specs.Counts.{HasCause, counted, last};
+ghost use Rattle.disk_face.specs.Frames.{AfterLength, AfterMount, AfterRead, AfterSync, AfterWrite};
+ghost use Rattle.disk_face.specs.Moments.{Only};
+ghost use Rattle.disk_face.specs.Mounts.{is_mounted};
+ghost use Rattle.disk_file.specs.Mounted.{CanMount, HasName, IsAtRest, IsHeld, mount_of};
 
+use crate::calls::{resize, sync, write};
+use crate::cause::Cause;
+use crate::host::{Host, Use};
 use crate::mounts::find_or_make;
-use crate::positions::{SystemFile, fill, write_whole};
+use crate::positions::fill;
+use crate::system::SystemFile;
+use arrayvec::ArrayVec;
 use disk_face::{Bay, Disk, DiskFault, Mounted};
-use std::alloc::Global;
-use std::fs::{Files, OpenFile};
-use std::os::unix::fs::FileExt;
+use std::fs::{File, Files};
 
-/// A mount that was answered.
+/// A mount that was answered. A name has at most 4,095 bytes, as many as a system takes.
 #[derive(Drop)]
 struct Last {
-    name: String,
+    name: ArrayVec<u8, 4095>,
     make: bool,
     answer: Mounted,
 }
 
-/// The files of the runtime. It tells neither content nor images: what a real file holds is no
-/// matter of proof. Each error of the system is a fault, and so is a read that ends early.
+/// The files of a system. It tells what its system tells: of real files neither content nor images,
+/// for what a real file holds is no matter of proof. Each error of the system is a fault, and so is a
+/// read that ends early.
 #[derive(Drop)]
-pub struct FileBay<'a, R: Files> {
-    rt: &'a R,
-    alloc: Global,
-    file: Option<R::File>,
+pub struct FileBay<H: Host> {
+    host: H,
+    usage: Use,
     last: Option<Last>,
-    turns: u64,
     faults: u64,
+    cause: Option<Cause>,
     has_lost: bool,
-    ghost open_if_mounted: { is_some file ≡ is_mounted (mount_of last) },
+    ghost open_if_mounted: { IsTrue (is_mounted (mount_of last)) → IsTrue (H.state host).is_ready },
 }
 
-impl<'a, R: Files> FileBay<'a, R> {
-    /// A bay that has mounted nothing.
-    pub fn new(rt: &'a R, alloc: Global) -> FileBay<'a, R>
+impl<'a, R: Files<File = File>> FileBay<SystemFile<'a, R>> {
+    /// A bay of the runtime's files that has mounted nothing, and whose file may be changed.
+    pub fn new(rt: &'a R) -> FileBay<SystemFile<'a, R>>
         ensures none { mount_of result.last ≡ None }
-        ensures turns { result.turns ≡ 0 }
+    {
+        FileBay::over(SystemFile::new(rt), Use::Changing)
+    }
+
+    /// A bay of the runtime's files that has mounted nothing, and whose file is only read.
+    pub fn reading(rt: &'a R) -> FileBay<SystemFile<'a, R>>
+        ensures none { mount_of result.last ≡ None }
+    {
+        FileBay::over(SystemFile::new(rt), Use::Reading)
+    }
+}
+
+impl<H: Host> FileBay<H> {
+    ghost use Rattle.disk_file.specs.Bays.{SameBay, bay_state, cause_of, has_lost, host_of, marks_of, use_of};
+
+    /// A bay over a system, that has mounted nothing.
+    pub fn over(host: H, usage: Use) -> FileBay<H>
+        ensures none { mount_of result.last ≡ None }
         ensures faults { result.faults ≡ 0 }
-        ensures whole { IsFalse result.has_lost }
+        ensures whole { IsFalse (has_lost result) }
+        ensures usage { use_of result ≡ usage }
+        ensures host { host_of result ≡ host }
     {
         FileBay {
-            rt,
-            alloc,
-            file: None,
+            host,
+            usage,
             last: None,
-            turns: 0,
             faults: 0,
+            cause: None,
             has_lost: false,
         }
     }
-}
 
-impl<R: Files> FileBay<'_, R> {
-    /// Counts a failure.
-    fn fail(&mut self) -> DiskFault
+    /// The system.
+    pub fn host(&self) -> &H
+        ensures { result.now ≡ host_of self.now }
+    {
+        &self.host
+    }
+
+    /// Why the last failed call failed.
+    pub fn cause(&self) -> Option<Cause>
+        ensures { result ≡ cause_of self.now }
+    {
+        self.cause
+    }
+
+    /// Counts a failure and keeps its cause.
+    fn fail(&mut self, cause: Cause) -> DiskFault
         ensures faults { self.new.faults ≡ counted self.old.faults 1 }
         ensures later { self.old.faults ≤ self.new.faults }
-        ensures turns { self.new.turns ≡ self.old.turns }
+        ensures cause { IsTrue (is_some self.new.cause) }
+        ensures host { self.new.host ≡ self.old.host }
         ensures last { self.new.last ≡ self.old.last }
+        ensures usage { self.new.usage ≡ self.old.usage }
         ensures lost { self.new.has_lost ≡ self.old.has_lost }
     {
         self.faults = self.faults.saturating_add(1);
+        self.cause = Some(cause);
         DiskFault
-    }
-
-    /// Counts a changing call that has ended.
-    fn turn(&mut self)
-        ensures turns { self.new.turns ≡ counted self.old.turns 1 }
-        ensures later { self.old.turns ≤ self.new.turns }
-        ensures faults { self.new.faults ≡ self.old.faults }
-        ensures last { self.new.last ≡ self.old.last }
-        ensures lost { self.new.has_lost ≡ self.old.has_lost }
-    {
-        self.turns = self.turns.saturating_add(1);
-    }
-
-    /// The open file.
-    fn open(&self) -> &R::File
-        requires { IsTrue (is_mounted (mount_of self.now.last)) }
-    {
-        match &self.file {
-            Some(file) => file,
-            None => unreachable!(),
-        }
     }
 }
 
-impl<R: Files> Disk for FileBay<'_, R>
-where
-    R::File: FileExt,
-{
-    ghost use Rattle.std.specs.Prelude.{◌↔◌, IsErr, OnOk};
-    ghost use Rattle.std.proofs.Common.{arith};
-    ghost use Rattle.disk_face.specs.Counts.{HasCause};
-    ghost use Rattle.disk_face.specs.Frames.{AfterSync};
-    ghost use Rattle.disk_face.specs.Moments.{Only};
-    ghost use Rattle.std.proofs.lemmas.Bool.{false≢true};
-    ghost use Rattle.disk_file.specs.Bays.{bay_state, has_lost};
+impl<H: Host> Disk for FileBay<H> {
+    ghost use Rattle.disk_file.specs.Bays.{SameBay, bay_state, cause_of, has_lost, marks_of, use_of};
 
     ghost state = { bay_state };
 
-    ghost lawful = { λ bay. record {
-      has_content = λ told. absurd (false≢true told);
-      both_told = λ told. told;
-      counts_now = λ t image t_le is. is;
-      only_now = λ image below since. since;
-      turn_fits = omega arith;
-    } };
+    ghost lawful = { λ bay. let l = H.lawful bay.host in
+        record {
+          has_content = l.has_content;
+          both_told = l.both_told;
+          counts_now = l.counts_now;
+          only_now = l.only_now;
+          turn_fits = l.turn_fits;
+        } };
 
-    fn len(&mut self) -> Result<u64, DiskFault> {
-        match self.open().metadata() {
-            Ok(metadata) => Ok(metadata.len()),
-            Err(_) => Err(self.fail()),
+    fn len(&mut self) -> Result<u64, DiskFault>
+        requires { IsTrue (bay_state self.old).is_ready }
+        ensures length { IsTrue (bay_state self.old).tells
+            → IfOk result (λ n. n ≡ length (bay_state self.old).file) }
+        ensures frame { AfterRead (bay_state self.old) (bay_state self.new) }
+        ensures cause { HasCause (bay_state self.old).faults (bay_state self.new).faults result }
+        ensures serves { IsFalse (marks_of self.old).may_fail → IsOk result }
+        ensures told { OnErr result (IsTrue (is_some (cause_of self.new))) }
+        ensures bay { SameBay self.old self.new }
+    {
+        match self.host.length() {
+            Ok(length) => Ok(length),
+            Err(error) => Err(self.fail(Cause::System(error))),
         }
     }
 
-    fn read_at(&mut self, pos: u64, out: &mut [u8]) -> Result<(), DiskFault> {
-        if fill(&SystemFile(self.open()), pos, out) {
-            return Ok(());
-        }
-        Err(self.fail())
-    }
-
-    fn write_at(&mut self, pos: u64, bytes: &[u8]) -> Result<(), DiskFault> {
-        self.turn();
-        if write_whole(&mut SystemFile(self.open()), pos, bytes) {
-            return Ok(());
-        }
-        Err(self.fail())
-    }
-
-    fn set_len(&mut self, n: u64) -> Result<(), DiskFault> {
-        self.turn();
-        match self.open().set_len(n) {
+    fn read_at(&mut self, pos: u64, out: &mut [u8]) -> Result<(), DiskFault>
+        requires ready { IsTrue (bay_state self.old).is_ready }
+        requires within { IsTrue (bay_state self.old).tells
+            → pos + length out.old ≤ length (bay_state self.old).file }
+        ensures bytes { IsTrue (bay_state self.old).tells
+            → OnOk result (out.new ≡ bytes_at (bay_state self.old).file pos (length out.old)) }
+        ensures frame { AfterRead (bay_state self.old) (bay_state self.new) }
+        ensures cause { HasCause (bay_state self.old).faults (bay_state self.new).faults result }
+        ensures serves { IsFalse (marks_of self.old).may_fail → IsTrue (bay_state self.old).tells
+            → pos + length out.old ≤ last → IsOk result }
+        ensures told { OnErr result (IsTrue (is_some (cause_of self.new))) }
+        ensures bay { SameBay self.old self.new }
+    {
+        match fill(&self.host, pos, out) {
             Ok(()) => Ok(()),
-            Err(_) => Err(self.fail()),
+            Err(cause) => Err(self.fail(cause)),
+        }
+    }
+
+    fn write_at(&mut self, pos: u64, bytes: &[u8]) -> Result<(), DiskFault>
+        requires ready { IsTrue (bay_state self.old).is_ready }
+        requires within { IsTrue (bay_state self.old).tells
+            → pos + length bytes.now ≤ length (bay_state self.old).file }
+        ensures written { IsTrue (bay_state self.old).tells
+            → OnOk result ((bay_state self.new).file ≡ overwritten (bay_state self.old).file pos bytes.now) }
+        ensures frame { AfterWrite pos (length bytes.now) (bay_state self.old) (bay_state self.new) }
+        ensures cause { HasCause (bay_state self.old).faults (bay_state self.new).faults result }
+        ensures serves { IsFalse (marks_of self.old).may_fail → IsTrue (bay_state self.old).tells
+            → pos + length bytes.now ≤ last → IsOk result }
+        ensures told { OnErr result (IsTrue (is_some (cause_of self.new))) }
+        ensures bay { SameBay self.old self.new }
+    {
+        match write(&mut self.host, pos, bytes) {
+            Ok(()) => Ok(()),
+            Err(cause) => Err(self.fail(cause)),
+        }
+    }
+
+    fn set_len(&mut self, n: u64) -> Result<(), DiskFault>
+        requires { IsTrue (bay_state self.old).is_ready }
+        ensures resized { IsTrue (bay_state self.old).tells
+            → OnOk result ((bay_state self.new).file ≡ resized (bay_state self.old).file n) }
+        ensures either { IsTrue (bay_state self.old).tells
+            → OnErr result (((bay_state self.new).file ≡ (bay_state self.old).file)
+            ⊎ ((bay_state self.new).file ≡ resized (bay_state self.old).file n)) }
+        ensures frame { AfterLength n (bay_state self.old) (bay_state self.new) }
+        ensures cause { HasCause (bay_state self.old).faults (bay_state self.new).faults result }
+        ensures serves { IsFalse (marks_of self.old).may_fail → n ≤ (marks_of self.old).room → IsOk result }
+        ensures told { OnErr result (IsTrue (is_some (cause_of self.new))) }
+        ensures bay { SameBay self.old self.new }
+    {
+        match resize(&mut self.host, n) {
+            Ok(()) => Ok(()),
+            Err(cause) => Err(self.fail(cause)),
         }
     }
 
@@ -149,35 +202,67 @@ where
         ensures cause { HasCause (bay_state self.old).faults (bay_state self.new).faults result }
         ensures lost { IsTrue (has_lost self.old) → IsErr result }
         ensures loses { IsErr result ↔ IsTrue (has_lost self.new) }
+        ensures serves { IsFalse (marks_of self.old).may_fail → IsFalse (has_lost self.old) → IsOk result }
+        ensures told { OnErr result (IsTrue (is_some (cause_of self.new))) }
+        ensures marks { marks_of self.new ≡ marks_of self.old }
+        ensures usage { use_of self.new ≡ use_of self.old }
     {
-        self.turn();
-        if self.has_lost || self.open().sync_all().is_err() {
-            self.has_lost = true;
-            return Err(self.fail());
+        match sync(&mut self.host, self.has_lost) {
+            Ok(()) => Ok(()),
+            Err(cause) => {
+                self.has_lost = true;
+                Err(self.fail(cause))
+            }
         }
-        Ok(())
     }
 
     fn turns(&self) -> u64 {
-        self.turns
+        self.host.turns()
     }
 }
 
-impl<R: Files> Bay for FileBay<'_, R>
-where
-    R::File: FileExt,
-{
-    ghost names = { λ _. record { tells = false; is_there = λ _. false } };
+impl<H: Host> Bay for FileBay<H> {
+    ghost use Rattle.disk_file.specs.Hosts.{names_of};
+    ghost use Rattle.disk_file.specs.Bays.{bay_state, cause_of, marks_of, use_of};
+
+    ghost names = { λ bay. names_of (marks_of bay) };
 
     ghost ready_if_mounted = { λ _. refl };
 
-    fn mount(&mut self, name: &str, make: bool) -> Result<Mounted, DiskFault> {
-        let Ok(copy) = String::from_str(self.alloc, name) else {
-            return Err(self.fail());
-        };
-        match find_or_make(self.rt, name, make) {
-            Ok((file, answer)) => {
-                self.file = file;
+    /// Looks what has the name, opens it if it is a file, and takes its lock. A file that may be changed
+    /// is then brought to rest: it is synced, and the system lets go of its copies of the pages.
+    fn mount(&mut self, name: &str, make: bool) -> Result<Mounted, DiskFault>
+        requires { (bay_state self.old).last_mount ≡ None }
+        ensures mounted { IfOk result (λ answer. (bay_state self.new).last_mount
+            ≡ Some (record { name = name.now; make = make; answer = answer })) }
+        ensures none { OnErr result ((bay_state self.new).last_mount ≡ None) }
+        ensures there { IsTrue (names_of (marks_of self.old)).tells → IfOk result (λ answer.
+            IsTrue ((names_of (marks_of self.old)).is_there name.now) ↔ (answer ≡ Mounted.There)) }
+        ensures made { result ≡ Ok Mounted.Made
+            → IsTrue make × (IsTrue (bay_state self.old).tells → (bay_state self.new).file ≡ []) }
+        ensures absent { result ≡ Ok Mounted.Absent → IsFalse make }
+        ensures frame { AfterMount (bay_state self.old) (bay_state self.new) }
+        ensures cause { HasCause (bay_state self.old).faults (bay_state self.new).faults result }
+        ensures names_told { (names_of (marks_of self.new)).tells ≡ (names_of (marks_of self.old)).tells }
+        ensures held { IsTrue (marks_of self.old).tells → IfOk result (λ answer.
+            IsHeld (use_of self.old) answer (marks_of self.new)) }
+        ensures rests { IfOk result (λ answer. IsAtRest (use_of self.old) answer (bay_state self.new)) }
+        ensures named { IsTrue (marks_of self.old).tells → IfOk result (λ answer.
+            HasName (use_of self.old) answer (bay_state self.new) (marks_of self.new)) }
+        ensures serves { IsFalse (marks_of self.old).may_fail → 0 < length name.now → length name.now ≤ 4095
+            → CanMount (use_of self.old) make name.now (marks_of self.old) → IsOk result }
+        ensures told { OnErr result (IsTrue (is_some (cause_of self.new))) }
+        ensures usage { use_of self.new ≡ use_of self.old }
+    {
+        if name.is_empty() {
+            return Err(self.fail(Cause::NoName));
+        }
+        let mut copy = ArrayVec::new();
+        if copy.try_extend_from_slice(name.as_bytes()).is_err() {
+            return Err(self.fail(Cause::LongName));
+        }
+        match find_or_make(&mut self.host, name, self.usage, make) {
+            Ok(answer) => {
                 self.last = Some(Last {
                     name: copy,
                     make,
@@ -185,7 +270,7 @@ where
                 });
                 Ok(answer)
             }
-            Err(_) => Err(self.fail()),
+            Err(cause) => Err(self.fail(cause)),
         }
     }
 }

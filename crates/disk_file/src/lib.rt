@@ -2,15 +2,22 @@
 #![tactic(auto)]
 
 mod bay;
+mod calls;
+mod cause;
+mod host;
 mod mounts;
 mod passes;
 mod positions;
 mod retries;
 mod standard;
 mod streams;
+mod system;
 #[cfg(test)]
 mod tests;
 
 pub use bay::FileBay;
+pub use cause::Cause;
+pub use host::{Host, How, Kind, Use};
 pub use standard::{HeldNumbers, hold_numbers};
 pub use streams::{StdSink, StdSource};
+pub use system::SystemFile;

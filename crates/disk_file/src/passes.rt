@@ -1,8 +1,9 @@
 //! Reads and writes of streams, of which one call may pass on a part alone.
-ghost use Rattle.std.specs.Prelude.{◌≡◌, ◌≤◌, ℕ, length, take, IsTrue, IsFalse};
+ghost use Rattle.std.specs.Prelude.{◌≡◌, ◌≤◌, ℕ, length, take, OnOk};
 ghost use Rattle.std.specs.Io.{ReadsAtMost};
 ghost use Rattle.std.specs.Io.KnownBytes.{Appends, ReadConsumes};
 
+use crate::cause::Cause;
 use crate::retries::is_interrupted;
 use std::io::{self, ErrorKind, Read, Write};
 
@@ -21,23 +22,23 @@ pub fn read_once<I: Read>(reader: &mut I, out: &mut [u8]) -> io::Result<usize>
 }
 
 /// Writes all the bytes. An interrupted call is tried again; any other failed call, and one that
-/// takes none of what is left, ends it with false, where a front of the bytes was written.
-pub fn put_all<O: Write>(writer: &mut O, bytes: &[u8]) -> bool
-    ensures all { IsTrue result → Appends (O.contents writer.old) (O.contents writer.new) bytes.now }
+/// takes none of what is left, ends it with its cause, where a front of the bytes was written.
+pub fn put_all<O: Write>(writer: &mut O, bytes: &[u8]) -> Result<(), Cause>
+    ensures all { OnOk result (Appends (O.contents writer.old) (O.contents writer.new) bytes.now) }
     ensures front { (n : ℕ) × (n ≤ length bytes.now)
         × Appends (O.contents writer.old) (O.contents writer.new) (take n bytes.now) }
 {
     let mut done = 0;
     'calls: for _ in 0..u64::MAX {
         if done >= bytes.len() {
-            return true;
+            return Ok(());
         }
         match writer.write(&bytes[done..]) {
-            Ok(0) => return false,
+            Ok(0) => return Err(Cause::NoneTaken),
             Ok(n) => done += n,
             Err(error) if is_interrupted(&error) => {}
-            Err(_) => return false,
+            Err(error) => return Err(Cause::System(error)),
         }
     }
-    false
+    Err(Cause::NoneTaken)
 }

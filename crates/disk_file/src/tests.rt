@@ -1,3 +1,4 @@
+mod calls;
 mod faulty;
 mod files;
 mod slow;

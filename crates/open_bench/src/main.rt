@@ -28,7 +28,7 @@ fn main(rt: HostRuntime) -> io::Result<()> {
     if names < 16 || 65_536 < names {
         return Err(failed());
     }
-    let mut bay = FileBay::new(&rt, rt.alloc());
+    let mut bay = FileBay::new(&rt);
     let Ok(Mounted::Made | Mounted::There) = bay.mount(NAME, true) else {
         return Err(failed());
     };

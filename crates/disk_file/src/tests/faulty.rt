@@ -1,172 +1,189 @@
-//! A runtime of one file, of which one call of the system fails.
-ghost use Rattle.std.specs.Prelude.{IsErr};
+//! A system that notes each call, and fails one.
+ghost use Rattle.std.specs.Prelude.{◌≤◌, ◌+◌, true};
 
-use std::alloc::Allocator;
+use crate::host::{Host, How, Kind, Use};
 use std::cell::Cell;
-use std::fs::{Files, Metadata, OpenFile, OpenOptions};
-use std::io::{self, ErrorKind, Read, Seek, SeekFrom, Write};
-use std::os::unix::fs::FileExt;
+use std::io::{self, ErrorKind};
 
-/// The file `f`, which is there or not. Once it is open, the call of the number `fails` fails,
-/// counted from 1.
+/// A file of up to 16 bytes, of which a read or a write passes on three at most. The call of the
+/// number `fails` fails, counted from 1; where it `stutters`, each second read and write is
+/// interrupted. `log` has a hexadecimal digit for each of the last calls.
 #[derive(Drop)]
-pub struct OneFile {
-    pub there: bool,
+pub struct Faulty {
+    /// What stands under the name `f`.
+    pub kind: Option<Kind>,
+    /// What an opened file turns out to be.
+    pub opened: Kind,
+    pub held: bool,
     pub fails: u64,
+    pub stutters: bool,
+    pub bytes: [u8; 16],
+    pub len: usize,
+    pub turns: u64,
+    pub calls: Cell<u64>,
+    pub log: Cell<u64>,
 }
 
-/// The open file. Its bytes are sevens, and a read or a write passes on three of them at most.
-#[derive(Drop)]
-pub struct FaultyFile {
-    fails: u64,
-    calls: Cell<u64>,
-    len: Cell<u64>,
-}
+pub const LOOK: u64 = 1;
 
-/// What no mount calls for.
-#[derive(Drop)]
-pub struct NoFolder;
+pub const OPEN: u64 = 2;
 
-fn unsupported<T>() -> io::Result<T>
-    ensures { IsErr result }
-{
-    Err(io::Error::from(ErrorKind::Unsupported))
-}
+pub const KIND: u64 = 3;
 
-impl Files for OneFile {
-    type File = FaultyFile;
+pub const LOCK: u64 = 4;
 
-    type Dir = NoFolder;
+pub const SYNC_ALL: u64 = 5;
 
-    fn open_file(&self, how: &OpenOptions, path: &str) -> io::Result<FaultyFile> {
-        how.check()?;
-        if !how.asks_read() || !how.asks_write() || how.asks_truncate() || how.asks_append() {
-            return Err(io::Error::from(ErrorKind::InvalidInput));
-        }
-        if path != "f" {
-            return Err(io::Error::from(ErrorKind::PermissionDenied));
-        }
-        if self.there && how.asks_create_new() {
-            return Err(io::Error::from(ErrorKind::AlreadyExists));
-        }
-        if !self.there && !how.asks_create_new() {
-            return Err(io::Error::from(ErrorKind::NotFound));
-        }
-        Ok(FaultyFile {
-            fails: self.fails,
+pub const DROP_PAGES: u64 = 6;
+
+pub const SYNC_FOLDER: u64 = 7;
+
+pub const LENGTH: u64 = 8;
+
+pub const READ: u64 = 9;
+
+pub const WRITE: u64 = 10;
+
+pub const RESIZE: u64 = 11;
+
+pub const SYNC_DATA: u64 = 12;
+
+impl Faulty {
+    /// A system in which something stands under the name `f`, or nothing.
+    pub fn new(kind: Option<Kind>, fails: u64) -> Faulty {
+        Faulty {
+            kind,
+            opened: Kind::File,
+            held: false,
+            fails,
+            stutters: false,
+            bytes: [7; 16],
+            len: 0,
+            turns: 0,
             calls: Cell::new(0),
-            len: Cell::new(0),
-        })
+            log: Cell::new(0),
+        }
     }
 
-    fn open_dir(&self, _path: &str) -> io::Result<NoFolder> {
-        unsupported()
-    }
-
-    fn metadata(&self, _path: &str) -> io::Result<Metadata> {
-        unsupported()
-    }
-
-    fn symlink_metadata(&self, _path: &str) -> io::Result<Metadata> {
-        unsupported()
-    }
-
-    fn copy(&self, _from: &str, _to: &str) -> io::Result<u64> {
-        unsupported()
-    }
-
-    fn rename(&self, _from: &str, _to: &str) -> io::Result<()> {
-        unsupported()
-    }
-
-    fn remove_file(&self, _path: &str) -> io::Result<()> {
-        unsupported()
-    }
-
-    fn create_dir(&self, _path: &str) -> io::Result<()> {
-        unsupported()
-    }
-
-    fn remove_dir(&self, _path: &str) -> io::Result<()> {
-        unsupported()
-    }
-
-    fn remove_dir_all<B: Allocator>(&self, _alloc: B, _path: &str) -> io::Result<()> {
-        unsupported()
-    }
-}
-
-impl FaultyFile {
-    /// Counts a call of the system, and fails the one that is to.
-    fn call(&self) -> io::Result<()> {
+    /// Notes a call, and fails the one that is to.
+    fn call(&self, digit: u64) -> io::Result<()> {
         let number = self.calls.get().wrapping_add(1);
         self.calls.set(number);
+        self.log
+            .set(self.log.get().wrapping_mul(16).wrapping_add(digit));
         if number == self.fails {
             return Err(io::Error::from(ErrorKind::Other));
         }
-        Ok(())
-    }
-}
-
-impl OpenFile for FaultyFile {
-    fn metadata(&self) -> io::Result<Metadata> {
-        self.call()?;
-        Ok(Metadata::of_file(self.len.get()))
-    }
-
-    fn set_len(&self, size: u64) -> io::Result<()> {
-        self.call()?;
-        self.len.set(size);
+        if self.stutters && number % 2 == 1 && (digit == READ || digit == WRITE) {
+            return Err(io::Error::from(ErrorKind::Interrupted));
+        }
         Ok(())
     }
 
-    fn sync_all(&self) -> io::Result<()> {
-        self.call()
-    }
-
-    fn sync_data(&self) -> io::Result<()> {
-        unsupported()
+    /// Where a read or a write of so many bytes begins, and how many it passes on.
+    fn part(&self, pos: u64, n: usize) -> (usize, usize)
+        ensures within { result.0 + result.1 ≤ 16 }
+        ensures bound { result.1 ≤ n }
+    {
+        let len = self.len.min(16);
+        let start = (pos as usize).min(len);
+        (start, n.min(3).min(len - start))
     }
 }
 
-impl FileExt for FaultyFile {
-    fn read_at(&self, buf: &mut [u8], _offset: u64) -> io::Result<usize> {
-        self.call()?;
-        let n = buf.len().min(3);
-        buf[..n].fill(7);
+impl Host for Faulty {
+    ghost use Rattle.std.proofs.Common.{arith};
+    ghost use Rattle.std.proofs.lemmas.Bool.{false≢true};
+    ghost use Rattle.disk_file.specs.Hosts.{untold_marks};
+    ghost use Rattle.disk_file.specs.Mounted.{untold};
+
+    ghost state = { λ host. untold host.turns true };
+
+    ghost marks = { λ _. untold_marks };
+
+    ghost lawful = { λ host. record {
+      has_content = λ told. absurd (false≢true told);
+      both_told = λ told. told;
+      counts_now = λ t image t_le is. is;
+      only_now = λ image below since. since;
+      turn_fits = omega arith;
+    } };
+
+    fn look(&self, name: &str) -> io::Result<Kind> {
+        self.call(LOOK)?;
+        match self.kind {
+            Some(kind) if name == "f" => Ok(kind),
+            _ => Err(io::Error::from(ErrorKind::NotFound)),
+        }
+    }
+
+    fn open(&mut self, _name: &str, how: How) -> io::Result<()> {
+        self.call(OPEN)?;
+        if self.kind.is_some() && how == How::Make {
+            return Err(io::Error::from(ErrorKind::AlreadyExists));
+        }
+        Ok(())
+    }
+
+    fn kind(&self) -> io::Result<Kind> {
+        self.call(KIND)?;
+        Ok(self.opened)
+    }
+
+    fn lock(&mut self, _usage: Use) -> io::Result<()> {
+        self.call(LOCK)?;
+        if self.held {
+            return Err(io::Error::from(ErrorKind::WouldBlock));
+        }
+        Ok(())
+    }
+
+    fn sync_all(&mut self) -> io::Result<()> {
+        self.call(SYNC_ALL)
+    }
+
+    fn drop_pages(&mut self) -> io::Result<()> {
+        self.call(DROP_PAGES)
+    }
+
+    fn sync_folder(&mut self, _name: &str) -> io::Result<()> {
+        self.call(SYNC_FOLDER)
+    }
+
+    fn length(&self) -> io::Result<u64> {
+        self.call(LENGTH)?;
+        Ok(self.len as u64)
+    }
+
+    fn read_some(&self, pos: u64, out: &mut [u8]) -> io::Result<usize> {
+        self.call(READ)?;
+        let (start, n) = self.part(pos, out.len());
+        out[..n].copy_from_slice(&self.bytes[start..start + n]);
         Ok(n)
     }
 
-    fn write_at(&self, buf: &[u8], _offset: u64) -> io::Result<usize> {
-        self.call()?;
-        Ok(buf.len().min(3))
-    }
-}
-
-impl Read for FaultyFile {
-    fn read(&mut self, _buf: &mut [u8]) -> io::Result<usize> {
-        unsupported()
-    }
-}
-
-impl Write for FaultyFile {
-    fn write(&mut self, _buf: &[u8]) -> io::Result<usize> {
-        unsupported()
+    fn write_some(&mut self, pos: u64, bytes: &[u8]) -> io::Result<usize> {
+        self.call(WRITE)?;
+        let (start, n) = self.part(pos, bytes.len());
+        self.bytes[start..start + n].copy_from_slice(&bytes[..n]);
+        Ok(n)
     }
 
-    fn flush(&mut self) -> io::Result<()> {
+    fn resize(&mut self, n: u64) -> io::Result<()> {
+        self.call(RESIZE)?;
+        self.len = n as usize;
         Ok(())
     }
-}
 
-impl Seek for FaultyFile {
-    fn seek(&mut self, _to: SeekFrom) -> io::Result<u64> {
-        unsupported()
+    fn sync_data(&mut self) -> io::Result<()> {
+        self.call(SYNC_DATA)
     }
-}
 
-impl Read for NoFolder {
-    fn read(&mut self, _buf: &mut [u8]) -> io::Result<usize> {
-        unsupported()
+    fn end_call(&mut self) {
+        self.turns = self.turns.saturating_add(1);
+    }
+
+    fn turns(&self) -> u64 {
+        self.turns
     }
 }

@@ -1,6 +1,5 @@
-//! Real files, and files that fail at a call.
-use super::faulty::OneFile;
-use crate::{FileBay, hold_numbers};
+//! Real files.
+use crate::{Cause, FileBay, hold_numbers};
 use disk_face::{Bay, Disk, Mounted};
 use std::alloc::{AllocError, Global};
 use std::fs;
@@ -11,6 +10,10 @@ const FOLDER: &str = "scratch_of_disk_file";
 const NAME: &str = "scratch_of_disk_file/f";
 
 const STORE_NAME: &str = "scratch_store_of_disk_file";
+
+const HELD_NAME: &str = "scratch_held_of_disk_file";
+
+const READ_NAME: &str = "scratch_read_of_disk_file";
 
 /// The bytes of a store of 16 names that has the object `a`, `hello`: where they stand, all but the
 /// zeros between them.
@@ -46,7 +49,7 @@ fn keeps_a_real_file(rt: HostRuntime) -> Result<(), Fail> {
     let _ = fs::remove_dir_all(&rt, FOLDER);
     fs::create_dir(&rt, FOLDER)?;
     let mut out = [0u8; 10];
-    let mut bay = FileBay::new(&rt, rt.alloc());
+    let mut bay = FileBay::new(&rt);
     assert_eq!(rt; bay.mount(NAME, true)?, Mounted::Made);
     bay.set_len(10)?;
     bay.write_at(3, b"hello")?;
@@ -56,7 +59,7 @@ fn keeps_a_real_file(rt: HostRuntime) -> Result<(), Fail> {
     assert!(rt; bay.read_at(1, &mut out).is_err());
     assert_eq!(rt; bay.turns(), 3);
     fs::remove_dir_all(&rt, FOLDER)?;
-    let mut gone = FileBay::new(&rt, rt.alloc());
+    let mut gone = FileBay::new(&rt);
     assert_eq!(rt; gone.mount(NAME, false)?, Mounted::Absent);
     Ok(())
 }
@@ -67,7 +70,7 @@ fn leaves_a_store_whole(rt: HostRuntime) -> Result<(), Fail> {
     let _ = fs::remove_file(&rt, STORE_NAME);
     let written = store(rt.alloc())?;
     fs::write(&rt, STORE_NAME, &written)?;
-    let mut bay = FileBay::new(&rt, rt.alloc());
+    let mut bay = FileBay::new(&rt);
     assert_eq!(rt; bay.mount(STORE_NAME, true)?, Mounted::There);
     assert_eq!(rt; bay.len()?, 19608);
     let mut object = [0u8; 5];
@@ -85,60 +88,50 @@ fn holds_the_numbers_of_the_streams(rt: HostRuntime) -> Result<(), Fail> {
     Ok(())
 }
 
+/// What is no regular file is refused, and so is a file that another bay holds. Bays that read share.
 #[test]
-fn mounts_what_is_there(rt: HostRuntime) -> Result<(), Fail> {
-    let mounts: [(bool, bool, Mounted); 4] = [
-        (true, true, Mounted::There),
-        (true, false, Mounted::There),
-        (false, true, Mounted::Made),
-        (false, false, Mounted::Absent),
-    ];
-    for (there, make, answer) in mounts {
-        let files = OneFile { there, fails: 0 };
-        let mut bay = FileBay::new(&files, rt.alloc());
-        assert_eq!(rt; bay.mount("f", make)?, answer);
-        let mut bay = FileBay::new(&files, rt.alloc());
-        assert!(rt; bay.mount("locked", make).is_err());
-    }
+fn refuses_what_it_may_not_have(rt: HostRuntime) -> Result<(), Fail> {
+    let _ = fs::remove_file(&rt, HELD_NAME);
+    let mut folder = FileBay::new(&rt);
+    assert!(rt; folder.mount(".", true).is_err());
+    assert!(rt; matches!(folder.cause(), Some(Cause::Folder)));
+    let mut device = FileBay::reading(&rt);
+    assert!(rt; device.mount("/dev/null", false).is_err());
+    assert!(rt; matches!(device.cause(), Some(Cause::Special)));
+    fs::write(&rt, HELD_NAME, b"kept".as_slice())?;
+    let mut first = FileBay::reading(&rt);
+    let mut second = FileBay::reading(&rt);
+    let mut third = FileBay::new(&rt);
+    assert_eq!(rt; first.mount(HELD_NAME, false)?, Mounted::There);
+    assert_eq!(rt; second.mount(HELD_NAME, false)?, Mounted::There);
+    assert!(rt; third.mount(HELD_NAME, true).is_err());
+    assert!(rt; matches!(third.cause(), Some(Cause::InUse)));
+    drop((first, second));
+    let mut fourth = FileBay::new(&rt);
+    assert_eq!(rt; fourth.mount(HELD_NAME, true)?, Mounted::There);
+    let mut fifth = FileBay::reading(&rt);
+    assert!(rt; fifth.mount(HELD_NAME, false).is_err());
+    let left = fs::read(&rt, HELD_NAME)?;
+    fs::remove_file(&rt, HELD_NAME)?;
+    assert!(rt; left.as_slice() == b"kept".as_slice());
     Ok(())
 }
 
-/// A call of the system that fails is a fault of the call that made it, and of no other but a sync
-/// after a failed one.
+/// A bay that reads makes no file, and can't change one.
 #[test]
-fn fails_where_the_system_fails(rt: HostRuntime) -> Result<(), Fail> {
-    for fails in 1..=11u64 {
-        let files = OneFile { there: true, fails };
-        let mut bay = FileBay::new(&files, rt.alloc());
-        let mut out = [0u8; 8];
-        assert_eq!(rt; bay.mount("f", false)?, Mounted::There);
-        assert_eq!(rt; bay.set_len(8).is_err(), fails == 1, "set_len, {fails}");
-        let broken = fails >= 2 && fails <= 4;
-        assert_eq!(rt;
-            bay.write_at(0, b"abcdefgh").is_err(),
-            broken,
-            "write_at, {fails}"
-        );
-        assert_eq!(rt; bay.sync().is_err(), fails == 5, "sync, {fails}");
-        let broken = fails >= 6 && fails <= 8;
-        assert_eq!(rt;
-            bay.read_at(0, &mut out).is_err(),
-            broken,
-            "read_at, {fails}"
-        );
-        if !broken {
-            assert_eq!(rt;
-                out.as_slice(),
-                b"\x07\x07\x07\x07\x07\x07\x07\x07".as_slice()
-            );
-        }
-        match bay.len() {
-            Ok(len) => assert_eq!(rt; len, if fails == 1 { 0 } else { 8 }),
-            Err(_) => assert_eq!(rt; fails, 9),
-        }
-        let broken = fails == 5 || fails == 10;
-        assert_eq!(rt; bay.sync().is_err(), broken, "second sync, {fails}");
-        assert_eq!(rt; bay.turns(), 4);
-    }
+fn only_reads(rt: HostRuntime) -> Result<(), Fail> {
+    let _ = fs::remove_file(&rt, READ_NAME);
+    let mut none = FileBay::reading(&rt);
+    assert!(rt; none.mount(READ_NAME, true).is_err());
+    assert!(rt; !fs::exists(&rt, READ_NAME)?);
+    fs::write(&rt, READ_NAME, b"kept".as_slice())?;
+    let mut bay = FileBay::reading(&rt);
+    assert_eq!(rt; bay.mount(READ_NAME, false)?, Mounted::There);
+    assert_eq!(rt; bay.len()?, 4);
+    assert!(rt; bay.write_at(0, b"lost").is_err());
+    assert!(rt; bay.set_len(0).is_err());
+    let left = fs::read(&rt, READ_NAME)?;
+    fs::remove_file(&rt, READ_NAME)?;
+    assert!(rt; left.as_slice() == b"kept".as_slice());
     Ok(())
 }

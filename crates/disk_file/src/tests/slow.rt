@@ -1,5 +1,4 @@
-//! A file and a stream that pass on little at a time.
-use crate::positions::Positions;
+//! A stream that passes on little at a time.
 use std::io::{self, ErrorKind, Read, Write};
 
 /// How a call fails: by an error, or by passing on nothing.
@@ -9,8 +8,8 @@ pub enum Failing {
     ByNothing,
 }
 
-/// Passes on at most three bytes a call. Each second call of a stream or that writes is interrupted,
-/// and of the others the one of the number `fails` fails, counted from 1.
+/// Passes on at most three bytes a call. Each second call is interrupted, and of the others the one of the
+/// number `fails` fails, counted from 1.
 #[derive(Drop)]
 pub struct Slow {
     pub bytes: Vec<u8>,
@@ -44,33 +43,6 @@ impl Slow {
             Failing::ByError => Err(io::Error::from(ErrorKind::Other)),
             Failing::ByNothing => Ok(false),
         }
-    }
-}
-
-impl Positions for Slow {
-    ghost use Rattle.std.specs.Prelude.{false, true, []};
-
-    ghost tells = { λ _. false };
-
-    ghost file = { λ _. [] };
-
-    ghost may_fail = { λ _. true };
-
-    fn read_some(&self, pos: u64, out: &mut [u8]) -> io::Result<usize> {
-        let start = (pos as usize).min(self.bytes.len());
-        let n = out.len().min(3).min(self.bytes.len() - start);
-        out[..n].copy_from_slice(&self.bytes[start..start + n]);
-        Ok(n)
-    }
-
-    fn write_some(&mut self, pos: u64, bytes: &[u8]) -> io::Result<usize> {
-        if !self.call()? {
-            return Ok(0);
-        }
-        let start = (pos as usize).min(self.bytes.len());
-        let n = bytes.len().min(3).min(self.bytes.len() - start);
-        self.bytes[start..start + n].copy_from_slice(&bytes[..n]);
-        Ok(n)
     }
 }
 

@@ -1,31 +1,8 @@
 //! Streams that pass on little at a time, are interrupted, and fail at a call.
 use super::slow::{Failing, Slow};
-use crate::positions::{fill, write_whole};
 use crate::{StdSink, StdSource};
 use disk_face::{Sink, Source};
 use std::test::Fail;
-
-#[test]
-fn reads_and_writes_a_file_in_pieces(rt: HostRuntime) -> Result<(), Fail> {
-    let bytes = Vec::from_slice(rt.alloc(), b"0123456789")?;
-    let mut slow = Slow::new(bytes, 0, Failing::ByError);
-    let mut out = [0u8; 8];
-    assert!(rt; fill(&slow, 1, &mut out));
-    assert_eq!(rt; out.as_slice(), b"12345678".as_slice());
-    assert!(rt; !fill(&slow, 3, &mut out));
-    assert!(rt; write_whole(&mut slow, 2, b"abcdefgh"));
-    assert!(rt; !write_whole(&mut slow, 3, b"ABCDEFGH"));
-    assert_eq!(rt; slow.bytes.as_slice(), b"01aABCDEFG".as_slice());
-    for how in [Failing::ByError, Failing::ByNothing] {
-        for fails in 1..=4u64 {
-            let bytes = Vec::from_slice(rt.alloc(), b"0123456789")?;
-            let mut slow = Slow::new(bytes, fails, how);
-            let whole = write_whole(&mut slow, 1, b"abcdefgh");
-            assert_eq!(rt; whole, fails == 4, "{how:?}, {fails}");
-        }
-    }
-    Ok(())
-}
 
 /// An object that is put in two parts, until a put fails: what the writer has is a front of it.
 #[test]

@@ -1,4 +1,4 @@
-use Rattle.std.proofs.Common.{◌≡◌, ◌+◌, ◌≤◌, length, rules, arith, le_refl, ◌∙◌}
+use Rattle.std.proofs.Common.{◌≡◌, ◌+◌, length, rules, arith, le_refl, ◌∙◌}
 use Rattle.std.proofs.lemmas.Slice.{take-put_mid_below}
 use Rattle.disk_file.proofs.Steps.{filled_more, length-rest_of}
 use Rattle.disk_file.proofs.positions.fill.Goals as goal
@@ -29,18 +29,3 @@ calls-preserved g c =
             (omega (arith, rest, c.if-filled-out.false)));
       })
     ]
-
-pub returns-in-Err-2-clause-serves : goal.returns-in-Err-2-clause-serves
-returns-in-Err-2-clause-serves g c = λ steady fits ends.
-    let at : c.in-Some.at ≡ c.args.pos + c.calls.filled = search rules in
-    let len : length c.calls.out ≡ length c.args.out.now = search rules in
-    let rest = length-rest_of c.calls.out c.calls.filled in
-    absurd (c.in-Err.ensures.serves steady (omega (arith, at, rest, len, fits))
-    (omega (arith, rest, c.if-filled-out.false)))
-
-pub returns-clause-serves : goal.returns-clause-serves
-returns-clause-serves g c = λ steady fits ends.
-    let len : length c.calls.out ≡ length c.args.out.now = search rules in
-    let all : length c.calls.out ≤ c.calls.filled =
-    omega (arith, len, ends, c.calls.invariant.serves steady fits, c.calls-test.false) in
-    search rules

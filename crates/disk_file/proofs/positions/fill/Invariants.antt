@@ -6,8 +6,8 @@ use Rattle.disk_file.proofs.positions.fill.Given as goal
 abbrev pub invariant-calls : goal.invariant-calls
 invariant-calls g l = record {
   within : l.filled ≤ length l.out;
-  bytes : IsTrue (g.P.Positions.tells l.file)
-      → take l.filled l.out ≡ bytes_at (g.P.Positions.file l.file) l.pos l.filled;
-  serves : IsFalse (g.P.Positions.may_fail l.file)
-      → l.pos + length l.initial.out ≤ length (g.P.Positions.file l.file) → l.call ≤ l.filled;
+  bytes : IsTrue (g.H.Host.state l.host).tells
+      → take l.filled l.out ≡ bytes_at (g.H.Host.state l.host).file l.pos l.filled;
+  serves : IsFalse (g.H.Host.marks l.host).may_fail
+      → l.pos + length l.initial.out ≤ length (g.H.Host.state l.host).file → l.call ≤ l.filled;
 }
