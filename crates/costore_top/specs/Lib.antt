@@ -11,3 +11,4 @@ pub mod Headline
 pub mod Sessions
 pub mod Working
 pub mod Doing
+pub mod Changing

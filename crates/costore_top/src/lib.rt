@@ -2,6 +2,7 @@
 #![tactic(auto)]
 
 mod asked;
+mod changing;
 mod check;
 mod command;
 mod copy;
@@ -19,6 +20,7 @@ mod top;
 mod words;
 mod work;
 
+pub use changing::may_change;
 pub use laws::{
     ends_by_the_answer, jobs_are_done, one_answer, told_of_the_map, worked_summary, worked_texts,
 };

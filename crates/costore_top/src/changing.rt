@@ -1,0 +1,18 @@
+//! Whether a command may change its file.
+ghost use Rattle.std.specs.Prelude.{◌≡◌, IsFalse};
+ghost use Rattle.costore_top.specs.Changing.{changes};
+ghost use Rattle.costore_top.specs.Words.{Command, Means, MeansNone, texts};
+
+use crate::words::{Asked, read_words};
+
+/// Whether the words are a command that may change its file, or make it, so that who runs it has to
+/// hold the file alone and to have the right to write it. The other commands only read.
+pub fn may_change(words: &[&str]) -> bool
+    ensures changes { (c : Command) → Means (texts words.now) c → result ≡ changes c }
+    ensures none { MeansNone (texts words.now) → IsFalse result }
+{
+    matches!(
+        read_words(words),
+        Some(Asked::Format(_, _, _) | Asked::Run(_) | Asked::Work(_, _, _))
+    )
+}
