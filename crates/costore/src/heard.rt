@@ -1,0 +1,63 @@
+//! A sink that keeps what was put last.
+ghost use Rattle.std.specs.Prelude.{◌≡◌, ◌≤◌, [], length, IsTrue};
+ghost use Rattle.disk_face.specs.Counts.{HasCause};
+ghost use Rattle.disk_face.specs.Streams.{Puts};
+
+use arrayvec::ArrayVec;
+use disk_face::{Sink, SinkFault};
+
+/// Passes all on to a sink, and keeps the bytes of the last put where they are at most 128, as those of
+/// a fault line are.
+#[derive(Drop)]
+pub struct Heard<O: Sink> {
+    sink: O,
+    line: ArrayVec<u8, 128>,
+}
+
+impl<O: Sink> Heard<O> {
+    ghost use Rattle.costore.specs.Heard.{line_of, sink_of};
+
+    /// Round a sink; nothing was put.
+    pub fn new(sink: O) -> Heard<O>
+        ensures sink { sink_of result ≡ sink }
+        ensures line { line_of result ≡ [] }
+    {
+        Heard {
+            sink,
+            line: ArrayVec::new(),
+        }
+    }
+
+    /// The sink inside.
+    pub fn sink(&self) -> &O
+        ensures { result.now ≡ sink_of self.now }
+    {
+        &self.sink
+    }
+
+    /// What was put last, or nothing where that was more than a line.
+    pub fn line(&self) -> &[u8]
+        ensures { result.now ≡ line_of self.now }
+    {
+        self.line.as_slice()
+    }
+}
+
+impl<O: Sink> Sink for Heard<O> {
+    ghost use Rattle.costore.specs.Heard.{line_of, sink_of};
+
+    ghost state = { λ heard. O.state heard.sink };
+
+    fn put(&mut self, bytes: &[u8]) -> Result<(), SinkFault>
+        ensures put { IsTrue (O.state (sink_of self.old)).tells
+            → Puts (O.state (sink_of self.old)).given (O.state (sink_of self.new)).given bytes.now result }
+        ensures told { (O.state (sink_of self.new)).tells ≡ (O.state (sink_of self.old)).tells }
+        ensures cause { HasCause (O.state (sink_of self.old)).faults (O.state (sink_of self.new)).faults
+            result }
+        ensures line { length bytes.now ≤ 128 → line_of self.new ≡ bytes.now }
+    {
+        self.line.clear();
+        let _ = self.line.try_extend_from_slice(bytes);
+        self.sink.put(bytes)
+    }
+}
