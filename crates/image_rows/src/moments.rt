@@ -4,7 +4,7 @@ use crate::maps::FURTHER;
 use costore_top::Outcome;
 use disk_face::Disk;
 use disk_mem::{Choice, MemDisk};
-use row_vectors::runs::{joined, session};
+use row_vectors::runs::{Ran, joined, session};
 use std::alloc::Global;
 use std::process::Abort;
 use std::test::Fail;
@@ -127,19 +127,35 @@ fn try_further(
 ) -> Result<(), Fail> {
     let disk = MemDisk::from_bytes(alloc, image)?;
     let ran = session(alloc, disk, FURTHER.as_bytes(), 7)?;
-    let puts = joined(alloc, stage.puts)?;
+    let turn = opening.saturating_add(stage.calls);
+    let disk = try_replies(rt, alloc, ran, stage.puts, turn, at)?;
+    let kept = image_at(rt, &disk, turn, Choice::Durable)?;
+    try_check(rt, alloc, &kept, 0, stage.after, at)
+}
+
+/// What that session puts, and that its last call was the checkpoint's, at a turn. The disk is given back.
+fn try_replies(
+    rt: &impl Abort,
+    alloc: Global,
+    ran: Ran<MemDisk>,
+    puts: &[&str],
+    turn: u64,
+    at: (u64, Choice),
+) -> Result<MemDisk, Fail> {
     let outcome = Outcome {
         status: 0,
         done: 8,
         kept_done: 8,
-        kept_turn: opening.saturating_add(stage.calls),
+        kept_turn: turn,
     };
+    assert_eq!(rt;
+        (ran.outcome, ran.disk.turns()),
+        (outcome, turn),
+        "turn {at:?}"
+    );
+    let puts = joined(alloc, puts)?;
     assert_eq!(rt; ran.put.as_slice(), puts.as_slice(), "turn {at:?}");
-    assert_eq!(rt; ran.outcome, outcome, "turn {at:?}");
-    let turn = ran.disk.turns();
-    assert_eq!(rt; turn, outcome.kept_turn, "turn {at:?}");
-    let kept = image_at(rt, &ran.disk, turn, Choice::Durable)?;
-    try_check(rt, alloc, &kept, 0, stage.after, at)
+    Ok(ran.disk)
 }
 
 /// The images of the turns of a session from one to before another.

@@ -1,4 +1,5 @@
 //! Saving a table of names, and every image that a crash may leave of it.
+use crate::images::{CHOICES, image_at};
 use disk_face::Disk;
 use disk_mem::{Choice, MemDisk};
 use extent_table::{Spot, Table, a_table_can_be_saved};
@@ -59,17 +60,27 @@ fn save(rt: &impl Abort, alloc: Global, disk: &mut MemDisk, table: &Table) -> Re
     Ok(pair.save(disk, &HEADER, table, &mut buf)?)
 }
 
+/// Saves a table, with a sequence, and so many changing calls have ended then.
+fn try_save(
+    rt: &impl Abort,
+    alloc: Global,
+    disk: &mut MemDisk,
+    table: &Table,
+    left: (u64, u64),
+) -> Result<(), Fail> {
+    let sequence = save(rt, alloc, disk, table)?;
+    assert_eq!(rt; (sequence, disk.turns()), left);
+    Ok(())
+}
+
 #[test]
 fn saves_in_a_fixed_number_of_calls(rt: HostRuntime) -> Result<(), Fail> {
     let mut disk = MemDisk::new(rt.alloc());
     SlotPair::format(&mut disk, 9, 16)?;
     let none = table_of(&rt, rt.alloc(), 16, &[])?;
-    assert_eq!(rt; save(&rt, rt.alloc(), &mut disk, &none)?, 2);
-    assert_eq!(rt; disk.turns(), 16);
+    try_save(&rt, rt.alloc(), &mut disk, &none, (2, 16))?;
     let one = table_of(&rt, rt.alloc(), 16, &[("a", 0, 5)])?;
-    assert_eq!(rt; save(&rt, rt.alloc(), &mut disk, &one)?, 3);
-    assert_eq!(rt; disk.turns(), 23);
-    Ok(())
+    try_save(&rt, rt.alloc(), &mut disk, &one, (3, 23))
 }
 
 #[test]
@@ -83,9 +94,7 @@ fn saves_more_records_in_one_call_more(rt: HostRuntime) -> Result<(), Fail> {
         assert!(rt; table.room());
         table.set(&name, Spot { place: 0, size: 0 });
     }
-    assert_eq!(rt; save(&rt, rt.alloc(), &mut disk, &table)?, 2);
-    assert_eq!(rt; disk.turns(), 18);
-    Ok(())
+    try_save(&rt, rt.alloc(), &mut disk, &table, (2, 18))
 }
 
 /// A store with the object `a` = `hello` in its data part, saved once; the save began after 12 calls.
@@ -100,36 +109,50 @@ fn with_hello(rt: &impl Abort, alloc: Global) -> Result<MemDisk, Fail> {
     Ok(disk)
 }
 
+/// `get` of an image of a turn of that save puts the object, or finds none.
+fn try_image(
+    rt: &impl Abort,
+    alloc: Global,
+    disk: &MemDisk,
+    turn: u64,
+    choice: Choice,
+) -> Result<(), Fail> {
+    let image = image_at(rt, disk, turn, choice)?;
+    let ran = run(alloc, &["get", "f", "a"], &image)?;
+    let is_new = ran.outcome.status == 0;
+    let puts = if is_new { "hello" } else { "fault missing\n" };
+    assert_eq!(rt; ran.put.as_slice(), puts.as_bytes(), "turn {turn}");
+    assert!(rt; is_new || ran.outcome.status == 6, "turn {turn}");
+    assert!(rt; if is_new { 17 <= turn } else { turn < 19 }, "turn {turn}");
+    Ok(())
+}
+
 #[test]
 fn leaves_the_old_table_or_the_new_one(rt: HostRuntime) -> Result<(), Fail> {
     let disk = with_hello(&rt, rt.alloc())?;
     assert_eq!(rt; disk.turns(), 19);
-    let choices = [
-        Choice::Durable,
-        Choice::Newest,
-        Choice::Torn(0),
-        Choice::Torn(0x5A),
-        Choice::Torn(0xA5),
-    ];
     for turn in 12..20 {
-        for choice in choices {
-            assert!(rt; turn <= disk.turns());
-            let bytes = disk.image(turn, choice)?;
-            let ran = run(rt.alloc(), &["get", "f", "a"], &bytes)?;
-            let puts = if ran.outcome.status == 0 {
-                "hello"
-            } else {
-                "fault missing\n"
-            };
-            assert_eq!(rt; ran.put.as_slice(), puts.as_bytes(), "turn {turn}");
-            assert!(rt;
-                ran.outcome.status == 6 || ran.outcome.status == 0,
-                "turn {turn}"
-            );
-            assert!(rt; 17 <= turn || ran.outcome.status == 6, "turn {turn}");
-            assert!(rt; turn < 19 || ran.outcome.status == 0, "turn {turn}");
+        for choice in CHOICES {
+            try_image(&rt, rt.alloc(), &disk, turn, choice)?;
         }
     }
+    Ok(())
+}
+
+/// A record of a file of 19,603 bytes.
+fn try_record(
+    rt: &impl Abort,
+    disk: &mut MemDisk,
+    at: u64,
+    name: &str,
+    spot: (u64, u64),
+) -> Result<(), Fail> {
+    let mut bytes = [0u8; RECORD_LEN];
+    assert!(rt; disk.len()? == 19603 && at < 19_000);
+    disk.read_at(at, &mut bytes)?;
+    let record = read_record(&bytes)?;
+    assert_eq!(rt; record.name.as_bytes(), name.as_bytes());
+    assert_eq!(rt; (record.place, record.size), spot);
     Ok(())
 }
 
@@ -138,20 +161,12 @@ fn finds_the_records_of_a_table_again(rt: HostRuntime) -> Result<(), Fail> {
     let mut disk = MemDisk::new(rt.alloc());
     SlotPair::format(&mut disk, 9, 16)?;
     let table = table_of(&rt, rt.alloc(), 16, &[("b", 20, 1), ("a", 5, 10)])?;
-    save(&rt, rt.alloc(), &mut disk, &table)?;
+    try_save(&rt, rt.alloc(), &mut disk, &table, (2, 17))?;
     assert_eq!(rt; disk.len()?, 19603);
     let mut bytes = [0u8; HEADER_LEN];
     disk.read_at(9833, &mut bytes)?;
     let header = read_header(&bytes, 16)?;
-    assert_eq!(rt; header.sequence, 2);
-    assert_eq!(rt; header.count, 2);
-    for (at, name, place, size) in [(18321, "a", 5, 10), (18401, "b", 20, 1)] {
-        let mut bytes = [0u8; RECORD_LEN];
-        assert_eq!(rt; disk.len()?, 19603);
-        disk.read_at(at, &mut bytes)?;
-        let record = read_record(&bytes)?;
-        assert_eq!(rt; record.name.as_bytes(), name.as_bytes());
-        assert_eq!(rt; (record.place, record.size), (place, size));
-    }
-    Ok(())
+    assert_eq!(rt; (header.sequence, header.count), (2, 2));
+    try_record(&rt, &mut disk, 18321, "a", (5, 10))?;
+    try_record(&rt, &mut disk, 18401, "b", (20, 1))
 }
