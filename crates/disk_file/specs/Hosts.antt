@@ -22,8 +22,6 @@ pub record Marks : Type 0 where
   pub in_use : Bool
   -- the lock that is held
   pub lock : Option Use
-  -- reads give what the device has
-  pub is_fresh : Bool
   -- the folder was synced since the file was made
   pub is_named : Bool
 
@@ -65,6 +63,5 @@ untold_marks = record {
   opened = None;
   in_use = false;
   lock = None;
-  is_fresh = false;
   is_named = false;
 }

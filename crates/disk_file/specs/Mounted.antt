@@ -29,10 +29,9 @@ bay_disk host faults mount = record host {
   last_mount = mount;
 }
 
--- Once a file is mounted, its lock is held, and where it may be changed reads give what the device has.
-pub record IsHeld (usage : Use) (answer : Mounted) (marks : Marks) : Type 0 where
-  pub locked : IsTrue (has_file answer) → marks.lock ≡ Some usage
-  pub fresh : usage ≡ meant.Changing → IsTrue (has_file answer) → IsTrue marks.is_fresh
+-- once a file is mounted, its lock is held
+abbrev pub IsHeld : Use → Mounted → Marks → Type 0
+IsHeld usage answer marks = IsTrue (has_file answer) → marks.lock ≡ Some usage
 
 -- the name of a file that may be changed is safe, where it was made or is empty, as one that was just made
 pub record HasName (usage : Use) (answer : Mounted) (s : State) (marks : Marks) : Type 0 where

@@ -230,7 +230,7 @@ impl<H: Host> Bay for FileBay<H> {
     ghost ready_if_mounted = { λ _. refl };
 
     /// Looks what has the name, opens it if it is a file, and takes its lock. A file that may be changed
-    /// is then brought to rest: it is synced, and the system lets go of its copies of the pages.
+    /// is then brought to rest: it is synced.
     fn mount(&mut self, name: &str, make: bool) -> Result<Mounted, DiskFault>
         requires { (bay_state self.old).last_mount ≡ None }
         ensures mounted { IfOk result (λ answer. (bay_state self.new).last_mount

@@ -91,17 +91,6 @@ pub trait Host {
         ensures marks { marks self.new ≡ marks self.old }
         ensures serves { IsFalse (marks self.old).may_fail → IsOk result };
 
-    /// Lets go of the copies of the file's pages that the system keeps, once they are synced, so that
-    /// reads give what the device has.
-    fn drop_pages(&mut self) -> io::Result<()>
-        requires ready { IsTrue (state self.old).is_ready }
-        requires rests { IsTrue (state self.old).tells → Rests (state self.old) }
-        ensures fresh { IsTrue (marks self.old).tells → OnOk result (IsTrue (marks self.new).is_fresh) }
-        ensures ready { IsTrue (state self.new).is_ready }
-        ensures frame { AfterMount (state self.old) (state self.new) }
-        ensures hold { SameHold (marks self.old) (marks self.new) }
-        ensures serves { IsFalse (marks self.old).may_fail → IsOk result };
-
     /// Brings the name of the file to the device: syncs the folder that it is in.
     fn sync_folder(&mut self, name: &str) -> io::Result<()>
         requires { IsTrue (state self.old).is_ready }
@@ -109,7 +98,6 @@ pub trait Host {
         ensures ready { IsTrue (state self.new).is_ready }
         ensures frame { AfterMount (state self.old) (state self.new) }
         ensures hold { SameHold (marks self.old) (marks self.new) }
-        ensures fresh { (marks self.new).is_fresh ≡ (marks self.old).is_fresh }
         ensures serves { IsFalse (marks self.old).may_fail → IsOk result };
 
     /// The length of the file.

@@ -53,8 +53,6 @@ pub fn find_or_make<H: Host>(
 fn take<H: Host>(host: &mut H, name: &str, usage: Use) -> Result<(), Cause>
     ensures ready { OnOk result (IsTrue (H.state host.new).is_ready) }
     ensures locked { IsTrue (H.marks host.old).tells → OnOk result ((H.marks host.new).lock ≡ Some usage) }
-    ensures fresh { IsTrue (H.marks host.old).tells → usage ≡ Use.Changing
-        → OnOk result (IsTrue (H.marks host.new).is_fresh) }
     ensures rests { usage ≡ Use.Changing → IsTrue (H.state host.new).tells
         → OnOk result (Rests (H.state host.new)) }
     ensures named { IsTrue (H.marks host.old).tells → usage ≡ Use.Changing → IsTrue (H.state host.new).tells
@@ -85,7 +83,6 @@ fn name_if_empty<H: Host>(host: &mut H, name: &str) -> Result<(), Cause>
     ensures serves { IsFalse (H.marks host.old).may_fail → IsOk result }
     ensures frame { AfterMount (H.state host.old) (H.state host.new) }
     ensures hold { SameHold (H.marks host.old) (H.marks host.new) }
-    ensures fresh { (H.marks host.new).is_fresh ≡ (H.marks host.old).is_fresh }
 {
     let length = host.length().map_err(Cause::System)?;
     if length == 0 {
@@ -100,7 +97,6 @@ fn make_new<H: Host>(host: &mut H, name: &str, usage: Use, error: Error) -> Resu
     ensures ready { OnOk result (IsTrue (H.state host.new).is_ready) }
     ensures empty { IsTrue (H.state host.old).tells → OnOk result ((H.state host.new).file ≡ []) }
     ensures locked { IsTrue (H.marks host.old).tells → OnOk result ((H.marks host.new).lock ≡ Some usage) }
-    ensures fresh { IsTrue (H.marks host.old).tells → OnOk result (IsTrue (H.marks host.new).is_fresh) }
     ensures named { IsTrue (H.marks host.old).tells → OnOk result (IsTrue (H.marks host.new).is_named) }
     ensures rests { IsTrue (H.state host.new).tells → OnOk result (Rests (H.state host.new)) }
     ensures serves { IsFalse (H.marks host.old).may_fail → IsTrue (H.marks host.old).tells
@@ -140,20 +136,17 @@ fn open<H: Host>(host: &mut H, name: &str, how: How, usage: Use) -> Result<(), C
     host.lock(usage).map_err(not_held)
 }
 
-/// Brings a file to rest: what an earlier process wrote is on the device or never comes there, and
-/// reads give what the device has.
+/// Brings a file to rest: what an earlier process wrote is on the device.
 fn settle<H: Host>(host: &mut H) -> Result<(), Cause>
     requires ready { IsTrue (H.state host.old).is_ready }
     requires locked { IsTrue (H.marks host.old).tells → (H.marks host.old).lock ≡ Some Use.Changing }
     ensures ready { IsTrue (H.state host.new).is_ready }
-    ensures fresh { IsTrue (H.marks host.old).tells → OnOk result (IsTrue (H.marks host.new).is_fresh) }
     ensures rests { IsTrue (H.state host.new).tells → OnOk result (Rests (H.state host.new)) }
     ensures serves { IsFalse (H.marks host.old).may_fail → IsOk result }
     ensures frame { AfterMount (H.state host.old) (H.state host.new) }
     ensures hold { SameHold (H.marks host.old) (H.marks host.new) }
 {
-    host.sync_all().map_err(Cause::System)?;
-    host.drop_pages().map_err(Cause::System)
+    host.sync_all().map_err(Cause::System)
 }
 
 /// Why what has the name isn't opened.

@@ -6,7 +6,6 @@ ghost use Rattle.disk_file.specs.Mounted.{untold};
 use crate::host::{Host, How, Kind, Use};
 use std::fs::{self, File, Files, Metadata, OpenOptions, TryLockError};
 use std::io;
-use std::os::fd::AsRawFd;
 use std::os::unix::fs::FileExt;
 
 /// A file of the system, once it is open, and how many calls of a disk have ended.
@@ -120,14 +119,6 @@ impl<R: Files<File = File>> Host for SystemFile<'_, R> {
 
     fn sync_all(&mut self) -> io::Result<()> {
         self.open_file().sync_all()
-    }
-
-    fn drop_pages(&mut self) -> io::Result<()> {
-        let number = self.open_file().as_raw_fd();
-        match libc::posix_fadvise(number, 0, 0, libc::POSIX_FADV_DONTNEED) {
-            0 => Ok(()),
-            code => Err(io::Error::from_raw_os_error(code)),
-        }
     }
 
     fn sync_folder(&mut self, name: &str) -> io::Result<()> {

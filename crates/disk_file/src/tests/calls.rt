@@ -10,11 +10,11 @@ use std::test::Fail;
 #[test]
 fn mounts_in_order(rt: HostRuntime) -> Result<(), Fail> {
     let mounts: [(Option<Kind>, usize, Use, bool, u64); 9] = [
-        (Some(Kind::File), 4, Use::Changing, true, 0x123_4568),
-        (Some(Kind::File), 4, Use::Changing, false, 0x123_4568),
-        (Some(Kind::File), 0, Use::Changing, true, 0x1234_5687),
+        (Some(Kind::File), 4, Use::Changing, true, 0x12_3457),
+        (Some(Kind::File), 4, Use::Changing, false, 0x12_3457),
+        (Some(Kind::File), 0, Use::Changing, true, 0x123_4576),
         (Some(Kind::File), 0, Use::Reading, false, 0x1234),
-        (None, 0, Use::Changing, true, 0x123_4567),
+        (None, 0, Use::Changing, true, 0x12_3456),
         (None, 0, Use::Changing, false, 0x1),
         (None, 0, Use::Reading, true, 0x1),
         (Some(Kind::Folder), 0, Use::Changing, true, 0x1),
@@ -50,7 +50,7 @@ fn mounts_in_order(rt: HostRuntime) -> Result<(), Fail> {
 /// that turns out to be a pipe. Nothing is asked after that.
 #[test]
 fn fails_to_mount(rt: HostRuntime) -> Result<(), Fail> {
-    let logs: [u64; 7] = [0x1, 0x12, 0x123, 0x1234, 0x1_2345, 0x12_3456, 0x123_4567];
+    let logs: [u64; 6] = [0x1, 0x12, 0x123, 0x1234, 0x1_2345, 0x12_3456];
     for (i, log) in logs.iter().enumerate() {
         let mut bay = FileBay::over(Faulty::new(None, (i as u64).wrapping_add(1)), Use::Changing);
         assert!(rt; bay.mount("f", true).is_err());
@@ -97,7 +97,7 @@ fn refuses_names(rt: HostRuntime) -> Result<(), Fail> {
 #[test]
 fn fails_where_the_system_fails(rt: HostRuntime) -> Result<(), Fail> {
     for fails in 7..=17u64 {
-        let mut host = Faulty::new(Some(Kind::File), fails.wrapping_add(1));
+        let mut host = Faulty::new(Some(Kind::File), fails);
         host.len = 1;
         let mut bay = FileBay::over(host, Use::Changing);
         let mut out = [0u8; 8];

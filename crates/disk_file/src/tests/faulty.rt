@@ -34,19 +34,17 @@ pub const LOCK: u64 = 4;
 
 pub const SYNC_ALL: u64 = 5;
 
-pub const DROP_PAGES: u64 = 6;
+pub const SYNC_FOLDER: u64 = 6;
 
-pub const SYNC_FOLDER: u64 = 7;
+pub const LENGTH: u64 = 7;
 
-pub const LENGTH: u64 = 8;
+pub const READ: u64 = 8;
 
-pub const READ: u64 = 9;
+pub const WRITE: u64 = 9;
 
-pub const WRITE: u64 = 10;
+pub const RESIZE: u64 = 10;
 
-pub const RESIZE: u64 = 11;
-
-pub const SYNC_DATA: u64 = 12;
+pub const SYNC_DATA: u64 = 11;
 
 impl Faulty {
     /// A system in which something stands under the name `f`, or nothing.
@@ -140,10 +138,6 @@ impl Host for Faulty {
 
     fn sync_all(&mut self) -> io::Result<()> {
         self.call(SYNC_ALL)
-    }
-
-    fn drop_pages(&mut self) -> io::Result<()> {
-        self.call(DROP_PAGES)
     }
 
     fn sync_folder(&mut self, _name: &str) -> io::Result<()> {
