@@ -67,7 +67,6 @@ impl Display for Why<'_> {
             9 => Failed("standard output", self.output).fmt(f),
             10 => write!(f, "{file}: there is too little memory"),
             11 => f.write_str("standard input: a session has answered as many requests as it may"),
-            12 => f.write_str("the command work is not built yet"),
             _ => f.write_str("it failed"),
         }
     }
