@@ -4,6 +4,13 @@ pub mod MapLemmas
 pub mod FoundLemmas
 pub mod OrderLemmas
 pub mod PlaceLemmas
+pub mod PlaceCmpLemmas
+pub mod ShiftLemmas
+pub mod PlaceOrderLemmas
+pub mod GatherLemmas
+pub mod PlaceSortLemmas
+pub mod PlacesLaws
+pub mod RankLemmas
 pub mod RetainLemmas
 pub mod SearchLemmas
 pub mod SettleLemmas

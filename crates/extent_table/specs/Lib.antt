@@ -1,4 +1,5 @@
 pub mod Extents
+pub mod Places
 pub mod Parts
 pub mod Inside
 pub mod Rising

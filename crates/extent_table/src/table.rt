@@ -1,11 +1,13 @@
 //! The table of names, seen as two finite maps.
-ghost use Rattle.std.specs.Prelude.{◌≡◌, ◌⊎◌, ℕ, List, ◌<◌, ◌≤◌, ◌^◌, ◌↔◌, Some, IsSome, IfOk, IsTrue, slice_get};
+ghost use Rattle.std.specs.Prelude.{◌≡◌, ◌⊎◌, ℕ, List, ◌<◌, ◌≤◌, ◌^◌, ◌↔◌, Some, IsSome, IfOk, IsTrue, length, slice_get};
 ghost use Rattle.std.specs.FinMap as fin;
 ghost use Rattle.extent_table.specs.Extents.{IsTable, IsLive, MovesTo, KeepsKeys, volume_of, empty_extents};
+ghost use Rattle.extent_table.specs.Places.{HasRank, by_place, count_before};
 
 use crate::Spot;
 use crate::entry::{Entry, clear_spot, entries_with_room, keep_all, put_spot, take_back_all};
 use crate::order::{add, keys_with_room, search};
+use crate::places::{gap, place_all, rank_of, spot_of, stand};
 use slab::Slab;
 use slot_codec::{Name, NoMemory};
 use std::alloc::Global;
@@ -16,13 +18,17 @@ use std::marker::Model;
 /// the live names to their keys, and the number of names that may be live.
 ///
 /// An entry knows its name, its spot now and its kept spot, and has one of the two at least. Two
-/// orders list the keys of the entries that stand now and of those that were kept, by name.
+/// orders list the keys of the entries that stand now and of those that were kept, by name. A third
+/// lists those that stand now with at least one byte, by place; `last` is the rank in it that was
+/// touched last, where the next one is looked for first.
 #[derive(Drop)]
 pub struct Table {
     names: u64,
     entries: Slab<Entry>,
     order: Vec<u32>,
     kept_order: Vec<u32>,
+    places: Vec<u32>,
+    last: usize,
     volume: u64,
     kept_volume: u64,
 }
@@ -43,7 +49,7 @@ impl Model for Table {
 
 impl Table {
     /// An empty table in which `names` names may be live, at most 65,536. It takes the memory that
-    /// it will ever have: room for `2 * names` entries, and for two orders of `names` keys.
+    /// it will ever have: room for `2 * names` entries, and for three orders of `names` keys.
     pub fn with_room(alloc: Global, names: u64) -> Result<Table, NoMemory>
         requires { names ≤ 65536 }
         ensures empty { IfOk result (λ table. table ≡ empty_extents names) }
@@ -53,11 +59,14 @@ impl Table {
         let entries = entries_with_room(alloc, 2 * room)?;
         let order = keys_with_room(alloc, room)?;
         let kept_order = keys_with_room(alloc, room)?;
+        let places = keys_with_room(alloc, room)?;
         Ok(Table {
             names,
             entries,
             order,
             kept_order,
+            places,
+            last: 0,
             volume: 0,
             kept_volume: 0,
         })
@@ -142,13 +151,16 @@ impl Table {
             Ok(place) => {
                 let key = self.order[place];
                 let before = self.entries.get(key as usize).unwrap().now.unwrap();
+                let was = rank_of(&self.entries, &self.places, key, self.last);
                 put_spot(&mut self.entries, key, spot);
+                self.last = stand(&self.entries, &mut self.places, key, was);
                 self.volume = self.volume - before.size + spot.size;
                 key
             }
             Err(place) => {
                 let key = add(&mut self.entries, &self.kept_order, name, spot);
                 self.order.insert(place, key).unwrap();
+                self.last = stand(&self.entries, &mut self.places, key, None);
                 self.volume += spot.size;
                 key
             }
@@ -168,7 +180,9 @@ impl Table {
             Ok(place) => {
                 let key = self.order[place];
                 let before = self.entries.get(key as usize).unwrap().now.unwrap();
+                let was = rank_of(&self.entries, &self.places, key, self.last);
                 clear_spot(&mut self.entries, key);
+                self.last = stand(&self.entries, &mut self.places, key, was);
                 self.order.remove(place);
                 self.volume -= before.size;
                 Some(before)
@@ -192,7 +206,9 @@ impl Table {
             place,
             size: before.size,
         };
+        let was = rank_of(&self.entries, &self.places, key, self.last);
         put_spot(&mut self.entries, key, spot);
+        self.last = stand(&self.entries, &mut self.places, key, was);
     }
 
     /// Where the object of the live name with this key stood at the last checkpoint.
@@ -230,6 +246,7 @@ impl Table {
         self.order.clear();
         self.order.extend_from_slice(&self.kept_order).unwrap();
         self.volume = self.kept_volume;
+        place_all(&self.entries, &self.order, &mut self.places);
     }
 
     /// The live entry of a rank by name, counted from 0: its key, its name and its spot.
@@ -242,5 +259,36 @@ impl Table {
         let key = self.order[n as usize];
         let entry = self.entries.get(key as usize).unwrap();
         (key, entry.name.copied(), entry.now.unwrap())
+    }
+
+    /// How many live entries have at least one byte.
+    pub fn place_count(&self) -> u64
+        ensures { result ≡ length (by_place self.now.now) }
+    {
+        self.places.len() as u64
+    }
+
+    /// The live entry of a rank by place, counted from 0 among those of at least one byte: its key
+    /// and its spot. Those of one place are in order of name.
+    pub fn at_place(&self, n: u64) -> (u32, Spot)
+        requires { n < length (by_place self.now.now) }
+        ensures { HasRank self.now n result.0 result.1 }
+    {
+        let key = self.places[n as usize];
+        (key, spot_of(&self.entries, key))
+    }
+
+    /// How many live entries of at least one byte stand at a lesser place.
+    pub fn place_rank(&self, place: u64) -> u64
+        ensures { result ≡ count_before place (by_place self.now.now) }
+    {
+        gap(
+            &self.entries,
+            &self.places,
+            place,
+            &[],
+            0,
+            self.places.len(),
+        ) as u64
     }
 }

@@ -1,20 +1,19 @@
 //! Times of the calls by a rank or a key.
-ghost use Rattle.std.specs.Prelude.{◌<◌, ◌^◌, All, IfOk};
+ghost use Rattle.std.specs.Prelude.{All, IfOk};
 ghost use Rattle.extent_table.specs.Extents.{IsLive};
 
-use crate::names::spot_of;
 use crate::{ROUNDS, mean};
 use extent_table::Table;
 use std::alloc::{AllocError, Global};
 use std::io;
 use std::time::Instant;
 
-/// Times `in_order`, `kept_spot` and `relocate`, each at all live names. What the first two answer
-/// is summed and printed, so that no call is left out.
-pub fn time(rt: &HostRuntime, table: &mut Table) -> io::Result<()> {
-    let mut least = [u64::MAX; 3];
+/// Times `in_order` and `kept_spot`, each at all live names. What they answer is summed and printed,
+/// so that no call is left out.
+pub fn time(rt: &HostRuntime, table: &Table) -> io::Result<()> {
+    let mut least = [u64::MAX; 2];
     let mut sum = 0u64;
-    for round in 0..ROUNDS {
+    for _ in 0..ROUNDS {
         let keys = live_keys(rt.alloc(), table)?;
         let start = Instant::now(rt)?;
         sum = sum.wrapping_add(sum_in_order(table));
@@ -22,12 +21,9 @@ pub fn time(rt: &HostRuntime, table: &mut Table) -> io::Result<()> {
         let start = Instant::now(rt)?;
         sum = sum.wrapping_add(sum_of_kept(table, &keys));
         least[1] = least[1].min(mean(rt, start, keys.len())?);
-        let start = Instant::now(rt)?;
-        relocate_all(table, &keys, spot_of(round).place);
-        least[2] = least[2].min(mean(rt, start, keys.len())?);
     }
-    let [in_order, kept_spot, relocate] = least;
-    println!(rt; "in_order {in_order}, kept_spot {kept_spot}, relocate {relocate}, sum {sum}")?;
+    let [in_order, kept_spot] = least;
+    println!(rt; "in_order {in_order}, kept_spot {kept_spot}, sum {sum}")?;
     Ok(())
 }
 
@@ -63,14 +59,4 @@ fn sum_of_kept(table: &Table, keys: &[u32]) -> u64
         sum = sum.wrapping_add(table.kept_spot(*key).map_or(0, |spot| spot.place));
     }
     sum
-}
-
-/// Moves the object of each key.
-fn relocate_all(table: &mut Table, keys: &[u32], place: u64)
-    requires live { All (IsLive table.old) keys.now }
-    requires place { place < 2 ^ 48 }
-{
-    'keys: for key in keys {
-        table.relocate(*key, place);
-    }
 }

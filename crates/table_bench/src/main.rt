@@ -7,6 +7,7 @@ ghost use Rattle.std.specs.Prelude.{◌≤◌};
 
 mod by_key;
 mod by_name;
+mod by_place;
 mod names;
 mod passes;
 
@@ -46,7 +47,8 @@ fn time_all(rt: &HostRuntime, room: u64) -> io::Result<()>
     by_name::time(rt, &mut table, &names, "never kept")?;
     table.keep();
     by_name::time(rt, &mut table, &names, "kept")?;
-    by_key::time(rt, &mut table)?;
+    by_key::time(rt, &table)?;
+    by_place::time(rt, &mut table)?;
     let one = &names[..names.len().min(1)];
     passes::time(rt, &mut table, one, one, "one name changed")?;
     passes::time(rt, &mut table, &names, &names, "all names changed")?;

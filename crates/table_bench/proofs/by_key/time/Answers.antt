@@ -3,10 +3,5 @@ use Rattle.extent_table.specs.Extents.{IsLive}
 use Rattle.table_bench.proofs.by_key.time.Goals as goal
 
 pub sum_of_kept-requires : goal.sum_of_kept-requires
-sum_of_kept-requires c = subst (All (IsLive c.loop-round.table)) (sym c.deref.ensures.value)
-    c.in_ok-keys.ensures.live
-
-pub relocate_all-requires-clause-live : goal.relocate_all-requires-clause-live
-relocate_all-requires-clause-live c =
-    subst (All (IsLive c.loop-round.table)) (sym c.deref-in-loop-round.ensures.value)
+sum_of_kept-requires c = subst (All (IsLive c.args.table.now)) (sym c.deref.ensures.value)
     c.in_ok-keys.ensures.live

@@ -1,6 +1,7 @@
 use Rattle.std.proofs.Common.{[], refl}
 use Rattle.extent_table.specs.Parts.{now_of, kept_of, spot_at}
 use Rattle.extent_table.proofs.ChangeLemmas.{empty_sound, empty_map}
+use Rattle.extent_table.proofs.PlaceOrderLemmas.{empty_places}
 use Rattle.extent_table.proofs.TableLemmas.{table}
 use Rattle.extent_table.proofs.table.Table.with_room.Goals as goal
 
@@ -21,6 +22,8 @@ invariant_of-result c =
       };
       volume = rw c.in_ok-order.ensures.empty refl;
       kept_volume = rw c.in_ok-kept_order.ensures.empty refl;
+      places = rw (c.in_ok-entries.ensures.empty, c.in_ok-places.ensures.empty) empty_places;
+      places_room = c.in_ok-places.ensures.room;
     }
 
 pub returns-clause-empty : goal.returns-clause-empty
