@@ -18,7 +18,8 @@ use Rattle.costore_top.specs.Sessions.{IsUnserved, end_of}
 use Rattle.costore_top.specs.declared.stop.Stop.{Stop}
 
 -- what the session's devices are once it ended
-pub record SessionKeeps (a z : State) (from rest : SourceState) (out mid_out : SinkState) (end : Result (Unit {0}) Stop)
+pub record SessionKeeps (a z : State) (from rest : SourceState) (out mid_out : SinkState)
+    (end : Result (Unit {0}) Stop)
     (a_turn kept_turn : ℕ) : Type 0 where
   pub later : a.faults ≤ z.faults
   pub rose : status_at end ≡ 7 → Rose a.faults z.faults
@@ -39,7 +40,8 @@ pub record SessionKeeps (a z : State) (from rest : SourceState) (out mid_out : S
 module _ {D I O : Type 0} (disk_of : D → State) (source_of : I → SourceState) (sink_of : O → SinkState)
     (mid now : D) (from rest : I) (out mid_out : O) (s : Kept) (new : Sitting) where
   abbrev Session : End → Type 0
-  Session how = EndsRun disk_of source_of sink_of CLASSES (new_sitting s (disk_of mid).turn) new mid now from rest out
+  Session how = EndsRun disk_of source_of sink_of CLASSES
+      (new_sitting s (disk_of mid).turn) new mid now from rest out
       mid_out how
 
   abbrev KeepsAs : End → Type 0
@@ -80,7 +82,8 @@ module _ {D I O : Type 0} (disk_of : D → State) (source_of : I → SourceState
     }
 
     -- a device failed in the last turn
-    stopped : (bad : End) → IsStopped CLASSES y.sitting new (disk_of y.mid_disk) (disk_of now) (source_of y.mid_source)
+    stopped : (bad : End) → IsStopped CLASSES y.sitting new (disk_of y.mid_disk) (disk_of now)
+        (source_of y.mid_source)
         (source_of rest) (sink_of y.mid_sink) (sink_of mid_out) bad
         → (status_at (end_of how new.done) ≡ 7 → is_disk bad ≡ true)
         → (status_at (end_of how new.done) ≡ 9 → is_sink bad ≡ true)
@@ -91,7 +94,8 @@ module _ {D I O : Type 0} (disk_of : D → State) (source_of : I → SourceState
         let f = r.serves.frame in
         record {
           later = omega (arith, y.ran.disk_later, r.disk_cause.later);
-          rose = λ is. rose_later (disk_of mid).faults (disk_of y.mid_disk).faults (disk_of now).faults y.ran.disk_later
+          rose = λ is. rose_later (disk_of mid).faults (disk_of y.mid_disk).faults
+              (disk_of now).faults y.ran.disk_later
               (r.disk_cause.rose (seven is));
           no_turn_back = omega (arith, y.ran.frame.no_turn_back, f.no_turn_back);
           told = f.stays.told ∙ y.ran.frame.stays.told;
@@ -113,7 +117,8 @@ module _ {D I O : Type 0} (disk_of : D → State) (source_of : I → SourceState
         rose_later a b c low rose = omega (arith, low, rose)
 
   pub session_keeps : (how : End) → Session how → KeepsAs how
-  session_keeps ends.End y = quietly ends.End y (y.same_disk refl) (y.same_sink refl) y.last_turn.0.counts.kept_turn
+  session_keeps ends.End y = quietly ends.End y (y.same_disk refl)
+      (y.same_sink refl) y.last_turn.0.counts.kept_turn
       (λ is. omega (arith, is)) (λ is. omega (arith, is)) (λ is. absurd (omega (arith, is)))
       (none_of 0 (λ is. omega (arith, is)) (λ is. omega (arith, is)) (λ is. omega (arith, is)))
   session_keeps ends.Line y = quietly ends.Line y (y.same_disk refl) (y.same_sink refl)

@@ -26,7 +26,8 @@ calm_by (Err stop.Budget) calm is = absurd (omega (arith, is))
 
 module _ (old z : State) (from rest : SourceState) (out mid after : SinkState) (end : Result (Unit {0}) Stop)
     (status : ℕ) (is : status ≡ status_at end) (keeps : KeepsRun old z from rest out mid (status_at end))
-    (line : IsTrue mid.tells → PutsLast mid.given after.given (line_at end) (Rose mid.faults after.faults)) where
+    (line : IsTrue mid.tells → PutsLast mid.given after.given (line_at end)
+    (Rose mid.faults after.faults)) where
   pub line_after : IsTrue out.tells
       → PutsLast mid.given after.given (line_at end) (Rose out.faults after.faults)
   line_after told = later_rose out.faults mid.faults after.faults keeps.sink_later
@@ -57,7 +58,8 @@ module _ (old z : State) (from rest : SourceState) (out mid after : SinkState) (
     line_only told = subst (λ (x : SinkState). PutsLast x.given after.given (line_at end)
         (Rose out.faults after.faults)) same (line_after told)
 
-    pub ends_after : (answer : Result (List ℕ) Stop → Type 0) → EndsBy answer [] end → Ends answer status out after
+    pub ends_after : (answer : Result (List ℕ) Stop → Type 0) → EndsBy answer [] end
+        → Ends answer status out after
     ends_after answer by = record {
       end = end;
       bytes = [];
@@ -75,9 +77,14 @@ module _ (old z : State) (from rest : SourceState) (out mid after : SinkState) (
     only_line unserved told = by end is (line_only told)
       where
         by : (e : Result (Unit {0}) Stop) → status ≡ status_at e
-            → PutsLast out.given after.given (line_at e) (Rose out.faults after.faults) → PutsLine status out after
+            → PutsLast out.given after.given (line_at e) (Rose out.faults after.faults)
+            → PutsLine status out after
         by (Ok x) zero puts = absurd (elim unserved as (λ _. ⊥) [
           | inl n ↦ omega (arith, n, zero)
-          | inr rest ↦ elim rest as (λ _. ⊥) [ inl n ↦ omega (arith, n, zero) | inr n ↦ omega (arith, n, zero) ]
+          | inr rest ↦ elim rest as (λ _. ⊥) [
+            | inl n ↦ omega (arith, n, zero)
+            | inr n ↦ omega
+                (arith, n, zero)
+          ]
         ])
         by (Err why) same_status puts = record { why = why; same_status = same_status; line = puts }

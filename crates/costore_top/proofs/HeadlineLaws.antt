@@ -80,7 +80,8 @@ begins_itself kind.Moving found = (omega arith, omega arith)
 -- ---- the whole
 
 module _ {D I O : Type 0} (disk_of : D → State) (source_of : I → SourceState) (sink_of : O → SinkState)
-    (lawful : (d : D) → IsLawful (disk_of d)) (before now : D) (from rest : I) (out mid_out : O) (after : SinkState)
+    (lawful : (d : D) → IsLawful (disk_of d)) (before now : D) (from rest : I) (out mid_out : O)
+    (after : SinkState)
     (told : IsTrue (disk_of before).tells) (told_source : IsTrue (source_of from).tells)
     (t : choice.Table) (m : Map) (b : Book) (requests : List Request) (end : List ℕ)
     (o : OpensBy CLASSES SIZE_MAX t (disk_of before).file m b)
@@ -97,7 +98,8 @@ module _ {D I O : Type 0} (disk_of : D → State) (source_of : I → SourceState
       (Rose (sink_of out).faults after.faults)
 
   abbrev Runs : Outcome → Type 0
-  Runs x = RunsAs t.chosen.block t m b requests end x old z (source_of from) (source_of rest) (sink_of out) after
+  Runs x = RunsAs t.chosen.block t m b requests end x old z (source_of from) (source_of rest)
+      (sink_of out) after
 
   left_before : old.turn < last → RestsOnFound t old
       → LeftOnly old old.turn (IsFoundImage CLASSES m b (length old.file))
@@ -131,7 +133,8 @@ module _ {D I O : Type 0} (disk_of : D → State) (source_of : I → SourceState
       → z.turn < last → t.chosen.header.kind ≡ kind.Settled → turn_opened t b old ≤ z.turn
       → LeftOnly z (turn_opened t b old) (λ image. length image ≡ found_base t + book_end t.chosen.block.k b)
   settled_still same left rests below settled opened image since =
-      let ends = ends_with_layout t m b old o settled (omega (arith, same, below)) (omega (arith, same, opened)) in
+      let ends = ends_with_layout t m b old o settled (omega (arith, same, below))
+      (omega (arith, same, opened)) in
       let long = λ (may : old.may_leave image). (rests image may).same_length ∙ ends.same_length in
       elim ((left rests).each (turn_opened t b old) image (omega (arith, ends.same_turn)) since)
       as (λ _. length image ≡ found_base t + book_end t.chosen.block.k b) [
@@ -154,7 +157,8 @@ module _ {D I O : Type 0} (disk_of : D → State) (source_of : I → SourceState
     failed_before k later left rose since line =
         unserved_runs t.chosen.block found_start found_starts (lawful now) left_before later left
         (λ rests below calm settled opened. absurd (omega (arith, rose, calm.same, calm.below)))
-        requests end (source_of from) (source_of rest) (sink_of out) after 7 k refl refl (λ is. omega (arith, is))
+        requests end (source_of from) (source_of rest) (sink_of out) after 7 k refl refl
+        (λ is. omega (arith, is))
         since (λ calm has. omega (arith, rose, calm.same, calm.below))
         (λ calm. absurd (omega (arith, rose, calm.same, calm.below)))
         (Err stop.Disk) refl tt (line_out (Err stop.Disk) line) (record {
@@ -176,7 +180,8 @@ module _ {D I O : Type 0} (disk_of : D → State) (source_of : I → SourceState
         (left_first t m b old z mount told o)
         (λ rests below calm settled opened. settled_still mount.same_turn
         (λ rests. Leaves-call old.may_leave mount.time mount.images) rests below settled opened)
-        requests end (source_of from) (source_of rest) (sink_of out) after 3 0 refl refl (λ is. omega (arith, is))
+        requests end (source_of from) (source_of rest) (sink_of out) after 3 0 refl refl
+        (λ is. omega (arith, is))
         (λ has. absurd (never_true (sym (ap is_mounted is) ∙ has))) (λ calm has. never_true has)
         (λ calm. next_found (mount.same_file told) (rests_first t m b old z mount told o))
         (Err stop.NoFile) refl tt (line_out (Err stop.NoFile) line) (record {
@@ -216,11 +221,13 @@ module _ {D I O : Type 0} (disk_of : D → State) (source_of : I → SourceState
           (omega (arith, same.same_turn, mount.same_turn))
           (λ rests. Leaves-weaken (IsFoundImage CLASSES m b (length old.file))
           (λ image may. found_image CLASSES t old.file m b o image (rests image may)) (still rests))
-          (λ rests below calm settled opened. settled_still (same.same_turn ∙ mount.same_turn) still rests below
+          (λ rests below calm settled opened. settled_still
+          (same.same_turn ∙ mount.same_turn) still rests below
           settled opened)
           requests end (source_of from) (source_of rest) (sink_of out) after 10 z.turn refl refl
           (λ is. omega (arith, is)) (λ has. refl) (λ calm has. never_true has)
-          (λ calm. next_found file (λ rests image left. subst (λ (f : List ℕ). SameOnFound t f image) (sym file)
+          (λ calm. next_found file (λ rests image left. subst (λ (f : List ℕ). SameOnFound t f image)
+          (sym file)
           (rests image (mount.images image (same.images image left)))))
           (Err stop.NoMemory) refl tt (line_out (Err stop.NoMemory) line) no_memory
 
@@ -252,7 +259,8 @@ module _ {D I O : Type 0} (disk_of : D → State) (source_of : I → SourceState
           let op : Opened t m b old z x.store =
           opened_by t m b old first mount told o low z x.store calm_mount x.opening in
           subst (λ (y : Ended). Runs (outcome_of y)) (sym x.ended)
-          (subst (λ (u : SuperBlock). RunsAs u t m b requests end (outcome_of (unserved stop.NoMemory z.turn)) old z
+          (subst (λ (u : SuperBlock). RunsAs u t m b requests end
+          (outcome_of (unserved stop.NoMemory z.turn)) old z
           (source_of from) (source_of rest) (sink_of out) after) op.block
           (unserved_runs x.store.in_use.block (state_of x.store z.file)
           (record { state = op.state; sequence = op.sequence }) (lawful now) left_before op.later op.left
@@ -268,7 +276,8 @@ module _ {D I O : Type 0} (disk_of : D → State) (source_of : I → SourceState
 
   -- ---- a session
 
-  module _ (first : D) (mount : AfterMount old (disk_of first)) (calm_mount : (disk_of first).faults ≡ old.faults)
+  module _ (first : D) (mount : AfterMount old (disk_of first))
+      (calm_mount : (disk_of first).faults ≡ old.faults)
       (e : Ended) (s : Kept) (mid : D) (opens : IsOpening CLASSES (disk_of first) (disk_of mid) (Ok s))
       (new : Sitting) (line : PutsEnd e.end) where
     op : Opened t m b old (disk_of mid) s
@@ -292,17 +301,19 @@ module _ {D I O : Type 0} (disk_of : D → State) (source_of : I → SourceState
         sound_mid = subst (IsStore CLASSES) un.store
             (sound (ap (λ (k : Kept). k.is_broken) un.store ∙ y.ran.unbroken))
 
-        line_mid : IsTrue (sink_of out).tells → PutsLast (sink_of y.mid_sink).given after.given (line_at ending)
+        line_mid : IsTrue (sink_of out).tells
+            → PutsLast (sink_of y.mid_sink).given after.given (line_at ending)
             (Rose (sink_of out).faults after.faults)
         line_mid sink_told = subst (λ (x : O). PutsLast (sink_of x).given after.given (line_at ending)
             (Rose (sink_of out).faults after.faults)) (y.same_sink unserved_how) (line_now sink_told)
 
-        carried : (status : ℕ) → status ≡ status_at ending → RunsAs s.in_use.block t m b requests end (record {
-          status = status;
-          done = y.sitting.done;
-          kept_done = y.sitting.kept_done;
-          kept_turn = y.sitting.kept_turn;
-        }) old (disk_of y.mid_disk) (source_of from) (source_of rest) (sink_of out) after
+        carried : (status : ℕ) → status ≡ status_at ending
+            → RunsAs s.in_use.block t m b requests end (record {
+              status = status;
+              done = y.sitting.done;
+              kept_done = y.sitting.kept_done;
+              kept_turn = y.sitting.kept_turn;
+            }) old (disk_of y.mid_disk) (source_of from) (source_of rest) (sink_of out) after
             → Runs (outcome_of e)
         carried status is runs =
             let same : outcome_of e ≡ record {
@@ -322,7 +333,8 @@ module _ {D I O : Type 0} (disk_of : D → State) (source_of : I → SourceState
               done = y.sitting.done;
               kept_done = y.sitting.kept_done;
               kept_turn = y.sitting.kept_turn;
-            }) old (disk_of x) (source_of from) (source_of rest) (sink_of out) after) (sym (y.same_disk unserved_how))
+            }) old (disk_of x) (source_of from) (source_of rest) (sink_of out) after)
+            (sym (y.same_disk unserved_how))
             (subst (λ (u : SuperBlock). RunsAs u t m b requests end (record {
               status = status;
               done = y.sitting.done;
@@ -337,7 +349,8 @@ module _ {D I O : Type 0} (disk_of : D → State) (source_of : I → SourceState
     session_by ends.End y sound ended =
         let un = y.last_turn.0 in
         carried ends.End y sound ended un refl 0 refl
-        (input_ended op (lawful before) (lawful mid) o left_before asks told_source y.ran y.few after (source_of rest)
+        (input_ended op (lawful before) (lawful mid) o left_before asks told_source y.ran y.few after
+        (source_of rest)
         (sound_mid ends.End y sound ended un refl) (Ok tt) tt (line_mid ends.End y sound ended un refl) refl
         (y.fewer refl) (y.last_turn.1 (y.ran.source_told ∙ told_source)))
     session_by ends.Line y sound ended =
@@ -346,7 +359,8 @@ module _ {D I O : Type 0} (disk_of : D → State) (source_of : I → SourceState
         let done : y.sitting.done ≤ budget = omega (arith, y.ran.done, y.few) in
         let numbered : counted new.done 1 ≡ y.sitting.done + 1 = omega (arith, un.counts.done, done) in
         carried ends.Line y sound ended un refl 2 refl
-        (line_failed op (lawful before) (lawful mid) o left_before asks told_source y.ran y.few after (source_of rest)
+        (line_failed op (lawful before) (lawful mid) o left_before asks told_source y.ran y.few after
+        (source_of rest)
         (sound_mid ends.Line y sound ended un refl) (Err (stop.Line (counted new.done 1))) numbered
         (line_mid ends.Line y sound ended un refl) refl (y.fewer refl) begins.0 begins.1)
     session_by ends.Source y sound ended =
@@ -373,27 +387,32 @@ module _ {D I O : Type 0} (disk_of : D → State) (source_of : I → SourceState
         subst (λ (x : Ended). Runs (outcome_of x)) (sym ended)
         (subst (λ (u : SuperBlock). RunsAs u t m b requests end (outcome_of (ended_as ends.Disk new)) old z
         (source_of from) (source_of rest) (sink_of out) after) op.block
-        (disk_failed op (lawful before) (lawful mid) o left_before asks told_source y.ran y.few ends.Disk y.last_turn
+        (disk_failed op (lawful before)
+        (lawful mid) o left_before asks told_source y.ran y.few ends.Disk y.last_turn
         after (Err stop.Disk) tt (y.fewer refl) (line_now ends.Disk y sound ended) refl refl))
     session_by ends.Sink y sound ended =
         subst (λ (x : Ended). Runs (outcome_of x)) (sym ended)
         (subst (λ (u : SuperBlock). RunsAs u t m b requests end (outcome_of (ended_as ends.Sink new)) old z
         (source_of from) (source_of rest) (sink_of out) after) op.block
-        (sink_failed op (lawful before) (lawful mid) o left_before asks told_source y.ran y.few ends.Sink y.last_turn
+        (sink_failed op (lawful before)
+        (lawful mid) o left_before asks told_source y.ran y.few ends.Sink y.last_turn
         after (Err stop.Sink) tt (y.fewer refl) (line_now ends.Sink y sound ended) refl refl sound))
 
   -- ---- all of them
 
-  runs_served : (c : Command) (e : Ended) → IsServed disk_of source_of sink_of c before now from rest out mid_out e
+  runs_served : (c : Command) (e : Ended)
+      → IsServed disk_of source_of sink_of c before now from rest out mid_out e
       → PutsEnd e.end → Runs (outcome_of e)
   runs_served c e x line = by x.went
     where
       by : Went disk_of source_of sink_of x.first now from rest out mid_out e → Runs (outcome_of e)
       by (inl ((inl is), source, sink)) = unopened source sink (disk_of x.first) x.mount x.calm e is line
       by (inl ((inr is), source, sink)) = unbegun source sink (disk_of x.first) x.mount x.calm e is line
-      by (inr y) = session_by x.first x.mount x.calm e y.store y.mid y.opening y.new line y.end y.ran y.sound y.ended
+      by (inr y) = session_by x.first x.mount x.calm e y.store y.mid y.opening y.new line y.end y.ran y.sound
+          y.ended
 
-  pub headline : (c : Command) (e : Ended) → WentFrom disk_of source_of sink_of c before now from rest out mid_out e
+  pub headline : (c : Command) (e : Ended)
+      → WentFrom disk_of source_of sink_of c before now from rest out mid_out e
       → PutsEnd e.end → Runs (outcome_of e)
   headline c e (inl (is, source, sink)) line = elim is.which as (λ _. Runs (outcome_of e)) [
     | inl failed ↦ subst (λ (y : Ended). Runs (outcome_of y)) (sym failed.0) (failed_before source sink 0

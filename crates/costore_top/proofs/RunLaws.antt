@@ -47,13 +47,16 @@ use Rattle.costore_top.proofs.OpeningLemmas.{Opened}
 -- its data part is within bounds, now and once it goes back
 pub tight_over : (s : Kept) (file : List ℕ) (u : SuperBlock) → IsStore CLASSES s → IsOver CLASSES s file
     → s.in_use.block ≡ u → EndsTight u.k (head_len u.names) (state_of s file) file
-tight_over s file u h over is = subst (λ (x : SuperBlock). EndsTight x.k (head_len x.names) (state_of s file) file) is
+tight_over s file u h over is = subst
+    (λ (x : SuperBlock). EndsTight x.k (head_len x.names) (state_of s file) file) is
     (record {
       same_length = over.same_length;
-      now = subst (λ (n : ℕ). Tight s.in_use.block.k n (state_of s file).map) data_len (tight_now s file h over);
+      now = subst (λ (n : ℕ). Tight s.in_use.block.k n (state_of s file).map) data_len
+          (tight_now s file h over);
       kept = subst (λ (n : ℕ). Tight s.in_use.block.k n (state_of s file).kept)
           (ap (λ (b : Book). book_end s.in_use.block.k b) h.kept_book
-          ∙ ap (λ (b : Book). book_end s.in_use.block.k b) (sym h.now_book) ∙ data_len) (tight_kept s file h over);
+          ∙ ap (λ (b : Book). book_end s.in_use.block.k b) (sym h.now_book) ∙ data_len)
+          (tight_kept s file h over);
     })
   where
     data_len : book_end s.in_use.block.k s.book ≡ length file - base_of s
@@ -140,7 +143,8 @@ module _ {t : choice.Table} {m : Map} {b : Book} {requests : List Request} {end 
       → OpensToKept start ran.replies states image
   run_shows image is = elim (first_kept image limits start ran.requests ran.replies states (ran.chain op.told)
       (some_weaker (IsStepImage CLASSES u.k (base_of s) image)
-      (λ x y. run.OpensToKept CLASSES x image ⊎ run.OpensToKept CLASSES y image) start states (λ x y h. h.opens) is))
+      (λ x y. run.OpensToKept CLASSES x image ⊎ run.OpensToKept CLASSES y image) start states
+      (λ x y h. h.opens) is))
       as (λ _. OpensToKept start ran.replies states image) [
         | inl kept ↦ inl (kept_start image kept)
         | inr one ↦ inr one
@@ -173,7 +177,8 @@ module _ {t : choice.Table} {m : Map} {b : Book} {requests : List Request} {end 
   pub turn_c : a.turn ≤ c.turn
   turn_c = ran.frame.no_turn_back
 
-  pub crash_c : RestsOnFound t old → c.turn < last → LeftOnly c old.turn (OpensToKept start ran.replies states)
+  pub crash_c : RestsOnFound t old → c.turn < last
+      → LeftOnly c old.turn (OpensToKept start ran.replies states)
   crash_c rests below =
       let P = OpensToKept start ran.replies states in
       LeftOnly-after old.turn P op.later
@@ -183,12 +188,14 @@ module _ {t : choice.Table} {m : Map} {b : Book} {requests : List Request} {end 
       (Leaves-weaken P (λ image is. inl (found_start image is.opens)) (op.left rests)))
       (Leaves-weaken P run_shows (ran.left op.told (op.rests rests)))
 
-  pub rests_a : RestsOnFound t old → (image : List ℕ) → a.may_leave image → run.OpensToKept CLASSES start image
+  pub rests_a : RestsOnFound t old → (image : List ℕ) → a.may_leave image
+      → run.OpensToKept CLASSES start image
   rests_a rests image left = (kept_image s op.sound a.file op.over image (op.rests rests image left)).opens
 
   pub since_c : RestsOnFound t old → c.turn < last
       → LeftOnly c s1.kept_turn (λ image. OpensTo (state_after start states s1.kept_done) image)
-  since_c rests below = λ image since. last_shows image (subst (λ (y : store.State). run.OpensToKept CLASSES y image)
+  since_c rests below = λ image since. last_shows image
+      (subst (λ (y : store.State). run.OpensToKept CLASSES y image)
       newest (ran.since op.told (op.rests rests) below (omega arith) (λ before was. rests_a rests before
       (lawful_a.only_now before (omega (arith, below, turn_c)) was)) image since))
 
@@ -199,7 +206,8 @@ module _ {t : choice.Table} {m : Map} {b : Book} {requests : List Request} {end 
   loose_run image is = inr (some_weaker (IsStepImage CLASSES u.k (base_of s) image)
       (λ x y. Loose u.k (length image - base_of s) x.map y.map) start states (λ x y h. h.loose) is)
 
-  pub long_c : RestsOnFound t old → c.turn < last → IsLong u.k (base_of s) t (turn_opened t b old) start states old c
+  pub long_c : RestsOnFound t old → c.turn < last
+      → IsLong u.k (base_of s) t (turn_opened t b old) start states old c
   long_c rests below = record {
     settled = λ settled later.
         let at = op.turn settled in
@@ -214,7 +222,8 @@ module _ {t : choice.Table} {m : Map} {b : Book} {requests : List Request} {end 
         ⊎ IsWithinBounds u.k (base_of s) start states image in
         LeftOnly-after old.turn P op.later
         (LeftOnly-after old.turn P (omega arith)
-        (λ image since. inl (left_before (omega (arith, below, turn_c, op.later)) rests image since).no_longer)
+        (λ image since. inl (left_before
+        (omega (arith, below, turn_c, op.later)) rests image since).no_longer)
         (Leaves-weaken P (λ image is. inl is.no_longer) (op.left rests)))
         (Leaves-weaken P (λ image is. inr (loose_run image is)) (ran.left op.told (op.rests rests)));
   }
@@ -246,15 +255,18 @@ module _ {t : choice.Table} {m : Map} {b : Book} {requests : List Request} {end 
 
   module _ (after : SinkState) (rest : SourceState) (status : ℕ) (not_nine : (status == 9) ≡ false)
       (not_failed : has_failed status ≡ false) (nine : status ≢ 9) (seven : status ≢ 7)
-      (sound : IsStore CLASSES s1.store) (ending : Result (Unit {0}) Stop) (status_is : status ≡ status_at ending)
+      (sound : IsStore CLASSES s1.store) (ending : Result (Unit {0}) Stop)
+      (status_is : status ≡ status_at ending)
       (numbered : NumbersLine s1.done ending)
-      (line : IsTrue out.tells → PutsLast o1.given after.given (line_at ending) (Rose out.faults after.faults))
+      (line : IsTrue out.tells → PutsLast o1.given after.given (line_at ending)
+      (Rose out.faults after.faults))
       (far : HowFar status s1.done split.others end from rest) where
     abbrev counts : Outcome
     counts = record { status = status; done = s1.done; kept_done = s1.kept_done; kept_turn = s1.kept_turn }
 
     same_states : served_states status limits start states split.others ≡ states
-    same_states = ap (λ (x : Bool). if x then states ++ next_states limits last_one split.others else states) not_nine
+    same_states = ap (λ (x : Bool). if x then states ++ next_states limits last_one split.others else states)
+        not_nine
 
     between_requests : RunsAs u t m b requests end counts old c from rest out after
     between_requests = record {
@@ -277,7 +289,8 @@ module _ {t : choice.Table} {m : Map} {b : Book} {requests : List Request} {end 
         numbered = numbered;
         line = line told;
       };
-      between = λ _. subst (λ (xs : List store.State). EndsTight u.k (head_len u.names) (last_state start xs) c.file)
+      between = λ _. subst (λ (xs : List store.State). EndsTight u.k (head_len u.names)
+          (last_state start xs) c.file)
           (sym same_states) (subst (λ (y : store.State). EndsTight u.k (head_len u.names) y c.file) newest
           (tight_over s1.store c.file u sound over_c ran.block));
       within = λ calm rests below. subst (λ (xs : List store.State). IsLong u.k (head_len u.names) t
@@ -301,7 +314,8 @@ module _ {t : choice.Table} {m : Map} {b : Book} {requests : List Request} {end 
 
   module _ (after : SinkState) (rest : SourceState) (sound : IsStore CLASSES s1.store)
       (ending : Result (Unit {0}) Stop) (numbered : NumbersLine s1.done ending)
-      (line : IsTrue out.tells → PutsLast o1.given after.given (line_at ending) (Rose out.faults after.faults)) where
+      (line : IsTrue out.tells → PutsLast o1.given after.given (line_at ending)
+      (Rose out.faults after.faults)) where
     abbrev RunsWith : ℕ → Type 0
     RunsWith status = RunsAs u t m b requests end (record {
       status = status;
@@ -315,8 +329,10 @@ module _ {t : choice.Table} {m : Map} {b : Book} {requests : List Request} {end 
 
     pub input_ended : 0 ≡ status_at ending → n < budget → unread s1 i1 ≡ [] → RunsWith 0
     input_ended status_is fewer empty =
-        let none = none_next split.others (unread s1 i1) end split.asks (subst BeginsNone (sym empty) begins_none) in
-        between_requests after rest 0 refl refl (λ is. omega (arith, is)) (λ is. omega (arith, is)) sound ending
+        let none = none_next split.others (unread s1 i1) end split.asks
+        (subst BeginsNone (sym empty) begins_none) in
+        between_requests after rest 0 refl refl (λ is. omega (arith, is))
+        (λ is. omega (arith, is)) sound ending
         status_is numbered line (record {
           known = refl;
           done = λ is. (none.0, sym none.1 ∙ empty);
@@ -332,7 +348,8 @@ module _ {t : choice.Table} {m : Map} {b : Book} {requests : List Request} {end 
         → RunsWith 2
     line_failed status_is fewer some begins =
         let none = none_next split.others (unread s1 i1) end split.asks begins in
-        between_requests after rest 2 refl refl (λ is. omega (arith, is)) (λ is. omega (arith, is)) sound ending
+        between_requests after rest 2 refl refl (λ is. omega (arith, is))
+        (λ is. omega (arith, is)) sound ending
         status_is numbered line (record {
           known = refl;
           done = λ is. absurd (omega (arith, is));
@@ -346,7 +363,8 @@ module _ {t : choice.Table} {m : Map} {b : Book} {requests : List Request} {end 
 
     pub source_failed : 8 ≡ status_at ending → n < budget → RunsWith 8
     source_failed status_is fewer =
-        between_requests after rest 8 refl refl (λ is. omega (arith, is)) (λ is. omega (arith, is)) sound ending
+        between_requests after rest 8 refl refl (λ is. omega (arith, is))
+        (λ is. omega (arith, is)) sound ending
         status_is numbered line (record {
           known = refl;
           done = λ is. absurd (omega (arith, is));
@@ -360,7 +378,8 @@ module _ {t : choice.Table} {m : Map} {b : Book} {requests : List Request} {end 
 
     pub all_answered : 11 ≡ status_at ending → n ≡ budget → RunsWith 11
     all_answered status_is all =
-        between_requests after rest 11 refl refl (λ is. omega (arith, is)) (λ is. omega (arith, is)) sound ending
+        between_requests after rest 11 refl refl (λ is. omega (arith, is))
+        (λ is. omega (arith, is)) sound ending
         status_is numbered line (record {
           known = refl;
           done = λ is. absurd (omega (arith, is));
@@ -412,7 +431,8 @@ module _ {t : choice.Table} {m : Map} {b : Book} {requests : List Request} {end 
 
     loose_z : (image : List ℕ) → IsServingImage CLASSES s1.store r c.file image
         → Loose u.k (length image - base_of s) last_one.map next_one.state.map
-    loose_z image is = subst (λ (y : Served). Loose u.k (length image - base_of s) last_one.map y.state.map) served_is
+    loose_z image is = subst (λ (y : Served). Loose u.k
+        (length image - base_of s) last_one.map y.state.map) served_is
         (subst (λ (y : store.State). Loose u.k (length image - base_of s) y.map
         (served_at s1.store c.file r).state.map) newest
         (subst (λ (v : SuperBlock). Loose v.k (length image - head_len v.names) (state_of s1.store c.file).map
@@ -420,7 +440,8 @@ module _ {t : choice.Table} {m : Map} {b : Book} {requests : List Request} {end 
 
     module _ (status : ℕ) (failed : IsTrue (has_failed status)) where
       crash_z : RestsOnFound t old → z.turn < last → LeftOnly z old.turn
-          (λ image. OpensToKept start ran.replies states image ⊎ OpensToBeing status limits last_one others image)
+          (λ image. OpensToKept start ran.replies states image
+          ⊎ OpensToBeing status limits last_one others image)
       crash_z rests below =
           let P = λ (image : List ℕ). OpensToKept start ran.replies states image
           ⊎ OpensToBeing status limits last_one others image in
@@ -448,7 +469,8 @@ module _ {t : choice.Table} {m : Map} {b : Book} {requests : List Request} {end 
           ]) (left_z rests))))
 
     -- the replies, and a front of the next
-    module _ (after : SinkState) (status : ℕ) (failed : has_failed status ≡ true) (seven : status ≡ 7 → is_disk bad ≡ true)
+    module _ (after : SinkState) (status : ℕ) (failed : has_failed status ≡ true) (seven : status ≡ 7
+        → is_disk bad ≡ true)
         (ending : Result (Unit {0}) Stop) (status_is : status ≡ status_at ending)
         (numbered : NumbersLine new.done ending) (told : IsTrue out.tells)
         (line : PutsLast o2.given after.given (line_at ending) (Rose out.faults after.faults)) where
@@ -488,7 +510,8 @@ module _ {t : choice.Table} {m : Map} {b : Book} {requests : List Request} {end 
 
     module _ (after : SinkState) (ending : Result (Unit {0}) Stop) (numbered : NumbersLine new.done ending)
         (fewer : n < budget)
-        (line : IsTrue out.tells → PutsLast o2.given after.given (line_at ending) (Rose out.faults after.faults))
+        (line : IsTrue out.tells → PutsLast o2.given after.given (line_at ending)
+        (Rose out.faults after.faults))
       where
         abbrev counts_of : ℕ → Outcome
         counts_of status =
@@ -567,13 +590,15 @@ module _ {t : choice.Table} {m : Map} {b : Book} {requests : List Request} {end 
               ∙ and_none (is_changing r)
 
           over_z : IsOver CLASSES new.store z.file
-          over_z = x.served.replies.serves.over unbroken_z (x.served.replies.serves.frame.stays.told ∙ told_now)
+          over_z = x.served.replies.serves.over unbroken_z
+              (x.served.replies.serves.frame.stays.told ∙ told_now)
 
           block_z : new.store.in_use.block ≡ u
           block_z = x.served.replies.serves.block quiet ∙ ran.block
 
           rests_z : RestsOnFound t old → RestsOnTable (base_of new.store) new.store.kept z
-          rests_z rests = x.served.replies.serves.rests told_now unbroken_z (ran.rests op.told (op.rests rests))
+          rests_z rests = x.served.replies.serves.rests told_now unbroken_z
+              (ran.rests op.told (op.rests rests))
 
           tight_z : EndsTight u.k (head_len u.names) next_one.state z.file
           tight_z =
@@ -587,12 +612,13 @@ module _ {t : choice.Table} {m : Map} {b : Book} {requests : List Request} {end 
           -- what may be left then opens to the checkpoint that the request made
           safe_z : RestsOnFound t old → 0 < next_one.saves.least → (image : List ℕ) → z.may_leave image
               → OpensTo next_one.state image
-          safe_z rests least image left = elim (makes limits last_one r) as (λ _. OpensTo next_one.state image) [
-            | inl one ↦ opens_with image (sym one.kept ∙ ap (λ (y : store.State). y.kept) (sym t2_is))
-                (sym one.book ∙ ap (λ (y : store.State). y.kept_book) (sym t2_is))
-                (kept_image new.store (sound unbroken_z) z.file over_z image (rests_z rests image left)).opens
-            | inr none ↦ absurd (omega (arith, least, none.least))
-          ]
+          safe_z rests least image left = elim (makes limits last_one r) as
+              (λ _. OpensTo next_one.state image) [
+                | inl one ↦ opens_with image (sym one.kept ∙ ap (λ (y : store.State). y.kept) (sym t2_is))
+                    (sym one.book ∙ ap (λ (y : store.State). y.kept_book) (sym t2_is))
+                    (kept_image new.store (sound unbroken_z) z.file over_z image (rests_z rests image left)).opens
+                | inr none ↦ absurd (omega (arith, least, none.least))
+              ]
 
           -- one more step
           longer : (image : List ℕ) → IsWithinBounds u.k (base_of s) start states image
@@ -613,7 +639,8 @@ module _ {t : choice.Table} {m : Map} {b : Book} {requests : List Request} {end 
               (states ++ next_one.state ∷ []) old z
           long_z rests below =
               let was = long_c rests (omega (arith, below, turn_z)) in
-              let within = λ (image : List ℕ). IsWithinBounds u.k (base_of s) start (states ++ next_one.state ∷ []) image in
+              let within = λ (image : List ℕ). IsWithinBounds u.k (base_of s) start
+              (states ++ next_one.state ∷ []) image in
               record {
                 settled = λ settled later.
                     let low : turn_opened t b old ≤ c.turn = omega (arith, op.turn settled, turn_c) in
@@ -637,10 +664,17 @@ module _ {t : choice.Table} {m : Map} {b : Book} {requests : List Request} {end 
                 ap (λ (y : store.State). y.sequence) newest,
                 ap (λ (y : Served). y.saves.most) served_is,
               ) in
-              let e = subst (λ (y : store.State). IsNextStart t y (last_one.sequence + next_one.saves.most) old z) t2_is
+              let e = subst (λ (y : store.State). IsNextStart t y
+              (last_one.sequence + next_one.saves.most) old z) t2_is
               (next_over t new.store old z (last_one.sequence + next_one.saves.most) (sound unbroken_z) over_z
               (block_z ∙ op.block) low rests_z) in
-              record { table = e.table; opens = e.opens; block = e.block; not_worn = e.not_worn; rests = e.rests }
+              record {
+                table = e.table;
+                opens = e.opens;
+                block = e.block;
+                not_worn = e.not_worn;
+                rests = e.rests;
+              }
 
           pub sink_failed : RunsTo 9
           sink_failed = record {
@@ -657,9 +691,11 @@ module _ {t : choice.Table} {m : Map} {b : Book} {requests : List Request} {end 
               memory = λ is. absurd (omega (arith, is));
               limit = (λ is. absurd (omega (arith, is)), λ is. absurd (not_all is));
             };
-            replies = λ told. replied_z after 9 refl (λ is. absurd (omega (arith, is))) ending status_is numbered told
+            replies = λ told. replied_z after 9 refl
+                (λ is. absurd (omega (arith, is))) ending status_is numbered told
                 (line told);
-            between = λ is. subst (λ (y : store.State). EndsTight u.k (head_len u.names) y z.file) (sym last_served)
+            between = λ is. subst (λ (y : store.State). EndsTight u.k (head_len u.names) y z.file)
+                (sym last_served)
                 tight_z;
             within = λ calm rests below. long_z rests below;
             opened = λ calm settled has. record {

@@ -53,7 +53,8 @@ pub record IsNext (others : List Request) (r : Request) : Type 0 where
   pub more : List Request
   pub is : others ≡ r ∷ more
 
-pub next_is : (r : Request) (others : List Request) (rest more end : List ℕ) → HasText r → Asks rest others end
+pub next_is : (r : Request) (others : List Request) (rest more end : List ℕ) → HasText r
+    → Asks rest others end
     → rest ≡ request_text r ++ more → IsNext others r
 next_is r others rest more end text asks is =
     let s = splits (r ∷ []) others rest more end (text, tt) asks
@@ -87,7 +88,8 @@ abbrev pub Shows : List ℕ → State → List Reply → List State → Type 0
 Shows image s replies states = run.OpensToKept CLASSES s image
     ⊎ ((i : ℕ) × IsKept replies i × OpensTo (state_after s states i) image)
 
-kept_later : (reply : Reply) (replies : List Reply) (i : ℕ) → IsKept replies i → IsKept (reply ∷ replies) (suc i)
+kept_later : (reply : Reply) (replies : List Reply) (i : ℕ) → IsKept replies i
+    → IsKept (reply ∷ replies) (suc i)
 kept_later reply [] i is = absurd (is)
 kept_later reply (y ∷ replies) zero is = absurd (is)
 kept_later reply (y ∷ replies) (suc i) is = is
@@ -113,7 +115,8 @@ module _ (limits : Limits) (s t : State) (r : Request) (reply : Reply) (step : S
           opens_with image (ap (λ (y : State). y.map) step.state ∙ sym one.kept ∙ sym now_kept)
               (ap (λ (y : State). y.book) step.state ∙ sym one.book ∙ sym now_book) opens,
         )
-        | inr none ↦ inl (opens_with image (sym none.kept ∙ sym now_kept) (sym none.book ∙ sym now_book) opens)
+        | inr none ↦ inl (opens_with image (sym none.kept ∙ sym now_kept)
+            (sym none.book ∙ sym now_book) opens)
       ]
 
   shows_later : (image : List ℕ) (replies : List Reply) (states : List State) → Shows image t replies states
@@ -137,8 +140,8 @@ first_kept image limits s [] [] (t ∷ states) chain some = absurd (chain)
 first_kept image limits s [] (reply ∷ replies) (t ∷ states) chain some = absurd (chain)
 first_kept image limits s (r ∷ rs) [] (t ∷ states) chain some = absurd (chain)
 
--- The checkpoint of the last state is that of the first, where none was acknowledged, or what stood after the last
--- request that was acknowledged.
+-- The checkpoint of the last state is that of the first, where none was acknowledged, or what stood after
+-- the last request that was acknowledged.
 abbrev pub LastIs : ℕ → ℕ → State → List Reply → List State → Type 0
 LastIs done kept s replies states =
     ((last_kept done kept replies ≡ kept) × ((last_state s states).kept ≡ s.kept)
@@ -166,11 +169,13 @@ module _ (limits : Limits) (s t : State) (r : Request) (reply : Reply) (step : S
           same ∙ now_kept limits s t r reply step ∙ one.kept ∙ ap (λ (y : State). y.map) (sym step.state),
           book ∙ now_book limits s t r reply step ∙ one.book ∙ ap (λ (y : State). y.book) (sym step.state),
         )
-        | inr none ↦ absurd (let e : true ≡ false = sym is ∙ replied_as limits s t r reply step ∙ none.acknowledged in cc)
+        | inr none ↦ absurd (let e : true ≡ false = sym is ∙ replied_as limits s t r reply step ∙
+            none.acknowledged in cc)
       ]
   same_by false is number same book = elim (makes limits s r)
       as (λ _. LastIs done kept s (reply ∷ replies) (t ∷ states)) [
-        | inl one ↦ absurd (let e : true ≡ false = sym one.acknowledged ∙ sym (replied_as limits s t r reply step) ∙ is in cc)
+        | inl one ↦ absurd (let e : true ≡ false = sym one.acknowledged ∙ sym
+            (replied_as limits s t r reply step) ∙ is in cc)
         | inr none ↦ inl (
           number ∙ ap (λ (k : Bool). if k then counted done 1 else kept) is,
           same ∙ now_kept limits s t r reply step ∙ none.kept,
@@ -181,7 +186,14 @@ module _ (limits : Limits) (s t : State) (r : Request) (reply : Reply) (step : S
   kept_last : LastIs (counted done 1) (if acknowledges reply then counted done 1 else kept) t replies states
       → LastIs done kept s (reply ∷ replies) (t ∷ states)
   kept_last (inl same) = same_by (acknowledges reply) refl same.0 same.1 same.2
-  kept_last (inr one) = inr (suc one.0, kept_later reply replies one.0 one.1, omega (arith, one.2, one_more), one.3, one.4)
+  kept_last (inr one) = inr (
+    suc one.0,
+    kept_later reply replies one.0 one.1,
+    omega
+        (arith, one.2, one_more),
+    one.3,
+    one.4,
+  )
 
 pub last_is : (limits : Limits) (done kept : ℕ) (s : State) (rs : List Request) (replies : List Reply)
     (states : List State) → Chain limits s rs replies states → done + length rs ≤ last
@@ -207,7 +219,8 @@ some_weaker P Q s (t ∷ states) weaker (inr some) = inr (some_weaker P Q t stat
 
 -- the checkpoint of the last state is one of an answered request, or the first state's
 pub last_shown : (image : List ℕ) (limits : Limits) (s : State) (rs : List Request) (replies : List Reply)
-    (states : List State) → Chain limits s rs replies states → run.OpensToKept CLASSES (last_state s states) image
+    (states : List State) → Chain limits s rs replies states
+    → run.OpensToKept CLASSES (last_state s states) image
     → Shows image s replies states
 last_shown image limits s [] [] [] chain kept = inl kept
 last_shown image limits s (r ∷ rs) (reply ∷ replies) (t ∷ states) chain kept =

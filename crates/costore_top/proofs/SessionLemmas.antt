@@ -21,23 +21,26 @@ pub connected_of : (a b : State) (s : Kept) → IsOpening CLASSES a b (Ok s) →
 connected_of a b s opening = λ whole told. opening.over (sym opening.frame.stays.told ∙ told)
 
 module _ {D I O : Type 0} (disk_of : D → State) (source_of : I → SourceState) (sink_of : O → SinkState) where
-  pub went_session : (first mid now : D) (from rest : I) (out after : O) (store : Kept) (s new : Sitting) (end : End)
+  pub went_session : (first mid now : D) (from rest : I) (out after : O) (store : Kept) (s new : Sitting)
+      (end : End)
       (turn : ℕ) (e : Ended) → IsOpening CLASSES (disk_of first) (disk_of mid) (Ok store)
       → s ≡ new_sitting store turn → turn ≡ (disk_of mid).turn
       → EndsRun disk_of source_of sink_of CLASSES s new mid now from rest out after end
       → (new.store.is_broken ≡ false → IsStore CLASSES new.store) → e ≡ ended_as end new
       → Went disk_of source_of sink_of first now from rest out after e
-  went_session first mid now from rest out after store s new end turn e opening is at ran sound ended = inr (record {
-    store = store;
-    mid = mid;
-    new = new;
-    end = end;
-    opening = opening;
-    ran = subst (λ (x : Sitting). EndsRun disk_of source_of sink_of CLASSES x new mid now from rest out after end)
-        (is ∙ ap (λ (n : ℕ). new_sitting store n) at) ran;
-    sound = sound;
-    ended = ended;
-  })
+  went_session first mid now from rest out after store s new end turn e opening is at ran sound ended = inr
+      (record {
+        store = store;
+        mid = mid;
+        new = new;
+        end = end;
+        opening = opening;
+        ran = subst (λ (x : Sitting). EndsRun disk_of source_of sink_of CLASSES x new mid now from rest out after
+            end)
+            (is ∙ ap (λ (n : ℕ). new_sitting store n) at) ran;
+        sound = sound;
+        ended = ended;
+      })
 
   pub went_unbegun : (first now : D) (from : I) (out : O) (store : Kept) (turn : ℕ) (e : Ended)
       → IsOpening CLASSES (disk_of first) (disk_of now) (Ok store) → turn ≡ (disk_of now).turn

@@ -27,7 +27,8 @@ use Rattle.disk_face.specs.Counts.{counted, last}
 use Rattle.disk_face.specs.States.{State}
 use Rattle.costore_top.specs.Headline.{turn_opened}
 
-module _ (t : choice.Table) (file : List ℕ) (m : Map) (b : Book) (o : OpensBy CLASSES SIZE_MAX t file m b) where
+module _ (t : choice.Table) (file : List ℕ) (m : Map) (b : Book)
+    (o : OpensBy CLASSES SIZE_MAX t file m b) where
   abbrev placed : PlacedTable
   placed = placed_table CLASSES SIZE_MAX file t
 
@@ -75,9 +76,11 @@ module _ (t : choice.Table) (file : List ℕ) (m : Map) (b : Book) (o : OpensBy 
       omega (arith, whole, parts, front)
 
   end_by : (q : Kind) → q ≡ kind.Settled → last_end placed q
-      ≡ end_of k (settled_caps (boundary_of_kind CLASSES q t.chosen.header.boundary) t.chosen.header.caps volumes)
+      ≡ end_of k (settled_caps (boundary_of_kind CLASSES q t.chosen.header.boundary) t.chosen.header.caps
+      volumes)
   end_by kind.Settled is =
-      let parts = sum_by-append (λ v. v + buffer_of k v) (take CLASSES t.chosen.header.caps) (drop CLASSES volumes) in
+      let parts = sum_by-append (λ v. v + buffer_of k v) (take CLASSES t.chosen.header.caps)
+      (drop CLASSES volumes) in
       omega (arith, parts, past_end)
   end_by kind.Moving is = absurd (cc)
 

@@ -42,13 +42,16 @@ module _ {t : choice.Table} {m : Map} {b : Book} {old z : State}
   left_found rests below = LeftOnly-after old.turn (IsFoundImage CLASSES m b (length old.file)) (omega arith)
       (left_before (omega (arith, later, below)) rests) (left rests)
 
-  module _ (requests : List Request) (end : List ℕ) (from rest : SourceState) (out after : SinkState) (status kept_turn : ℕ)
+  module _ (requests : List Request) (end : List ℕ) (from rest : SourceState) (out after : SinkState)
+      (status kept_turn : ℕ)
       (not_nine : (status == 9) ≡ false) (not_whole : is_whole status ≡ false) (nine : status ≢ 9)
       (since : HasMounted z → kept_turn ≡ z.turn)
       (told : IsCalm old.faults z.faults → IsTrue (has_opened status) → ⊥)
       (next : IsCalm old.faults z.faults → IsNextStart t start start.sequence old z)
-      (ending : Result (Unit {0}) Stop) (status_is : status ≡ status_at ending) (numbered : NumbersLine 0 ending)
-      (line : IsTrue out.tells → PutsLast out.given after.given (line_at ending) (Rose out.faults after.faults))
+      (ending : Result (Unit {0}) Stop) (status_is : status ≡ status_at ending)
+      (numbered : NumbersLine 0 ending)
+      (line : IsTrue out.tells → PutsLast out.given after.given (line_at ending)
+      (Rose out.faults after.faults))
       (far : HowFar status 0 requests end from rest) where
     abbrev counts : Outcome
     counts = record { status = status; done = 0; kept_done = 0; kept_turn = kept_turn }
@@ -98,7 +101,8 @@ module _ {t : choice.Table} {m : Map} {b : Book} {old z : State}
       opened = λ calm settled has. absurd (told calm has);
       crash = λ rests below. record {
         crash = λ image is. inl (inl (found_start image (left_found rests below image is).opens));
-        since = λ mounted image is. inl (found_start image (left_found rests below image (lawful.counts_now old.turn
+        since = λ mounted image is. inl
+            (found_start image (left_found rests below image (lawful.counts_now old.turn
             image later (lawful.only_now image below (subst (λ (k : ℕ). z.left_since k image) (since mounted)
             is)))).opens);
         safe = λ is. absurd (nine is);

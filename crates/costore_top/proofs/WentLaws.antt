@@ -37,14 +37,16 @@ not_both : {A : Type 0} → false ≡ true → A
 not_both is = absurd (cc)
 
 -- the devices, the mount, and the turn that is told
-pub record Whole (file : List ℕ) (old z : State) (from rest : SourceState) (out mid_out : SinkState) (same : Type 0)
+pub record Whole (file : List ℕ) (old z : State) (from rest : SourceState) (out mid_out : SinkState)
+    (same : Type 0)
     (e : Ended) : Type 0 where
   pub keeps : KeepsRun old z from rest out mid_out (status_at e.end)
   pub mounted : IsMounted (run file) z.last_mount (status_at e.end ≡ 7) (status_at e.end ≡ 3)
   pub turn : IsKeptTurn (outcome_of e) (HasMounted z) old.turn z.turn
   pub unread : IsUnserved (status_at e.end) → same
 
-module _ (file : List ℕ) (old z : State) (from rest : SourceState) (out mid_out : SinkState) (same : Type 0) where
+module _ (file : List ℕ) (old z : State) (from rest : SourceState) (out mid_out : SinkState)
+    (same : Type 0) where
   abbrev Is : Ended → Type 0
   Is e = Whole file old z from rest out mid_out same e
 
@@ -69,7 +71,8 @@ module _ (file : List ℕ) (old z : State) (from rest : SourceState) (out mid_ou
   mount_failed : AfterMount old z → old.faults ≤ z.faults → Rose old.faults z.faults → z.last_mount ≡ None
       → rest ≡ from → mid_out ≡ out → same → Is (unserved stop.Disk 0)
   mount_failed mount later rose none source sink is_same = record {
-    keeps = no_stream 7 mount later (λ is. rose) (λ is. omega (arith, is)) (λ is. omega (arith, is)) source sink;
+    keeps = no_stream 7 mount later (λ is. rose) (λ is. omega (arith, is))
+        (λ is. omega (arith, is)) source sink;
     mounted = record {
       answer = inl refl;
       absent = (λ is. absurd (omega (arith, is)), λ is. absurd (let e = sym none ∙ is in cc));
@@ -86,7 +89,8 @@ module _ (file : List ℕ) (old z : State) (from rest : SourceState) (out mid_ou
   file_absent : AfterMount old z → z.faults ≡ old.faults → z.last_mount ≡ mounted (run file) Absent
       → rest ≡ from → mid_out ≡ out → same → Is (unserved stop.NoFile 0)
   file_absent mount calm is source sink is_same = record {
-    keeps = no_stream 3 mount (omega (arith, calm)) (λ is. absurd (omega (arith, is))) (λ is. omega (arith, is))
+    keeps = no_stream 3 mount (omega (arith, calm)) (λ is. absurd (omega (arith, is)))
+        (λ is. omega (arith, is))
         (λ is. omega (arith, is)) source sink;
     mounted = record { answer = inr (inr is); absent = (λ three. is, λ three. refl) };
     turn = record {
@@ -212,7 +216,8 @@ mount_untouched a b mount later = record {
 }
 
 -- a refusal that isn't the disk's changes nothing
-pub refused_unchanged : (a b : State) (why : OpenFault) → status_of (stop_of why) ≡ 4 → RefusesUnchanged a b why
+pub refused_unchanged : (a b : State) (why : OpenFault) → status_of (stop_of why) ≡ 4
+    → RefusesUnchanged a b why
     → Unchanged a b
 refused_unchanged a b (opening.Slot slot.Disk) four is = absurd (omega (arith, four))
 refused_unchanged a b (opening.Slot slot.Short) four is = is
@@ -229,15 +234,22 @@ pub refuses : (file : List ℕ) (why : OpenFault) → RefusesToOpen CLASSES file
 refuses file (opening.Slot slot.Disk) is = inr refl
 refuses file (opening.Slot slot.Short) is =
     (record { fault = fault.Slot slot.Short; first = (choice.too_short, is, refl); same = refl }, refl)
-refuses file (opening.Slot slot.Unformatted) is =
-    (record { fault = fault.Slot slot.Unformatted; first = (choice.unformatted, is, refl); same = refl }, refl)
+refuses file (opening.Slot slot.Unformatted) is = (
+  record { fault = fault.Slot slot.Unformatted; first = (choice.unformatted, is, refl); same = refl },
+  refl,
+)
 refuses file (opening.Slot slot.NoGate) is =
     (record { fault = fault.Slot slot.NoGate; first = (choice.no_gate, is, refl); same = refl }, refl)
-refuses file (opening.Slot slot.SameSequence) is =
-    (record { fault = fault.Slot slot.SameSequence; first = (choice.same_sequence, is, refl); same = refl }, refl)
-refuses file (opening.Slot (slot.Codec f at)) is =
-    (record { fault = fault.Slot (slot.Codec f at); first = (choice.codec f at, is, refl); same = refl }, refl)
-refuses file (opening.Table broken) is = (record { fault = fault.Table broken; first = is; same = refl }, refl)
+refuses file (opening.Slot slot.SameSequence) is = (
+  record { fault = fault.Slot slot.SameSequence; first = (choice.same_sequence, is, refl); same = refl },
+  refl,
+)
+refuses file (opening.Slot (slot.Codec f at)) is = (
+  record { fault = fault.Slot (slot.Codec f at); first = (choice.codec f at, is, refl); same = refl },
+  refl,
+)
+refuses file (opening.Table broken) is =
+    (record { fault = fault.Table broken; first = is; same = refl }, refl)
 refuses file opening.NoMemory is = refl
 
 module _ {D I O : Type 0} (disk_of : D → State) (source_of : I → SourceState) (sink_of : O → SinkState)
@@ -265,7 +277,8 @@ module _ {D I O : Type 0} (disk_of : D → State) (source_of : I → SourceState
           unserved_there file old z (source_of from) (source_of rest) (sink_of out) (sink_of mid_out) Same
           (disk_of x.first) x.mount x.calm x.there e is.opening.cause.later f.no_turn_back f.stays.told
           f.stays.images_told f.stays.same_mount (ap (λ (y : Ended). y.kept_turn) is.ended)
-          (λ seven. is.opening.cause.rose (ap (λ (y : OpenFault). Err y) (disk_by is.fault (sym status ∙ seven))))
+          (λ seven. is.opening.cause.rose
+          (ap (λ (y : OpenFault). Err y) (disk_by is.fault (sym status ∙ seven))))
           (λ n. not_status is.fault 0 (λ y. omega (arith, y)) (λ y. omega (arith, y)) (λ y. omega (arith, y))
           (sym status ∙ n))
           (λ n. not_status is.fault 3 (λ y. omega (arith, y)) (λ y. omega (arith, y)) (λ y. omega (arith, y))
@@ -281,7 +294,8 @@ module _ {D I O : Type 0} (disk_of : D → State) (source_of : I → SourceState
           unserved_there file old z (source_of from) (source_of rest) (sink_of out) (sink_of mid_out) Same
           (disk_of x.first) x.mount x.calm x.there e is.opening.cause.later f.no_turn_back f.stays.told
           f.stays.images_told f.stays.same_mount (ap (λ (y : Ended). y.kept_turn) is.ended)
-          (λ n. absurd (omega (arith, n, status))) (λ n. omega (arith, n, status)) (λ n. omega (arith, n, status))
+          (λ n. absurd (omega (arith, n, status))) (λ n. omega (arith, n, status))
+          (λ n. omega (arith, n, status))
           (λ n. omega (arith, n, status)) (λ n. omega (arith, n, status))
           (ap source_of source) (ap sink_of sink) (source, sink)
       by (inr y) =
@@ -289,16 +303,19 @@ module _ {D I O : Type 0} (disk_of : D → State) (source_of : I → SourceState
           served file old z (source_of from) (source_of rest) (sink_of out) (sink_of mid_out) Same
           (disk_of x.first) x.mount x.calm x.there e (disk_of y.mid) y.opening.cause.later
           f.no_turn_back f.stays.told f.stays.images_told f.stays.same_mount
-          (subst (λ (w : Ended). SessionKeeps (disk_of y.mid) z (source_of from) (source_of rest) (sink_of out)
+          (subst (λ (w : Ended). SessionKeeps (disk_of y.mid) z (source_of from) (source_of rest)
+          (sink_of out)
           (sink_of mid_out) w.end (disk_of y.mid).turn w.kept_turn) (sym y.ended)
           (session_keeps disk_of source_of sink_of y.mid now from rest out mid_out y.store y.new y.end y.ran))
 
   pub whole : WentFrom disk_of source_of sink_of (run file) before now from rest out mid_out e → All e
   whole (inl (is, source, sink)) = elim is.which as (λ _. All e) [
-    | inl failed ↦ subst All (sym failed.0) (mount_failed file old z (source_of from) (source_of rest) (sink_of out)
+    | inl failed ↦ subst All (sym failed.0)
+        (mount_failed file old z (source_of from) (source_of rest) (sink_of out)
         (sink_of mid_out) Same is.mount is.later failed.2 failed.1 (ap source_of source) (ap sink_of sink)
         (source, sink))
-    | inr gone ↦ subst All (sym gone.0) (file_absent file old z (source_of from) (source_of rest) (sink_of out)
+    | inr gone ↦ subst All (sym gone.0)
+        (file_absent file old z (source_of from) (source_of rest) (sink_of out)
         (sink_of mid_out) Same is.mount gone.2 gone.1 (ap source_of source) (ap sink_of sink) (source, sink))
   ]
   whole (inr x) = whole_served x
@@ -326,7 +343,8 @@ module _ {D I O : Type 0} (disk_of : D → State) (source_of : I → SourceState
       by (inr y) status =
           let k = subst (λ (w : Ended). SessionKeeps (disk_of y.mid) z (source_of from) (source_of rest)
           (sink_of out) (sink_of mid_out) w.end (disk_of y.mid).turn w.kept_turn) (sym y.ended)
-          (session_keeps disk_of source_of sink_of y.mid now from rest out mid_out y.store y.new y.end y.ran) in
+          (session_keeps disk_of source_of sink_of y.mid now from rest out mid_out y.store y.new y.end y.ran)
+          in
           absurd (elim status as (λ _. ⊥) [ inl n ↦ k.served (inl n) | inr n ↦ k.served (inr (inl n)) ])
 
   -- a file that isn't opened ends the command as its first refusal says
@@ -395,4 +413,5 @@ module _ {D I O : Type 0} (disk_of : D → State) (source_of : I → SourceState
       by (inl (inl is, source, sink)) = subst (λ (y : Ended). IsKnown (status_at y.end)) (sym is.ended)
           (known_unopened (status_of (stop_of is.fault)) (status_unopened is.fault))
       by (inl (inr is, source, sink)) = inl (ap (λ (y : Ended). is_session (status_at y.end)) is.ended)
-      by (inr y) = subst (λ (w : Ended). IsKnown (status_at w.end)) (sym y.ended) (known_session y.end y.new.done)
+      by (inr y) = subst (λ (w : Ended). IsKnown (status_at w.end)) (sym y.ended)
+          (known_session y.end y.new.done)

@@ -1,4 +1,5 @@
--- The headline: what a session over a store's file answers, how long the file is meanwhile, and what a crash leaves.
+-- The headline: what a session over a store's file answers, how long the file is meanwhile, and what a crash
+-- leaves.
 use Rattle.std.specs.Prelude.{◌≡◌, ◌≢◌, ◌⊎◌, ℕ, zero, suc, ◌+◌, ◌-◌, ◌^◌, ◌<◌, ◌≤◌, ◌↔◌, ◌==◌, Bool, true, false, ◌||◌, if◌then◌else◌, List, [], ◌∷◌, ◌++◌, length, flat_map, Result, Err, IsTrue}
 use Rattle.disk_face.specs.Counts.{IsCalm, Rose, counted, last}
 use Rattle.disk_face.specs.States as disk
@@ -43,8 +44,8 @@ pub record Starts (t : choice.Table) (m : Map) (b : Book) (s : State) : Type 0 w
   pub state : s ≡ state_at m b s.sequence
   pub sequence : BeginsFrom t.chosen.header.kind t.chosen.header.sequence s.sequence
 
--- The first requests of an input were answered one after another: those and the others, the replies, and the state
--- after each.
+-- The first requests of an input were answered one after another: those and the others, the replies, and the
+-- state after each.
 pub record Ran (limits : Limits) (start : State) (requests : List Request) (n : ℕ) : Type 0 where
   pub answered : List Request
   pub others : List Request
@@ -108,7 +109,8 @@ NextIsSafe limits s (r ∷ others) images = 0 < (served limits s r).saves.least
 
 -- the statuses of a session
 abbrev pub is_session : ℕ → Bool
-is_session status = (status == 0) || (status == 2) || (status == 3) || (status == 7) || (status == 8) || (status == 9)
+is_session status = (status == 0) || (status == 2) || (status == 3) || (status == 7) || (status == 8)
+    || (status == 9)
     || (status == 10) || (status == 11)
 
 -- the session served its requests, and no disk or sink failed
@@ -123,16 +125,18 @@ has_failed status = (status == 7) || (status == 9)
 abbrev pub has_opened : ℕ → Bool
 has_opened status = if status == 3 then false else if status == 10 then false else true
 
--- the states that the requests leave: where the sink failed the next one was served too, but its reply wasn't put whole
+-- the states that the requests leave: where the sink failed the next one was served too, but its reply
+-- wasn't put whole
 abbrev pub served_states : ℕ → Limits → State → List State → List Request → List State
 served_states status limits start states others =
     if status == 9 then states ++ next_states limits (last_state start states) others else states
 
 -- ---- replies
 
--- A front of the next reply: nothing unless disk or sink failed; where the disk failed not the whole of it, and nothing
--- of a request that may change the store.
-pub record IsPartial (status : ℕ) (limits : Limits) (s : State) (others : List Request) (partial : List ℕ) : Type 0
+-- A front of the next reply: nothing unless disk or sink failed; where the disk failed not the whole of it,
+-- and nothing of a request that may change the store.
+pub record IsPartial (status : ℕ) (limits : Limits) (s : State) (others : List Request)
+    (partial : List ℕ) : Type 0
   where
     pub none : has_failed status ≡ false → partial ≡ []
     pub front : (rest : List ℕ) × (next_reply limits s others ≡ partial ++ rest)
@@ -145,8 +149,8 @@ NumbersLine n (Err (stop.Line number)) = number ≡ n + 1
 NumbersLine n _ = Unit {0}
 
 -- What was put: the replies, a front of the next one, and the line of the end.
-pub record HasReplied (limits : Limits) (s : State) (replies : List Reply) (others : List Request) (status n : ℕ)
-    (out after : SinkState) : Type 0 where
+pub record HasReplied (limits : Limits) (s : State) (replies : List Reply) (others : List Request)
+    (status n : ℕ) (out after : SinkState) : Type 0 where
   pub between : List ℕ
   pub partial : List ℕ
   pub end : Result (Unit {0}) Stop
@@ -157,7 +161,8 @@ pub record HasReplied (limits : Limits) (s : State) (replies : List Reply) (othe
   pub line : PutsLast between after.given (line_at end) (Rose out.faults after.faults)
 
 -- How far the session came, by its status: `end` is what the input has behind its requests.
-pub record HowFar (status n : ℕ) (others : List Request) (end : List ℕ) (from rest : SourceState) : Type 0 where
+pub record HowFar (status n : ℕ) (others : List Request) (end : List ℕ)
+    (from rest : SourceState) : Type 0 where
   pub known : is_session status ≡ true
   pub done : status ≡ 0 → (others ≡ []) × (end ≡ [])
   pub line : status ≡ 2 → (others ≡ []) × (end ≢ [])
@@ -180,8 +185,8 @@ abbrev pub IsWithinBounds : ℕ → ℕ → State → List State → List ℕ �
 IsWithinBounds k base start states image = (length image ≡ base + book_end k start.book)
     ⊎ SomeStep (λ s t. Loose k (length image - base) s.map t.map) start states
 
--- Each image is within bounds: of a settled table since opening returned, which is at `opened`, and of a moving one
--- since the call began, but for those that are no longer than the file found.
+-- Each image is within bounds: of a settled table since opening returned, which is at `opened`, and of a
+-- moving one since the call began, but for those that are no longer than the file found.
 pub record IsLong (k base : ℕ) (t : choice.Table) (opened : ℕ) (start : State) (states : List State)
     (old new : disk.State) : Type 0 where
   pub settled : t.chosen.header.kind ≡ kind.Settled → opened ≤ new.turn
@@ -205,29 +210,30 @@ OpensToKept start replies states image = OpensTo start image
 abbrev pub OpensToBeing : ℕ → Limits → State → List Request → List ℕ → Type 0
 OpensToBeing status limits s others image = IsTrue (has_failed status) × OpensToNext limits s others image
 
--- What a crash leaves: at any moment an acknowledged checkpoint or the one then being written; since the last was
--- acknowledged that one alone, or the one then being written; and once a sink failed at the reply of a checkpoint, that
--- checkpoint.
+-- What a crash leaves: at any moment an acknowledged checkpoint or the one then being written; since the
+-- last was acknowledged that one alone, or the one then being written; and once a sink failed at the reply
+-- of a checkpoint, that checkpoint.
 pub record IsCrashSafe (limits : Limits) (start s : State) (replies : List Reply) (states : List State)
     (others : List Request) (o : Outcome) (opened : Type 0) (old new : disk.State) : Type 0 where
   pub crash : LeftOnly new old.turn
       (λ image. OpensToKept start replies states image ⊎ OpensToBeing o.status limits s others image)
   pub since : opened → LeftOnly new o.kept_turn
-      (λ image. OpensTo (state_after start states o.kept_done) image ⊎ OpensToBeing o.status limits s others image)
+      (λ image. OpensTo (state_after start states o.kept_done) image
+      ⊎ OpensToBeing o.status limits s others image)
   pub safe : o.status ≡ 9 → NextIsSafe limits s others new.may_leave
 
 -- ---- what is acknowledged
 
--- Which turn is told, whatever the devices tell: 0 where the call ended before opening. Else it lies within the call, and
--- where the file is refused or memory is wanting it is the last.
+-- Which turn is told, whatever the devices tell: 0 where the call ended before opening. Else it lies within
+-- the call, and where the file is refused or memory is wanting it is the last.
 pub record IsKeptTurn (o : Outcome) (opened : Type 0) (before now : ℕ) : Type 0 where
   pub unopened : (opened → ⊥) → o.kept_turn ≡ 0
   pub low : opened → before ≤ o.kept_turn
   pub high : opened → o.kept_turn ≤ now
   pub refused : (o.status ≡ 4) ⊎ (o.status ≡ 10) → o.kept_turn ≡ now
 
--- The number of the last request that was answered with a checkpoint; and the turns since are the changing calls of the
--- requests after it.
+-- The number of the last request that was answered with a checkpoint; and the turns since are the changing
+-- calls of the requests after it.
 pub record IsAcknowledged (limits : Limits) (start : State) (answered : List Request) (replies : List Reply)
     (states : List State) (o : Outcome) (now : ℕ) : Type 0 where
   pub number : o.kept_done ≡ last_kept 0 0 replies
@@ -236,8 +242,8 @@ pub record IsAcknowledged (limits : Limits) (start : State) (answered : List Req
 
 -- ---- the next call
 
--- The next call may begin here: the content opens to the checkpoint of a state, by the same superblock and with a
--- sequence that is no greater, and where the disk rested on its table it rests on this one.
+-- The next call may begin here: the content opens to the checkpoint of a state, by the same superblock and
+-- with a sequence that is no greater, and where the disk rested on its table it rests on this one.
 pub record IsNextStart (found : choice.Table) (s : State) (sequence : ℕ) (old new : disk.State) : Type 0 where
   pub table : choice.Table
   pub opens : OpensBy CLASSES SIZE_MAX table new.file s.kept s.kept_book
@@ -255,28 +261,33 @@ HasMounted d = IsTrue (is_mounted d.last_mount)
 abbrev pub turn_opened : choice.Table → Book → disk.State → ℕ
 turn_opened t b old = turn_after_cut (found_base t + book_end t.chosen.block.k b) old.file old.turn
 
--- What a session over a file does that has a superblock, opens by a table to a map and a book, and whose input asks for
--- these requests. What is said of images is said of a disk that rested on that table, and below the last turn; what is
--- said of lengths, of a disk whose count of faults didn't rise.
-pub record RunsAs (u : SuperBlock) (t : choice.Table) (m : Map) (b : Book) (requests : List Request) (end : List ℕ)
+-- What a session over a file does that has a superblock, opens by a table to a map and a book, and whose
+-- input asks for these requests. What is said of images is said of a disk that rested on that table, and
+-- below the last turn; what is said of lengths, of a disk whose count of faults didn't rise.
+pub record RunsAs (u : SuperBlock) (t : choice.Table) (m : Map) (b : Book) (requests : List Request)
+    (end : List ℕ)
     (o : Outcome) (old new : disk.State) (from rest : SourceState) (out after : SinkState) : Type 0 where
   pub start : State
   pub starts : Starts t m b start
   pub ran : Ran (limits_with u) start requests o.done
   -- the replies are the map's
   pub far : HowFar o.status o.done ran.others end from rest
-  pub replies : IsTrue out.tells → HasReplied (limits_with u) (last_state start ran.states) ran.replies ran.others
+  pub replies : IsTrue out.tells → HasReplied (limits_with u)
+      (last_state start ran.states) ran.replies ran.others
       o.status o.done out after
   -- between requests, also where the sink failed after one
   pub between : IsTrue (is_whole o.status) ⊎ (o.status ≡ 9) → EndsTight u.k (head_len u.names)
       (last_state start (served_states o.status (limits_with u) start ran.states ran.others)) new.file
   -- within a request
-  pub within : IsCalm old.faults new.faults → RestsOnFound t old → new.turn < last → IsLong u.k (head_len u.names) t
+  pub within : IsCalm old.faults new.faults → RestsOnFound t old → new.turn < last
+      → IsLong u.k (head_len u.names) t
       (turn_opened t b old) start (served_states o.status (limits_with u) start ran.states ran.others) old new
-  pub opened : IsCalm old.faults new.faults → t.chosen.header.kind ≡ kind.Settled → IsTrue (has_opened o.status)
+  pub opened : IsCalm old.faults new.faults → t.chosen.header.kind ≡ kind.Settled
+      → IsTrue (has_opened o.status)
       → IsTold (turn_opened t b old) o.kept_done o.kept_turn
   -- a crash at any moment
-  pub crash : RestsOnFound t old → new.turn < last → IsCrashSafe (limits_with u) start (last_state start ran.states)
+  pub crash : RestsOnFound t old → new.turn < last
+      → IsCrashSafe (limits_with u) start (last_state start ran.states)
       ran.replies ran.states ran.others o (HasMounted new) old new
   -- what is acknowledged
   pub acknowledged : IsAcknowledged (limits_with u) start ran.answered ran.replies ran.states o new.turn
@@ -284,10 +295,12 @@ pub record RunsAs (u : SuperBlock) (t : choice.Table) (m : Map) (b : Book) (requ
   pub next_start : IsCalm old.faults new.faults → IsNextStart t
       (last_state start (served_states o.status (limits_with u) start ran.states ran.others))
       ((last_state start ran.states).sequence
-      + (if o.status == 9 then next_saves (limits_with u) (last_state start ran.states) ran.others else 0)) old new
+      + (if o.status == 9 then next_saves (limits_with u) (last_state start ran.states) ran.others else 0))
+      old new
 
 -- The headline: so it is of every file that opens by a table whose sequence leaves room, and of every input.
-abbrev pub RunsFrom : Outcome → disk.State → disk.State → SourceState → SourceState → SinkState → SinkState → Type 0
+abbrev pub RunsFrom : Outcome → disk.State → disk.State → SourceState → SourceState → SinkState → SinkState
+    → Type 0
 RunsFrom o old new from rest out after =
     (t : choice.Table) (m : Map) (b : Book) (requests : List Request) (end : List ℕ)
     → OpensBy CLASSES SIZE_MAX t old.file m b → t.chosen.header.sequence < 2 ^ 62 - 2 ^ 19

@@ -61,20 +61,23 @@ pub record IsUnbegun (before now : State) (e : Ended) : Type 0 where
   pub ended : e ≡ unserved stop.NoMemory now.turn
 
 -- It was opened, at `mid`, and a session of its store ran to its end.
-pub record HasSession {D I O : Type 0} (disk_of : D → State) (source_of : I → SourceState) (sink_of : O → SinkState)
+pub record HasSession {D I O : Type 0} (disk_of : D → State) (source_of : I → SourceState)
+    (sink_of : O → SinkState)
     (before now : D) (from rest : I) (out after : O) (e : Ended) : Type 0 where
   pub store : Kept
   pub mid : D
   pub new : Sitting
   pub end : End
   pub opening : IsOpening CLASSES (disk_of before) (disk_of mid) (Ok store)
-  pub ran : EndsRun disk_of source_of sink_of CLASSES (new_sitting store (disk_of mid).turn) new mid now from rest out
+  pub ran : EndsRun disk_of source_of sink_of CLASSES
+      (new_sitting store (disk_of mid).turn) new mid now from rest out
       after end
   pub sound : new.store.is_broken ≡ false → IsStore CLASSES new.store
   pub ended : e ≡ ended_as end new
 
 -- A session over an open file went so; where none was begun, no stream was called.
-abbrev pub Went : {D I O : Type 0} → (D → State) → (I → SourceState) → (O → SinkState) → D → D → I → I → O → O → Ended
+abbrev pub Went : {D I O : Type 0} → (D → State) → (I → SourceState) → (O → SinkState) → D → D → I → I → O
+    → O → Ended
     → Type 0
 Went disk_of source_of sink_of before now from rest out after e =
     ((IsUnopened (disk_of before) (disk_of now) e ⊎ IsUnbegun (disk_of before) (disk_of now) e)
@@ -89,7 +92,8 @@ pub record IsUnmounted (c : Command) (before now : State) (e : Ended) : Type 0 w
       ⊎ ((e ≡ unserved stop.NoFile 0) × (now.last_mount ≡ mounted c Absent) × (now.faults ≡ before.faults))
 
 -- It was mounted, at `first`, and a session over it went so.
-pub record IsServed {D I O : Type 0} (disk_of : D → State) (source_of : I → SourceState) (sink_of : O → SinkState)
+pub record IsServed {D I O : Type 0} (disk_of : D → State) (source_of : I → SourceState)
+    (sink_of : O → SinkState)
     (c : Command) (before now : D) (from rest : I) (out after : O) (e : Ended) : Type 0 where
   pub first : D
   pub mount : AfterMount (disk_of before) (disk_of first)
@@ -98,15 +102,17 @@ pub record IsServed {D I O : Type 0} (disk_of : D → State) (source_of : I → 
   pub went : Went disk_of source_of sink_of first now from rest out after e
 
 -- A command that serves requests went so; where its file wasn't mounted, no stream was called.
-abbrev pub WentFrom : {D I O : Type 0} → (D → State) → (I → SourceState) → (O → SinkState) → Command → D → D → I → I → O
+abbrev pub WentFrom : {D I O : Type 0} → (D → State) → (I → SourceState) → (O → SinkState) → Command → D → D
+    → I → I → O
     → O → Ended → Type 0
 WentFrom disk_of source_of sink_of c before now from rest out after e =
     (IsUnmounted c (disk_of before) (disk_of now) e × (rest ≡ from) × (after ≡ out))
     ⊎ IsServed disk_of source_of sink_of c before now from rest out after e
 
--- What the command that serves requests does to its devices. No count falls, and a device's own fault comes only where
--- its count rose; where all is done the sink's didn't. What is told stays told.
-pub record KeepsRun (old new : State) (from rest : SourceState) (out after : SinkState) (status : ℕ) : Type 0 where
+-- What the command that serves requests does to its devices. No count falls, and a device's own fault comes
+-- only where its count rose; where all is done the sink's didn't. What is told stays told.
+pub record KeepsRun (old new : State) (from rest : SourceState) (out after : SinkState)
+    (status : ℕ) : Type 0 where
   pub later : old.faults ≤ new.faults
   pub rose : status ≡ 7 → Rose old.faults new.faults
   pub no_turn_back : old.turn ≤ new.turn
@@ -123,8 +129,9 @@ pub record KeepsRun (old new : State) (from rest : SourceState) (out after : Sin
 abbrev pub IsUnserved : ℕ → Type 0
 IsUnserved status = (status ≡ 3) ⊎ (status ≡ 4) ⊎ (status ≡ 10)
 
--- What the command that serves requests does whatever the file and the devices tell. Where no request was read the input
--- is as it was, and the fault line is all that is put; where the file isn't there or is refused, it stays as it was.
+-- What the command that serves requests does whatever the file and the devices tell. Where no request was
+-- read the input is as it was, and the fault line is all that is put; where the file isn't there or is
+-- refused, it stays as it was.
 pub record ServesSo (o : Outcome) (old new : State) (from rest : SourceState) (out after : SinkState)
     (same_input : Type 0) : Type 0 where
   pub keeps : KeepsRun old new from rest out after o.status
@@ -139,4 +146,9 @@ NeverOpens file = (m : Map) (b : Book) → Opens CLASSES SIZE_MAX file m b → �
 
 -- the status and the numbers of an end
 abbrev pub outcome_of : Ended → Outcome
-outcome_of e = record { status = status_at e.end; done = e.done; kept_done = e.kept_done; kept_turn = e.kept_turn }
+outcome_of e = record {
+  status = status_at e.end;
+  done = e.done;
+  kept_done = e.kept_done;
+  kept_turn = e.kept_turn;
+}

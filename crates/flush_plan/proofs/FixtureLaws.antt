@@ -1,99 +1,67 @@
--- That a flush may begin with items, as it is checked one item after another.
-use Rattle.std.specs.Prelude.{◌≡◌, ◌⊎◌, ℕ, ◌+◌, ◌<◌, ◌≤◌, List, length, slice_get, Some, IsTrue, Contains, refl, ◌^◌, ◌≢◌, ◌-◌, take}
+-- A list in the order of places is a shelf, and stays one through the moves of a flush.
+use Rattle.std.specs.Prelude.{◌≡◌, ℕ, ◌≤◌, nat_le, List, [], ◌∷◌, slice_get, slice_index_or, Some, Contains, IsPermutation, refl}
+use Rattle.std.specs.List.Sorted.{IsNonDecreasingBy}
 use Rattle.std.proofs.Common.{arith, sym, ◌∙◌, ap, subst, inl, inr}
-use Rattle.flush_plan.specs.declared.item.Item.{Item}
-use Rattle.flush_plan.specs.Phases.{CanFlush}
-use Rattle.flush_plan.specs.Plans.{IsInBuffer, ItemsApart, stands_in_payload, numbers_of}
-use Rattle.std.proofs.lemmas.Bool.{cases_order}
-use Rattle.size_class.specs.Classes.{class_of, width}
-use Rattle.flush_plan.proofs.ListLaws.{got_at}
-use Rattle.std.proofs.lemmas.Option.{same_Some, slice_get_within, get_or_from_slice_get, slice_get-get_or}
-use Rattle.flush_plan.specs.Begins.{Begins}
-use Rattle.flush_plan.specs.declared.item.Numbers.{Numbers}
-use Rattle.flush_plan.proofs.NumbersLaws.{reach_is}
-use Rattle.std.proofs.lemmas.List.{get_or-take, length-take}
+use Rattle.std.proofs.lemmas.Bool.{cases_order, cond-true, le-leb}
+use Rattle.std.proofs.lemmas.List.Sorted.{IsPermutation-map, IsPermutation-trans}
+use Rattle.std.proofs.lemmas.Option.{slice_get-get_or}
+use Rattle.plan_terms.specs.declared.item.Item.{Item}
+use Rattle.plan_terms.specs.declared.item.Move.{Move}
+use Rattle.plan_terms.specs.declared.item.Numbers.{Numbers}
+use Rattle.plan_terms.specs.Plans.{moved_item, relocated}
+use Rattle.plan_terms.specs.Phases.{AreItems}
+use Rattle.plan_terms.proofs.ListLaws.{contains_here, contains_later, got_at}
+use Rattle.plan_terms.proofs.SortLaws.{items_permuted, rising_from_sorted}
+use Rattle.flush_plan.specs.Shelves.{from_place, IsOnShelf, IsRank, IsShelf}
+use Rattle.flush_plan.proofs.ShelfLaws.{places_rise}
 
--- an item has the class of its size, from class b on, and stands in a segment for it
-pub record StandsWell (k : ℕ) (caps : List ℕ) (b : ℕ) (it : Item) : Type 0 where
-  pub some : 1 ≤ it.size
-  pub class : it.class ≡ class_of it.size
-  pub from : b ≤ it.class
-  pub stands : IsTrue (stands_in_payload k caps it) ⊎ ((j : ℕ) × IsInBuffer k caps j it)
+pub all_from : (start : ℕ) (xs : List Item) → ((it : Item) → Contains xs it → start ≤ it.place)
+    → from_place start xs ≡ xs
+all_from start [] each = refl
+all_from start (x ∷ xs) each =
+    cond-true (nat_le start x.place) (x ∷ from_place start xs) (from_place start xs)
+    (le-leb start x.place (each x (contains_here x xs)))
+    ∙ ap (λ ys. x ∷ ys) (all_from start xs (λ it has. each it (contains_later x it xs has)))
 
--- the first items of a list do, and no two of them share a byte or a key
-pub record CanFlushFirst (k : ℕ) (caps : List ℕ) (b : ℕ) (items : List Item) (i : ℕ) : Type 0 where
-  pub within : i ≤ length items
-  pub apart : (x y : ℕ) (a d : Item) → x < y → y < i → slice_get items x ≡ Some a → slice_get items y ≡ Some d
-      → ItemsApart a d
-  pub each : (x : ℕ) (it : Item) → x < i → slice_get items x ≡ Some it → StandsWell k caps b it
+pub is_shelf : (n : Numbers) (xs : List Item) → AreItems n xs → IsNonDecreasingBy (λ it. it.place) xs
+    → IsShelf xs
+is_shelf n xs are sorted = record {
+  some = are.some;
+  keys = λ i j a b less at_a at_b. (are.apart i j a b less at_a at_b).keys;
+  rising = λ i j a b less at_a at_b. elim (are.apart i j a b less at_a at_b).bytes [
+    | inl e ↦ e
+    | inr e ↦ absurd (omega (arith, e, rising_from_sorted n xs are sorted i j a b less at_a at_b))
+  ];
+}
 
--- what stands in a list stands in its front
-pub got_front : (items : List Item) (i x : ℕ) (it : Item) → x < i → slice_get items x ≡ Some it
-    → slice_get (take i items) x ≡ Some it
-got_front items i x it low got =
-    let within : x < length (take i items) =
-    omega (arith, length-take i items, low, slice_get_within items x it got) in
-    slice_get-get_or (take i items) x it within
-    ∙ ap Some (get_or-take i items x it low ∙ get_or_from_slice_get items x it it got)
+-- items in whatever order stand on the shelf that is their list by place
+pub listed : (n : Numbers) (items xs : List Item) → AreItems n items → IsPermutation items xs
+    → IsNonDecreasingBy (λ it. it.place) xs → IsOnShelf n.start items xs
+listed n items xs are same sorted =
+    let there = items_permuted items xs same n are in
+    record {
+      rises = is_shelf n xs there sorted;
+      same = subst (IsPermutation items) (sym (all_from n.start xs there.start)) same;
+    }
 
-module _ (k : ℕ) (caps : List ℕ) (b : ℕ) (items : List Item) (i : ℕ)
-    (so : CanFlushFirst k caps b items i) where
-  pub can_flush_all : length caps ≡ width → length items ≤ i → CanFlush k caps b items
-  can_flush_all full ended =
-      let each : (it : Item) (has : Contains items it) → StandsWell k caps b it =
-      λ it has. so.each has.0 it (omega (arith, has.1, ended)) (got_at it items has) in
-      record {
-        classes = full;
-        apart = λ x y a d less at_x at_y. so.apart x y a d less
-            (omega (arith, slice_get_within items y d at_y, ended)) at_x at_y;
-        some = λ it has. (each it has).some;
-        class = λ it has. (each it has).class;
-        from = λ it has. (each it has).from;
-        stands = λ it has. (each it has).stands;
-      }
+-- the object at the rank of its place
+pub at_rank : (xs : List Item) → IsShelf xs → (m : Item) → Contains xs m → (rank : ℕ)
+    → IsRank xs m.place rank → slice_get xs rank ≡ Some m
+at_rank xs rises m has rank is = elim (cases_order has.0 rank) [
+  | inl e ↦ subst (λ i. slice_get xs i ≡ Some m) e (got_at m xs has)
+  | inr (inl less) ↦ absurd (omega (arith, is.before has.0 m less (got_at m xs has)))
+  | inr (inr more) ↦
+      let a = slice_index_or xs rank m in
+      let at : slice_get xs rank ≡ Some a = slice_get-get_or xs rank m (omega (arith, more, has.1)) in
+      absurd (omega (
+        arith,
+        is.from rank a (omega arith) at,
+        places_rise xs rises rank has.0 a m more at (got_at m xs has),
+      ))
+]
 
-  pub can_flush_more : (m : Item) → slice_get items i ≡ Some m → StandsWell k caps b m
-      → ((x : ℕ) (it : Item) → x < i → slice_get items x ≡ Some it → ItemsApart it m)
-      → CanFlushFirst k caps b items (i + 1)
-  can_flush_more m got well apart =
-      record {
-        within = omega (arith, slice_get_within items i m got);
-        apart = λ x y a d less high at_x at_y. elim (cases_order y i) [
-          | inl e ↦
-              let same : d ≡ m = same_Some d m (sym at_y ∙ ap (slice_get items) e ∙ got) in
-              subst (ItemsApart a) (sym same) (apart x a (omega (arith, less, e)) at_x)
-          | inr (inl before) ↦ so.apart x y a d less before at_x at_y
-          | inr (inr behind) ↦ absurd (omega (arith, behind, high))
-        ];
-        each = λ x it high at_x. elim (cases_order x i) [
-          | inl e ↦ subst (StandsWell k caps b)
-              (sym (same_Some it m (sym at_x ∙ ap (slice_get items) e ∙ got)))
-              well
-          | inr (inl before) ↦ so.each x it before at_x
-          | inr (inr behind) ↦ absurd (omega (arith, behind, high))
-        ];
-      }
-
--- a pending object stands behind the room for what is lifted where it ends at the reach
-pub begins_at_reach : (k : ℕ) (caps : List ℕ) (b : ℕ) (items : List Item) (n : Numbers) (key class size : ℕ)
-    → CanFlush k caps b items → n ≡ numbers_of k caps b items size → 1 ≤ size → size ≤ 2 ^ 31
-    → class ≡ class_of size → b ≤ class
-    → ((i : ℕ) (it : Item) → slice_get items i ≡ Some it → it.key ≢ key)
-    → Begins k caps n items (Some (record { key = key; class = class; place = n.reach - size; size = size }))
-begins_at_reach k caps b items n key class size flush is some high same from other =
-    let m = numbers_of k caps b items size in
-    let goal : Begins k caps m items
-    (Some (record { key = key; class = class; place = m.reach - size; size = size })) = (
-      flush,
-      refl,
-      record {
-        some = some;
-        high = high;
-        class = same;
-        from = from;
-        place = omega (arith, reach_is k caps b items flush size);
-        other = λ it has. other has.0 it (got_at it items has);
-      },
-    ) in
-    subst (λ (x : Numbers). Begins k caps x items
-    (Some (record { key = key; class = class; place = x.reach - size; size = size }))) (sym is) goal
+-- what a move leaves
+pub relisted : (items xs ys : List Item) (mv : Move) → IsPermutation items xs
+    → IsPermutation (relocated mv.key mv.to xs) ys → IsPermutation (relocated mv.key mv.to items) ys
+relisted items xs ys mv same after = IsPermutation-trans (relocated mv.key mv.to items)
+    (relocated mv.key mv.to xs) ys (IsPermutation-map (moved_item mv.key mv.to) items xs same) after

@@ -1,118 +1,214 @@
--- How Pack goes on, move by move, and where it ends.
-use Rattle.std.specs.Prelude.{◌≡◌, ◌≢◌, ℕ, ◌+◌, ◌-◌, ◌<◌, ◌≤◌, length, slice_index_or, Some, slice_get, Contains, refl}
-use Rattle.std.proofs.Common.{arith, sym, ◌∙◌, ap, inl, inr}
-use Rattle.std.proofs.lemmas.Bool.{cases_lt}
-use Rattle.std.proofs.lemmas.Option.{get_or_from_slice_get, slice_get-get_or, same_Some}
-use Rattle.flush_plan.specs.declared.item.Item.{Item}
-use Rattle.flush_plan.specs.declared.item.Move.{Move}
-use Rattle.flush_plan.specs.Plans.{IsNextPack, mover, AreBelow, AreSmall}
-use Rattle.flush_plan.specs.Phases.{IsPacking, moved_by, Phase, IsPackedWhole}
-use Rattle.flush_plan.specs.PackedSoFar.{IsPackedDown, StopsAt, KeepsPacking}
-use Rattle.flush_plan.proofs.PhaseLaws.{packing_moved, below_after, small_after}
+-- How Pack goes on, move by move, and where it begins and ends.
+use Rattle.std.specs.Prelude.{◌≡◌, ◌≢◌, ℕ, ◌+◌, ◌-◌, ◌^◌, ◌<◌, ◌≤◌, nat_le, List, length, Contains, refl}
+use Rattle.std.proofs.Common.{arith, ap, subst, inl, inr}
+use Rattle.std.proofs.lemmas.List.Sorted.{length_permutation}
+use Rattle.std.proofs.lemmas.List.Sums.{count_by-le-length, length-filter}
 use Rattle.size_class.specs.Classes.{width}
-use Rattle.flush_plan.proofs.PackStepLaws.{ends_before_top, over_is_row, pack_from_end, pack_moves, pack_next, packed_down_whole}
+use Rattle.segment_layout.specs.Shapes.{start_of}
+use Rattle.plan_terms.specs.declared.item.Item.{Item}
+use Rattle.plan_terms.specs.declared.item.Move.{Move}
+use Rattle.plan_terms.specs.declared.item.Numbers.{Numbers}
+use Rattle.plan_terms.specs.Plans.{AreBelow, AreSmall, IsNextPack, ItemsCanResume, laid_length, mover, relocated}
+use Rattle.plan_terms.specs.Phases.{AreItems, IsLifted, IsLifting, IsPackedWhole, IsPacking, Phase}
+use Rattle.plan_terms.specs.Steps.{IsPackStep}
+use Rattle.plan_terms.proofs.PhaseLaws.{below_after, packing_begins, packing_moved, packing_resumes, small_after}
+use Rattle.plan_terms.proofs.StepLaws.{pack_step}
+use Rattle.flush_plan.specs.Shelves.{Course, course_of, from_place, IsLastBefore, phase_on}
+use Rattle.flush_plan.specs.Packs.{CanGoOn, IsPackedFrom, KeepsPacking, Pack, Packs}
+use Rattle.flush_plan.proofs.PackStepLaws.{alone_at_top, ends_before_top, over_is_row, pack_loosens, pack_moves, pack_next, pack_stays, packed_from_wall}
 
--- what Pack keeps, further down in the list
-pub pack_passed : (C : ℕ) (p : Phase) (left top at high : ℕ) → KeepsPacking C p left top
-    → IsPackedDown p.numbers p.items at high → KeepsPacking C p at high
-pack_passed C p left top at high keeps down =
-    record {
-      fits = keeps.fits;
-      boundary = keeps.boundary;
-      divisor = keeps.divisor;
-      packing = keeps.packing;
-      classes = keeps.classes;
-      small = keeps.small;
-      down = down;
-    }
+-- the value of Pack at a place
+abbrev pub pack_at : Course → ℕ → Pack
+pack_at course top = record { course = course; top = top }
 
--- Pack is at its end exactly where nothing is left of the list.
-module _ (C : ℕ) (p : Phase) (left top : ℕ) (keeps : KeepsPacking C p left top)
-    (stops : StopsAt p.numbers p.items left top) where
-  pub pack_ended : left ≡ 0 → IsPackedWhole p
-  pack_ended ended = packed_down_whole p.k p.numbers p.items keeps.packing.items keeps.packing.resumes left
-      top keeps.down ended
+module _ (C : ℕ) (v : Pack) (items : List Item) (keeps : KeepsPacking C v items) where
+  abbrev p : Phase
+  p = phase_on v.course items
 
-  pub pack_all : IsPackedWhole p → left ≡ 0
-  pack_all whole = elim (cases_lt 0 left) [
-    | inr none ↦ omega (arith, none)
-    | inl some ↦ absurd (waits some)
-  ]
-    where
-      waits : 0 < left → ⊥
-      waits some =
-          let at = left - 1 in
-          let next : at + 1 ≡ left = omega (arith, some) in
-          let none : Item = record { key = 0; class = 0; place = 0; size = 0 } in
-          let m = slice_index_or p.items at none in
-          let within : at < length p.items = omega (arith, next, keeps.down.within) in
-          let got : slice_get p.items at ≡ Some m = slice_get-get_or p.items at none within in
-          let has : Contains p.items m = (at, within, get_or_from_slice_get p.items at m m got) in
-          let stop = stops at m next got in
-          let row = over_is_row p.k p.numbers p.items keeps.packing.items keeps.packing.resumes left top
-          keeps.down at next m got stop.0 in
-          stop.1 (omega (arith, whole m has stop.0, row))
-
--- One step of Pack: the item before the index is the next to be moved.
-module _ (C : ℕ) (p : Phase) (left top : ℕ) (keeps : KeepsPacking C p left top)
-    (stops : StopsAt p.numbers p.items left top) (at : ℕ) (next : at + 1 ≡ left) where
   is : IsPacking p
   is = keeps.packing
 
-  pub pack_fits : (m : Item) → slice_get p.items at ≡ Some m → m.size ≤ top
-  pack_fits m got = omega (
-    arith,
-    ends_before_top p.k p.numbers p.items is.items is.resumes left top
-        keeps.down at next m got (stops at m next got).0,
-  )
+  -- where no item stands before the top all is packed
+  pub pack_ended : ((it : Item) → Contains items it → v.top ≤ it.place) → IsPackedWhole p
+  pack_ended none it has low = keeps.from_top.packed it has (none it has) low
 
-  -- the move of the item that is read there ends at the top
-  pub pack_goes : (m : Item) → slice_get p.items at ≡ Some m → (mv : Move)
-      → slice_get p.items at ≡ Some (mover mv) → mv.to ≡ top - m.size → mv.to + mv.size ≡ top
-  pack_goes m read mv got to =
-      let same : m ≡ mover mv = same_Some m (mover mv) (sym read ∙ got) in
-      omega (arith, to, pack_fits m read, ap (λ (x : Item). x.size) same)
+  module _ (m : Item) (last : IsLastBefore items v.top m) where
+    has : Contains items m
+    has = last.has
 
-  module _ (mv : Move) (got : slice_get p.items at ≡ Some (mover mv)) (goes : mv.to + mv.size ≡ top) where
-    low : mv.from < p.numbers.wall
-    low = (stops at (mover mv) next got).0
+    before : m.place < v.top
+    before = last.before
 
-    loose : mv.from + mv.size ≢ top
-    loose = (stops at (mover mv) next got).1
+    pub pack_fits : m.place + m.size ≤ v.top
+    pack_fits = ends_before_top v.course.k v.course.numbers items is.items is.resumes v.top keeps.from_top m
+        last
 
-    pub pack_is_next : IsNextPack p.numbers p.items mv
-    pack_is_next = pack_next p.k p.numbers p.items is.items is.resumes left top keeps.down at next (mover mv)
-        got low mv refl goes loose
+    -- else one waits
+    pub pack_waits : IsPackedWhole p → ⊥
+    pack_waits whole = keeps.loose m has before (omega (
+      arith,
+      whole m has (omega (arith, before, keeps.from_top.high)),
+      over_is_row v.course.k v.course.numbers items is.items is.resumes v.top keeps.from_top m
+          last,
+    ))
 
-    pub pack_goes_on : KeepsPacking C (moved_by mv p) at mv.to
-    pack_goes_on =
-        record {
-          fits = keeps.fits;
-          boundary = keeps.boundary;
-          divisor = keeps.divisor;
-          packing = packing_moved p mv is pack_is_next;
-          classes = below_after C p mv is.items pack_is_next.item keeps.classes;
-          small = small_after p mv is.items pack_is_next.item
-              (omega (arith, goes, keeps.down.high, is.reaches)) keeps.small;
-          down = pack_moves p.k p.numbers p.items is.items is.resumes left top keeps.down at next (mover mv)
-              got low mv refl goes loose;
-        }
+    module _ (mv : Move) (same : mover mv ≡ m) (ends : mv.to + mv.size ≡ v.top) where
+      next : IsNextPack v.course.numbers items mv
+      next = pack_next v.course.k v.course.numbers items is.items is.resumes v.top keeps.from_top m
+          last mv same ends (keeps.loose m has before)
 
--- a flush that is resumed begins with Pack
-pub pack_resumes : (C : ℕ) (p : Phase) → C ≤ width → p.numbers.boundary ≤ C → 2 ≤ p.k → IsPacking p
-    → AreBelow C p.items
-    → AreSmall p.numbers p.items
-    → ((i j : ℕ) (a b : Item) → i < j → slice_get p.items i ≡ Some a → slice_get p.items j ≡ Some b
-    → a.place < b.place)
-    → KeepsPacking C p (length p.items) p.numbers.wall
-pack_resumes C p fits boundary divisor is classes small rising =
+      pub pack_is_step : IsPackStep p mv
+      pack_is_step = pack_step p mv is next
+
+      pub pack_goes_on : KeepsPacking C (pack_at v.course mv.to) (relocated mv.key mv.to items)
+      pack_goes_on =
+          record {
+            fits = keeps.fits;
+            boundary = keeps.boundary;
+            divisor = keeps.divisor;
+            packing = packing_moved p mv is next;
+            classes = below_after C p mv is.items next.item keeps.classes;
+            small = small_after p mv is.items next.item
+                (omega (arith, ends, keeps.from_top.high, is.reaches)) keeps.small;
+            from_top = pack_moves v.course.k v.course.numbers items is.items is.resumes v.top keeps.from_top m
+                last mv same ends (keeps.loose m has before);
+            loose = pack_loosens v.course.k v.course.numbers items is.items is.resumes v.top keeps.from_top m
+                last mv same ends (keeps.loose m has before);
+          }
+
+-- the move of an item
+abbrev pub move_of : Item → ℕ → Move
+move_of m to = record { key = m.key; class = m.class; from = m.place; to = to; size = m.size }
+
+-- one step of Pack on a shelf
+module _ (C : ℕ) (v : Pack) (items shelf : List Item) (packs : Packs C v items shelf) where
+  pub ends_on_shelf : ((it : Item) → Contains items it → v.top ≤ it.place)
+      → IsPackedWhole (phase_on v.course items)
+  ends_on_shelf = pack_ended C v items packs.keeps
+
+  module _ (m : Item) (last : IsLastBefore items v.top m) where
+    pub fits_on_shelf : m.size ≤ v.top
+    fits_on_shelf = omega (arith, pack_fits C v items packs.keeps m last)
+
+    pub waits_on_shelf : IsPackedWhole (phase_on v.course items) → ⊥
+    waits_on_shelf = pack_waits C v items packs.keeps m last
+
+    pub step_on_shelf : IsPackStep (phase_on v.course items) (move_of m (v.top - m.size))
+    step_on_shelf = pack_is_step C v items packs.keeps m last (move_of m (v.top - m.size)) refl
+        (omega (arith, fits_on_shelf))
+
+    pub keeps_on_shelf : KeepsPacking C (pack_at v.course (v.top - m.size))
+        (relocated m.key (v.top - m.size) items)
+    keeps_on_shelf = pack_goes_on C v items packs.keeps m last (move_of m (v.top - m.size)) refl
+        (omega (arith, fits_on_shelf))
+
+-- Pack begins at the wall, where Lift ends: what lies below the wall ends before it.
+pub pack_begins : (C : ℕ) (course : Course) (items : List Item) → C ≤ width → course.numbers.boundary ≤ C
+    → 2 ≤ course.k → IsLifting (phase_on course items) → IsLifted (phase_on course items) → AreBelow C items
+    → AreSmall course.numbers items → KeepsPacking C (pack_at course course.numbers.wall) items
+pack_begins C course items fits boundary divisor is ended classes small =
     record {
       fits = fits;
       boundary = boundary;
       divisor = divisor;
-      packing = is;
+      packing = packing_begins (phase_on course items) is ended;
       classes = classes;
       small = small;
-      down = pack_from_end p.numbers p.items
-          (λ i j a b less at_i at_j low_a low_b. rising i j a b less at_i at_j);
+      from_top = packed_from_wall course.numbers items;
+      loose = λ it has low ends. absurd (omega (
+        arith,
+        ends,
+        is.lifting.waits it has low,
+        is.lifting.old_end,
+        is.lifting.slack it has,
+        is.items.some it has,
+      ));
+    }
+
+-- A flush that was interrupted goes on with Pack, from a place from which all is packed.
+module _ (C k : ℕ) (caps : List ℕ) (n : Numbers) (items shelf : List Item)
+    (can : CanGoOn C k caps n items shelf) where
+  pub again_items : AreItems n items
+  again_items = record {
+    apart = can.objects.apart;
+    some = can.objects.some;
+    class = can.objects.class;
+    from = can.objects.from;
+    start = λ it has. elim (can.resumes.side it has) [
+      | inl past ↦ omega (arith, past, can.resumes.wall)
+      | inr low ↦ low.0
+    ];
+  }
+
+  module _ (top : ℕ) (down : IsPackedFrom n items top) (m : Item) (last : IsLastBefore items top m) where
+    pub again_fits : m.place + m.size < 2 ^ 64
+    again_fits = omega (
+      arith,
+      ends_before_top k n items again_items can.resumes top down m last,
+      down.high,
+      can.reaches,
+      can.small.0,
+    )
+
+    pub again_stays : m.place + m.size ≡ top → IsPackedFrom n items m.place
+    again_stays = pack_stays k n items again_items can.resumes top down m last
+
+    pub again_loose : m.place + m.size ≢ top → (it : Item) → Contains items it → it.place < top
+        → it.place + it.size ≢ top
+    again_loose differ it has less ends =
+        let same = alone_at_top k n items again_items can.resumes top down m last it has less ends in
+        differ (omega (arith, ends, ap (λ (x : Item). x.place) same, ap (λ (x : Item). x.size) same))
+
+  module _ (fits : C ≤ width) (boundary : n.boundary < C) (divisor : 2 ≤ k) (few : length shelf ≤ 2 ^ 64)
+    where
+      abbrev course : Course
+      course = course_of k caps n 0
+
+      few_items : length items ≤ 2 ^ 64
+      few_items = omega (
+        arith,
+        few,
+        length_permutation items (from_place n.start shelf) can.on.same,
+        length-filter (λ (it : Item). nat_le n.start it.place) shelf,
+        count_by-le-length (λ (it : Item). nat_le n.start it.place) shelf,
+      )
+
+      pub pack_from : (top : ℕ) → IsPackedFrom n items top
+          → ((it : Item) → Contains items it → it.place < top → it.place + it.size ≢ top)
+          → KeepsPacking C (pack_at course top) items
+      pack_from top down loose =
+          record {
+            fits = fits;
+            boundary = omega (arith, boundary);
+            divisor = divisor;
+            packing = packing_resumes (phase_on course items) can.objects can.resumes
+                (record { boundary = omega (arith, boundary, fits); start = can.start; end = can.end })
+                can.reaches few_items;
+            classes = can.classes;
+            small = can.small;
+            from_top = down;
+            loose = loose;
+          }
+
+-- A flush that is interrupted in Pack can go on over the same shelf.
+pub can_go_on : (C k : ℕ) (caps : List ℕ) (v : Pack) (items shelf : List Item) → Packs C v items shelf
+    → v.course.k ≡ k → v.course.numbers.start ≡ start_of k caps v.course.numbers.boundary
+    → CanGoOn C k caps v.course.numbers items shelf
+can_go_on C k caps v items shelf packs same start =
+    let is = packs.keeps.packing in
+    record {
+      objects = record {
+        apart = is.items.apart;
+        some = is.items.some;
+        class = is.items.class;
+        from = is.items.from;
+      };
+      resumes = subst (λ x. ItemsCanResume x v.course.numbers items) same is.resumes;
+      start = start;
+      end = subst (λ x. v.course.numbers.end ≡ v.course.numbers.start
+          + laid_length x items v.course.numbers.boundary width) same is.layout.end;
+      reaches = is.reaches;
+      classes = packs.keeps.classes;
+      small = packs.keeps.small;
+      on = packs.on;
     }

@@ -1,20 +1,20 @@
--- How Pack goes down a list: what lies behind an index is packed.
-use Rattle.std.specs.Prelude.{◌≡◌, ◌≢◌, ◌⊎◌, ℕ, ◌+◌, ◌<◌, ◌≤◌, nat_le, ◌&&◌, cond, List, length, slice_index_or, slice_set, Some, slice_get, Contains, sum_by}
+-- One step of Pack: the last item before the top goes up to it, or ends there.
+use Rattle.std.specs.Prelude.{◌≡◌, ◌≢◌, ◌⊎◌, ℕ, ◌+◌, ◌<◌, ◌≤◌, nat_le, ◌&&◌, cond, List, Contains}
 use Rattle.std.proofs.Common.{arith, sym, ◌∙◌, ap, subst, inl, inr}
-use Rattle.std.proofs.lemmas.Bool.{cases_lt, cases_order, cond-true, cond-false, lt-ltb, le-ltb, le-leb, lt-leb, and_from, and_left, and_right}
-use Rattle.std.proofs.lemmas.List.{length-map}
-use Rattle.std.proofs.lemmas.Option.{get_or_from_slice_get, slice_get-get_or, slice_get_within, same_Some}
-use Rattle.flush_plan.specs.declared.item.Item.{Item}
-use Rattle.flush_plan.specs.declared.item.Move.{Move}
-use Rattle.flush_plan.specs.declared.item.Numbers.{Numbers}
-use Rattle.flush_plan.specs.Plans.{is_below_wall, IsNextPack, IsPacked, ItemsCanResume, moved_item, mover, relocated, sizes_over}
-use Rattle.flush_plan.specs.Phases.{AreItems}
-use Rattle.flush_plan.specs.PackedSoFar.{is_from, IsPackedDown}
-use Rattle.flush_plan.proofs.ListLaws.{sum_by_none_in, sum_by_one_place, sum_by_same_in}
-use Rattle.flush_plan.proofs.ItemLaws.{after_got, after_is, after_is_set, at_place, target, total_is, weight_moves}
-use Rattle.flush_plan.proofs.PackLaws.{over, over_before, over_counts, over_other, over_past, pack_far, sizes_over_is, target_packed}
+use Rattle.std.proofs.lemmas.Bool.{cases_lt, cond-true, cond-false, lt-ltb, le-ltb, le-leb, lt-leb, leb-true, ltb-true, and_parts, and_from, and_left, and_right}
+use Rattle.plan_terms.specs.declared.item.Item.{Item}
+use Rattle.plan_terms.specs.declared.item.Move.{Move}
+use Rattle.plan_terms.specs.declared.item.Numbers.{Numbers}
+use Rattle.plan_terms.specs.Plans.{is_below_wall, IsNextPack, IsPacked, ItemsCanResume, mover, relocated, sizes_over, weight}
+use Rattle.plan_terms.specs.Phases.{AreItems}
+use Rattle.plan_terms.specs.PackedSoFar.{is_from}
+use Rattle.plan_terms.proofs.ListLaws.{sum_by_more_in, sum_by_none_in, sum_by_same_in}
+use Rattle.plan_terms.proofs.ItemLaws.{after_is, items_within, same_or_apart, target, total_is, weight_moves}
+use Rattle.plan_terms.proofs.PackLaws.{over, over_before, over_counts, over_other, over_past, pack_far, sizes_over_is, target_packed}
+use Rattle.flush_plan.specs.Shelves.{IsLastBefore}
+use Rattle.flush_plan.specs.Packs.{IsPackedFrom}
 
-abbrev pub from_place : Numbers → ℕ → Item → ℕ
+abbrev from_place : Numbers → ℕ → Item → ℕ
 from_place n place it = cond (is_from n place it) it.size 0
 
 from_counts : (n : Numbers) (place : ℕ) (it : Item) → it.place < n.wall → place ≤ it.place
@@ -31,297 +31,11 @@ from_before : (n : Numbers) (place : ℕ) (it : Item) → it.place < place → f
 from_before n place it before = cond-false (is_from n place it) it.size 0
     (and_right (is_below_wall n it) (nat_le place it.place) (lt-leb place it.place before))
 
-module _ (k : ℕ) (n : Numbers) (items : List Item) (are : AreItems n items) (can : ItemsCanResume k n items)
-    (left top : ℕ) (down : IsPackedDown n items left top) where
-  -- at the end of the list all is packed
-  pub packed_down_whole : left ≡ 0 → (it : Item) → Contains items it → it.place < n.wall → IsPacked n items it
-  packed_down_whole ended it has low =
-      down.packed it has (down.above has.0 it (omega (arith, ended)) (at_place n items are it has)) low
-
-  module _ (at : ℕ) (next : at + 1 ≡ left) (m : Item) (got : slice_get items at ≡ Some m) where
-    within : at < length items
-    within = omega (arith, next, down.within)
-
-    pub has_m : Contains items m
-    has_m = (at, within, get_or_from_slice_get items at m m got)
-
-    -- one that lies past the wall is passed over
-    pub pack_past : n.wall ≤ m.place → IsPackedDown n items at top
-    pack_past past =
-        record {
-          within = omega (arith, within);
-          high = down.high;
-          below = λ i it less. down.below i it (omega (arith, less, next));
-          above = λ i it from there. elim (cases_lt i left) [
-            | inr more ↦ down.above i it more there
-            | inl less ↦
-                let e : i ≡ at = omega (arith, less, from, next) in
-                omega (
-                  arith,
-                  past,
-                  down.high,
-                  ap (λ (x : Item). x.place)
-                      (same_Some it m (sym there ∙ ap (slice_get items) e ∙ got)),
-                )
-          ];
-          rising = λ i j a b less high. down.rising i j a b less (omega (arith, high, next));
-          packed = down.packed;
-          row = down.row;
-        }
-
-    module _ (low : m.place < n.wall) where
-      m_before : m.place < top
-      m_before = down.below at m (omega (arith, next)) got low
-
-      -- where the items stand beside the one at the index
-      stands : (i : ℕ) (it : Item) → slice_get items i ≡ Some it
-          → ((i ≡ at) × (it ≡ m)) ⊎ ((i < at) × (it.place < n.wall → it.place < m.place))
-          ⊎ ((at < i) × (top ≤ it.place))
-      stands i it there = elim (cases_order i at) [
-        | inl e ↦ inl (e, same_Some it m (sym there ∙ ap (slice_get items) e ∙ got))
-        | inr (inl less) ↦ inr (inl (
-          less,
-          λ below. down.rising i at it m less (omega (arith, next)) there got below low,
-        ))
-        | inr (inr more) ↦ inr (inr (more, down.above i it (omega (arith, more, next)) there))
-      ]
-
-      -- what stands over it begins at the top
-      pub over_is_row : top + sizes_over n items m.place ≡ n.wall
-      over_is_row = omega (
-        arith,
-        down.row,
-        total_is (is_from n top) items,
-        sizes_over_is n items m.place,
-        sum_by_same_in (from_place n top) (over n m.place) items each,
-      )
-        where
-          each : (it : Item) → Contains items it → from_place n top it ≡ over n m.place it
-          each it has = elim (cases_lt it.place n.wall) [
-            | inr past ↦ from_past n top it past ∙ sym (over_past n m.place it past)
-            | inl below ↦ elim (stands has.0 it (at_place n items are it has)) [
-              | inl here ↦
-                  let e : it.place ≡ m.place = ap (λ (x : Item). x.place) here.1 in
-                  from_before n top it (omega (arith, e, m_before))
-                  ∙ sym (over_before n m.place it (omega (arith, e)))
-              | inr (inl before) ↦ from_before n top it (omega (arith, before.1 below, m_before))
-                  ∙ sym (over_before n m.place it (omega (arith, before.1 below)))
-              | inr (inr behind) ↦ from_counts n top it below behind.1
-                  ∙ sym (over_counts n m.place it below (omega (arith, behind.1, m_before)))
-            ]
-          ]
-
-      pub ends_before_top : m.place + m.size ≤ top
-      ends_before_top = elim (can.gap m has_m low) [
-        | inl packed ↦ omega (arith, packed, over_is_row)
-        | inr gap ↦ omega (arith, gap, over_is_row)
-      ]
-
-      -- one that ends at the top is packed
-      pub pack_stays : m.place + m.size ≡ top → IsPackedDown n items at m.place
-      pack_stays ends =
-          record {
-            within = omega (arith, within);
-            high = omega (arith, low);
-            below = λ i it less there below. elim (stands i it there) [
-              | inl here ↦ absurd (omega (arith, here.0, less))
-              | inr (inl before) ↦ before.1 below
-              | inr (inr behind) ↦ absurd (omega (arith, behind.0, less))
-            ];
-            above = λ i it from there. elim (stands i it there) [
-              | inl here ↦ omega (arith, ap (λ (x : Item). x.place) here.1)
-              | inr (inl before) ↦ absurd (omega (arith, before.0, from))
-              | inr (inr behind) ↦ omega (arith, behind.1, m_before)
-            ];
-            rising = λ i j a b less high. down.rising i j a b less (omega (arith, high, next));
-            packed = λ it has from below. elim (stands has.0 it (at_place n items are it has)) [
-              | inl here ↦ subst (IsPacked n items) (sym here.1) (omega (arith, ends, over_is_row))
-              | inr (inl before) ↦ absurd (omega (arith, before.1 below, from))
-              | inr (inr behind) ↦ down.packed it has behind.1 below
-            ];
-            row = omega (
-              arith,
-              row,
-              over_is_row,
-              ends,
-              sizes_over_is n items m.place,
-              total_is (is_from n m.place) items,
-              at_m,
-              from_counts n m.place m low (omega arith),
-              over_before n m.place m (omega arith),
-            );
-          }
-        where
-          place_at : slice_index_or items at m ≡ m
-          place_at = get_or_from_slice_get items at m m got
-
-          each : (i : ℕ) → i < length items → i ≢ at
-              → from_place n m.place (slice_index_or items i m) ≡ over n m.place (slice_index_or items i m)
-          each i fits other =
-              let it = slice_index_or items i m in
-              elim (cases_lt it.place n.wall) [
-                | inr past ↦ from_past n m.place it past ∙ sym (over_past n m.place it past)
-                | inl below ↦ elim (stands i it (slice_get-get_or items i m fits)) [
-                  | inl here ↦ absurd (other here.0)
-                  | inr (inl before) ↦ from_before n m.place it (before.1 below)
-                      ∙ sym (over_before n m.place it (omega (arith, before.1 below)))
-                  | inr (inr behind) ↦ from_counts n m.place it below (omega (arith, behind.1, m_before))
-                      ∙ sym (over_counts n m.place it below (omega (arith, behind.1, m_before)))
-                ]
-              ]
-
-          sums : sum_by (from_place n m.place) items + over n m.place (slice_index_or items at m)
-              ≡ sum_by (over n m.place) items + from_place n m.place (slice_index_or items at m)
-          sums = sum_by_one_place m (from_place n m.place) (over n m.place) at items within each
-
-          row : sum_by (from_place n m.place) items + over n m.place m
-              ≡ sum_by (over n m.place) items + from_place n m.place m
-          row = subst (λ x. sum_by (from_place n m.place) items + over n m.place x
-              ≡ sum_by (over n m.place) items + from_place n m.place x) place_at sums
-
-          at_m : Contains items m
-          at_m = has_m
-
-      -- one that doesn't is moved so that it does
-      module _ (mv : Move) (is : mover mv ≡ m) (ends : mv.to + m.size ≡ top) (loose : m.place + m.size ≢ top)
-        where
-          from_is : mv.from ≡ m.place
-          from_is = ap (λ (x : Item). x.place) is
-
-          size_is : mv.size ≡ m.size
-          size_is = ap (λ (x : Item). x.size) is
-
-          has_mover : Contains items (mover mv)
-          has_mover = (
-            at,
-            within,
-            get_or_from_slice_get items at (mover mv) (mover mv)
-                (got ∙ ap Some (sym is)),
-          )
-
-          pub pack_next : IsNextPack n items mv
-          pack_next =
-              record {
-                item = has_mover;
-                below = omega (arith, from_is, low);
-                moves = λ e. loose (omega (arith, e, from_is, ends));
-                target = omega (arith, ends, size_is, over_is_row, ap (sizes_over n items) from_is);
-                packed = λ it has more below. elim (stands has.0 it (at_place n items are it has)) [
-                  | inl here ↦ absurd (omega (arith, more, from_is, ap (λ (x : Item). x.place) here.1))
-                  | inr (inl before) ↦ absurd (omega (arith, more, from_is, before.1 below))
-                  | inr (inr behind) ↦ down.packed it has behind.1 below
-                ];
-              }
-
-          abbrev after : List Item
-          after = relocated mv.key mv.to items
-
-          far : mv.from + n.slack ≤ mv.to
-          far = pack_far k n items are can mv pack_next
-
-          -- the list behind the move, with the item moved in its place
-          pub pack_sets : after ≡ slice_set items at (target mv)
-          unfolding has_mover
-          pack_sets = after_is_set n items are mv has_mover
-
-          got_after : (i : ℕ) (a : Item) → slice_get after i ≡ Some a
-              → ((i ≡ at) × (a ≡ target mv)) ⊎ ((i ≢ at) × (slice_get items i ≡ Some a) × (a.key ≢ mv.key))
-          unfolding has_mover
-          got_after i a there = after_got n items are mv has_mover i a there
-
-          pub pack_moves : IsPackedDown n after at mv.to
-          pack_moves =
-              record {
-                within = omega (arith, within, length-map items (moved_item mv.key mv.to));
-                high = omega (arith, ends, down.high);
-                below = λ i it less there below. elim (got_after i it there) [
-                  | inl here ↦ absurd (omega (arith, here.0, less))
-                  | inr old ↦ elim (stands i it old.1) [
-                    | inl here ↦ absurd (omega (arith, here.0, less))
-                    | inr (inl before) ↦ omega (arith, before.1 below, from_is, far)
-                    | inr (inr behind) ↦ absurd (omega (arith, behind.0, less))
-                  ]
-                ];
-                above = λ i it from there. elim (got_after i it there) [
-                  | inl here ↦ omega (arith, ap (λ (x : Item). x.place) here.1)
-                  | inr old ↦ elim (stands i it old.1) [
-                    | inl here ↦ absurd (old.0 here.0)
-                    | inr (inl before) ↦ absurd (omega (arith, before.0, from))
-                    | inr (inr behind) ↦ omega (arith, behind.1, ends)
-                  ]
-                ];
-                rising = λ i j a b less high there_a there_b low_a low_b. elim (got_after i a there_a) [
-                  | inl here ↦ absurd (omega (arith, here.0, less, high))
-                  | inr old_a ↦ elim (got_after j b there_b) [
-                    | inl here ↦ absurd (omega (arith, here.0, high))
-                    | inr old_b ↦ down.rising i j a b less (omega (arith, high, next)) old_a.1 old_b.1 low_a
-                        low_b
-                  ]
-                ];
-                packed = λ it has from below. elim (after_is n items are mv has_mover it has) [
-                  | inl e ↦ subst (IsPacked n after) (sym e) (target_packed k n items are can mv pack_next)
-                  | inr old ↦ elim (stands old.0.0 it (at_place n items are it old.0)) [
-                    | inl here ↦ absurd (omega (
-                      arith,
-                      from,
-                      from_is,
-                      far,
-                      ends,
-                      ap (λ (x : Item). x.place) here.1,
-                      some_slack,
-                    ))
-                    | inr (inl before) ↦ absurd (omega (arith, from, before.1 below, from_is, far))
-                    | inr (inr behind) ↦ omega (
-                      arith,
-                      down.packed it old.0 behind.1 below,
-                      over_other k n items are can mv pack_next it old.0 old.1,
-                    )
-                  ]
-                ];
-                row = omega (
-                  arith,
-                  down.row,
-                  ends,
-                  size_is,
-                  total_is (is_from n top) items,
-                  total_is (is_from n mv.to) after,
-                  weight_moves n items are mv has_mover (is_from n top) (is_from n mv.to) each,
-                  from_before n top (mover mv) (omega (arith, from_is, m_before)),
-                  from_counts n mv.to (target mv) (omega (arith, ends, down.high, are.some m has_m))
-                      (omega arith),
-                );
-              }
-            where
-              some_slack : 1 ≤ n.slack
-              some_slack = omega (arith, can.slack m has_m, are.some m has_m)
-
-              each : (it : Item) → Contains items it → it.key ≢ mv.key → is_from n top it ≡ is_from n mv.to it
-              each it has other = elim (cases_lt it.place n.wall) [
-                | inr past ↦ and_left (is_below_wall n it) (nat_le top it.place) (le-ltb it.place n.wall past)
-                    ∙ sym (and_left (is_below_wall n it) (nat_le mv.to it.place)
-                    (le-ltb it.place n.wall past))
-                | inl below ↦ ap (λ b. is_below_wall n it && b)
-                    (elim (stands has.0 it (at_place n items are it has)) [
-                      | inl here ↦ absurd (other (ap (λ (x : Item). x.key) here.1
-                          ∙ sym (ap (λ (x : Item). x.key) is)))
-                      | inr (inl before) ↦ lt-leb top it.place (omega (arith, before.1 below, m_before))
-                          ∙ sym (lt-leb mv.to it.place (omega (arith, before.1 below, from_is, far)))
-                      | inr (inr behind) ↦ le-leb top it.place behind.1
-                          ∙ sym (le-leb mv.to it.place (omega (arith, behind.1, ends)))
-                    ])
-              ]
-
--- Pack begins at the end of a list whose items below the wall stand in the order of their places.
-pub pack_from_end : (n : Numbers) (items : List Item)
-    → ((i j : ℕ) (a b : Item) → i < j → slice_get items i ≡ Some a → slice_get items j ≡ Some b
-    → a.place < n.wall → b.place < n.wall → a.place < b.place) → IsPackedDown n items (length items) n.wall
-pack_from_end n items rising =
+-- nothing stands in the range at the wall that has no bytes
+pub packed_from_wall : (n : Numbers) (items : List Item) → IsPackedFrom n items n.wall
+packed_from_wall n items =
     record {
-      within = omega arith;
       high = omega arith;
-      below = λ i it less there low. low;
-      above = λ i it from there. absurd (omega (arith, from, slice_get_within items i it there));
-      rising = λ i j a b less high. rising i j a b less;
       packed = λ it has from low. absurd (omega (arith, from, low));
       row = omega (arith, total_is (is_from n n.wall) items, sum_by_none_in (from_place n n.wall) items none);
     }
@@ -329,6 +43,212 @@ pack_from_end n items rising =
     none : (it : Item) → Contains items it → from_place n n.wall it ≡ 0
     none it has = elim (cases_lt it.place n.wall) [
       | inl low ↦ from_before n n.wall it low
-      | inr past ↦
-          from_past n n.wall it past
+      | inr past ↦ from_past n n.wall it past
     ]
+
+module _ (k : ℕ) (n : Numbers) (items : List Item) (are : AreItems n items) (can : ItemsCanResume k n items)
+    (top : ℕ) (down : IsPackedFrom n items top) (m : Item) (last : IsLastBefore items top m) where
+  has_m : Contains items m
+  has_m = last.has
+
+  before : m.place < top
+  before = last.before
+
+  low : m.place < n.wall
+  low = omega (arith, before, down.high)
+
+  -- where the items stand beside the last one
+  pub stands : (it : Item) → Contains items it → (it ≡ m) ⊎ (it.place < m.place) ⊎ (top ≤ it.place)
+  stands it has = elim (cases_lt it.place top) [
+    | inr behind ↦ inr (inr behind)
+    | inl less ↦ elim (cases_lt it.place m.place) [
+      | inl front ↦ inr (inl front)
+      | inr from ↦ elim (same_or_apart n items are it m has has_m) [
+        | inl e ↦ inl e
+        | inr h ↦ absurd (elim h.1 [
+          | inl e ↦ omega (arith, e, from, are.some it has)
+          | inr e ↦ omega (arith, e, last.last it has less, are.some m has_m)
+        ])
+      ]
+    ]
+  ]
+
+  -- what stands over it begins at the top
+  pub over_is_row : top + sizes_over n items m.place ≡ n.wall
+  over_is_row = omega (
+    arith,
+    down.row,
+    total_is (is_from n top) items,
+    sizes_over_is n items m.place,
+    sum_by_same_in (from_place n top) (over n m.place) items each,
+  )
+    where
+      each : (it : Item) → Contains items it → from_place n top it ≡ over n m.place it
+      each it has = elim (cases_lt it.place n.wall) [
+        | inr past ↦ from_past n top it past ∙ sym (over_past n m.place it past)
+        | inl below ↦ elim (stands it has) [
+          | inl e ↦
+              let here : it.place ≡ m.place = ap (λ (x : Item). x.place) e in
+              from_before n top it (omega (arith, here, before))
+              ∙ sym (over_before n m.place it (omega (arith, here)))
+          | inr (inl front) ↦ from_before n top it (omega (arith, front, before))
+              ∙ sym (over_before n m.place it (omega (arith, front)))
+          | inr (inr behind) ↦ from_counts n top it below behind
+              ∙ sym (over_counts n m.place it below (omega (arith, behind, before)))
+        ]
+      ]
+
+  pub ends_before_top : m.place + m.size ≤ top
+  ends_before_top = elim (can.gap m has_m low) [
+    | inl packed ↦ omega (arith, packed, over_is_row)
+    | inr gap ↦ omega (arith, gap, over_is_row)
+  ]
+
+  -- no other item before the top ends there
+  pub alone_at_top : (it : Item) → Contains items it → it.place < top → it.place + it.size ≡ top → it ≡ m
+  alone_at_top it has less ends = elim (same_or_apart n items are it m has has_m) [
+    | inl e ↦ e
+    | inr h ↦ absurd (elim h.1 [
+      | inl e ↦ omega (arith, e, ends, before)
+      | inr e ↦ omega (arith, e, last.last it has less, are.some m has_m)
+    ])
+  ]
+
+  -- one that ends at the top is packed
+  pub pack_stays : m.place + m.size ≡ top → IsPackedFrom n items m.place
+  pack_stays ends =
+      record {
+        high = omega (arith, low);
+        packed = λ it has from below. elim (stands it has) [
+          | inl e ↦ subst (IsPacked n items) (sym e) (omega (arith, ends, over_is_row))
+          | inr (inl front) ↦ absurd (omega (arith, front, from))
+          | inr (inr behind) ↦ down.packed it has behind below
+        ];
+        row = omega (arith, at_least, at_most, over_is_row, ends, total_is (is_from n m.place) items);
+      }
+    where
+      each : (it : Item) → Contains items it → over n m.place it ≤ from_place n m.place it
+      each it has = elim (cases_lt it.place n.wall) [
+        | inr past ↦ omega (arith, over_past n m.place it past)
+        | inl below ↦ elim (cases_lt m.place it.place) [
+          | inr front ↦ omega (arith, over_before n m.place it front)
+          | inl more ↦ omega (
+            arith,
+            over_counts n m.place it below more,
+            from_counts n m.place it below (omega (arith, more)),
+          )
+        ]
+      ]
+
+      at_least : sizes_over n items m.place + m.size ≤ weight (is_from n m.place) items
+      at_least = omega (
+        arith,
+        sizes_over_is n items m.place,
+        sum_by_more_in (over n m.place) (from_place n m.place) m m.size items has_m
+            (omega (arith, over_before n m.place m (omega arith), from_counts n m.place m low (omega arith)))
+            each,
+      )
+
+      at_most : m.place + weight (is_from n m.place) items ≤ n.wall
+      at_most = items_within n items are (is_from n m.place) m.place n.wall (omega (arith, low)) (λ it has is.
+          let parts = and_parts (is_below_wall n it) (nat_le m.place it.place) is in (
+            leb-true m.place it.place parts.1,
+            elim (can.side it has) [
+              | inl past ↦ absurd (omega (arith, past, ltb-true it.place n.wall parts.0))
+              | inr side ↦ side.1
+            ],
+          ))
+
+  -- one that doesn't is the next to be packed
+  module _ (mv : Move) (is : mover mv ≡ m) (ends : mv.to + mv.size ≡ top) (loose : m.place + m.size ≢ top)
+    where
+      from_is : mv.from ≡ m.place
+      from_is = ap (λ (x : Item). x.place) is
+
+      size_is : mv.size ≡ m.size
+      size_is = ap (λ (x : Item). x.size) is
+
+      has_mover : Contains items (mover mv)
+      has_mover = subst (Contains items) (sym is) has_m
+
+      pub pack_next : IsNextPack n items mv
+      pack_next =
+          record {
+            item = has_mover;
+            below = omega (arith, from_is, low);
+            moves = λ e. loose (omega (arith, e, from_is, size_is, ends));
+            target = omega (arith, ends, over_is_row, ap (sizes_over n items) from_is);
+            packed = λ it has more below. elim (stands it has) [
+              | inl e ↦ absurd (omega (arith, more, from_is, ap (λ (x : Item). x.place) e))
+              | inr (inl front) ↦ absurd (omega (arith, more, from_is, front))
+              | inr (inr behind) ↦ down.packed it has behind below
+            ];
+          }
+
+      abbrev after : List Item
+      after = relocated mv.key mv.to items
+
+      far : mv.from + n.slack ≤ mv.to
+      far = pack_far k n items are can mv pack_next
+
+      some_slack : 1 ≤ n.slack
+      some_slack = omega (arith, can.slack m has_m, are.some m has_m)
+
+      -- the others stand before the mover's place, or from the top on
+      others : (it : Item) → Contains items it → it.key ≢ mv.key → (it.place < m.place) ⊎ (top ≤ it.place)
+      others it has other = elim (stands it has) [
+        | inl e ↦ absurd (other (ap (λ (x : Item). x.key) (e ∙ sym is)))
+        | inr where_it ↦ where_it
+      ]
+
+      pub pack_moves : IsPackedFrom n after mv.to
+      pack_moves =
+          record {
+            high = omega (arith, ends, down.high);
+            packed = λ it has from below. elim (after_is n items are mv has_mover it has) [
+              | inl e ↦ subst (IsPacked n after) (sym e) (target_packed k n items are can mv pack_next)
+              | inr old ↦ elim (others it old.0 old.1) [
+                | inl front ↦ absurd (omega (arith, from, front, from_is, far))
+                | inr behind ↦ omega (
+                  arith,
+                  down.packed it old.0 behind below,
+                  over_other k n items are can mv pack_next it old.0 old.1,
+                )
+              ]
+            ];
+            row = omega (
+              arith,
+              down.row,
+              ends,
+              total_is (is_from n top) items,
+              total_is (is_from n mv.to) after,
+              weight_moves n items are mv has_mover (is_from n top) (is_from n mv.to) each,
+              from_before n top (mover mv) (omega (arith, from_is, before)),
+              from_counts n mv.to (target mv)
+                  (omega (arith, ends, down.high, size_is, are.some m has_m)) (omega arith),
+            );
+          }
+        where
+          each : (it : Item) → Contains items it → it.key ≢ mv.key → is_from n top it ≡ is_from n mv.to it
+          each it has other = ap (λ b. is_below_wall n it && b) (elim (others it has other) [
+            | inl front ↦ lt-leb top it.place (omega (arith, front, before))
+                ∙ sym (lt-leb mv.to it.place (omega (arith, front, from_is, far)))
+            | inr behind ↦ le-leb top it.place behind
+                ∙ sym (le-leb mv.to it.place (omega (arith, behind, ends)))
+          ])
+
+      -- and what stands before it then is loose again
+      pub pack_loosens : (it : Item) → Contains after it → it.place < mv.to → it.place + it.size ≢ mv.to
+      pack_loosens it has less ends_there = elim (after_is n items are mv has_mover it has) [
+        | inl e ↦ omega (arith, less, ap (λ (x : Item). x.place) e)
+        | inr old ↦ elim (others it old.0 old.1) [
+          | inr behind ↦ omega (arith, behind, less, ends)
+          | inl front ↦ elim (same_or_apart n items are it m old.0 has_m) [
+            | inl e ↦ omega (arith, front, ap (λ (x : Item). x.place) e)
+            | inr h ↦ elim h.1 [
+              | inl e ↦ omega (arith, e, ends_there, from_is, far, some_slack)
+              | inr e ↦ omega (arith, e, front, are.some m has_m)
+            ]
+          ]
+        ]
+      ]

@@ -1,23 +1,69 @@
-//! Flushes for the tests: layouts of known volumes, and flushes of items with which one may begin.
-ghost use Rattle.std.specs.Prelude.{◌≡◌, ◌≢◌, ◌⊎◌, ℕ, ◌+◌, ◌<◌, ◌≤◌, ◌^◌, IsTrue, Some, slice_get};
+//! A shelf that is a list, and flushes of it with which one may begin.
+ghost use Rattle.std.specs.Prelude.{◌≡◌, ◌≢◌, ◌⊎◌, ℕ, ◌+◌, ◌<◌, ◌≤◌, ◌^◌, List, Contains, IfSome, IsPermutation, IsTrue, Some, slice_get};
+ghost use Rattle.std.specs.List.Sorted.{IsNonDecreasingBy};
 ghost use Rattle.size_class.specs.Classes.{class_of as class_of_lem};
 ghost use Rattle.segment_layout.specs.Layouts.{divisor_of, caps_of};
-ghost use Rattle.flush_plan.specs.declared.item.Item.{Item as AnyItem};
-ghost use Rattle.flush_plan.specs.Plans.{AreBelow, AreSmall, IsInBuffer, ItemsApart, stands_in_payload};
-ghost use Rattle.flush_plan.specs.Phases.{CanFlush, IsPacking};
-ghost use Rattle.flush_plan.specs.Suffixes.{value_of};
+ghost use Rattle.plan_terms.specs.declared.item.Item.{Item as AnyItem};
+ghost use Rattle.plan_terms.specs.declared.item.Numbers.{Numbers as AnyNumbers};
+ghost use Rattle.plan_terms.specs.Plans.{IsInBuffer, ItemsApart, mover, relocated, stands_in_payload};
+ghost use Rattle.plan_terms.specs.Phases.{AreItems, CanFlush};
+ghost use Rattle.flush_plan.specs.Lifts.{KeepsLifting};
+ghost use Rattle.flush_plan.specs.Packs.{KeepsPacking};
 
-use crate::item::Item;
-use crate::lay::Laying;
+use crate::counts::numbers;
 use crate::lift::Lifting;
 use crate::pack::Packing;
-use crate::suffix::Suffix;
-use crate::sums::numbers;
+use crate::ranks::rank_from;
+use crate::shelf::Shelf;
+use plan_terms::{Item, Move};
 use segment_layout::Layout;
 use size_class::{Row, class_of};
 
 /// The key of a pending object.
 pub(crate) const PENDING: u32 = 1_000;
+
+/// A shelf that keeps its objects in a list.
+#[derive(Drop)]
+pub(crate) struct ListShelf {
+    pub(crate) items: Vec<Item>,
+}
+
+impl Shelf for ListShelf {
+    ghost items = { λ shelf. shelf.items.items };
+
+    fn len(&self) -> u64 {
+        self.items.len() as u64
+    }
+
+    fn item(&self, n: u64) -> Item {
+        self.items[n as usize]
+    }
+}
+
+impl ListShelf {
+    /// Puts objects in the order of their places.
+    pub(crate) fn new(objects: Vec<Item>) -> ListShelf
+        ensures same { IsPermutation objects.items result.items.items }
+        ensures rising { IsNonDecreasingBy (λ (it : AnyItem). it.place) result.items.items }
+    {
+        let mut items = objects;
+        items.sort_unstable_by_key(|item| item.place);
+        ListShelf { items }
+    }
+
+    /// Makes a move.
+    pub(crate) fn relocate(&mut self, mv: Move)
+        requires items { (n : AnyNumbers) × AreItems n self.old.items.items }
+        requires rising { IsNonDecreasingBy (λ (it : AnyItem). it.place) self.old.items.items }
+        requires has { Contains self.old.items.items (mover mv) }
+        ensures same { IsPermutation (relocated mv.key mv.to self.old.items.items) self.new.items.items }
+        ensures rising { IsNonDecreasingBy (λ (it : AnyItem). it.place) self.new.items.items }
+    {
+        let at = rank_from(&*self, mv.from, 0) as usize;
+        self.items[at].place = mv.to;
+        self.items.sort_unstable_by_key(|item| item.place);
+    }
+}
 
 /// The layout with these volumes of classes, and with empty buffers.
 pub(crate) fn layout_of<const C: usize>(k: u64, volumes: &[(u8, u64)]) -> Layout<C>
@@ -37,86 +83,74 @@ pub(crate) fn layout_of<const C: usize>(k: u64, volumes: &[(u8, u64)]) -> Layout
     layout
 }
 
-/// A flush of these items and of a pending object of so many bytes, if one may begin.
+/// A flush that begins, with the shelf on which its objects stand.
+pub(crate) struct Begun<const C: usize> {
+    pub(crate) lifting: Lifting<C>,
+    pub(crate) shelf: ListShelf,
+}
+
+/// A flush of these objects and of a pending one of so many bytes, if one may begin.
 pub(crate) fn flush_of<const C: usize>(
     layout: &Layout<C>,
     b: u8,
-    items: Vec<Item>,
+    objects: Vec<Item>,
     pending: u64,
-) -> Option<Lifting<C>>
+) -> Option<Begun<C>>
     requires { C ≤ 32 }
+    ensures { IfSome result (λ begun. (items : List AnyItem) × KeepsLifting C begun.lifting items
+        × IsPermutation items begun.shelf.items.items
+        × IsNonDecreasingBy (λ (it : AnyItem). it.place) begun.shelf.items.items) }
 {
-    if b as usize >= C || pending > 1 << 31 || !can_flush(layout, b, &items) {
+    let shelf = ListShelf::new(objects);
+    if b as usize >= C || pending > 1 << 31 || !can_flush(layout, b, &shelf.items) {
         return None;
     }
     if pending == 0 {
-        let plain = numbers(layout, b, &items, 0);
-        return Some(Lifting::new(layout, plain, items, None));
+        let plain = numbers(layout, b, &shelf, 0);
+        let lifting = Lifting::new(layout, plain, &shelf, None);
+        return Some(Begun { lifting, shelf });
     }
     let class = class_of(pending);
-    let full = items.len() == items.capacity();
-    if class < b || class as usize >= C || full || !lacks_key(&items, PENDING) {
+    if class < b || class as usize >= C || !lacks_key(&shelf.items, PENDING) {
         return None;
     }
-    let whole = numbers(layout, b, &items, pending);
+    let whole = numbers(layout, b, &shelf, pending);
     let item = Item {
         key: PENDING,
         class,
         place: whole.reach - pending,
         size: pending,
     };
-    Some(Lifting::new(layout, whole, items, Some(item)))
-}
-
-/// A flush that was interrupted in Pack, as it goes on from what stands then.
-pub(crate) fn packed_again<const C: usize>(
-    layout: &Layout<C>,
-    packing: Packing<C>,
-) -> Option<Packing<C>>
-    requires { C ≤ 32 }
-{
-    let Packing {
-        suffix,
-        left: _,
-        top: _,
-    } = packing;
-    found_again(layout, suffix)
-}
-
-/// A flush that was interrupted in Lay, as it goes on from what stands then.
-pub(crate) fn laid_again<const C: usize>(
-    layout: &Layout<C>,
-    laying: Laying<C>,
-) -> Option<Packing<C>>
-    requires { C ≤ 32 }
-{
-    let Laying {
-        suffix,
-        done: _,
-        places: _,
-    } = laying;
-    found_again(layout, suffix)
-}
-
-/// Goes on with a flush whose objects were found again.
-fn found_again<const C: usize>(layout: &Layout<C>, suffix: Suffix<C>) -> Option<Packing<C>>
-    requires fits { C ≤ 32 }
-    requires packing { IsPacking (value_of suffix) }
-    requires classes { AreBelow C suffix.items.items }
-    requires small { AreSmall suffix.numbers suffix.items.items }
-{
-    let Suffix {
-        k,
-        caps: _,
-        numbers,
-        pending: _,
-        items,
-    } = suffix;
-    let b = numbers.boundary;
-    if k != layout.k() || b as usize >= C || layout.start(b) != numbers.start {
+    let ListShelf { items } = shelf;
+    let mut all = items;
+    if all.len() == all.capacity() {
         return None;
     }
-    Some(Packing::resume(layout, numbers, items))
+    all.push_reserved(item);
+    let shelf = ListShelf::new(all);
+    let lifting = Lifting::new(layout, whole, &shelf, Some(item));
+    Some(Begun { lifting, shelf })
+}
+
+/// Goes on with a flush whose objects were found again on a shelf.
+pub(crate) fn found_again<const C: usize>(
+    layout: &Layout<C>,
+    packing: Packing<C>,
+    shelf: &ListShelf,
+) -> Option<Packing<C>>
+    requires { (items : List AnyItem) × KeepsPacking C packing items
+        × IsPermutation items shelf.now.items.items
+        × IsNonDecreasingBy (λ (it : AnyItem). it.place) shelf.now.items.items }
+    ensures { IfSome result (λ again. (items : List AnyItem) × KeepsPacking C again items
+        × IsPermutation items shelf.now.items.items
+        × IsNonDecreasingBy (λ (it : AnyItem). it.place) shelf.now.items.items) }
+{
+    let numbers = packing.numbers();
+    let b = numbers.boundary;
+    if packing.k != layout.k() || b as usize >= C || layout.start(b) != numbers.start {
+        return None;
+    }
+    Some(Packing::resume(layout, numbers, shelf))
 }
 
 /// Whether a flush from class `b` on may begin with these items.

@@ -1,145 +1,187 @@
 //! Lift: the objects of the buffers go past the wall, the one at the least place first.
-ghost use Rattle.std.specs.Prelude.{◌≡◌, ℕ, ◌<◌, ◌≤◌, ◌↔◌, IfSome, IsNone, IsPermutation, IsTrue, vec_capacity, vec_len};
-ghost use Rattle.size_class.specs.Rows.{cells_of};
+ghost use Rattle.std.specs.Prelude.{◌≡◌, ℕ, ◌<◌, ◌≤◌, ◌↔◌, List, IfSome, IsNone, IsPermutation, IsTrue};
 ghost use Rattle.segment_layout.specs.Layouts.{divisor_of, caps_of};
-ghost use Rattle.flush_plan.specs.Plans.{lifted_bytes};
-ghost use Rattle.flush_plan.specs.Phases.{bytes_below, IsLifted, IsLifting, IsPacking, lifted_in, moved_by, PaysFor, phase_of};
-ghost use Rattle.flush_plan.specs.Steps.{IsLiftStep};
-ghost use Rattle.flush_plan.specs.Begins.{Begins, pending_size, with_pending};
-ghost use Rattle.flush_plan.specs.LiftedSoFar.{IsLiftedUp, KeepsLifting, StopsAt};
-ghost use Rattle.flush_plan.specs.Suffixes.{value_of};
+ghost use Rattle.plan_terms.specs.declared.item.Item.{Item as AnyItem};
+ghost use Rattle.plan_terms.specs.Plans.{relocated};
+ghost use Rattle.plan_terms.specs.Phases.{bytes_below, IsLifted, lifted_in, PaysFor};
+ghost use Rattle.plan_terms.specs.Steps.{IsLiftStep};
+ghost use Rattle.plan_terms.specs.Begins.{Begins, pending_size, with_pending};
+ghost use Rattle.flush_plan.specs.Shelves.{course_of, phase_on};
+ghost use Rattle.flush_plan.specs.Lifts.{IsFirstUnlifted, KeepsLifting, Lifts};
+ghost use Rattle.flush_plan.specs.Packs.{KeepsPacking};
 
-use crate::item::{Item, Move, Numbers};
 use crate::pack::Packing;
-use crate::segments::{stands, starts_of};
-use crate::suffix::Suffix;
+use crate::ranks::rank_from;
+use crate::shelf::Shelf;
+use plan_terms::{Item, Move, Numbers, stands, starts_of};
 use segment_layout::Layout;
 use size_class::Row;
 use std::marker::Model;
 
-/// The moves of Lift. An object that stands in its payload segment isn't moved.
+/// The moves of Lift. An object that stands in its payload segment isn't moved. The rank is that of the
+/// object that was moved last, and no more than a hint.
 #[derive(Drop)]
 pub struct Lifting<const C: usize> {
-    suffix: Suffix<C>,
+    k: u64,
+    caps: Row<C>,
     starts: Row<C>,
-    seen: usize,
+    numbers: Numbers,
+    pending: u64,
+    from: u64,
     to: u64,
+    rank: u64,
 }
 
 impl<const C: usize> Model for Lifting<C> {
     ghost use Rattle.size_class.specs.Rows.{cells_of};
-    ghost use Rattle.flush_plan.specs.Phases.{Phase};
-    ghost use Rattle.flush_plan.specs.LiftedSoFar.{KeepsLifting};
-    ghost use Rattle.flush_plan.specs.Suffixes.{value_of};
+    ghost use Rattle.plan_terms.specs.LiftedSoFar.{AreStarts};
+    ghost use Rattle.flush_plan.specs.Shelves.{course_of};
+    ghost use Rattle.flush_plan.specs.Lifts.{Lift};
 
-    ghost Value = { Phase };
+    ghost Value = { Lift };
 
-    ghost view = { λ p. value_of p.suffix };
+    ghost view = { λ p. record {
+      course = course_of p.k (cells_of p.caps) p.numbers p.pending;
+      from = p.from;
+      to = p.to;
+    } };
 
-    ghost invariant = { λ p. KeepsLifting C (value_of p.suffix) (cells_of p.starts) p.seen p.to };
+    ghost invariant = { λ p. AreStarts C p.k (cells_of p.caps) (cells_of p.starts) };
 }
 
 impl<const C: usize> Lifting<C> {
-    /// Begins a flush of these items, and of a pending one that was written past the room for what is
-    /// lifted. The list must have room for it.
-    pub fn new(
+    /// Begins a flush of the objects from the start of its suffix on, and of a pending one that was
+    /// written past the room for what is lifted and stands on the shelf. Nothing is looked up yet.
+    pub fn new<S: Shelf>(
         layout: &Layout<C>,
         numbers: Numbers,
-        items: Vec<Item>,
+        _shelf: &S,
         pending: Option<Item>,
     ) -> Lifting<C>
         requires fits { C ≤ 32 }
         requires boundary { numbers.boundary < C }
-        requires begins { Begins (divisor_of layout.now) (caps_of layout.now) numbers items.items pending }
         requires class { IfSome pending (λ item. item.class < C) }
-        requires room { IfSome pending (λ item. vec_len items < vec_capacity items) }
-        ensures items { IsPermutation (with_pending items.items pending) result.items }
-        ensures value { result ≡ phase_of (divisor_of layout.now) (caps_of layout.now) numbers
-            (pending_size pending) result.items (vec_capacity items) }
-        ensures lifting { IsLifting result }
-        ensures none { (c : ℕ) → lifted_in result c ≡ 0 }
+        ensures course { result.course
+            ≡ course_of (divisor_of layout.now) (caps_of layout.now) numbers (pending_size pending) }
+        ensures keeps { (items all : List AnyItem)
+            → Begins (divisor_of layout.now) (caps_of layout.now) numbers items pending
+            → IsPermutation (with_pending items pending) all → KeepsLifting C result all }
+        ensures none { (items all : List AnyItem) (c : ℕ)
+            → Begins (divisor_of layout.now) (caps_of layout.now) numbers items pending
+            → IsPermutation (with_pending items pending) all
+            → lifted_in (phase_on result.course all) c ≡ 0 }
     {
-        let size = size_of(pending);
-        let mut all = joined(items, pending);
-        all.sort_unstable_by_key(|item| item.place);
         Lifting {
-            suffix: Suffix {
-                k: layout.k(),
-                caps: layout.caps(),
-                numbers,
-                pending: size,
-                items: all,
-            },
+            k: layout.k(),
+            caps: layout.caps(),
             starts: starts_of(layout),
-            seen: 0,
+            numbers,
+            pending: size_of(pending),
+            from: numbers.start,
             to: numbers.wall,
+            rank: 0,
         }
     }
 
     /// The next move, which counts as done; None at the phase's end.
-    pub fn next(&mut self) -> Option<Move>
-        ensures lifting { IsLifting self.old }
-        ensures step { IfSome result (λ mv. IsLiftStep self.old mv) }
-        ensures moved { IfSome result (λ mv. self.new ≡ moved_by mv self.old) }
-        ensures end { IsNone result ↔ IsLifted self.old }
+    pub fn next<S: Shelf>(&mut self, shelf: &S) -> Option<Move>
+        requires lifts { (items : List AnyItem) × Lifts C self.old items (S.items shelf.now) }
+        ensures course { self.new.course ≡ self.old.course }
+        ensures step { (items : List AnyItem) → Lifts C self.old items (S.items shelf.now)
+            → IfSome result (λ mv. IsLiftStep (phase_on self.old.course items) mv) }
+        ensures keeps { (items : List AnyItem) → Lifts C self.old items (S.items shelf.now)
+            → IfSome result (λ mv. KeepsLifting C self.new (relocated mv.key mv.to items)) }
+        ensures end { (items : List AnyItem) → Lifts C self.old items (S.items shelf.now)
+            → (IsNone result ↔ IsLifted (phase_on self.old.course items)) }
         ensures same { IsNone result → self.new ≡ self.old }
     {
-        self.seen = lifted_up(&self.suffix, &self.starts, self.seen, self.to);
-        if self.seen == self.suffix.items.len() {
-            return None;
-        }
-        let mv = self.suffix.relocate(self.seen, self.to);
-        self.to += mv.size;
-        self.seen += 1;
-        Some(mv)
+        let (item, rank) = self.first_unlifted(shelf)?;
+        let to = self.to;
+        self.from = item.place + 1;
+        self.to += item.size;
+        self.rank = rank;
+        Some(Move {
+            key: item.key,
+            class: item.class,
+            from: item.place,
+            to,
+            size: item.size,
+        })
     }
 
     /// Whether no move is left. It takes as long as the next move does.
-    pub fn at_end(&self) -> bool
-        ensures { IsTrue result ↔ IsLifted self.now }
+    pub fn at_end<S: Shelf>(&self, shelf: &S) -> bool
+        requires lifts { (items : List AnyItem) × Lifts C self.now items (S.items shelf.now) }
+        ensures { (items : List AnyItem) → Lifts C self.now items (S.items shelf.now)
+            → (IsTrue result ↔ IsLifted (phase_on self.now.course items)) }
     {
-        lifted_up(&self.suffix, &self.starts, self.seen, self.to) == self.suffix.items.len()
+        self.first_unlifted(shelf).is_none()
     }
 
     /// The numbers that the flush began with.
     pub fn numbers(&self) -> Numbers
-        ensures { result ≡ self.now.numbers }
+        ensures { result ≡ self.now.course.numbers }
     {
-        self.suffix.numbers
+        self.numbers
     }
 
-    /// Goes on with Pack.
-    pub fn into_packing(self) -> Packing<C>
-        requires end { IsLifted self }
-        ensures same { result ≡ self.entry }
-        ensures packing { IsPacking result }
-        ensures pays { PaysFor result (bytes_below result) }
+    /// Goes on with Pack, at the phase's end. Nothing is looked up yet.
+    pub fn into_packing<S: Shelf>(self, _shelf: &S) -> Packing<C>
+        ensures course { result.course ≡ self.entry.course }
+        ensures keeps { (items : List AnyItem) → KeepsLifting C self.entry items
+            → IsLifted (phase_on self.entry.course items) → KeepsPacking C result items }
+        ensures pays { (items : List AnyItem) → KeepsLifting C self.entry items
+            → IsLifted (phase_on self.entry.course items)
+            → PaysFor (phase_on result.course items) (bytes_below (phase_on result.course items)) }
     {
         let Lifting {
-            suffix,
+            k,
+            caps,
             starts: _,
-            seen: _,
+            numbers,
+            pending,
+            from: _,
             to: _,
+            rank,
         } = self;
         Packing {
-            left: suffix.items.len(),
-            top: suffix.numbers.wall,
-            suffix,
+            k,
+            caps,
+            numbers,
+            pending,
+            top: numbers.wall,
+            rank,
         }
     }
-}
 
-/// The items with the pending one at their end.
-fn joined(items: Vec<Item>, pending: Option<Item>) -> Vec<Item>
-    requires { IfSome pending (λ item. vec_len items < vec_capacity items) }
-    ensures items { result.items ≡ with_pending items.items pending }
-    ensures room { vec_capacity result ≡ vec_capacity items }
-{
-    let mut all = items;
-    if let Some(item) = pending {
-        all.push_reserved(item);
+    /// The first object below the wall that doesn't stand in its payload segment, and its rank. Where an
+    /// object stands in one, all that follow up to the segment's end do, so it is looked at once for
+    /// each class at most.
+    fn first_unlifted<S: Shelf>(&self, shelf: &S) -> Option<(Item, u64)>
+        requires lifts { (items : List AnyItem) × Lifts C self.now items (S.items shelf.now) }
+        ensures some { (items : List AnyItem) → Lifts C self.now items (S.items shelf.now)
+            → IfSome result (λ found. IsFirstUnlifted self.now.course items found.0) }
+        ensures none { (items : List AnyItem) → Lifts C self.now items (S.items shelf.now)
+            → IsNone result → IsLifted (phase_on self.now.course items) }
+    {
+        let mut from = self.from;
+        let mut rank = self.rank;
+        'segments: while from < self.numbers.wall {
+            rank = rank_from(shelf, from, rank);
+            if rank == shelf.len() {
+                return None;
+            }
+            let item = shelf.item(rank);
+            if item.place >= self.numbers.wall {
+                return None;
+            }
+            if !stands(&self.starts, &self.caps, item) {
+                return Some((item, rank));
+            }
+            from = self.starts.get(item.class) + self.caps.get(item.class);
+        }
+        None
     }
-    all
 }
 
 /// The size of the pending item, or 0.
@@ -150,24 +192,4 @@ fn size_of(pending: Option<Item>) -> u64
         None => 0,
         Some(item) => item.size,
     }
-}
-
-/// Goes up past what isn't to be lifted.
-fn lifted_up<const C: usize>(suffix: &Suffix<C>, starts: &Row<C>, from: usize, to: u64) -> usize
-    requires { KeepsLifting C (value_of suffix.now) (cells_of starts.now) from to }
-    ensures keeps { KeepsLifting C (value_of suffix.now) (cells_of starts.now) result to }
-    ensures stops { StopsAt suffix.now.k (cells_of suffix.now.caps) suffix.now.numbers
-        suffix.now.items.items result }
-{
-    let mut seen = from;
-    'up: while seen < suffix.items.len() {
-        let item = suffix.items[seen];
-        if item.place < suffix.numbers.wall {
-            if !stands(starts, &suffix.caps, item) {
-                return seen;
-            }
-        }
-        seen += 1;
-    }
-    seen
 }

@@ -1,168 +1,185 @@
 //! Pack: the objects below the wall go up to it, the one at the greatest place first.
-ghost use Rattle.std.specs.Prelude.{◌≡◌, ℕ, ◌+◌, ◌*◌, ◌^◌, ◌<◌, ◌≤◌, ◌↔◌, IfSome, IsNone, IsPermutation, IsTrue, vec_capacity};
-ghost use Rattle.size_class.specs.Classes.{width};
-ghost use Rattle.segment_layout.specs.Shapes.{start_of};
-ghost use Rattle.segment_layout.specs.Layouts.{divisor_of, caps_of};
-ghost use Rattle.flush_plan.specs.Plans.{AreBelow, AreSmall, ItemsCanResume, laid_length};
-ghost use Rattle.flush_plan.specs.Phases.{AreObjects, bytes_below, IsLaying, IsPackedWhole, IsPacking, largest_item, moved_by, phase_of};
-ghost use Rattle.flush_plan.specs.Steps.{IsPackStep};
-ghost use Rattle.flush_plan.specs.PackedSoFar.{KeepsPacking, StopsAt};
-ghost use Rattle.flush_plan.specs.Suffixes.{value_of};
+ghost use Rattle.std.specs.Prelude.{◌≡◌, ◌≢◌, ℕ, ◌+◌, ◌<◌, ◌≤◌, ◌↔◌, List, Contains, IfSome, IsNone, IsTrue};
+ghost use Rattle.segment_layout.specs.Layouts.{caps_of, divisor_of};
+ghost use Rattle.plan_terms.specs.declared.item.Item.{Item as AnyItem};
+ghost use Rattle.plan_terms.specs.Plans.{relocated};
+ghost use Rattle.plan_terms.specs.Phases.{IsPackedWhole};
+ghost use Rattle.plan_terms.specs.Steps.{IsPackStep};
+ghost use Rattle.flush_plan.specs.Shelves.{course_of, IsLastBefore, IsOnShelf, IsShelf, phase_on};
+ghost use Rattle.flush_plan.specs.Packs.{CanGoOn, IsPackedFrom, KeepsPacking, Packs};
+ghost use Rattle.flush_plan.specs.Lays.{KeepsLaying};
 
-use crate::item::{Item, Move, Numbers};
-use crate::lay::Laying;
-use crate::segments::{places_of, volumes_of};
-use crate::suffix::Suffix;
+use crate::lay::{Laying, next_segment};
+use crate::ranks::rank_from;
+use crate::shelf::Shelf;
+use crate::volumes::volumes_from;
+use plan_terms::{Item, Move, Numbers, places_of};
 use segment_layout::Layout;
+use size_class::Row;
 use std::marker::Model;
 
 /// The moves of Pack. An object that ends where the one above it begins, or at the wall, isn't moved.
+/// The rank is that of the last object that was touched, and no more than a hint.
 #[derive(Drop)]
 pub struct Packing<const C: usize> {
-    pub(crate) suffix: Suffix<C>,
-    pub(crate) left: usize,
+    pub(crate) k: u64,
+    pub(crate) caps: Row<C>,
+    pub(crate) numbers: Numbers,
+    pub(crate) pending: u64,
     pub(crate) top: u64,
+    pub(crate) rank: u64,
 }
 
 impl<const C: usize> Model for Packing<C> {
-    ghost use Rattle.flush_plan.specs.Phases.{Phase};
-    ghost use Rattle.flush_plan.specs.PackedSoFar.{KeepsPacking};
-    ghost use Rattle.flush_plan.specs.Suffixes.{value_of};
+    ghost use Rattle.size_class.specs.Rows.{cells_of};
+    ghost use Rattle.flush_plan.specs.Shelves.{course_of};
+    ghost use Rattle.flush_plan.specs.Packs.{Pack};
 
-    ghost Value = { Phase };
+    ghost Value = { Pack };
 
-    ghost view = { λ p. value_of p.suffix };
-
-    ghost invariant = { λ p. KeepsPacking C (value_of p.suffix) p.left p.top };
+    ghost view = { λ p. record {
+      course = course_of p.k (cells_of p.caps) p.numbers p.pending;
+      top = p.top;
+    } };
 }
 
 impl<const C: usize> Packing<C> {
     /// Goes on with a flush that was interrupted, from any places that keep the rules of a moving table.
-    pub fn resume(layout: &Layout<C>, numbers: Numbers, items: Vec<Item>) -> Packing<C>
+    /// It passes over what is packed already.
+    pub fn resume<S: Shelf>(layout: &Layout<C>, numbers: Numbers, shelf: &S) -> Packing<C>
         requires fits { C ≤ 32 }
         requires boundary { numbers.boundary < C }
-        requires objects { AreObjects numbers.boundary items.items }
-        requires resumes { ItemsCanResume (divisor_of layout.now) numbers items.items }
-        requires start { numbers.start
-            ≡ start_of (divisor_of layout.now) (caps_of layout.now) numbers.boundary }
-        requires end { numbers.end
-            ≡ numbers.start + laid_length (divisor_of layout.now) items.items numbers.boundary width }
-        requires reaches { numbers.wall ≤ numbers.reach }
-        requires classes { AreBelow C items.items }
-        requires small { AreSmall numbers items.items }
-        ensures items { IsPermutation items.items result.items }
-        ensures value { result ≡ phase_of (divisor_of layout.now) (caps_of layout.now) numbers 0
-            result.items (vec_capacity items) }
-        ensures packing { IsPacking result }
+        requires goes_on { (items : List AnyItem)
+            × CanGoOn C (divisor_of layout.now) (caps_of layout.now) numbers items (S.items shelf.now) }
+        ensures course { result.course
+            ≡ course_of (divisor_of layout.now) (caps_of layout.now) numbers 0 }
+        ensures keeps { (items : List AnyItem)
+            → CanGoOn C (divisor_of layout.now) (caps_of layout.now) numbers items (S.items shelf.now)
+            → KeepsPacking C result items }
     {
-        let mut sorted = items;
-        sorted.sort_unstable_by_key(|item| item.place);
-        let suffix = Suffix {
+        let objects = shelf.len();
+        let (top, rank) = packed_down(layout, numbers, shelf, objects);
+        Packing {
             k: layout.k(),
             caps: layout.caps(),
             numbers,
             pending: 0,
-            items: sorted,
-        };
-        Packing {
-            left: suffix.items.len(),
-            top: numbers.wall,
-            suffix,
+            top,
+            rank,
         }
     }
 
     /// The next move, which counts as done; None at the phase's end.
-    pub fn next(&mut self) -> Option<Move>
-        ensures packing { IsPacking self.old }
-        ensures step { IfSome result (λ mv. IsPackStep self.old mv) }
-        ensures moved { IfSome result (λ mv. self.new ≡ moved_by mv self.old) }
-        ensures end { IsNone result ↔ IsPackedWhole self.old }
+    pub fn next<S: Shelf>(&mut self, shelf: &S) -> Option<Move>
+        requires packs { (items : List AnyItem) × Packs C self.old items (S.items shelf.now) }
+        ensures course { self.new.course ≡ self.old.course }
+        ensures step { (items : List AnyItem) → Packs C self.old items (S.items shelf.now)
+            → IfSome result (λ mv. IsPackStep (phase_on self.old.course items) mv) }
+        ensures keeps { (items : List AnyItem) → Packs C self.old items (S.items shelf.now)
+            → IfSome result (λ mv. KeepsPacking C self.new (relocated mv.key mv.to items)) }
         ensures same { IsNone result → self.new ≡ self.old }
+        ensures end { (items : List AnyItem) → Packs C self.old items (S.items shelf.now)
+            → (IsNone result ↔ IsPackedWhole (phase_on self.old.course items)) }
     {
-        let (left, top) = packed_down(&self.suffix, self.left, self.top);
-        self.left = left;
-        self.top = top;
-        if left == 0 {
-            return None;
-        }
-        let at = left - 1;
-        let to = top - self.suffix.items[at].size;
-        let mv = self.suffix.relocate(at, to);
-        self.left = at;
+        let (at, item) = last_before(shelf, self.numbers.start, self.top, self.rank)?;
+        let to = self.top - item.size;
+        self.rank = at;
         self.top = to;
-        Some(mv)
+        Some(Move {
+            key: item.key,
+            class: item.class,
+            from: item.place,
+            to,
+            size: item.size,
+        })
     }
 
-    /// Whether no move is left. It takes as long as the next move does.
-    pub fn at_end(&self) -> bool
-        ensures { IsTrue result ↔ IsPackedWhole self.now }
+    /// Whether no move is left.
+    pub fn at_end<S: Shelf>(&self, shelf: &S) -> bool
+        requires packs { (items : List AnyItem) × Packs C self.now items (S.items shelf.now) }
+        ensures { (items : List AnyItem) → Packs C self.now items (S.items shelf.now)
+            → (IsTrue result ↔ IsPackedWhole (phase_on self.now.course items)) }
     {
-        packed_down(&self.suffix, self.left, self.top).0 == 0
+        last_before(shelf, self.numbers.start, self.top, self.rank).is_none()
+    }
+
+    /// Goes on with Lay.
+    pub fn into_laying<S: Shelf>(self, shelf: &S) -> Laying<C>
+        requires end { (items : List AnyItem) × Packs C self items (S.items shelf.now)
+            × IsPackedWhole (phase_on self.course items) }
+        ensures course { result.course ≡ self.entry.course }
+        ensures keeps { (items : List AnyItem) → Packs C self.entry items (S.items shelf.now)
+            → IsPackedWhole (phase_on self.entry.course items) → KeepsLaying C result items }
+    {
+        let volumes = volumes_from(shelf, self.numbers.start);
+        let (places, _) = places_of(&volumes, self.numbers.start, self.numbers.boundary, self.k);
+        let (class, to) = next_segment(&volumes, &places, self.numbers.boundary);
+        Laying {
+            k: self.k,
+            caps: self.caps,
+            numbers: self.numbers,
+            pending: self.pending,
+            volumes,
+            places,
+            class,
+            to,
+            ahead: self.numbers.wall,
+            near: self.rank,
+            far: self.rank,
+        }
     }
 
     /// The numbers that the flush began with.
     pub fn numbers(&self) -> Numbers
-        ensures { result ≡ self.now.numbers }
+        ensures { result ≡ self.now.course.numbers }
     {
-        self.suffix.numbers
-    }
-
-    /// Goes on with Lay.
-    pub fn into_laying(self) -> Laying<C>
-        requires end { IsPackedWhole self }
-        ensures items { IsPermutation self.entry.items result.items }
-        ensures same { result ≡ phase_of self.entry.k self.entry.caps self.entry.numbers self.entry.pending
-            result.items self.entry.room }
-        ensures laying { IsLaying result }
-        ensures largest { largest_item result ≡ largest_item self.entry }
-        ensures below { bytes_below result ≡ bytes_below self.entry }
-    {
-        let Packing {
-            suffix,
-            left: _,
-            top: _,
-        } = self;
-        let mut suffix = suffix;
-        suffix.items.sort_unstable_by_key(|item| laying_order(item));
-        let volumes = volumes_of(&suffix.items);
-        let (places, _) = places_of(
-            &volumes,
-            suffix.numbers.start,
-            suffix.numbers.boundary,
-            suffix.k,
-        );
-        Laying {
-            suffix,
-            done: 0,
-            places,
-        }
+        self.numbers
     }
 }
 
-/// A number that is less for what is laid first: the class before the place.
-fn laying_order(item: &Item) -> u128
-    ensures { result ≡ item.now.class * 2 ^ 64 + item.now.place }
+/// The last object of the suffix that begins before a place, with its rank. The hint is a rank near it.
+fn last_before<S: Shelf>(shelf: &S, start: u64, place: u64, hint: u64) -> Option<(u64, Item)>
+    requires rises { IsShelf (S.items shelf.now) }
+    ensures none { IsNone result → (items : List AnyItem) → IsOnShelf start items (S.items shelf.now)
+        → (it : AnyItem) → Contains items it → place ≤ it.place }
+    ensures last { IfSome result (λ r. (items : List AnyItem) → IsOnShelf start items (S.items shelf.now)
+        → IsLastBefore items place r.1) }
 {
-    (item.class as u128) * 18_446_744_073_709_551_616 + item.place as u128
+    let rank = rank_from(shelf, place, hint);
+    if rank == 0 {
+        return None;
+    }
+    let item = shelf.item(rank - 1);
+    if item.place < start {
+        return None;
+    }
+    Some((rank - 1, item))
 }
 
-/// Goes down past what is packed or lies past the wall.
-fn packed_down<const C: usize>(suffix: &Suffix<C>, end: usize, high: u64) -> (usize, u64)
-    requires { KeepsPacking C (value_of suffix.now) end high }
-    ensures keeps { KeepsPacking C (value_of suffix.now) result.0 result.1 }
-    ensures stops { StopsAt suffix.now.numbers suffix.now.items.items result.0 result.1 }
+/// Goes down past what is packed: the place from which all is packed, and a rank near it.
+fn packed_down<S: Shelf, const C: usize>(
+    layout: &Layout<C>,
+    numbers: Numbers,
+    shelf: &S,
+    hint: u64,
+) -> (u64, u64)
+    requires goes_on { (items : List AnyItem)
+        × CanGoOn C (divisor_of layout.now) (caps_of layout.now) numbers items (S.items shelf.now) }
+    ensures packed { (items : List AnyItem)
+        → CanGoOn C (divisor_of layout.now) (caps_of layout.now) numbers items (S.items shelf.now)
+        → IsPackedFrom numbers items result.0 }
+    ensures loose { (items : List AnyItem)
+        → CanGoOn C (divisor_of layout.now) (caps_of layout.now) numbers items (S.items shelf.now)
+        → (it : AnyItem) → Contains items it → it.place < result.0 → it.place + it.size ≢ result.0 }
 {
-    let mut left = end;
-    let mut top = high;
-    'down: while left > 0 {
-        let item = suffix.items[left - 1];
-        if item.place < suffix.numbers.wall {
-            if item.place + item.size != top {
-                return (left, top);
-            }
-            top = item.place;
+    let mut top = numbers.wall;
+    let mut rank = hint;
+    'down: while let Some((at, item)) = last_before(shelf, numbers.start, top, rank) {
+        if item.place + item.size != top {
+            return (top, at);
         }
-        left -= 1;
+        top = item.place;
+        rank = at;
     }
-    (left, top)
+    (top, rank)
 }

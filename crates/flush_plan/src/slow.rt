@@ -1,7 +1,7 @@
 //! A plain plan of a flush for the tests, in three passes over its items.
 ghost use Rattle.std.specs.Prelude.{◌<◌, ◌≤◌};
 
-use crate::item::{Item, Move, Numbers};
+use plan_terms::{Item, Move, Numbers};
 use segment_layout::Layout;
 use size_class::{Row, class_of};
 use std::alloc::AllocError;

@@ -1,51 +1,98 @@
-//! Worked flushes, and flushes drawn by a number.
-ghost use Rattle.std.specs.Prelude.{◌≡◌, ◌<◌, ◌≤◌};
+//! Worked flushes over a shelf that is a list, and flushes drawn by a number.
+ghost use Rattle.std.specs.Prelude.{◌≡◌, ℕ, ◌<◌, ◌≤◌, List, IfSome, IsNone, IsPermutation, IfOk};
+ghost use Rattle.std.specs.List.Sorted.{IsNonDecreasingBy};
+ghost use Rattle.plan_terms.specs.declared.item.Item.{Item as AnyItem};
+ghost use Rattle.plan_terms.specs.Phases.{IsLaidWhole, IsLifted, IsPackedWhole};
+ghost use Rattle.flush_plan.specs.Shelves.{phase_on};
+ghost use Rattle.flush_plan.specs.Lifts.{KeepsLifting};
+ghost use Rattle.flush_plan.specs.Packs.{KeepsPacking};
+ghost use Rattle.flush_plan.specs.Lays.{KeepsLaying};
 
-use crate::fixtures::{PENDING, flush_of, laid_again, layout_of, packed_again};
-use crate::item::{Item, Move, Numbers};
+use crate::fixtures::{Begun, ListShelf, PENDING, flush_of, found_again, layout_of};
 use crate::lay::Laying;
 use crate::lift::Lifting;
 use crate::pack::Packing;
+use crate::settled::Settled;
 use crate::slow::{slow_lay, slow_lift, slow_numbers, slow_pack};
+use plan_terms::{Item, Move, Numbers};
 use segment_layout::Layout;
 use std::alloc::{AllocError, Global};
 use std::process::Abort;
 use std::test::Fail;
 
-/// Makes all moves of Lift, and notes them.
+/// Makes all moves of Lift, and notes them. None where they don't end.
 fn lift_all<const C: usize>(
     phase: Lifting<C>,
+    shelf: &mut ListShelf,
     moves: &mut Vec<Move>,
-) -> Result<Packing<C>, AllocError> {
+) -> Result<Option<Packing<C>>, AllocError>
+    requires { (items : List AnyItem) × KeepsLifting C phase items
+        × IsPermutation items shelf.old.items.items
+        × IsNonDecreasingBy (λ (it : AnyItem). it.place) shelf.old.items.items }
+    ensures { IfOk result (λ end. IfSome end (λ packing. (items : List AnyItem) × KeepsPacking C packing items
+        × IsPermutation items shelf.new.items.items
+        × IsNonDecreasingBy (λ (it : AnyItem). it.place) shelf.new.items.items)) }
+{
     let mut lifting = phase;
-    'lifts: while let Some(mv) = lifting.next() {
-        moves.push(mv)?;
+    'lifts: for _ in 0..100 {
+        match lifting.next(&*shelf) {
+            None => return Ok(Some(lifting.into_packing(&*shelf))),
+            Some(mv) => {
+                shelf.relocate(mv);
+                moves.push(mv)?;
+            }
+        }
     }
-    Ok(lifting.into_packing())
+    Ok(None)
 }
 
-/// Makes all moves of Pack, and notes them.
+/// Makes all moves of Pack, and notes them. None where they don't end.
 fn pack_all<const C: usize>(
     phase: Packing<C>,
+    shelf: &mut ListShelf,
     moves: &mut Vec<Move>,
-) -> Result<Laying<C>, AllocError> {
+) -> Result<Option<Laying<C>>, AllocError>
+    requires { (items : List AnyItem) × KeepsPacking C phase items
+        × IsPermutation items shelf.old.items.items
+        × IsNonDecreasingBy (λ (it : AnyItem). it.place) shelf.old.items.items }
+    ensures { IfOk result (λ end. IfSome end (λ laying. (items : List AnyItem) × KeepsLaying C laying items
+        × IsPermutation items shelf.new.items.items
+        × IsNonDecreasingBy (λ (it : AnyItem). it.place) shelf.new.items.items)) }
+{
     let mut packing = phase;
-    'packs: while let Some(mv) = packing.next() {
-        moves.push(mv)?;
+    'packs: for _ in 0..100 {
+        match packing.next(&*shelf) {
+            None => return Ok(Some(packing.into_laying(&*shelf))),
+            Some(mv) => {
+                shelf.relocate(mv);
+                moves.push(mv)?;
+            }
+        }
     }
-    Ok(packing.into_laying())
+    Ok(None)
 }
 
-/// Makes all moves of Lay, notes them, and hands the list back.
+/// Makes all moves of Lay, and notes them. None where they don't end.
 fn lay_all<const C: usize>(
     phase: Laying<C>,
+    shelf: &mut ListShelf,
     moves: &mut Vec<Move>,
-) -> Result<Vec<Item>, AllocError> {
+) -> Result<Option<Settled<C>>, AllocError>
+    requires { (items : List AnyItem) × KeepsLaying C phase items
+        × IsPermutation items shelf.old.items.items
+        × IsNonDecreasingBy (λ (it : AnyItem). it.place) shelf.old.items.items }
+{
     let mut laying = phase;
-    'lays: while let Some(mv) = laying.next() {
-        moves.push(mv)?;
+    'lays: for _ in 0..100 {
+        match laying.next(&*shelf) {
+            None => return Ok(Some(laying.into_settled(&*shelf))),
+            Some(mv) => {
+                shelf.relocate(mv);
+                moves.push(mv)?;
+            }
+        }
     }
-    Ok(laying.into_settled().into_items())
+    Ok(None)
 }
 
 /// The items by key, class, place and size, with room for one more.
@@ -63,6 +110,18 @@ fn items_of(alloc: Global, objects: &[(u32, u8, u64, u64)]) -> Result<Vec<Item>,
     Ok(items)
 }
 
+/// The numbers, in the order in which the worked flushes tell them.
+fn numbers_of(boundary: u8, start: u64, wall: u64, slack: u64, reach: u64, end: u64) -> Numbers {
+    Numbers {
+        boundary,
+        start,
+        wall,
+        slack,
+        reach,
+        end,
+    }
+}
+
 /// Tries one worked flush: its numbers, and its moves by key, place before and place after.
 fn try_flush(
     rt: &impl Abort,
@@ -74,33 +133,22 @@ fn try_flush(
     moves: &[(u32, u64, u64)],
 ) -> Result<(), Fail> {
     let items = items_of(alloc, objects)?;
-    let room = items.capacity();
-    let flush = flush_of(layout, numbers.boundary, items, pending).ok_or("no flush")?;
-    assert_eq!(rt; flush.numbers(), numbers);
+    let begun = flush_of(layout, numbers.boundary, items, pending).ok_or("no flush")?;
+    let Begun { lifting, shelf } = begun;
+    let mut shelf = shelf;
     let mut made = Vec::new(alloc);
-    let packing = lift_all(flush, &mut made)?;
+    assert_eq!(rt; lifting.numbers(), numbers);
+    let packing = lift_all(lifting, &mut shelf, &mut made)?.ok_or("Lift has no end")?;
     assert_eq!(rt; packing.numbers(), numbers);
-    let laying = pack_all(packing, &mut made)?;
+    let laying = pack_all(packing, &mut shelf, &mut made)?.ok_or("Pack has no end")?;
     assert_eq!(rt; laying.numbers(), numbers);
-    let list = lay_all(laying, &mut made)?;
-    assert_eq!(rt; list.capacity(), room);
+    let settled = lay_all(laying, &mut shelf, &mut made)?.ok_or("Lay has no end")?;
+    assert_eq!(rt; settled.numbers(), numbers);
     assert_eq!(rt; made.len(), moves.len());
     'moves: for (mv, (key, from, to)) in made.iter().zip(moves) {
         assert_eq!(rt; (mv.key, mv.from, mv.to), (*key, *from, *to));
     }
     Ok(())
-}
-
-/// The numbers, in the order in which the worked flushes tell them.
-fn numbers_of(boundary: u8, start: u64, wall: u64, slack: u64, reach: u64, end: u64) -> Numbers {
-    Numbers {
-        boundary,
-        start,
-        wall,
-        slack,
-        reach,
-        end,
-    }
 }
 
 #[test]
@@ -135,32 +183,55 @@ fn worked_flushes(rt: HostRuntime) -> Result<(), Fail> {
     Ok(())
 }
 
-#[test]
-fn a_flush_that_is_found_packed(rt: HostRuntime) -> Result<(), Fail> {
-    let layout: Layout<21> = layout_of(9, &[(6, 100)]);
-    let items = items_of(rt.alloc(), &[(0, 6, 0, 100), (1, 3, 100, 10)])?;
-    let mut moves = Vec::new(rt.alloc());
-    let mut packing = lift_all(
-        flush_of(&layout, 2, items, 5).ok_or("no flush")?,
-        &mut moves,
-    )?;
-    assert!(rt; packing.next().is_some());
-    let mut again = packed_again(&layout, packing).ok_or("not found")?;
-    assert!(rt; again.next().is_none());
-    assert!(rt; again.at_end());
-    let mut laying = again.into_laying();
-    for (key, from, to) in [(PENDING, 249, 0), (1, 239, 5), (0, 139, 16)] {
-        assert!(rt; !laying.at_end());
-        let mv = laying.next().ok_or("no move")?;
-        assert_eq!(rt; (mv.key, mv.from, mv.to), (key, from, to));
+/// Makes a move of Pack.
+fn pack_once<const C: usize>(phase: Packing<C>, shelf: &mut ListShelf) -> Option<Packing<C>>
+    requires { (items : List AnyItem) × KeepsPacking C phase items
+        × IsPermutation items shelf.old.items.items
+        × IsNonDecreasingBy (λ (it : AnyItem). it.place) shelf.old.items.items }
+    ensures { IfSome result (λ packing. (items : List AnyItem) × KeepsPacking C packing items
+        × IsPermutation items shelf.new.items.items
+        × IsNonDecreasingBy (λ (it : AnyItem). it.place) shelf.new.items.items) }
+{
+    let mut packing = phase;
+    match packing.next(&*shelf) {
+        None => None,
+        Some(mv) => {
+            shelf.relocate(mv);
+            Some(packing)
+        }
     }
-    assert!(rt; laying.at_end());
-    let volumes = laying.into_settled().volumes();
+}
+
+/// Tries a flush that is interrupted once its last object is packed.
+fn try_found_packed(rt: &impl Abort, alloc: Global, layout: &Layout<21>) -> Result<(), Fail> {
+    let items = items_of(alloc, &[(0, 6, 0, 100), (1, 3, 100, 10)])?;
+    let begun = flush_of(layout, 2, items, 5).ok_or("no flush")?;
+    let Begun { lifting, shelf } = begun;
+    let mut shelf = shelf;
+    let mut made = Vec::new(alloc);
+    let lifted = lift_all(lifting, &mut shelf, &mut made)?.ok_or("Lift has no end")?;
+    let packing = pack_once(lifted, &mut shelf).ok_or("nothing to pack")?;
+    let again = found_again(layout, packing, &shelf).ok_or("not found")?;
+    let laying = pack_all(again, &mut shelf, &mut made)?.ok_or("Pack has no end")?;
+    assert_eq!(rt; made.len(), 1);
+    let settled = lay_all(laying, &mut shelf, &mut made)?.ok_or("Lay has no end")?;
+    let volumes = settled.volumes();
     assert_eq!(rt;
         (volumes.get(2), volumes.get(3), volumes.get(6)),
         (5, 10, 100)
     );
+    let wanted = [(1, 100, 239), (PENDING, 249, 0), (1, 239, 5), (0, 139, 16)];
+    assert_eq!(rt; made.len(), wanted.len());
+    'moves: for (mv, (key, from, to)) in made.iter().zip(&wanted) {
+        assert_eq!(rt; (mv.key, mv.from, mv.to), (*key, *from, *to));
+    }
     Ok(())
+}
+
+#[test]
+fn a_flush_that_is_found_packed(rt: HostRuntime) -> Result<(), Fail> {
+    let layout: Layout<21> = layout_of(9, &[(6, 100)]);
+    try_found_packed(&rt, rt.alloc(), &layout)
 }
 
 /// The next number below a limit.
@@ -206,7 +277,7 @@ fn fill(
     Ok(())
 }
 
-/// Tries a flush that is drawn by a number, interrupted after some moves of Pack.
+/// Tries a flush that is drawn by a number against a plain plan in three passes.
 fn try_drawn(rt: &impl Abort, alloc: Global, number: u64) -> Result<(), Fail> {
     let mut seed = number;
     let k = 2 + drawn(&mut seed, 4);
@@ -237,8 +308,10 @@ fn try_drawn(rt: &impl Abort, alloc: Global, number: u64) -> Result<(), Fail> {
         (1u64 << (b + drawn(&mut seed, 3) as u8)) + drawn(&mut seed, 2)
     };
     let mut mirror = Vec::from_slice(alloc, items.as_slice())?;
-    let flush = flush_of(&layout, b, items, pending).ok_or("no flush")?;
-    let numbers = flush.numbers();
+    let begun = flush_of(&layout, b, items, pending).ok_or("no flush")?;
+    let Begun { lifting, shelf } = begun;
+    let mut shelf = shelf;
+    let numbers = lifting.numbers();
     assert_eq!(rt;
         numbers,
         slow_numbers(&layout, b, mirror.as_slice(), pending),
@@ -253,33 +326,19 @@ fn try_drawn(rt: &impl Abort, alloc: Global, number: u64) -> Result<(), Fail> {
         })?;
     }
     let mut slow = Vec::new(alloc);
-    let mut made = Vec::new(alloc);
     slow_lift(&layout, numbers.wall, &mut mirror, &mut slow)?;
     slow_pack(numbers.wall, &mut mirror, &mut slow)?;
     slow_lay::<6>(k, numbers, &mut mirror, &mut slow)?;
-    let mut packing = lift_all(flush, &mut made)?;
-    for _ in 0..drawn(&mut seed, 12) {
-        if let Some(mv) = packing.next() {
-            made.push(mv)?;
-        }
-    }
-    let again = packed_again(&layout, packing).ok_or("not found")?;
-    let mut laying = pack_all(again, &mut made)?;
-    if number % 2 == 1 {
-        // Interrupted in Lay it packs again what it laid, and the places at its end are the same.
-        for _ in 0..drawn(&mut seed, 12) {
-            laying.next();
-        }
-        let last = laid_again(&layout, laying).ok_or("not found")?;
-        laying = pack_all(last, &mut made)?;
-    }
-    let mut list = lay_all(laying, &mut made)?;
-    if number % 2 == 0 {
-        assert!(rt; made.as_slice() == slow.as_slice(), "moves of {number}");
-    }
-    list.sort_unstable_by_key(|item| item.key);
+    let mut made = Vec::new(alloc);
+    let packing = lift_all(lifting, &mut shelf, &mut made)?.ok_or("Lift has no end")?;
+    let laying = pack_all(packing, &mut shelf, &mut made)?.ok_or("Pack has no end")?;
+    lay_all(laying, &mut shelf, &mut made)?.ok_or("Lay has no end")?;
+    assert!(rt; made.as_slice() == slow.as_slice(), "moves of {number}");
+    let ListShelf { items: last } = shelf;
+    let mut last = last;
+    last.sort_unstable_by_key(|item| item.key);
     mirror.sort_unstable_by_key(|item| item.key);
-    assert!(rt; list.as_slice() == mirror.as_slice(), "places of {number}");
+    assert!(rt; last.as_slice() == mirror.as_slice(), "places of {number}");
     Ok(())
 }
 

@@ -11,18 +11,22 @@ use Rattle.slot_codec.specs.declared.codec.Header.{Header}
 use Rattle.slot_codec.proofs.ChoiceLaws.{in_use_long}
 use Rattle.slot_pair.specs.Saves.{save_calls}
 use Rattle.span_math.specs.declared.span.Span.{Span}
-use Rattle.extent_table.specs.Extents.{records_of}
+use Rattle.extent_table.specs.Extents.{Extents, records_of}
 use Rattle.extent_table.proofs.ExtentLaws.{records_of-few}
 use Rattle.spot_terms.specs.Laid.{moving_header}
-use Rattle.flush_plan.specs.declared.item.Move.{Move}
-use Rattle.flush_plan.specs.declared.item.Numbers.{Numbers}
-use Rattle.flush_plan.specs.Phases.{Phase, packed_in, moved_by, to_pack}
-use Rattle.flush_plan.specs.Steps.{IsPackStep}
+use Rattle.plan_terms.specs.declared.item.Move.{Move}
+use Rattle.plan_terms.specs.declared.item.Numbers.{Numbers}
+use Rattle.plan_terms.specs.Plans.{relocated}
+use Rattle.plan_terms.specs.Phases.{Phase, packed_in, moved_by, to_pack}
+use Rattle.plan_terms.specs.Steps.{IsPackStep}
 use Rattle.flush_run.specs.Calls.{CallsSoFar}
 use Rattle.flush_run.specs.Flights.{Flies, Flight, IsFreeSpace, LeavesOldOrNew}
-use Rattle.flush_run.specs.Loops.{CanStep, Goes, HasMade, InPack, Packs, PacksPaid, PacksSince, phase_header}
+use Rattle.flush_run.specs.Loops.{CanStep, Goes, HasMade, InPack, Packs, PacksPaid, PacksSince, SavesFew, phase_header}
 use Rattle.flush_run.specs.Moves.{FreesTarget, HasMoved}
 use Rattle.flush_run.specs.Parts.{KeepsOn, Parts, SameSizes}
+use Rattle.flush_run.specs.Shelved.{items_now, phase_now, shelf_of}
+use Rattle.flush_plan.specs.Packs.{KeepsPacking, Pack, Packs as PacksOver}
+use Rattle.flush_run.proofs.OverLaws.{packs_over}
 use Rattle.flush_run.specs.Saves.{IsSaveable}
 use Rattle.flush_run.proofs.CallLaws.{calls_move, calls_none, calls_save, calls_wider, row_rises, row_stays}
 use Rattle.flush_run.proofs.GoesLaws.{can_step, goes_freed, goes_moved, goes_saveable, kept_stays, space_freed}
@@ -33,10 +37,13 @@ use Rattle.flush_run.proofs.PaidLaws.{pack_paid}
 use Rattle.flush_run.proofs.SizeLaws.{sizes_len}
 
 -- where the loop begins
-pub pack_begins : (classes : ℕ) (a : State) (x : Parts) (p : Phase) → IsTrue a.is_ready
-    → InPack classes a a x x p p
-pack_begins classes a x p ready = record {
-  made = made_none to_pack packed_in a x p (keeps_none a x ready);
+pub pack_begins : (classes : ℕ) (a : State) (x : Parts) (v : Pack) → IsTrue a.is_ready
+    → KeepsPacking classes v (items_now v.course x.table) → InPack classes a a x x v v
+pack_begins classes a x v ready keeps = record {
+  course = refl;
+  keeps = keeps;
+  made = made_none packed_in a x (phase_now v.course x.table) (keeps_none a x ready);
+  few = omega arith;
   calm = refl;
   lifted = λ c. refl;
   calls = subst (λ n. CallsSoFar a.turn a.turn x.moved x.moved 0 n (fin.len x.table.now)) (omega arith)
@@ -45,6 +52,13 @@ pack_begins classes a x p ready = record {
   paid = λ f start pay total q paid. paid;
 }
 
+-- Pack goes on over the table
+pub pack_over : {classes : ℕ} {first now : State} {x0 x : Parts} {v0 v : Pack} {f : Flight}
+    → InPack classes first now x0 x v0 v
+    → Packs classes f x0.caps x0.grid x0 (phase_now v0.course x0.table) first
+    → PacksOver classes v (items_now v.course x.table) (shelf_of x.table)
+pack_over {f = f} i start = packs_over (i.all f start).packs.goes i.keeps
+
 -- a phase with the same numbers has the same header
 pub same_header : (p0 p : Phase) (caps : List ℕ) (grid : List (List ℕ)) (header : Header)
     → p.numbers ≡ p0.numbers
@@ -52,10 +66,16 @@ pub same_header : (p0 p : Phase) (caps : List ℕ) (grid : List (List ℕ)) (hea
 same_header p0 p caps grid header same is =
     is ∙ (λ i. moving_header (sym same i).boundary (sym same i).wall (sym same i).slack caps grid)
 
-module _ {classes : ℕ} {first now : State} {x0 x : Parts} {p0 p : Phase}
-    (i : InPack classes first now x0 x p0 p)
-    {f : Flight} (start : Packs classes f x0.caps x0.grid x0 p0 first)
+module _ {classes : ℕ} {first now : State} {x0 x : Parts} {v0 v : Pack}
+    (i : InPack classes first now x0 x v0 v)
+    {f : Flight} (start : Packs classes f x0.caps x0.grid x0 (phase_now v0.course x0.table) first)
   where
+    abbrev p0 : Phase
+    p0 = phase_now v0.course x0.table
+
+    abbrev p : Phase
+    p = phase_now v.course x.table
+
     abbrev s : PacksSince classes f x0.caps x0.grid first now x p
     s = i.all f start
 
@@ -69,6 +89,9 @@ module _ {classes : ℕ} {first now : State} {x0 x : Parts} {p0 p : Phase}
     module _ {mv : Move} (step : IsPackStep p mv) where
       pub pack_fresh : x.in_use.sequence < 2 ^ 62 - 1
       pack_fresh = omega (arith, s.packs.saves.settled)
+
+      pub pack_target : mv.to + mv.size < 2 ^ 48
+      pack_target = omega (arith, step.safe.high, s.packs.goes.hands.in_range)
 
       pub pack_names : x.table.names ≤ x.in_use.block.names
       pack_names = omega (arith, s.packs.goes.hands.names)
@@ -136,28 +159,46 @@ module _ {classes : ℕ} {first now : State} {x0 x : Parts} {p0 p : Phase}
 
 -- ---- what is known of the calls, without a flight
 
-module _ {classes : ℕ} {first now : State} {x0 x : Parts} {p0 p : Phase}
-    (i : InPack classes first now x0 x p0 p)
-    {mv : Move} (step : IsPackStep p mv)
+module _ {classes : ℕ} {first now : State} {x0 x : Parts} {v0 v : Pack}
+    (i : InPack classes first now x0 x v0 v)
+    {mv : Move} (step : IsPackStep (phase_now v.course x.table) mv)
   where
-    module _ {b : State} {x1 x2 : Parts} {d1 : State} {p2 : Phase} (after : p2 ≡ moved_by mv p)
-        (keeps : KeepsOn now d1 x x1)
+    abbrev first_phase : Phase
+    first_phase = phase_now v0.course x0.table
+
+    abbrev last_phase : Phase
+    last_phase = phase_now v.course x.table
+
+    -- its value keeps what it kept, and one item fewer waits
+    pub pack_keeps : (e2 : Extents) {v2 : Pack} → phase_now v2.course e2 ≡ moved_by mv last_phase
+        → KeepsPacking classes v2 (relocated mv.key mv.to (items_now v.course x.table))
+        → KeepsPacking classes v2 (items_now v2.course e2)
+    pack_keeps e2 {v2} after keeps =
+        subst (KeepsPacking classes v2) (sym (ap (λ (q : Phase). q.items) after)) keeps
+
+    pub pack_falls : {p2 : Phase} → p2 ≡ moved_by mv last_phase → to_pack p2 < to_pack last_phase
+    pack_falls after = omega (arith, ap to_pack after, step.fewer)
+
+    pub pack_few : (x1 x2 : Parts) {p2 : Phase} → p2 ≡ moved_by mv last_phase
+        → x1.in_use.sequence ≤ x.in_use.sequence + 1 → x2.in_use ≡ x1.in_use → SavesFew to_pack x0 x2 first_phase p2
+    pack_few x1 x2 after one slots =
+        omega (arith, i.few, one, step.fewer, ap to_pack after, ap (λ (u : choice.InUse). u.sequence) slots)
+
+    module _ {b : State} {x1 x2 : Parts} {d1 : State} (keeps : KeepsOn now d1 x x1)
         (row1 : x1.moved ≡ x.moved) (later : x.in_use.sequence ≤ x1.in_use.sequence)
-        (one : x1.in_use.sequence ≤ x.in_use.sequence + 1) (more : KeepsOn d1 b x1 x2) (slots : x2.in_use
-        ≡ x1.in_use)
+        (more : KeepsOn d1 b x1 x2) (slots : x2.in_use ≡ x1.in_use)
       where
-        pub pack_made : length x1.moved ≡ 32 → RowMoves mv x1.moved x2.moved
-            → SameSizes x.table.now x2.table.now → HasMade to_pack packed_in first b x0 x2 p0 p2
-        pack_made long row sizes =
+        pub pack_made : {p2 : Phase} → p2 ≡ moved_by mv last_phase → length x1.moved ≡ 32
+            → RowMoves mv x1.moved x2.moved → SameSizes x.table.now x2.table.now
+            → HasMade packed_in first b x0 x2 first_phase p2
+        pack_made after long row sizes =
             let q = ap (λ (u : choice.InUse). u.sequence) slots in
             let here = class_below mv.size in
             let rises = row_rises x1.moved x2.moved mv.size (omega (arith, here, long)) row in
             let same : (c : ℕ) → slice_index x1.moved c ≡ slice_index x.moved c =
             λ c. ap (λ (r : List ℕ). slice_index r c) row1
             in
-            made_step i.made mv step.fewer step.progress after (KeepsOn-then keeps more)
-            (omega (arith, q, later))
-            (omega (arith, q, one))
+            made_step i.made mv step.progress after (KeepsOn-then keeps more) (omega (arith, q, later))
             (λ c. subst (λ k. slice_index x2.moved c ≤ slice_index x.moved c + cond (k == c) mv.size 0)
             (sym step.item.class) (omega (arith, rises c, same c)))
             (λ c low. row_stays x1.moved x2.moved mv.size (omega (arith, here, long)) row c
@@ -170,21 +211,17 @@ module _ {classes : ℕ} {first now : State} {x0 x : Parts} {p0 p : Phase}
             ))
             ∙ same c) sizes
 
-        pub pack_part : x2.moved ≡ x1.moved → SameSizes x.table.now x2.table.now
-            → HasMade to_pack packed_in first b x0 x2 p0 p2
-        pack_part row sizes =
+        pub pack_part : {p2 : Phase} → p2 ≡ last_phase → x2.moved ≡ x1.moved
+            → SameSizes x.table.now x2.table.now → HasMade packed_in first b x0 x2 first_phase p2
+        pack_part after row sizes =
             let q = ap (λ (u : choice.InUse). u.sequence) slots in
-            made_part i.made mv step.fewer step.progress after (KeepsOn-then keeps more)
-            (omega (arith, q, later))
-            (omega (arith, q, one)) (row ∙ row1) sizes
+            made_part i.made after (KeepsOn-then keeps more) (omega (arith, q, later)) (row ∙ row1) sizes
 
     -- a save that failed
-    pub pack_part_saved : {d1 : State} {x1 : Parts} {p2 : Phase} → p2 ≡ moved_by mv p → KeepsOn now d1 x x1
-        → x1.moved ≡ x.moved → x.in_use.sequence ≤ x1.in_use.sequence
-        → x1.in_use.sequence ≤ x.in_use.sequence + 1
-        → SameSizes x.table.now x1.table.now → HasMade to_pack packed_in first d1 x0 x1 p0 p2
-    pack_part_saved after keeps row later one sizes =
-        made_part i.made mv step.fewer step.progress after keeps later one row sizes
+    pub pack_part_saved : {d1 : State} {x1 : Parts} {p2 : Phase} → p2 ≡ last_phase → KeepsOn now d1 x x1
+        → x1.moved ≡ x.moved → x.in_use.sequence ≤ x1.in_use.sequence → SameSizes x.table.now x1.table.now
+        → HasMade packed_in first d1 x0 x1 first_phase p2
+    pack_part_saved after keeps row later sizes = made_part i.made after keeps later row sizes
 
     abbrev few : ℕ
     few = length (records_of x.table.now)

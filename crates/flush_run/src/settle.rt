@@ -14,6 +14,8 @@ ghost use Rattle.size_class.specs.Rows.{cells_of};
 ghost use Rattle.flush_run.specs.Loops.{Lays};
 ghost use Rattle.flush_run.specs.Settling.{CanCut, FlushEnds, IsSettled};
 ghost use Rattle.flush_run.specs.Parts.{KeepsOn, KeepsSettling, parts_of};
+ghost use Rattle.flush_run.specs.Shelved.{items_now, phase_now};
+ghost use Rattle.flush_plan.specs.Lays.{HasSettled};
 
 use crate::Hands;
 use crate::headers::settled_header;
@@ -77,12 +79,14 @@ pub(crate) fn settle<D: Disk, const C: usize>(
     requires buffer { vec_len hands.old.buf ≡ 65536 }
     requires fits { C ≤ 32 }
     requires start { (f : Flight) × Lays C f (caps_of hands.old.layout) (grid_of hands.old.layout)
-        (parts_of hands.old) settled.now.phase (D.state disk.old) }
+        (parts_of hands.old) (phase_now settled.now.course hands.old.table) (D.state disk.old) }
+    requires settled { HasSettled C settled.now (items_now settled.now.course hands.old.table) }
     ensures ends { (f : Flight) → Lays C f (caps_of hands.old.layout) (grid_of hands.old.layout)
-        (parts_of hands.old) settled.now.phase (D.state disk.old)
+        (parts_of hands.old) (phase_now settled.now.course hands.old.table) (D.state disk.old)
         → OnOk result (FlushEnds C f (parts_of hands.new) (D.state disk.new)) }
     ensures left { (f : Flight) → Lays C f (caps_of hands.old.layout) (grid_of hands.old.layout)
-        (parts_of hands.old) settled.now.phase (D.state disk.old) → IsTrue (D.state disk.old).tells
+        (parts_of hands.old) (phase_now settled.now.course hands.old.table) (D.state disk.old)
+        → IsTrue (D.state disk.old).tells
         → LeavesOldOrNew f (D.state disk.old) (D.state disk.new) }
     ensures pair { OnOk result (hands.new.slots ≡ next_in_use hands.old.slots) }
     ensures later { hands.old.slots.sequence ≤ hands.new.slots.sequence }

@@ -12,7 +12,7 @@ ghost use Rattle.size_class.specs.Rows.{cells_of};
 ghost use Rattle.extent_table.specs.Extents.{IsTable, records_of};
 ghost use Rattle.data_area.specs.Pieces.{pieces};
 ghost use Rattle.spot_terms.specs.Held.{IsFreed, is_at};
-ghost use Rattle.flush_plan.specs.declared.item.Move.{Move as AnyMove};
+ghost use Rattle.plan_terms.specs.declared.item.Move.{Move as AnyMove};
 ghost use Rattle.flush_run.specs.Flights.{Flies, Flight, InFlight, IsFreeSpace, LeavesOldOrNew};
 ghost use Rattle.flush_run.specs.Saves.{IsSaveable};
 ghost use Rattle.flush_run.specs.Moves.{CanMove, FreesTarget, HasMoved, HasMover};
@@ -23,7 +23,7 @@ use crate::save::save_held;
 use data_area::move_object;
 use disk_face::{Disk, DiskFault};
 use extent_table::Table;
-use flush_plan::Move;
+use plan_terms::Move;
 use slot_codec::Header;
 use span_math::Span;
 

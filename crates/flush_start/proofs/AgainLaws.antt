@@ -16,13 +16,13 @@ use Rattle.extent_table.specs.Extents.{Extents, IsTable, records_of}
 use Rattle.spot_terms.specs.Laid.{laid, moving_header}
 use Rattle.spot_terms.proofs.GoneLaws.{apart_by_name}
 use Rattle.spot_terms.proofs.ReadLaws.{record_at}
-use Rattle.flush_plan.specs.declared.item.Item.{Item}
-use Rattle.flush_plan.specs.Phases.{AreObjects, Phase}
-use Rattle.flush_plan.specs.Plans.{IsPacked, ItemsApart, ItemsCanResume, sizes_over}
+use Rattle.plan_terms.specs.declared.item.Item.{Item}
+use Rattle.plan_terms.specs.Phases.{AreObjects, Phase}
+use Rattle.plan_terms.specs.Plans.{IsPacked, ItemsApart, ItemsCanResume, sizes_over}
 use Rattle.flush_run.specs.Flights.{Flight}
 use Rattle.flush_run.specs.Hands.{IsHandsFor, spot_item, suffix_items}
 use Rattle.flush_run.proofs.ResumeLaws.{above_is_over, lengths_agree, starts}
-use Rattle.flush_start.specs.Gathering.{is_from}
+use Rattle.flush_start.specs.Items.{is_from}
 use Rattle.flush_start.proofs.SuffixLaws.{has_item, keys_differ, pairs_of, stands_at}
 
 -- ---- what the items of a table are

@@ -16,13 +16,13 @@ use Rattle.spot_terms.specs.Laid.{settled_table}
 use Rattle.spot_terms.proofs.EnterLaws.{by_name}
 use Rattle.spot_terms.proofs.GoneLaws.{apart_by_name}
 use Rattle.spot_terms.proofs.SegmentLaws.{lies_parts}
-use Rattle.flush_plan.specs.declared.item.Item.{Item}
-use Rattle.flush_plan.specs.Begins.{Begins}
-use Rattle.flush_plan.specs.Phases.{CanFlush}
-use Rattle.flush_plan.specs.Plans.{IsInBuffer, ItemsApart, numbers_of, stands_in_payload}
-use Rattle.flush_plan.proofs.NumbersLaws.{reach_is}
+use Rattle.plan_terms.specs.declared.item.Item.{Item}
+use Rattle.plan_terms.specs.Begins.{Begins}
+use Rattle.plan_terms.specs.Phases.{CanFlush}
+use Rattle.plan_terms.specs.Plans.{IsInBuffer, ItemsApart, numbers_of, stands_in_payload}
+use Rattle.plan_terms.proofs.NumbersLaws.{reach_is}
 use Rattle.flush_run.specs.Hands.{spot_item, suffix_items}
-use Rattle.flush_start.specs.Gathering.{is_from, item_at}
+use Rattle.flush_start.specs.Items.{is_from, item_at}
 use Rattle.flush_start.specs.Starts.{CanStart, IsWith}
 use Rattle.flush_start.proofs.SuffixLaws.{has_item, key_other, keys_differ, pairs_of, stands_at}
 

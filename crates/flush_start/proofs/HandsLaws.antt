@@ -1,9 +1,9 @@
 -- What a flush holds where it begins: with nothing pending, and with a pending object behind the room for
 -- what is lifted.
-use Rattle.std.specs.Prelude.{◌≡◌, ◌⊎◌, ℕ, ◌+◌, ◌≤◌, nat_le, nat_lt, true, List, [], ◌∷◌, ◌++◌, Some, None, IsPermutation, refl}
+use Rattle.std.specs.Prelude.{◌≡◌, ◌⊎◌, ℕ, ◌+◌, ◌≤◌, List, Some, None, refl}
 use Rattle.std.proofs.Common.{arith, sym, ◌∙◌, ap, subst, inl, inr}
-use Rattle.std.proofs.lemmas.Bool.{and_from, cases_Bool, le-leb, lt-ltb}
-use Rattle.std.proofs.lemmas.List.Sorted.{IsPermutation-sym, IsPermutation-trans}
+use Rattle.std.proofs.lemmas.Bool.{cases_Bool}
+use Rattle.std.proofs.lemmas.List.Sorted.{IsPermutation-refl}
 use Rattle.std.specs.FinMap as fin
 use Rattle.size_class.specs.Classes.{class_of}
 use Rattle.slot_codec.specs.Choice as choice
@@ -31,16 +31,15 @@ use Rattle.spot_terms.proofs.GuardLaws.{freed_past_new}
 use Rattle.spot_terms.proofs.JoinLaws.{pending_below}
 use Rattle.spot_terms.proofs.LaidOutLaws.{laid_below}
 use Rattle.spot_terms.proofs.QuietLaws.{IsGrid-wider}
-use Rattle.flush_plan.specs.declared.item.Item.{Item}
-use Rattle.flush_plan.specs.declared.item.Numbers.{Numbers}
-use Rattle.flush_plan.specs.Phases.{phase_of}
-use Rattle.flush_plan.specs.Plans.{numbers_of}
+use Rattle.plan_terms.specs.declared.item.Item.{Item}
+use Rattle.plan_terms.specs.declared.item.Numbers.{Numbers}
+use Rattle.plan_terms.specs.Plans.{numbers_of}
 use Rattle.flush_run.specs.Flights.{Flight, IsFreeSpace}
 use Rattle.flush_run.specs.Hands.{AllEndBy, IsHandsFor, suffix_items}
-use Rattle.flush_start.specs.Gathering.{is_from, item_at}
+use Rattle.flush_run.specs.Shelved.{phase_now}
+use Rattle.flush_plan.specs.Shelves.{course_of}
 use Rattle.flush_start.specs.Starts.{CanStart, IsWith}
 use Rattle.flush_start.proofs.ReachLaws.{all_end, kept_end, reach_low, reach_past_wall, wall_past_end}
-use Rattle.flush_start.proofs.SuffixLaws.{items_with}
 
 -- the header of a table whose suffix, from class b on, isn't laid out anew yet
 abbrev pub begun_header : ℕ → ℕ → ℕ → List ℕ → List (List ℕ) → Header
@@ -95,10 +94,9 @@ module _ (f : Flight) (caps : List ℕ) (grid kept_grid : List (List ℕ)) (b : 
   -- the parts of what a flush holds, of which the table after the change and the items are left to say
   hands_of : (pending : ℕ) → pending ≤ f.size_max → f.reach ≡ (numbers pending).reach → (after : Extents)
       → IsTable after → after.names ≡ e.names → after.kept ≡ e.kept → IsFreed spans after.now after.kept
-      → KeepsBelow b (begun pending after.now) → AllEndBy after.now f.reach → (all : List Item) (room : ℕ)
-      → IsPermutation all (suffix_items b after)
-      → IsHandsFor f u after caps grid spans (phase_of k caps (numbers pending) pending all room)
-  hands_of pending small reach after table names kept freed below lower all room perm = record {
+      → KeepsBelow b (begun pending after.now) → AllEndBy after.now f.reach
+      → IsHandsFor f u after caps grid spans (phase_now (course_of k caps (numbers pending) pending) after)
+  hands_of pending small reach after table names kept freed below lower = record {
     block = h.block;
     base = base;
     names = names ∙ h.names;
@@ -121,7 +119,7 @@ module _ (f : Flight) (caps : List ℕ) (grid kept_grid : List (List ℕ)) (b : 
       reach_low f.classes f.size_max caps grid kept_grid b u e spans h pending
           small,
     );
-    items = perm;
+    items = IsPermutation-refl (suffix_items b after);
     rules = rules;
     lower = lower;
     freed = freed;
@@ -158,9 +156,9 @@ module _ (f : Flight) (caps : List ℕ) (grid kept_grid : List (List ℕ)) (b : 
 
   -- ---- with nothing pending
 
-  pub hands_alone : f.reach ≡ (numbers 0).reach → (all : List Item) (room : ℕ) → IsPermutation items all
-      → IsHandsFor f u e caps grid spans (phase_of k caps (numbers 0) 0 all room)
-  hands_alone reach all room perm = hands_of 0 (omega arith) reach e h.table refl refl h.freed
+  pub hands_alone : f.reach ≡ (numbers 0).reach
+      → IsHandsFor f u e caps grid spans (phase_now (course_of k caps (numbers 0) 0) e)
+  hands_alone reach = hands_of 0 (omega arith) reach e h.table refl refl h.freed
       (below_begun f.classes f.size_max k (end_of k caps) f.reach b (numbers 0).wall (numbers 0).slack caps
       grid e.now
       h.below.below)
@@ -170,7 +168,7 @@ module _ (f : Flight) (caps : List ℕ) (grid kept_grid : List (List ℕ)) (b : 
         wall_past_end f.classes f.size_max caps grid kept_grid b u e spans h 0 (omega arith),
         reach_past_wall f.classes f.size_max caps grid kept_grid b u e spans h 0 (omega arith),
         reach,
-      )) all room (IsPermutation-sym items all perm)
+      ))
 
   -- ---- with a pending object
 
@@ -210,10 +208,10 @@ module _ (f : Flight) (caps : List ℕ) (grid kept_grid : List (List ℕ)) (b : 
       stands_past,
     ))))
 
-    pub hands_pending : (after : Extents) → IsWith name s key e after → (all : List Item) (room : ℕ)
-        → IsPermutation (items ++ item_at key s ∷ []) all
-        → IsHandsFor f u after caps grid spans (phase_of k caps (numbers s.size) s.size all room)
-    hands_pending after joins all room perm =
+    pub hands_pending : (after : Extents) → IsWith name s key e after
+        → IsHandsFor f u after caps grid spans
+        (phase_now (course_of k caps (numbers s.size) s.size) after)
+    hands_pending after joins =
         hands_of s.size small reach after joins.table joins.names joins.kept
         (subst (λ x. IsFreed spans x after.kept) (sym joins.now)
         (subst (IsFreed spans (fin.insert e.now name s)) (sym joins.kept)
@@ -224,16 +222,8 @@ module _ (f : Flight) (caps : List ℕ) (grid kept_grid : List (List ℕ)) (b : 
         is new s some
         small high alone (below_begun f.classes f.size_max k (end_of k caps) f.reach b (numbers s.size).wall
         (numbers s.size).slack caps grid e.now h.below.below)))
-        (subst (λ (m : Spots). AllEndBy m f.reach) (sym joins.now) lower) all room
-        (IsPermutation-trans all (items ++ item_at key s ∷ []) (suffix_items b after)
-        (IsPermutation-sym (items ++ item_at key s ∷ []) all perm)
-        (items_with b e after name s key new joins.now joins.keys in_suffix))
+        (subst (λ (m : Spots). AllEndBy m f.reach) (sym joins.now) lower)
       where
-        in_suffix : is_from b s ≡ true
-        in_suffix = and_from (nat_lt 0 s.size) (nat_le b (class_of s.size))
-            (lt-ltb 0 s.size (omega (arith, some)))
-            (le-leb b (class_of s.size) high)
-
         lower : AllEndBy (fin.insert e.now name s) f.reach
         lower q x there = elim (inserted e.now name q s x there) as (λ _. x.place + x.size ≤ f.reach) [
           | inl here ↦ omega (

@@ -1,5 +1,4 @@
 pub mod ChargedLaws
-pub mod GatherLaws
 pub mod GoneAboveLaws
 pub mod BelowLaws
 pub mod SuffixLaws
@@ -13,3 +12,4 @@ pub mod NextBookLaws
 pub mod LiftStartLaws
 pub mod LooseLaws
 pub mod AgainLaws
+pub mod ShelfLaws

@@ -1,8 +1,8 @@
 -- Lifting may begin after a change that isn't quiet: a removal, a put whose object found room, and a put
 -- whose object waits.
-use Rattle.std.specs.Prelude.{◌≡◌, ℕ, ◌+◌, ◌<◌, ◌≤◌, ◌^◌, false, List, [], ◌∷◌, ◌++◌, length, Option, Some, None, IsPermutation, is_some, refl}
+use Rattle.std.specs.Prelude.{◌≡◌, ℕ, ◌+◌, ◌<◌, ◌≤◌, ◌^◌, nat_le, nat_lt, false, List, length, Option, Some, None, IsPermutation, refl}
 use Rattle.std.proofs.Common.{arith, sym, ◌∙◌, ap, subst}
-use Rattle.std.proofs.lemmas.Bool.{cond-false}
+use Rattle.std.proofs.lemmas.Bool.{and_from, le-leb, lt-ltb}
 use Rattle.std.specs.FinMap as fin
 use Rattle.size_class.specs.Classes.{class_of}
 use Rattle.slot_codec.specs.Choice as choice
@@ -10,7 +10,6 @@ use Rattle.slot_codec.specs.Names.{IsName}
 use Rattle.slot_codec.specs.Spelling.{head_len}
 use Rattle.span_math.specs.declared.span.Span.{Span}
 use Rattle.store_terms.specs.Maps.{Map}
-use Rattle.store_terms.proofs.MapLaws.{name_order}
 use Rattle.segment_layout.specs.Books.{Book, is_quiet, next_book}
 use Rattle.segment_layout.specs.Shapes.{end_of}
 use Rattle.table_rules.specs.Tables.{book_of}
@@ -23,15 +22,15 @@ use Rattle.spot_terms.specs.LaidOut.{shown_book}
 use Rattle.spot_terms.specs.Quiet.{PlacedTo}
 use Rattle.spot_terms.specs.Reads.{AreNamed, LiesApart}
 use Rattle.spot_terms.proofs.EntryLaws.{get-remove_here, insert-remove}
-use Rattle.flush_plan.specs.declared.item.Item.{Item}
-use Rattle.flush_plan.specs.declared.item.Numbers.{Numbers}
-use Rattle.flush_plan.specs.Begins.{Begins}
-use Rattle.flush_plan.specs.Phases.{phase_of}
-use Rattle.flush_plan.specs.Plans.{numbers_of}
+use Rattle.plan_terms.specs.declared.item.Numbers.{Numbers}
+use Rattle.plan_terms.specs.Begins.{Begins, with_pending}
+use Rattle.plan_terms.specs.Plans.{numbers_of}
 use Rattle.flush_run.specs.Flights.{Flight, IsFreeSpace}
 use Rattle.flush_run.specs.Hands.{AllEndBy, IsHandsFor, suffix_items}
+use Rattle.flush_run.specs.Shelved.{phase_now}
+use Rattle.flush_plan.specs.Shelves.{course_of}
 use Rattle.flush_start.specs.Charging.{between, new_charged}
-use Rattle.flush_start.specs.Gathering.{item_at}
+use Rattle.flush_start.specs.Items.{item_at}
 use Rattle.flush_start.specs.Lifting.{BeginsLift}
 use Rattle.flush_start.specs.Starts.{CanStart, IsLoud, IsWith, IsWithout, WasBefore}
 use Rattle.flush_start.proofs.CanFlushLaws.{begins_pending}
@@ -42,7 +41,7 @@ use Rattle.flush_start.proofs.NextBookLaws.{begun, book_begun, buffered_pending,
 use Rattle.flush_start.proofs.ReachLaws.{kept_end, reach_past_wall, wall_past_end}
 use Rattle.flush_start.specs.Sized.{IsSizedBy}
 use Rattle.flush_start.proofs.SizedLaws.{sized_gone, sized_put}
-use Rattle.flush_start.proofs.SuffixLaws.{few_items}
+use Rattle.flush_start.proofs.SuffixLaws.{items_with}
 use Rattle.flush_start.proofs.StartLaws.{after_gone, after_missed, new_high, placed_apart_kept, placed_apart_now, placed_within, started_with, started_without}
 
 module _ (f : Flight) (caps : List ℕ) (grid kept_grid : List (List ℕ)) (u : choice.InUse) (e : Extents)
@@ -75,15 +74,14 @@ module _ (f : Flight) (caps : List ℕ) (grid kept_grid : List (List ℕ)) (u : 
         gone without freed frees
         (after_gone f.classes f.size_max caps grid kept_grid u e spans h name 0 after b (omega arith) l refl)
 
-    module _ (reach : f.reach ≡ (numbers gone 0).reach) (all : List Item) (room : ℕ)
-        (perm : IsPermutation (suffix_items b gone) all) where
-      pub removed_hands : IsHandsFor f u gone caps after freed (phase_of k caps (numbers gone 0) 0 all room)
-      removed_hands = hands_alone f caps after kept_grid b u gone freed removed_starts base reach all room
-          perm
+    module _ (reach : f.reach ≡ (numbers gone 0).reach) where
+      pub removed_hands : IsHandsFor f u gone caps after freed
+          (phase_now (course_of k caps (numbers gone 0) 0) gone)
+      removed_hands = hands_alone f caps after kept_grid b u gone freed removed_starts base reach
 
       pub removed_lifts : (m : Map) → IsSizedBy m e.now
           → (next_book k m before (record { name = name; object = None })).book ≡ f.new_book
-          → BeginsLift f caps after u gone freed (phase_of k caps (numbers gone 0) 0 all room)
+          → BeginsLift f caps after u gone freed (phase_now (course_of k caps (numbers gone 0) 0) gone)
       removed_lifts m sized book = record {
         hands = removed_hands;
         low = kept_end f.classes f.size_max caps after kept_grid b u gone freed removed_starts;
@@ -174,13 +172,13 @@ module _ (f : Flight) (caps : List ℕ) (grid kept_grid : List (List ℕ)) (u : 
         reach_past_wall f.classes f.size_max caps after kept_grid b u put freed placed_starts 0 (omega arith),
       )
 
-      module _ (reach : f.reach ≡ (numbers put 0).reach) (all : List Item) (room : ℕ)
-          (perm : IsPermutation (suffix_items b put) all) where
-        pub placed_hands : IsHandsFor f u put caps after freed (phase_of k caps (numbers put 0) 0 all room)
-        placed_hands = hands_alone f caps after kept_grid b u put freed placed_starts base reach all room perm
+      module _ (reach : f.reach ≡ (numbers put 0).reach) where
+        pub placed_hands : IsHandsFor f u put caps after freed
+            (phase_now (course_of k caps (numbers put 0) 0) put)
+        placed_hands = hands_alone f caps after kept_grid b u put freed placed_starts base reach
 
         pub placed_lifts : (m : Map) → IsSizedBy m e.now → IsNext m
-            → BeginsLift f caps after u put freed (phase_of k caps (numbers put 0) 0 all room)
+            → BeginsLift f caps after u put freed (phase_now (course_of k caps (numbers put 0) 0) put)
         placed_lifts m sized book = record {
           hands = placed_hands;
           low = kept_end f.classes f.size_max caps after kept_grid b u put freed placed_starts;
@@ -226,25 +224,7 @@ module _ (f : Flight) (caps : List ℕ) (grid kept_grid : List (List ℕ)) (u : 
 
         module _ (key : ℕ) (put : Extents) (joins : IsWith name (record { place = place; size = size }) key
             gone put)
-            (all : List Item) (room : ℕ)
-            (perm : IsPermutation (suffix_items b gone
-            ++ item_at key (record { place = place; size = size }) ∷ []) all)
           where
-            -- there is room for it in a list for as many items as there may be names
-            pub pending_room : length (suffix_items b gone) < gone.names
-            pending_room = omega (
-              arith,
-              few_items b gone,
-              joins.table.now_room,
-              joins.names,
-              ap (λ (x : Spots). fin.len x) joins.now,
-              fin.len-insert name_order gone.now name (record { place = place; size = size }),
-              cond-false (fin.contains_key gone.now name) (fin.len gone.now) (fin.len gone.now + 1) not_there,
-            )
-              where
-                not_there : fin.contains_key gone.now name ≡ false
-                not_there = ap is_some pending_new
-
             pub pending_begins : Begins k caps (numbers gone size) (suffix_items b gone)
                 (Some (item_at key (record { place = place; size = size })))
             pending_begins = begins_pending f.classes f.size_max caps after kept_grid b u gone freed
@@ -253,17 +233,23 @@ module _ (f : Flight) (caps : List ℕ) (grid kept_grid : List (List ℕ)) (u : 
                 pending_high
                 (omega (arith, ends, reach))
 
+            -- the items of the table are those of before and the pending one
+            pub pending_items : IsPermutation (with_pending (suffix_items b gone)
+                (Some (item_at key (record { place = place; size = size })))) (suffix_items b put)
+            pending_items = items_with b gone put name (record { place = place; size = size }) key pending_new
+                joins.now joins.keys (and_from (nat_lt 0 size) (nat_le b (class_of size))
+                (lt-ltb 0 size (omega (arith, pending_some))) (le-leb b (class_of size) pending_high))
+
             pub pending_hands : IsHandsFor f u put caps after freed
-                (phase_of k caps (numbers gone size) size all room)
+                (phase_now (course_of k caps (numbers gone size) size) put)
             pending_hands = hands_pending f caps after kept_grid b u gone freed pending_starts base name is
                 pending_new
                 (record { place = place; size = size }) key pending_some small pending_high reach ends put
-                joins all room
-                perm
+                joins
 
             pub pending_lifts : (m : Map) → IsSizedBy m e.now → IsNext m
                 → BeginsLift f caps after u put freed
-                (phase_of k caps (numbers gone size) size all room)
+                (phase_now (course_of k caps (numbers gone size) size) put)
             pending_lifts m sized book = record {
               hands = pending_hands;
               low = subst (λ (x : Spots). AllEndBy x (end_of k caps)) (sym joins.kept)

@@ -1,6 +1,6 @@
 -- The reach of a flush is loose: for the maps before and after a change that isn't quiet, where the book
 -- before it is balanced.
-use Rattle.std.specs.Prelude.{◌≡◌, ℕ, ◌+◌, ◌≤◌, cond, false, max, List, [], ◌∷◌, ◌++◌, length, filter, Option, Some, None, refl}
+use Rattle.std.specs.Prelude.{◌≡◌, ℕ, ◌+◌, ◌≤◌, cond, false, max, List, length, filter, Option, Some, None, refl, IsPermutation}
 use Rattle.std.proofs.Common.{arith, sym, ◌∙◌, ap, subst, inl, inr}
 use Rattle.std.proofs.Math.Nat.{le-max_left, le-max_right}
 use Rattle.std.proofs.lemmas.List.Sorted.{IsPermutation-refl}
@@ -27,24 +27,26 @@ use Rattle.spot_terms.specs.LaidOut.{shown_book}
 use Rattle.spot_terms.specs.Quiet.{PlacedTo}
 use Rattle.spot_terms.proofs.EntryLaws.{insert-remove}
 use Rattle.spot_terms.proofs.SpotSumLaws.{volume_of-weights}
-use Rattle.flush_plan.specs.declared.item.Item.{Item}
-use Rattle.flush_plan.specs.declared.item.Numbers.{Numbers}
-use Rattle.flush_plan.specs.Begins.{Begins, pending_size, with_pending}
-use Rattle.flush_plan.specs.Phases.{phase_of}
-use Rattle.flush_plan.specs.Plans.{numbers_of, stands_in_payload, total}
-use Rattle.flush_plan.proofs.BeginLaws.{begun}
-use Rattle.flush_plan.proofs.ItemLaws.{total_is}
-use Rattle.flush_plan.proofs.ListLaws.{cond_at_most, sum_by_le_in}
-use Rattle.flush_plan.proofs.NumbersLaws.{reach_is_loose}
+use Rattle.plan_terms.specs.declared.item.Item.{Item}
+use Rattle.plan_terms.specs.declared.item.Numbers.{Numbers}
+use Rattle.plan_terms.specs.Begins.{Begins, pending_size, with_pending}
+use Rattle.plan_terms.proofs.SortLaws.{laid_length_permuted}
+use Rattle.plan_terms.specs.Plans.{numbers_of, stands_in_payload, total}
+use Rattle.plan_terms.proofs.BeginLaws.{begun}
+use Rattle.plan_terms.proofs.ItemLaws.{total_is}
+use Rattle.plan_terms.proofs.ListLaws.{cond_at_most, sum_by_le_in}
+use Rattle.plan_terms.proofs.NumbersLaws.{reach_is_loose}
 use Rattle.flush_run.specs.Flights.{Flight}
 use Rattle.flush_run.specs.Hands.{IsHandsFor, spot_item, suffix_items}
+use Rattle.flush_run.specs.Shelved.{phase_now}
+use Rattle.flush_plan.specs.Shelves.{course_of}
 use Rattle.flush_run.proofs.LaidPlaceLaws.{end_is}
 use Rattle.flush_start.specs.Charging.{between, new_charged, size_at}
-use Rattle.flush_start.specs.Gathering.{is_from, item_at}
+use Rattle.flush_start.specs.Items.{is_from, item_at}
 use Rattle.flush_start.specs.Starts.{CanStart, IsLoud, IsWith, IsWithout, WasBefore}
 use Rattle.flush_start.proofs.CanFlushLaws.{begins_alone, can_flush}
 use Rattle.flush_start.proofs.ChargedLaws.{gone_some, new_some, one_missed}
-use Rattle.flush_start.proofs.LiftStartLaws.{pending_begins, pending_hands, pending_starts, placed_hands, placed_starts, removed_hands, removed_starts}
+use Rattle.flush_start.proofs.LiftStartLaws.{pending_begins, pending_hands, pending_items, pending_starts, placed_hands, placed_starts, removed_hands, removed_starts}
 use Rattle.flush_start.proofs.NextBookLaws.{next_is}
 use Rattle.flush_start.specs.Sized.{IsSizedBy, object_size}
 use Rattle.flush_start.proofs.SizedLaws.{sized_gone, sized_has, sized_put, sized_volume, sized_volumes}
@@ -137,14 +139,16 @@ module _ (f : Flight) (caps : List ℕ) (grid kept_grid : List (List ℕ)) (u : 
       → IsSizedBy (changed (record { name = name; object = object }) m) x.now → (items : List Item)
       (pending : Option Item) → Begins k caps (numbers_of k caps b items (pending_size pending)) items
       pending → b ≤ width
-      → IsHandsFor f u x caps after freed (phase_of k caps (numbers_of k caps b items (pending_size pending))
-      (pending_size pending) (with_pending items pending) 0)
+      → IsPermutation (with_pending items pending) (suffix_items b x)
+      → IsHandsFor f u x caps after freed (phase_now (course_of k caps
+      (numbers_of k caps b items (pending_size pending)) (pending_size pending)) x)
       → Tight k (numbers_of k caps b items (pending_size pending)).end
       (changed (record { name = name; object = object }) m)
-  tight_after object l x has items pending begins low hands =
+  tight_after object l x has items pending begins low perm hands =
       let c : Change = record { name = name; object = object } in
       let n = numbers_of k caps b items (pending_size pending) in
-      let p = phase_of k caps n (pending_size pending) (with_pending items pending) 0 in
+      let p = phase_now (course_of k caps n (pending_size pending)) x in
+      let same = laid_length_permuted (with_pending items pending) (suffix_items b x) perm k b width in
       let next = next_book k m before c in
       let end : end_of k next.book.caps ≡ n.end =
       ap (λ (y : Book). end_of k y.caps) (next_is f.classes f.size_max caps grid kept_grid u e spans h m
@@ -152,6 +156,7 @@ module _ (f : Flight) (caps : List ℕ) (grid kept_grid : List (List ℕ)) (u : 
       ∙ ap (λ vs. end_of k (settled_caps b caps vs))
       (sized_volumes (changed c m) x.now has hands.table.now_named)
       ∙ end_is f u x caps after freed p hands
+      ∙ ap (λ len. n.start + len) same
       ∙ sym (begun k caps n items pending low begins).layout.end in
       subst (λ y. Tight k y (changed c m)) end (tight k (changed c m) next.book
       (balanced_next k m before c balanced))
@@ -199,10 +204,8 @@ module _ (f : Flight) (caps : List ℕ) (grid kept_grid : List (List ℕ)) (u : 
       (some_byte 0 (fin.remove m name) l (λ some. absurd (omega (arith, some)))) tight_before
       (tight_after None l gone has items None
       (begins_alone f.classes f.size_max caps after kept_grid b u gone freed start)
-      (omega (arith, start.low, start.below.few))
-      (removed_hands f caps grid kept_grid u e spans h base name after b gone without freed frees l reach
-      items 0
-      (IsPermutation-refl items))))
+      (omega (arith, start.low, start.below.few)) (IsPermutation-refl items)
+      (removed_hands f caps grid kept_grid u e spans h base name after b gone without freed frees l reach)))
 
   module _ (is : IsName name) (object : List ℕ) (small : length object ≤ f.size_max)
       (l : IsLoud k caps grid old (length object) after b) where
@@ -234,10 +237,9 @@ module _ (f : Flight) (caps : List ℕ) (grid kept_grid : List (List ℕ)) (u : 
         (some_byte (length object) m' l (λ some. object_low)) tight_before
         (tight_after (Some object) l put has items None
         (begins_alone f.classes f.size_max caps after kept_grid b u put freed start)
-        (omega (arith, start.low, start.below.few))
+        (omega (arith, start.low, start.below.few)) (IsPermutation-refl items)
         (placed_hands f caps grid kept_grid u e spans h base name after b gone without freed frees is object
-        small l place
-        key placed put joins reach items 0 (IsPermutation-refl items))))
+        small l place key placed put joins reach)))
 
     -- a put whose object waits
     pub pending_loose : is_quiet (new_charged k caps mid (length object)) ≡ false → (place : ℕ)
@@ -254,7 +256,6 @@ module _ (f : Flight) (caps : List ℕ) (grid kept_grid : List (List ℕ)) (u : 
         let rest : IsSizedBy (fin.remove m name) gone.now = subst
         (λ (x : Spots). IsSizedBy (fin.remove m name) x)
         (sym without.now) (sized_gone m e.now name sized) in
-        let all = items ++ it ∷ [] in
         subst (λ y. Loose k y m m') (sym reach)
         (loose_from f.classes f.size_max caps after kept_grid b u gone freed start (length object) m m'
         (fin.remove m name)
@@ -265,8 +266,11 @@ module _ (f : Flight) (caps : List ℕ) (grid kept_grid : List (List ℕ)) (u : 
         (tight_after (Some object) l put has items (Some it)
         (pending_begins f caps grid kept_grid u e spans h base name after b gone without freed frees is
         object small l
-        missed place reach ends key put joins all 0 (IsPermutation-refl all))
+        missed place reach ends key put joins)
         (omega (arith, start.low, start.below.few))
+        (pending_items f caps grid kept_grid u e spans h base name after b gone without freed frees is
+        object small l
+        missed place reach ends key put joins)
         (pending_hands f caps grid kept_grid u e spans h base name after b gone without freed frees is
         object small l
-        missed place reach ends key put joins all 0 (IsPermutation-refl all))))
+        missed place reach ends key put joins)))

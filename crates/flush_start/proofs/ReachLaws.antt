@@ -19,15 +19,15 @@ use Rattle.spot_terms.specs.Laid.{settled_table}
 use Rattle.spot_terms.proofs.EnterLaws.{by_name}
 use Rattle.spot_terms.proofs.LaidOutLaws.{laid_ends}
 use Rattle.spot_terms.proofs.SegmentLaws.{lies_parts}
-use Rattle.flush_plan.specs.declared.item.Item.{Item}
-use Rattle.flush_plan.specs.declared.item.Numbers.{Numbers}
-use Rattle.flush_plan.specs.Plans.{class_total, in_class, laid_length, numbers_of, object_of, stands_in_payload, total}
-use Rattle.flush_plan.proofs.BoundLaws.{segments_at_most, weight_fits}
-use Rattle.flush_plan.proofs.FinalLaws.{class_total_is}
-use Rattle.flush_plan.proofs.ItemLaws.{total_is}
-use Rattle.flush_plan.proofs.LargestLaws.{largest-le}
-use Rattle.flush_plan.proofs.ListLaws.{cond_at_most}
-use Rattle.flush_plan.proofs.NumbersLaws.{reach_is, wall_over_old_end}
+use Rattle.plan_terms.specs.declared.item.Item.{Item}
+use Rattle.plan_terms.specs.declared.item.Numbers.{Numbers}
+use Rattle.plan_terms.specs.Plans.{class_total, in_class, laid_length, numbers_of, object_of, stands_in_payload, total}
+use Rattle.plan_terms.proofs.BoundLaws.{segments_at_most, weight_fits}
+use Rattle.plan_terms.proofs.FinalLaws.{class_total_is}
+use Rattle.plan_terms.proofs.ItemLaws.{total_is}
+use Rattle.plan_terms.proofs.LargestLaws.{largest-le}
+use Rattle.plan_terms.proofs.ListLaws.{cond_at_most}
+use Rattle.plan_terms.proofs.NumbersLaws.{reach_is, wall_over_old_end}
 use Rattle.flush_run.specs.Hands.{AllEndBy, suffix_items}
 use Rattle.flush_start.specs.Starts.{CanStart}
 use Rattle.flush_start.proofs.CanFlushLaws.{can_flush}

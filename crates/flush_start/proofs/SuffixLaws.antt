@@ -22,9 +22,9 @@ use Rattle.extent_table.specs.Extents.{Extents, HasKeys, Keys, Spots}
 use Rattle.extent_table.specs.Rising.{below_each, of_mapped}
 use Rattle.spot_terms.proofs.EntryLaws.{first_of_both, get-insert_here, second_of_both}
 use Rattle.spot_terms.proofs.ReadLaws.{found_by_name}
-use Rattle.flush_plan.specs.declared.item.Item.{Item}
+use Rattle.plan_terms.specs.declared.item.Item.{Item}
 use Rattle.flush_run.specs.Hands.{key_or_zero, spot_item, suffix_items}
-use Rattle.flush_start.specs.Gathering.{is_from, item_at}
+use Rattle.flush_start.specs.Items.{is_from, item_at}
 
 -- ---- each item is an object
 

@@ -1,5 +1,5 @@
 pub mod Charging
-pub mod Gathering
+pub mod Items
 pub mod Below
 pub mod Starts
 pub mod Sized

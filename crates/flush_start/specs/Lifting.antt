@@ -6,7 +6,7 @@ use Rattle.segment_layout.specs.Shapes.{end_of}
 use Rattle.table_rules.specs.Tables.{book_of}
 use Rattle.extent_table.specs.Extents.{Extents}
 use Rattle.spot_terms.specs.Laid.{laid}
-use Rattle.flush_plan.specs.Phases.{Phase}
+use Rattle.plan_terms.specs.Phases.{Phase}
 use Rattle.flush_run.specs.Flights.{Flight}
 use Rattle.flush_run.specs.Hands.{AllEndBy, IsHandsFor}
 use Rattle.flush_run.specs.Loops.{phase_header}

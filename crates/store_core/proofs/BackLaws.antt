@@ -83,8 +83,6 @@ module _ {C : ℕ} (s : Inside C) (whole : IsWhole s) (table : Extents) (guard :
     base = whole.base;
     few = whole.few;
     buf = whole.buf;
-    no_items = whole.no_items;
-    items_room = whole.items_room;
     divisor = whole.kept_divisor;
     kept_divisor = whole.kept_divisor;
     kept_caps = refl;

@@ -1,5 +1,5 @@
 -- A change that isn't quiet was made in the table and the layout: a flush may begin.
-use Rattle.std.specs.Prelude.{◌≡◌, ◌⊎◌, All, ℕ, ◌+◌, ◌^◌, ◌<◌, ◌≤◌, Bool, true, false, ◌&&◌, cond, is_some, List, [], ◌∷◌, ◌++◌, fold, length, Option, Some, None, IfSome, IsSome, IsPermutation, refl}
+use Rattle.std.specs.Prelude.{◌≡◌, ◌⊎◌, All, ℕ, ◌+◌, ◌^◌, ◌<◌, ◌≤◌, Bool, true, false, ◌&&◌, cond, is_some, List, [], ◌++◌, fold, length, Option, Some, None, IfSome, IsSome, refl}
 use Rattle.std.proofs.Common.{arith, sym, ◌∙◌, ap, subst, inl, inr}
 use Rattle.std.proofs.lemmas.Bool.{cases_Bool, cond-false, cond-true}
 use Rattle.std.proofs.lemmas.List.{append-nil}
@@ -24,14 +24,15 @@ use Rattle.spot_terms.proofs.EntryLaws.{get-remove_here, insert-remove}
 use Rattle.spot_terms.proofs.LaidOutLaws.{laid_below}
 use Rattle.spot_terms.proofs.FreedLaws.{span_apart, span_room}
 use Rattle.held_guard.specs.Freed.{Freed}
-use Rattle.flush_plan.specs.declared.item.Numbers.{Numbers}
-use Rattle.flush_plan.specs.Phases.{Phase, phase_of}
-use Rattle.flush_plan.specs.Plans.{numbers_of}
+use Rattle.plan_terms.specs.declared.item.Numbers.{Numbers}
+use Rattle.plan_terms.specs.Phases.{Phase}
+use Rattle.plan_terms.specs.Plans.{numbers_of}
 use Rattle.flush_run.specs.Flights.{Flight, IsFreeSpace}
 use Rattle.flush_run.specs.Hands.{suffix_items}
+use Rattle.flush_run.specs.Shelved.{phase_now}
+use Rattle.flush_plan.specs.Shelves.{course_of}
 use Rattle.flush_run.specs.Parts.{Parts}
 use Rattle.flush_start.specs.Charging.{PlacesNew, between, charged_by, new_charged}
-use Rattle.flush_start.specs.Gathering.{item_at}
 use Rattle.flush_start.specs.Lifting.{BeginsLift}
 use Rattle.flush_start.specs.Starts.{CanStart, IsLoud, IsWith, IsWithout, WasBefore}
 use Rattle.flush_start.proofs.EndLaws.{end_small}
@@ -66,11 +67,11 @@ can_start_at {classes} {b} {k} {caps} {caps2} {grid} {e} kept_grid x spans start
   divisor = divisor;
 }
 
-pub started_at : {b k k2 : ℕ} {caps caps2 : List ℕ} {e : Extents} {p : Phase} {capacity : ℕ} → k2 ≡ k
-    → caps2 ≡ caps → IsStarted b k2 caps2 e p capacity → IsStarted b k caps e p capacity
-started_at {b} {k} {k2} {caps} {caps2} {e} {p} {capacity} ks cs st =
-    subst (λ (y : List ℕ). IsStarted b k y e p capacity) cs
-    (subst (λ (y : ℕ). IsStarted b y caps2 e p capacity) ks st)
+pub started_at : {b k k2 : ℕ} {caps caps2 : List ℕ} {e : Extents} {p : Phase} → k2 ≡ k
+    → caps2 ≡ caps → IsStarted b k2 caps2 e p → IsStarted b k caps e p
+started_at {b} {k} {k2} {caps} {caps2} {e} {p} ks cs st =
+    subst (λ (y : List ℕ). IsStarted b k y e p) cs
+    (subst (λ (y : ℕ). IsStarted b y caps2 e p) ks st)
 
 module _ {classes : ℕ} {kept_grid : List (List ℕ)} {x0 : Parts} (may : MayBegin classes kept_grid x0)
     (name : List ℕ) where
@@ -169,15 +170,15 @@ module _ {classes : ℕ} {kept_grid : List (List ℕ)} {x0 : Parts} (may : MayBe
       del_starts = removed_starts (del_flight 0 some_setting) x0.caps x0.grid kept_grid x0.in_use x0.table
           x0.spans h may.base name after b gone without freed frees l
 
-      pub begun_removed : (p : Phase) (capacity : ℕ) → IsStarted b k x0.caps gone p capacity
+      pub begun_removed : (p : Phase) → IsStarted b k x0.caps gone p
           → asked ≡ fold added x0.asked (sizes_at old) → IsBegun classes x0 (del_of name) (parts gone) p 0
-      begun_removed p capacity st sums =
+      begun_removed p st sums =
           let reach : p.numbers.reach ≡ numbers.reach = ap (λ (q : Phase). q.numbers.reach) st.value in
           record {
             lifts = λ g sized. subst (λ (q : Phase). BeginsLift (del_flight p.numbers.reach g) x0.caps after
                 x0.in_use gone freed q) (sym st.value)
                 (removed_lifts (del_flight p.numbers.reach g) x0.caps x0.grid kept_grid x0.in_use x0.table x0.spans
-                h may.base name after b gone without freed frees l reach p.items capacity st.items g.map sized
+                h may.base name after b gone without freed frees l reach g.map sized
                 refl);
             loose = λ m sized balanced. removed_loose (del_flight p.numbers.reach some_setting) x0.caps x0.grid
                 kept_grid x0.in_use x0.table x0.spans h may.base name after b gone without freed frees m sized
@@ -244,10 +245,10 @@ module _ {classes : ℕ} {kept_grid : List (List ℕ)} {x0 : Parts} (may : MayBe
             put joins
 
         pub begun_placed : (key : ℕ) (put : Extents) → IsWith name (spot_at place) key gone put → (p : Phase)
-            (capacity : ℕ) → IsStarted b k x0.caps put p capacity
+            → IsStarted b k x0.caps put p
             → asked ≡ fold added x0.asked (sizes_at old ++ some_size size)
             → IsBegun classes x0 (put_of name object) (parts put) p place
-        begun_placed key put joins p capacity st sums =
+        begun_placed key put joins p st sums =
             let starts = put_starts key put joins in
             let reach : p.numbers.reach ≡ (numbers_of k x0.caps b (suffix_items b put) 0).reach =
             ap (λ (q : Phase). q.numbers.reach) st.value in
@@ -256,7 +257,7 @@ module _ {classes : ℕ} {kept_grid : List (List ℕ)} {x0 : Parts} (may : MayBe
                   x0.in_use put freed q) (sym st.value)
                   (placed_lifts (put_flight p.numbers.reach g) x0.caps x0.grid kept_grid x0.in_use x0.table
                   x0.spans h may.base name after b gone without freed frees is object small l place key placed put
-                  joins reach p.items capacity st.items g.map sized refl);
+                  joins reach g.map sized refl);
               loose = λ m sized balanced. placed_loose (put_flight p.numbers.reach some_setting) x0.caps x0.grid
                   kept_grid x0.in_use x0.table x0.spans h may.base name after b gone without freed frees m sized
                   balanced is object small l place key placed put joins reach;
@@ -316,13 +317,11 @@ module _ {classes : ℕ} {kept_grid : List (List ℕ)} {x0 : Parts} (may : MayBe
             x0.spans h may.base name after b gone without freed frees is object small l missed
 
         pub begun_waiting : (place key : ℕ) (put : Extents) → IsWith name (spot_at place) key gone put
-            → (p : Phase) (capacity : ℕ)
-            → p ≡ phase_of k x0.caps (numbers_of k x0.caps b (suffix_items b gone) size) size p.items capacity
+            → (p : Phase) → p ≡ phase_now (course_of k x0.caps (numbers_of k x0.caps b (suffix_items b gone) size) size) put
             → place + size ≡ p.numbers.reach
-            → IsPermutation (suffix_items b gone ++ item_at key (spot_at place) ∷ []) p.items
             → asked ≡ fold added x0.asked (sizes_at old ++ some_size size)
             → IsBegun classes x0 (put_of name object) (parts put) p place
-        begun_waiting place key put joins p capacity value ends perm sums =
+        begun_waiting place key put joins p value ends sums =
             let reach : p.numbers.reach ≡ (numbers_of k x0.caps b (suffix_items b gone) size).reach =
             ap (λ (q : Phase). q.numbers.reach) value in
             record {
@@ -330,7 +329,7 @@ module _ {classes : ℕ} {kept_grid : List (List ℕ)} {x0 : Parts} (may : MayBe
                   x0.in_use put freed q) (sym value)
                   (pending_lifts (put_flight p.numbers.reach g) x0.caps x0.grid kept_grid x0.in_use x0.table
                   x0.spans h may.base name after b gone without freed frees is object small l missed place reach
-                  ends key put joins p.items capacity perm g.map sized refl);
+                  ends key put joins g.map sized refl);
               loose = λ m sized balanced. pending_loose (put_flight p.numbers.reach some_setting) x0.caps x0.grid
                   kept_grid x0.in_use x0.table x0.spans h may.base name after b gone without freed frees m sized
                   balanced is object small l missed place reach ends key put joins;
@@ -445,12 +444,12 @@ module _ {classes : ℕ} {kept_grid : List (List ℕ)} {x0 : Parts} (may : MayBe
       del_ready = can_start_at kept_grid x0 x1.spans
           (del_starts x1.table x1.spans x1.asked out.without out.frees after b del_loud) del_k del_caps
 
-      pub del_begun : (p : Phase) (capacity : ℕ) → IsStarted b k2 caps2 x1.table p capacity
+      pub del_begun : (p : Phase) → IsStarted b k2 caps2 x1.table p
           → IsBegun classes x0 (del_of name) (record x1 { divisor = k2; caps = caps2; grid = after }) p 0
-      del_begun p capacity st = subst (λ (y : Parts). IsBegun classes x0 (del_of name) y p 0)
+      del_begun p st = subst (λ (y : Parts). IsBegun classes x0 (del_of name) y p 0)
           (sym ((λ i. record x1 { divisor = ch.divisor i; caps = ch.caps_are i; grid = after })
           ∙ ap (λ (y : Parts). record y { grid = after }) out.rest))
-          (begun_removed x1.table x1.spans x1.asked out.without out.frees after b del_loud p capacity
+          (begun_removed x1.table x1.spans x1.asked out.without out.frees after b del_loud p
           (started_at del_k del_caps st) out.asked)
 
     -- ---- a put
@@ -517,14 +516,14 @@ module _ {classes : ℕ} {kept_grid : List (List ℕ)} {x0 : Parts} (may : MayBe
           end_is_low,
         )
 
-        pub placed_begun : (x : Parts) (p : Phase) (at2 capacity : ℕ) → at2 ≡ at
-            → StartsPlaced b name (record { place = at; size = object_len }) charged_parts x p capacity
+        pub placed_begun : (x : Parts) (p : Phase) (at2 : ℕ) → at2 ≡ at
+            → StartsPlaced b name (record { place = at; size = object_len }) charged_parts x p
             → IsBegun classes x0 (put_of name object) x p at2
-        placed_begun x p at2 capacity same st = subst (λ (n : ℕ). IsBegun classes x0 (put_of name object) x p n)
+        placed_begun x p at2 same st = subst (λ (n : ℕ). IsBegun classes x0 (put_of name object) x p n)
             (sym same) (subst (λ (y : Parts). IsBegun classes x0 (put_of name object) y p at)
             (sym (st.rest ∙ ap (λ (y : Parts). record y { table = x.table }) charged_is))
             (begun_placed x1.table x1.spans asked out.without out.frees after b is object small put_loud at
-            put_placed st.key x.table st.joins p capacity (started_at put_k put_caps st.started) put_sums))
+            put_placed st.key x.table st.joins p (started_at put_k put_caps st.started) put_sums))
 
       -- whose object waits
       module _ (found : place ≡ None) where
@@ -548,13 +547,13 @@ module _ {classes : ℕ} {kept_grid : List (List ℕ)} {x0 : Parts} (may : MayBe
         pub waiting_new : fin.get x1.table.now name ≡ None
         waiting_new = ap (λ (m : Spots). fin.get m name) out.without.now ∙ get-remove_here x0.table.now name
 
-        pub waiting_begun : (x : Parts) (p : Phase) (at capacity : ℕ)
-            → StartsWaiting b name object_len at charged_parts x p capacity
+        pub waiting_begun : (x : Parts) (p : Phase) (at : ℕ)
+            → StartsWaiting b name object_len at charged_parts x p
             → IsBegun classes x0 (put_of name object) x p at
-        waiting_begun x p at capacity st = subst (λ (y : Parts). IsBegun classes x0 (put_of name object) y p at)
+        waiting_begun x p at st = subst (λ (y : Parts). IsBegun classes x0 (put_of name object) y p at)
             (sym (st.rest ∙ ap (λ (y : Parts). record y { table = x.table }) charged_is))
             (begun_waiting x1.table x1.spans asked out.without out.frees after b is object small put_loud put_missed
-            at st.key x.table st.joins p capacity
-            (st.value ∙ (λ i. phase_of (put_k i) (put_caps i)
-            (numbers_of (put_k i) (put_caps i) b (suffix_items b x1.table) object_len) object_len p.items capacity))
-            st.ends st.items put_sums)
+            at st.key x.table st.joins p
+            (st.value ∙ (λ i. phase_now (course_of (put_k i) (put_caps i)
+            (numbers_of (put_k i) (put_caps i) b (suffix_items b x1.table) object_len) object_len) x.table))
+            st.ends put_sums)

@@ -1,7 +1,6 @@
 -- A store after its flush, whether or not it failed.
-use Rattle.std.specs.Prelude.{◌≡◌, ℕ, ◌+◌, ◌-◌, ◌*◌, ◌^◌, ◌<◌, ◌≤◌, Bool, true, false, cond, List, [], ◌++◌, length, slice_index, Option, Some, None, is_some, option_map, Ok, Err, IsTrue, vec_capacity, vec_len, refl}
+use Rattle.std.specs.Prelude.{◌≡◌, ℕ, ◌+◌, ◌-◌, ◌*◌, ◌^◌, ◌<◌, ◌≤◌, Bool, true, false, cond, List, ◌++◌, length, slice_index, Option, Some, None, is_some, option_map, Ok, Err, IsTrue, vec_len, refl}
 use Rattle.std.proofs.Common.{arith, sym, ◌∙◌, ap, subst, inl, inr}
-use Rattle.std.specs.Global.{Vec}
 use Rattle.disk_face.specs.States as disk
 use Rattle.disk_face.specs.Counts.{HasCause}
 use Rattle.disk_face.specs.Moments.{Leaves}
@@ -25,7 +24,7 @@ use Rattle.extent_table.specs.declared.spot.Spot.{Spot}
 use Rattle.store_core.specs.Keeps.{now_map}
 use Rattle.table_rules.specs.Tables.{sizes}
 use Rattle.spot_terms.specs.Quiet.{gone_items}
-use Rattle.flush_plan.specs.Plans.{class_total}
+use Rattle.plan_terms.specs.Plans.{class_total}
 use Rattle.flush_run.proofs.LaidPlaceLaws.{new_cap}
 use Rattle.flush_start.specs.Charging.{charged_by}
 use Rattle.flush_start.specs.Sized.{IsSizedBy, object_size}
@@ -34,8 +33,7 @@ use Rattle.std.proofs.lemmas.Bool.{cases_lt, cond-false}
 use Rattle.std.specs.FinMap as fin
 use Rattle.segment_layout.specs.Layouts.{caps_of, divisor_of, grid_of}
 use Rattle.extent_table.specs.Extents.{Spots, records_of}
-use Rattle.flush_plan.specs.declared.item.Item.{Item}
-use Rattle.flush_plan.specs.Phases.{Phase}
+use Rattle.plan_terms.specs.Phases.{Phase}
 use Rattle.flush_run.specs.declared.hands.Hands.{Hands}
 use Rattle.flush_run.specs.Calls.{CallsSoFar}
 use Rattle.flush_run.specs.Flights.{Flight, LeavesOldOrNew}
@@ -243,47 +241,44 @@ module _ {C : ℕ} (s : Inside C) (c : Change) (hands1 : Hands C) (p : Phase) (p
 
   -- ---- where the disk failed
 
-  module _ (list : Vec Item) where
-    abbrev failed_inside : Inside C
-    failed_inside = record s { hands = hands2; kept_layout = hands2.layout; items = list; broken = true }
+  abbrev failed_inside : Inside C
+  failed_inside = record s { hands = hands2; kept_layout = hands2.layout; broken = true }
 
-    pub failed_whole : vec_len list ≡ 0 → IsWhole failed_inside
-    failed_whole none = record {
-      classes = w.whole.classes;
-      wide = w.whole.wide;
-      base = same_base ∙ w.whole.base ∙ ap (λ (b : SuperBlock). head_len b.names) (sym same_block);
-      few = omega (arith, w.whole.few, ap (λ (b : SuperBlock). b.names) same_block);
-      buf = same_buffer;
-      no_items = none;
-      items_room = λ sound. absurd (cc);
-      divisor = same_divisor ∙ w.whole.divisor ∙ ap (λ (b : SuperBlock). b.k) (sym same_block);
-      kept_divisor = same_divisor ∙ w.whole.divisor ∙ ap (λ (b : SuperBlock). b.k) (sym same_block);
-      kept_caps = refl;
-      room = same_names ∙ w.whole.room ∙ ap (λ (b : SuperBlock). b.names) (sym same_block);
-      guard_room = same_room ∙ w.whole.guard_room ∙ ap (λ (b : SuperBlock). b.names) (sym same_block);
-      table = λ sound. absurd (cc);
-      sound = λ sound. absurd (cc);
-      freed = λ sound. absurd (cc);
-    }
+  pub failed_whole : IsWhole failed_inside
+  failed_whole = record {
+    classes = w.whole.classes;
+    wide = w.whole.wide;
+    base = same_base ∙ w.whole.base ∙ ap (λ (b : SuperBlock). head_len b.names) (sym same_block);
+    few = omega (arith, w.whole.few, ap (λ (b : SuperBlock). b.names) same_block);
+    buf = same_buffer;
+    divisor = same_divisor ∙ w.whole.divisor ∙ ap (λ (b : SuperBlock). b.k) (sym same_block);
+    kept_divisor = same_divisor ∙ w.whole.divisor ∙ ap (λ (b : SuperBlock). b.k) (sym same_block);
+    kept_caps = refl;
+    room = same_names ∙ w.whole.room ∙ ap (λ (b : SuperBlock). b.names) (sym same_block);
+    guard_room = same_room ∙ w.whole.guard_room ∙ ap (λ (b : SuperBlock). b.names) (sym same_block);
+    table = λ sound. absurd (cc);
+    sound = λ sound. absurd (cc);
+    freed = λ sound. absurd (cc);
+  }
 
-    pub failed_flush : {E : Type 0} (why : Refusal) (fault : E)
-        → HasCause {T = Vec Item} a.faults d.faults (Err fault)
-        → IsFlush C c ks (kept_of failed_inside) a d (Err why)
-    failed_flush why fault cause = record {
-      value = tt;
-      opened = λ told. tt;
-      content = content_is;
-      left = left_is;
-      rests = λ told. tt;
-      on_table = λ told. tt;
-      calls = tt;
-      most = most_is;
-      lower = lower_is;
-      few = few_is;
-      few_by_size = few_by_size_is;
-      frame = w.made.keeps.disk;
-      cause = record { later = cause.later; rose = cause.rose; calm = tt };
-    }
+  pub failed_flush : {E : Type 0} (why : Refusal) (fault : E)
+      → HasCause {T = Unit {0}} a.faults d.faults (Err fault)
+      → IsFlush C c ks (kept_of failed_inside) a d (Err why)
+  failed_flush why fault cause = record {
+    value = tt;
+    opened = λ told. tt;
+    content = content_is;
+    left = left_is;
+    rests = λ told. tt;
+    on_table = λ told. tt;
+    calls = tt;
+    most = most_is;
+    lower = lower_is;
+    few = few_is;
+    few_by_size = few_by_size_is;
+    frame = w.made.keeps.disk;
+    cause = record { later = cause.later; rose = cause.rose; calm = tt };
+  }
 
   -- ---- where it was done
 
@@ -291,153 +286,148 @@ module _ {C : ℕ} (s : Inside C) (c : Change) (hands1 : Hands C) (p : Phase) (p
       → FlushEnds C (flight_of C x e p.numbers.reach g) (parts_of hands2) d)
       (low : hands1.slots.sequence + 1 ≤ hands2.slots.sequence)
       (high : hands2.slots.sequence ≤ hands1.slots.sequence + 2 * hands1.slots.block.k)
-      (list : Vec Item) where
-    abbrev done_inside : Inside C
-    done_inside = record s { hands = hands2; kept_layout = hands2.layout; items = list }
+    where
+      abbrev done_inside : Inside C
+      done_inside = record s { hands = hands2; kept_layout = hands2.layout }
 
-    any : (g : Setting) × CanFly C x0 c g (parts_of hands1) p place bytes a
-    any = some_flight s w.whole w.unbroken c (parts_of hands1) p place bytes w.begun w.name w.object w.fresh a w.over
+      any : (g : Setting) × CanFly C x0 c g (parts_of hands1) p place bytes a
+      any = some_flight s w.whole w.unbroken c (parts_of hands1) p place bytes w.begun w.name w.object w.fresh a w.over
 
-    any_ends : FlushEnds C (flight_of C x0 c p.numbers.reach any.0) (parts_of hands2) d
-    any_ends = ends x0 c any.0 any.1
+      any_ends : FlushEnds C (flight_of C x0 c p.numbers.reach any.0) (parts_of hands2) d
+      any_ends = ends x0 c any.0 any.1
 
-    view : IsFlushed C hands2.slots hands2.table.now (caps_of hands2.layout) (grid_of hands2.layout)
-        (kept_of done_inside)
-    view = flushed_view s hands2 list any_ends.kept
+      view : IsFlushed C hands2.slots hands2.table.now (caps_of hands2.layout) (grid_of hands2.layout)
+          (kept_of done_inside)
+      view = flushed_view s hands2 any_ends.kept
 
-    names_now : hands2.table.names ≡ hands2.slots.block.names
-    names_now = same_names ∙ w.whole.room ∙ ap (λ (b : SuperBlock). b.names) (sym same_block)
+      names_now : hands2.table.names ≡ hands2.slots.block.names
+      names_now = same_names ∙ w.whole.room ∙ ap (λ (b : SuperBlock). b.names) (sym same_block)
 
-    block_now : IsSuperBlock hands2.slots.block
-    block_now = subst IsSuperBlock (sym same_block) (w.whole.sound w.unbroken).block
+      block_now : IsSuperBlock hands2.slots.block
+      block_now = subst IsSuperBlock (sym same_block) (w.whole.sound w.unbroken).block
 
-    base_now : head_len hands2.slots.block.names ≡ s.hands.base
-    base_now = ap (λ (b : SuperBlock). head_len b.names) same_block ∙ sym w.whole.base
+      base_now : head_len hands2.slots.block.names ≡ s.hands.base
+      base_now = ap (λ (b : SuperBlock). head_len b.names) same_block ∙ sym w.whole.base
 
-    pub done_store : IsStore C (kept_of done_inside)
-    done_store = ended_store hands2 (flight_of C x0 c p.numbers.reach any.0) d any_ends names_now block_now
-        (kept_of done_inside) view
+      pub done_store : IsStore C (kept_of done_inside)
+      done_store = ended_store hands2 (flight_of C x0 c p.numbers.reach any.0) d any_ends names_now block_now
+          (kept_of done_inside) view
 
-    pub done_whole : list.items ≡ [] → vec_capacity list ≡ p.room → s.hands.slots.block.names ≤ p.room
-        → IsWhole done_inside
-    done_whole none room held = flushed_whole s hands2 list w.whole same_block same_base same_buffer
-        any_ends.divisor same_names same_room any_ends.table any_ends.kept any_ends.empty
-        (omega (arith, ap (λ (xs : List Item). length xs) none))
-        (omega (arith, room, held, ap (λ (b : SuperBlock). b.names) same_block)) done_store
+      pub done_whole : IsWhole done_inside
+      done_whole = flushed_whole s hands2 w.whole same_block same_base same_buffer any_ends.divisor same_names
+          same_room any_ends.table any_ends.kept any_ends.empty done_store
 
-    abbrev told_flight : IsTrue a.tells → Flight
-    told_flight told = flight_of C x0 c p.numbers.reach (record {
-      map = (state_of ks a.file).map;
-      kept_map = (state_of ks a.file).kept;
-      kept_book = ks.kept_book;
-      is_at_rest = false;
-    })
+      abbrev told_flight : IsTrue a.tells → Flight
+      told_flight told = flight_of C x0 c p.numbers.reach (record {
+        map = (state_of ks a.file).map;
+        kept_map = (state_of ks a.file).kept;
+        kept_book = ks.kept_book;
+        is_at_rest = false;
+      })
 
-    told_ends : (told : IsTrue a.tells) → FlushEnds C (told_flight told) (parts_of hands2) d
-    told_ends told = ends x0 c _ (can_fly s w.whole w.unbroken c (parts_of hands1) p place bytes w.begun w.name
-        w.object w.fresh a (w.over told) false (λ t. absurd (let e : false ≡ true = t in cc)))
+      told_ends : (told : IsTrue a.tells) → FlushEnds C (told_flight told) (parts_of hands2) d
+      told_ends told = ends x0 c _ (can_fly s w.whole w.unbroken c (parts_of hands1) p place bytes w.begun w.name
+          w.object w.fresh a (w.over told) false (λ t. absurd (let e : false ≡ true = t in cc)))
 
-    module _ (told : IsTrue a.tells) where
-      still : IsTrue d.tells
-      still = w.made.keeps.disk.stays.told ∙ told
+      module _ (told : IsTrue a.tells) where
+        still : IsTrue d.tells
+        still = w.made.keeps.disk.stays.told ∙ told
 
-      pub done_over : IsOver C (kept_of done_inside) d.file
-      done_over = ended_over hands2 (told_flight told) d (told_ends told) names_now block_now
-          (kept_of done_inside) view base_now still
+        pub done_over : IsOver C (kept_of done_inside) d.file
+        done_over = ended_over hands2 (told_flight told) d (told_ends told) names_now block_now
+            (kept_of done_inside) view base_now still
 
-      pub done_step : refusal (limits_of ks) (facts_at ks (ask.change c)) (ask.change c) ≡ None
-          → is_quiet (charges_of ks c) ≡ false
-          → Step (limits_of ks) (state_of ks a.file) (ask.change c) ask.kept (state_of (kept_of done_inside) d.file)
-      done_step calm loud =
-          let h = w.whole.sound w.unbroken in
-          let is = ended_state hands2 (told_flight told) d (told_ends told) names_now block_now
-          (kept_of done_inside) view base_now still in
-          flush_step (limits_of ks) (state_of ks a.file) (state_of (kept_of done_inside) d.file) c
-          (ap (λ (f : Facts). refusal (limits_of ks) f (ask.change c))
-          (facts_same ks a.file (ask.change c) h.now.named h.kept.named) ∙ calm)
-          (quiet_by_book C ks a.file c h (w.over told) ∙ loud) (ap (λ (x : State). x.map) is)
-          (ap (λ (x : State). x.kept) is) (ap (λ (x : State). x.book) is) (ap (λ (x : State). x.kept_book) is)
-          (omega (arith, low, same_sequence))
-          (omega (arith, high, same_sequence, ap (λ (y : Parts). y.in_use.block.k) w.begun.rest))
+        pub done_step : refusal (limits_of ks) (facts_at ks (ask.change c)) (ask.change c) ≡ None
+            → is_quiet (charges_of ks c) ≡ false
+            → Step (limits_of ks) (state_of ks a.file) (ask.change c) ask.kept (state_of (kept_of done_inside) d.file)
+        done_step calm loud =
+            let h = w.whole.sound w.unbroken in
+            let is = ended_state hands2 (told_flight told) d (told_ends told) names_now block_now
+            (kept_of done_inside) view base_now still in
+            flush_step (limits_of ks) (state_of ks a.file) (state_of (kept_of done_inside) d.file) c
+            (ap (λ (f : Facts). refusal (limits_of ks) f (ask.change c))
+            (facts_same ks a.file (ask.change c) h.now.named h.kept.named) ∙ calm)
+            (quiet_by_book C ks a.file c h (w.over told) ∙ loud) (ap (λ (x : State). x.map) is)
+            (ap (λ (x : State). x.kept) is) (ap (λ (x : State). x.book) is) (ap (λ (x : State). x.kept_book) is)
+            (omega (arith, low, same_sequence))
+            (omega (arith, high, same_sequence, ap (λ (y : Parts). y.in_use.block.k) w.begun.rest))
 
-    pub done_flush : (done : Done) (x : Vec Item) → CallsSoFar a.turn d.turn (cells_of hands1.ledger.moved)
-        (cells_of hands2.ledger.moved) 4 (hands2.slots.sequence - hands1.slots.sequence)
-        (fin.len hands1.table.now)
-        → {E : Type 0} → HasCause {E = E} a.faults d.faults (Ok x)
-        → IsFlush C c ks (kept_of done_inside) a d (Ok done)
-    done_flush done x calls cause = record {
-      value = record {
-        same_block = same_block;
-        sizes = sizes_are;
-        kept = any_ends.kept;
-        kept_book = ap (λ m. shown_book C SIZE_MAX hands2.slots.block.k (caps_of hands2.layout)
-            (grid_of hands2.layout) m) any_ends.kept;
-        asked = asked_is;
-        saved = omega (arith, low, same_sequence);
-        few_saves = omega (arith, high, same_sequence, ap (λ (y : Parts). y.in_use.block.k) w.begun.rest);
-      };
-      opened = λ told. ended_opens hands2 (told_flight told) d (told_ends told) names_now block_now
-          (kept_of done_inside) view base_now (still told);
-      content = content_is;
-      left = left_is;
-      rests = λ told. ended_only hands2 (told_flight told) d (told_ends told) names_now block_now
-          (kept_of done_inside) view base_now (still told);
-      on_table = λ told. ended_rests hands2 (told_flight told) d (told_ends told) names_now block_now
-          (kept_of done_inside) view base_now (still told);
-      calls = subst (λ n. CallsSoFar a.turn d.turn ks.moved (cells_of hands2.ledger.moved) 4
-          (hands2.slots.sequence - ks.in_use.sequence) n) names_are
-          (subst (λ q. CallsSoFar a.turn d.turn ks.moved (cells_of hands2.ledger.moved) 4
-          (hands2.slots.sequence - q) (fin.len hands1.table.now)) same_sequence
-          (subst (λ r. CallsSoFar a.turn d.turn r (cells_of hands2.ledger.moved) 4
-          (hands2.slots.sequence - hands1.slots.sequence) (fin.len hands1.table.now)) same_moved calls));
-      most = most_is;
-      lower = lower_is;
-      few = few_is;
-      few_by_size = few_by_size_is;
-      frame = w.made.keeps.disk;
-      cause = record { later = cause.later; rose = tt; calm = cause.calm };
-    }
+      pub done_flush : (done : Done) (x : Unit {0}) → CallsSoFar a.turn d.turn (cells_of hands1.ledger.moved)
+          (cells_of hands2.ledger.moved) 4 (hands2.slots.sequence - hands1.slots.sequence)
+          (fin.len hands1.table.now)
+          → {E : Type 0} → HasCause {E = E} a.faults d.faults (Ok x)
+          → IsFlush C c ks (kept_of done_inside) a d (Ok done)
+      done_flush done x calls cause = record {
+        value = record {
+          same_block = same_block;
+          sizes = sizes_are;
+          kept = any_ends.kept;
+          kept_book = ap (λ m. shown_book C SIZE_MAX hands2.slots.block.k (caps_of hands2.layout)
+              (grid_of hands2.layout) m) any_ends.kept;
+          asked = asked_is;
+          saved = omega (arith, low, same_sequence);
+          few_saves = omega (arith, high, same_sequence, ap (λ (y : Parts). y.in_use.block.k) w.begun.rest);
+        };
+        opened = λ told. ended_opens hands2 (told_flight told) d (told_ends told) names_now block_now
+            (kept_of done_inside) view base_now (still told);
+        content = content_is;
+        left = left_is;
+        rests = λ told. ended_only hands2 (told_flight told) d (told_ends told) names_now block_now
+            (kept_of done_inside) view base_now (still told);
+        on_table = λ told. ended_rests hands2 (told_flight told) d (told_ends told) names_now block_now
+            (kept_of done_inside) view base_now (still told);
+        calls = subst (λ n. CallsSoFar a.turn d.turn ks.moved (cells_of hands2.ledger.moved) 4
+            (hands2.slots.sequence - ks.in_use.sequence) n) names_are
+            (subst (λ q. CallsSoFar a.turn d.turn ks.moved (cells_of hands2.ledger.moved) 4
+            (hands2.slots.sequence - q) (fin.len hands1.table.now)) same_sequence
+            (subst (λ r. CallsSoFar a.turn d.turn r (cells_of hands2.ledger.moved) 4
+            (hands2.slots.sequence - hands1.slots.sequence) (fin.len hands1.table.now)) same_moved calls));
+        most = most_is;
+        lower = lower_is;
+        few = few_is;
+        few_by_size = few_by_size_is;
+        frame = w.made.keeps.disk;
+        cause = record { later = cause.later; rose = tt; calm = cause.calm };
+      }
 
 -- ---- as contracts see the store
 
 module _ {C : ℕ} (s : Inside C) (c : Change) (hands1 : Hands C) (p : Phase) (place : ℕ) (bytes : List ℕ)
     (hands2 : Hands C) (a d : disk.State) (w : IsFlown s c hands1 p place bytes hands2 a d) (t : Kept)
     (is : kept_of s ≡ t) where
-  pub failed_seen : (list : Vec Item) {E : Type 0} (why : Refusal) (fault : E)
-      → HasCause {T = Vec Item} a.faults d.faults (Err fault)
+  pub failed_seen : {E : Type 0} (why : Refusal) (fault : E)
+      → HasCause {T = Unit {0}} a.faults d.faults (Err fault)
       → IsFlush C c t (kept_of (record s {
         hands = hands2;
         kept_layout = hands2.layout;
-        items = list;
         broken = true;
       })) a d (Err why)
-  failed_seen list why fault cause = subst (λ (x : Kept). IsFlush C c x (kept_of (record s {
+  failed_seen why fault cause = subst (λ (x : Kept). IsFlush C c x (kept_of (record s {
     hands = hands2;
     kept_layout = hands2.layout;
-    items = list;
     broken = true;
-  })) a d (Err why)) is (failed_flush s c hands1 p place bytes hands2 a d w list why fault cause)
+  })) a d (Err why)) is (failed_flush s c hands1 p place bytes hands2 a d w why fault cause)
 
   module _ (ends : (x : Parts) (e : Change) (g : Setting) → CanFly C x e g (parts_of hands1) p place bytes a
       → FlushEnds C (flight_of C x e p.numbers.reach g) (parts_of hands2) d)
       (low : hands1.slots.sequence + 1 ≤ hands2.slots.sequence)
       (high : hands2.slots.sequence ≤ hands1.slots.sequence + 2 * hands1.slots.block.k)
-      (list : Vec Item) where
-    abbrev after : Kept
-    after = kept_of (record s { hands = hands2; kept_layout = hands2.layout; items = list })
+    where
+      abbrev after : Kept
+      after = kept_of (record s { hands = hands2; kept_layout = hands2.layout })
 
-    pub done_seen : {E : Type 0} (done : Done) → CallsSoFar a.turn d.turn (cells_of hands1.ledger.moved)
-        (cells_of hands2.ledger.moved) 4 (hands2.slots.sequence - hands1.slots.sequence)
-        (fin.len hands1.table.now)
-        → HasCause {E = E} a.faults d.faults (Ok list) → IsFlush C c t after a d (Ok done)
-    done_seen done calls cause = subst (λ (x : Kept). IsFlush C c x after a d (Ok done)) is
-        (done_flush s c hands1 p place bytes hands2 a d w ends low high list done list calls cause)
+      pub done_seen : {E : Type 0} (done : Done) → CallsSoFar a.turn d.turn (cells_of hands1.ledger.moved)
+          (cells_of hands2.ledger.moved) 4 (hands2.slots.sequence - hands1.slots.sequence)
+          (fin.len hands1.table.now)
+          → HasCause {T = Unit {0}} {E = E} a.faults d.faults (Ok tt) → IsFlush C c t after a d (Ok done)
+      done_seen done calls cause = subst (λ (x : Kept). IsFlush C c x after a d (Ok done)) is
+          (done_flush s c hands1 p place bytes hands2 a d w ends low high done tt calls cause)
 
-    pub step_seen : IsTrue a.tells → refusal (limits_of t) (facts_at t (ask.change c)) (ask.change c) ≡ None
-        → is_quiet (charges_of t c) ≡ false
-        → Step (limits_of t) (state_of t a.file) (ask.change c) ask.kept (state_of after d.file)
-    step_seen told calm loud = subst (λ (x : Kept). Step (limits_of x) (state_of x a.file) (ask.change c) ask.kept
-        (state_of after d.file)) is
-        (done_step s c hands1 p place bytes hands2 a d w ends low high list told
-        (subst (λ (x : Kept). refusal (limits_of x) (facts_at x (ask.change c)) (ask.change c) ≡ None) (sym is) calm)
-        (subst (λ (x : Kept). is_quiet (charges_of x c) ≡ false) (sym is) loud))
+      pub step_seen : IsTrue a.tells → refusal (limits_of t) (facts_at t (ask.change c)) (ask.change c) ≡ None
+          → is_quiet (charges_of t c) ≡ false
+          → Step (limits_of t) (state_of t a.file) (ask.change c) ask.kept (state_of after d.file)
+      step_seen told calm loud = subst (λ (x : Kept). Step (limits_of x) (state_of x a.file) (ask.change c) ask.kept
+          (state_of after d.file)) is
+          (done_step s c hands1 p place bytes hands2 a d w ends low high told
+          (subst (λ (x : Kept). refusal (limits_of x) (facts_at x (ask.change c)) (ask.change c) ≡ None) (sym is) calm)
+          (subst (λ (x : Kept). is_quiet (charges_of x c) ≡ false) (sym is) loud))

@@ -1,5 +1,5 @@
 -- A flush of a store: what it begins with, and what it leaves.
-use Rattle.std.specs.Prelude.{◌≡◌, ◌⊎◌, ℕ, ◌+◌, ◌-◌, ◌*◌, ◌^◌, ◌<◌, ◌≤◌, Bool, true, false, if◌then◌else◌, List, [], ◌∷◌, length, None, IsTrue, refl}
+use Rattle.std.specs.Prelude.{◌≡◌, ◌⊎◌, ℕ, ◌+◌, ◌-◌, ◌*◌, ◌^◌, ◌<◌, ◌≤◌, Bool, true, false, if◌then◌else◌, List, length, None, IsTrue, refl}
 use Rattle.std.proofs.Common.{arith, sym, ◌∙◌, ap, subst, inl, inr}
 use Rattle.std.proofs.Math.Nat.{mul-le-mul_left}
 use Rattle.std.proofs.lemmas.Bool.{cases_Bool}
@@ -20,7 +20,7 @@ use Rattle.table_rules.specs.Opening.{Opens}
 use Rattle.spot_terms.specs.Reads.{read_at}
 use Rattle.spot_terms.proofs.LaidOutLaws.{laid_ends}
 use Rattle.spot_terms.proofs.ReadLaws.{read_at-remove}
-use Rattle.flush_plan.specs.Phases.{Phase}
+use Rattle.plan_terms.specs.Phases.{Phase}
 use Rattle.flush_run.specs.Flights.{IsOldOrNew, LeavesOldOrNew}
 use Rattle.flush_run.specs.Parts.{Parts, parts_of}
 use Rattle.flush_start.specs.Charging.{charged_by}
@@ -227,8 +227,3 @@ module _ {C : ℕ} (s : Inside C) (whole : IsWhole s) (unbroken : s.broken ≡ f
         pub flush_content : LeavesOldOrNew (flight_of C x0 c p.numbers.reach (setting a.file false)) a d
             → IsFlushImage C ks c a.file d.file
         flush_content left = flush_image false d.file (left refl).1
-
--- a list of no items
-pub no_items : {A : Type 0} (xs : List A) → length xs ≡ 0 → xs ≡ []
-no_items [] none = refl
-no_items (x ∷ xs) none = absurd (omega (arith, none))

@@ -1,7 +1,6 @@
 -- A store once a flush is done: its parts agree, and it is over its file.
-use Rattle.std.specs.Prelude.{◌≡◌, ℕ, ◌≤◌, List, [], IsTrue, vec_capacity, vec_len, refl}
+use Rattle.std.specs.Prelude.{◌≡◌, ℕ, List, [], IsTrue, vec_len, refl}
 use Rattle.std.proofs.Common.{arith, ap, sym, ◌∙◌, subst}
-use Rattle.std.specs.Global.{Vec}
 use Rattle.disk_face.specs.States as disk
 use Rattle.disk_face.specs.Moments.{Only}
 use Rattle.size_class.specs.declared.TheConstants.{SIZE_MAX}
@@ -20,7 +19,6 @@ use Rattle.spot_terms.specs.LaidOut.{shown_book}
 use Rattle.spot_terms.specs.Reads.{read_at}
 use Rattle.spot_terms.proofs.GuardLaws.{freed_nothing}
 use Rattle.spot_terms.proofs.RiseLaws.{CellsRise-itself}
-use Rattle.flush_plan.specs.declared.item.Item.{Item}
 use Rattle.flush_run.specs.declared.hands.Hands.{Hands}
 use Rattle.flush_run.specs.Flights.{Flight}
 use Rattle.flush_run.specs.Parts.{parts_of}
@@ -136,9 +134,9 @@ module _ {C : ℕ} (hands : Hands C) (flight : Flight) (d : disk.State)
 -- ---- the fields
 
 -- The hands that a flush gives back, with the layout of now as that of the checkpoint.
-module _ {C : ℕ} (s : Inside C) (hands : Hands C) (items : Vec Item) where
+module _ {C : ℕ} (s : Inside C) (hands : Hands C) where
   abbrev flushed_inside : Inside C
-  flushed_inside = record s { hands = hands; kept_layout = hands.layout; items = items }
+  flushed_inside = record s { hands = hands; kept_layout = hands.layout }
 
   pub flushed_view : hands.table.kept ≡ hands.table.now
       → IsFlushed C hands.slots hands.table.now (caps_of hands.layout) (grid_of hands.layout)
@@ -155,17 +153,14 @@ module _ {C : ℕ} (s : Inside C) (hands : Hands C) (items : Vec Item) where
   pub flushed_whole : IsWhole s → hands.slots.block ≡ s.hands.slots.block → hands.base ≡ s.hands.base
       → vec_len hands.buf ≡ 65536 → divisor_of hands.layout ≡ hands.slots.block.k
       → hands.table.names ≡ s.hands.table.names → hands.guard.room ≡ s.hands.guard.room → IsTable hands.table
-      → hands.table.kept ≡ hands.table.now → hands.guard.spans ≡ [] → vec_len items ≡ 0
-      → hands.slots.block.names ≤ vec_capacity items → IsStore C (kept_of flushed_inside)
+      → hands.table.kept ≡ hands.table.now → hands.guard.spans ≡ [] → IsStore C (kept_of flushed_inside)
       → IsWhole flushed_inside
-  flushed_whole whole block base buf divisor names room table kept spans none items_room store = record {
+  flushed_whole whole block base buf divisor names room table kept spans store = record {
     classes = whole.classes;
     wide = whole.wide;
     base = base ∙ whole.base ∙ ap (λ b. head_len b.names) (sym block);
     few = omega (arith, whole.few, ap (λ b. b.names) block);
     buf = buf;
-    no_items = none;
-    items_room = λ sound. items_room;
     divisor = divisor;
     kept_divisor = divisor;
     kept_caps = refl;

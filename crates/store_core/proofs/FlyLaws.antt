@@ -16,8 +16,8 @@ use Rattle.extent_table.specs.Extents.{Spots}
 use Rattle.spot_terms.specs.Reads.{AreNamed, LiesApart, read_at}
 use Rattle.spot_terms.proofs.EntryLaws.{insert-remove}
 use Rattle.spot_terms.proofs.ReadLaws.{AreNamed-remove, read_at-put}
-use Rattle.flush_plan.specs.declared.item.Item.{Item}
-use Rattle.flush_plan.specs.Phases.{Phase}
+use Rattle.plan_terms.specs.declared.item.Item.{Item}
+use Rattle.plan_terms.specs.Phases.{Phase}
 use Rattle.flush_run.specs.Flights.{Flies, Flight, IsAtHand, IsFreeSpace, IsOldOrNew, LeavesOldOrNew, OpensEither}
 use Rattle.flush_run.specs.Parts.{Parts}
 use Rattle.flush_run.specs.Runs.{CanRun, HasRun}

@@ -24,7 +24,7 @@ use Rattle.extent_table.specs.Extents.{Spots, records_of}
 use Rattle.spot_terms.specs.Laid.{laid}
 use Rattle.spot_terms.specs.Reads.{read_at}
 use Rattle.spot_terms.proofs.OpenedLaws.{opens_long}
-use Rattle.flush_plan.specs.Phases.{Phase, phase_of}
+use Rattle.plan_terms.specs.Phases.{Phase, phase_of}
 use Rattle.flush_run.specs.Flights.{Flies, Flight, IsOldOrNew, LeavesOldOrNew}
 use Rattle.flush_run.specs.Parts.{Parts}
 use Rattle.flush_run.specs.Runs.{CanResume}
@@ -36,8 +36,8 @@ use Rattle.store_core.proofs.MovingLaws.{again, book_saved, hands_again, numbers
 use Rattle.store_core.proofs.OpeningLaws.{opens_alike}
 
 module _ {C : ℕ} (x : Loaded C) (loads : KeepsLoaded x) (moving : x.header.kind ≡ kind.Moving) (few : C ≤ 32)
-    (wide : SIZE_MAX < 2 ^ C) (y : Parts) (starts : StartsAgain x y) (p : Phase) (room : ℕ)
-    (packs : PacksAgain x p room) where
+    (wide : SIZE_MAX < 2 ^ C) (y : Parts) (starts : StartsAgain x y) (p : Phase)
+    (packs : PacksAgain x p) where
   abbrev now : Spots
   now = x.table.now
 
@@ -72,7 +72,7 @@ module _ {C : ℕ} (x : Loaded C) (loads : KeepsLoaded x) (moving : x.header.kin
 
   abbrev pub phase : Phase
   phase = phase_of (divisor_of x.layout) (caps_of x.layout)
-      (numbers x loads moving few wide (divisor_of x.layout)) 0 p.items room
+      (numbers x loads moving few wide (divisor_of x.layout)) 0 p.items (2 ^ 64)
 
   fresh_sequence : x.slots.sequence < 2 ^ 62 - 2 ^ 18
   fresh_sequence =
@@ -95,7 +95,7 @@ module _ {C : ℕ} (x : Loaded C) (loads : KeepsLoaded x) (moving : x.header.kin
     can_there = record {
       goes = record {
         hands = hands_again x loads moving few wide n v fresh rests m book (divisor_of x.layout)
-            (same_divisor x loads moving few wide) p.items room
+            (same_divisor x loads moving few wide) p.items (2 ^ 64)
             (IsPermutation-sym _ p.items packs.items);
         book = book_saved x loads moving few wide n v;
         same_base = refl;
@@ -146,7 +146,7 @@ module _ {C : ℕ} (x : Loaded C) (loads : KeepsLoaded x) (moving : x.header.kin
           slot = from.in_use;
           same_length = omega (arith, begins_within, same_base);
           within = (hands_again x loads moving few wide n from.opens.valid fresh rests m b
-              (divisor_of x.layout) (same_divisor x loads moving few wide) p.items room
+              (divisor_of x.layout) (same_divisor x loads moving few wide) p.items (2 ^ 64)
               (IsPermutation-sym _ p.items packs.items)).lower;
           live = ap (λ z. read_at z first.file now) same_base;
         };

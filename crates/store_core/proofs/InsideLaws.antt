@@ -75,8 +75,6 @@ module _ {C : ℕ} (s : Inside C) (t : Kept) (is : kept_of s ≡ t) (whole : IsW
     base = whole.base;
     few = whole.few;
     buf = whole.buf;
-    no_items = whole.no_items;
-    items_room = whole.items_room;
     divisor = divisor ∙ ap (λ (x : Kept). x.in_use.block.k) (sym is);
     kept_divisor = whole.kept_divisor;
     kept_caps = whole.kept_caps ∙ sym caps_stay;

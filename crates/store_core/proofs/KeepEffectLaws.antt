@@ -175,8 +175,6 @@ module _ {C : ℕ} (s : Inside C) (whole : IsWhole s) (table : Extents) (guard :
         base = whole.base ∙ ap head_len (sym names_stay);
         few = omega (arith, whole.few, names_stay);
         buf = full;
-        no_items = whole.no_items;
-        items_room = λ sound. omega (arith, whole.items_room sound, names_stay);
         divisor = whole.divisor ∙ sym k_stays;
         kept_divisor = whole.divisor ∙ sym k_stays;
         kept_caps = refl;

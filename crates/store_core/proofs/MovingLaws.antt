@@ -37,17 +37,21 @@ use Rattle.spot_terms.proofs.GuardLaws.{freed_nothing}
 use Rattle.spot_terms.proofs.LaidLaws.{valid_numbered}
 use Rattle.spot_terms.proofs.LaidOutLaws.{class_in_use}
 use Rattle.spot_terms.proofs.QuietLaws.{IsGrid-wider}
-use Rattle.flush_plan.specs.declared.item.Item.{Item}
-use Rattle.flush_plan.specs.declared.item.Numbers.{Numbers}
-use Rattle.flush_plan.specs.Phases.{AreObjects, phase_of}
-use Rattle.flush_plan.specs.Plans.{AreBelow, AreSmall, ItemsCanResume, laid_length}
-use Rattle.flush_plan.specs.Resumed.{numbers_again}
+use Rattle.plan_terms.specs.declared.item.Item.{Item}
+use Rattle.plan_terms.specs.declared.item.Numbers.{Numbers}
+use Rattle.plan_terms.specs.Phases.{AreObjects, phase_of}
+use Rattle.plan_terms.specs.Plans.{AreBelow, AreSmall, ItemsCanResume}
+use Rattle.plan_terms.specs.Resumed.{numbers_again}
 use Rattle.flush_run.specs.Flights.{Flight}
 use Rattle.flush_run.specs.Hands.{IsHandsFor, suffix_items}
+use Rattle.flush_run.specs.Shelved.{shelf_of}
+use Rattle.flush_run.proofs.OverLaws.{shelf_holds}
 use Rattle.flush_start.proofs.AgainLaws.{are_objects, items_can}
 use Rattle.flush_start.proofs.SuffixLaws.{has_item}
 use Rattle.reopen.specs.declared.state.Loaded.{Loaded}
 use Rattle.reopen.specs.Loads.{KeepsLoaded}
+use Rattle.flush_plan.specs.Packs.{CanGoOn}
+use Rattle.flush_plan.specs.Shelves.{IsOnShelf}
 
 module _ {C : ℕ} (x : Loaded C) (loads : KeepsLoaded x) (moving : x.header.kind ≡ kind.Moving) (few : C ≤ 32)
     (wide : SIZE_MAX < 2 ^ C) where
@@ -283,46 +287,33 @@ module _ {C : ℕ} (x : Loaded C) (loads : KeepsLoaded x) (moving : x.header.kin
         (hands_again true true fin.empty (book_of t) divisor same items 0 (IsPermutation-refl items))
         valid_saved.1
 
-    -- ---- packing may go on with a list of the items
+    -- ---- packing may go on
 
-    module _ (all : List Item) (is : all ≡ items) where
-      abbrev divisor : ℕ
-      divisor = divisor_of x.layout
+    abbrev divisor : ℕ
+    divisor = divisor_of x.layout
 
-      abbrev given : Numbers
-      given = numbers_again divisor caps b wall slack all
+    can : ItemsCanResume divisor (numbers divisor) items
+    can = can_again divisor same_divisor
 
-      pub objects_all : AreObjects b all
-      objects_all = subst (AreObjects b) (sym is) objects
+    on_shelf : IsOnShelf (numbers divisor).start items (shelf_of x.table)
+    on_shelf = shelf_holds (again true true fin.empty (book_of t)) x.slots x.table caps grid []
+        (phase_of divisor caps (numbers divisor) 0 items 0)
+        (hands_again true true fin.empty (book_of t) divisor same_divisor items 0 (IsPermutation-refl items))
+        (λ it has. elim (can.side it has) as (λ _. (numbers divisor).start ≤ it.place) [
+          | inl past ↦ omega (arith, past, can.wall)
+          | inr within ↦ within.0
+        ])
 
-      pub can_all : ItemsCanResume divisor given all
-      can_all = subst (λ (xs : List Item). ItemsCanResume divisor
-          (numbers_again divisor caps b wall slack xs) xs) (sym is) (can_again divisor same_divisor)
-
-      pub below_all : AreBelow C all
-      below_all = subst (AreBelow C) (sym is) below
-
-      pub small_all : AreSmall given all
-      small_all = subst (λ (xs : List Item). AreSmall (numbers_again divisor caps b wall slack xs) xs)
-          (sym is) (all_small divisor)
-
-      -- what the numbers are to be
-      pub record CanPack (m : Numbers) : Type 0 where
-        pub boundary : m.boundary < C
-        pub are_objects : AreObjects m.boundary all
-        pub resumes : ItemsCanResume divisor m all
-        pub start : m.start ≡ start_of divisor caps m.boundary
-        pub end : m.end ≡ m.start + laid_length divisor all m.boundary width
-        pub reaches : m.wall ≤ m.reach
-        pub are_small : AreSmall m all
-
-      pub can_pack : (m : Numbers) → m ≡ given → CanPack m
-      can_pack m same = subst CanPack (sym same) (record {
-        boundary = front;
-        are_objects = objects_all;
-        resumes = can_all;
-        start = refl;
-        end = refl;
-        reaches = omega arith;
-        are_small = small_all;
-      })
+    -- with numbers that are those of the items, over the shelf of the table
+    pub can_go_on : (m : Numbers) → m ≡ numbers divisor → CanGoOn C divisor caps m items (shelf_of x.table)
+    can_go_on m same = subst (λ (y : Numbers). CanGoOn C divisor caps y items (shelf_of x.table)) (sym same)
+        (record {
+          objects = objects;
+          resumes = can;
+          start = refl;
+          end = refl;
+          reaches = omega arith;
+          classes = below;
+          small = all_small divisor;
+          on = on_shelf;
+        })

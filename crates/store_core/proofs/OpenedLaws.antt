@@ -1,5 +1,5 @@
 -- The store of a table that was checked against its layout.
-use Rattle.std.specs.Prelude.{◌≡◌, ℕ, ◌<◌, ◌≤◌, ◌^◌, List, [], false, vec_capacity, vec_len, refl}
+use Rattle.std.specs.Prelude.{◌≡◌, ℕ, ◌<◌, ◌≤◌, ◌^◌, List, [], false, vec_len, refl}
 use Rattle.std.proofs.Common.{arith, sym, ◌∙◌, subst}
 use Rattle.size_class.specs.Classes.{IsGrid, IsRow, zero_row}
 use Rattle.size_class.specs.Rows.{cells_of}
@@ -69,8 +69,6 @@ pub record IsNew {C : ℕ} (s : Inside C) : Type 0 where
   pub asked : cells_of s.hands.ledger.asked ≡ zero_row
   pub base : s.hands.base ≡ head_len s.hands.slots.block.names
   pub buf : vec_len s.hands.buf ≡ 65536
-  pub no_items : vec_len s.items ≡ 0
-  pub items_room : s.hands.slots.block.names ≤ vec_capacity s.items
   pub unbroken : s.broken ≡ false
 
 module _ {C : ℕ} (s : Inside C) (n : IsNew s) where
@@ -111,8 +109,6 @@ module _ {C : ℕ} (s : Inside C) (n : IsNew s) where
     base = n.base;
     few = n.block.names_high;
     buf = n.buf;
-    no_items = n.no_items;
-    items_room = λ sound. n.items_room;
     divisor = n.divisor;
     kept_divisor = n.kept_divisor;
     kept_caps = n.kept_caps;

@@ -1,10 +1,9 @@
 -- The store of a moving table whose flush went on to its end.
 use Rattle.std.specs.FinMap as fin
-use Rattle.std.specs.Prelude.{◌≡◌, ℕ, ◌+◌, ◌-◌, ◌*◌, ◌<◌, ◌≤◌, ◌^◌, false, true, List, [], slice_index, Err, Ok, IsTrue, vec_capacity, refl}
+use Rattle.std.specs.Prelude.{◌≡◌, ℕ, ◌+◌, ◌-◌, ◌*◌, ◌<◌, ◌≤◌, ◌^◌, false, true, List, [], slice_index, Err, Ok, IsTrue, refl}
 use Rattle.std.proofs.Common.{arith, ap, sym, ◌∙◌, subst, inl, inr}
 use Rattle.std.proofs.lemmas.Bool.{cases_lt}
 use Rattle.std.proofs.lemmas.List.Sorted.{IsPermutation-sym}
-use Rattle.std.specs.Global.{Vec}
 use Rattle.disk_face.specs.States as disk
 use Rattle.disk_face.specs.Counts.{HasCause}
 use Rattle.size_class.specs.Classes.{zero_row}
@@ -25,9 +24,8 @@ use Rattle.extent_table.specs.Extents.{Extents, records_of}
 use Rattle.spot_terms.specs.Reads.{EndWithin}
 use Rattle.spot_terms.proofs.BookLaws.{volumes_of_records}
 use Rattle.spot_terms.proofs.ShownLaws.{book_shown}
-use Rattle.flush_plan.specs.declared.item.Item.{Item}
-use Rattle.flush_plan.specs.Phases.{Phase}
-use Rattle.flush_plan.specs.Plans.{class_total}
+use Rattle.plan_terms.specs.Phases.{Phase}
+use Rattle.plan_terms.specs.Plans.{class_total}
 use Rattle.flush_run.specs.declared.hands.Hands.{Hands}
 use Rattle.flush_run.specs.Calls.{CallsSoFar}
 use Rattle.flush_run.specs.Flights.{Flight, LeavesOldOrNew}
@@ -50,8 +48,8 @@ use Rattle.store_core.proofs.MovingLaws.{hands_again, same_divisor}
 use Rattle.store_core.proofs.OpeningLaws.{found_by, found_one}
 
 module _ {C : ℕ} (x : Loaded C) (loads : KeepsLoaded x) (moving : x.header.kind ≡ kind.Moving) (few : C ≤ 32)
-    (wide : SIZE_MAX < 2 ^ C) (y : Parts) (starts : StartsAgain x y) (p : Phase) (room : ℕ)
-    (packs : PacksAgain x p room) (first last : disk.State)
+    (wide : SIZE_MAX < 2 ^ C) (y : Parts) (starts : StartsAgain x y) (p : Phase)
+    (packs : PacksAgain x p) (first last : disk.State)
     (from : IsTrue first.tells → IsLoadedFrom first.file x)
     (hands : Hands C) (left : (f : Flight) → CanResume C f y p first → IsTrue first.tells
     → LeavesOldOrNew f first last) (made : HasRun p.numbers.boundary p.items first last y (parts_of hands))
@@ -66,9 +64,9 @@ module _ {C : ℕ} (x : Loaded C) (loads : KeepsLoaded x) (moving : x.header.kin
       refused = λ told. tt;
       found = λ told t m b o.
           found_by (found_one C (table_seen x) t first.file _ m _ b (from told).opens o) (record {
-            content = content_again x loads moving few wide y starts p room packs first last left told
+            content = content_again x loads moving few wide y starts p packs first last left told
                 (from told);
-            left = left_again x loads moving few wide y starts p room packs first last left told (from told);
+            left = left_again x loads moving few wide y starts p packs first last left told (from told);
             rests = λ rests. tt;
             calls = tt;
           });
@@ -88,7 +86,7 @@ module _ {C : ℕ} (x : Loaded C) (loads : KeepsLoaded x) (moving : x.header.kin
           (λ i. record f { classes = can.goes.same_classes i; size_max = can.goes.same_max i }) (ends f can)
 
       any : (f : Flight) × CanResume C f y p first
-      any = some_again x loads moving few wide y starts p room packs first from
+      any = some_again x loads moving few wide y starts p packs first from
 
       any_ends : FlushEnds C (record any.0 { classes = C; size_max = SIZE_MAX }) (parts_of hands) last
       any_ends = ends_for any.0 any.1
@@ -107,9 +105,8 @@ module _ {C : ℕ} (x : Loaded C) (loads : KeepsLoaded x) (moving : x.header.kin
       block_now = subst IsSuperBlock (sym block_found) loads.ranges
 
       -- a store may be made of the hands
-      pub makes_store : (items : Vec Item) → items.items ≡ [] → vec_capacity items ≡ room → x.block.names ≤ room
-          → MakesStore hands items
-      makes_store items none capacity enough = record {
+      pub makes_store : MakesStore hands
+      makes_store = record {
         few = few;
         wide = wide;
         block = block_now;
@@ -122,8 +119,6 @@ module _ {C : ℕ} (x : Loaded C) (loads : KeepsLoaded x) (moving : x.header.kin
         guard_room = made.keeps.room ∙ starts.room ∙ ap (λ (z : SuperBlock). z.names) (sym block_found);
         base = made.keeps.base ∙ starts.base ∙ ap (λ (z : SuperBlock). head_len z.names) (sym block_found);
         buffer = made.keeps.buffer ∙ starts.buffer;
-        none = none;
-        room = omega (arith, capacity, enough, ap (λ (z : SuperBlock). z.names) block_found);
       }
 
       -- ---- the store
@@ -158,10 +153,10 @@ module _ {C : ℕ} (x : Loaded C) (loads : KeepsLoaded x) (moving : x.header.kin
         never e = absurd (let z : false ≡ true = e in cc)
 
         abbrev f : Flight
-        f = flight x loads moving few wide y starts p room packs first (from told) false false never never
+        f = flight x loads moving few wide y starts p packs first (from told) false false never never
 
         can : CanResume C f y p first
-        can = can_told x loads moving few wide y starts p room packs first (from told) false false never never
+        can = can_told x loads moving few wide y starts p packs first (from told) false false never never
 
         told_ends : FlushEnds C f (parts_of hands) last
         told_ends = ends f can
@@ -189,9 +184,9 @@ module _ {C : ℕ} (x : Loaded C) (loads : KeepsLoaded x) (moving : x.header.kin
         -- ---- the calls
 
         hand : IsHandsFor f x.slots x.table (caps_of x.layout) (grid_of x.layout) []
-            (phase x loads moving few wide y starts p room packs)
+            (phase x loads moving few wide y starts p packs)
         hand = hands_again x loads moving few wide _ (from told).opens.valid false false f.new_map f.new_book _
-            (same_divisor x loads moving few wide) p.items room (IsPermutation-sym _ p.items packs.items)
+            (same_divisor x loads moving few wide) p.items (2 ^ 64) (IsPermutation-sym _ p.items packs.items)
 
         boundary_is : p.numbers.boundary ≡ x.header.boundary
         boundary_is = ap (λ (q : Phase). q.numbers.boundary) packs.value
@@ -200,14 +195,14 @@ module _ {C : ℕ} (x : Loaded C) (loads : KeepsLoaded x) (moving : x.header.kin
         lies name z there = omega (
           arith,
           hand.lower name z there,
-          begins_within x loads moving few wide y starts p room packs first (from told),
+          begins_within x loads moving few wide y starts p packs first (from told),
         )
 
         totals : (c : ℕ) → x.header.boundary ≤ c → class_total p.items c ≡ slice_index (volumes f.new_map) c
         totals c high =
             let live = volumes_of_sizes (sizes (records_of x.table.now)) in
             sym (new_cap f x.slots x.table (caps_of x.layout) (grid_of x.layout) []
-            (phase x loads moving few wide y starts p room packs) hand c high)
+            (phase x loads moving few wide y starts p packs) hand c high)
             ∙ caps-settled_above x.header.boundary c (caps_of x.layout) live hand.caps_full.full
             (omega (arith, hand.boundary, few)) high
             ∙ ap (λ (xs : List ℕ). slice_index xs c)
@@ -245,9 +240,9 @@ module _ {C : ℕ} (x : Loaded C) (loads : KeepsLoaded x) (moving : x.header.kin
 
           again_found : OpensFound C (table_seen x) f.new_map f.new_book first last (Ok s)
           again_found = record {
-            content = content_again x loads moving few wide y starts p room packs first last left told
+            content = content_again x loads moving few wide y starts p packs first last left told
                 (from told);
-            left = left_again x loads moving few wide y starts p room packs first last left told (from told);
+            left = left_again x loads moving few wide y starts p packs first last left told (from told);
             rests = λ rests. ended_rests hands f last told_ends names_now block_now s is_flushed base_now
                 still_told;
             calls = subst (λ z. OpenCallsOf z (table_seen x) f.new_map f.new_book file first.turn last.turn s)

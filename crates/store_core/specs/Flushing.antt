@@ -1,5 +1,5 @@
 -- What a flush begins with, once its change is made in the table and the layout, and what it is to leave.
-use Rattle.std.specs.Prelude.{◌≡◌, ℕ, ◌+◌, ◌-◌, ◌*◌, ◌^◌, ◌<◌, ◌≤◌, Bool, true, false, IsTrue, slice_index, List, ◌∷◌, [], ◌++◌, fold, length, Option, Some, None, IsPermutation}
+use Rattle.std.specs.Prelude.{◌≡◌, ℕ, ◌+◌, ◌-◌, ◌*◌, ◌^◌, ◌<◌, ◌≤◌, Bool, true, false, IsTrue, slice_index, List, [], ◌++◌, fold, length, Option, Some, None}
 use Rattle.std.specs.FinMap as fin
 use Rattle.disk_face.specs.States as disk
 use Rattle.size_class.specs.declared.TheConstants.{SIZE_MAX}
@@ -17,15 +17,16 @@ use Rattle.extent_table.specs.declared.spot.Spot.{Spot}
 use Rattle.extent_table.specs.Extents.{Extents, IsTable, Spots}
 use Rattle.spot_terms.specs.Held.{FreesSpot}
 use Rattle.spot_terms.specs.LaidOut.{shown_book}
-use Rattle.flush_plan.specs.declared.item.Item.{Item}
-use Rattle.flush_plan.specs.Phases.{Phase, phase_of}
-use Rattle.flush_plan.specs.Plans.{class_total, numbers_of}
+use Rattle.plan_terms.specs.declared.item.Item.{Item}
+use Rattle.plan_terms.specs.Phases.{Phase}
+use Rattle.plan_terms.specs.Plans.{class_total, numbers_of}
 use Rattle.flush_run.specs.Flights.{Flight, IsAtHand, IsFreeSpace, OpensEither}
 use Rattle.flush_run.specs.Calls.{CallsSoFar}
 use Rattle.flush_run.specs.Hands.{suffix_items}
 use Rattle.flush_run.specs.Parts.{KeepsSettling, Parts, SameSizes}
+use Rattle.flush_run.specs.Shelved.{phase_now}
+use Rattle.flush_plan.specs.Shelves.{course_of}
 use Rattle.flush_start.specs.Charging.{charged_by}
-use Rattle.flush_start.specs.Gathering.{item_at}
 use Rattle.flush_start.specs.Lifting.{BeginsLift}
 use Rattle.flush_start.specs.Sized.{IsSizedBy, object_size}
 use Rattle.flush_start.specs.Starts.{CanStart, IsWith, IsWithout, WasBefore}
@@ -63,29 +64,24 @@ pub record CanStartAt (classes b k : ℕ) (caps : List ℕ) (grid : List (List �
   pub divisor : k ≡ u.block.k
 
 -- Lifting begins with the items of a table, and nothing pending.
-pub record IsStarted (b k : ℕ) (caps : List ℕ) (e : Extents) (p : Phase) (capacity : ℕ) : Type 0 where
-  pub value : p ≡ phase_of k caps (numbers_of k caps b (suffix_items b e) 0) 0 p.items capacity
-  pub items : IsPermutation (suffix_items b e) p.items
+pub record IsStarted (b k : ℕ) (caps : List ℕ) (e : Extents) (p : Phase) : Type 0 where
+  pub value : p ≡ phase_now (course_of k caps (numbers_of k caps b (suffix_items b e) 0) 0) e
 
 -- An object that found room was set, and lifting begins.
-pub record StartsPlaced (b : ℕ) (name : List ℕ) (spot : Spot) (x0 x : Parts) (p : Phase) (capacity : ℕ) : Type 0
-  where
-    pub key : ℕ
-    pub joins : IsWith name spot key x0.table x.table
-    pub rest : x ≡ record x0 { table = x.table }
-    pub started : IsStarted b x0.divisor x0.caps x.table p capacity
+pub record StartsPlaced (b : ℕ) (name : List ℕ) (spot : Spot) (x0 x : Parts) (p : Phase) : Type 0 where
+  pub key : ℕ
+  pub joins : IsWith name spot key x0.table x.table
+  pub rest : x ≡ record x0 { table = x.table }
+  pub started : IsStarted b x0.divisor x0.caps x.table p
 
 -- An object that waits was set behind the room for what is lifted, and lifting begins.
-pub record StartsWaiting (b : ℕ) (name : List ℕ) (size place : ℕ) (x0 x : Parts) (p : Phase) (capacity : ℕ)
-    : Type 0 where
+pub record StartsWaiting (b : ℕ) (name : List ℕ) (size place : ℕ) (x0 x : Parts) (p : Phase) : Type 0 where
   pub key : ℕ
   pub joins : IsWith name (record { place = place; size = size }) key x0.table x.table
   pub rest : x ≡ record x0 { table = x.table }
-  pub value : p ≡ phase_of x0.divisor x0.caps (numbers_of x0.divisor x0.caps b (suffix_items b x0.table) size)
-      size p.items capacity
+  pub value : p ≡ phase_now (course_of x0.divisor x0.caps
+      (numbers_of x0.divisor x0.caps b (suffix_items b x0.table) size) size) x.table
   pub ends : place + size ≡ p.numbers.reach
-  pub items : IsPermutation (suffix_items b x0.table ++ item_at key (record { place = place; size = size }) ∷ [])
-      p.items
 
 -- ---- after the change
 

@@ -1,5 +1,5 @@
 -- What a store's contracts see of its fields, and what holds of them.
-use Rattle.std.specs.Prelude.{◌≡◌, ℕ, ◌<◌, ◌≤◌, ◌^◌, false, vec_capacity, vec_len}
+use Rattle.std.specs.Prelude.{◌≡◌, ℕ, ◌<◌, ◌≤◌, ◌^◌, false, vec_len}
 use Rattle.size_class.specs.Rows.{cells_of}
 use Rattle.size_class.specs.declared.TheConstants.{SIZE_MAX}
 use Rattle.slot_codec.specs.Spelling.{head_len}
@@ -34,8 +34,6 @@ pub record IsWhole {C : ℕ} (s : Inside C) : Type 0 where
   pub base : s.hands.base ≡ head_len s.hands.slots.block.names
   pub few : s.hands.slots.block.names ≤ 65536
   pub buf : vec_len s.hands.buf ≡ 65536
-  pub no_items : vec_len s.items ≡ 0
-  pub items_room : s.broken ≡ false → s.hands.slots.block.names ≤ vec_capacity s.items
   pub divisor : divisor_of s.hands.layout ≡ s.hands.slots.block.k
   pub kept_divisor : divisor_of s.kept_layout ≡ s.hands.slots.block.k
   pub kept_caps : caps_of s.kept_layout ≡ caps_of s.hands.layout

@@ -1,6 +1,5 @@
 -- What goes on with an interrupted flush, and of what a store is made.
-use Rattle.std.specs.Prelude.{◌≡◌, ℕ, ◌<◌, ◌≤◌, ◌^◌, [], IsPermutation, vec_capacity, vec_len}
-use Rattle.std.specs.Global.{Vec}
+use Rattle.std.specs.Prelude.{◌≡◌, ℕ, ◌<◌, ◌≤◌, ◌^◌, [], IsPermutation, vec_len}
 use Rattle.size_class.specs.Classes.{zero_row}
 use Rattle.size_class.specs.declared.TheConstants.{SIZE_MAX}
 use Rattle.slot_codec.specs.Readable.{IsSuperBlock}
@@ -9,9 +8,8 @@ use Rattle.segment_layout.specs.Layouts.{caps_of, divisor_of, grid_of}
 use Rattle.table_rules.specs.Rules.{IsValid}
 use Rattle.extent_table.specs.Extents.{IsTable}
 use Rattle.spot_terms.specs.Laid.{settled_table}
-use Rattle.flush_plan.specs.declared.item.Item.{Item}
-use Rattle.flush_plan.specs.Phases.{Phase, phase_of}
-use Rattle.flush_plan.specs.Resumed.{numbers_again}
+use Rattle.plan_terms.specs.Phases.{Phase, phase_of}
+use Rattle.plan_terms.specs.Resumed.{numbers_again}
 use Rattle.flush_run.specs.declared.hands.Hands.{Hands}
 use Rattle.flush_run.specs.Hands.{suffix_items}
 use Rattle.flush_run.specs.Parts.{Parts}
@@ -32,15 +30,15 @@ pub record StartsAgain {C : ℕ} (x : Loaded C) (y : Parts) : Type 0 where
   pub base : y.base ≡ head_len x.block.names
 
 -- The phase has the items of the table's suffix, and the wall and the slack of its header.
-pub record PacksAgain {C : ℕ} (x : Loaded C) (p : Phase) (capacity : ℕ) : Type 0 where
+pub record PacksAgain {C : ℕ} (x : Loaded C) (p : Phase) : Type 0 where
   pub value : p ≡ phase_of (divisor_of x.layout) (caps_of x.layout)
       (numbers_again (divisor_of x.layout) (caps_of x.layout) x.header.boundary x.header.wall x.header.slack
-      (suffix_items x.header.boundary x.table)) 0 p.items capacity
+      (suffix_items x.header.boundary x.table)) 0 p.items (2 ^ 64)
   pub items : IsPermutation (suffix_items x.header.boundary x.table) p.items
 
--- A store may be made of these hands and this list: what stands now is the checkpoint, the layout holds it,
--- and no other space is held.
-pub record MakesStore {C : ℕ} (hands : Hands C) (items : Vec Item) : Type 0 where
+-- A store may be made of these hands: what stands now is the checkpoint, the layout holds it, and no other
+-- space is held.
+pub record MakesStore {C : ℕ} (hands : Hands C) : Type 0 where
   pub few : C ≤ 32
   pub wide : SIZE_MAX < 2 ^ C
   pub block : IsSuperBlock hands.slots.block
@@ -54,5 +52,3 @@ pub record MakesStore {C : ℕ} (hands : Hands C) (items : Vec Item) : Type 0 wh
   pub guard_room : hands.guard.room ≡ hands.slots.block.names
   pub base : hands.base ≡ head_len hands.slots.block.names
   pub buffer : vec_len hands.buf ≡ 65536
-  pub none : items.items ≡ []
-  pub room : hands.slots.block.names ≤ vec_capacity items

@@ -1,20 +1,23 @@
 //! What a change does in the table and the layout before its flush. The disk has no part in it.
-ghost use Rattle.std.specs.Prelude.{◌≡◌, ◌⊎◌, ◌+◌, ◌<◌, ◌≤◌, ◌^◌, ℕ, List, [], ◌∷◌, ◌++◌, IfSome, IsSome, None, length, vec_capacity};
+ghost use Rattle.std.specs.Prelude.{◌≡◌, ◌⊎◌, ◌+◌, ◌<◌, ◌≤◌, ◌^◌, ℕ, List, IfSome, IsSome, None, length};
 ghost use Rattle.std.specs.FinMap as fin;
 ghost use Rattle.size_class.specs.Classes.{class_of as class_of_size};
 ghost use Rattle.slot_codec.specs.Names.{IsName};
 ghost use Rattle.segment_layout.specs.Layouts.{caps_of, divisor_of, grid_of};
 ghost use Rattle.extent_table.specs.Extents.{Extents};
 ghost use Rattle.flush_run.specs.Parts.{parts_of};
+ghost use Rattle.flush_run.specs.Shelved.{items_now, phase_now};
 ghost use Rattle.flush_start.specs.Starts.{IsWith};
 ghost use Rattle.store_core.specs.Flushing.{CanStartAt, IsBegun, IsLoudAt, IsStarted, MayBegin, StartsPlaced, StartsWaiting, TakesOut};
 ghost use Rattle.store_core.specs.Quiet.{del_of, put_of};
+ghost use Rattle.flush_plan.specs.Lifts.{KeepsLifting};
 
 use crate::held::{add_gone, add_size, free_spot};
 use extent_table::{Spot, Table};
-use flush_plan::{Item, Lifting, numbers};
-use flush_run::Hands;
-use flush_start::{charge_change, gather};
+use flush_plan::{Lifting, numbers};
+use flush_run::{Hands, TableShelf};
+use flush_start::charge_change;
+use plan_terms::Item;
 use segment_layout::Layout;
 use size_class::{SIZE_MAX, class_of};
 use slot_codec::Name;
@@ -28,25 +31,18 @@ pub(crate) struct Begun<const C: usize> {
 
 /// Makes a put that isn't quiet in the table and the layout. A new object that found no room stands
 /// where the flush reaches to.
-pub(crate) fn begin_put<const C: usize>(
-    hands: &mut Hands<C>,
-    list: Vec<Item>,
-    name: &Name,
-    bytes: &[u8],
-) -> Begun<C>
+pub(crate) fn begin_put<const C: usize>(hands: &mut Hands<C>, name: &Name, bytes: &[u8]) -> Begun<C>
     requires fits { C ≤ 32 }
     requires wide { SIZE_MAX < 2 ^ C }
     requires named { IsName name.now }
     requires small { length bytes.now ≤ SIZE_MAX }
     requires room { IsSome (fin.get hands.old.table.now name.now)
         ⊎ (fin.len hands.old.table.now < hands.old.table.names) }
-    requires empty { list.items ≡ [] }
-    requires list_room { hands.old.table.names ≤ vec_capacity list }
     requires before { (kept_grid : List (List ℕ)) × MayBegin C kept_grid (parts_of hands.old) }
     requires loud { IsLoudAt (parts_of hands.old) name.now (length bytes.now) }
     ensures begun { IsBegun C (parts_of hands.old) (put_of name.now bytes.now) (parts_of hands.new)
-        result.phase result.place }
-    ensures room { result.phase.room ≡ vec_capacity list }
+        (phase_now result.phase.course hands.new.table) result.place }
+    ensures keeps { KeepsLifting C result.phase (items_now result.phase.course hands.new.table) }
 {
     let size = bytes.len() as u64;
     let old = hands.table.get(name);
@@ -55,33 +51,27 @@ pub(crate) fn begin_put<const C: usize>(
     let outcome = charge_change(&mut hands.layout, old, size);
     let boundary = hands.layout.boundary(outcome.class);
     match outcome.place {
-        Some(place) => start_placed(hands, list, name, boundary, Spot { place, size }),
-        None => start_waiting(hands, list, name, boundary, size),
+        Some(place) => start_placed(hands, name, boundary, Spot { place, size }),
+        None => start_waiting(hands, name, boundary, size),
     }
 }
 
 /// Makes a removal that isn't quiet in the table and the layout.
-pub(crate) fn begin_del<const C: usize>(
-    hands: &mut Hands<C>,
-    list: Vec<Item>,
-    name: &Name,
-) -> Begun<C>
+pub(crate) fn begin_del<const C: usize>(hands: &mut Hands<C>, name: &Name) -> Begun<C>
     requires fits { C ≤ 32 }
     requires wide { SIZE_MAX < 2 ^ C }
-    requires empty { list.items ≡ [] }
-    requires list_room { hands.old.table.names ≤ vec_capacity list }
     requires before { (kept_grid : List (List ℕ)) × MayBegin C kept_grid (parts_of hands.old) }
     requires loud { IsLoudAt (parts_of hands.old) name.now 0 }
-    ensures begun { IsBegun C (parts_of hands.old) (del_of name.now) (parts_of hands.new) result.phase
-        result.place }
-    ensures room { result.phase.room ≡ vec_capacity list }
+    ensures begun { IsBegun C (parts_of hands.old) (del_of name.now) (parts_of hands.new)
+        (phase_now result.phase.course hands.new.table) result.place }
+    ensures keeps { KeepsLifting C result.phase (items_now result.phase.course hands.new.table) }
 {
     let old = hands.table.get(name);
     take_out(hands, name);
     let outcome = charge_change(&mut hands.layout, old, 0);
     let b = hands.layout.boundary(outcome.class);
     Begun {
-        phase: start_lifting(&hands.table, &hands.layout, list, b),
+        phase: start_lifting(&hands.table, &hands.layout, b),
         place: 0,
     }
 }
@@ -100,58 +90,40 @@ fn take_out<const C: usize>(hands: &mut Hands<C>, name: &Name)
 }
 
 /// Sets a new object that found room, and begins a flush with nothing pending.
-fn start_placed<const C: usize>(
-    hands: &mut Hands<C>,
-    list: Vec<Item>,
-    name: &Name,
-    b: u8,
-    spot: Spot,
-) -> Begun<C>
+fn start_placed<const C: usize>(hands: &mut Hands<C>, name: &Name, b: u8, spot: Spot) -> Begun<C>
     requires fits { C ≤ 32 }
     requires room { fin.len hands.old.table.now < hands.old.table.names }
     requires low { spot.place + spot.size < 2 ^ 48 }
-    requires empty { list.items ≡ [] }
-    requires list_room { hands.old.table.names ≤ vec_capacity list }
     requires start { (key : ℕ) (put : Extents) → IsWith name.now spot key hands.old.table put
         → CanStartAt C b (divisor_of hands.old.layout) (caps_of hands.old.layout) (grid_of hands.old.layout)
         put }
-    ensures starts { StartsPlaced b name.now spot (parts_of hands.old) (parts_of hands.new) result.phase
-        (vec_capacity list) }
+    ensures starts { StartsPlaced b name.now spot (parts_of hands.old) (parts_of hands.new)
+        (phase_now result.phase.course hands.new.table) }
+    ensures keeps { KeepsLifting C result.phase (items_now result.phase.course hands.new.table) }
     ensures place { result.place ≡ spot.place }
 {
     hands.table.set(name, spot);
     Begun {
-        phase: start_lifting(&hands.table, &hands.layout, list, b),
+        phase: start_lifting(&hands.table, &hands.layout, b),
         place: spot.place,
     }
 }
 
 /// Begins a flush of the objects of a table from class `b` on, with nothing pending.
-fn start_lifting<const C: usize>(
-    table: &Table,
-    layout: &Layout<C>,
-    list: Vec<Item>,
-    b: u8,
-) -> Lifting<C>
+fn start_lifting<const C: usize>(table: &Table, layout: &Layout<C>, b: u8) -> Lifting<C>
     requires fits { C ≤ 32 }
-    requires empty { list.items ≡ [] }
-    requires list_room { table.now.names ≤ vec_capacity list }
     requires start { CanStartAt C b (divisor_of layout.now) (caps_of layout.now) (grid_of layout.now) table.now }
-    ensures { IsStarted b (divisor_of layout.now) (caps_of layout.now) table.now result (vec_capacity list) }
+    ensures started { IsStarted b (divisor_of layout.now) (caps_of layout.now) table.now
+        (phase_now result.course table.now) }
+    ensures keeps { KeepsLifting C result (items_now result.course table.now) }
 {
-    let items = gather(table, b, list);
-    let found = numbers(layout, b, &items, 0);
-    Lifting::new(layout, found, items, None)
+    let shelf = TableShelf(table);
+    let found = numbers(layout, b, &shelf, 0);
+    Lifting::new(layout, found, &shelf, None)
 }
 
 /// Sets a new object that found no room where the flush reaches to, and begins a flush with it pending.
-fn start_waiting<const C: usize>(
-    hands: &mut Hands<C>,
-    list: Vec<Item>,
-    name: &Name,
-    b: u8,
-    size: u64,
-) -> Begun<C>
+fn start_waiting<const C: usize>(hands: &mut Hands<C>, name: &Name, b: u8, size: u64) -> Begun<C>
     requires fits { C ≤ 32 }
     requires wide { SIZE_MAX < 2 ^ C }
     requires some { 1 ≤ size }
@@ -159,15 +131,13 @@ fn start_waiting<const C: usize>(
     requires high { b ≤ class_of_size size }
     requires new { fin.get hands.old.table.now name.now ≡ None }
     requires room { fin.len hands.old.table.now < hands.old.table.names }
-    requires empty { list.items ≡ [] }
-    requires list_room { hands.old.table.names ≤ vec_capacity list }
     requires start { CanStartAt C b (divisor_of hands.old.layout) (caps_of hands.old.layout)
         (grid_of hands.old.layout) hands.old.table }
     ensures starts { StartsWaiting b name.now size result.place (parts_of hands.old) (parts_of hands.new)
-        result.phase (vec_capacity list) }
+        (phase_now result.phase.course hands.new.table) }
+    ensures keeps { KeepsLifting C result.phase (items_now result.phase.course hands.new.table) }
 {
-    let items = gather(&hands.table, b, list);
-    let found = numbers(&hands.layout, b, &items, size);
+    let found = numbers(&hands.layout, b, &TableShelf(&hands.table), size);
     let place = found.reach - size;
     let key = hands.table.set(name, Spot { place, size });
     let pending = Item {
@@ -176,8 +146,9 @@ fn start_waiting<const C: usize>(
         place,
         size,
     };
+    let shelf = TableShelf(&hands.table);
     Begun {
-        phase: Lifting::new(&hands.layout, found, items, Some(pending)),
+        phase: Lifting::new(&hands.layout, found, &shelf, Some(pending)),
         place,
     }
 }

@@ -1,6 +1,6 @@
 //! The device calls of a change that isn't quiet: the file grows, the new object is written, and the
 //! flush is made.
-ghost use Rattle.std.specs.Prelude.{◌≡◌, ◌+◌, ◌-◌, ◌*◌, ◌<◌, ◌≤◌, ◌^◌, ℕ, [], false, IfOk, IsTrue, None, OnOk, vec_capacity, vec_len};
+ghost use Rattle.std.specs.Prelude.{◌≡◌, ◌+◌, ◌-◌, ◌*◌, ◌<◌, ◌≤◌, ◌^◌, ℕ, false, IsTrue, None, OnOk, vec_len};
 ghost use Rattle.std.specs.FinMap as fin;
 ghost use Rattle.disk_face.specs.Counts.{HasCause};
 ghost use Rattle.size_class.specs.Rows.{cells_of};
@@ -11,16 +11,16 @@ ghost use Rattle.flush_run.specs.Calls.{CallsSoFar};
 ghost use Rattle.flush_run.specs.Flights.{LeavesOldOrNew};
 ghost use Rattle.flush_run.specs.Parts.{Parts, parts_of};
 ghost use Rattle.flush_run.specs.Settling.{FlushEnds};
+ghost use Rattle.flush_run.specs.Shelved.{items_now, phase_now};
+ghost use Rattle.flush_plan.specs.Lifts.{KeepsLifting};
 ghost use Rattle.store_core.specs.Flushing.{CanFly, HasFlown, Setting, flight_of};
 
 use crate::begin::{Begun, begin_put};
 use crate::quiet::write_new;
 use crate::{Done, Refusal, Store};
 use disk_face::{Disk, DiskFault};
-use flush_plan::{Item, Settled};
 use flush_run::{Halted, Hands, run};
 use slot_codec::Name;
-use std::mem::replace;
 
 impl<const C: usize> Store<C> {
     ghost use Rattle.store_core.specs.Answers.{AnswersChange, is_disk_fault, refused_by};
@@ -49,16 +49,11 @@ impl<const C: usize> Store<C> {
         ensures over { IsConnected C self.new (D.state disk.new) }
         ensures broken { self.new.is_broken ≡ is_disk_fault result }
     {
-        let spare = Vec::new(*self.items.allocator());
-        let list = replace(&mut self.items, spare);
-        let begun = begin_put(&mut self.hands, list, name, bytes);
+        let begun = begin_put(&mut self.hands, name, bytes);
         let flown = fly(disk, begun, &mut self.hands, bytes);
         self.kept_layout = self.hands.layout;
         match flown {
-            Ok(list) => {
-                self.items = list;
-                Ok(Done { kept: true })
-            }
+            Ok(()) => Ok(Done { kept: true }),
             Err(DiskFault) => {
                 self.broken = true;
                 Err(Refusal::Disk)
@@ -67,53 +62,43 @@ impl<const C: usize> Store<C> {
     }
 }
 
-/// Grows the file to where the flush reaches, writes the new object, and makes the flush. Answers the
-/// list of the items, empty.
+/// Grows the file to where the flush reaches, writes the new object, and makes the flush.
 pub(crate) fn fly<D: Disk, const C: usize>(
     disk: &mut D,
     begun: Begun<C>,
     hands: &mut Hands<C>,
     bytes: &[u8],
-) -> Result<Vec<Item>, DiskFault>
+) -> Result<(), DiskFault>
     requires ready { IsTrue (D.state disk.old).is_ready }
     requires buffer { vec_len hands.old.buf ≡ 65536 }
     requires fits { C ≤ 32 }
-    requires start { (x0 : Parts) × (c : Change) × (g : Setting) × CanFly C x0 c g (parts_of hands.old) begun.phase
-        begun.place bytes.now (D.state disk.old) }
+    requires start { (x0 : Parts) × (c : Change) × (g : Setting) × CanFly C x0 c g (parts_of hands.old)
+        (phase_now begun.phase.course hands.old.table) begun.place bytes.now (D.state disk.old) }
+    requires keeps { KeepsLifting C begun.phase (items_now begun.phase.course hands.old.table) }
     ensures ends { (x0 : Parts) (c : Change) (g : Setting) → CanFly C x0 c g (parts_of hands.old)
-        begun.entry.phase begun.entry.place bytes.now (D.state disk.old)
-        → OnOk result (FlushEnds C (flight_of C x0 c begun.entry.phase.numbers.reach g) (parts_of hands.new)
-        (D.state disk.new)) }
+        (phase_now begun.entry.phase.course hands.old.table) begun.entry.place bytes.now (D.state disk.old)
+        → OnOk result (FlushEnds C (flight_of C x0 c begun.entry.phase.course.numbers.reach g)
+        (parts_of hands.new) (D.state disk.new)) }
     ensures left { (x0 : Parts) (c : Change) (g : Setting) → CanFly C x0 c g (parts_of hands.old)
-        begun.entry.phase begun.entry.place bytes.now (D.state disk.old) → IsTrue (D.state disk.old).tells
-        → LeavesOldOrNew (flight_of C x0 c begun.entry.phase.numbers.reach g) (D.state disk.old)
+        (phase_now begun.entry.phase.course hands.old.table) begun.entry.place bytes.now (D.state disk.old)
+        → IsTrue (D.state disk.old).tells
+        → LeavesOldOrNew (flight_of C x0 c begun.entry.phase.course.numbers.reach g) (D.state disk.old)
         (D.state disk.new) }
     ensures saves { OnOk result ((hands.old.slots.sequence + 1 ≤ hands.new.slots.sequence)
         × (hands.new.slots.sequence ≤ hands.old.slots.sequence + 2 * hands.old.slots.block.k)) }
     ensures calls { OnOk result (CallsSoFar (D.state disk.old).turn (D.state disk.new).turn
         (cells_of hands.old.ledger.moved) (cells_of hands.new.ledger.moved) 4
         (hands.new.slots.sequence - hands.old.slots.sequence) (fin.len hands.old.table.now)) }
-    ensures made { HasFlown begun.entry.phase.numbers.boundary begun.entry.phase.items (D.state disk.old)
+    ensures made { HasFlown begun.entry.phase.course.numbers.boundary
+        (items_now begun.entry.phase.course hands.old.table) (D.state disk.old)
         (D.state disk.new) (parts_of hands.old) (parts_of hands.new) }
-    ensures empty { IfOk result (λ list. list.items ≡ []) }
-    ensures room { IfOk result (λ list. vec_capacity list ≡ begun.entry.phase.room) }
     ensures cause { HasCause (D.state disk.old).faults (D.state disk.new).faults result }
 {
     let Begun { phase, place } = begun;
     disk.set_len(hands.base + phase.numbers().reach)?;
     write_new(disk, hands.base, place, bytes)?;
     match run(disk, phase, hands) {
-        Ok(settled) => Ok(emptied(settled)),
+        Ok(_) => Ok(()),
         Err(Halted(fault)) => Err(fault),
     }
-}
-
-/// The list of the items of a flush, empty.
-pub(crate) fn emptied<const C: usize>(settled: Settled<C>) -> Vec<Item>
-    ensures empty { result.items ≡ [] }
-    ensures room { vec_capacity result ≡ settled.entry.phase.room }
-{
-    let mut list = settled.into_items();
-    list.clear();
-    list
 }

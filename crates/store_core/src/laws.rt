@@ -99,7 +99,7 @@ pub fn store_of<const C: usize>(
         ≡ opened_store C slots table.now (caps_of layout.entry) (grid_of layout.entry)) }
 {
     is_table(&table);
-    let Memory { guard, items, buf } = take_memory(alloc, block.names)?;
+    let Memory { guard, buf } = take_memory(alloc, block.names)?;
     let hands = Hands {
         table,
         layout,
@@ -109,7 +109,7 @@ pub fn store_of<const C: usize>(
         buf,
         base: head_len(block.names),
     };
-    Ok(store_with(hands, items))
+    Ok(store_with(hands))
 }
 
 /// What holds of each table.

@@ -1,5 +1,5 @@
 //! The memory that a store takes as it is made, and the store of hands that were settled.
-ghost use Rattle.std.specs.Prelude.{◌≡◌, ◌≤◌, [], vec_capacity, vec_len, IfOk};
+ghost use Rattle.std.specs.Prelude.{◌≡◌, ◌≤◌, [], vec_len, IfOk};
 ghost use Rattle.size_class.specs.Classes.{zero_row};
 ghost use Rattle.size_class.specs.Rows.{cells_of};
 ghost use Rattle.segment_layout.specs.Layouts.{caps_of, grid_of};
@@ -8,7 +8,6 @@ ghost use Rattle.store_core.specs.Resuming.{MakesStore};
 
 use crate::Store;
 use data_area::Ledger;
-use flush_plan::Item;
 use flush_run::Hands;
 use held_guard::Guard;
 use size_class::Row;
@@ -18,12 +17,10 @@ use std::alloc::Global;
 /// How many bytes of an object are read at a time.
 const COPIED: usize = 65536;
 
-/// What a store takes beside its table: room for the held spans and for the items of a flush, and a
-/// buffer to copy through.
+/// What a store takes beside its table: room for the held spans, and a buffer to copy through.
 #[derive(Drop)]
 pub(crate) struct Memory {
     pub(crate) guard: Guard,
-    pub(crate) items: Vec<Item>,
     pub(crate) buf: Vec<u8>,
 }
 
@@ -32,14 +29,11 @@ pub(crate) fn take_memory(alloc: Global, names: u64) -> Result<Memory, NoMemory>
     requires few { names ≤ 65536 }
     ensures none { IfOk result (λ memory. memory.guard.spans ≡ []) }
     ensures guard_room { IfOk result (λ memory. memory.guard.room ≡ names) }
-    ensures empty { IfOk result (λ memory. memory.items.items ≡ []) }
-    ensures room { IfOk result (λ memory. names ≤ vec_capacity memory.items) }
     ensures buffer { IfOk result (λ memory. vec_len memory.buf ≡ 65536) }
 {
     let guard = Guard::with_room(alloc, names)?;
-    let items = item_list(alloc, names)?;
     let buf = copy_buffer(alloc)?;
-    Ok(Memory { guard, items, buf })
+    Ok(Memory { guard, buf })
 }
 
 /// A buffer to copy objects through.
@@ -52,20 +46,9 @@ fn copy_buffer(alloc: Global) -> Result<Vec<u8>, NoMemory>
     }
 }
 
-/// A list with room for an item of each name.
-fn item_list(alloc: Global, names: u64) -> Result<Vec<Item>, NoMemory>
-    ensures empty { IfOk result (λ items. items.items ≡ []) }
-    ensures room { IfOk result (λ items. names ≤ vec_capacity items) }
-{
-    match Vec::with_capacity(alloc, names as usize) {
-        Ok(items) => Ok(items),
-        Err(_) => Err(NoMemory),
-    }
-}
-
 /// The store of hands in which what stands now is the checkpoint. What was moved before isn't counted.
-pub(crate) fn store_with<const C: usize>(hands: Hands<C>, items: Vec<Item>) -> Store<C>
-    requires { MakesStore hands items }
+pub(crate) fn store_with<const C: usize>(hands: Hands<C>) -> Store<C>
+    requires { MakesStore hands }
     ensures { result ≡ opened_store C hands.entry.slots hands.entry.table.now (caps_of hands.entry.layout)
         (grid_of hands.entry.layout) }
 {
@@ -74,7 +57,6 @@ pub(crate) fn store_with<const C: usize>(hands: Hands<C>, items: Vec<Item>) -> S
     Store {
         kept_layout: hands.layout,
         hands,
-        items,
         broken: false,
     }
 }

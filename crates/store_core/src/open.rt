@@ -1,23 +1,23 @@
 //! Opening a file: a store over what its last checkpoint has.
-ghost use Rattle.std.specs.Prelude.{◌≡◌, ◌<◌, ◌≤◌, ◌^◌, [], length, vec_capacity, vec_len, IsTrue};
+ghost use Rattle.std.specs.Prelude.{◌≡◌, ◌<◌, ◌≤◌, ◌^◌, [], length, vec_len, IsTrue};
 ghost use Rattle.disk_face.specs.Counts.{HasCause};
 ghost use Rattle.disk_face.specs.Frames.{Unchanged};
 ghost use Rattle.disk_face.specs.Writes.{KeepsDisk};
 ghost use Rattle.slot_codec.specs.Readable.{IsSuperBlock};
 ghost use Rattle.slot_codec.specs.declared.codec.Kind.TheVariants as kind;
 ghost use Rattle.flush_run.specs.Parts.{parts_of};
+ghost use Rattle.flush_run.specs.Shelved.{items_now, phase_now};
+ghost use Rattle.flush_plan.specs.Packs.{KeepsPacking};
 ghost use Rattle.reopen.specs.Loads.{IsLoadedFrom, KeepsLoaded};
 ghost use Rattle.store_core.specs.Opened.{IsCut, IsOpening};
 ghost use Rattle.store_core.specs.Resuming.{PacksAgain, StartsAgain};
 
 use crate::Store;
-use crate::flush::emptied;
 use crate::laws::store_of;
 use crate::memory::{Memory, no_bytes, store_with, take_memory};
 use disk_face::{Disk, DiskFault, length_of};
-use flush_plan::{Item, Packing, numbers_again};
-use flush_run::{Halted, Hands, resume};
-use flush_start::gather;
+use flush_plan::{Packing, numbers_again};
+use flush_run::{Halted, Hands, TableShelf, resume};
 use held_guard::Guard;
 use reopen::{Loaded, OpenFault, State, read_state};
 use size_class::SIZE_MAX;
@@ -124,40 +124,36 @@ fn go_on<D: Disk, const C: usize>(
     requires from { IsTrue (D.state disk.old).tells → IsLoadedFrom (D.state disk.old).file found }
     requires none { memory.guard.spans ≡ [] }
     requires guard_room { memory.guard.room ≡ found.block.names }
-    requires empty { memory.items.items ≡ [] }
-    requires room { found.block.names ≤ vec_capacity memory.items }
     requires buffer { vec_len memory.buf ≡ 65536 }
     ensures { IsOpening C (D.state disk.old) (D.state disk.new) result }
 {
-    let Memory { guard, items, buf } = memory;
-    let phase = phase_again(&found, items);
+    let Memory { guard, buf } = memory;
+    let phase = phase_again(&found);
     let mut hands = hands_of(found, guard, buf);
     match resume(disk, phase, &mut hands) {
-        Ok(settled) => Ok(store_with(hands, emptied(settled))),
+        Ok(_) => Ok(store_with(hands)),
         Err(Halted(DiskFault)) => Err(OpenFault::Slot(SlotFault::Disk)),
     }
 }
 
 /// Packing of the objects of a moving table, from where they stand.
-fn phase_again<const C: usize>(found: &Loaded<C>, items: Vec<Item>) -> Packing<C>
+fn phase_again<const C: usize>(found: &Loaded<C>) -> Packing<C>
     requires fits { C ≤ 32 }
     requires wide { SIZE_MAX < 2 ^ C }
     requires loads { KeepsLoaded found.now }
     requires moving { found.now.header.kind ≡ kind.Moving }
-    requires empty { items.items ≡ [] }
-    requires room { found.now.block.names ≤ vec_capacity items }
-    ensures { PacksAgain found.now result (vec_capacity items) }
+    ensures again { PacksAgain found.now (phase_now result.course found.now.table) }
+    ensures keeps { KeepsPacking C result (items_now result.course found.now.table) }
 {
-    let boundary = found.header.boundary;
-    let all = gather(&found.table, boundary, items);
+    let shelf = TableShelf(&found.table);
     let numbers = numbers_again(
         &found.layout,
-        boundary,
+        found.header.boundary,
         found.header.wall,
         found.header.slack,
-        &all,
+        &shelf,
     );
-    Packing::resume(&found.layout, numbers, all)
+    Packing::resume(&found.layout, numbers, &shelf)
 }
 
 /// The hands of a flush that goes on: nothing is held but what stands, and nothing was moved yet.

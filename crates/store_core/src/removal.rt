@@ -8,7 +8,6 @@ use crate::flush::fly;
 use crate::{Done, Refusal, Store};
 use disk_face::{Disk, DiskFault};
 use slot_codec::Name;
-use std::mem::replace;
 
 impl<const C: usize> Store<C> {
     ghost use Rattle.store_core.specs.Answers.{AnswersChange, is_disk_fault, refused_by};
@@ -36,16 +35,11 @@ impl<const C: usize> Store<C> {
         ensures over { IsConnected C self.new (D.state disk.new) }
         ensures broken { self.new.is_broken ≡ is_disk_fault result }
     {
-        let spare = Vec::new(*self.items.allocator());
-        let list = replace(&mut self.items, spare);
-        let begun = begin_del(&mut self.hands, list, name);
+        let begun = begin_del(&mut self.hands, name);
         let flown = fly(disk, begun, &mut self.hands, &[]);
         self.kept_layout = self.hands.layout;
         match flown {
-            Ok(list) => {
-                self.items = list;
-                Ok(Done { kept: true })
-            }
+            Ok(()) => Ok(Done { kept: true }),
             Err(DiskFault) => {
                 self.broken = true;
                 Err(Refusal::Disk)

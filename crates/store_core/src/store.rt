@@ -5,7 +5,6 @@ ghost use Rattle.segment_layout.specs.Books.{book_end};
 
 use crate::Gauge;
 use data_area::Ledger;
-use flush_plan::Item;
 use flush_run::Hands;
 use segment_layout::Layout;
 use slot_codec::{HEADER_LEN, RECORD_LEN, SUPERBLOCK_LEN};
@@ -18,13 +17,11 @@ const HEAD_LEN_OF_NONE: u64 = (SUPERBLOCK_LEN + 2 * (HEADER_LEN + 1) + 1) as u64
 /// Contracts see it as `Kept`.
 ///
 /// The hands have the parts of now, which a flush works with: the table, the layout, the guard, the
-/// slots, the ledger and the buffer. `kept_layout` is the layout of the last checkpoint, and `items` has
-/// room for an item of each name, and is empty between two calls.
+/// slots, the ledger and the buffer. `kept_layout` is the layout of the last checkpoint.
 #[derive(Drop)]
 pub struct Store<const C: usize> {
     pub(crate) hands: Hands<C>,
     pub(crate) kept_layout: Layout<C>,
-    pub(crate) items: Vec<Item>,
     pub(crate) broken: bool,
 }
 

@@ -1,33 +1,41 @@
-use Rattle.std.proofs.Common.{arith, sym, subst, ◌≡◌, ◌+◌, ◌-◌, ◌<◌, length}
-use Rattle.flush_plan.specs.PackedSoFar.{KeepsPacking}
-use Rattle.flush_plan.specs.Suffixes.{value_of}
-use Rattle.flush_plan.proofs.pack.packed_down.Goals.{then-item-suffix+else-item-top, else-item-suffix}
-use Rattle.std.specs.Prelude.{Contains}
-use Rattle.flush_plan.proofs.ListLaws.{got_at}
-use Rattle.flush_plan.proofs.PackStepLaws.{pack_past, pack_stays}
-use Rattle.flush_plan.proofs.PackGoesLaws.{pack_passed}
+use Rattle.std.proofs.Common.{arith, refl}
+use Rattle.segment_layout.specs.Layouts.{caps_of, divisor_of}
+use Rattle.flush_plan.proofs.PackGoesLaws.{again_fits, again_loose, again_stays}
+use Rattle.flush_plan.proofs.PackStepLaws.{packed_from_wall}
 use Rattle.flush_plan.proofs.pack.packed_down.Goals as goal
 
+pub down-init : goal.down-init
+down-init g c = λ items can. packed_from_wall c.args.numbers items
+
+pub overflow_add-item : goal.overflow_add-item
+overflow_add-item g c =
+    let layout = c.args.layout.now in
+    let items = c.requires.goes_on.0 in
+    let can = c.requires.goes_on.1 in
+    omega (
+      arith,
+      again_fits g.row.C (divisor_of layout) (caps_of layout) c.args.numbers items
+          (g.S.Shelf.items c.args.shelf.now) can c.down.top (c.down.invariant items can) c.in-Some.item
+          (c.in-Some.ensures.last items can.on),
+    )
+
+pub returns-then-item-top-clause-loose : goal.returns-then-item-top-clause-loose
+returns-then-item-top-clause-loose g c = λ items can.
+    let layout = c.args.layout.now in
+    again_loose g.row.C (divisor_of layout) (caps_of layout) c.args.numbers items
+    (g.S.Shelf.items c.args.shelf.now) can c.down.top (c.down.invariant items can) c.in-Some.item
+    (c.in-Some.ensures.last items can.on) c.if-item-top.true
+
+pub down-smaller : goal.down-smaller
+down-smaller g c = (c.in-Some.ensures.last c.requires.goes_on.0 c.requires.goes_on.1.on).before
+
 pub down-preserved : goal.down-preserved
-down-preserved g c =
-    let p = value_of c.args.suffix.now in
-    let at = c.down.left - 1 in
-    let m = c.index-item.result.now in
-    let keeps = c.down.invariant in
-    let is = keeps.packing in
-    let next : at + 1 ≡ c.down.left = omega (arith, c.down-test.true) in
-    let within : at < length p.items = omega (arith, next, keeps.down.within) in
-    let has : Contains p.items m = (at, within, sym c.index-item.ensures) in
-    let got = got_at m p.items has in
-    elim c.if-item-suffix.branch [
-      | then-item-suffix+else-item-top w ↦
-          subst (KeepsPacking g.row.C p at) (sym w.top-is)
-          (pack_passed g.row.C p c.down.left c.down.top at m.place keeps
-          (pack_stays p.k p.numbers p.items is.items is.resumes c.down.left c.down.top keeps.down at next m
-          got w.if-item-suffix.true (omega (arith, w.if-item-top.false))))
-      | else-item-suffix w ↦
-          subst (KeepsPacking g.row.C p at) (sym w.top-is)
-          (pack_passed g.row.C p c.down.left c.down.top at c.down.top keeps
-          (pack_past p.k p.numbers p.items is.items is.resumes c.down.left c.down.top keeps.down at next m
-          got (omega (arith, w.if-item-suffix.false))))
-    ]
+down-preserved g c = λ items can.
+    let layout = c.args.layout.now in
+    again_stays g.row.C (divisor_of layout) (caps_of layout) c.args.numbers items
+    (g.S.Shelf.items c.args.shelf.now) can c.down.top (c.down.invariant items can) c.in-Some.item
+    (c.in-Some.ensures.last items can.on) (omega (arith, c.if-item-top.false))
+
+pub returns-clause-loose : goal.returns-clause-loose
+returns-clause-loose g c = λ items can it has less.
+    absurd (omega (arith, less, c.in_default.ensures.none refl items can.on it has))

@@ -1,5 +1,10 @@
-use Rattle.flush_plan.specs.Phases.{to_pack}
+use Rattle.std.proofs.Common.{List, IsPermutation}
+use Rattle.std.specs.List.Sorted.{IsNonDecreasingBy}
+use Rattle.plan_terms.specs.declared.item.Item.{Item}
+use Rattle.flush_plan.specs.Packs.{KeepsPacking}
 use Rattle.flush_plan.proofs.tests.pack_all.Given as goal
 
-abbrev pub decreases-packs : goal.decreases-packs
-decreases-packs g l = to_pack l.packing
+abbrev pub invariant-packs : goal.invariant-packs
+invariant-packs g l = (items : List Item) × KeepsPacking g.row.C l.packing items
+    × IsPermutation items l.shelf.items.items
+    × IsNonDecreasingBy (λ (it : Item). it.place) l.shelf.items.items

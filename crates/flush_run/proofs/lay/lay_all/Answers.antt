@@ -1,21 +1,34 @@
 use Rattle.std.proofs.Common.{arith, refl, sym, subst, ◌∙◌, ap}
+use Rattle.plan_terms.specs.Phases.{IsLaidWhole, moved_by}
+use Rattle.flush_plan.specs.Lays.{KeepsLaying, Lay}
 use Rattle.flush_run.specs.Loops.{Lays, LaysPaid}
 use Rattle.flush_run.specs.Parts.{parts_of}
 use Rattle.flush_run.proofs.LeftLaws.{left_then, none_of, source_within, still_told, target_within, told_before}
 use Rattle.extent_table.specs.Extents.{Extents, Spots}
 use Rattle.flush_run.specs.Parts.{size_in}
+use Rattle.flush_run.specs.Shelved.{items_now, phase_now}
+use Rattle.flush_run.proofs.ShelvedLaws.{phase_moved, phase_same}
 use Rattle.flush_run.proofs.SizeLaws.{sizes_moved}
-use Rattle.flush_run.proofs.LayLaws.{lay_begins, lay_calls, lay_can, lay_fresh, lay_goes, lay_head, lay_made, lay_most, lay_most_saved, lay_names, lay_next, lay_part, lay_part_saved, lay_pays, lay_saveable, lay_slot, lay_space}
+use Rattle.flush_run.proofs.LayLaws.{lay_begins, lay_calls, lay_can, lay_falls, lay_few, lay_fresh, lay_goes, lay_head, lay_keeps, lay_made, lay_most, lay_most_saved, lay_names, lay_next, lay_over, lay_part, lay_part_saved, lay_pays, lay_saveable, lay_slot, lay_space, lay_target}
 use Rattle.flush_run.proofs.lay.lay_all.Goals as goal
 
 pub moves-init : goal.moves-init
-moves-init g c = lay_begins g.row.C _ _ _ c.requires.ready
+moves-init g c = lay_begins g.row.C _ _ _ c.requires.ready c.requires.keeps
+
+pub next-requires : goal.next-requires
+next-requires g c = (omega arith, (_, lay_over c.moves.invariant c.requires.start.1))
+
+pub invariant_of-target : goal.invariant_of-target
+invariant_of-target g c =
+    let i = c.moves.invariant in
+    let start = c.requires.start.1 in
+    record { fits = omega (arith, lay_target i start (c.in-Some.ensures.step _ (lay_over i start))) }
 
 pub free_target-requires : goal.free_target-requires
 free_target-requires g c =
     let i = c.moves.invariant in
     let start = c.requires.start.1 in
-    let step = c.in-Some.ensures.step in (
+    let step = c.in-Some.ensures.step _ (lay_over i c.requires.start.1) in (
       omega arith,
       (
         i.made.keeps.disk.stays.ready,
@@ -41,29 +54,30 @@ returns-in_err-free_target-clause-left g c f start told =
     let s = i.all f start in
     let here = still_told i.made.keeps told in
     left_then (s.left told)
-    (c.free_target.ensures.left f here (lay_saveable i start c.in-Some.ensures.step _ c.requires.moving)
-    (s.lays.goes.flies here))
+    (c.free_target.ensures.left f here (lay_saveable i start (c.in-Some.ensures.step _ (lay_over i start)) _
+    c.requires.moving) (s.lays.goes.flies here))
 
 pub returns-in_err-free_target-clause-made : goal.returns-in_err-free_target-clause-made
 returns-in_err-free_target-clause-made g c =
+    let i = c.moves.invariant in
     let t = c.free_target.ensures in
-    lay_part_saved c.moves.invariant c.in-Some.ensures.step c.in-Some.ensures.moved t.keeps t.moved t.later
-    t.one
+    lay_part_saved i (c.in-Some.ensures.step _ (lay_over i c.requires.start.1))
+    (phase_same c.moves.lays.course c.next.new.self.course c.moves.hands.table c.free_target.new.hands.table
+    c.next.ensures.course t.spots t.keeps.keys) t.keeps t.moved t.later
     (λ name. ap (λ (x : Spots). size_in x name) t.spots)
 
 pub returns-in_err-free_target-clause-most : goal.returns-in_err-free_target-clause-most
 returns-in_err-free_target-clause-most g c =
     let i = c.moves.invariant in
     let t = c.free_target.ensures in
-    lay_most_saved i c.in-Some.ensures.step (g.D.Disk.state c.free_target.new.disk)
-    (parts_of c.free_target.new.hands)
-    t.most t.moved t.later
+    lay_most_saved i (c.in-Some.ensures.step _ (lay_over i c.requires.start.1))
+    (g.D.Disk.state c.free_target.new.disk) (parts_of c.free_target.new.hands) t.most t.moved t.later
 
 pub move_one-requires : goal.move_one-requires
 move_one-requires g c =
     let i = c.moves.invariant in
     let start = c.requires.start.1 in
-    let step = c.in-Some.ensures.step in
+    let step = c.in-Some.ensures.step _ (lay_over i c.requires.start.1) in
     let t = c.free_target.ensures in
     let save = lay_saveable i start step _ c.requires.moving in
     let goes = lay_goes i start step c.requires.moving _ refl refl _ c.in_ok-free_target.ensures.answer
@@ -99,7 +113,7 @@ pub returns-in_err-move_one-clause-left : goal.returns-in_err-move_one-clause-le
 returns-in_err-move_one-clause-left g c f start told =
     let i = c.moves.invariant in
     let s = i.all f start in
-    let step = c.in-Some.ensures.step in
+    let step = c.in-Some.ensures.step _ (lay_over i c.requires.start.1) in
     let t = c.free_target.ensures in
     let here = still_told i.made.keeps told in
     let save = lay_saveable i start step _ c.requires.moving in
@@ -114,17 +128,22 @@ returns-in_err-move_one-clause-left g c f start told =
 
 pub returns-in_err-move_one-clause-made : goal.returns-in_err-move_one-clause-made
 returns-in_err-move_one-clause-made g c =
+    let i = c.moves.invariant in
     let t = c.free_target.ensures in
-    lay_part c.moves.invariant c.in-Some.ensures.step c.in-Some.ensures.moved t.keeps t.moved t.later t.one
-    c.move_one.ensures.keeps c.move_one.ensures.slots c.in_err-move_one.ensures.unmoved
-    (λ name. ap (λ (e : Extents). size_in e.now name) c.in_err-move_one.ensures.table
-    ∙ ap (λ (x : Spots). size_in x name) t.spots)
+    let table = c.in_err-move_one.ensures.table in
+    lay_part i (c.in-Some.ensures.step _ (lay_over i c.requires.start.1)) t.keeps t.moved t.later
+    c.move_one.ensures.keeps c.move_one.ensures.slots
+    (phase_same c.moves.lays.course c.next.new.self.course c.moves.hands.table c.move_one.new.hands.table
+    c.next.ensures.course
+    (ap (λ (e : Extents). e.now) table ∙ t.spots) (ap (λ (e : Extents). e.keys) table ∙ t.keeps.keys))
+    c.in_err-move_one.ensures.unmoved
+    (λ name. ap (λ (e : Extents). size_in e.now name) table ∙ ap (λ (x : Spots). size_in x name) t.spots)
 
 pub returns-in_err-move_one-clause-most : goal.returns-in_err-move_one-clause-most
 returns-in_err-move_one-clause-most g c =
     let i = c.moves.invariant in
     let start = c.requires.start.1 in
-    let step = c.in-Some.ensures.step in
+    let step = c.in-Some.ensures.step _ (lay_over i c.requires.start.1) in
     let t = c.free_target.ensures in
     let save = lay_saveable i start step _ c.requires.moving in
     let r = lay_can i start step c.requires.moving _ refl refl _ c.in_ok-free_target.ensures.answer t.keeps
@@ -138,19 +157,26 @@ returns-in_err-move_one-clause-most g c =
 pub moves-preserved : goal.moves-preserved
 moves-preserved g c =
     let i = c.moves.invariant in
-    let step = c.in-Some.ensures.step in
+    let step = c.in-Some.ensures.step _ (lay_over i c.requires.start.1) in
     let t = c.free_target.ensures in
     let m = c.move_one.ensures in
     let row = c.in_ok-move_one.ensures.ledger in
     let long = c.free_target.new.hands.ledger.moved.shape.full in
     let answer = c.in_ok-free_target.ensures.answer in
+    let moved = c.in_ok-move_one.ensures.moved in
+    let can = (lay_can i c.requires.start.1 step c.requires.moving _ refl refl _ answer t.keeps
+    (c.in_ok-free_target.ensures.flies c.requires.start.0)).can in
+    let after = phase_moved c.moves.lays.course c.next.new.self.course c.next.ensures.course can moved
+    ∙ ap (moved_by c.in-Some.mv) (phase_same c.moves.lays.course c.moves.lays.course c.moves.hands.table
+    c.free_target.new.hands.table refl t.spots t.keeps.keys) in
     record {
-      made = lay_made i step c.in-Some.ensures.moved t.keeps t.moved t.later t.one m.keeps m.slots long row
-          (λ name. sizes_moved
-          (lay_can i c.requires.start.1 step c.requires.moving _ refl refl _ answer t.keeps
-          (c.in_ok-free_target.ensures.flies c.requires.start.0)).can.mover c.in_ok-move_one.ensures.moved
-          name
-          ∙ ap (λ (x : Spots). size_in x name) t.spots);
+      course = c.next.ensures.course ∙ i.course;
+      keeps = lay_keeps i step c.move_one.new.hands.table after
+          (c.in-Some.ensures.keeps _ (lay_over i c.requires.start.1));
+      made = lay_made i step t.keeps t.moved t.later m.keeps m.slots after long row
+          (λ name. sizes_moved can.mover moved name ∙ ap (λ (x : Spots). size_in x name) t.spots);
+      few = lay_few i step (parts_of c.free_target.new.hands) (parts_of c.move_one.new.hands) after t.one
+          m.slots;
       calm = c.in_ok-move_one.ensures.cause.calm ∙ c.in_ok-free_target.ensures.cause.calm ∙ i.calm;
       calls = lay_calls i step (parts_of c.free_target.new.hands) (g.D.Disk.state c.free_target.new.disk) _
           t.most _ answer
@@ -167,7 +193,7 @@ moves-preserved g c =
           let r = lay_can i start step c.requires.moving _ refl refl _ answer t.keeps
           (c.in_ok-free_target.ensures.flies f) in
           lay_next i start step c.requires.moving _ refl refl _ answer t.keeps
-          (c.in_ok-free_target.ensures.flies f) c.in-Some.ensures.moved t.one m.keeps m.slots
+          (c.in_ok-free_target.ensures.flies f) after t.one m.keeps m.slots
           c.in_ok-move_one.ensures.moved
           (λ told3.
           let back = told_before m.keeps told3 in
@@ -182,20 +208,45 @@ moves-preserved g c =
           let s = i.all f start in
           let save = lay_saveable i start step _ c.requires.moving in
           lay_pays i start step c.requires.moving _ refl refl _ answer t.keeps
-          (c.in_ok-free_target.ensures.flies f) c.in-Some.ensures.moved t.one m.keeps m.slots
+          (c.in_ok-free_target.ensures.flies f) after t.one m.keeps m.slots
           c.in_ok-move_one.ensures.moved (i.paid f start pay total q paid);
     }
 
+pub moves-smaller : goal.moves-smaller
+moves-smaller g c =
+    let i = c.moves.invariant in
+    let step = c.in-Some.ensures.step _ (lay_over i c.requires.start.1) in
+    let t = c.free_target.ensures in
+    let can = (lay_can i c.requires.start.1 step c.requires.moving _ refl refl _
+    c.in_ok-free_target.ensures.answer t.keeps (c.in_ok-free_target.ensures.flies c.requires.start.0)).can in
+    lay_falls i step (phase_moved c.moves.lays.course c.next.new.self.course c.next.ensures.course can
+    c.in_ok-move_one.ensures.moved
+    ∙ ap (moved_by c.in-Some.mv) (phase_same c.moves.lays.course c.moves.lays.course c.moves.hands.table
+    c.free_target.new.hands.table refl t.spots t.keeps.keys))
+
 pub returns-clause-laid : goal.returns-clause-laid
 returns-clause-laid g c f start =
-    let i = c.moves.invariant in
-    subst (λ q. Lays g.row.C f (parts_of c.args.hands.now).caps (parts_of c.args.hands.now).grid
-    (parts_of c.moves.hands) q (g.D.Disk.state c.moves.disk))
-    (sym (c.next.ensures.same (none_of c.next.result c.in_default.not-Some))) (i.all f start).lays
+    subst (λ (v : Lay). Lays g.row.C f (parts_of c.args.hands.now).caps (parts_of c.args.hands.now).grid
+    (parts_of c.moves.hands) (phase_now v.course c.moves.hands.table) (g.D.Disk.state c.moves.disk))
+    (sym (c.next.ensures.same (none_of c.next.result c.in_default.not-Some)))
+    (c.moves.invariant.all f start).lays
+
+pub returns-clause-keeps : goal.returns-clause-keeps
+returns-clause-keeps g c =
+    subst (λ (v : Lay). KeepsLaying g.row.C v (items_now v.course c.moves.hands.table))
+    (sym (c.next.ensures.same (none_of c.next.result c.in_default.not-Some))) c.moves.invariant.keeps
+
+pub returns-clause-end : goal.returns-clause-end
+returns-clause-end g c =
+    subst (λ (v : Lay). IsLaidWhole (phase_now v.course c.moves.hands.table))
+    (sym (c.next.ensures.same (none_of c.next.result c.in_default.not-Some)))
+    ((c.next.ensures.end _ (lay_over c.moves.invariant c.requires.start.1)).0
+    (none_of c.next.result c.in_default.not-Some))
 
 pub returns-clause-paid : goal.returns-clause-paid
 returns-clause-paid g c f start pay total q paid =
-    subst (λ p. LaysPaid pay total q (parts_of c.moves.hands) p)
+    subst (λ (v : Lay). LaysPaid pay total q (parts_of c.moves.hands)
+    (phase_now v.course c.moves.hands.table))
     (sym (c.next.ensures.same (none_of c.next.result c.in_default.not-Some)))
     (c.moves.invariant.paid f start pay total q paid)
 

@@ -37,14 +37,8 @@ start_lifting-requires g c =
         lit< tt,
         (
           c.requires.fits,
-          (
-            c.requires.empty,
-            (
-              omega (arith, c.take_out.ensures.without.names, c.requires.list_room),
-              del_ready c.requires.before.1 c.args.name.now (parts_of c.take_out.new.hands) c.take_out.ensures
-                  c.get-old.result c.get-old.ensures _ _ _ _ _ _ _ ch c.requires.loud,
-            ),
-          ),
+          del_ready c.requires.before.1 c.args.name.now (parts_of c.take_out.new.hands) c.take_out.ensures
+              c.get-old.result c.get-old.ensures _ _ _ _ _ _ _ ch c.requires.loud,
         ),
       ),
     )
@@ -64,4 +58,4 @@ returns-clause-begun g c =
     } in
     del_begun c.requires.before.1 c.args.name.now (parts_of c.take_out.new.hands)
     c.take_out.ensures c.get-old.result c.get-old.ensures _ _ _ _ _ _ _ ch c.requires.loud
-    c.start_lifting.result _ c.start_lifting.ensures
+    _ c.start_lifting.ensures.started

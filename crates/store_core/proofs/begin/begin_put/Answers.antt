@@ -1,4 +1,4 @@
-use Rattle.std.proofs.Common.{arith, length, lit<}
+use Rattle.std.proofs.Common.{length, lit<}
 use Rattle.size_class.specs.Rows.{cells_of}
 use Rattle.segment_layout.specs.Layouts.{caps_of, divisor_of, grid_of}
 use Rattle.flush_run.specs.Parts.{parts_of}
@@ -48,18 +48,12 @@ start_placed-requires g c =
                   c.get-old.ensures (divisor_of cc.new.layout) (caps_of cc.new.layout) (grid_of cc.new.layout)
                   cc.result.gone cc.result.place cc.result.class c.boundary-boundary.result ch c.requires.loud
                   c.in-Some.place c.in-Some.is,
-              (
-                c.requires.empty,
-                (
-                  omega (arith, c.take_out.ensures.without.names, c.requires.list_room),
-                  placed_ready may c.args.name.now (parts_of c.take_out.new.hands) c.take_out.ensures
-                      c.requires.named c.args.bytes.now c.requires.small (cells_of c.add_size.new.ledger.moved)
-                      (cells_of c.add_size.new.ledger.asked) c.add_size.ensures.moved c.add_size.ensures.asked c.get-old.result
-                      c.get-old.ensures (divisor_of cc.new.layout) (caps_of cc.new.layout) (grid_of cc.new.layout)
-                      cc.result.gone cc.result.place cc.result.class c.boundary-boundary.result ch c.requires.loud
-                      c.in-Some.place c.in-Some.is,
-                ),
-              ),
+              placed_ready may c.args.name.now (parts_of c.take_out.new.hands) c.take_out.ensures
+                  c.requires.named c.args.bytes.now c.requires.small (cells_of c.add_size.new.ledger.moved)
+                  (cells_of c.add_size.new.ledger.asked) c.add_size.ensures.moved c.add_size.ensures.asked c.get-old.result
+                  c.get-old.ensures (divisor_of cc.new.layout) (caps_of cc.new.layout) (grid_of cc.new.layout)
+                  cc.result.gone cc.result.place cc.result.class c.boundary-boundary.result ch c.requires.loud
+                  c.in-Some.place c.in-Some.is,
             ),
           ),
         ),
@@ -112,18 +106,12 @@ start_waiting-requires g c =
                         c.in-None.is,
                     (
                       room_for may c.args.name.now c.take_out.new.hands.table c.take_out.ensures.without c.requires.room,
-                      (
-                        c.requires.empty,
-                        (
-                          omega (arith, c.take_out.ensures.without.names, c.requires.list_room),
-                          waiting_ready may c.args.name.now (parts_of c.take_out.new.hands) c.take_out.ensures
-                              c.requires.named c.args.bytes.now c.requires.small (cells_of c.add_size.new.ledger.moved)
-                              (cells_of c.add_size.new.ledger.asked) c.add_size.ensures.moved c.add_size.ensures.asked c.get-old.result
-                              c.get-old.ensures (divisor_of cc.new.layout) (caps_of cc.new.layout) (grid_of cc.new.layout)
-                              cc.result.gone cc.result.place cc.result.class c.boundary-boundary.result ch c.requires.loud
-                              c.in-None.is,
-                        ),
-                      ),
+                      waiting_ready may c.args.name.now (parts_of c.take_out.new.hands) c.take_out.ensures
+                          c.requires.named c.args.bytes.now c.requires.small (cells_of c.add_size.new.ledger.moved)
+                          (cells_of c.add_size.new.ledger.asked) c.add_size.ensures.moved c.add_size.ensures.asked c.get-old.result
+                          c.get-old.ensures (divisor_of cc.new.layout) (caps_of cc.new.layout) (grid_of cc.new.layout)
+                          cc.result.gone cc.result.place cc.result.class c.boundary-boundary.result ch c.requires.loud
+                          c.in-None.is,
                     ),
                   ),
                 ),
@@ -153,8 +141,8 @@ returns-in-Some-clause-begun g c =
     (cells_of c.add_size.new.ledger.asked) c.add_size.ensures.moved c.add_size.ensures.asked c.get-old.result
     c.get-old.ensures (divisor_of cc.new.layout) (caps_of cc.new.layout) (grid_of cc.new.layout)
     cc.result.gone cc.result.place cc.result.class c.boundary-boundary.result ch c.requires.loud
-    c.in-Some.place c.in-Some.is (parts_of c.start_placed.new.hands) c.start_placed.result.phase
-    c.start_placed.result.place _ c.start_placed.ensures.place c.start_placed.ensures.starts
+    c.in-Some.place c.in-Some.is (parts_of c.start_placed.new.hands) _
+    c.start_placed.result.place c.start_placed.ensures.place c.start_placed.ensures.starts
 
 pub returns-in-None-clause-begun : goal.returns-in-None-clause-begun
 returns-in-None-clause-begun g c =
@@ -175,5 +163,5 @@ returns-in-None-clause-begun g c =
     (cells_of c.add_size.new.ledger.asked) c.add_size.ensures.moved c.add_size.ensures.asked c.get-old.result
     c.get-old.ensures (divisor_of cc.new.layout) (caps_of cc.new.layout) (grid_of cc.new.layout)
     cc.result.gone cc.result.place cc.result.class c.boundary-boundary.result ch c.requires.loud
-    c.in-None.is (parts_of c.start_waiting.new.hands) c.start_waiting.result.phase
-    c.start_waiting.result.place _ c.start_waiting.ensures.starts
+    c.in-None.is (parts_of c.start_waiting.new.hands) _
+    c.start_waiting.result.place c.start_waiting.ensures.starts

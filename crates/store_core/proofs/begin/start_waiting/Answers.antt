@@ -1,55 +1,52 @@
-use Rattle.std.specs.Prelude.{IsPermutation, Some, length}
+use Rattle.std.specs.Prelude.{IsPermutation, Some}
 use Rattle.std.proofs.Common.{◌∙◌, ◌-◌, ap, arith, lit<, refl, subst, sym}
-use Rattle.flush_plan.specs.Begins.{Begins, with_pending}
-use Rattle.flush_start.proofs.SuffixLaws.{few_items}
 use Rattle.segment_layout.specs.Layouts.{caps_of, divisor_of}
-use Rattle.flush_plan.specs.Plans.{numbers_of}
+use Rattle.plan_terms.specs.Begins.{Begins, with_pending}
+use Rattle.flush_run.specs.Hands.{suffix_items}
+use Rattle.flush_run.specs.Shelved.{items_now, phase_now}
+use Rattle.flush_start.specs.Starts.{IsWith}
 use Rattle.flush_start.proofs.ChargedLaws.{class_low}
+use Rattle.flush_plan.specs.Shelves.{course_of}
 use Rattle.size_class.specs.declared.TheConstants.{SIZE_MAX}
-use Rattle.store_core.proofs.BeginLaws.{start_flush, start_holds, start_low, start_reach, start_small, start_waits, waiting_is}
+use Rattle.store_core.proofs.BeginLaws.{items_waiting, start_flush, start_holds, start_low, start_on_shelf, start_reach, start_waits}
 use Rattle.store_core.proofs.begin.start_waiting.Goals as goal
 
-pub gather-items-requires-clause-small : goal.gather-items-requires-clause-small
-gather-items-requires-clause-small g c = start_small c.requires.start
-
 pub numbers-found-requires : goal.numbers-found-requires
-numbers-found-requires g c = (
-  lit< tt,
-  (
-    c.requires.fits,
-    (
-      start_low c.requires.start,
+numbers-found-requires g c =
+    let start = c.requires.start in (
+      lit< tt,
       (
-        start_flush c.requires.start c.deref.result.now (c.deref.ensures.value ∙ c.gather-items.ensures.items),
+        c.requires.fits,
         (
-          omega (arith, c.requires.small),
-          λ some. class_low g.row.C SIZE_MAX c.args.size c.requires.wide some c.requires.small,
+          start_low start,
+          (
+            (suffix_items c.args.b c.args.hands.now.table, start_flush start, start_on_shelf start),
+            (
+              omega (arith, c.requires.small),
+              λ some. class_low g.row.C SIZE_MAX c.args.size c.requires.wide some c.requires.small,
+            ),
+          ),
         ),
       ),
-    ),
-  ),
-)
+    )
+
+pub overflow_sub-place : goal.overflow_sub-place
+overflow_sub-place g c =
+    let found = c.numbers-found.ensures (suffix_items c.args.b c.args.hands.now.table)
+    (start_on_shelf c.requires.start) in
+    let holds = start_holds c.requires.start c.args.size c.requires.small in
+    omega (arith, holds, ap (λ n. n.reach) found)
 
 pub set-key-requires-clause-place : goal.set-key-requires-clause-place
 set-key-requires-clause-place g c =
-    let k = divisor_of c.args.hands.now.layout in
-    let caps = caps_of c.args.hands.now.layout in
-    let found = c.numbers-found.ensures ∙ ap (λ xs. numbers_of k caps c.args.b xs c.args.size)
-    (c.deref.ensures.value ∙ c.gather-items.ensures.items) in
-    omega (
-      arith,
-      ap (λ n. n.reach) found,
-      start_reach c.requires.start c.args.size c.requires.small,
-    )
+    let found = c.numbers-found.ensures (suffix_items c.args.b c.args.hands.now.table)
+    (start_on_shelf c.requires.start) in
+    omega (arith, ap (λ n. n.reach) found, start_reach c.requires.start c.args.size c.requires.small)
 
 pub new-requires : goal.new-requires
 new-requires g c =
-    let k = divisor_of c.args.hands.now.layout in
-    let caps = caps_of c.args.hands.now.layout in
-    let found = c.numbers-found.ensures
-    ∙ ap (λ xs. numbers_of k caps c.args.b xs c.args.size) c.deref.ensures.value in
-    let here = ap (λ n. n.boundary) found in
-    let e = c.args.hands.now.table in
+    let start = c.requires.start in
+    let found = c.numbers-found.ensures (suffix_items c.args.b c.args.hands.now.table) (start_on_shelf start) in
     let low = class_low g.row.C SIZE_MAX c.args.size c.requires.wide c.requires.some c.requires.small in (
       lit< tt,
       (
@@ -57,84 +54,74 @@ new-requires g c =
         (
           c.requires.fits,
           (
-            omega (arith, start_low c.requires.start, here),
-            (
-              subst (λ cl. Begins k caps c.numbers-found.result c.gather-items.result.items (Some (record {
-                key = c.set-key.result;
-                class = cl;
-                place = c.numbers-found.result.reach - c.args.size;
-                size = c.args.size;
-              }))) (sym c.class_of.ensures.same) (
-                  start_waits c.requires.start c.args.size c.requires.small c.gather-items.result.items
-                  c.numbers-found.result c.gather-items.ensures.items found c.args.name.now
-                  (record { place = c.numbers-found.result.reach - c.args.size; size = c.args.size })
-                  c.set-key.result c.set-key.new.self c.requires.new (record {
-                    now = c.set-key.ensures.now;
-                    kept = c.set-key.ensures.kept;
-                    keys = c.set-key.ensures.keys;
-                    names = c.set-key.ensures.names;
-                    table = c.set-key.ensures.table;
-                  }) refl c.requires.some c.requires.high
-                  (let holds = start_holds c.requires.start c.args.size c.requires.small in
-                  omega (
-                    arith,
-                    holds,
-                    ap (λ n. n.reach) found,
-                    ap (λ xs. (numbers_of k caps c.args.b xs c.args.size).reach)
-                        c.gather-items.ensures.items,
-                  ))),
-              (
-                omega (arith, low, c.class_of.ensures.same),
-                omega (
-                  arith,
-                  few_items c.args.b e,
-                  ap (λ xs. length xs) c.gather-items.ensures.items,
-                  c.gather-items.ensures.room,
-                  c.requires.room,
-                  c.requires.list_room,
-                ),
-              ),
-            ),
+            omega (arith, start_low start, ap (λ n. n.boundary) found),
+            omega (arith, low, c.class_of.ensures.same),
           ),
         ),
       ),
     )
 
-pub returns : goal.returns
-returns g c =
+pub returns-clause-starts : goal.returns-clause-starts
+returns-clause-starts g c =
     let k = divisor_of c.args.hands.now.layout in
     let caps = caps_of c.args.hands.now.layout in
-    let found = c.numbers-found.ensures
-    ∙ ap (λ xs. numbers_of k caps c.args.b xs c.args.size) c.deref.ensures.value in
+    let e = c.args.hands.now.table in
+    let found = c.numbers-found.ensures (suffix_items c.args.b e) (start_on_shelf c.requires.start) in
+    let course = c.new.ensures.course ∙ ap (λ n. course_of k caps n c.args.size) found in
+    let joins : IsWith c.args.name.now (record {
+      place = c.numbers-found.result.reach - c.args.size;
+      size = c.args.size;
+    }) c.set-key.result e c.set-key.new.self = record {
+      now = c.set-key.ensures.now;
+      kept = c.set-key.ensures.kept;
+      keys = c.set-key.ensures.keys;
+      names = c.set-key.ensures.names;
+      table = c.set-key.ensures.table;
+    } in
+    record {
+      key = c.set-key.result;
+      joins = joins;
+      rest = refl;
+      value = ap (λ q. phase_now q c.set-key.new.self) course;
+      ends = (let holds = start_holds c.requires.start c.args.size c.requires.small in
+          omega (arith, holds, ap (λ n. n.reach) found, ap (λ q. q.numbers.reach) c.new.ensures.course));
+    }
+
+pub returns-clause-keeps : goal.returns-clause-keeps
+returns-clause-keeps g c =
+    let k = divisor_of c.args.hands.now.layout in
+    let caps = caps_of c.args.hands.now.layout in
+    let e = c.args.hands.now.table in
+    let items = suffix_items c.args.b e in
     let place = c.numbers-found.result.reach - c.args.size in
-    let is = waiting_is c.args.hands.now.table place c.set-key.result c.gather-items.ensures.items found
-    (subst (λ cl. IsPermutation (with_pending c.gather-items.result.items (Some (record {
+    let found = c.numbers-found.ensures items (start_on_shelf c.requires.start) in
+    let course = c.new.ensures.course ∙ ap (λ n. course_of k caps n c.args.size) found in
+    let joins : IsWith c.args.name.now (record {
+      place = c.numbers-found.result.reach - c.args.size;
+      size = c.args.size;
+    }) c.set-key.result e c.set-key.new.self = record {
+      now = c.set-key.ensures.now;
+      kept = c.set-key.ensures.kept;
+      keys = c.set-key.ensures.keys;
+      names = c.set-key.ensures.names;
+      table = c.set-key.ensures.table;
+    } in
+    let is = items_waiting c.new.result.course course c.requires.new joins c.requires.some c.requires.high in
+    let holds = start_holds c.requires.start c.args.size c.requires.small in
+    let begins = start_waits c.requires.start c.args.size c.requires.small c.numbers-found.result found
+    c.args.name.now (record { place = place; size = c.args.size }) c.set-key.result c.set-key.new.self
+    c.requires.new joins refl c.requires.some c.requires.high
+    (omega (arith, holds, ap (λ n. n.reach) found)) in
+    c.new.ensures.keeps items (items_now c.new.result.course c.set-key.new.self)
+    (subst (λ cl. Begins k caps c.numbers-found.result items (Some (record {
       key = c.set-key.result;
       class = cl;
       place = place;
       size = c.args.size;
-    }))) c.new.result.items) c.class_of.ensures.same c.new.ensures.items) c.new.ensures.value
-    c.gather-items.ensures.room in
-    record {
-      starts = record {
-        key = c.set-key.result;
-        joins = record {
-          now = c.set-key.ensures.now;
-          kept = c.set-key.ensures.kept;
-          keys = c.set-key.ensures.keys;
-          names = c.set-key.ensures.names;
-          table = c.set-key.ensures.table;
-        };
-        rest = refl;
-        value = is.0;
-        ends = (let holds = start_holds c.requires.start c.args.size c.requires.small in
-            omega (
-              arith,
-              holds,
-              ap (λ n. n.reach) found,
-              ap (λ p. p.numbers.reach) c.new.ensures.value,
-              ap (λ xs. (numbers_of k caps c.args.b xs c.args.size).reach) c.gather-items.ensures.items,
-            ));
-        items = is.1;
-      };
-    }
+    }))) (sym c.class_of.ensures.same) begins)
+    (subst (λ cl. IsPermutation (with_pending items (Some (record {
+      key = c.set-key.result;
+      class = cl;
+      place = place;
+      size = c.args.size;
+    }))) (items_now c.new.result.course c.set-key.new.self)) (sym c.class_of.ensures.same) is)

@@ -1,4 +1,3 @@
-use Rattle.std.specs.Prelude.{◌≤◌, vec_capacity}
 use Rattle.std.proofs.Common.{◌∙◌, ap, lit<, subst, sym}
 use Rattle.size_class.specs.declared.TheConstants.{SIZE_MAX}
 use Rattle.slot_codec.specs.Readable.{IsSuperBlock}
@@ -31,9 +30,6 @@ store_with-requires g c =
           guard_room = made.guard_room ∙ ap (λ (b : SuperBlock). b.names) same;
           base = c.head_len.ensures ∙ ap (λ (b : SuperBlock). head_len b.names) same;
           buffer = made.buffer;
-          none = made.empty;
-          room = subst (λ (b : SuperBlock). b.names ≤ vec_capacity c.in_ok-guard.field-0.items) same
-              made.room;
         },
       ),
     )

@@ -1,5 +1,4 @@
-use Rattle.std.specs.Prelude.{length}
-use Rattle.std.proofs.Common.{arith, ap, false, refl}
+use Rattle.std.proofs.Common.{false, refl}
 use Rattle.store_core.specs.declared.store.Store.TheInside.{Inside}
 use Rattle.store_core.proofs.OpenedLaws.{IsNew, new_view, new_whole}
 use Rattle.store_core.proofs.memory.store_with.Goals as goal
@@ -8,7 +7,6 @@ abbrev made : (g : _) (c : goal.After-result-1 g) → Inside g.row.C
 made g c = record {
   hands = record c.args.hands { ledger = c.no_bytes-hands.result };
   kept_layout = c.args.hands.layout;
-  items = c.args.items;
   broken = false;
 }
 
@@ -35,8 +33,6 @@ is_new g c =
       asked = c.no_bytes-hands.ensures.asked;
       base = r.base;
       buf = r.buffer;
-      no_items = omega (arith, ap (λ xs. length xs) r.none);
-      items_room = r.room;
       unbroken = refl;
     }
 

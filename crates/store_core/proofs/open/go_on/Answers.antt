@@ -1,14 +1,22 @@
-use Rattle.std.specs.Prelude.{vec_capacity, Ok}
-use Rattle.std.proofs.Common.{ap, lit<, subst, sym, ◌∙◌}
+use Rattle.std.specs.Prelude.{Ok}
+use Rattle.std.proofs.Common.{lit<, subst, sym}
 use Rattle.flush_run.specs.Parts.{parts_of}
+use Rattle.flush_run.specs.Shelved.{items_now, phase_now}
+use Rattle.flush_plan.specs.Packs.{KeepsPacking}
 use Rattle.store_core.specs.Opened.{IsOpening}
+use Rattle.store_core.specs.Resuming.{PacksAgain}
 use Rattle.store_core.proofs.GoingLaws.{some_again}
 use Rattle.store_core.proofs.ResumedLaws.{again_done, again_failed, makes_store}
 use Rattle.store_core.proofs.open.go_on.Goals as goal
 
 pub resume-requires : goal.resume-requires
 resume-requires g c =
-    let r = c.requires in (
+    let r = c.requires in
+    let starts = c.hands_of-hands.ensures in
+    let phase = c.phase_again-phase.result in
+    let packs : PacksAgain c.args.found (phase_now phase.course c.hands_of-hands.result.table) =
+    subst (λ e. PacksAgain c.args.found (phase_now phase.course e)) (sym starts.table)
+    c.phase_again-phase.ensures.again in (
       lit< tt,
       (
         lit< tt,
@@ -17,12 +25,15 @@ resume-requires g c =
           (
             r.ready,
             (
-              c.hands_of-hands.ensures.buffer,
+              starts.buffer,
               (
                 r.fits,
-                some_again c.args.found r.loads r.moving r.fits r.wide (parts_of c.hands_of-hands.result)
-                    c.hands_of-hands.ensures c.phase_again-phase.result (vec_capacity c.args.memory.items)
-                    c.phase_again-phase.ensures (g.D.Disk.state c.args.disk.now) r.from,
+                (
+                  some_again c.args.found r.loads r.moving r.fits r.wide (parts_of c.hands_of-hands.result) starts
+                      _ packs (g.D.Disk.state c.args.disk.now) r.from,
+                  subst (λ e. KeepsPacking g.row.C phase (items_now phase.course e)) (sym starts.table)
+                      c.phase_again-phase.ensures.keeps,
+                ),
               ),
             ),
           ),
@@ -32,17 +43,19 @@ resume-requires g c =
 
 pub store_with-requires : goal.store_with-requires
 store_with-requires g c =
-    let r = c.requires in (
+    let r = c.requires in
+    let starts = c.hands_of-hands.ensures in
+    let phase = c.phase_again-phase.result in
+    let packs : PacksAgain c.args.found (phase_now phase.course c.hands_of-hands.result.table) =
+    subst (λ e. PacksAgain c.args.found (phase_now phase.course e)) (sym starts.table)
+    c.phase_again-phase.ensures.again in (
       lit< tt,
       (
         lit< tt,
-        makes_store c.args.found r.loads r.moving r.fits r.wide (parts_of c.hands_of-hands.result)
-            c.hands_of-hands.ensures c.phase_again-phase.result (vec_capacity c.args.memory.items)
-            c.phase_again-phase.ensures (g.D.Disk.state c.args.disk.now) (g.D.Disk.state c.resume.new.disk)
-            r.from c.resume.new.hands c.resume.ensures.left c.resume.ensures.made c.in-Ok.ensures.ends
-            c.in-Ok.ensures.saves.0 c.in-Ok.ensures.saves.1 c.emptied.result c.emptied.ensures.empty
-            (c.emptied.ensures.room ∙ c.in-Ok.ensures.room
-            ∙ ap (λ p. p.room) c.phase_again-phase.ensures.value) r.room,
+        makes_store c.args.found r.loads r.moving r.fits r.wide (parts_of c.hands_of-hands.result) starts _ packs
+            (g.D.Disk.state c.args.disk.now) (g.D.Disk.state c.resume.new.disk) r.from c.resume.new.hands
+            c.resume.ensures.left c.resume.ensures.made c.in-Ok.ensures.ends c.in-Ok.ensures.saves.0
+            c.in-Ok.ensures.saves.1,
       ),
     )
 
@@ -51,17 +64,24 @@ returns-in-Ok g c =
     let r = c.requires in
     let a = g.D.Disk.state c.args.disk.now in
     let d = g.D.Disk.state c.resume.new.disk in
+    let starts = c.hands_of-hands.ensures in
+    let phase = c.phase_again-phase.result in
+    let packs : PacksAgain c.args.found (phase_now phase.course c.hands_of-hands.result.table) =
+    subst (λ e. PacksAgain c.args.found (phase_now phase.course e)) (sym starts.table)
+    c.phase_again-phase.ensures.again in
     subst (λ s. IsOpening g.row.C a d (Ok s)) (sym c.store_with.ensures)
-    (again_done c.args.found r.loads r.moving r.fits r.wide (parts_of c.hands_of-hands.result)
-    c.hands_of-hands.ensures c.phase_again-phase.result (vec_capacity c.args.memory.items)
-    c.phase_again-phase.ensures a d r.from c.resume.new.hands c.resume.ensures.left c.resume.ensures.made
-    c.in-Ok.ensures.ends c.in-Ok.ensures.saves.0 c.in-Ok.ensures.saves.1 c.in-Ok.settled c.in-Ok.ensures.calls
-    c.in-Ok.ensures.cause)
+    (again_done c.args.found r.loads r.moving r.fits r.wide (parts_of c.hands_of-hands.result) starts _ packs a d
+    r.from c.resume.new.hands c.resume.ensures.left c.resume.ensures.made c.in-Ok.ensures.ends
+    c.in-Ok.ensures.saves.0 c.in-Ok.ensures.saves.1 _ c.in-Ok.ensures.calls c.in-Ok.ensures.cause)
 
 pub returns-in-Err : goal.returns-in-Err
 returns-in-Err g c =
     let r = c.requires in
-    again_failed c.args.found r.loads r.moving r.fits r.wide (parts_of c.hands_of-hands.result)
-    c.hands_of-hands.ensures c.phase_again-phase.result (vec_capacity c.args.memory.items)
-    c.phase_again-phase.ensures (g.D.Disk.state c.args.disk.now) (g.D.Disk.state c.resume.new.disk) r.from
-    c.resume.new.hands c.resume.ensures.left c.resume.ensures.made c.in-Err.field-0 c.in-Err.ensures.cause
+    let starts = c.hands_of-hands.ensures in
+    let phase = c.phase_again-phase.result in
+    let packs : PacksAgain c.args.found (phase_now phase.course c.hands_of-hands.result.table) =
+    subst (λ e. PacksAgain c.args.found (phase_now phase.course e)) (sym starts.table)
+    c.phase_again-phase.ensures.again in
+    again_failed c.args.found r.loads r.moving r.fits r.wide (parts_of c.hands_of-hands.result) starts _ packs
+    (g.D.Disk.state c.args.disk.now) (g.D.Disk.state c.resume.new.disk) r.from c.resume.new.hands
+    c.resume.ensures.left c.resume.ensures.made c.in-Err.field-0 c.in-Err.ensures.cause

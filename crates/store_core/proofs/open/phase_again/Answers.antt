@@ -1,36 +1,26 @@
-use Rattle.std.proofs.Common.{ap, lit<, subst, ◌∙◌}
-use Rattle.std.specs.Prelude.{IsPermutation}
+use Rattle.std.proofs.Common.{ap, lit<, refl, subst, sym, ◌∙◌}
+use Rattle.std.specs.Prelude.{ℕ, ◌<◌, ◌^◌, IsPermutation}
+use Rattle.std.proofs.lemmas.List.Sorted.{IsPermutation-refl}
 use Rattle.segment_layout.specs.Layouts.{caps_of, divisor_of}
-use Rattle.flush_plan.specs.Phases.{phase_of}
-use Rattle.flush_plan.specs.Resumed.{numbers_again}
-use Rattle.store_core.proofs.MovingLaws.{below_all, can_all, can_pack, front, objects_all, small, small_all}
+use Rattle.plan_terms.specs.Phases.{phase_of}
+use Rattle.flush_run.specs.Hands.{suffix_items}
+use Rattle.flush_plan.specs.Packs.{KeepsPacking}
+use Rattle.flush_plan.specs.Shelves.{Course, course_of}
+use Rattle.store_core.proofs.MovingLaws.{can_go_on, front}
 use Rattle.store_core.proofs.open.phase_again.Goals as goal
-
-pub gather-all-requires-clause-small : goal.gather-all-requires-clause-small
-gather-all-requires-clause-small g c =
-    let r = c.requires in
-    small c.args.found.now r.loads r.moving r.fits r.wide r.loads.data_len r.loads.valid
 
 pub numbers_again-numbers-requires : goal.numbers_again-numbers-requires
 numbers_again-numbers-requires g c =
     let r = c.requires in
-    let x = c.args.found.now in
-    let all = c.gather-all.result.items in
-    let is = c.gather-all.ensures.items in (
+    let x = c.args.found.now in (
       lit< tt,
       (
         r.fits,
         (
           front x r.loads r.moving r.fits r.wide r.loads.data_len r.loads.valid,
           (
-            objects_all x r.loads r.moving r.fits r.wide r.loads.data_len r.loads.valid all is,
-            (
-              can_all x r.loads r.moving r.fits r.wide r.loads.data_len r.loads.valid all is,
-              (
-                below_all x r.loads r.moving r.fits r.wide r.loads.data_len r.loads.valid all is,
-                small_all x r.loads r.moving r.fits r.wide r.loads.data_len r.loads.valid all is,
-              ),
-            ),
+            suffix_items x.header.boundary x.table,
+            can_go_on x r.loads r.moving r.fits r.wide r.loads.data_len r.loads.valid _ refl,
           ),
         ),
       ),
@@ -40,51 +30,48 @@ pub resume-requires : goal.resume-requires
 resume-requires g c =
     let r = c.requires in
     let x = c.args.found.now in
-    let all = c.gather-all.result.items in
-    let is = c.gather-all.ensures.items in
-    let can = can_pack x r.loads r.moving r.fits r.wide r.loads.data_len r.loads.valid all is
-    c.numbers_again-numbers.result c.numbers_again-numbers.ensures in (
+    let can = can_go_on x r.loads r.moving r.fits r.wide r.loads.data_len r.loads.valid in
+    let found = c.numbers_again-numbers.ensures (suffix_items x.header.boundary x.table) (can _ refl).on in (
       lit< tt,
       (
         lit< tt,
         (
           r.fits,
           (
-            can.boundary,
-            (
-              can.are_objects,
-              (
-                can.resumes,
-                (
-                  can.start,
-                  (
-                    can.end,
-                    (
-                      can.reaches,
-                      (
-                        below_all x r.loads r.moving r.fits r.wide r.loads.data_len r.loads.valid all is,
-                        can.are_small,
-                      ),
-                    ),
-                  ),
-                ),
-              ),
-            ),
+            subst (λ (n : ℕ). n < g.row.C) (sym (ap (λ m. m.boundary) found))
+                (front x r.loads r.moving r.fits r.wide r.loads.data_len r.loads.valid),
+            (suffix_items x.header.boundary x.table, can _ found),
           ),
         ),
       ),
     )
 
-pub returns : goal.returns
-returns g c =
+pub returns-clause-again : goal.returns-clause-again
+returns-clause-again g c =
+    let r = c.requires in
     let x = c.args.found.now in
     let k = divisor_of x.layout in
     let caps = caps_of x.layout in
-    let is = c.gather-all.ensures.items in
-    let n = c.numbers_again-numbers.ensures
-    ∙ ap (numbers_again k caps x.header.boundary x.header.wall x.header.slack) is in
+    let items = suffix_items x.header.boundary x.table in
+    let can = can_go_on x r.loads r.moving r.fits r.wide r.loads.data_len r.loads.valid in
+    let found = c.numbers_again-numbers.ensures items (can _ refl).on in
+    let course = c.resume.ensures.course ∙ ap (λ n. course_of k caps n 0) found in
+    let now = suffix_items c.resume.result.course.numbers.boundary x.table in
     record {
-      value = c.resume.ensures.value
-          ∙ (λ i. phase_of k caps (n i) 0 c.resume.result.items (c.gather-all.ensures.room i));
-      items = subst (λ xs. IsPermutation xs c.resume.result.items) is c.resume.ensures.items;
+      value = ap (λ (q : Course). phase_of q.k q.caps q.numbers q.pending now (2 ^ 64)) course;
+      items = subst (λ (b : ℕ). IsPermutation items (suffix_items b x.table))
+          (sym (ap (λ (q : Course). q.numbers.boundary) course)) (IsPermutation-refl items);
     }
+
+pub returns-clause-keeps : goal.returns-clause-keeps
+returns-clause-keeps g c =
+    let r = c.requires in
+    let x = c.args.found.now in
+    let k = divisor_of x.layout in
+    let caps = caps_of x.layout in
+    let items = suffix_items x.header.boundary x.table in
+    let can = can_go_on x r.loads r.moving r.fits r.wide r.loads.data_len r.loads.valid in
+    let found = c.numbers_again-numbers.ensures items (can _ refl).on in
+    let course = c.resume.ensures.course ∙ ap (λ n. course_of k caps n 0) found in
+    subst (λ (b : ℕ). KeepsPacking g.row.C c.resume.result (suffix_items b x.table))
+    (sym (ap (λ (q : Course). q.numbers.boundary) course)) (c.resume.ensures.keeps items (can _ found))

@@ -1,24 +1,30 @@
-use Rattle.std.proofs.Common.{arith, sym, subst, ◌≡◌, length}
+use Rattle.std.proofs.Common.{sym, subst}
 use Rattle.size_class.specs.Rows.{cells_of}
-use Rattle.flush_plan.specs.Phases.{IsLifted}
-use Rattle.flush_plan.specs.PackedSoFar.{KeepsPacking}
-use Rattle.flush_plan.specs.Suffixes.{value_of}
-use Rattle.flush_plan.proofs.LiftStepLaws.{lift_packs}
-use Rattle.flush_plan.proofs.PhaseLaws.{lift_pays, packing_begins}
+use Rattle.plan_terms.specs.Phases.{IsLifted}
+use Rattle.plan_terms.proofs.PhaseLaws.{lift_pays}
+use Rattle.flush_plan.specs.Lifts.{KeepsLifting, Lift}
+use Rattle.flush_plan.specs.Shelves.{course_of, phase_on}
+use Rattle.flush_plan.proofs.LiftGoesLaws.{lift_at}
+use Rattle.flush_plan.proofs.PackGoesLaws.{pack_begins}
 use Rattle.flush_plan.proofs.lift.Lifting.into_packing.Goals as goal
 
-pub invariant_of-result : goal.invariant_of-result
-invariant_of-result g c =
-    let p = value_of c.self.inside.suffix in
-    let long : c.len.result ≡ length p.items = omega (arith, c.len.ensures) in
-    subst (λ left. KeepsPacking g.row.C p left p.numbers.wall) (sym long)
-    (lift_packs g.row.C p (cells_of c.self.inside.starts) c.self.inside.seen c.self.inside.to c.self.invariant
-    (subst IsLifted (sym c.self.view_is) c.requires.end))
-
-pub returns-clause-packing : goal.returns-clause-packing
-returns-clause-packing g c = packing_begins (value_of c.self.inside.suffix) c.self.invariant.lifting
-    (subst IsLifted (sym c.self.view_is) c.requires.end)
+pub returns-clause-keeps : goal.returns-clause-keeps
+returns-clause-keeps g c = λ items keeps ended.
+    let s = c.self.inside in
+    let course = course_of s.k (cells_of s.caps) s.numbers s.pending in
+    let here : KeepsLifting g.row.C (lift_at course s.from s.to) items =
+    subst (λ v. KeepsLifting g.row.C v items) (sym c.self.view_is) keeps in
+    let whole : IsLifted (phase_on course items) =
+    subst (λ (v : Lift). IsLifted (phase_on v.course items)) (sym c.self.view_is) ended in
+    pack_begins g.row.C course items here.fits here.boundary here.divisor here.lifting whole here.classes
+    here.small
 
 pub returns-clause-pays : goal.returns-clause-pays
-returns-clause-pays g c = lift_pays (value_of c.self.inside.suffix) c.self.invariant.lifting
-    (subst IsLifted (sym c.self.view_is) c.requires.end)
+returns-clause-pays g c = λ items keeps ended.
+    let s = c.self.inside in
+    let course = course_of s.k (cells_of s.caps) s.numbers s.pending in
+    let here : KeepsLifting g.row.C (lift_at course s.from s.to) items =
+    subst (λ v. KeepsLifting g.row.C v items) (sym c.self.view_is) keeps in
+    let whole : IsLifted (phase_on course items) =
+    subst (λ (v : Lift). IsLifted (phase_on v.course items)) (sym c.self.view_is) ended in
+    lift_pays (phase_on course items) here.lifting whole

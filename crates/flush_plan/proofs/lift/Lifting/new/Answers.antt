@@ -1,54 +1,61 @@
-use Rattle.std.proofs.Common.{arith, rules, sym, subst, IsPermutation, vec_capacity}
-use Rattle.std.specs.List.Sorted.{IsNonDecreasingBy}
-use Rattle.std.proofs.lemmas.List.Sorted.{IsNonDecreasingBy-from_sort_by_key}
+use Rattle.std.proofs.Common.{sym, subst, ◌≡◌, ◌<◌, ◌≤◌, ℕ, List}
+use Rattle.std.specs.Prelude.{Option, IfSome, IsPermutation}
 use Rattle.size_class.specs.Rows.{cells_of}
 use Rattle.size_class.proofs.RowLaws.{row_shape}
 use Rattle.segment_layout.specs.Layouts.{divisor_of, caps_of}
+use Rattle.segment_layout.specs.declared.layout.Layout.{Layout}
 use Rattle.segment_layout.proofs.LayoutLaws.{layout_shape}
-use Rattle.flush_plan.specs.declared.item.Item.{Item}
-use Rattle.flush_plan.specs.Phases.{phase_of}
-use Rattle.flush_plan.specs.LiftedSoFar.{KeepsLifting}
-use Rattle.flush_plan.proofs.StartLaws.{lift_starts, lifted_in_none}
-use Rattle.flush_plan.proofs.BoundLaws.{end_small}
-use Rattle.flush_plan.specs.Begins.{pending_size, with_pending}
+use Rattle.plan_terms.specs.declared.item.Item.{Item}
+use Rattle.plan_terms.specs.declared.item.Numbers.{Numbers}
+use Rattle.plan_terms.specs.Begins.{Begins, pending_size, with_pending}
+use Rattle.plan_terms.specs.Phases.{lifted_in}
+use Rattle.plan_terms.proofs.BoundLaws.{end_small}
+use Rattle.flush_plan.specs.Lifts.{KeepsLifting}
+use Rattle.flush_plan.specs.Shelves.{Course, course_of, phase_on}
+use Rattle.flush_plan.proofs.LiftGoesLaws.{lift_at, lift_begins, lift_begins_with_none}
 use Rattle.flush_plan.proofs.lift.Lifting.new.Goals as goal
 
-pub invariant_of-result : goal.invariant_of-result
-invariant_of-result g c =
-    let layout = c.args.layout.now in
-    let k = divisor_of layout in
-    let caps = caps_of layout in
-    let n = c.args.numbers in
-    let items = c.args.items.items in
-    let pending = c.args.pending in
-    let new = c.sort_unstable_by_key.new.self in
-    let room = vec_capacity new in
-    let starts = cells_of c.starts_of.result in
-    let perm : IsPermutation (with_pending items pending) new.items =
-    subst (λ xs. IsPermutation xs new.items) c.joined-all.ensures.items
-    c.sort_unstable_by_key.ensures.permutation in
-    let order : IsNonDecreasingBy (λ (it : Item). it.place) new.items =
-    IsNonDecreasingBy-from_sort_by_key (λ (it : Item). it.place) _ c.sort_unstable_by_key.ensures.sorted
-    (λ a r q f. search rules) in
-    subst (λ size. KeepsLifting g.row.C (phase_of c.k.result (cells_of c.caps.result) n size new.items room)
-    starts 0 n.wall) (sym c.size_of-size.ensures)
-    (subst (λ xs. KeepsLifting g.row.C (phase_of c.k.result xs n (pending_size pending) new.items room)
-    starts 0 n.wall) (sym c.caps.ensures)
-    (subst (λ x. KeepsLifting g.row.C (phase_of x caps n (pending_size pending) new.items room)
-    starts 0 n.wall) (sym c.k.ensures)
-    (lift_starts g.row.C k caps n items pending new.items room starts c.requires.fits c.requires.boundary
-    (layout_shape layout).k_low (row_shape layout.caps)
-    (end_small k caps (layout_shape layout).caps_high (row_shape layout.caps).full) c.requires.begins
-    c.requires.class perm order (omega arith) c.starts_of.ensures)))
+module _ {C : ℕ} (layout : Layout C) (n : Numbers) (pending : Option Item) (fits : C ≤ 32)
+    (boundary : n.boundary < C) (class : IfSome pending (λ it. it.class < C)) (course : Course)
+    (is : course ≡ course_of (divisor_of layout) (caps_of layout) n (pending_size pending))
+    (items all : List Item) (begins : Begins (divisor_of layout) (caps_of layout) n items pending)
+    (same : IsPermutation (with_pending items pending) all) where
+  keeps : KeepsLifting C (lift_at course n.start n.wall) all
+  keeps = subst (λ (x : Course). KeepsLifting C (lift_at x n.start n.wall) all) (sym is)
+      (lift_begins C (divisor_of layout) (caps_of layout) n items pending all fits boundary
+      (layout_shape layout).k_low (row_shape layout.caps)
+      (end_small (divisor_of layout) (caps_of layout) (layout_shape layout).caps_high
+      (row_shape layout.caps).full)
+      class begins same)
 
-pub returns-clause-lifting : goal.returns-clause-lifting
-unfolding invariant_of-result
-returns-clause-lifting g c = (invariant_of-result g c).lifting
+  none : (c : ℕ) → lifted_in (phase_on course all) c ≡ 0
+  none c = subst (λ (x : Course). lifted_in (phase_on x all) c ≡ 0) (sym is)
+      (lift_begins_with_none C (divisor_of layout) (caps_of layout) n items pending all fits boundary
+      (layout_shape layout).k_low (row_shape layout.caps)
+      (end_small (divisor_of layout) (caps_of layout) (layout_shape layout).caps_high
+      (row_shape layout.caps).full)
+      class begins same c)
+
+-- the course that was set up
+course_is : (k k' size size' : ℕ) (caps caps' : List ℕ) (n : Numbers) → k ≡ k' → caps ≡ caps' → size ≡ size'
+    → course_of k caps n size ≡ course_of k' caps' n size'
+course_is k k' size size' caps caps' n same_k same_caps same_size = λ i.
+    course_of (same_k i) (same_caps i) n (same_size i)
+
+pub returns-clause-keeps : goal.returns-clause-keeps
+returns-clause-keeps g c = λ items all begins same.
+    let layout = c.args.layout.now in
+    keeps layout c.args.numbers c.args.pending c.requires.fits c.requires.boundary c.requires.class
+    (course_of c.k.result (cells_of c.caps.result) c.args.numbers c.size_of.result)
+    (course_is c.k.result (divisor_of layout) c.size_of.result (pending_size c.args.pending)
+    (cells_of c.caps.result) (caps_of layout) c.args.numbers c.k.ensures c.caps.ensures c.size_of.ensures)
+    items all begins same
 
 pub returns-clause-none : goal.returns-clause-none
-unfolding invariant_of-result
-returns-clause-none g c =
-    let new = c.sort_unstable_by_key.new.self in
-    lifted_in_none (phase_of c.k.result (cells_of c.caps.result) c.args.numbers c.size_of-size.result
-    new.items
-    (vec_capacity new)) (omega (arith, (invariant_of-result g c).goes))
+returns-clause-none g c = λ items all class begins same.
+    let layout = c.args.layout.now in
+    none layout c.args.numbers c.args.pending c.requires.fits c.requires.boundary c.requires.class
+    (course_of c.k.result (cells_of c.caps.result) c.args.numbers c.size_of.result)
+    (course_is c.k.result (divisor_of layout) c.size_of.result (pending_size c.args.pending)
+    (cells_of c.caps.result) (caps_of layout) c.args.numbers c.k.ensures c.caps.ensures c.size_of.ensures)
+    items all begins same class

@@ -1,57 +1,58 @@
-use Rattle.std.proofs.Common.{arith, sym, subst, ◌+◌, true, refl}
+use Rattle.std.proofs.Common.{arith, sym, subst, ◌≡◌, ◌+◌, ◌<◌, ◌^◌, ℕ, List}
 use Rattle.size_class.specs.Rows.{cells_of}
-use Rattle.flush_plan.specs.Phases.{IsLifted, Phase}
-use Rattle.flush_plan.specs.Steps.{IsLiftStep}
-use Rattle.flush_plan.specs.LiftedSoFar.{KeepsLifting}
-use Rattle.flush_plan.specs.Suffixes.{value_of}
-use Rattle.std.proofs.lemmas.Bool.{both_ways}
-use Rattle.flush_plan.proofs.LiftStepLaws.{lift_all, lift_fits, lift_goes_on, lift_next}
-use Rattle.flush_plan.proofs.StepLaws.{lift_step}
+use Rattle.plan_terms.specs.declared.item.Item.{Item}
+use Rattle.plan_terms.specs.declared.item.Move.{Move}
+use Rattle.plan_terms.specs.Plans.{relocated}
+use Rattle.plan_terms.specs.Steps.{IsLiftStep}
+use Rattle.flush_plan.specs.declared.lift.Lifting.TheInside.{Inside}
+use Rattle.flush_plan.specs.Lifts.{IsFirstUnlifted, KeepsLifting, Lift}
+use Rattle.flush_plan.specs.Shelves.{course_of, phase_on}
+use Rattle.flush_plan.proofs.LiftGoesLaws.{lift_at, lift_fits, lift_goes_on, lift_is_step}
 use Rattle.flush_plan.proofs.lift.Lifting.next.Goals as goal
 
-pub overflow_add-self : goal.overflow_add-self
-overflow_add-self g c =
-    let at = c.lifted_up-self-inside.ensures in
+-- the move of what was found, told from the fields
+module _ {C : ℕ} (s : Inside C) (v : Lift)
+    (same : lift_at (course_of s.k (cells_of s.caps) s.numbers s.pending) s.from s.to ≡ v)
+    (items : List Item) (keeps : KeepsLifting C v items) (m : Item)
+    (found : IsFirstUnlifted v.course items m) where
+  abbrev shown : Lift
+  shown = lift_at (course_of s.k (cells_of s.caps) s.numbers s.pending) s.from s.to
+
+  keeps_shown : KeepsLifting C shown items
+  keeps_shown = subst (λ u. KeepsLifting C u items) (sym same) keeps
+
+  found_shown : IsFirstUnlifted shown.course items m
+  found_shown = subst (λ (u : Lift). IsFirstUnlifted u.course items m) (sym same) found
+
+  abbrev mv : Move
+  mv = record { key = m.key; class = m.class; from = m.place; to = s.to; size = m.size }
+
+  low : s.to + m.size < 2 ^ 64
+  low = omega (arith, lift_fits C shown items keeps_shown m found_shown, keeps_shown.small.0)
+
+  step : IsLiftStep (phase_on v.course items) mv
+  step = subst (λ (u : Lift). IsLiftStep (phase_on u.course items) mv) same
+      (lift_is_step C shown items keeps_shown m found_shown)
+
+  goes_on : KeepsLifting C (lift_at (course_of s.k (cells_of s.caps) s.numbers s.pending) (m.place + 1)
+      (s.to + m.size)) (relocated m.key s.to items)
+  goes_on = lift_goes_on C shown items keeps_shown m found_shown
+
+pub overflow_add-self-2 : goal.overflow_add-self-2
+overflow_add-self-2 g c =
+    let h = c.requires.lifts in
     omega (
       arith,
-      lift_fits g.row.C (value_of c.self.inside.suffix) (cells_of c.self.inside.starts)
-          c.lifted_up-self-inside.result c.self.inside.to at.keeps at.stops c.relocate-mv.result
-          c.relocate-mv.ensures.item c.relocate-mv.ensures.to,
-      at.keeps.small.0,
+      low c.self.inside c.args.self.now c.self.view_is h.0 h.1.keeps c.in_ok-item.item
+          (c.in_ok-item.ensures.some h.0 h.1),
     )
-
-pub invariant_of-self-2 : goal.invariant_of-self-2
-invariant_of-self-2 g c =
-    let starts = cells_of c.self.inside.starts in
-    let seen = c.lifted_up-self-inside.result in
-    let to = c.self.inside.to in
-    let at = c.lifted_up-self-inside.ensures in
-    let mv = c.relocate-mv.result in
-    subst (λ (q : Phase). KeepsLifting g.row.C q starts (seen + 1) (to + mv.size))
-    (sym c.relocate-mv.ensures.value)
-    (lift_goes_on g.row.C (value_of c.self.inside.suffix) starts seen to at.keeps at.stops mv
-    c.relocate-mv.ensures.item c.relocate-mv.ensures.to)
 
 pub returns-clause-step : goal.returns-clause-step
-returns-clause-step g c =
-    let p = value_of c.self.inside.suffix in
-    let at = c.lifted_up-self-inside.ensures in
-    let mv = c.relocate-mv.result in
-    subst (λ (q : Phase). IsLiftStep q mv) c.self.view_is
-    (lift_step p mv c.self.invariant.lifting
-    (lift_next g.row.C p (cells_of c.self.inside.starts) c.lifted_up-self-inside.result c.self.inside.to
-    at.keeps at.stops mv c.relocate-mv.ensures.item c.relocate-mv.ensures.to))
+returns-clause-step g c = λ items lifts.
+    step c.self.inside c.args.self.now c.self.view_is items lifts.keeps c.in_ok-item.item
+    (c.in_ok-item.ensures.some items lifts)
 
-pub returns-clause-end : goal.returns-clause-end
-returns-clause-end g c =
-    let at = c.lifted_up-self-inside.ensures in (
-      λ none. absurd (both_ways true none refl),
-      λ lifted. absurd (omega (
-        arith,
-        c.if-self-len.false,
-        c.len.ensures,
-        lift_all g.row.C (value_of c.self.inside.suffix) (cells_of c.self.inside.starts)
-            c.lifted_up-self-inside.result c.self.inside.to at.keeps at.stops
-            (subst IsLifted (sym c.self.view_is) lifted),
-      )),
-    )
+pub returns-clause-keeps : goal.returns-clause-keeps
+returns-clause-keeps g c = λ items lifts.
+    goes_on c.self.inside c.args.self.now c.self.view_is items lifts.keeps c.in_ok-item.item
+    (c.in_ok-item.ensures.some items lifts)

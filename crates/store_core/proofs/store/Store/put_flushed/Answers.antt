@@ -1,15 +1,16 @@
-use Rattle.std.specs.Prelude.{◌≡◌, ◌⊎◌, ◌<◌, IsSome, IsTrue, None, false, refl, vec_capacity}
+use Rattle.std.specs.Prelude.{◌≡◌, ◌⊎◌, ◌<◌, IsSome, IsTrue, None, false, refl}
 use Rattle.std.proofs.Common.{◌∙◌, ap, arith, inl, inr, lit<, subst, sym}
 use Rattle.std.specs.FinMap as fin
 use Rattle.segment_layout.specs.Books.{is_quiet}
 use Rattle.flush_run.specs.Parts.{Parts, parts_of}
+use Rattle.flush_run.specs.Shelved.{phase_now}
 use Rattle.store_terms.specs.Requests as ask
 use Rattle.store_core.specs.Connection.{IsOver, Kept}
 use Rattle.store_core.specs.Answers.{refused_by}
 use Rattle.store_core.specs.Inside.{kept_of}
 use Rattle.store_core.specs.Quiet.{charges_of, put_of}
 use Rattle.store_core.proofs.FlushDoneLaws.{IsFlown, done_over, done_seen, done_whole, failed_seen, step_seen}
-use Rattle.store_core.proofs.FlushLaws.{may_begin, no_items, put_loud, some_flight}
+use Rattle.store_core.proofs.FlushLaws.{may_begin, put_loud, some_flight}
 use Rattle.store_core.proofs.PlanLaws.{put_served}
 use Rattle.store_core.proofs.store.Store.put_flushed.Goals as goal
 
@@ -18,7 +19,8 @@ returns-in-Ok-clause-flush g c =
     let t = c.args.self.now in
     let sv = put_served t c.args.name.now c.args.bytes.now c.requires.served in
     let unbroken : c.self.inside.broken ≡ false = ap (λ (x : Kept). x.is_broken) c.self.view_is ∙ sv.whole in
-    let w : IsFlown c.self.inside (put_of c.args.name.now c.args.bytes.now) c.begin_put-begun.new.hands c.begin_put-begun.result.phase c.begin_put-begun.result.place
+    let w : IsFlown c.self.inside (put_of c.args.name.now c.args.bytes.now) c.begin_put-begun.new.hands (phase_now c.begin_put-begun.result.phase.course c.begin_put-begun.new.hands.table)
+    c.begin_put-begun.result.place
     c.args.bytes.now c.fly-flown.new.hands (g.D.Disk.state c.args.disk.now) (g.D.Disk.state c.fly-flown.new.disk) = record {
       whole = c.self.invariant;
       unbroken = unbroken;
@@ -31,15 +33,17 @@ returns-in-Ok-clause-flush g c =
       left = c.fly-flown.ensures.left;
       made = c.fly-flown.ensures.made;
     } in
-    done_seen c.self.inside (put_of c.args.name.now c.args.bytes.now) c.begin_put-begun.new.hands c.begin_put-begun.result.phase c.begin_put-begun.result.place
-    c.args.bytes.now c.fly-flown.new.hands (g.D.Disk.state c.args.disk.now) (g.D.Disk.state c.fly-flown.new.disk) w t c.self.view_is c.in-Ok.ensures.ends c.in-Ok.ensures.saves.0 c.in-Ok.ensures.saves.1 c.in-Ok.list _ c.in-Ok.ensures.calls c.in-Ok.ensures.cause
+    done_seen c.self.inside (put_of c.args.name.now c.args.bytes.now) c.begin_put-begun.new.hands (phase_now c.begin_put-begun.result.phase.course c.begin_put-begun.new.hands.table)
+    c.begin_put-begun.result.place
+    c.args.bytes.now c.fly-flown.new.hands (g.D.Disk.state c.args.disk.now) (g.D.Disk.state c.fly-flown.new.disk) w t c.self.view_is c.in-Ok.ensures.ends c.in-Ok.ensures.saves.0 c.in-Ok.ensures.saves.1 _ c.in-Ok.ensures.calls c.in-Ok.ensures.cause
 
 pub returns-in-Err-clause-flush : goal.returns-in-Err-clause-flush
 returns-in-Err-clause-flush g c =
     let t = c.args.self.now in
     let sv = put_served t c.args.name.now c.args.bytes.now c.requires.served in
     let unbroken : c.self.inside.broken ≡ false = ap (λ (x : Kept). x.is_broken) c.self.view_is ∙ sv.whole in
-    let w : IsFlown c.self.inside (put_of c.args.name.now c.args.bytes.now) c.begin_put-begun.new.hands c.begin_put-begun.result.phase c.begin_put-begun.result.place
+    let w : IsFlown c.self.inside (put_of c.args.name.now c.args.bytes.now) c.begin_put-begun.new.hands (phase_now c.begin_put-begun.result.phase.course c.begin_put-begun.new.hands.table)
+    c.begin_put-begun.result.place
     c.args.bytes.now c.fly-flown.new.hands (g.D.Disk.state c.args.disk.now) (g.D.Disk.state c.fly-flown.new.disk) = record {
       whole = c.self.invariant;
       unbroken = unbroken;
@@ -52,15 +56,17 @@ returns-in-Err-clause-flush g c =
       left = c.fly-flown.ensures.left;
       made = c.fly-flown.ensures.made;
     } in
-    failed_seen c.self.inside (put_of c.args.name.now c.args.bytes.now) c.begin_put-begun.new.hands c.begin_put-begun.result.phase c.begin_put-begun.result.place
-    c.args.bytes.now c.fly-flown.new.hands (g.D.Disk.state c.args.disk.now) (g.D.Disk.state c.fly-flown.new.disk) w t c.self.view_is c.self.inside.items _ _ c.in-Err.ensures.cause
+    failed_seen c.self.inside (put_of c.args.name.now c.args.bytes.now) c.begin_put-begun.new.hands (phase_now c.begin_put-begun.result.phase.course c.begin_put-begun.new.hands.table)
+    c.begin_put-begun.result.place
+    c.args.bytes.now c.fly-flown.new.hands (g.D.Disk.state c.args.disk.now) (g.D.Disk.state c.fly-flown.new.disk) w t c.self.view_is _ _ c.in-Err.ensures.cause
 
 pub returns-in-Ok-clause-step : goal.returns-in-Ok-clause-step
 returns-in-Ok-clause-step g c told =
     let t = c.args.self.now in
     let sv = put_served t c.args.name.now c.args.bytes.now c.requires.served in
     let unbroken : c.self.inside.broken ≡ false = ap (λ (x : Kept). x.is_broken) c.self.view_is ∙ sv.whole in
-    let w : IsFlown c.self.inside (put_of c.args.name.now c.args.bytes.now) c.begin_put-begun.new.hands c.begin_put-begun.result.phase c.begin_put-begun.result.place
+    let w : IsFlown c.self.inside (put_of c.args.name.now c.args.bytes.now) c.begin_put-begun.new.hands (phase_now c.begin_put-begun.result.phase.course c.begin_put-begun.new.hands.table)
+    c.begin_put-begun.result.place
     c.args.bytes.now c.fly-flown.new.hands (g.D.Disk.state c.args.disk.now) (g.D.Disk.state c.fly-flown.new.disk) = record {
       whole = c.self.invariant;
       unbroken = unbroken;
@@ -73,15 +79,17 @@ returns-in-Ok-clause-step g c told =
       left = c.fly-flown.ensures.left;
       made = c.fly-flown.ensures.made;
     } in
-    step_seen c.self.inside (put_of c.args.name.now c.args.bytes.now) c.begin_put-begun.new.hands c.begin_put-begun.result.phase c.begin_put-begun.result.place
-    c.args.bytes.now c.fly-flown.new.hands (g.D.Disk.state c.args.disk.now) (g.D.Disk.state c.fly-flown.new.disk) w t c.self.view_is c.in-Ok.ensures.ends c.in-Ok.ensures.saves.0 c.in-Ok.ensures.saves.1 c.in-Ok.list told sv.calm c.requires.loud
+    step_seen c.self.inside (put_of c.args.name.now c.args.bytes.now) c.begin_put-begun.new.hands (phase_now c.begin_put-begun.result.phase.course c.begin_put-begun.new.hands.table)
+    c.begin_put-begun.result.place
+    c.args.bytes.now c.fly-flown.new.hands (g.D.Disk.state c.args.disk.now) (g.D.Disk.state c.fly-flown.new.disk) w t c.self.view_is c.in-Ok.ensures.ends c.in-Ok.ensures.saves.0 c.in-Ok.ensures.saves.1 told sv.calm c.requires.loud
 
 pub returns-in-Ok-clause-over : goal.returns-in-Ok-clause-over
 returns-in-Ok-clause-over g c whole told =
     let t = c.args.self.now in
     let sv = put_served t c.args.name.now c.args.bytes.now c.requires.served in
     let unbroken : c.self.inside.broken ≡ false = ap (λ (x : Kept). x.is_broken) c.self.view_is ∙ sv.whole in
-    let w : IsFlown c.self.inside (put_of c.args.name.now c.args.bytes.now) c.begin_put-begun.new.hands c.begin_put-begun.result.phase c.begin_put-begun.result.place
+    let w : IsFlown c.self.inside (put_of c.args.name.now c.args.bytes.now) c.begin_put-begun.new.hands (phase_now c.begin_put-begun.result.phase.course c.begin_put-begun.new.hands.table)
+    c.begin_put-begun.result.place
     c.args.bytes.now c.fly-flown.new.hands (g.D.Disk.state c.args.disk.now) (g.D.Disk.state c.fly-flown.new.disk) = record {
       whole = c.self.invariant;
       unbroken = unbroken;
@@ -94,8 +102,9 @@ returns-in-Ok-clause-over g c whole told =
       left = c.fly-flown.ensures.left;
       made = c.fly-flown.ensures.made;
     } in
-    done_over c.self.inside (put_of c.args.name.now c.args.bytes.now) c.begin_put-begun.new.hands c.begin_put-begun.result.phase c.begin_put-begun.result.place
-    c.args.bytes.now c.fly-flown.new.hands (g.D.Disk.state c.args.disk.now) (g.D.Disk.state c.fly-flown.new.disk) w c.in-Ok.ensures.ends c.in-Ok.ensures.saves.0 c.in-Ok.ensures.saves.1 c.in-Ok.list (sym c.fly-flown.ensures.made.keeps.disk.stays.told ∙ told)
+    done_over c.self.inside (put_of c.args.name.now c.args.bytes.now) c.begin_put-begun.new.hands (phase_now c.begin_put-begun.result.phase.course c.begin_put-begun.new.hands.table)
+    c.begin_put-begun.result.place
+    c.args.bytes.now c.fly-flown.new.hands (g.D.Disk.state c.args.disk.now) (g.D.Disk.state c.fly-flown.new.disk) w c.in-Ok.ensures.ends c.in-Ok.ensures.saves.0 c.in-Ok.ensures.saves.1 (sym c.fly-flown.ensures.made.keeps.disk.stays.told ∙ told)
 
 pub begin_put-begun-requires : goal.begin_put-begun-requires
 begin_put-begun-requires g c =
@@ -103,7 +112,6 @@ begin_put-begun-requires g c =
     let sk = put_served ks c.args.name.now c.args.bytes.now
     (subst (λ (x : Kept). refused_by x (ask.change (put_of c.args.name.now c.args.bytes.now)) ≡ None) (sym c.self.view_is) c.requires.served) in
     let unbroken : c.self.inside.broken ≡ false = sk.whole in
-    let value = c.replace-list.ensures.value in
     let inv = c.self.invariant in (
       lit< tt,
       (
@@ -123,15 +131,9 @@ begin_put-begun-requires g c =
                         | inr low ↦ inr (omega (arith, low, inv.room))
                       ],
                   (
-                    ap (λ xs. xs.items) value ∙ no_items c.self.inside.items.items (omega (arith, inv.no_items)),
-                    (
-                      omega (arith, ap (λ xs. vec_capacity xs) value, inv.items_room unbroken, inv.room),
-                      (
-                        (_, may_begin c.self.inside inv unbroken),
-                        put_loud c.self.inside inv unbroken c.args.name.now c.args.bytes.now (subst (λ (x : Kept). is_quiet (charges_of x (put_of c.args.name.now c.args.bytes.now)) ≡ false) (sym c.self.view_is)
-                            c.requires.loud),
-                      ),
-                    ),
+                    (_, may_begin c.self.inside inv unbroken),
+                    put_loud c.self.inside inv unbroken c.args.name.now c.args.bytes.now (subst (λ (x : Kept). is_quiet (charges_of x (put_of c.args.name.now c.args.bytes.now)) ≡ false) (sym c.self.view_is)
+                        c.requires.loud),
                   ),
                 ),
               ),
@@ -147,13 +149,12 @@ fly-flown-requires g c =
     let sk = put_served ks c.args.name.now c.args.bytes.now
     (subst (λ (x : Kept). refused_by x (ask.change (put_of c.args.name.now c.args.bytes.now)) ≡ None) (sym c.self.view_is) c.requires.served) in
     let unbroken : c.self.inside.broken ≡ false = sk.whole in
-    let value = c.replace-list.ensures.value in
     let inv = c.self.invariant in
     let begun = c.begin_put-begun.ensures.begun in
     let over : IsTrue (g.D.Disk.state c.args.disk.now).tells → IsOver g.row.C ks (g.D.Disk.state c.args.disk.now).file =
     λ told. subst (λ (x : Kept). IsOver g.row.C x (g.D.Disk.state c.args.disk.now).file) (sym c.self.view_is)
     (c.requires.over (ap (λ (x : Kept). x.is_broken) (sym c.self.view_is) ∙ sk.whole) told) in
-    let sf = some_flight c.self.inside inv unbroken (put_of c.args.name.now c.args.bytes.now) (parts_of c.begin_put-begun.new.hands) c.begin_put-begun.result.phase
+    let sf = some_flight c.self.inside inv unbroken (put_of c.args.name.now c.args.bytes.now) (parts_of c.begin_put-begun.new.hands) (phase_now c.begin_put-begun.result.phase.course c.begin_put-begun.new.hands.table)
     c.begin_put-begun.result.place c.args.bytes.now begun sk.named refl sk.fresh (g.D.Disk.state c.args.disk.now) over in (
       lit< tt,
       (
@@ -162,7 +163,13 @@ fly-flown-requires g c =
           c.requires.ready,
           (
             ap (λ (y : Parts). y.buffer) begun.rest ∙ inv.buf,
-            (inv.classes, (parts_of c.self.inside.hands, (put_of c.args.name.now c.args.bytes.now), sf.0, sf.1)),
+            (
+              inv.classes,
+              (
+                (parts_of c.self.inside.hands, (put_of c.args.name.now c.args.bytes.now), sf.0, sf.1),
+                c.begin_put-begun.ensures.keeps,
+              ),
+            ),
           ),
         ),
       ),
@@ -173,7 +180,8 @@ invariant_of-self g c =
     let t = c.args.self.now in
     let sv = put_served t c.args.name.now c.args.bytes.now c.requires.served in
     let unbroken : c.self.inside.broken ≡ false = ap (λ (x : Kept). x.is_broken) c.self.view_is ∙ sv.whole in
-    let w : IsFlown c.self.inside (put_of c.args.name.now c.args.bytes.now) c.begin_put-begun.new.hands c.begin_put-begun.result.phase c.begin_put-begun.result.place
+    let w : IsFlown c.self.inside (put_of c.args.name.now c.args.bytes.now) c.begin_put-begun.new.hands (phase_now c.begin_put-begun.result.phase.course c.begin_put-begun.new.hands.table)
+    c.begin_put-begun.result.place
     c.args.bytes.now c.fly-flown.new.hands (g.D.Disk.state c.args.disk.now) (g.D.Disk.state c.fly-flown.new.disk) = record {
       whole = c.self.invariant;
       unbroken = unbroken;
@@ -186,12 +194,6 @@ invariant_of-self g c =
       left = c.fly-flown.ensures.left;
       made = c.fly-flown.ensures.made;
     } in
-    let value = c.replace-list.ensures.value in
-    done_whole c.self.inside (put_of c.args.name.now c.args.bytes.now) c.begin_put-begun.new.hands c.begin_put-begun.result.phase c.begin_put-begun.result.place
-    c.args.bytes.now c.fly-flown.new.hands (g.D.Disk.state c.args.disk.now) (g.D.Disk.state c.fly-flown.new.disk) w c.in-Ok.ensures.ends c.in-Ok.ensures.saves.0 c.in-Ok.ensures.saves.1 c.in-Ok.list c.in-Ok.ensures.empty
-    c.in-Ok.ensures.room (omega (
-      arith,
-      c.begin_put-begun.ensures.room,
-      ap (λ xs. vec_capacity xs) value,
-      c.self.invariant.items_room unbroken,
-    ))
+    done_whole c.self.inside (put_of c.args.name.now c.args.bytes.now) c.begin_put-begun.new.hands (phase_now c.begin_put-begun.result.phase.course c.begin_put-begun.new.hands.table)
+    c.begin_put-begun.result.place
+    c.args.bytes.now c.fly-flown.new.hands (g.D.Disk.state c.args.disk.now) (g.D.Disk.state c.fly-flown.new.disk) w c.in-Ok.ensures.ends c.in-Ok.ensures.saves.0 c.in-Ok.ensures.saves.1

@@ -1,0 +1,12 @@
+pub mod Plans
+pub mod Phases
+pub mod Steps
+pub mod Runs
+pub mod Begins
+pub mod LiftedSoFar
+pub mod PackedSoFar
+pub mod LaidSoFar
+pub mod Resumed
+pub mod Settlements
+pub mod LooseReach
+pub mod Worked
