@@ -11,7 +11,7 @@ ghost use Rattle.spot_terms.specs.Orders.{SetSoFar};
 ghost use Rattle.reopen.specs.Records.{SetThrough, all_records};
 
 use disk_face::{Disk, read};
-use extent_table::{Spot, Table};
+use extent_table::{BulkLoad, Spot};
 use slot_codec::{CodecFault, Name, RECORD_LEN, Record, read_record_after};
 use slot_pair::SlotFault;
 
@@ -21,12 +21,13 @@ const RECORDS_A_READ: u64 = 512;
 /// How many bytes one read has at most: those of 512 records.
 pub(crate) const BYTES_A_READ: usize = 40960;
 
-/// Reads the records that stand at a position, up to 512 in one read, and sets them in an empty table.
+/// Reads the records that stand at a position, up to 512 in one read, and sets them in a table that
+/// has no names yet.
 pub(crate) fn set_all<D: Disk>(
     disk: &mut D,
     at: u64,
     count: u64,
-    table: &mut Table,
+    load: &mut BulkLoad,
     buf: &mut [u8],
 ) -> Result<(), SlotFault>
     requires ready { IsTrue (D.state disk.old).is_ready }
@@ -34,14 +35,14 @@ pub(crate) fn set_all<D: Disk>(
     requires small { at + RECORD_LEN * count < 2 ^ 63 }
     requires within { IsTrue (D.state disk.old).tells
         → at + RECORD_LEN * count ≤ length (D.state disk.old).file }
-    requires empty { table.old.now ≡ fin.empty }
-    requires names { count ≤ table.old.names }
+    requires empty { load.old.now ≡ fin.empty }
+    requires names { count ≤ load.old.names }
     ensures read { IsTrue (D.state disk.old).tells → OnOk result (read_records count
-        (bytes_at (D.state disk.old).file at (RECORD_LEN * count)) at None ≡ Ok (records_of table.new.now)) }
+        (bytes_at (D.state disk.old).file at (RECORD_LEN * count)) at None ≡ Ok (records_of load.new.now)) }
     ensures refused { IsTrue (D.state disk.old).tells → IfErr result (Refuses (read_records count
         (bytes_at (D.state disk.old).file at (RECORD_LEN * count)) at None)) }
-    ensures count { OnOk result (fin.len table.new.now ≡ count) }
-    ensures names { OnOk result (table.new.names ≡ table.old.names) }
+    ensures count { OnOk result (fin.len load.new.now ≡ count) }
+    ensures names { OnOk result (load.new.names ≡ load.old.names) }
     ensures cause { HasDiskCause SlotFault.Disk (D.state disk.old).faults (D.state disk.new).faults result }
     ensures frame { Unchanged (D.state disk.old) (D.state disk.new) }
 {
@@ -50,7 +51,7 @@ pub(crate) fn set_all<D: Disk>(
     'pieces: while done < count {
         let n = (count - done).min(RECORDS_A_READ);
         let from = at + RECORD_LEN as u64 * done;
-        set_piece(disk, from, n, &mut last, table, buf)?;
+        set_piece(disk, from, n, &mut last, load, buf)?;
         done += n;
     }
     Ok(())
@@ -62,7 +63,7 @@ fn set_piece<D: Disk>(
     at: u64,
     n: u64,
     last: &mut Option<Name>,
-    table: &mut Table,
+    load: &mut BulkLoad,
     buf: &mut [u8],
 ) -> Result<(), SlotFault>
     requires ready { IsTrue (D.state disk.old).is_ready }
@@ -70,17 +71,17 @@ fn set_piece<D: Disk>(
     requires small { at + RECORD_LEN * n < 2 ^ 63 }
     requires within { IsTrue (D.state disk.old).tells
         → at + RECORD_LEN * n ≤ length (D.state disk.old).file }
-    requires set { SetSoFar table.old.now last.old (records_of table.old.now) }
-    requires names { fin.len table.old.now + n ≤ table.old.names }
-    ensures set { OnOk result (SetSoFar table.new.now last.new (records_of table.new.now)) }
-    ensures count { OnOk result (fin.len table.new.now ≡ fin.len table.old.now + n) }
-    ensures kept { OnOk result (table.new.kept ≡ table.old.kept) }
-    ensures names { OnOk result (table.new.names ≡ table.old.names) }
+    requires set { SetSoFar load.old.now last.old (records_of load.old.now) }
+    requires names { fin.len load.old.now + n ≤ load.old.names }
+    ensures set { OnOk result (SetSoFar load.new.now last.new (records_of load.new.now)) }
+    ensures count { OnOk result (fin.len load.new.now ≡ fin.len load.old.now + n) }
+    ensures kept { OnOk result (load.new.kept ≡ load.old.kept) }
+    ensures names { OnOk result (load.new.names ≡ load.old.names) }
     ensures read { IsTrue (D.state disk.old).tells → OnOk result ((m : ℕ) (more : List ℕ)
-        → all_records table.old.now (n + m) (bytes_at (D.state disk.old).file at (RECORD_LEN * n) ++ more)
-        at last.old ≡ all_records table.new.now m more (at + RECORD_LEN * n) last.new) }
+        → all_records load.old.now (n + m) (bytes_at (D.state disk.old).file at (RECORD_LEN * n) ++ more)
+        at last.old ≡ all_records load.new.now m more (at + RECORD_LEN * n) last.new) }
     ensures refused { IsTrue (D.state disk.old).tells → IfErr result (λ why. (m : ℕ) (more : List ℕ)
-        → Refuses (all_records table.old.now (n + m)
+        → Refuses (all_records load.old.now (n + m)
         (bytes_at (D.state disk.old).file at (RECORD_LEN * n) ++ more) at last.old) why) }
     ensures cause { HasDiskCause SlotFault.Disk (D.state disk.old).faults (D.state disk.new).faults result }
     ensures calm { OnOk result ((D.state disk.new).faults ≡ (D.state disk.old).faults) }
@@ -91,7 +92,7 @@ fn set_piece<D: Disk>(
     if read(disk, at, piece).is_err() {
         return Err(SlotFault::Disk);
     }
-    set_records(piece, n, at, last, table)
+    set_records(piece, n, at, last, load)
 }
 
 /// Sets the records that a text says which stands at a position, behind those that were set.
@@ -100,15 +101,15 @@ fn set_records(
     n: u64,
     at: u64,
     last: &mut Option<Name>,
-    table: &mut Table,
+    load: &mut BulkLoad,
 ) -> Result<(), SlotFault>
     requires long { length text.now ≡ RECORD_LEN * n }
     requires small { at + RECORD_LEN * n < 2 ^ 63 }
-    requires set { SetSoFar table.old.now last.old (records_of table.old.now) }
-    requires names { fin.len table.old.now + n ≤ table.old.names }
-    ensures set { OnOk result (SetThrough text.now at n n last.old last.new table.old table.new) }
+    requires set { SetSoFar load.old.now last.old (records_of load.old.now) }
+    requires names { fin.len load.old.now + n ≤ load.old.names }
+    ensures set { OnOk result (SetThrough text.now at n n last.old last.new load.old load.new) }
     ensures refused { IfErr result (λ why. (m : ℕ) (more : List ℕ)
-        → Refuses (all_records table.old.now (n + m) (text.now ++ more) at last.old) why) }
+        → Refuses (all_records load.old.now (n + m) (text.now ++ more) at last.old) why) }
     ensures only { IfErr result (λ why. why ≢ SlotFault.Disk) }
 {
     'records: for i in 0..n {
@@ -121,7 +122,7 @@ fn set_records(
             place: record.place,
             size: record.size,
         };
-        table.set(&record.name, spot);
+        load.push(&record.name, spot);
         *last = Some(record.name);
     }
     Ok(())

@@ -12,7 +12,7 @@ ghost use Rattle.reopen.specs.Tables.{IsFound, IsFoundIn, IsRead, IsReadFrom};
 use crate::OpenFault;
 use crate::records::{BYTES_A_READ, set_all};
 use disk_face::{Disk, length_of};
-use extent_table::Table;
+use extent_table::{BulkLoad, Table};
 use slot_codec::{HEADER_LEN, Header, head_len};
 use slot_pair::{Found, SlotFault, choose, read_chosen_header, slot_at};
 use std::alloc::Global;
@@ -29,10 +29,11 @@ pub(crate) struct TableRead {
     pub data_len: u64,
 }
 
-/// What a table is read into: an empty table, a buffer for one read, and room to order the records.
+/// What a table is read into: a table in the making with no names yet, a buffer for one read, and
+/// room to order the records.
 #[derive(Drop)]
 struct Room {
-    table: Table,
+    load: BulkLoad,
     buf: Vec<u8>,
     order: Vec<u32>,
 }
@@ -55,16 +56,18 @@ pub(crate) fn read_table<D: Disk>(alloc: Global, disk: &mut D) -> Result<TableRe
     let Some(mut room) = room_for(alloc, found.block.names) else {
         return Err(OpenFault::NoMemory);
     };
-    if let Err(fault) = set_table(disk, &found, &header, &mut room.table, &mut room.buf) {
+    if let Err(fault) = load_records(disk, &found, &header, &mut room.load, &mut room.buf) {
         return Err(OpenFault::Slot(fault));
     }
     let Ok(length) = length_of(disk) else {
         return Err(OpenFault::Slot(SlotFault::Disk));
     };
+    let mut table = room.load.into_table();
+    table.keep();
     Ok(TableRead {
         found,
         header,
-        table: room.table,
+        table,
         order: room.order,
         data_len: length.saturating_sub(head_len(found.block.names)),
     })
@@ -87,12 +90,12 @@ fn find_header<D: Disk>(disk: &mut D) -> Result<(Found, Header), SlotFault>
     Ok((Found { sequence, ..found }, header))
 }
 
-/// Reads the records of the slot in use into an empty table, and keeps them.
-fn set_table<D: Disk>(
+/// Sets the records of the slot in use in a table that has no names yet.
+fn load_records<D: Disk>(
     disk: &mut D,
     found: &Found,
     header: &Header,
-    table: &mut Table,
+    load: &mut BulkLoad,
     buf: &mut [u8],
 ) -> Result<(), SlotFault>
     requires ready { IsTrue (D.state disk.old).is_ready }
@@ -100,34 +103,30 @@ fn set_table<D: Disk>(
     requires long { IsTrue (D.state disk.old).tells
         → head_len found.now.block.names ≤ length (D.state disk.old).file }
     requires room { BYTES_A_READ ≤ length buf.old }
-    requires empty { table.old.now ≡ fin.empty }
-    requires names { table.old.names ≡ found.now.block.names }
+    requires empty { load.old.now ≡ fin.empty }
+    requires names { load.old.names ≡ found.now.block.names }
     ensures records { IsTrue (D.state disk.old).tells
         → OnOk result (records_of (D.state disk.old).file (chosen_of found.now header.now)
-        ≡ Ok (extents.records_of table.new.now)) }
+        ≡ Ok (extents.records_of load.new.now)) }
     ensures refused { IsTrue (D.state disk.old).tells
         → IfErr result (Refuses (records_of (D.state disk.old).file (chosen_of found.now header.now))) }
-    ensures count { OnOk result (fin.len table.new.now ≡ header.now.count) }
-    ensures kept { OnOk result (table.new.kept ≡ table.new.now) }
-    ensures names { OnOk result (table.new.names ≡ table.old.names) }
-    ensures table { OnOk result (extents.IsTable table.new) }
+    ensures count { OnOk result (fin.len load.new.now ≡ header.now.count) }
+    ensures names { OnOk result (load.new.names ≡ load.old.names) }
     ensures cause { HasDiskCause SlotFault.Disk (D.state disk.old).faults (D.state disk.new).faults result }
     ensures frame { Unchanged (D.state disk.old) (D.state disk.new) }
 {
     let at = slot_at(found.block.names, found.slot) + HEADER_LEN as u64;
-    set_all(disk, at, header.count, table, buf)?;
-    table.keep();
-    Ok(())
+    set_all(disk, at, header.count, load, buf)
 }
 
 /// The memory that opening takes, for `names` names.
 fn room_for(alloc: Global, names: u64) -> Option<Room>
     requires { names ≤ 65536 }
-    ensures table { IfSome result (λ room. room.table ≡ extents.empty_extents names) }
+    ensures load { IfSome result (λ room. room.load ≡ extents.empty_extents names) }
     ensures buf { IfSome result (λ room. vec_len room.buf ≡ BYTES_A_READ) }
     ensures order { IfSome result (λ room. names ≤ vec_capacity room.order) }
 {
-    let Ok(table) = Table::with_room(alloc, names) else {
+    let Ok(load) = BulkLoad::with_room(alloc, names) else {
         return None;
     };
     let Ok(buf) = vec![in alloc; 0u8; BYTES_A_READ] else {
@@ -136,5 +135,5 @@ fn room_for(alloc: Global, names: u64) -> Option<Room>
     let Ok(order) = Vec::with_capacity(alloc, names as usize) else {
         return None;
     };
-    Some(Room { table, buf, order })
+    Some(Room { load, buf, order })
 }

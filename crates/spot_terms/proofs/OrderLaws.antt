@@ -78,13 +78,23 @@ set_none =
       count = fin.len-empty name_cmp Spot;
     }
 
+-- a name that rises behind the last one comes behind all names
+pub behind_all : (last : Option (List ℕ)) (spots : Spots) (name : List ℕ) → IsUpTo last spots
+    → rises last name ≡ true → (q : List ℕ) (s : Spot) → fin.get spots q ≡ Some s → name_cmp q name ≡ Less
+behind_all None spots name none up q s there = absurd (none q s there)
+behind_all (Some before) spots name upto up q s there = elim (upto q s there) [
+  | inl same ↦ ap (λ x. name_cmp x name) same ∙ is_less (name_cmp before name) up
+  | inr low ↦ name_order.trans q before name (is_less (name_cmp q before) low)
+      (is_less (name_cmp before name) up)
+]
+
 -- one record more, whose name comes behind the last one
 pub set_more : (spots : Spots) (last : Option (List ℕ)) (done : List Record) (r : Record)
     → SetSoFar spots last done → IsName r.name → rises last r.name ≡ true
     → SetSoFar (fin.insert spots r.name (spot_of r)) (Some r.name) (done ++ r ∷ [])
 set_more spots last done r h is up =
     let below : (q : List ℕ) (s : Spot) → fin.get spots q ≡ Some s
-    → name_cmp q r.name ≡ Less = by_last last h.upto up in
+    → name_cmp q r.name ≡ Less = behind_all last spots r.name h.upto up in
     let entries : fin.entries (fin.insert spots r.name (spot_of r)) ≡ fin.entries spots
     ++ (r.name, spot_of r) ∷ [] = entries-push spots r.name (spot_of r)
     (λ q s there. name_order.antisymm r.name q ∙ ap ordering_reverse (below q s there)) in
@@ -110,12 +120,3 @@ set_more spots last done r h is up =
         length-append done (r ∷ []),
       );
     }
-  where
-    by_last : (o : Option (List ℕ)) → IsUpTo o spots → rises o r.name ≡ true → (q : List ℕ) (s : Spot)
-        → fin.get spots q ≡ Some s → name_cmp q r.name ≡ Less
-    by_last None none up q s there = absurd (none q s there)
-    by_last (Some before) upto up q s there = elim (upto q s there) [
-      | inl same ↦ ap (λ x. name_cmp x r.name) same ∙ is_less (name_cmp before r.name) up
-      | inr low ↦ name_order.trans q before r.name (is_less (name_cmp q before) low)
-          (is_less (name_cmp before r.name) up)
-    ]

@@ -5,14 +5,14 @@ use Rattle.reopen.proofs.records.set_all.Goals as goal
 pub pieces-init : goal.pieces-init
 pieces-init g c = (
   c.requires.room,
-  read_none c.args.at c.args.count c.args.table.now (g.D.Disk.state c.args.disk.now) c.requires.ready
+  read_none c.args.at c.args.count c.args.load.now (g.D.Disk.state c.args.disk.now) c.requires.ready
       c.requires.empty,
 )
 
 pub returns-in_err-set_piece-clause-refused : goal.returns-in_err-set_piece-clause-refused
 returns-in_err-set_piece-clause-refused g c = λ told.
-    let bad = read_refused c.args.at c.args.count c.pieces.done c.min-n.result c.pieces.last c.args.table.now
-    c.pieces.table (g.D.Disk.state c.args.disk.now) (g.D.Disk.state c.pieces.disk)
+    let bad = read_refused c.args.at c.args.count c.pieces.done c.min-n.result c.pieces.last c.args.load.now
+    c.pieces.load (g.D.Disk.state c.args.disk.now) (g.D.Disk.state c.pieces.disk)
     c.in_err-set_piece.field-0.0
     (omega arith) c.pieces.invariant.1 told c.in_err-set_piece.ensures.refused in
     search rules
@@ -21,7 +21,7 @@ pub pieces-preserved : goal.pieces-preserved
 pieces-preserved g c = (
   omega (arith, c.set_piece.ensures.same_room, c.pieces.invariant.0),
   read_more c.args.at c.args.count c.pieces.done c.min-n.result c.pieces.last c.set_piece.new.last
-      c.args.table.now c.pieces.table c.set_piece.new.table (g.D.Disk.state c.args.disk.now)
+      c.args.load.now c.pieces.load c.set_piece.new.load (g.D.Disk.state c.args.disk.now)
       (g.D.Disk.state c.pieces.disk) (g.D.Disk.state c.set_piece.new.disk) (omega arith) c.pieces.invariant.1
       c.in_ok-set_piece.ensures.set c.in_ok-set_piece.ensures.count c.in_ok-set_piece.ensures.kept
       c.in_ok-set_piece.ensures.names c.in_ok-set_piece.ensures.read c.set_piece.ensures.frame
@@ -29,6 +29,6 @@ pieces-preserved g c = (
 )
 
 pub returns-clause-read : goal.returns-clause-read
-returns-clause-read g c = λ told. read_all c.args.at c.args.count c.pieces.done c.pieces.last c.args.table.now
-    c.pieces.table (g.D.Disk.state c.args.disk.now) (g.D.Disk.state c.pieces.disk) (omega arith)
+returns-clause-read g c = λ told. read_all c.args.at c.args.count c.pieces.done c.pieces.last c.args.load.now
+    c.pieces.load (g.D.Disk.state c.args.disk.now) (g.D.Disk.state c.pieces.disk) (omega arith)
     c.pieces.invariant.1 told

@@ -6,7 +6,7 @@ abbrev pub invariant-pieces : goal.invariant-pieces
 invariant-pieces g l =
     let D = g.D.Disk in
     (40960 ≤ length l.buf)
-    × ReadThrough l.at l.count l.done l.last l.fn.table l.table (D.state l.fn.disk) (D.state l.disk)
+    × ReadThrough l.at l.count l.done l.last l.fn.load l.load (D.state l.fn.disk) (D.state l.disk)
 
 abbrev pub decreases-pieces : goal.decreases-pieces
 decreases-pieces g l = l.count - l.done

@@ -7,11 +7,11 @@ pub returns-in-Err-clause-refused : goal.returns-in-Err-clause-refused
 returns-in-Err-clause-refused g c = λ told.
     no_header (g.D.Disk.state c.args.disk.now).file c.in-Err.fault (c.in-Err.ensures.refused told)
 
-pub returns-in-Err-set_table-clause-refused : goal.returns-in-Err-set_table-clause-refused
-returns-in-Err-set_table-clause-refused g c = λ told.
+pub returns-in-Err-load_records-clause-refused : goal.returns-in-Err-load_records-clause-refused
+returns-in-Err-load_records-clause-refused g c = λ told.
     let told' : IsTrue (g.D.Disk.state c.find_header.new.disk).tells =
     subst IsTrue (sym c.find_header.ensures.frame.stays.told) told in
     let same = c.find_header.ensures.frame.same_file told in
-    let bad = rw same at (c.in-Err-set_table.ensures.refused told') in
+    let bad = rw same at (c.in-Err-load_records.ensures.refused told') in
     no_records (g.D.Disk.state c.args.disk.now).file (chosen_of c.in-Ok.found.0 c.in-Ok.found.1)
-    c.in-Err-set_table.fault (c.in-Ok.ensures.told told).read bad
+    c.in-Err-load_records.fault (c.in-Ok.ensures.told told).read bad
