@@ -6,7 +6,10 @@ mod KindLaws
 mod LineLemmas
 mod PutLaws
 pub mod ReplyLaws
+pub mod ReadReplyLaws
 mod RequestLemmas
 pub mod RunIndexLaws
+pub mod GrowingLaws
+pub mod MakesLaws
 pub mod RunLaws
 pub mod ServingLaws

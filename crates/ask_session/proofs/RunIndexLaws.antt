@@ -5,7 +5,7 @@ use Rattle.store_terms.specs.Requests.{Reply, Request}
 use Rattle.store_core.specs.States.{Chain, Limits, State, Step}
 use Rattle.ask_session.specs.Serving.{acknowledges}
 use Rattle.ask_session.specs.Runs.{SomeStep, last_state}
-use Rattle.ask_session.proofs.RunLaws.{makes}
+use Rattle.ask_session.proofs.MakesLaws.{makes}
 
 -- ---- steps by their number
 

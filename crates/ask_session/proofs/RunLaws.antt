@@ -1,6 +1,5 @@
 -- One more request of a run.
-use Rattle.std.specs.Prelude.{◌≡◌, ◌⊎◌, ℕ, ◌+◌, ◌-◌, ◌<◌, ◌≤◌, Bool, true, false, ◌&&◌, if◌then◌else◌, List, [], ◌∷◌, ◌++◌, length, flat_map, Option, Some, None, IsTrue, refl}
-use Rattle.std.specs.List.{AllByRecursion}
+use Rattle.std.specs.Prelude.{◌≡◌, ◌⊎◌, ℕ, ◌+◌, ◌-◌, ◌<◌, ◌≤◌, Bool, true, false, if◌then◌else◌, List, [], ◌∷◌, ◌++◌, length, flat_map, IsTrue, refl}
 use Rattle.std.proofs.Common.{arith, ap, sym, ◌∙◌, subst, inl, inr, append_assoc, append-nil, length-append}
 use Rattle.std.proofs.lemmas.Grind.{flat_map-append}
 use Rattle.disk_face.specs.Counts.{counted, last}
@@ -13,18 +12,16 @@ use Rattle.disk_face.proofs.MomentLaws.{Leaves-none, Leaves-trans, Leaves-weaken
 use Rattle.size_class.specs.declared.TheConstants.{SIZE_MAX}
 use Rattle.slot_codec.specs.declared.codec.SuperBlock.{SuperBlock}
 use Rattle.slot_codec.specs.Spelling.{head_len}
-use Rattle.store_terms.specs.Requests as ask
-use Rattle.store_terms.specs.Requests.{Change, Refused, Reply, Request}
+use Rattle.store_terms.specs.Requests.{Reply, Request}
 use Rattle.store_terms.specs.Maps.{Map}
-use Rattle.segment_layout.specs.Books.{Book, next_book}
+use Rattle.segment_layout.specs.Books.{Book}
 use Rattle.segment_layout.specs.Bounds.{Loose}
 use Rattle.table_rules.specs.Opening.{Opens}
 use Rattle.store_core.specs.Connection.{IsConnected, RestsOnTable, base_of, limits_of, state_of}
-use Rattle.store_core.specs.States.{Chain, Limits, Served, State, Step, accepted, facts_of, refusal, served, served_change}
+use Rattle.store_core.specs.States.{Limits, State, Step}
 use Rattle.store_core.specs.Stores.{IsStore}
 use Rattle.store_core.proofs.OverLaws.{kept_image}
-use Rattle.store_core.proofs.StepLaws.{served_by}
-use Rattle.ask_text.specs.Inputs.{HasText, request_text}
+use Rattle.ask_text.specs.Inputs.{request_text}
 use Rattle.ask_text.specs.Replies.{reply_text}
 use Rattle.ask_session.specs.Serving.{IsServingImage, acknowledges, calls_of, is_changing, reply_at, served_at}
 use Rattle.ask_session.specs.Sittings.{Sitting, unread}
@@ -32,141 +29,9 @@ use Rattle.ask_session.specs.Turns.{IsAnswered, IsTurn}
 use Rattle.ask_session.specs.declared.ends.End.{End}
 use Rattle.ask_session.specs.declared.ends.End.TheVariants as ends
 use Rattle.ask_session.specs.declared.ends.Turn.TheVariants as turn
-use Rattle.ask_session.specs.Runs.{HasRun, IsLastTurn, IsRunImage, IsStepImage, OpensToKept, SomeStep, calls_since, is_budget, last_kept, last_state}
-
--- ---- lists that grow at their end
-
-pub and_none : (b : Bool) → (b && false) ≡ false
-and_none true = refl
-and_none false = refl
-
-pub last_more : (s t : State) (states : List State) → last_state s (states ++ t ∷ []) ≡ t
-last_more s t [] = refl
-last_more s t (u ∷ states) = last_more u t states
-
-texts_more : (rs : List Request) (r : Request) → AllByRecursion HasText rs → HasText r
-    → AllByRecursion HasText (rs ++ r ∷ [])
-texts_more [] r all text = (text, tt)
-texts_more (x ∷ rs) r all text = (all.0, texts_more rs r all.1 text)
-
-pub chain_more : (limits : Limits) (s t : State) (rs : List Request) (replies : List Reply) (states : List State)
-    (r : Request) (reply : Reply) → Chain limits s rs replies states
-    → Step limits (last_state s states) r reply t
-    → Chain limits s (rs ++ r ∷ []) (replies ++ reply ∷ []) (states ++ t ∷ [])
-chain_more limits s t [] [] [] r reply chain step = (step, tt)
-chain_more limits s t (x ∷ rs) (y ∷ replies) (z ∷ states) r reply chain step =
-    (chain.0, chain_more limits z t rs replies states r reply chain.1 step)
-chain_more limits s t [] [] (z ∷ states) r reply chain step = absurd (chain)
-chain_more limits s t [] (y ∷ replies) states r reply chain step = absurd (chain)
-chain_more limits s t (x ∷ rs) [] states r reply chain step = absurd (chain)
-chain_more limits s t (x ∷ rs) (y ∷ replies) [] r reply chain step = absurd (chain)
-
-pub some_more : (P : State → State → Type 0) (s t : State) (states : List State) → SomeStep P s states
-    → SomeStep P s (states ++ t ∷ [])
-some_more P s t [] some = absurd (some)
-some_more P s t (u ∷ states) (inl is) = inl is
-some_more P s t (u ∷ states) (inr some) = inr (some_more P u t states some)
-
-pub some_last : (P : State → State → Type 0) (s t : State) (states : List State) → P (last_state s states) t
-    → SomeStep P s (states ++ t ∷ [])
-some_last P s t [] is = inl is
-some_last P s t (u ∷ states) is = inr (some_last P u t states is)
-
-kept_more : (done kept : ℕ) (replies : List Reply) (reply : Reply)
-    → last_kept done kept (replies ++ reply ∷ [])
-    ≡ (if acknowledges reply then counted done (length replies + 1) else last_kept done kept replies)
-kept_more done kept [] reply = ap (λ (n : ℕ). if acknowledges reply then n else kept) refl
-kept_more done kept (x ∷ replies) reply =
-    kept_more (counted done 1) (if acknowledges x then counted done 1 else kept) replies reply
-    ∙ ap (λ (n : ℕ). if acknowledges reply then n
-    else last_kept (counted done 1) (if acknowledges x then counted done 1 else kept) replies)
-    (omega arith)
-
-calls_more : (limits : Limits) (m : ℕ) (s t : State) (states : List State) (rs : List Request)
-    (replies : List Reply)
-    (r : Request) (reply : Reply) → Chain limits s rs replies states
-    → calls_since limits m s (states ++ t ∷ []) (rs ++ r ∷ []) (replies ++ reply ∷ [])
-    ≡ (if acknowledges reply then 0
-    else calls_since limits m s states rs replies + calls_of limits (last_state s states) r)
-calls_more limits m s t [] [] [] r reply chain = refl
-calls_more limits m s t (z ∷ states) (x ∷ rs) (y ∷ replies) r reply chain =
-    calls_more limits (if acknowledges y then 0 else m + calls_of limits s x) z t states rs replies r
-    reply chain.1
-calls_more limits m s t (z ∷ states) [] [] r reply chain = absurd (chain)
-calls_more limits m s t states [] (y ∷ replies) r reply chain = absurd (chain)
-calls_more limits m s t states (x ∷ rs) [] r reply chain = absurd (chain)
-calls_more limits m s t [] (x ∷ rs) (y ∷ replies) r reply chain = absurd (chain)
-
-pub chain_long : (limits : Limits) (s : State) (rs : List Request) (replies : List Reply) (states : List State)
-    → Chain limits s rs replies states → length replies ≡ length rs
-chain_long limits s [] [] [] chain = refl
-chain_long limits s (x ∷ rs) (y ∷ replies) (z ∷ states) chain =
-    let e : length replies ≡ length rs = chain_long limits z rs replies states chain.1 in omega (arith, e)
-chain_long limits s [] [] (z ∷ states) chain = absurd (chain)
-chain_long limits s [] (y ∷ replies) states chain = absurd (chain)
-chain_long limits s (x ∷ rs) [] states chain = absurd (chain)
-chain_long limits s (x ∷ rs) (y ∷ replies) [] chain = absurd (chain)
-
--- ---- what a request makes
-
--- a checkpoint of what stands then
-pub record MakesOne (x : Served) : Type 0 where
-  pub least : x.saves.least ≡ 1
-  pub acknowledged : acknowledges x.reply ≡ true
-  pub kept : x.state.kept ≡ x.state.map
-  pub book : x.state.kept_book ≡ x.state.book
-
--- or none
-pub record MakesNone (s : State) (x : Served) : Type 0 where
-  pub least : x.saves.least ≡ 0
-  pub acknowledged : acknowledges x.reply ≡ false
-  pub kept : x.state.kept ≡ s.kept
-  pub book : x.state.kept_book ≡ s.kept_book
-
-change_makes : (limits : Limits) (s : State) (c : Change) (q : Bool)
-    → (next_book limits.k s.map s.book c).quiet ≡ q
-    → MakesOne (served_change limits s c) ⊎ MakesNone s (served_change limits s c)
-change_makes limits s c true is = inr (record {
-  least = rw is refl;
-  acknowledged = rw is refl;
-  kept = rw is refl;
-  book = rw is refl;
-})
-change_makes limits s c false is = inl (record {
-  least = rw is refl;
-  acknowledged = rw is refl;
-  kept = rw is refl;
-  book = rw is refl;
-})
-
-accepted_makes : (limits : Limits) (s : State) (r : Request)
-    → MakesOne (accepted limits s r) ⊎ MakesNone s (accepted limits s r)
-accepted_makes limits s (ask.change c) = change_makes limits s c
-    (next_book limits.k s.map s.book c).quiet refl
-accepted_makes limits s (ask.get name) = inr
-    (record { least = refl; acknowledged = refl; kept = refl; book = refl })
-accepted_makes limits s (ask.old name) = inr
-    (record { least = refl; acknowledged = refl; kept = refl; book = refl })
-accepted_makes limits s ask.keep = inl
-    (record { least = refl; acknowledged = refl; kept = refl; book = refl })
-accepted_makes limits s ask.back = inr
-    (record { least = refl; acknowledged = refl; kept = refl; book = refl })
-accepted_makes limits s ask.list = inr
-    (record { least = refl; acknowledged = refl; kept = refl; book = refl })
-accepted_makes limits s ask.stat = inr
-    (record { least = refl; acknowledged = refl; kept = refl; book = refl })
-
-pub makes : (limits : Limits) (s : State) (r : Request)
-    → MakesOne (served limits s r) ⊎ MakesNone s (served limits s r)
-makes limits s r = by (refusal limits (facts_of s r) r) refl
-  where
-    by : (o : Option Refused) → refusal limits (facts_of s r) r ≡ o
-        → MakesOne (served limits s r) ⊎ MakesNone s (served limits s r)
-    by None is = subst (λ (x : Served). MakesOne x ⊎ MakesNone s x) (sym (served_by limits s r None is))
-        (accepted_makes limits s r)
-    by (Some w) is = subst (λ (x : Served). MakesOne x ⊎ MakesNone s x) (sym (served_by limits s r
-        (Some w) is))
-        (inr (record { least = refl; acknowledged = refl; kept = refl; book = refl }))
+use Rattle.ask_session.specs.Runs.{HasRun, IsLastTurn, IsRunImage, IsStepImage, OpensToKept, calls_since, is_budget, last_kept}
+use Rattle.ask_session.proofs.GrowingLaws.{and_none, last_more, texts_more, chain_more, some_more, some_last, kept_more, calls_more, chain_long}
+use Rattle.ask_session.proofs.MakesLaws.{MakesOne, MakesNone, makes}
 
 -- ---- one more request
 
@@ -311,10 +176,11 @@ module _ {classes : ℕ} (old : Sitting) (a : disk.State) (old_in : SourceState)
       → new.kept_turn ≡ (if kept then d.turn else mid.kept_turn)
       → (new.kept_turn ≡ old.kept_turn) ⊎ (0 < new.kept_done)
   unkept_now true number turn = inr (omega (arith, number, x.done))
-  unkept_now false number turn = elim ran.unkept as (λ _. (new.kept_turn ≡ old.kept_turn) ⊎ (0 < new.kept_done)) [
-    | inl same ↦ inl (turn ∙ same)
-    | inr some ↦ inr (omega (arith, number, some))
-  ]
+  unkept_now false number turn = elim ran.unkept as (λ _. (new.kept_turn ≡ old.kept_turn)
+      ⊎ (0 < new.kept_done)) [
+        | inl same ↦ inl (turn ∙ same)
+        | inr some ↦ inr (omega (arith, number, some))
+      ]
 
   calls_now : (kept : Bool) (m c : ℕ) → IsTrue a.tells → kept ≡ acknowledges reply
       → b.turn ≡ counted mid.kept_turn m

@@ -34,7 +34,9 @@ use Rattle.ask_session.specs.Turns.{IsStopped}
 use Rattle.ask_session.specs.Runs as run
 use Rattle.ask_session.specs.Runs.{HasRun, IsRunImage, IsStepImage, SomeStep, budget, calls_since, last_kept, last_state}
 use Rattle.ask_session.specs.declared.ends.End.{End}
-use Rattle.ask_session.proofs.RunLaws.{and_none, last_more, makes, opens_with, some_last, some_more}
+use Rattle.ask_session.proofs.GrowingLaws.{and_none, last_more, some_last, some_more}
+use Rattle.ask_session.proofs.MakesLaws.{makes}
+use Rattle.ask_session.proofs.RunLaws.{opens_with}
 use Rattle.costore_top.specs.Headline.{EndsTight, HasReplied, HowFar, IsLong, IsNextStart, IsPartial, IsTold, IsWithinBounds, NumbersLine, OpensTo, OpensToBeing, OpensToKept, OpensToNext, Ran, RunsAs, Starts, has_failed, limits_with, next_reply, next_saves, next_states, served_states, state_after, turn_opened}
 use Rattle.costore_top.specs.Outcomes.{PutsLast, line_at, status_at}
 use Rattle.costore_top.specs.declared.stop.Stop.{Stop}

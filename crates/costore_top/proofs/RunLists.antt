@@ -11,7 +11,8 @@ use Rattle.ask_text.proofs.InputLaws.{text_one}
 use Rattle.ask_session.specs.Serving.{acknowledges}
 use Rattle.ask_session.specs.Runs.{SomeStep, last_kept, last_state}
 use Rattle.ask_session.specs.Runs as run
-use Rattle.ask_session.proofs.RunLaws.{makes, opens_with}
+use Rattle.ask_session.proofs.MakesLaws.{makes}
+use Rattle.ask_session.proofs.RunLaws.{opens_with}
 use Rattle.size_class.specs.declared.TheConstants.{CLASSES}
 use Rattle.costore_top.specs.Headline.{IsKept, OpensTo, state_after}
 

@@ -37,7 +37,7 @@ use Rattle.ask_session.specs.declared.ends.End.TheVariants as ends
 use Rattle.ask_session.specs.Heads.{Answers, answer_change, answer_of}
 use Rattle.ask_session.specs.Serving.{Serves, reply_at}
 use Rattle.ask_session.proofs.AnswerLaws.{change_answers, keep_answers, refused_head}
-use Rattle.ask_session.proofs.ReplyLaws.{get_long, get_served, number_served, refused_with}
+use Rattle.ask_session.proofs.ReadReplyLaws.{get_long, get_served, number_served, refused_with}
 use Rattle.ask_session.proofs.ServingLaws.{IsSound, refused_stays, serves_same}
 use Rattle.work_session.specs.Counts.{asked_by, calls_by}
 use Rattle.work_session.specs.Jobs.{Charges, Does, most_read}

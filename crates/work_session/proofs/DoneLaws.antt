@@ -45,7 +45,7 @@ use Rattle.ask_text.specs.declared.reply.Reply as text
 use Rattle.ask_session.specs.declared.ends.End.{End}
 use Rattle.ask_session.specs.Heads.{answer_change, answer_of, done_head}
 use Rattle.ask_session.specs.Serving.{is_changing, is_disk_fault, reply_at}
-use Rattle.ask_session.proofs.RunLaws.{and_none}
+use Rattle.ask_session.proofs.GrowingLaws.{and_none}
 use Rattle.ask_session.proofs.ServingLaws.{IsSound}
 use Rattle.work_session.specs.Counts.{asked_by, calls_by}
 use Rattle.work_session.specs.Jobs.{Charges, most_read, most_rise, read_head}

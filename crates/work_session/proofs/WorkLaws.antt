@@ -16,7 +16,9 @@ use Rattle.store_core.specs.Stores.{IsStore}
 use Rattle.ask_session.specs.declared.ends.End.{End}
 use Rattle.ask_session.specs.Serving.{HasDiskCause, IsServingImage, Serves, is_changing, is_disk_fault, reply_at, served_at}
 use Rattle.ask_session.specs.Runs.{IsRunImage, IsStepImage, OpensToKept, last_state}
-use Rattle.ask_session.proofs.RunLaws.{and_none, chain_more, last_more, makes, opens_with, some_last, some_more}
+use Rattle.ask_session.proofs.GrowingLaws.{and_none, chain_more, last_more, some_last, some_more}
+use Rattle.ask_session.proofs.MakesLaws.{makes}
+use Rattle.ask_session.proofs.RunLaws.{opens_with}
 use Rattle.work_session.specs.Works.{HasStopped, HasWorked, IsJobImage}
 
 -- no job was done yet

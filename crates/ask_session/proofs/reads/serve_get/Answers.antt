@@ -5,7 +5,7 @@ use Rattle.store_core.specs.Answers.{refused_by, size_at}
 use Rattle.store_core.specs.Connection.{Kept, state_of}
 use Rattle.store_core.specs.States.{object_in}
 use Rattle.ask_session.specs.Serving.{Replies}
-use Rattle.ask_session.proofs.ReplyLaws.{cut_replies, found_replies, get_long, get_served, number_refused, number_served, refused_replies}
+use Rattle.ask_session.proofs.ReadReplyLaws.{cut_replies, found_replies, get_long, get_served, number_refused, number_served, refused_replies}
 use Rattle.ask_session.proofs.ServingLaws.{IsSound}
 use Rattle.ask_session.proofs.reads.serve_get.Goals as goal
 

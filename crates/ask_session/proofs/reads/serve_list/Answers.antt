@@ -1,4 +1,4 @@
-use Rattle.ask_session.proofs.ReplyLaws.{cut_list, listed_replies}
+use Rattle.ask_session.proofs.ReadReplyLaws.{cut_list, listed_replies}
 use Rattle.ask_session.proofs.reads.serve_list.Goals as goal
 
 pub returns-in-Ok-say : goal.returns-in-Ok-say

@@ -1,0 +1,257 @@
+-- Replies to reads: an object, a list, or what is told of an object that is there.
+use Rattle.std.specs.Prelude.{◌≡◌, ℕ, Bool, true, false, List, ◌++◌, length, codes, Option, Some, None, Result, Ok, Err, IfErr, IfOk, IsTrue, refl}
+use Rattle.std.proofs.Common.{arith, ap, sym, ◌∙◌, subst}
+use Rattle.std.specs.FinMap as fin
+use Rattle.disk_face.specs.States as disk
+use Rattle.disk_face.specs.Frames.{Unchanged}
+use Rattle.disk_face.specs.Streams.{SinkState}
+use Rattle.store_terms.specs.Requests as ask
+use Rattle.store_terms.specs.Requests.{Refused, Request}
+use Rattle.extent_table.specs.declared.spot.Spot.{Spot}
+use Rattle.store_core.specs.declared.answers.Refusal.{Refusal}
+use Rattle.store_core.specs.Answers.{AnswersNumber, facts_at, refusal_for, refused_by, size_at}
+use Rattle.slot_codec.specs.Names.{is_name}
+use Rattle.store_core.specs.Connection.{Kept, base_of, limits_of, state_of}
+use Rattle.store_core.specs.States.{Served, accepted, object_in, refusal, unchanged}
+use Rattle.store_core.proofs.StoreLaws.{kept_lies, now_lies}
+use Rattle.store_core.proofs.StepLaws.{list_step, served_by}
+use Rattle.store_core.specs.Lines.{lines_of, listing_of}
+use Rattle.std.proofs.lemmas.List.{length-map}
+use Rattle.ask_text.specs.Replies.{first_line, reply_text, told_for}
+use Rattle.ask_text.specs.declared.reply.Reply as text
+use Rattle.ask_text.specs.declared.reply.Reply.TheVariants as head
+use Rattle.ask_session.specs.declared.ends.End.{End}
+use Rattle.ask_session.specs.declared.ends.End.TheVariants as ends
+use Rattle.ask_session.specs.Heads.{Answers, answer_of}
+use Rattle.ask_session.specs.Serving.{HasDiskCause, HasSinkCause, IsServingFault, PutsText, Replies, acknowledges, calls_of, is_changing, is_disk, is_disk_fault, reply_at, served_at}
+use Rattle.ask_session.proofs.AnswerLaws.{on_ok, refused_head, refused_is}
+use Rattle.ask_session.proofs.PutLaws.{not_empty_behind, puts_as, puts_cut, puts_then}
+use Rattle.ask_session.proofs.ServingLaws.{IsSound, StaysAt, refusal_at, unchanged_itself}
+use Rattle.ask_session.proofs.ReplyLaws.{PutsAnswer, sink_calm, sink_serving, answers_replies, reads_replies, object_size, live_if}
+
+-- ---- replies that are an object
+
+-- the first line and the object of a read that isn't refused
+module _ {classes : ℕ} (r : Request) (s : Kept) (a : disk.State) (h : IsSound classes s a) (object : List ℕ)
+    (size : ℕ) (asks : is_changing r ≡ false)
+    (is : IsTrue a.tells → served_at s a.file r ≡ unchanged (state_of s a.file) (ask.found object))
+    (none : IsTrue a.tells → calls_of (limits_of s) (state_of s a.file) r ≡ 0)
+    (long : IsTrue a.tells → length object ≡ size) where
+  stays : IsTrue a.tells → StaysAt s a.file r
+  stays told = record { reply = ask.found object; is = is told; none = none told }
+
+  reply_is : IsTrue a.tells → reply_at s a.file r ≡ ask.found object
+  reply_is told = ap (λ (x : Served). x.reply) (is told)
+
+  text_is : IsTrue a.tells
+      → first_line (head.Data size) ++ (object ++ codes "\n") ≡ reply_text (reply_at s a.file r)
+  text_is told = ap (λ (m : ℕ). first_line (head.Data m) ++ (object ++ codes "\n")) (sym (long told))
+      ∙ ap reply_text (sym (reply_is told))
+
+  pub found_replies : (d : disk.State) (out mid after : SinkState) (x : Result (Unit {0}) End)
+      (result : Result Bool End)
+      → Unchanged a d → x ≡ Ok tt → (IsTrue out.tells
+      → PutsText (first_line (head.Data size)) out.given mid.given x)
+      → HasSinkCause out mid x → IfOk result (λ kept. kept ≡ false)
+      → (IsTrue a.tells → IsTrue mid.tells → PutsText (object ++ codes "\n") mid.given after.given result)
+      → IfErr result IsServingFault → HasDiskCause a.faults d.faults result → HasSinkCause mid after result
+      → Replies classes r s s a d out after result
+  found_replies d out mid after x result same ok first first_cause kept puts only disk_cause sink_cause =
+      reads_replies r s a d out after result h asks same stays (λ told. ap acknowledges (reply_is told)) kept
+      (λ told sink. puts_as _ _ out.given after.given result (text_is told)
+      (puts_then (first_line (head.Data size)) (object ++ codes "\n") out.given mid.given after.given result
+      (λ fault. not_empty_behind object) (whole sink) (puts told (subst IsTrue (sym first_cause.told) sink))))
+      only disk_cause (record {
+        rose = λ fault. omega (arith, sink_cause.rose fault, calm_first);
+        calm = on_ok result (λ e. e ∙ calm_first) sink_cause.calm;
+        later = omega (arith, first_cause.later, sink_cause.later);
+        told = sink_cause.told ∙ first_cause.told;
+      })
+    where
+      whole : IsTrue out.tells → mid.given ≡ out.given ++ first_line (head.Data size)
+      whole sink = (subst (λ (y : Result (Unit {0}) End). PutsText (first_line
+          (head.Data size)) out.given mid.given y) ok
+          (first sink)).all
+
+      calm_first : mid.faults ≡ out.faults
+      calm_first = (subst (λ (y : Result (Unit {0}) End). HasSinkCause out mid y) ok first_cause).calm
+
+  pub cut_replies : (out mid : SinkState) (end : End) → end ≡ ends.Sink
+      → (IsTrue out.tells → PutsText {T = Unit {0}} (first_line (head.Data size)) out.given mid.given
+      (Err end))
+      → HasSinkCause {T = Unit {0}} out mid (Err end) → Replies classes r s s a a out mid (Err end)
+  cut_replies out mid end sink_end first cause =
+      reads_replies r s a a out mid (Err end) h asks (unchanged_itself a h.ready) stays
+      (λ told. ap acknowledges (reply_is told)) tt
+      (λ told sink. puts_as _ _ out.given mid.given (Err end) (text_is told)
+      (puts_cut (first_line (head.Data size)) (object
+      ++ codes "\n") out.given mid.given end sink_end (first sink)))
+      (subst IsServingFault (sym sink_end) tt)
+      (record {
+        rose = λ fault. absurd (let e : false ≡ true = sym (ap is_disk sink_end) ∙ fault in cc);
+        later = omega arith;
+      })
+      (record { rose = λ fault. cause.rose fault; calm = tt; later = cause.later; told = cause.told })
+
+-- ---- lists
+
+-- the first line and the lines of a list
+module _ {classes : ℕ} (s : Kept) (a : disk.State) (h : IsSound classes s a) (count : ℕ)
+    (is : count ≡ fin.len s.now) where
+  list_stays : IsTrue a.tells → StaysAt s a.file ask.list
+  list_stays told = record {
+    reply = (accepted (limits_of s) (state_of s a.file) ask.list).reply;
+    is = served_by (limits_of s) (state_of s a.file) ask.list None refl;
+    none = refl;
+  }
+
+  list_reply : IsTrue a.tells → reply_at s a.file ask.list ≡ ask.listed (listing_of s.now)
+  list_reply told = sym (list_step s a.file h.sound (h.over told)).replied
+
+  list_text : IsTrue a.tells → first_line (head.List count) ++ lines_of (listing_of s.now)
+      ≡ reply_text (reply_at s a.file ask.list)
+  list_text told =
+      let long : count ≡ length (listing_of s.now) = is ∙ fin.len-entries s.now
+      ∙ sym (length-map (fin.entries s.now) (λ (e : List ℕ × Spot). (e.0, e.1.size))) in
+      ap (λ (m : ℕ). first_line (head.List m) ++ lines_of (listing_of s.now)) long
+      ∙ ap reply_text (sym (list_reply told))
+
+  pub listed_replies : (out mid after : SinkState) (x : Result (Unit {0}) End) (result : Result Bool End)
+      → x ≡ Ok tt
+      → (IsTrue out.tells → PutsText (first_line (head.List count)) out.given mid.given x)
+      → HasSinkCause out mid x → IfOk result (λ kept. kept ≡ false)
+      → (IsTrue mid.tells → PutsText (lines_of (listing_of s.now)) mid.given after.given result)
+      → IfErr result (λ end. end ≡ ends.Sink) → HasSinkCause mid after result
+      → Replies classes ask.list s s a a out after result
+  listed_replies out mid after x result ok first first_cause kept puts only sink_cause =
+      reads_replies ask.list s a a out after result h refl (unchanged_itself a h.ready) list_stays
+      (λ told. ap acknowledges (list_reply told)) kept
+      (λ told sink. puts_as _ _ out.given after.given result (list_text told)
+      (puts_then (first_line (head.List count)) (lines_of
+      (listing_of s.now)) out.given mid.given after.given result
+      (λ fault. absurd (let e : true ≡ false = sym fault ∙ calm in cc)) (whole sink)
+      (puts (subst IsTrue (sym first_cause.told) sink))))
+      (sink_serving result only)
+      (record { rose = λ fault. absurd (let e : true ≡ false = sym fault ∙ calm in cc); later = omega arith })
+      (record {
+        rose = λ fault. omega (arith, sink_cause.rose fault, calm_first);
+        calm = on_ok result (λ e. e ∙ calm_first) sink_cause.calm;
+        later = omega (arith, first_cause.later, sink_cause.later);
+        told = sink_cause.told ∙ first_cause.told;
+      })
+    where
+      calm : is_disk_fault result ≡ false
+      calm = sink_calm result only
+
+      whole : IsTrue out.tells → mid.given ≡ out.given ++ first_line (head.List count)
+      whole sink = (subst (λ (y : Result (Unit {0}) End). PutsText (first_line
+          (head.List count)) out.given mid.given y) ok
+          (first sink)).all
+
+      calm_first : mid.faults ≡ out.faults
+      calm_first = (subst (λ (y : Result (Unit {0}) End). HasSinkCause out mid y) ok first_cause).calm
+
+  pub cut_list : (out mid : SinkState) (end : End) → end ≡ ends.Sink
+      → (IsTrue out.tells → PutsText {T = Unit {0}} (first_line (head.List count)) out.given mid.given
+      (Err end))
+      → HasSinkCause {T = Unit {0}} out mid (Err end) → Replies classes ask.list s s a a out mid (Err end)
+  cut_list out mid end sink_end first cause =
+      reads_replies ask.list s a a out mid (Err end) h refl (unchanged_itself a h.ready) list_stays
+      (λ told. ap acknowledges (list_reply told)) tt
+      (λ told sink. puts_as _ _ out.given mid.given (Err end) (list_text told)
+      (puts_cut (first_line (head.List count)) (lines_of
+      (listing_of s.now)) out.given mid.given end sink_end (first sink)))
+      (subst IsServingFault (sym sink_end) tt)
+      (record {
+        rose = λ fault. absurd (let e : false ≡ true = sym (ap is_disk sink_end) ∙ fault in cc);
+        later = omega arith;
+      })
+      (record { rose = λ fault. cause.rose fault; calm = tt; later = cause.later; told = cause.told })
+
+-- ---- get and old
+
+pub number_served : (o : Option Refusal) (n size : ℕ) → AnswersNumber o n (Ok size) → (o ≡ None) × (size ≡ n)
+number_served None n size is = (refl, (cc))
+number_served (Some x) n size is = absurd (cc)
+
+pub number_refused : (o : Option Refusal) (n : ℕ) (x : Refusal) → AnswersNumber o n (Err x) → o ≡ Some x
+number_refused None n x is = absurd (cc)
+number_refused (Some y) n x is = let e : y ≡ x = (cc) in ap (λ (z : Refusal). Some z) e
+
+-- what a store that isn't broken serves isn't refused
+pub served_is : (s : Kept) (r : Request) → s.is_broken ≡ false → refused_by s r ≡ None
+    → refusal (limits_of s) (facts_at s r) r ≡ None
+served_is s r whole is = by (refusal (limits_of s) (facts_at s r) r) refl
+  where
+    by : (o : Option Refused) → refusal (limits_of s) (facts_at s r) r ≡ o
+        → refusal (limits_of s) (facts_at s r) r ≡ None
+    by None e = e
+    by (Some w) e = absurd (let f : Some (refusal_for w) ≡ None = sym (refused_is s r (Some w) whole e)
+        ∙ is in cc)
+
+-- what it refuses has a reply
+pub refused_with : (s : Kept) (r : Request) (x : Refusal) → s.is_broken ≡ false → refused_by s r ≡ Some x
+    → (w : Refused) × (refusal (limits_of s) (facts_at s r) r ≡ Some w) × (x ≡ refusal_for w)
+refused_with s r x whole is = by (refusal (limits_of s) (facts_at s r) r) refl
+  where
+    by : (o : Option Refused) → refusal (limits_of s) (facts_at s r) r ≡ o
+        → (w : Refused) × (refusal (limits_of s) (facts_at s r) r ≡ Some w) × (x ≡ refusal_for w)
+    by None e = absurd (let f : None ≡ Some x = sym (refused_is s r None whole e) ∙ is in cc)
+    by (Some w) e =
+        let f : Some (refusal_for w) ≡ Some x = sym (refused_is s r (Some w) whole e) ∙ is in
+        let same : x ≡ refusal_for w = (cc) in
+        (w, e, same)
+
+answer_is : (w : Refused) → answer_of (refusal_for w) ≡ Ok (head.Refused (told_for w))
+answer_is ask.bad_name = refl
+answer_is ask.too_long = refl
+answer_is ask.missing = refl
+answer_is ask.full = refl
+answer_is ask.worn = refl
+
+-- a refusal that is put
+pub refused_replies : {classes : ℕ} (r : Request) (s : Kept) (a : disk.State) (out after : SinkState)
+    (x : Refusal)
+    (answer : Result text.Reply End) (result : Result Bool End) → IsSound classes s a
+    → refused_by s r ≡ Some x
+    → answer ≡ answer_of x → PutsAnswer out after answer result → Replies classes r s s a a out after result
+refused_replies {classes} r s a out after x answer result h is same puts =
+    let w = refused_with s r x h.whole is in
+    let e : Ok (head.Refused (told_for w.0)) ≡ answer = sym (answer_is w.0) ∙ ap answer_of (sym w.2)
+    ∙ sym same in
+    answers_replies r s s a a out after answer result
+    (subst (λ (y : Result text.Reply End). Answers classes r s s a a y) e
+    (refused_head s r w.0 a a h w.1 (unchanged_itself a h.ready))) puts
+
+-- the object of a get
+pub get_served : {classes : ℕ} (s : Kept) (a : disk.State) (name : List ℕ) → IsSound classes s a
+    → refused_by s (ask.get name) ≡ None → IsTrue a.tells
+    → served_at s a.file (ask.get name)
+    ≡ unchanged (state_of s a.file) (ask.found (object_in (state_of s a.file).map name))
+get_served s a name h is told = served_by (limits_of s) (state_of s a.file) (ask.get name) None
+    (refusal_at s a.file (ask.get name) h.sound ∙ served_is s (ask.get name) h.whole is)
+
+pub get_long : {classes : ℕ} (s : Kept) (a : disk.State) (name : List ℕ) (size : ℕ) → IsSound classes s a
+    → AnswersNumber (refused_by s (ask.get name)) (size_at (fin.get s.now name)) (Ok size) → IsTrue a.tells
+    → length (object_in (state_of s a.file).map name) ≡ size
+get_long s a name size h answer told =
+    let served = number_served (refused_by s (ask.get name)) (size_at (fin.get s.now name)) size answer in
+    object_size (base_of s) a.file s.now name h.sound.now.named (now_lies s a.file h.sound (h.over told))
+    (live_if (is_name name) (fin.contains_key s.now name) (served_is s (ask.get name) h.whole served.0))
+    ∙ sym served.1
+
+pub old_served : {classes : ℕ} (s : Kept) (a : disk.State) (name : List ℕ) → IsSound classes s a
+    → refused_by s (ask.old name) ≡ None → IsTrue a.tells
+    → served_at s a.file (ask.old name)
+    ≡ unchanged (state_of s a.file) (ask.found (object_in (state_of s a.file).kept name))
+old_served s a name h is told = served_by (limits_of s) (state_of s a.file) (ask.old name) None
+    (refusal_at s a.file (ask.old name) h.sound ∙ served_is s (ask.old name) h.whole is)
+
+pub old_long : {classes : ℕ} (s : Kept) (a : disk.State) (name : List ℕ) (size : ℕ) → IsSound classes s a
+    → AnswersNumber (refused_by s (ask.old name)) (size_at (fin.get s.kept name)) (Ok size) → IsTrue a.tells
+    → length (object_in (state_of s a.file).kept name) ≡ size
+old_long s a name size h answer told =
+    let served = number_served (refused_by s (ask.old name)) (size_at (fin.get s.kept name)) size answer in
+    object_size (base_of s) a.file s.kept name h.sound.kept.named (kept_lies s a.file h.sound (h.over told))
+    (live_if (is_name name) (fin.contains_key s.kept name) (served_is s (ask.old name) h.whole served.0))
+    ∙ sym served.1
