@@ -72,8 +72,8 @@ module _ {classes b k : ℕ} {caps : List ℕ} {grid : List (List ℕ)} {e : Ext
         subst (λ (x : Numbers). Begins k caps x items (Some (item_at key s))) (sym same_size)
         (subst (λ (d : ℕ). Begins d caps (numbers_of d caps b items s.size) items (Some (item_at key s)))
         (sym at.divisor)
-        (begins_pending classes SIZE_MAX caps grid at.kept_grid b at.u e at.spans at.start name s key after new
-        joins some (omega (arith, size, small)) high
+        (begins_pending classes SIZE_MAX caps grid at.kept_grid b at.u e at.spans at.start name s key after
+        new joins some (omega (arith, size, small)) high
         (place ∙ ap (λ (x : Numbers). x.reach) same_size
         ∙ ap (λ (d : ℕ). (numbers_of d caps b items s.size).reach) at.divisor)))
 

@@ -63,7 +63,8 @@ can_start_at {classes} {b} {k} {caps} {caps2} {grid} {e} kept_grid x spans start
   kept_grid = kept_grid;
   u = x.in_use;
   spans = spans;
-  start = subst (λ (y : List ℕ). CanStart classes SIZE_MAX y grid kept_grid b x.in_use e spans) (sym same) start;
+  start = subst (λ (y : List ℕ). CanStart classes SIZE_MAX y grid kept_grid b x.in_use e spans)
+      (sym same) start;
   divisor = divisor;
 }
 
@@ -83,7 +84,8 @@ module _ {classes : ℕ} {kept_grid : List (List ℕ)} {x0 : Parts} (may : MayBe
 
   -- ---- the old object
 
-  small_by : (o : Option Spot) → ((s : Spot) → o ≡ Some s → s.size ≤ SIZE_MAX) → IfSome o (λ s. s.size ≤ SIZE_MAX)
+  small_by : (o : Option Spot) → ((s : Spot) → o ≡ Some s → s.size ≤ SIZE_MAX)
+      → IfSome o (λ s. s.size ≤ SIZE_MAX)
   small_by None h = tt
   small_by (Some s) h = h s refl
 
@@ -100,15 +102,16 @@ module _ {classes : ℕ} {kept_grid : List (List ℕ)} {x0 : Parts} (may : MayBe
         (span_room x0.spans x0.table.now x0.table.kept may.before.both.freed name s stands held guard.room
         (omega (arith, may.before.table.kept_room, may.before.names, room, may.room)));
     apart = λ a is. subst (λ (xs : List Span). All (λ other. IsApart other a) xs) (sym spans)
-        (span_apart x0.spans x0.table.now x0.table.kept may.before.both.freed name s stands held classes SIZE_MAX
-        k x0.caps kept_grid may.before.both.kept_laid a is);
+        (span_apart x0.spans x0.table.now x0.table.kept may.before.both.freed name s stands held classes
+        SIZE_MAX k x0.caps kept_grid may.before.both.kept_laid a is);
   }
 
   -- ---- the charges
 
   module _ (x : Parts) (divisor : x.divisor ≡ x0.divisor) (caps : x.caps ≡ x0.caps) (grid : x.grid ≡ x0.grid)
       (o : Option Spot) (o_is : o ≡ old) (size : ℕ) (k2 : ℕ) (caps2 : List ℕ) (after : List (List ℕ))
-      (gone : Bool) (place : Option ℕ) (class b : ℕ) (ch : ChargesTo x o size k2 caps2 after gone place class b)
+      (gone : Bool) (place : Option ℕ) (class b : ℕ)
+      (ch : ChargesTo x o size k2 caps2 after gone place class b)
       (loud : IsLoudAt x0 name size) where
     all_same : charged_by x.divisor x.caps x.grid o size ≡ charged_by k x0.caps x0.grid old size
     all_same = λ i. charged_by ((divisor ∙ may.divisor) i) (caps i) (grid i) (o_is i) size
@@ -141,7 +144,8 @@ module _ {classes : ℕ} {kept_grid : List (List ℕ)} {x0 : Parts} (may : MayBe
   -- ---- once the name is gone
 
   module _ (gone : Extents) (freed : List Span) (asked : List ℕ) (without : IsWithout name x0.table gone)
-      (frees : FreesSpot old (fin.get x0.table.kept name) x0.spans freed) (after : List (List ℕ)) (b : ℕ) where
+      (frees : FreesSpot old (fin.get x0.table.kept name) x0.spans freed)
+      (after : List (List ℕ)) (b : ℕ) where
     abbrev parts : Extents → Parts
     parts e = record x0 { table = e; grid = after; spans = freed; asked = asked }
 
@@ -177,11 +181,12 @@ module _ {classes : ℕ} {kept_grid : List (List ℕ)} {x0 : Parts} (may : MayBe
           record {
             lifts = λ g sized. subst (λ (q : Phase). BeginsLift (del_flight p.numbers.reach g) x0.caps after
                 x0.in_use gone freed q) (sym st.value)
-                (removed_lifts (del_flight p.numbers.reach g) x0.caps x0.grid kept_grid x0.in_use x0.table x0.spans
-                h may.base name after b gone without freed frees l reach g.map sized
+                (removed_lifts (del_flight p.numbers.reach g) x0.caps x0.grid kept_grid x0.in_use x0.table
+                x0.spans h may.base name after b gone without freed frees l reach g.map sized
                 refl);
-            loose = λ m sized balanced. removed_loose (del_flight p.numbers.reach some_setting) x0.caps x0.grid
-                kept_grid x0.in_use x0.table x0.spans h may.base name after b gone without freed frees m sized
+            loose = λ m sized balanced. removed_loose (del_flight p.numbers.reach some_setting) x0.caps
+                x0.grid kept_grid x0.in_use x0.table x0.spans h may.base name after b gone without
+                freed frees m sized
                 balanced l reach;
             now = without.now;
             free = record { live = λ q s there. inr (omega arith); held = λ q s there. inr (omega arith) };
@@ -197,12 +202,14 @@ module _ {classes : ℕ} {kept_grid : List (List ℕ)} {x0 : Parts} (may : MayBe
             low = omega (
               arith,
               reach,
-              reach_low classes SIZE_MAX x0.caps after kept_grid b x0.in_use gone freed del_starts 0 (omega arith),
+              reach_low classes SIZE_MAX x0.caps after kept_grid b x0.in_use gone freed del_starts
+                  0 (omega arith),
             );
             whole = subst (λ (q : Phase). is_boundary after q.numbers.boundary ≡ true) (sym st.value)
                 del_starts.boundary;
             boundary = ap (λ (q : Phase). q.numbers.boundary) st.value ∙ l.boundary
-                ∙ ap (λ (g : List (List ℕ)). boundary_of g (trigger (charged_by k x0.caps x0.grid old 0))) l.after_is;
+                ∙ ap (λ (g : List (List ℕ)). boundary_of g (trigger (charged_by k x0.caps x0.grid old 0)))
+                l.after_is;
             divisor = may.divisor ∙ sym (ap (λ (q : Phase). q.k) st.value);
             asked = sums ∙ ap (λ (xs : List ℕ). fold added x0.asked xs) (sym (append-nil (sizes_at old)));
             kept = without.kept;
@@ -232,16 +239,18 @@ module _ {classes : ℕ} {kept_grid : List (List ℕ)} {x0 : Parts} (may : MayBe
 
       free_is : (place : ℕ) → IsFreeSpace gone.now gone.kept place size
           → IsFreeSpace (fin.remove x0.table.now name) x0.table.kept place size
-      free_is place free = subst (λ (m : Spots). IsFreeSpace (fin.remove x0.table.now name) m place size) without.kept
-          (subst (λ (m : Spots). IsFreeSpace m gone.kept place size) without.now free)
+      free_is place free = subst (λ (m : Spots). IsFreeSpace (fin.remove x0.table.now name) m place size)
+          without.kept (subst (λ (m : Spots). IsFreeSpace m gone.kept place size) without.now free)
 
       -- whose object found room
 
-      module _ (place : ℕ) (placed : PlacedTo k x0.caps (between k x0.caps x0.grid old) size after place) where
+      module _ (place : ℕ) (placed : PlacedTo k x0.caps (between k x0.caps x0.grid old) size
+          after place) where
         pub put_starts : (key : ℕ) (put : Extents) → IsWith name (spot_at place) key gone put
             → CanStart classes SIZE_MAX x0.caps after kept_grid b x0.in_use put freed
-        put_starts key put joins = placed_starts (put_flight 0 some_setting) x0.caps x0.grid kept_grid x0.in_use
-            x0.table x0.spans h may.base name after b gone without freed frees is object small l place key placed
+        put_starts key put joins = placed_starts (put_flight 0 some_setting) x0.caps x0.grid kept_grid
+            x0.in_use x0.table x0.spans h may.base name after b gone without freed frees is object small l
+            place key placed
             put joins
 
         pub begun_placed : (key : ℕ) (put : Extents) → IsWith name (spot_at place) key gone put → (p : Phase)
@@ -256,37 +265,42 @@ module _ {classes : ℕ} {kept_grid : List (List ℕ)} {x0 : Parts} (may : MayBe
               lifts = λ g sized. subst (λ (q : Phase). BeginsLift (put_flight p.numbers.reach g) x0.caps after
                   x0.in_use put freed q) (sym st.value)
                   (placed_lifts (put_flight p.numbers.reach g) x0.caps x0.grid kept_grid x0.in_use x0.table
-                  x0.spans h may.base name after b gone without freed frees is object small l place key placed put
-                  joins reach g.map sized refl);
-              loose = λ m sized balanced. placed_loose (put_flight p.numbers.reach some_setting) x0.caps x0.grid
-                  kept_grid x0.in_use x0.table x0.spans h may.base name after b gone without freed frees m sized
+                  x0.spans h may.base name after b gone without freed frees is object small l place key placed
+                  put joins reach g.map sized refl);
+              loose = λ m sized balanced. placed_loose (put_flight p.numbers.reach some_setting) x0.caps
+                  x0.grid kept_grid x0.in_use x0.table x0.spans h may.base name after b gone without
+                  freed frees m sized
                   balanced is object small l place key placed put joins reach;
               now = now_is place key put joins;
-              free = free_is place (placed_free (put_flight 0 some_setting) x0.caps x0.grid kept_grid x0.in_use
-                  x0.table x0.spans h may.base name after b gone without freed frees is object small l place key
-                  placed put joins);
+              free = free_is place (placed_free (put_flight 0 some_setting) x0.caps x0.grid kept_grid
+                  x0.in_use x0.table x0.spans h may.base name after b gone without freed frees is object small
+                  l place key placed put joins);
               within = omega (
                 arith,
                 reach,
-                placed_in_reach (put_flight 0 some_setting) x0.caps x0.grid kept_grid x0.in_use x0.table x0.spans h
-                    may.base name after b gone without freed frees is object small l place key placed put joins,
+                placed_in_reach (put_flight 0 some_setting) x0.caps x0.grid kept_grid x0.in_use x0.table
+                    x0.spans h may.base name after b gone without freed frees is object small l place key
+                    placed put joins,
               );
               longer = omega (
                 arith,
                 reach,
-                wall_past_end classes SIZE_MAX x0.caps after kept_grid b x0.in_use put freed starts 0 (omega arith),
+                wall_past_end classes SIZE_MAX x0.caps after kept_grid b x0.in_use put freed starts
+                    0 (omega arith),
                 reach_past_wall classes SIZE_MAX x0.caps after kept_grid b x0.in_use put freed starts 0
                     (omega arith),
               );
               low = omega (
                 arith,
                 reach,
-                reach_low classes SIZE_MAX x0.caps after kept_grid b x0.in_use put freed starts 0 (omega arith),
+                reach_low classes SIZE_MAX x0.caps after kept_grid b x0.in_use put freed starts
+                    0 (omega arith),
               );
               whole = subst (λ (q : Phase). is_boundary after q.numbers.boundary ≡ true) (sym st.value)
                   starts.boundary;
               boundary = ap (λ (q : Phase). q.numbers.boundary) st.value ∙ l.boundary
-                  ∙ ap (λ (g : List (List ℕ)). boundary_of g (trigger (charged_by k x0.caps x0.grid old size)))
+                  ∙ ap (λ (g : List (List ℕ)). boundary_of g
+                  (trigger (charged_by k x0.caps x0.grid old size)))
                   l.after_is;
               divisor = may.divisor ∙ sym (ap (λ (q : Phase). q.k) st.value);
               asked = sums;
@@ -298,8 +312,8 @@ module _ {classes : ℕ} {kept_grid : List (List ℕ)} {x0 : Parts} (may : MayBe
 
         -- it ends where the layout does, or before
         pub placed_low : place + size ≤ end_of k x0.caps
-        placed_low = placed_within classes SIZE_MAX x0.caps x0.grid kept_grid x0.in_use x0.table x0.spans h name
-            size place after placed
+        placed_low = placed_within classes SIZE_MAX x0.caps x0.grid kept_grid x0.in_use x0.table x0.spans h
+            name size place after placed
 
       -- whose object waits
 
@@ -317,7 +331,8 @@ module _ {classes : ℕ} {kept_grid : List (List ℕ)} {x0 : Parts} (may : MayBe
             x0.spans h may.base name after b gone without freed frees is object small l missed
 
         pub begun_waiting : (place key : ℕ) (put : Extents) → IsWith name (spot_at place) key gone put
-            → (p : Phase) → p ≡ phase_now (course_of k x0.caps (numbers_of k x0.caps b (suffix_items b gone) size) size) put
+            → (p : Phase) → p ≡ phase_now (course_of k x0.caps (numbers_of k x0.caps b
+            (suffix_items b gone) size) size) put
             → place + size ≡ p.numbers.reach
             → asked ≡ fold added x0.asked (sizes_at old ++ some_size size)
             → IsBegun classes x0 (put_of name object) (parts put) p place
@@ -328,32 +343,36 @@ module _ {classes : ℕ} {kept_grid : List (List ℕ)} {x0 : Parts} (may : MayBe
               lifts = λ g sized. subst (λ (q : Phase). BeginsLift (put_flight p.numbers.reach g) x0.caps after
                   x0.in_use put freed q) (sym value)
                   (pending_lifts (put_flight p.numbers.reach g) x0.caps x0.grid kept_grid x0.in_use x0.table
-                  x0.spans h may.base name after b gone without freed frees is object small l missed place reach
-                  ends key put joins g.map sized refl);
-              loose = λ m sized balanced. pending_loose (put_flight p.numbers.reach some_setting) x0.caps x0.grid
-                  kept_grid x0.in_use x0.table x0.spans h may.base name after b gone without freed frees m sized
+                  x0.spans h may.base name after b gone without freed frees is object small l missed place
+                  reach ends key put joins g.map sized refl);
+              loose = λ m sized balanced. pending_loose (put_flight p.numbers.reach some_setting) x0.caps
+                  x0.grid kept_grid x0.in_use x0.table x0.spans h may.base name after b gone without
+                  freed frees m sized
                   balanced is object small l missed place reach ends key put joins;
               now = now_is place key put joins;
               free = free_is place (pending_is_free (put_flight p.numbers.reach some_setting) x0.caps x0.grid
-                  kept_grid x0.in_use x0.table x0.spans h may.base name after b gone without freed frees is object
-                  small l missed place reach ends);
+                  kept_grid x0.in_use x0.table x0.spans h may.base name after b gone without freed frees is
+                  object small l missed place reach ends);
               within = omega (arith, ends);
               longer = omega (
                 arith,
                 reach,
-                wall_past_end classes SIZE_MAX x0.caps after kept_grid b x0.in_use gone freed wait_starts size small,
-                reach_past_wall classes SIZE_MAX x0.caps after kept_grid b x0.in_use gone freed wait_starts size
-                    small,
+                wall_past_end classes SIZE_MAX x0.caps after kept_grid b x0.in_use gone freed
+                    wait_starts size small,
+                reach_past_wall classes SIZE_MAX x0.caps after kept_grid b x0.in_use gone freed wait_starts
+                    size small,
               );
               low = omega (
                 arith,
                 reach,
-                reach_low classes SIZE_MAX x0.caps after kept_grid b x0.in_use gone freed wait_starts size small,
+                reach_low classes SIZE_MAX x0.caps after kept_grid b x0.in_use gone freed
+                    wait_starts size small,
               );
               whole = subst (λ (q : Phase). is_boundary after q.numbers.boundary ≡ true) (sym value)
                   wait_starts.boundary;
               boundary = ap (λ (q : Phase). q.numbers.boundary) value ∙ l.boundary
-                  ∙ ap (λ (g : List (List ℕ)). boundary_of g (trigger (charged_by k x0.caps x0.grid old size)))
+                  ∙ ap (λ (g : List (List ℕ)). boundary_of g
+                  (trigger (charged_by k x0.caps x0.grid old size)))
                   l.after_is;
               divisor = may.divisor ∙ sym (ap (λ (q : Phase). q.k) value);
               asked = sums;
@@ -374,7 +393,8 @@ module _ {classes : ℕ} {kept_grid : List (List ℕ)} {x0 : Parts} (may : MayBe
       let r = fin.remove m name in
       let s : Spot = record { place = 0; size = 0 } in
       let one : fin.len (fin.insert r name s) ≡ fin.len r + 1 = fin.len-insert name_order r name s
-      ∙ cond-false (fin.contains_key r name) (fin.len r) (fin.len r + 1) (ap is_some (get-remove_here m name)) in
+      ∙ cond-false (fin.contains_key r name) (fin.len r) (fin.len r + 1)
+      (ap is_some (get-remove_here m name)) in
       let two : fin.len (fin.insert r name s) ≡ cond (fin.contains_key m name) (fin.len m) (fin.len m + 1) =
       ap (λ (x : Spots). fin.len x) (insert-remove m name s) ∙ fin.len-insert name_order m name s in
       let few = may.before.table.now_room in
@@ -428,11 +448,13 @@ module _ {classes : ℕ} {kept_grid : List (List ℕ)} {x0 : Parts} (may : MayBe
 
     -- ---- a removal
 
-    module _ (o : Option Spot) (o_is : o ≡ old) (k2 : ℕ) (caps2 : List ℕ) (after : List (List ℕ)) (gone : Bool)
-        (place : Option ℕ) (class b : ℕ) (ch : ChargesTo x1 o 0 k2 caps2 after gone place class b)
+    module _ (o : Option Spot) (o_is : o ≡ old) (k2 : ℕ) (caps2 : List ℕ) (after : List (List ℕ))
+        (gone : Bool) (place : Option ℕ) (class b : ℕ)
+        (ch : ChargesTo x1 o 0 k2 caps2 after gone place class b)
         (loud : IsLoudAt x0 name 0) where
       del_loud : IsLoud k x0.caps x0.grid old 0 after b
-      del_loud = is_loud x1 rest_divisor rest_caps rest_grid o o_is 0 k2 caps2 after gone place class b ch loud
+      del_loud = is_loud x1 rest_divisor rest_caps rest_grid o o_is 0 k2 caps2 after gone
+          place class b ch loud
 
       del_k : k2 ≡ k
       del_k = ch.divisor ∙ rest_divisor ∙ may.divisor
@@ -457,14 +479,15 @@ module _ {classes : ℕ} {kept_grid : List (List ℕ)} {x0 : Parts} (may : MayBe
     module _ (is : IsName name) (object : List ℕ) (small : length object ≤ SIZE_MAX) (moved asked : List ℕ)
         (moved_is : moved ≡ x1.moved) (asked_is : asked ≡ fold added x1.asked (some_size (length object)))
         (o : Option Spot) (o_is : o ≡ old) (k2 : ℕ) (caps2 : List ℕ) (after : List (List ℕ)) (gone : Bool)
-        (place : Option ℕ) (class b : ℕ) (ch : ChargesTo x1 o (length object) k2 caps2 after gone place class b)
+        (place : Option ℕ) (class b : ℕ)
+        (ch : ChargesTo x1 o (length object) k2 caps2 after gone place class b)
         (loud : IsLoudAt x0 name (length object)) where
       abbrev object_len : ℕ
       object_len = length object
 
       put_loud : IsLoud k x0.caps x0.grid old object_len after b
-      put_loud = is_loud x1 rest_divisor rest_caps rest_grid o o_is object_len k2 caps2 after gone place class b
-          ch loud
+      put_loud = is_loud x1 rest_divisor rest_caps rest_grid o o_is object_len k2 caps2 after gone place class
+          b ch loud
 
       put_k : k2 ≡ k
       put_k = ch.divisor ∙ rest_divisor ∙ may.divisor
@@ -500,7 +523,8 @@ module _ {classes : ℕ} {kept_grid : List (List ℕ)} {x0 : Parts} (may : MayBe
       -- whose object found room
       module _ (at : ℕ) (found : place ≡ Some at) where
         put_placed : PlacedTo k x0.caps (between k x0.caps x0.grid old) object_len after at
-        put_placed = subst (PlacesNew k x0.caps (between k x0.caps x0.grid old) object_len after) found put_places
+        put_placed = subst (PlacesNew k x0.caps (between k x0.caps x0.grid old) object_len after)
+            found put_places
 
         pub placed_ready : (key : ℕ) (put : Extents)
             → IsWith name (record { place = at; size = object_len }) key x1.table put
@@ -512,7 +536,8 @@ module _ {classes : ℕ} {kept_grid : List (List ℕ)} {x0 : Parts} (may : MayBe
         pub placed_ends : at + object_len < 2 ^ 48
         placed_ends = omega (
           arith,
-          placed_low x1.table x1.spans asked out.without out.frees after b is object small put_loud at put_placed,
+          placed_low x1.table x1.spans asked out.without out.frees after b is object small
+              put_loud at put_placed,
           end_is_low,
         )
 
@@ -533,16 +558,17 @@ module _ {classes : ℕ} {kept_grid : List (List ℕ)} {x0 : Parts} (may : MayBe
 
         pub waiting_ready : CanStartAt classes b k2 caps2 after x1.table
         waiting_ready = can_start_at kept_grid x0 x1.spans
-            (wait_starts x1.table x1.spans asked out.without out.frees after b is object small put_loud put_missed)
+            (wait_starts x1.table x1.spans asked out.without out.frees after b is object small
+            put_loud put_missed)
             put_k put_caps
 
         pub waiting_some : 1 ≤ object_len
-        waiting_some = wait_some x1.table x1.spans asked out.without out.frees after b is object small put_loud
-            put_missed
+        waiting_some = wait_some x1.table x1.spans asked out.without out.frees after b is object small
+            put_loud put_missed
 
         pub waiting_high : b ≤ class_of object_len
-        waiting_high = wait_high x1.table x1.spans asked out.without out.frees after b is object small put_loud
-            put_missed
+        waiting_high = wait_high x1.table x1.spans asked out.without out.frees after b is object small
+            put_loud put_missed
 
         pub waiting_new : fin.get x1.table.now name ≡ None
         waiting_new = ap (λ (m : Spots). fin.get m name) out.without.now ∙ get-remove_here x0.table.now name
@@ -552,8 +578,8 @@ module _ {classes : ℕ} {kept_grid : List (List ℕ)} {x0 : Parts} (may : MayBe
             → IsBegun classes x0 (put_of name object) x p at
         waiting_begun x p at st = subst (λ (y : Parts). IsBegun classes x0 (put_of name object) y p at)
             (sym (st.rest ∙ ap (λ (y : Parts). record y { table = x.table }) charged_is))
-            (begun_waiting x1.table x1.spans asked out.without out.frees after b is object small put_loud put_missed
-            at st.key x.table st.joins p
+            (begun_waiting x1.table x1.spans asked out.without out.frees after b is object small put_loud
+            put_missed at st.key x.table st.joins p
             (st.value ∙ (λ i. phase_now (course_of (put_k i) (put_caps i)
             (numbers_of (put_k i) (put_caps i) b (suffix_items b x1.table) object_len) object_len) x.table))
             st.ends put_sums)

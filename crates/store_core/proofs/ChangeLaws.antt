@@ -42,10 +42,12 @@ module _ {classes : ℕ} (s : Kept) (h : IsStore classes s) (name : List ℕ) wh
 
   -- ---- a name goes
 
-  module _ (after : List (List ℕ)) (gone : QuietTo k caps s.book.grid (gone_items k caps (fin.get s.now name)) after)
+  module _ (after : List (List ℕ))
+      (gone : QuietTo k caps s.book.grid (gone_items k caps (fin.get s.now name)) after)
     where
       pub store_gone : (asked : List ℕ) → fin.len (fin.remove s.now name) ≤ s.in_use.block.names
-          → AreInRange (fin.remove s.now name) → IsStore classes (with_now classes s (fin.remove s.now name) after asked)
+          → AreInRange (fin.remove s.now name)
+          → IsStore classes (with_now classes s (fin.remove s.now name) after asked)
       store_gone asked few ranges = record {
         block = h.block;
         now = laid_gone classes SIZE_MAX k caps s.book.grid s.now h.now name after gone;
@@ -104,12 +106,13 @@ module _ {classes : ℕ} (s : Kept) (h : IsStore classes s) (name : List ℕ) wh
     ]
 
     pub store_put : IsName name → size ≤ SIZE_MAX → (asked : List ℕ)
-        → fin.len (fin.insert s.now name spot) ≤ s.in_use.block.names → AreInRange (fin.insert s.now name spot)
+        → fin.len (fin.insert s.now name spot) ≤ s.in_use.block.names
+        → AreInRange (fin.insert s.now name spot)
         → IsStore classes (with_now classes s (fin.insert s.now name spot) after asked)
     store_put is small asked few ranges = record {
       block = h.block;
-      now = laid_put classes SIZE_MAX k caps s.book.grid s.now h.now name is size charged.mid after place small
-          charged.gone charged.placed;
+      now = laid_put classes SIZE_MAX k caps s.book.grid s.now h.now name is size charged.mid after place
+          small charged.gone charged.placed;
       now_book = refl;
       now_few = few;
       now_in_range = ranges;

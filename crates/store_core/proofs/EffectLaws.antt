@@ -36,8 +36,8 @@ calls_err x y c = record {
 }
 
 -- A write apart from the checkpoint's objects, and what becomes of the store.
-pub quiet_effects : {classes : ℕ} (c : Change) (s new : Kept) (a d : disk.State) (result : Result Done Refusal)
-    (base place n : ℕ) → IsStore classes s → base ≡ base_of s
+pub quiet_effects : {classes : ℕ} (c : Change) (s new : Kept) (a d : disk.State)
+    (result : Result Done Refusal) (base place n : ℕ) → IsStore classes s → base ≡ base_of s
     → (IsTrue a.tells → IsOver classes s a.file) → AllLieApart place n s.kept
     → WritesWithin (base + place) n a d → Calls (quiet_calls c) a d result
     → OnOk result (ChangesQuietly classes c s new) → IsQuietChange classes c s new a d result
@@ -59,7 +59,8 @@ pub position_fits : {classes : ℕ} (s : Kept) (base place n : ℕ) → IsStore 
 position_fits s base place n h at low = omega (arith, at, low, end_low s h, h.block.names_high)
 
 -- No call on the disk.
-pub no_effects : {classes : ℕ} (c : Change) (s new : Kept) (a : disk.State) (answer : Done) → IsStore classes s
+pub no_effects : {classes : ℕ} (c : Change) (s new : Kept) (a : disk.State) (answer : Done)
+    → IsStore classes s
     → (IsTrue a.tells → IsOver classes s a.file) → IsTrue a.is_ready → a.turn ≤ last → quiet_calls c ≡ 0
     → ChangesQuietly classes c s new → IsQuietChange classes c s new a a (Ok answer)
 no_effects {classes} c s new a answer h over ready fits none value = record {

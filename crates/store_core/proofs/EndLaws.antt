@@ -39,7 +39,8 @@ less_not_tied Less is = refl
 less_not_tied Equal is = absurd (cc)
 less_not_tied Greater is = refl
 
-absent : (q : List ℕ) (es : List (List ℕ × Spot)) → T (below_all name_cmp q es) → IsAbsent q (map record_of es)
+absent : (q : List ℕ) (es : List (List ℕ × Spot)) → T (below_all name_cmp q es)
+    → IsAbsent q (map record_of es)
 absent q [] low = tt
 absent q (e ∷ es) low = (
   less_not_tied (name_cmp q e.0) (left (is_lt (name_cmp q e.0)) (below_all name_cmp q es) low),

@@ -1,5 +1,5 @@
 -- A store after its flush, whether or not it failed.
-use Rattle.std.specs.Prelude.{◌≡◌, ℕ, ◌+◌, ◌-◌, ◌*◌, ◌^◌, ◌<◌, ◌≤◌, Bool, true, false, cond, List, ◌++◌, length, slice_index, Option, Some, None, is_some, option_map, Ok, Err, IsTrue, vec_len, refl}
+use Rattle.std.specs.Prelude.{◌≡◌, ℕ, ◌+◌, ◌-◌, ◌*◌, ◌<◌, ◌≤◌, true, false, List, slice_index, None, Ok, Err, IsTrue, vec_len, refl}
 use Rattle.std.proofs.Common.{arith, sym, ◌∙◌, ap, subst, inl, inr}
 use Rattle.disk_face.specs.States as disk
 use Rattle.disk_face.specs.Counts.{HasCause}
@@ -7,36 +7,25 @@ use Rattle.disk_face.specs.Moments.{Leaves}
 use Rattle.size_class.specs.Rows.{cells_of}
 use Rattle.size_class.specs.declared.TheConstants.{SIZE_MAX}
 use Rattle.spot_terms.specs.LaidOut.{shown_book}
-use Rattle.slot_codec.specs.Names.{IsName}
 use Rattle.slot_codec.specs.Readable.{IsSuperBlock}
 use Rattle.slot_codec.specs.Spelling.{head_len}
 use Rattle.slot_codec.specs.declared.codec.SuperBlock.{SuperBlock}
 use Rattle.store_terms.specs.Requests as ask
 use Rattle.store_terms.specs.Requests.{Change, changed}
-use Rattle.segment_layout.specs.Books.{charge_all, is_quiet, item_of, some_size, trigger, volumes, volumes_of_sizes}
+use Rattle.segment_layout.specs.Books.{is_quiet, trigger, volumes}
 use Rattle.segment_layout.specs.Shapes.{boundary_of}
-use Rattle.segment_layout.proofs.ShapeLaws.{caps-settled_above}
 use Rattle.store_terms.specs.Maps.{Map}
-use Rattle.store_terms.specs.Weights.{same_name}
-use Rattle.store_terms.proofs.MapLaws.{name_order}
-use Rattle.spot_terms.proofs.EntryLaws.{get-remove_here, insert-remove}
-use Rattle.extent_table.specs.declared.spot.Spot.{Spot}
 use Rattle.store_core.specs.Keeps.{now_map}
 use Rattle.table_rules.specs.Tables.{sizes}
-use Rattle.spot_terms.specs.Quiet.{gone_items}
-use Rattle.plan_terms.specs.Plans.{class_total}
-use Rattle.flush_run.proofs.LaidPlaceLaws.{new_cap}
-use Rattle.flush_start.specs.Charging.{charged_by}
-use Rattle.flush_start.specs.Sized.{IsSizedBy, object_size}
-use Rattle.flush_start.proofs.SizedLaws.{sized_gone, sized_put, sized_volumes}
-use Rattle.std.proofs.lemmas.Bool.{cases_lt, cond-false}
+use Rattle.flush_start.specs.Sized.{IsSizedBy}
+use Rattle.std.proofs.lemmas.Bool.{cases_lt}
 use Rattle.std.specs.FinMap as fin
 use Rattle.segment_layout.specs.Layouts.{caps_of, divisor_of, grid_of}
-use Rattle.extent_table.specs.Extents.{Spots, records_of}
+use Rattle.extent_table.specs.Extents.{Spots}
 use Rattle.plan_terms.specs.Phases.{Phase}
 use Rattle.flush_run.specs.declared.hands.Hands.{Hands}
 use Rattle.flush_run.specs.Calls.{CallsSoFar}
-use Rattle.flush_run.specs.Flights.{Flight, LeavesOldOrNew}
+use Rattle.flush_run.specs.Flights.{Flight}
 use Rattle.flush_run.specs.Parts.{Parts, parts_of, size_in}
 use Rattle.flush_run.specs.Settling.{FlushEnds}
 use Rattle.store_core.specs.declared.answers.Refusal.{Refusal}
@@ -45,7 +34,7 @@ use Rattle.store_core.specs.declared.store.Store.TheInside.{Inside}
 use Rattle.store_core.specs.Connection.{IsOver, Kept, RestsOnTable, base_of, limits_of, state_of}
 use Rattle.store_core.specs.Flushed.{IsFlushed}
 use Rattle.store_core.specs.Flushes.{IsFlush, IsFlushImage, flush_boundary, map_after, names_after, size_after}
-use Rattle.store_core.specs.Flushing.{CanFly, HasFlown, IsBegun, Setting, bytes_of, flight_of, spots_after}
+use Rattle.store_core.specs.Flushing.{CanFly, Setting, flight_of}
 use Rattle.store_core.specs.Inside.{IsWhole, kept_of}
 use Rattle.store_core.specs.Quiet.{asked_after, charges_of}
 use Rattle.store_core.specs.States.{Facts, State, Step, refusal}
@@ -55,93 +44,7 @@ use Rattle.store_core.proofs.FlushLaws.{can_fly, flush_content, flush_left, flus
 use Rattle.store_core.proofs.FlushedLaws.{ended_only, ended_opens, ended_over, ended_rests, ended_state, ended_store, flushed_view, flushed_whole}
 use Rattle.store_core.proofs.QuietLaws.{quiet_by_book}
 use Rattle.store_core.proofs.StepLaws.{facts_same}
-
--- what the device calls of a flush made of a store's parts
-pub record IsFlown {C : ℕ} (s : Inside C) (c : Change) (hands1 : Hands C) (p : Phase) (place : ℕ) (bytes : List ℕ)
-    (hands2 : Hands C) (a d : disk.State) : Type 0 where
-  pub whole : IsWhole s
-  pub unbroken : s.broken ≡ false
-  pub begun : IsBegun C (parts_of s.hands) c (parts_of hands1) p place
-  pub name : IsName c.name
-  pub object : bytes_of c ≡ bytes
-  pub fresh : s.hands.slots.sequence < 2 ^ 61
-  pub over : IsTrue a.tells → IsOver C (kept_of s) a.file
-  pub left : (x : Parts) (e : Change) (g : Setting) → CanFly C x e g (parts_of hands1) p place bytes a
-      → IsTrue a.tells → LeavesOldOrNew (flight_of C x e p.numbers.reach g) a d
-  pub made : HasFlown p.numbers.boundary p.items a d (parts_of hands1) (parts_of hands2)
-
--- what a change charges, by the size of its object
-item_is : (o : Option (List ℕ)) → some_size (object_size o) ≡ item_of o
-item_is None = refl
-item_is (Some object) = refl
-
-same_charges : (s : Kept) (c : Change) → charged_by s.in_use.block.k s.book.caps s.book.grid
-    (fin.get s.now c.name) (object_size c.object) ≡ charges_of s c
-same_charges s c = ap (λ (xs : List ℕ). charge_all s.in_use.block.k s.book.caps s.book.grid
-    (gone_items s.in_use.block.k s.book.caps (fin.get s.now c.name) ++ xs)) (item_is c.object)
-
--- the items of a class from the boundary on have as many bytes as the objects of the map after
-sized_after : (m : Map) (spots : Spots) (c : Change) (place : ℕ) → IsSizedBy m spots
-    → IsSizedBy (changed c m) (spots_after c spots place)
-sized_after m spots c place sized = by c.object
-  where
-    by : (o : Option (List ℕ)) → IsSizedBy (changed (record { name = c.name; object = o }) m)
-        (spots_after (record { name = c.name; object = o }) spots place)
-    by None = sized_gone m spots c.name sized
-    by (Some object) = sized_put m spots c.name object (record { place = place; size = length object }) refl sized
-
-items_total : {classes : ℕ} {x0 : Parts} {c : Change} {g : Setting} {x : Parts} {p : Phase} {place : ℕ}
-    {bytes : List ℕ} {a : disk.State} → CanFly classes x0 c g x p place bytes a → (m : Map)
-    → IsSizedBy m x0.table.now → (q : ℕ) → p.numbers.boundary ≤ q
-    → class_total p.items q ≡ slice_index (volumes (changed c m)) q
-items_total {classes} {x0} {c} {g} {x} {p} {place} can m sized q high =
-    let f = flight_of classes x0 c p.numbers.reach g in
-    let h = (can.begun.lifts g can.sized).hands in
-    let live = volumes_of_sizes (sizes (records_of x.table.now)) in
-    sym (new_cap f x.in_use x.table x.caps x.grid x.spans p h q high)
-    ∙ caps-settled_above p.numbers.boundary q x.caps live h.caps_full.full (omega (arith, h.boundary, h.few)) high
-    ∙ ap (λ (xs : List ℕ). slice_index xs q) (sym (sized_volumes (changed c m) x.table.now
-    (subst (IsSizedBy (changed c m)) (sym can.begun.now) (sized_after m x0.table.now c place sized))
-    can.begun.table.now_named))
-
--- ---- the names after a change, and the sizes of their objects
-
-module _ (s : Kept) (c : Change) (place : ℕ) where
-  len_after : fin.len (spots_after c s.now place) ≡ names_after s c
-  len_after = by c.object
-    where
-      by : (o : Option (List ℕ)) → fin.len (spots_after (record { name = c.name; object = o }) s.now place)
-          ≡ names_after s (record { name = c.name; object = o })
-      by None = refl
-      by (Some object) =
-          let r = fin.remove s.now c.name in
-          let spot : Spot = record { place = place; size = length object } in
-          ap (λ (m : Spots). fin.len m) (sym (insert-remove s.now c.name spot))
-          ∙ fin.len-insert name_order r c.name spot
-          ∙ cond-false (fin.contains_key r c.name) (fin.len r) (fin.len r + 1)
-          (ap is_some (get-remove_here s.now c.name))
-
-  sizes_after : (q : List ℕ) → size_in (spots_after c s.now place) q ≡ size_after s c q
-  sizes_after q = by c.object
-    where
-      cut : (b : Bool) (o : Option Spot) → option_map (λ (x : Spot). x.size) (cond b None o)
-          ≡ cond b None (option_map (λ (x : Spot). x.size) o)
-      cut true o = refl
-      cut false o = refl
-
-      set : (b : Bool) (x : Spot) (o : Option Spot) → option_map (λ (x : Spot). x.size) (cond b (Some x) o)
-          ≡ cond b (Some x.size) (option_map (λ (x : Spot). x.size) o)
-      set true x o = refl
-      set false x o = refl
-
-      by : (o : Option (List ℕ)) → size_in (spots_after (record { name = c.name; object = o }) s.now place) q
-          ≡ size_after s (record { name = c.name; object = o }) q
-      by None = ap (option_map (λ (x : Spot). x.size)) (fin.get-remove name_order s.now c.name q)
-          ∙ cut (same_name q c.name) (fin.get s.now q)
-      by (Some object) =
-          let spot : Spot = record { place = place; size = length object } in
-          ap (option_map (λ (x : Spot). x.size)) (fin.get-insert name_order s.now c.name spot q)
-          ∙ set (same_name q c.name) spot (fin.get s.now q)
+use Rattle.store_core.proofs.FlownLaws.{IsFlown, same_charges, items_total, len_after, sizes_after}
 
 module _ {C : ℕ} (s : Inside C) (c : Change) (hands1 : Hands C) (p : Phase) (place : ℕ) (bytes : List ℕ)
     (hands2 : Hands C) (a d : disk.State) (w : IsFlown s c hands1 p place bytes hands2 a d) where
@@ -196,14 +99,15 @@ module _ {C : ℕ} (s : Inside C) (c : Change) (hands1 : Hands C) (p : Phase) (p
       (hands2.slots.sequence - hands1.slots.sequence + 1) (fin.len hands1.table.now)) same_moved w.made.most))
 
   content_is : IsTrue a.tells → IsFlushImage C ks c a.file d.file
-  content_is told = flush_content s w.whole w.unbroken c (parts_of hands1) p place bytes w.begun w.name w.object
-      w.fresh a (w.over told) (w.left x0 c _ (can_fly s w.whole w.unbroken c (parts_of hands1) p place bytes
-      w.begun w.name w.object w.fresh a (w.over told) false (λ t. absurd (let e : false ≡ true = t in cc))) told)
+  content_is told = flush_content s w.whole w.unbroken c (parts_of hands1) p place bytes w.begun w.name
+      w.object w.fresh a (w.over told) (w.left x0 c _ (can_fly s w.whole w.unbroken c (parts_of hands1) p
+      place bytes w.begun w.name w.object w.fresh a (w.over told) false (λ t.
+      absurd (let e : false ≡ true = t in cc))) told)
 
   left_is : IsTrue a.tells → RestsOnTable (base_of ks) ks.kept a → Leaves a d (IsFlushImage C ks c a.file)
-  left_is told rests = flush_left s w.whole w.unbroken c (parts_of hands1) p place bytes w.begun w.name w.object
-      w.fresh a (w.over told) (w.left x0 c _ (can_fly s w.whole w.unbroken c (parts_of hands1) p place bytes
-      w.begun w.name w.object w.fresh a (w.over told) true (λ t. rests)) told)
+  left_is told rests = flush_left s w.whole w.unbroken c (parts_of hands1) p place bytes w.begun w.name
+      w.object w.fresh a (w.over told) (w.left x0 c _ (can_fly s w.whole w.unbroken c (parts_of hands1) p
+      place bytes w.begun w.name w.object w.fresh a (w.over told) true (λ t. rests)) told)
 
   -- ---- the bytes moved
 
@@ -291,7 +195,8 @@ module _ {C : ℕ} (s : Inside C) (c : Change) (hands1 : Hands C) (p : Phase) (p
       done_inside = record s { hands = hands2; kept_layout = hands2.layout }
 
       any : (g : Setting) × CanFly C x0 c g (parts_of hands1) p place bytes a
-      any = some_flight s w.whole w.unbroken c (parts_of hands1) p place bytes w.begun w.name w.object w.fresh a w.over
+      any = some_flight s w.whole w.unbroken c (parts_of hands1) p place bytes w.begun w.name w.object
+          w.fresh a w.over
 
       any_ends : FlushEnds C (flight_of C x0 c p.numbers.reach any.0) (parts_of hands2) d
       any_ends = ends x0 c any.0 any.1
@@ -326,8 +231,8 @@ module _ {C : ℕ} (s : Inside C) (c : Change) (hands1 : Hands C) (p : Phase) (p
       })
 
       told_ends : (told : IsTrue a.tells) → FlushEnds C (told_flight told) (parts_of hands2) d
-      told_ends told = ends x0 c _ (can_fly s w.whole w.unbroken c (parts_of hands1) p place bytes w.begun w.name
-          w.object w.fresh a (w.over told) false (λ t. absurd (let e : false ≡ true = t in cc)))
+      told_ends told = ends x0 c _ (can_fly s w.whole w.unbroken c (parts_of hands1) p place bytes w.begun
+          w.name w.object w.fresh a (w.over told) false (λ t. absurd (let e : false ≡ true = t in cc)))
 
       module _ (told : IsTrue a.tells) where
         still : IsTrue d.tells
@@ -339,7 +244,8 @@ module _ {C : ℕ} (s : Inside C) (c : Change) (hands1 : Hands C) (p : Phase) (p
 
         pub done_step : refusal (limits_of ks) (facts_at ks (ask.change c)) (ask.change c) ≡ None
             → is_quiet (charges_of ks c) ≡ false
-            → Step (limits_of ks) (state_of ks a.file) (ask.change c) ask.kept (state_of (kept_of done_inside) d.file)
+            → Step (limits_of ks) (state_of ks a.file) (ask.change c) ask.kept
+            (state_of (kept_of done_inside) d.file)
         done_step calm loud =
             let h = w.whole.sound w.unbroken in
             let is = ended_state hands2 (told_flight told) d (told_ends told) names_now block_now
@@ -348,7 +254,8 @@ module _ {C : ℕ} (s : Inside C) (c : Change) (hands1 : Hands C) (p : Phase) (p
             (ap (λ (f : Facts). refusal (limits_of ks) f (ask.change c))
             (facts_same ks a.file (ask.change c) h.now.named h.kept.named) ∙ calm)
             (quiet_by_book C ks a.file c h (w.over told) ∙ loud) (ap (λ (x : State). x.map) is)
-            (ap (λ (x : State). x.kept) is) (ap (λ (x : State). x.book) is) (ap (λ (x : State). x.kept_book) is)
+            (ap (λ (x : State). x.kept) is) (ap (λ (x : State). x.book) is)
+            (ap (λ (x : State). x.kept_book) is)
             (omega (arith, low, same_sequence))
             (omega (arith, high, same_sequence, ap (λ (y : Parts). y.in_use.block.k) w.begun.rest))
 
@@ -426,8 +333,8 @@ module _ {C : ℕ} (s : Inside C) (c : Change) (hands1 : Hands C) (p : Phase) (p
       pub step_seen : IsTrue a.tells → refusal (limits_of t) (facts_at t (ask.change c)) (ask.change c) ≡ None
           → is_quiet (charges_of t c) ≡ false
           → Step (limits_of t) (state_of t a.file) (ask.change c) ask.kept (state_of after d.file)
-      step_seen told calm loud = subst (λ (x : Kept). Step (limits_of x) (state_of x a.file) (ask.change c) ask.kept
-          (state_of after d.file)) is
+      step_seen told calm loud = subst (λ (x : Kept). Step (limits_of x) (state_of x a.file) (ask.change c)
+          ask.kept (state_of after d.file)) is
           (done_step s c hands1 p place bytes hands2 a d w ends low high told
-          (subst (λ (x : Kept). refusal (limits_of x) (facts_at x (ask.change c)) (ask.change c) ≡ None) (sym is) calm)
-          (subst (λ (x : Kept). is_quiet (charges_of x c) ≡ false) (sym is) loud))
+          (subst (λ (x : Kept). refusal (limits_of x) (facts_at x (ask.change c)) (ask.change c) ≡ None)
+          (sym is) calm) (subst (λ (x : Kept). is_quiet (charges_of x c) ≡ false) (sym is) loud))

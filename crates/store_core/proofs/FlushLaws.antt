@@ -44,7 +44,8 @@ use Rattle.store_core.proofs.StoreLaws.{now_lies}
 -- a change that isn't quiet is a step to the map and the book of after, which are kept
 pub flush_step : (limits : Limits) (s after : State) (c : Change)
     → refusal limits (facts_of s (ask.change c)) (ask.change c) ≡ None
-    → (next_book limits.k s.map s.book c).quiet ≡ false → after.map ≡ changed c s.map → after.kept ≡ changed c s.map
+    → (next_book limits.k s.map s.book c).quiet ≡ false → after.map ≡ changed c s.map
+    → after.kept ≡ changed c s.map
     → after.book ≡ (next_book limits.k s.map s.book c).book
     → after.kept_book ≡ (next_book limits.k s.map s.book c).book → s.sequence + 1 ≤ after.sequence
     → after.sequence ≤ s.sequence + (2 * limits.k + 1) → Step limits s (ask.change c) ask.kept after
@@ -108,7 +109,8 @@ module _ {C : ℕ} (s : Inside C) (whole : IsWhole s) (unbroken : s.broken ≡ f
   pub put_loud : (name object : List ℕ) → is_quiet (charges_of ks (put_of name object)) ≡ false
       → IsLoudAt x0 name (length object)
   put_loud name object loud = subst (λ (n : ℕ). is_quiet (charged_by n (caps_of s.hands.layout)
-      (grid_of s.hands.layout) (fin.get s.hands.table.now name) (length object)) ≡ false) (sym whole.divisor) loud
+      (grid_of s.hands.layout) (fin.get s.hands.table.now name) (length object)) ≡ false)
+      (sym whole.divisor) loud
 
   pub del_loud : (name : List ℕ) → is_quiet (charges_of ks (del_of name)) ≡ false → IsLoudAt x0 name 0
   del_loud name loud = subst (λ (n : ℕ). is_quiet (charged_by n (caps_of s.hands.layout)
@@ -124,8 +126,9 @@ module _ {C : ℕ} (s : Inside C) (whole : IsWhole s) (unbroken : s.broken ≡ f
     is_at_rest = rests;
   }
 
-  module _ (c : Change) (x : Parts) (p : Phase) (place : ℕ) (bytes : List ℕ) (begun : IsBegun C x0 c x p place)
-      (name : IsName c.name) (object : bytes_of c ≡ bytes) (fresh : ks.in_use.sequence < 2 ^ 61)
+  module _ (c : Change) (x : Parts) (p : Phase) (place : ℕ) (bytes : List ℕ)
+      (begun : IsBegun C x0 c x p place) (name : IsName c.name) (object : bytes_of c ≡ bytes)
+      (fresh : ks.in_use.sequence < 2 ^ 61)
       (a : disk.State) where
     module _ (over : IsOver C ks a.file) (rests : Bool)
         (given : IsTrue rests → RestsOnTable (base_of ks) ks.kept a) where
@@ -186,9 +189,13 @@ module _ {C : ℕ} (s : Inside C) (whole : IsWhole s) (unbroken : s.broken ≡ f
       start = λ told. absurd (let e : false ≡ true = sym none ∙ told in cc);
     }
 
-    pub some_flight : (IsTrue a.tells → IsOver C ks a.file) → (g : Setting) × CanFly C x0 c g x p place bytes a
+    pub some_flight : (IsTrue a.tells → IsOver C ks a.file) → (g : Setting) × CanFly C x0 c g
+        x p place bytes a
     some_flight over = elim (cases_Bool a.tells) as (λ _. (g : Setting) × CanFly C x0 c g x p place bytes a) [
-      | inl told ↦ (setting a.file false, can_fly (over told) false (λ t. absurd (let e : false ≡ true = t in cc)))
+      | inl told ↦ (
+        setting a.file false,
+        can_fly (over told) false (λ t. absurd (let e : false ≡ true = t in cc)),
+      )
       | inr none ↦ (_, can_fly_untold none)
     ]
 

@@ -86,8 +86,8 @@ module _ {C : ℕ} (hands : Hands C) (flight : Flight) (d : disk.State)
     abbrev file : List ℕ
     file = d.file
 
-    settled : IsSettled f hands.slots hands.table.now (end_of hands.slots.block.k (caps_of hands.layout)) d.file
-        d.may_leave
+    settled : IsSettled f hands.slots hands.table.now (end_of hands.slots.block.k (caps_of hands.layout))
+        d.file d.may_leave
     settled = ends.file told
 
     map_is : read_at (base_of as_flushed) file hands.table.now ≡ f.new_map

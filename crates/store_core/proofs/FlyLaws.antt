@@ -174,8 +174,8 @@ module _ {classes : ℕ} {x0 : Parts} {c : Change} {g : Setting} {x : Parts} {p 
             grows_here.images at.opens
 
         grown_content : IsAtHand without x0.in_use stays b.file
-        grown_content = content_grown without end can.begun.longer a b at.content.same_length is_here x0.in_use
-            stays named at.content
+        grown_content = content_grown without end can.begun.longer a b at.content.same_length is_here
+            x0.in_use stays named at.content
 
         pub grown_left : LeavesOldOrNew f a b
         grown_left fresh = (
@@ -195,12 +195,12 @@ module _ {classes : ℕ} {x0 : Parts} {c : Change} {g : Setting} {x : Parts} {p 
           writes_here = subst (λ n. WritesWithin (n + place) (length bytes) b d) same_base writes
 
           after : OpensEither f x0.table.kept d.file d.may_leave
-          after = opens_written f stays x0.table.kept place (length bytes) can.may.before.table.kept_named free
-              (writes_here.others told_there) writes_here grown
+          after = opens_written f stays x0.table.kept place (length bytes) can.may.before.table.kept_named
+              free (writes_here.others told_there) writes_here grown
 
           content_after : IsAtHand without x0.in_use stays d.file
-          content_after = content_written without x0.in_use stays b.file d.file place (length bytes) named free.live
-              (writes_here.others told_there) grown_content
+          content_after = content_written without x0.in_use stays b.file d.file place (length bytes) named
+              free.live (writes_here.others told_there) grown_content
 
           pub written_left : LeavesOldOrNew f a d
           written_left = left_then grown_left (λ fresh. (
@@ -238,14 +238,21 @@ module _ {classes : ℕ} {x0 : Parts} {c : Change} {g : Setting} {x : Parts} {p 
                       → s.place + s.size ≤ f.reach) (insert-remove x0.table.now c.name spot)
                       (moved_within f.reach stays c.name spot content_after.within
                       (omega (arith, can.begun.within, size_is, ap length same_bytes)));
-                  live = ap (λ (m : Spots). read_at f.base d.file m) (sym (insert-remove x0.table.now c.name spot))
+                  live = ap (λ (m : Spots). read_at f.base d.file m)
+                      (sym (insert-remove x0.table.now c.name spot))
                       ∙ ap (λ (xs : List ℕ). read_at f.base xs (fin.insert stays c.name spot))
                       (written_here ∙ ap (overwritten b.file (f.base + place)) (sym same_bytes))
                       ∙ read_at-put f.base place b.file object stays c.name named can.name
-                      (omega (arith, grown_content.same_length, can.begun.within, size_is, ap length same_bytes))
+                      (omega (
+                        arith,
+                        grown_content.same_length,
+                        can.begun.within,
+                        size_is,
+                        ap length same_bytes,
+                      ))
                       within_b
-                      (subst (λ (n : ℕ). (q : List ℕ) (s : Spot) → fin.get stays q ≡ Some s → LiesApart place n s)
-                      (sym (ap length same_bytes)) free.live)
+                      (subst (λ (n : ℕ). (q : List ℕ) (s : Spot) → fin.get stays q ≡ Some s
+                      → LiesApart place n s) (sym (ap length same_bytes)) free.live)
                       ∙ ap (λ (m : Map). fin.insert m c.name object) grown_content.live
                       ∙ insert-remove g.map c.name object
                       ∙ ap (λ (o : Option (List ℕ)). changed (record c { object = o }) g.map) (sym is);
@@ -255,7 +262,8 @@ module _ {classes : ℕ} {x0 : Parts} {c : Change} {g : Setting} {x : Parts} {p 
             written_flies = subst (λ u. Flies f u x.table d) (sym same_in_use) (record {
               content = subst (λ (m : Spots). IsAtHand f x0.in_use m d.file) (sym can.begun.now)
                   (at_hand c.object refl);
-              opens = λ fresh. subst (λ (m : Spots). OpensEither f m d.file d.may_leave) (sym can.begun.kept) after;
+              opens = λ fresh. subst (λ (m : Spots). OpensEither f m d.file d.may_leave)
+                  (sym can.begun.kept) after;
             })
 
       pub grow_failed : (b.file ≡ a.file) ⊎ (b.file ≡ resized a.file len) → LeavesOldOrNew f a b

@@ -26,7 +26,8 @@ pub record IsOpened {C : ℕ} (s : Inside C) (t : Kept) : Type 0 where
   pub room : s.hands.table.names ≡ t.in_use.block.names
   pub base : s.hands.base ≡ base_of t
 
-pub opened : {C : ℕ} (s : Inside C) (t : Kept) → kept_of s ≡ t → IsWhole s → t.is_broken ≡ false → IsOpened s t
+pub opened : {C : ℕ} (s : Inside C) (t : Kept) → kept_of s ≡ t → IsWhole s
+    → t.is_broken ≡ false → IsOpened s t
 opened {C} s t is whole unbroken =
     let now = ap (λ (x : Kept). x.now) is in
     let kept = ap (λ (x : Kept). x.kept) is in

@@ -102,7 +102,8 @@ module _ {classes : ℕ} (s : Kept) (h : IsStore classes s) (fresh : s.in_use.se
       subst (λ (n : ℕ). Calls (save_calls n) a d result) (length-records_of s.now h.now.named)
 
   module _ {a d : disk.State} (over : IsTrue a.tells → IsOver classes s a.file)
-      (left : IsTrue a.tells → SaveLeaves s.in_use (header_now s) (records_of s.now) a d) (frame : KeepsDisk a d)
+      (left : IsTrue a.tells → SaveLeaves s.in_use (header_now s) (records_of s.now) a d)
+      (frame : KeepsDisk a d)
     where
       pub keeps_saved : (answer : Done) (new : Kept) → new ≡ kept_now s
           → (IsTrue a.tells → IsSaved (table_now s).chosen (records_of s.now) d.file)
@@ -212,8 +213,9 @@ module _ {C : ℕ} (s : Inside C) (t : Kept) (is : kept_of s ≡ t) (whole : IsW
   pub keep_failed : (refused : Refusal) (new : Kept) → new ≡ record (kept_of s) { is_broken = true }
       → Calls {T = Done} (save_calls (length (records_of s.hands.table.now))) a d (Err refused)
       → KeepsNow C t new a d (Err refused)
-  keep_failed refused new new_is calls = keeps_failed t store fresh (connected unbroken) left_seen frame refused
-      new (new_is ∙ ap (λ (x : Kept). record x { is_broken = true }) is) (calls_seen (Err refused) calls)
+  keep_failed refused new new_is calls = keeps_failed t store fresh (connected unbroken) left_seen frame
+      refused new (new_is ∙ ap (λ (x : Kept). record x { is_broken = true }) is)
+      (calls_seen (Err refused) calls)
 
   module _ (saved : IsTrue a.tells → s.hands.slots.sequence + 1 < worn_from h.kind
       → IsSaved (next_chosen s.hands.slots h (length (records_of s.hands.table.now)))
@@ -222,7 +224,8 @@ module _ {C : ℕ} (s : Inside C) (t : Kept) (is : kept_of s ≡ t) (whole : IsW
       (new_is : new ≡ kept_now (kept_of s)) where
     saved_seen : IsTrue a.tells → IsSaved (table_now t).chosen (records_of t.now) d.file
     saved_seen told = seen (λ x h. x.in_use.sequence + 1 < worn_from h.kind
-        → IsSaved (next_chosen x.in_use h (length (records_of x.now))) (records_of x.now) d.file) s t is h same
+        → IsSaved (next_chosen x.in_use h (length (records_of x.now))) (records_of x.now) d.file) s t is h
+        same
         (saved told) (omega (arith, fresh))
 
     new_seen : new ≡ kept_now t
@@ -238,8 +241,8 @@ module _ {C : ℕ} (s : Inside C) (t : Kept) (is : kept_of s ≡ t) (whole : IsW
         → Step (limits_of t) (state_of t a.file) ask.keep ask.kept (state_of new d.file)
     keep_step told = subst (λ (x : Kept). Step (limits_of t) (state_of t a.file) ask.keep ask.kept
         (state_of x d.file)) (sym new_seen)
-        (step_kept t store a.file (connected unbroken told) d.file (saved_seen told) (left_seen told).data_part
-        fresh)
+        (step_kept t store a.file (connected unbroken told) d.file (saved_seen told)
+        (left_seen told).data_part fresh)
 
     pub keep_over : IsTrue d.tells → IsOver C new d.file
     keep_over told =

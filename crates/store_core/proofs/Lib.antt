@@ -24,6 +24,7 @@ pub mod BeginLaws
 pub mod BegunLaws
 pub mod FlyLaws
 pub mod FlushLaws
+pub mod FlownLaws
 pub mod FlushDoneLaws
 pub mod ServeLaws
 pub mod OpeningLaws

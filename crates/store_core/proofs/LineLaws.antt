@@ -41,7 +41,8 @@ pub record IsGathered (before mid piece : List ℕ) (spots : Spots) (n : ℕ) : 
   pub bytes : mid ++ piece ≡ before ++ lines_of (take n (listing_of spots))
   pub more : length before ≤ length mid
 
-pub gathered_more : {before mid piece next more after : List ℕ} {spots : Spots} {n : ℕ} (name : List ℕ) (x : Spot)
+pub gathered_more : {before mid piece next more after : List ℕ} {spots : Spots} {n : ℕ}
+    (name : List ℕ) (x : Spot)
     → IsGathered before mid piece spots n → IsMoved mid piece next more
     → after ≡ more ++ line_of (name, x.size) → slice_get (fin.entries spots) n ≡ Some (name, x)
     → IsGathered before next after spots (n + 1)
@@ -100,5 +101,6 @@ module _ {A E : Type 0} {before mid piece : List ℕ} {spots : Spots} {n : ℕ}
   front_put (Ok x) is = tt
   front_put (Err e) is = gathered_front so_far is
 
-  pub gathered_all : (r : Result A E) → Puts mid after piece r → Puts before after (lines_of (listing_of spots)) r
+  pub gathered_all : (r : Result A E) → Puts mid after piece r
+      → Puts before after (lines_of (listing_of spots)) r
   gathered_all r puts = record { all = all_put r puts.all; front = front_put r puts.front }

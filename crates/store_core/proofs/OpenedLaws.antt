@@ -93,8 +93,8 @@ module _ {C : ℕ} (s : Inside C) (n : IsNew s) where
         now_few = omega (arith, n.table.now_room, n.room);
         now_in_range = n.table.now_in_range;
         kept = subst (λ x. IsLaidOut C SIZE_MAX k (caps_of s.hands.layout) (grid_of s.kept_layout) x) n.kept
-            (subst (λ g. IsLaidOut C SIZE_MAX k (caps_of s.hands.layout) g s.hands.table.now) (sym n.kept_grid)
-            laid);
+            (subst (λ g. IsLaidOut C SIZE_MAX k (caps_of s.hands.layout) g s.hands.table.now)
+            (sym n.kept_grid) laid);
         kept_book = refl;
         kept_few = omega (arith, n.table.kept_room, n.room);
         kept_in_range = n.table.kept_in_range;

@@ -43,7 +43,8 @@ same_then base kept a b c ab bc = record {
       (ab.objects name x there) (bc.objects name x there);
 }
 
-pub same_back : (base : ℕ) (kept : Spots) (a b : List ℕ) → SameOnTable base kept a b → SameOnTable base kept b a
+pub same_back : (base : ℕ) (kept : Spots) (a b : List ℕ) → SameOnTable base kept a b
+    → SameOnTable base kept b a
 same_back base kept a b ab = record {
   same_length = sym ab.same_length;
   below = λ i low. sym (ab.below i low);
@@ -84,7 +85,8 @@ by_index base (r ∷ rs) a b len each =
 
 pub same_objects : (base : ℕ) (spots : Spots) (a b : List ℕ) → AreNamed spots → EndWithin base a spots
     → SameOnTable base spots a b → SameObjects base (records_of spots) a b
-same_objects base spots a b named within same = by_index base (records_of spots) a b same.same_length (λ i low.
+same_objects base spots a b named within same = by_index base (records_of spots) a b
+    same.same_length (λ i low.
     let r = slice_index_or (records_of spots) i no_record in
     let s = spot_of_record spots named i low in (
       omega (arith, within r.name s.spot s.is, s.same_place, s.same_size),
@@ -119,8 +121,8 @@ module _ {classes : ℕ} (s : Kept) (h : IsStore classes s) (file : List ℕ) (o
         let long : base ≤ length b = omega (arith, over.same_length, same.same_length) in
         carries_on classes SIZE_MAX t file b (kept_map s file) s.kept_book o (omega (arith, head_is, long))
         (subst (λ (p : ℕ). SameBelow p file b) (sym head_is) same.below)
-        (subst (λ (n : ℕ). HasRoomFor (placed_table classes SIZE_MAX file t) (n - head_len t.chosen.block.names))
-        (sym same.same_length) o.valid.0.within)
+        (subst (λ (n : ℕ). HasRoomFor (placed_table classes SIZE_MAX file t)
+        (n - head_len t.chosen.block.names)) (sym same.same_length) o.valid.0.within)
         (subst (λ (p : ℕ). SameObjects p t.records file b) (sym head_is)
         (subst (λ (rs : List Record). SameObjects base rs file b) (sym over.checkpoint.records)
         (same_objects base s.kept file b h.kept.named (kept_lies s file h over) same)))

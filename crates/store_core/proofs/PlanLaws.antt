@@ -41,7 +41,8 @@ not_refused (Some why) is = absurd (cc)
 no_refusal : (s : Kept) (r : ask.Request) → refused_by s r ≡ None
     → (s.is_broken ≡ false) × (refusal (limits_of s) (facts_at s r) r ≡ None)
 no_refusal s r is =
-    let whole = whole_if_served s.is_broken (option_map refusal_for (refusal (limits_of s) (facts_at s r) r)) is
+    let whole = whole_if_served s.is_broken (option_map refusal_for (refusal (limits_of s) (facts_at s r) r))
+    is
     in (
       whole,
       not_refused (refusal (limits_of s) (facts_at s r) r)
@@ -59,7 +60,8 @@ pub record PutServed (s : Kept) (name object : List ℕ) : Type 0 where
   pub small : length object ≤ SIZE_MAX
   pub room : IsSome (fin.get s.now name) ⊎ (fin.len s.now < s.in_use.block.names)
   pub fresh : s.in_use.sequence < 2 ^ 61
-  pub calm : refusal (limits_of s) (facts_at s (ask.change (put_of name object))) (ask.change (put_of name object))
+  pub calm : refusal (limits_of s) (facts_at s (ask.change (put_of name object)))
+      (ask.change (put_of name object))
       ≡ None
 
 pub put_served : (s : Kept) (name object : List ℕ) → refused_by s (ask.change (put_of name object)) ≡ None
@@ -130,18 +132,19 @@ pub put_planned : (s : Kept) (name object n : List ℕ) (k k' : ℕ) (caps caps'
     → caps ≡ s.book.caps → grid ≡ s.book.grid → o ≡ fin.get s.now n
     → IsCharged k caps grid o (length object) after place → k' ≡ k → caps' ≡ caps
     → IsPutPlan s name object n k' caps' after (record { place = place; size = length object })
-put_planned s name object n k k' caps caps' grid after o place served same ks cs gs os charged k'k c'c = record {
-  served = served;
-  same_name = same;
-  size = refl;
-  divisor = k'k ∙ ks;
-  same_caps = c'c ∙ cs;
-  charged = (let at : o ≡ fin.get s.now name = os ∙ ap (fin.get s.now) same in
-      subst (λ x. IsCharged s.in_use.block.k s.book.caps s.book.grid x (length object) after place) at
-      (subst (λ g. IsCharged s.in_use.block.k s.book.caps g o (length object) after place) gs
-      (subst (λ x. IsCharged s.in_use.block.k x grid o (length object) after place) cs
-      (subst (λ x. IsCharged x caps grid o (length object) after place) ks charged))));
-}
+put_planned s name object n k k' caps caps' grid after o place served same ks cs gs os charged k'k c'c =
+    record {
+      served = served;
+      same_name = same;
+      size = refl;
+      divisor = k'k ∙ ks;
+      same_caps = c'c ∙ cs;
+      charged = (let at : o ≡ fin.get s.now name = os ∙ ap (fin.get s.now) same in
+          subst (λ x. IsCharged s.in_use.block.k s.book.caps s.book.grid x (length object) after place) at
+          (subst (λ g. IsCharged s.in_use.block.k s.book.caps g o (length object) after place) gs
+          (subst (λ x. IsCharged s.in_use.block.k x grid o (length object) after place) cs
+          (subst (λ x. IsCharged x caps grid o (length object) after place) ks charged))));
+    }
 
 pub del_planned : (s : Kept) (name n : List ℕ) (k k' : ℕ) (caps caps' : List ℕ)
     (grid after : List (List ℕ)) (o : Option Spot) → refused_by s (ask.change (del_of name)) ≡ None
@@ -154,22 +157,24 @@ del_planned s name n k k' caps caps' grid after o served same ks cs gs os charge
   divisor = k'k ∙ ks;
   same_caps = c'c ∙ cs;
   charged = (let at : o ≡ fin.get s.now name = os ∙ ap (fin.get s.now) same in
-      subst (λ x. QuietTo s.in_use.block.k s.book.caps s.book.grid (gone_items s.in_use.block.k s.book.caps x) after)
-      at (subst (λ g. QuietTo s.in_use.block.k s.book.caps g (gone_items s.in_use.block.k s.book.caps o) after) gs
-      (subst (λ x. QuietTo s.in_use.block.k x grid (gone_items s.in_use.block.k x o) after) cs
+      subst (λ x. QuietTo s.in_use.block.k s.book.caps s.book.grid (gone_items s.in_use.block.k s.book.caps x)
+      after) at (subst (λ g. QuietTo s.in_use.block.k s.book.caps g (gone_items s.in_use.block.k s.book.caps
+      o) after) gs (subst (λ x. QuietTo s.in_use.block.k x grid (gone_items s.in_use.block.k x o) after) cs
       (subst (λ x. QuietTo x caps grid (gone_items x caps o) after) ks charged))));
 }
 
 -- where a charge found no room on that copy, the change isn't quiet
 pub put_unplanned : (s : Kept) (name object : List ℕ) (k : ℕ) (caps : List ℕ) (grid : List (List ℕ))
-    (o : Option Spot) → k ≡ s.in_use.block.k → caps ≡ s.book.caps → grid ≡ s.book.grid → o ≡ fin.get s.now name
+    (o : Option Spot) → k ≡ s.in_use.block.k → caps ≡ s.book.caps → grid ≡ s.book.grid
+    → o ≡ fin.get s.now name
     → is_quiet (charge_all k caps grid (gone_items k caps o ++ some_size (length object))) ≡ false
     → is_quiet (charges_of s (put_of name object)) ≡ false
 put_unplanned s name object k caps grid o ks cs gs os loud =
     sym (λ i. is_quiet (charge_all (ks i) (cs i) (gs i) (gone_items (ks i) (cs i) (os i)
     ++ some_size (length object)))) ∙ loud
 
-pub del_unplanned : (s : Kept) (name : List ℕ) (k : ℕ) (caps : List ℕ) (grid : List (List ℕ)) (o : Option Spot)
+pub del_unplanned : (s : Kept) (name : List ℕ) (k : ℕ) (caps : List ℕ) (grid : List (List ℕ))
+    (o : Option Spot)
     → k ≡ s.in_use.block.k → caps ≡ s.book.caps → grid ≡ s.book.grid → o ≡ fin.get s.now name
     → is_quiet (charge_all k caps grid (gone_items k caps o)) ≡ false
     → is_quiet (charges_of s (del_of name)) ≡ false

@@ -136,7 +136,8 @@ module _ {classes : ℕ} (s : Kept) (h : IsStore classes s) where
 
       map_is : read_at base b (fin.insert s.now name spot) ≡ fin.insert (read_at base file s.now) name object
       map_is = (λ i. read_at base (written i) (fin.insert s.now name (spot_is i)))
-          ∙ read_at-put base spot.place file object s.now name h.now.named can.named fits (now_lies s file h over)
+          ∙ read_at-put base spot.place file object s.now name h.now.named can.named fits
+          (now_lies s file h over)
           (apart_now s h name (length object) spot.place grid plan.charged)
 
       pub put_step : (new : Kept) → new ≡ put_store
@@ -149,7 +150,8 @@ module _ {classes : ℕ} (s : Kept) (h : IsStore classes s) where
           let book = book_put classes SIZE_MAX k s.book.caps s.book.grid s.now h.now base file
           (now_lies s file h over) name object plan.charged.mid grid spot.place can.named can.small
           plan.charged.gone plan.charged.placed in
-          subst (λ (x : Kept). Step (limits_of s) (state_of s file) (ask.change c) ask.done (state_of x b)) (sym is)
+          subst (λ (x : Kept). Step (limits_of s) (state_of s file) (ask.change c) ask.done (state_of x b))
+          (sym is)
           (change_step (limits_of s) (state_of s file) (state_of put_store b) c
           (ap (λ (f : Facts). refusal (limits_of s) f (ask.change c))
           (facts_same s file (ask.change c) h.now.named h.kept.named) ∙ can.calm)
@@ -183,7 +185,8 @@ module _ {classes : ℕ} (s : Kept) (h : IsStore classes s) where
           places = refl;
           rest = λ i. record s {
             now = fin.remove s.now name;
-            book = shown_book classes SIZE_MAX k s.book.caps (gone_quietly.after_is i) (fin.remove s.now name);
+            book = shown_book classes SIZE_MAX k s.book.caps (gone_quietly.after_is i)
+                (fin.remove s.now name);
             asked = fold added s.asked (sym (append-nil (sizes_at (fin.get s.now name))) i);
           };
         })

@@ -28,7 +28,8 @@ whole_if_served true o is = absurd (cc)
 whole_if_served false o is = refl
 
 -- An object is found among the places of now or of the last checkpoint, by a store that isn't broken.
-pub record IsFound (classes : ℕ) (s : Kept) (r : Request) (spots : Spots) (name : List ℕ) (x : Spot) : Type 0 where
+pub record IsFound (classes : ℕ) (s : Kept) (r : Request) (spots : Spots) (name : List ℕ)
+    (x : Spot) : Type 0 where
   pub served : refused_by s r ≡ None
   pub whole : s.is_broken ≡ false
   pub there : fin.get spots name ≡ Some x

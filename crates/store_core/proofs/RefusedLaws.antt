@@ -65,4 +65,5 @@ unaccepted (Some other) name refused is = let same : other ≡ refused = (cc) in
 
 pub answers_refused : (quiet : Bool) (o : Option Refusal) (refused : Refusal) → o ≡ Some refused
     → AnswersChange quiet o (Err refused)
-answers_refused quiet o refused is = subst (λ (x : Option Refusal). AnswersChange quiet x (Err refused)) (sym is) refl
+answers_refused quiet o refused is = subst (λ (x : Option Refusal). AnswersChange quiet x (Err refused))
+    (sym is) refl

@@ -17,16 +17,18 @@ use Rattle.store_core.specs.States.{Step}
 -- an answer that is Ok, or a fault of the disk, has the reply of the Ok
 replied : (quiet : Bool) (result : Result Done Refusal) (P : Reply → Type 0) → AnswersChange quiet None result
     → OnOk result (P (done_reply (record { kept = not quiet }))) → IfSome (reply_of done_reply result) P
-replied quiet result P (inl is) step = subst (λ (r : Result Done Refusal). IfSome (reply_of done_reply r) P) (sym is)
-    (subst (λ (r : Result Done Refusal). OnOk r (P (done_reply (record { kept = not quiet })))) is step)
-replied quiet result P (inr is) step = subst (λ (r : Result Done Refusal). IfSome (reply_of done_reply r) P) (sym is)
-    tt
+replied quiet result P (inl is) step = subst (λ (r : Result Done Refusal). IfSome (reply_of done_reply r) P)
+    (sym is) (subst (λ (r : Result Done Refusal). OnOk r (P (done_reply (record { kept = not quiet })))) is
+    step)
+replied quiet result P (inr is) step = subst (λ (r : Result Done Refusal). IfSome (reply_of done_reply r) P)
+    (sym is) tt
 
-module _ {classes : ℕ} {c : Change} {old new : Kept} {before now : disk.State} {result : Result Done Refusal} where
+module _ {classes : ℕ} {c : Change} {old new : Kept} {before now : disk.State}
+    {result : Result Done Refusal} where
   pub serves_quietly : is_quiet (charges_of old c) ≡ true → AnswersChange true None result
       → IsQuietChange classes c old new before now result
-      → (IsTrue before.tells → OnOk result (Step (limits_of old) (state_of old before.file) (ask.change c) ask.done
-      (state_of new now.file))) → IsConnected classes new now → new.is_broken ≡ is_disk_fault result
+      → (IsTrue before.tells → OnOk result (Step (limits_of old) (state_of old before.file) (ask.change c)
+      ask.done (state_of new now.file))) → IsConnected classes new now → new.is_broken ≡ is_disk_fault result
       → ServesChange classes c old new before now result
   serves_quietly quiet answer change step over broken = record {
     answer = subst (λ (b : Bool). AnswersChange b None result) (sym quiet) answer;
@@ -40,8 +42,8 @@ module _ {classes : ℕ} {c : Change} {old new : Kept} {before now : disk.State}
 
   pub serves_flushed : is_quiet (charges_of old c) ≡ false → AnswersChange false None result
       → IsFlush classes c old new before now result
-      → (IsTrue before.tells → OnOk result (Step (limits_of old) (state_of old before.file) (ask.change c) ask.kept
-      (state_of new now.file))) → IsConnected classes new now → new.is_broken ≡ is_disk_fault result
+      → (IsTrue before.tells → OnOk result (Step (limits_of old) (state_of old before.file) (ask.change c)
+      ask.kept (state_of new now.file))) → IsConnected classes new now → new.is_broken ≡ is_disk_fault result
       → ServesChange classes c old new before now result
   serves_flushed loud answer change step over broken = record {
     answer = subst (λ (b : Bool). AnswersChange b None result) (sym loud) answer;

@@ -75,7 +75,8 @@ have_sizes : (base : ℕ) (file : List ℕ) (spots : Spots) → EndWithin base f
     → HaveSizes base file (fin.entries spots)
 unfolding HaveSizes
 have_sizes base file spots within i e is = length-bytes_at file (base + e.1.place) e.1.size
-    (within e.0 e.1 (fin.get-entries spots e.0 ∙ found_by_name (fin.entries spots) i e (fin.entries_sorted spots) is))
+    (within e.0 e.1 (fin.get-entries spots e.0 ∙ found_by_name (fin.entries spots) i e
+    (fin.entries_sorted spots) is))
 
 abbrev size_of_read : List ℕ × List ℕ → List ℕ × ℕ
 size_of_read e = (e.0, length e.1)

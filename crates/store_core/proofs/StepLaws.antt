@@ -25,10 +25,11 @@ served_as limits s r (Some why) = unchanged s (ask.refused why)
 
 pub served_by : (limits : Limits) (s : State) (r : Request) (o : Option Refused)
     → refusal limits (facts_of s r) r ≡ o → served limits s r ≡ served_as limits s r o
-served_by limits s r o is = elim o as (λ x. refusal limits (facts_of s r) r ≡ x → served limits s r ≡ served_as limits s r x) [
-  | None ↦ λ e. rw e refl
-  | Some why ↦ λ e. rw e refl
-] is
+served_by limits s r o is = elim o as (λ x. refusal limits (facts_of s r) r ≡ x
+    → served limits s r ≡ served_as limits s r x) [
+      | None ↦ λ e. rw e refl
+      | Some why ↦ λ e. rw e refl
+    ] is
 
 -- a request whose reply leaves the state and makes no checkpoint
 stays : (limits : Limits) (s : State) (r : Request) (reply : Reply) → served limits s r ≡ unchanged s reply
@@ -75,7 +76,8 @@ replies_refused : (limits : Limits) (s : State) (r : Request) (reply : Reply) (n
     → result ≡ Err (refusal_for why)
     → IfSome (reply_of (λ (m : ℕ). reply) result) (λ x. Step limits s r x s)
 replies_refused limits s r reply n result why is answer =
-    subst (λ (x : Result ℕ Refusal). IfSome (reply_of (λ (m : ℕ). reply) x) (λ x. Step limits s r x s)) (sym answer)
+    subst (λ (x : Result ℕ Refusal). IfSome (reply_of (λ (m : ℕ). reply) x) (λ x. Step limits s r x s))
+    (sym answer)
     (each why (refused_step limits s r why is))
   where
     each : (w : Refused) → Step limits s r (ask.refused w) s
@@ -90,7 +92,8 @@ replies_read : (limits : Limits) (s : State) (r : Request) (reply : Reply) (n : 
     → Step limits s r reply s → AnswersRead None n result
     → IfSome (reply_of (λ (m : ℕ). reply) result) (λ x. Step limits s r x s)
 replies_read limits s r reply n result step (inl is) = subst
-    (λ (x : Result ℕ Refusal). IfSome (reply_of (λ (m : ℕ). reply) x) (λ x. Step limits s r x s)) (sym is) step
+    (λ (x : Result ℕ Refusal). IfSome (reply_of (λ (m : ℕ). reply) x) (λ x. Step limits s r x s)) (sym is)
+    step
 replies_read limits s r reply n result step (inr (inl is)) = subst
     (λ (x : Result ℕ Refusal). IfSome (reply_of (λ (m : ℕ). reply) x) (λ x. Step limits s r x s)) (sym is) tt
 replies_read limits s r reply n result step (inr (inr is)) = subst
@@ -131,9 +134,9 @@ always (Err e) is = tt
 
 pub list_step : {classes : ℕ} (s : Kept) (file : List ℕ) → IsStore classes s → IsOver classes s file
     → Step (limits_of s) (state_of s file) ask.list (ask.listed (listing_of s.now)) (state_of s file)
-list_step s file h over = accepted_step (limits_of s) (state_of s file) ask.list (ask.listed (listing_of s.now))
-    refl (ap (λ (es : List (List ℕ × ℕ)). unchanged (state_of s file) (ask.listed es))
-    (listing-read_at (base_of s) file s.now h.now.named (now_lies s file h over)))
+list_step s file h over = accepted_step (limits_of s) (state_of s file) ask.list
+    (ask.listed (listing_of s.now)) refl (ap (λ (es : List (List ℕ × ℕ)). unchanged (state_of s file)
+    (ask.listed es)) (listing-read_at (base_of s) file s.now h.now.named (now_lies s file h over)))
 
 pub stat_step : {classes : ℕ} (s : Kept) (file : List ℕ) (names bytes kept_names kept_bytes : ℕ)
     → IsStore classes s → IsOver classes s file → names ≡ fin.len s.now → bytes ≡ volume_of s.now

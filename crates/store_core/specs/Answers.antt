@@ -61,8 +61,8 @@ abbrev pub AnswersList : {T : Type 0} → Option Refusal → Result T Refusal �
 AnswersList None result = IsOk result ⊎ (result ≡ Err why.Sink)
 AnswersList (Some refused) result = result ≡ Err refused
 
--- the answer is the refusal; where there is none, the change was done, with a checkpoint where it isn't quiet,
--- or the disk failed
+-- the answer is the refusal; where there is none, the change was done, with a checkpoint where it isn't
+-- quiet, or the disk failed
 abbrev pub AnswersChange : Bool → Option Refusal → Result Done Refusal → Type 0
 AnswersChange quiet None result = (result ≡ Ok (record { kept = not quiet })) ⊎ (result ≡ Err why.Disk)
 AnswersChange quiet (Some refused) result = result ≡ Err refused

@@ -30,8 +30,8 @@ HasChanged c old new = of c.object
         new.book.grid place
         × (new.now ≡ fin.insert old.now c.name (record { place = place; size = length object }))
 
--- A quiet change changes the places, the book and what was asked for, and nothing else that a store keeps. The
--- book is what the layout shows of the places, once each item is charged.
+-- A quiet change changes the places, the book and what was asked for, and nothing else that a store keeps.
+-- The book is what the layout shows of the places, once each item is charged.
 pub record ChangesQuietly (classes : ℕ) (c : Change) (old new : Kept) : Type 0 where
   pub places : HasChanged c old new
   pub rest : new ≡ record old {

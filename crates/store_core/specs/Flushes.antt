@@ -49,8 +49,8 @@ size_after s c name = cond (same_name name c.name) (option_map length c.object) 
 abbrev pub flush_boundary : Kept → Change → ℕ
 flush_boundary s c = boundary_of (charges_of s c).grid (trigger (charges_of s c))
 
--- An image opens to the last checkpoint or to what stands after the change, and its data part is within bounds
--- for the maps before and after.
+-- An image opens to the last checkpoint or to what stands after the change, and its data part is within
+-- bounds for the maps before and after.
 pub record IsFlushImage (classes : ℕ) (s : Kept) (c : Change) (file image : List ℕ) : Type 0 where
   pub opens : Opens classes SIZE_MAX image (kept_map s file) s.kept_book
       ⊎ Opens classes SIZE_MAX image (map_after s c file) (book_after s c file)
@@ -67,17 +67,18 @@ pub record ChangesByFlush (c : Change) (old new : Kept) : Type 0 where
   pub saved : old.in_use.sequence + 1 ≤ new.in_use.sequence
   pub few_saves : new.in_use.sequence ≤ old.in_use.sequence + 2 * old.in_use.block.k
 
--- What a change does that isn't quiet, whether the disk fails or not. The content opens to the last checkpoint
--- or to what stands after the change, and so does all that a crash may leave meanwhile, where the disk rested on
--- its table. Once it is done, the new content is all that a crash may leave. The calls are at most 4, those of
--- the bytes moved, and those of the saves, each of as many records as there are names after the change; where
--- the disk failed 16 more, and those of one save. No byte of a class below the boundary is moved, and of each
--- other class at most twice the bytes of the map after; on a disk that tells nothing, of any map changed so
--- whose objects had the sizes of what stood.
-pub record IsFlush (classes : ℕ) (c : Change) (old new : Kept) (before now : disk.State) (result : Result Done Refusal)
-    : Type 0 where
+-- What a change does that isn't quiet, whether the disk fails or not. The content opens to the last
+-- checkpoint or to what stands after the change, and so does all that a crash may leave meanwhile, where the
+-- disk rested on its table. Once it is done, the new content is all that a crash may leave. The calls are at
+-- most 4, those of the bytes moved, and those of the saves, each of as many records as there are names after
+-- the change; where the disk failed 16 more, and those of one save. No byte of a class below the boundary is
+-- moved, and of each other class at most twice the bytes of the map after; on a disk that tells nothing, of
+-- any map changed so whose objects had the sizes of what stood.
+pub record IsFlush (classes : ℕ) (c : Change) (old new : Kept) (before now : disk.State)
+    (result : Result Done Refusal) : Type 0 where
   pub value : OnOk result (ChangesByFlush c old new)
-  pub opened : IsTrue before.tells → OnOk result (Opens classes SIZE_MAX now.file (map_after old c before.file)
+  pub opened : IsTrue before.tells
+      → OnOk result (Opens classes SIZE_MAX now.file (map_after old c before.file)
       (book_after old c before.file))
   pub content : IsTrue before.tells → IsFlushImage classes old c before.file now.file
   pub left : IsTrue before.tells → RestsOnTable (base_of old) old.kept before

@@ -55,7 +55,8 @@ pub record TakesOut (name : List ℕ) (x0 x : Parts) : Type 0 where
   pub asked : x.asked ≡ fold added x0.asked (sizes_at (fin.get x0.table.now name))
   pub rest : x ≡ record x0 { table = x.table; spans = x.spans; asked = x.asked }
 
--- A flush of the objects of a table from class b on may begin, in a layout, for some slot and some held space.
+-- A flush of the objects of a table from class b on may begin, in a layout, for some slot and some held
+-- space.
 pub record CanStartAt (classes b k : ℕ) (caps : List ℕ) (grid : List (List ℕ)) (e : Extents) : Type 0 where
   pub kept_grid : List (List ℕ)
   pub u : choice.InUse
@@ -123,7 +124,8 @@ spots_after c spots place = of c.object
 -- the class from which on a flush lays the layout out anew
 abbrev pub boundary_after : Parts → Change → ℕ
 boundary_after x c =
-    let charged = charged_by x.in_use.block.k x.caps x.grid (fin.get x.table.now c.name) (object_size c.object) in
+    let charged = charged_by x.in_use.block.k x.caps x.grid (fin.get x.table.now c.name)
+    (object_size c.object) in
     boundary_of charged.grid (trigger charged)
 
 -- The change was made in the table and the layout, and lifting may begin: the new object's bytes are to be
@@ -157,14 +159,16 @@ bytes_of c = of c.object
 
 -- The disk as a change begins: the content gives the objects that stay, and opens to the last checkpoint, as
 -- does each image where the disk rested on its table. The file ends where the layout does.
-pub record IsAtStart (classes : ℕ) (x : Parts) (c : Change) (reach : ℕ) (g : Setting) (d : disk.State) : Type 0
+pub record IsAtStart (classes : ℕ) (x : Parts) (c : Change) (reach : ℕ) (g : Setting)
+    (d : disk.State) : Type 0
   where
     pub content : IsAtHand (record (flight_of classes x c reach g) {
       reach = end_of x.in_use.block.k x.caps;
       new_map = fin.remove g.map c.name;
     }) x.in_use (fin.remove x.table.now c.name) d.file
-    pub opens : OpensEither (record (flight_of classes x c reach g) { reach = end_of x.in_use.block.k x.caps })
-        x.table.kept d.file d.may_leave
+    pub opens : OpensEither (record (flight_of classes x c reach g) {
+      reach = end_of x.in_use.block.k x.caps;
+    }) x.table.kept d.file d.may_leave
 
 -- A flush may make its device calls: the change was made in the table and the layout of these parts, and the
 -- disk is as it was before.
@@ -179,8 +183,8 @@ pub record CanFly (classes : ℕ) (x0 : Parts) (c : Change) (g : Setting) (x : P
   pub fresh : x0.in_use.sequence < 2 ^ 61
   pub start : IsTrue d.tells → IsAtStart classes x0 c p.numbers.reach g d
 
--- What a flush has made, whether or not it failed: of its parts only the slot in use, the table, the layout, the
--- guard's spans and the bytes moved change; each name has an object of the same size; no byte of a class
+-- What a flush has made, whether or not it failed: of its parts only the slot in use, the table, the layout,
+-- the guard's spans and the bytes moved change; each name has an object of the same size; no byte of a class
 -- below b was moved, and of each other class at most twice the bytes of its items; and the calls are those of
 -- the bytes moved and of the saves, one of which may have failed, and at most 20 more.
 pub record HasFlown (b : ℕ) (items : List Item) (first now : disk.State) (x x2 : Parts) : Type 0 where

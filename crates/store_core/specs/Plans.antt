@@ -16,8 +16,8 @@ AcceptsName (Some why) name result = result ≡ Err why
 
 -- A put of an object under a name: a layout with the store's capacities, whose grid has its charges, and the
 -- place of the new object.
-pub record IsPutPlan (s : Kept) (name object plan_name : List ℕ) (k : ℕ) (caps : List ℕ) (grid : List (List ℕ))
-    (spot : Spot) : Type 0 where
+pub record IsPutPlan (s : Kept) (name object plan_name : List ℕ) (k : ℕ) (caps : List ℕ)
+    (grid : List (List ℕ)) (spot : Spot) : Type 0 where
   pub served : refused_by s (ask.change (put_of name object)) ≡ None
   pub same_name : plan_name ≡ name
   pub size : spot.size ≡ length object
@@ -27,7 +27,8 @@ pub record IsPutPlan (s : Kept) (name object plan_name : List ℕ) (k : ℕ) (ca
       spot.place
 
 -- A removal of a name: the same, but that its old object alone is charged.
-pub record IsDelPlan (s : Kept) (name plan_name : List ℕ) (k : ℕ) (caps : List ℕ) (grid : List (List ℕ)) : Type 0
+pub record IsDelPlan (s : Kept) (name plan_name : List ℕ) (k : ℕ) (caps : List ℕ)
+    (grid : List (List ℕ)) : Type 0
   where
     pub served : refused_by s (ask.change (del_of name)) ≡ None
     pub same_name : plan_name ≡ name

@@ -1,5 +1,5 @@
--- Changes that make no checkpoint. What is charged depends on where objects stand and on their sizes, so it is
--- known on a disk that tells nothing too.
+-- Changes that make no checkpoint. What is charged depends on where objects stand and on their sizes, so it
+-- is known on a disk that tells nothing too.
 use Rattle.std.specs.Prelude.{◌≡◌, ◌<◌, ◌^◌, All, false, ℕ, nat_lt, if◌then◌else◌, List, [], ◌++◌, ◌+◌, length, fold, min, Option, Some, None, slice_index, slice_set}
 use Rattle.std.specs.FinMap as fin
 use Rattle.disk_face.specs.Counts.{last}
@@ -20,8 +20,8 @@ put_of name object = record { name = name; object = Some object }
 abbrev pub del_of : List ℕ → Change
 del_of name = record { name = name; object = None }
 
--- What a change charges, by where the old object stands and the sizes: its size where it stands in its payload
--- segment, and then that of the new one.
+-- What a change charges, by where the old object stands and the sizes: its size where it stands in its
+-- payload segment, and then that of the new one.
 abbrev pub charges_of : Kept → Change → Charged
 charges_of s c = charge_all s.in_use.block.k s.book.caps s.book.grid
     (gone_items s.in_use.block.k s.book.caps (fin.get s.now c.name) ++ new_item c)

@@ -112,7 +112,8 @@ fn start_placed<const C: usize>(hands: &mut Hands<C>, name: &Name, b: u8, spot: 
 /// Begins a flush of the objects of a table from class `b` on, with nothing pending.
 fn start_lifting<const C: usize>(table: &Table, layout: &Layout<C>, b: u8) -> Lifting<C>
     requires fits { C ≤ 32 }
-    requires start { CanStartAt C b (divisor_of layout.now) (caps_of layout.now) (grid_of layout.now) table.now }
+    requires start { CanStartAt C b (divisor_of layout.now) (caps_of layout.now) (grid_of layout.now)
+        table.now }
     ensures started { IsStarted b (divisor_of layout.now) (caps_of layout.now) table.now
         (phase_now result.course table.now) }
     ensures keeps { KeepsLifting C result (items_now result.course table.now) }

@@ -25,8 +25,8 @@ impl<const C: usize> Store<C> {
             → Puts (O.state sink.old).given (O.state sink.new).given (lines_of (listing_of self.now.now))
             result }
         ensures step { (file : List ℕ) → IsOver C self.now file → OnOk result
-            (Step (limits_of self.now) (state_of self.now file) ask.list (ask.listed (listing_of self.now.now))
-            (state_of self.now file)) }
+            (Step (limits_of self.now) (state_of self.now file) ask.list
+            (ask.listed (listing_of self.now.now)) (state_of self.now file)) }
         ensures cause { HasSinkCause (O.state sink.old) (O.state sink.new) result }
     {
         if self.is_broken() {

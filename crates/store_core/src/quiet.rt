@@ -35,7 +35,8 @@ impl<const C: usize> Store<C> {
         ensures answer { IsErr result ↔ (self.old.is_broken ≡ true) }
         ensures refused { OnErr result (result ≡ Err Refusal.Broken) }
         ensures unchanged { OnErr result (self.new ≡ self.old) }
-        ensures back { OnOk result (self.new ≡ record self.old { now = self.old.kept; book = self.old.kept_book }) }
+        ensures back { OnOk result
+            (self.new ≡ record self.old { now = self.old.kept; book = self.old.kept_book }) }
         ensures step { (file : List ℕ) → IsOver C self.old file → OnOk result
             (Step (limits_of self.old) (state_of self.old file) ask.back ask.done (state_of self.new file)) }
         ensures over { (file : List ℕ) → IsOver C self.old file → OnOk result (IsOver C self.new file) }

@@ -22,7 +22,8 @@ charge_change-outcome-requires g c = (
 pub start_lifting-requires : goal.start_lifting-requires
 start_lifting-requires g c =
     let cc = c.charge_change-outcome in
-    let ch : ChargesTo (parts_of c.take_out.new.hands) c.get-old.result 0 (divisor_of cc.new.layout) (caps_of cc.new.layout)
+    let ch : ChargesTo (parts_of c.take_out.new.hands) c.get-old.result 0 (divisor_of cc.new.layout)
+    (caps_of cc.new.layout)
     (grid_of cc.new.layout) cc.result.gone cc.result.place cc.result.class c.boundary-b.result = record {
       grid = cc.ensures.grid;
       place_is = cc.ensures.place;
@@ -46,7 +47,8 @@ start_lifting-requires g c =
 pub returns-clause-begun : goal.returns-clause-begun
 returns-clause-begun g c =
     let cc = c.charge_change-outcome in
-    let ch : ChargesTo (parts_of c.take_out.new.hands) c.get-old.result 0 (divisor_of cc.new.layout) (caps_of cc.new.layout)
+    let ch : ChargesTo (parts_of c.take_out.new.hands) c.get-old.result 0 (divisor_of cc.new.layout)
+    (caps_of cc.new.layout)
     (grid_of cc.new.layout) cc.result.gone cc.result.place cc.result.class c.boundary-b.result = record {
       grid = cc.ensures.grid;
       place_is = cc.ensures.place;

@@ -24,8 +24,10 @@ pub start_placed-requires : goal.start_placed-requires
 start_placed-requires g c =
     let may = c.requires.before.1 in
     let cc = c.charge_change-outcome in
-    let ch : ChargesTo (parts_of c.take_out.new.hands) c.get-old.result (length c.args.bytes.now) (divisor_of cc.new.layout) (caps_of cc.new.layout)
-    (grid_of cc.new.layout) cc.result.gone cc.result.place cc.result.class c.boundary-boundary.result = record {
+    let ch : ChargesTo (parts_of c.take_out.new.hands) c.get-old.result (length c.args.bytes.now)
+    (divisor_of cc.new.layout) (caps_of cc.new.layout)
+    (grid_of cc.new.layout) cc.result.gone cc.result.place cc.result.class c.boundary-boundary.result =
+    record {
       grid = cc.ensures.grid;
       place_is = cc.ensures.place;
       quiet = cc.ensures.quiet;
@@ -40,20 +42,21 @@ start_placed-requires g c =
         (
           c.requires.fits,
           (
-            room_for may c.args.name.now c.take_out.new.hands.table c.take_out.ensures.without c.requires.room,
+            room_for may c.args.name.now c.take_out.new.hands.table c.take_out.ensures.without
+                c.requires.room,
             (
               placed_ends may c.args.name.now (parts_of c.take_out.new.hands) c.take_out.ensures
                   c.requires.named c.args.bytes.now c.requires.small (cells_of c.add_size.new.ledger.moved)
-                  (cells_of c.add_size.new.ledger.asked) c.add_size.ensures.moved c.add_size.ensures.asked c.get-old.result
-                  c.get-old.ensures (divisor_of cc.new.layout) (caps_of cc.new.layout) (grid_of cc.new.layout)
-                  cc.result.gone cc.result.place cc.result.class c.boundary-boundary.result ch c.requires.loud
-                  c.in-Some.place c.in-Some.is,
+                  (cells_of c.add_size.new.ledger.asked) c.add_size.ensures.moved c.add_size.ensures.asked
+                  c.get-old.result c.get-old.ensures (divisor_of cc.new.layout) (caps_of cc.new.layout)
+                  (grid_of cc.new.layout) cc.result.gone cc.result.place cc.result.class
+                  c.boundary-boundary.result ch c.requires.loud c.in-Some.place c.in-Some.is,
               placed_ready may c.args.name.now (parts_of c.take_out.new.hands) c.take_out.ensures
                   c.requires.named c.args.bytes.now c.requires.small (cells_of c.add_size.new.ledger.moved)
-                  (cells_of c.add_size.new.ledger.asked) c.add_size.ensures.moved c.add_size.ensures.asked c.get-old.result
-                  c.get-old.ensures (divisor_of cc.new.layout) (caps_of cc.new.layout) (grid_of cc.new.layout)
-                  cc.result.gone cc.result.place cc.result.class c.boundary-boundary.result ch c.requires.loud
-                  c.in-Some.place c.in-Some.is,
+                  (cells_of c.add_size.new.ledger.asked) c.add_size.ensures.moved c.add_size.ensures.asked
+                  c.get-old.result c.get-old.ensures (divisor_of cc.new.layout) (caps_of cc.new.layout)
+                  (grid_of cc.new.layout) cc.result.gone cc.result.place cc.result.class
+                  c.boundary-boundary.result ch c.requires.loud c.in-Some.place c.in-Some.is,
             ),
           ),
         ),
@@ -64,8 +67,10 @@ pub start_waiting-requires : goal.start_waiting-requires
 start_waiting-requires g c =
     let may = c.requires.before.1 in
     let cc = c.charge_change-outcome in
-    let ch : ChargesTo (parts_of c.take_out.new.hands) c.get-old.result (length c.args.bytes.now) (divisor_of cc.new.layout) (caps_of cc.new.layout)
-    (grid_of cc.new.layout) cc.result.gone cc.result.place cc.result.class c.boundary-boundary.result = record {
+    let ch : ChargesTo (parts_of c.take_out.new.hands) c.get-old.result (length c.args.bytes.now)
+    (divisor_of cc.new.layout) (caps_of cc.new.layout)
+    (grid_of cc.new.layout) cc.result.gone cc.result.place cc.result.class c.boundary-boundary.result =
+    record {
       grid = cc.ensures.grid;
       place_is = cc.ensures.place;
       quiet = cc.ensures.quiet;
@@ -84,34 +89,38 @@ start_waiting-requires g c =
             (
               waiting_some may c.args.name.now (parts_of c.take_out.new.hands) c.take_out.ensures
                   c.requires.named c.args.bytes.now c.requires.small (cells_of c.add_size.new.ledger.moved)
-                  (cells_of c.add_size.new.ledger.asked) c.add_size.ensures.moved c.add_size.ensures.asked c.get-old.result
-                  c.get-old.ensures (divisor_of cc.new.layout) (caps_of cc.new.layout) (grid_of cc.new.layout)
-                  cc.result.gone cc.result.place cc.result.class c.boundary-boundary.result ch c.requires.loud
-                  c.in-None.is,
+                  (cells_of c.add_size.new.ledger.asked) c.add_size.ensures.moved c.add_size.ensures.asked
+                  c.get-old.result c.get-old.ensures (divisor_of cc.new.layout) (caps_of cc.new.layout)
+                  (grid_of cc.new.layout) cc.result.gone cc.result.place cc.result.class
+                  c.boundary-boundary.result ch c.requires.loud c.in-None.is,
               (
                 c.requires.small,
                 (
                   waiting_high may c.args.name.now (parts_of c.take_out.new.hands) c.take_out.ensures
-                      c.requires.named c.args.bytes.now c.requires.small (cells_of c.add_size.new.ledger.moved)
-                      (cells_of c.add_size.new.ledger.asked) c.add_size.ensures.moved c.add_size.ensures.asked c.get-old.result
-                      c.get-old.ensures (divisor_of cc.new.layout) (caps_of cc.new.layout) (grid_of cc.new.layout)
-                      cc.result.gone cc.result.place cc.result.class c.boundary-boundary.result ch c.requires.loud
-                      c.in-None.is,
+                      c.requires.named c.args.bytes.now c.requires.small
+                      (cells_of c.add_size.new.ledger.moved) (cells_of c.add_size.new.ledger.asked)
+                      c.add_size.ensures.moved c.add_size.ensures.asked c.get-old.result
+                      c.get-old.ensures (divisor_of cc.new.layout) (caps_of cc.new.layout)
+                      (grid_of cc.new.layout) cc.result.gone cc.result.place cc.result.class
+                      c.boundary-boundary.result ch c.requires.loud c.in-None.is,
                   (
                     waiting_new may c.args.name.now (parts_of c.take_out.new.hands) c.take_out.ensures
-                        c.requires.named c.args.bytes.now c.requires.small (cells_of c.add_size.new.ledger.moved)
-                        (cells_of c.add_size.new.ledger.asked) c.add_size.ensures.moved c.add_size.ensures.asked c.get-old.result
-                        c.get-old.ensures (divisor_of cc.new.layout) (caps_of cc.new.layout) (grid_of cc.new.layout)
-                        cc.result.gone cc.result.place cc.result.class c.boundary-boundary.result ch c.requires.loud
-                        c.in-None.is,
+                        c.requires.named c.args.bytes.now c.requires.small
+                        (cells_of c.add_size.new.ledger.moved) (cells_of c.add_size.new.ledger.asked)
+                        c.add_size.ensures.moved c.add_size.ensures.asked c.get-old.result
+                        c.get-old.ensures (divisor_of cc.new.layout) (caps_of cc.new.layout)
+                        (grid_of cc.new.layout) cc.result.gone cc.result.place cc.result.class
+                        c.boundary-boundary.result ch c.requires.loud c.in-None.is,
                     (
-                      room_for may c.args.name.now c.take_out.new.hands.table c.take_out.ensures.without c.requires.room,
+                      room_for may c.args.name.now c.take_out.new.hands.table c.take_out.ensures.without
+                          c.requires.room,
                       waiting_ready may c.args.name.now (parts_of c.take_out.new.hands) c.take_out.ensures
-                          c.requires.named c.args.bytes.now c.requires.small (cells_of c.add_size.new.ledger.moved)
-                          (cells_of c.add_size.new.ledger.asked) c.add_size.ensures.moved c.add_size.ensures.asked c.get-old.result
-                          c.get-old.ensures (divisor_of cc.new.layout) (caps_of cc.new.layout) (grid_of cc.new.layout)
-                          cc.result.gone cc.result.place cc.result.class c.boundary-boundary.result ch c.requires.loud
-                          c.in-None.is,
+                          c.requires.named c.args.bytes.now c.requires.small
+                          (cells_of c.add_size.new.ledger.moved) (cells_of c.add_size.new.ledger.asked)
+                          c.add_size.ensures.moved c.add_size.ensures.asked c.get-old.result
+                          c.get-old.ensures (divisor_of cc.new.layout) (caps_of cc.new.layout)
+                          (grid_of cc.new.layout) cc.result.gone cc.result.place cc.result.class
+                          c.boundary-boundary.result ch c.requires.loud c.in-None.is,
                     ),
                   ),
                 ),
@@ -126,8 +135,10 @@ pub returns-in-Some-clause-begun : goal.returns-in-Some-clause-begun
 returns-in-Some-clause-begun g c =
     let may = c.requires.before.1 in
     let cc = c.charge_change-outcome in
-    let ch : ChargesTo (parts_of c.take_out.new.hands) c.get-old.result (length c.args.bytes.now) (divisor_of cc.new.layout) (caps_of cc.new.layout)
-    (grid_of cc.new.layout) cc.result.gone cc.result.place cc.result.class c.boundary-boundary.result = record {
+    let ch : ChargesTo (parts_of c.take_out.new.hands) c.get-old.result (length c.args.bytes.now)
+    (divisor_of cc.new.layout) (caps_of cc.new.layout)
+    (grid_of cc.new.layout) cc.result.gone cc.result.place cc.result.class c.boundary-boundary.result =
+    record {
       grid = cc.ensures.grid;
       place_is = cc.ensures.place;
       quiet = cc.ensures.quiet;
@@ -148,8 +159,10 @@ pub returns-in-None-clause-begun : goal.returns-in-None-clause-begun
 returns-in-None-clause-begun g c =
     let may = c.requires.before.1 in
     let cc = c.charge_change-outcome in
-    let ch : ChargesTo (parts_of c.take_out.new.hands) c.get-old.result (length c.args.bytes.now) (divisor_of cc.new.layout) (caps_of cc.new.layout)
-    (grid_of cc.new.layout) cc.result.gone cc.result.place cc.result.class c.boundary-boundary.result = record {
+    let ch : ChargesTo (parts_of c.take_out.new.hands) c.get-old.result (length c.args.bytes.now)
+    (divisor_of cc.new.layout) (caps_of cc.new.layout)
+    (grid_of cc.new.layout) cc.result.gone cc.result.place cc.result.class c.boundary-boundary.result =
+    record {
       grid = cc.ensures.grid;
       place_is = cc.ensures.place;
       quiet = cc.ensures.quiet;

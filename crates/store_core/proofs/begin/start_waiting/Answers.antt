@@ -46,7 +46,8 @@ set-key-requires-clause-place g c =
 pub new-requires : goal.new-requires
 new-requires g c =
     let start = c.requires.start in
-    let found = c.numbers-found.ensures (suffix_items c.args.b c.args.hands.now.table) (start_on_shelf start) in
+    let found = c.numbers-found.ensures (suffix_items c.args.b c.args.hands.now.table)
+    (start_on_shelf start) in
     let low = class_low g.row.C SIZE_MAX c.args.size c.requires.wide c.requires.some c.requires.small in (
       lit< tt,
       (

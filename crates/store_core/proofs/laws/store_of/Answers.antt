@@ -23,8 +23,8 @@ store_with-requires g c =
           kept = r.kept;
           names = r.room ∙ ap (λ (b : SuperBlock). b.names) same;
           divisor = r.divisor ∙ ap (λ (b : SuperBlock). b.k) same;
-          valid = subst (λ (b : SuperBlock). IsValid (settled_table g.row.C SIZE_MAX b.k (caps_of c.args.layout)
-              (grid_of c.args.layout) c.args.table.now)) same r.valid;
+          valid = subst (λ (b : SuperBlock). IsValid (settled_table g.row.C SIZE_MAX b.k
+              (caps_of c.args.layout) (grid_of c.args.layout) c.args.table.now)) same r.valid;
           table = c.is_table.ensures;
           spans = made.none;
           guard_room = made.guard_room ∙ ap (λ (b : SuperBlock). b.names) same;

@@ -29,8 +29,8 @@ resume-requires g c =
               (
                 r.fits,
                 (
-                  some_again c.args.found r.loads r.moving r.fits r.wide (parts_of c.hands_of-hands.result) starts
-                      _ packs (g.D.Disk.state c.args.disk.now) r.from,
+                  some_again c.args.found r.loads r.moving r.fits r.wide (parts_of c.hands_of-hands.result)
+                      starts _ packs (g.D.Disk.state c.args.disk.now) r.from,
                   subst (λ e. KeepsPacking g.row.C phase (items_now phase.course e)) (sym starts.table)
                       c.phase_again-phase.ensures.keeps,
                 ),
@@ -52,10 +52,10 @@ store_with-requires g c =
       lit< tt,
       (
         lit< tt,
-        makes_store c.args.found r.loads r.moving r.fits r.wide (parts_of c.hands_of-hands.result) starts _ packs
-            (g.D.Disk.state c.args.disk.now) (g.D.Disk.state c.resume.new.disk) r.from c.resume.new.hands
-            c.resume.ensures.left c.resume.ensures.made c.in-Ok.ensures.ends c.in-Ok.ensures.saves.0
-            c.in-Ok.ensures.saves.1,
+        makes_store c.args.found r.loads r.moving r.fits r.wide (parts_of c.hands_of-hands.result) starts
+            _ packs (g.D.Disk.state c.args.disk.now) (g.D.Disk.state c.resume.new.disk) r.from
+            c.resume.new.hands c.resume.ensures.left c.resume.ensures.made c.in-Ok.ensures.ends
+            c.in-Ok.ensures.saves.0 c.in-Ok.ensures.saves.1,
       ),
     )
 
@@ -70,8 +70,8 @@ returns-in-Ok g c =
     subst (λ e. PacksAgain c.args.found (phase_now phase.course e)) (sym starts.table)
     c.phase_again-phase.ensures.again in
     subst (λ s. IsOpening g.row.C a d (Ok s)) (sym c.store_with.ensures)
-    (again_done c.args.found r.loads r.moving r.fits r.wide (parts_of c.hands_of-hands.result) starts _ packs a d
-    r.from c.resume.new.hands c.resume.ensures.left c.resume.ensures.made c.in-Ok.ensures.ends
+    (again_done c.args.found r.loads r.moving r.fits r.wide (parts_of c.hands_of-hands.result) starts _ packs
+    a d r.from c.resume.new.hands c.resume.ensures.left c.resume.ensures.made c.in-Ok.ensures.ends
     c.in-Ok.ensures.saves.0 c.in-Ok.ensures.saves.1 _ c.in-Ok.ensures.calls c.in-Ok.ensures.cause)
 
 pub returns-in-Err : goal.returns-in-Err

@@ -12,8 +12,10 @@ pub returns-in-Ok-clause-answer : goal.returns-in-Ok-clause-answer
 returns-in-Ok-clause-answer g c =
     let same = (accepted _ _ _ c.in-Ok.ensures.answer).1 in
     let se = subst (λ (n : List ℕ). ServesChange g.row.C (del_of n) c.args.self.now c.del_accepted.new.self
-    (g.D.Disk.state c.args.disk.now) (g.D.Disk.state c.del_accepted.new.disk) c.del_accepted.result) same c.del_accepted.ensures in
-    subst (λ o. AnswersChange (is_quiet (charges_of c.args.self.now (del_of c.args.name.now))) o c.del_accepted.result)
+    (g.D.Disk.state c.args.disk.now) (g.D.Disk.state c.del_accepted.new.disk) c.del_accepted.result) same
+    c.del_accepted.ensures in
+    subst (λ o. AnswersChange (is_quiet (charges_of c.args.self.now (del_of c.args.name.now))) o
+    c.del_accepted.result)
     (sym (accepted _ _ _ c.in-Ok.ensures.answer).0) se.answer
 
 pub returns-in-Ok-clause-refused : goal.returns-in-Ok-clause-refused
@@ -23,21 +25,24 @@ pub returns-in-Ok-clause-quiet : goal.returns-in-Ok-clause-quiet
 returns-in-Ok-clause-quiet g c none quiet =
     let same = (accepted _ _ _ c.in-Ok.ensures.answer).1 in
     let se = subst (λ (n : List ℕ). ServesChange g.row.C (del_of n) c.args.self.now c.del_accepted.new.self
-    (g.D.Disk.state c.args.disk.now) (g.D.Disk.state c.del_accepted.new.disk) c.del_accepted.result) same c.del_accepted.ensures in
+    (g.D.Disk.state c.args.disk.now) (g.D.Disk.state c.del_accepted.new.disk) c.del_accepted.result) same
+    c.del_accepted.ensures in
     se.quiet quiet
 
 pub returns-in-Ok-clause-flush : goal.returns-in-Ok-clause-flush
 returns-in-Ok-clause-flush g c none loud =
     let same = (accepted _ _ _ c.in-Ok.ensures.answer).1 in
     let se = subst (λ (n : List ℕ). ServesChange g.row.C (del_of n) c.args.self.now c.del_accepted.new.self
-    (g.D.Disk.state c.args.disk.now) (g.D.Disk.state c.del_accepted.new.disk) c.del_accepted.result) same c.del_accepted.ensures in
+    (g.D.Disk.state c.args.disk.now) (g.D.Disk.state c.del_accepted.new.disk) c.del_accepted.result) same
+    c.del_accepted.ensures in
     se.flush loud
 
 pub returns-in-Ok-clause-step : goal.returns-in-Ok-clause-step
 returns-in-Ok-clause-step g c whole told =
     let same = (accepted _ _ _ c.in-Ok.ensures.answer).1 in
     let se = subst (λ (n : List ℕ). ServesChange g.row.C (del_of n) c.args.self.now c.del_accepted.new.self
-    (g.D.Disk.state c.args.disk.now) (g.D.Disk.state c.del_accepted.new.disk) c.del_accepted.result) same c.del_accepted.ensures in
+    (g.D.Disk.state c.args.disk.now) (g.D.Disk.state c.del_accepted.new.disk) c.del_accepted.result) same
+    c.del_accepted.ensures in
     se.step told
 
 pub returns-in-Ok-clause-broken : goal.returns-in-Ok-clause-broken

@@ -18,11 +18,14 @@ returns-in-Some g c =
     serves_quietly (c.in-Some.ensures.quiet refl) (inl refl)
     (no_effects (del_of name) t c.leave.new.self (g.D.Disk.state c.args.disk.now) _ h
     (c.requires.over served.whole) c.requires.ready (g.met.D.Disk.lawful c.args.disk.now).turn_fits refl
-    (del_value t h name name (divisor_of layout) (caps_of layout) (grid_of layout) p c.leave.new.self c.leave.ensures))
+    (del_value t h name name (divisor_of layout) (caps_of layout) (grid_of layout) p c.leave.new.self
+    c.leave.ensures))
     (λ told. del_step t h name name (divisor_of layout) (caps_of layout) (grid_of layout) p
-    (g.D.Disk.state c.args.disk.now).file (c.requires.over served.whole told) c.leave.new.self c.leave.ensures)
+    (g.D.Disk.state c.args.disk.now).file (c.requires.over served.whole told) c.leave.new.self
+    c.leave.ensures)
     (search rules) (search rules)
 
 pub returns-in-None : goal.returns-in-None
 returns-in-None g c = serves_flushed (c.in-None.ensures.loud refl) c.del_flushed.ensures.answer
-    c.del_flushed.ensures.flush c.del_flushed.ensures.step c.del_flushed.ensures.over c.del_flushed.ensures.broken
+    c.del_flushed.ensures.flush c.del_flushed.ensures.step c.del_flushed.ensures.over
+    c.del_flushed.ensures.broken

@@ -8,7 +8,8 @@ use Rattle.store_core.specs.Connection.{IsOver, Kept}
 use Rattle.store_core.specs.Answers.{refused_by}
 use Rattle.store_core.specs.Inside.{kept_of}
 use Rattle.store_core.specs.Quiet.{charges_of, del_of}
-use Rattle.store_core.proofs.FlushDoneLaws.{IsFlown, done_over, done_seen, done_whole, failed_seen, step_seen}
+use Rattle.store_core.proofs.FlownLaws.{IsFlown}
+use Rattle.store_core.proofs.FlushDoneLaws.{done_over, done_seen, done_whole, failed_seen, step_seen}
 use Rattle.store_core.proofs.FlushLaws.{del_loud, may_begin, some_flight}
 use Rattle.store_core.proofs.PlanLaws.{del_served}
 use Rattle.store_core.proofs.store.Store.del_flushed.Goals as goal
@@ -18,7 +19,8 @@ returns-in-Ok-clause-flush g c =
     let t = c.args.self.now in
     let sv = del_served t c.args.name.now c.requires.served in
     let unbroken : c.self.inside.broken ≡ false = ap (λ (x : Kept). x.is_broken) c.self.view_is ∙ sv.whole in
-    let w : IsFlown c.self.inside (del_of c.args.name.now) c.begin_del-begun.new.hands (phase_now c.begin_del-begun.result.phase.course c.begin_del-begun.new.hands.table)
+    let w : IsFlown c.self.inside (del_of c.args.name.now) c.begin_del-begun.new.hands
+    (phase_now c.begin_del-begun.result.phase.course c.begin_del-begun.new.hands.table)
     c.begin_del-begun.result.place
     [] c.fly-flown.new.hands (g.D.Disk.state c.args.disk.now) (g.D.Disk.state c.fly-flown.new.disk) = record {
       whole = c.self.invariant;
@@ -27,21 +29,25 @@ returns-in-Ok-clause-flush g c =
       name = sv.named;
       object = refl;
       fresh = omega (arith, sv.fresh, ap (λ (x : Kept). x.in_use.sequence) c.self.view_is);
-      over = λ told. subst (λ (x : Kept). IsOver g.row.C x (g.D.Disk.state c.args.disk.now).file) (sym c.self.view_is)
-          (c.requires.over sv.whole told);
+      over = λ told. subst (λ (x : Kept). IsOver g.row.C x (g.D.Disk.state c.args.disk.now).file)
+          (sym c.self.view_is) (c.requires.over sv.whole told);
       left = c.fly-flown.ensures.left;
       made = c.fly-flown.ensures.made;
     } in
-    done_seen c.self.inside (del_of c.args.name.now) c.begin_del-begun.new.hands (phase_now c.begin_del-begun.result.phase.course c.begin_del-begun.new.hands.table)
+    done_seen c.self.inside (del_of c.args.name.now) c.begin_del-begun.new.hands
+    (phase_now c.begin_del-begun.result.phase.course c.begin_del-begun.new.hands.table)
     c.begin_del-begun.result.place
-    [] c.fly-flown.new.hands (g.D.Disk.state c.args.disk.now) (g.D.Disk.state c.fly-flown.new.disk) w t c.self.view_is c.in-Ok.ensures.ends c.in-Ok.ensures.saves.0 c.in-Ok.ensures.saves.1 _ c.in-Ok.ensures.calls c.in-Ok.ensures.cause
+    [] c.fly-flown.new.hands (g.D.Disk.state c.args.disk.now) (g.D.Disk.state c.fly-flown.new.disk) w t
+    c.self.view_is c.in-Ok.ensures.ends c.in-Ok.ensures.saves.0 c.in-Ok.ensures.saves.1
+    _ c.in-Ok.ensures.calls c.in-Ok.ensures.cause
 
 pub returns-in-Err-clause-flush : goal.returns-in-Err-clause-flush
 returns-in-Err-clause-flush g c =
     let t = c.args.self.now in
     let sv = del_served t c.args.name.now c.requires.served in
     let unbroken : c.self.inside.broken ≡ false = ap (λ (x : Kept). x.is_broken) c.self.view_is ∙ sv.whole in
-    let w : IsFlown c.self.inside (del_of c.args.name.now) c.begin_del-begun.new.hands (phase_now c.begin_del-begun.result.phase.course c.begin_del-begun.new.hands.table)
+    let w : IsFlown c.self.inside (del_of c.args.name.now) c.begin_del-begun.new.hands
+    (phase_now c.begin_del-begun.result.phase.course c.begin_del-begun.new.hands.table)
     c.begin_del-begun.result.place
     [] c.fly-flown.new.hands (g.D.Disk.state c.args.disk.now) (g.D.Disk.state c.fly-flown.new.disk) = record {
       whole = c.self.invariant;
@@ -50,21 +56,24 @@ returns-in-Err-clause-flush g c =
       name = sv.named;
       object = refl;
       fresh = omega (arith, sv.fresh, ap (λ (x : Kept). x.in_use.sequence) c.self.view_is);
-      over = λ told. subst (λ (x : Kept). IsOver g.row.C x (g.D.Disk.state c.args.disk.now).file) (sym c.self.view_is)
-          (c.requires.over sv.whole told);
+      over = λ told. subst (λ (x : Kept). IsOver g.row.C x (g.D.Disk.state c.args.disk.now).file)
+          (sym c.self.view_is) (c.requires.over sv.whole told);
       left = c.fly-flown.ensures.left;
       made = c.fly-flown.ensures.made;
     } in
-    failed_seen c.self.inside (del_of c.args.name.now) c.begin_del-begun.new.hands (phase_now c.begin_del-begun.result.phase.course c.begin_del-begun.new.hands.table)
+    failed_seen c.self.inside (del_of c.args.name.now) c.begin_del-begun.new.hands
+    (phase_now c.begin_del-begun.result.phase.course c.begin_del-begun.new.hands.table)
     c.begin_del-begun.result.place
-    [] c.fly-flown.new.hands (g.D.Disk.state c.args.disk.now) (g.D.Disk.state c.fly-flown.new.disk) w t c.self.view_is _ _ c.in-Err.ensures.cause
+    [] c.fly-flown.new.hands (g.D.Disk.state c.args.disk.now) (g.D.Disk.state c.fly-flown.new.disk) w t
+    c.self.view_is _ _ c.in-Err.ensures.cause
 
 pub returns-in-Ok-clause-step : goal.returns-in-Ok-clause-step
 returns-in-Ok-clause-step g c told =
     let t = c.args.self.now in
     let sv = del_served t c.args.name.now c.requires.served in
     let unbroken : c.self.inside.broken ≡ false = ap (λ (x : Kept). x.is_broken) c.self.view_is ∙ sv.whole in
-    let w : IsFlown c.self.inside (del_of c.args.name.now) c.begin_del-begun.new.hands (phase_now c.begin_del-begun.result.phase.course c.begin_del-begun.new.hands.table)
+    let w : IsFlown c.self.inside (del_of c.args.name.now) c.begin_del-begun.new.hands
+    (phase_now c.begin_del-begun.result.phase.course c.begin_del-begun.new.hands.table)
     c.begin_del-begun.result.place
     [] c.fly-flown.new.hands (g.D.Disk.state c.args.disk.now) (g.D.Disk.state c.fly-flown.new.disk) = record {
       whole = c.self.invariant;
@@ -73,21 +82,25 @@ returns-in-Ok-clause-step g c told =
       name = sv.named;
       object = refl;
       fresh = omega (arith, sv.fresh, ap (λ (x : Kept). x.in_use.sequence) c.self.view_is);
-      over = λ told. subst (λ (x : Kept). IsOver g.row.C x (g.D.Disk.state c.args.disk.now).file) (sym c.self.view_is)
-          (c.requires.over sv.whole told);
+      over = λ told. subst (λ (x : Kept). IsOver g.row.C x (g.D.Disk.state c.args.disk.now).file)
+          (sym c.self.view_is) (c.requires.over sv.whole told);
       left = c.fly-flown.ensures.left;
       made = c.fly-flown.ensures.made;
     } in
-    step_seen c.self.inside (del_of c.args.name.now) c.begin_del-begun.new.hands (phase_now c.begin_del-begun.result.phase.course c.begin_del-begun.new.hands.table)
+    step_seen c.self.inside (del_of c.args.name.now) c.begin_del-begun.new.hands
+    (phase_now c.begin_del-begun.result.phase.course c.begin_del-begun.new.hands.table)
     c.begin_del-begun.result.place
-    [] c.fly-flown.new.hands (g.D.Disk.state c.args.disk.now) (g.D.Disk.state c.fly-flown.new.disk) w t c.self.view_is c.in-Ok.ensures.ends c.in-Ok.ensures.saves.0 c.in-Ok.ensures.saves.1 told sv.calm c.requires.loud
+    [] c.fly-flown.new.hands (g.D.Disk.state c.args.disk.now) (g.D.Disk.state c.fly-flown.new.disk) w t
+    c.self.view_is c.in-Ok.ensures.ends c.in-Ok.ensures.saves.0 c.in-Ok.ensures.saves.1 told
+    sv.calm c.requires.loud
 
 pub returns-in-Ok-clause-over : goal.returns-in-Ok-clause-over
 returns-in-Ok-clause-over g c whole told =
     let t = c.args.self.now in
     let sv = del_served t c.args.name.now c.requires.served in
     let unbroken : c.self.inside.broken ≡ false = ap (λ (x : Kept). x.is_broken) c.self.view_is ∙ sv.whole in
-    let w : IsFlown c.self.inside (del_of c.args.name.now) c.begin_del-begun.new.hands (phase_now c.begin_del-begun.result.phase.course c.begin_del-begun.new.hands.table)
+    let w : IsFlown c.self.inside (del_of c.args.name.now) c.begin_del-begun.new.hands
+    (phase_now c.begin_del-begun.result.phase.course c.begin_del-begun.new.hands.table)
     c.begin_del-begun.result.place
     [] c.fly-flown.new.hands (g.D.Disk.state c.args.disk.now) (g.D.Disk.state c.fly-flown.new.disk) = record {
       whole = c.self.invariant;
@@ -96,20 +109,24 @@ returns-in-Ok-clause-over g c whole told =
       name = sv.named;
       object = refl;
       fresh = omega (arith, sv.fresh, ap (λ (x : Kept). x.in_use.sequence) c.self.view_is);
-      over = λ told. subst (λ (x : Kept). IsOver g.row.C x (g.D.Disk.state c.args.disk.now).file) (sym c.self.view_is)
-          (c.requires.over sv.whole told);
+      over = λ told. subst (λ (x : Kept). IsOver g.row.C x (g.D.Disk.state c.args.disk.now).file)
+          (sym c.self.view_is) (c.requires.over sv.whole told);
       left = c.fly-flown.ensures.left;
       made = c.fly-flown.ensures.made;
     } in
-    done_over c.self.inside (del_of c.args.name.now) c.begin_del-begun.new.hands (phase_now c.begin_del-begun.result.phase.course c.begin_del-begun.new.hands.table)
+    done_over c.self.inside (del_of c.args.name.now) c.begin_del-begun.new.hands
+    (phase_now c.begin_del-begun.result.phase.course c.begin_del-begun.new.hands.table)
     c.begin_del-begun.result.place
-    [] c.fly-flown.new.hands (g.D.Disk.state c.args.disk.now) (g.D.Disk.state c.fly-flown.new.disk) w c.in-Ok.ensures.ends c.in-Ok.ensures.saves.0 c.in-Ok.ensures.saves.1 (sym c.fly-flown.ensures.made.keeps.disk.stays.told ∙ told)
+    [] c.fly-flown.new.hands (g.D.Disk.state c.args.disk.now) (g.D.Disk.state c.fly-flown.new.disk) w
+    c.in-Ok.ensures.ends c.in-Ok.ensures.saves.0 c.in-Ok.ensures.saves.1
+    (sym c.fly-flown.ensures.made.keeps.disk.stays.told ∙ told)
 
 pub begin_del-begun-requires : goal.begin_del-begun-requires
 begin_del-begun-requires g c =
     let ks = kept_of c.self.inside in
     let sk = del_served ks c.args.name.now
-    (subst (λ (x : Kept). refused_by x (ask.change (del_of c.args.name.now)) ≡ None) (sym c.self.view_is) c.requires.served) in
+    (subst (λ (x : Kept). refused_by x (ask.change (del_of c.args.name.now)) ≡ None) (sym c.self.view_is)
+    c.requires.served) in
     let unbroken : c.self.inside.broken ≡ false = sk.whole in
     let inv = c.self.invariant in (
       lit< tt,
@@ -121,8 +138,9 @@ begin_del-begun-requires g c =
             inv.wide,
             (
               (_, may_begin c.self.inside inv unbroken),
-              del_loud c.self.inside inv unbroken c.args.name.now (subst (λ (x : Kept). is_quiet (charges_of x (del_of c.args.name.now)) ≡ false) (sym c.self.view_is)
-                  c.requires.loud),
+              del_loud c.self.inside inv unbroken c.args.name.now
+                  (subst (λ (x : Kept). is_quiet (charges_of x (del_of c.args.name.now)) ≡ false)
+                  (sym c.self.view_is) c.requires.loud),
             ),
           ),
         ),
@@ -133,14 +151,18 @@ pub fly-flown-requires : goal.fly-flown-requires
 fly-flown-requires g c =
     let ks = kept_of c.self.inside in
     let sk = del_served ks c.args.name.now
-    (subst (λ (x : Kept). refused_by x (ask.change (del_of c.args.name.now)) ≡ None) (sym c.self.view_is) c.requires.served) in
+    (subst (λ (x : Kept). refused_by x (ask.change (del_of c.args.name.now)) ≡ None) (sym c.self.view_is)
+    c.requires.served) in
     let unbroken : c.self.inside.broken ≡ false = sk.whole in
     let inv = c.self.invariant in
     let begun = c.begin_del-begun.ensures.begun in
-    let over : IsTrue (g.D.Disk.state c.args.disk.now).tells → IsOver g.row.C ks (g.D.Disk.state c.args.disk.now).file =
+    let over : IsTrue (g.D.Disk.state c.args.disk.now).tells
+    → IsOver g.row.C ks (g.D.Disk.state c.args.disk.now).file =
     λ told. subst (λ (x : Kept). IsOver g.row.C x (g.D.Disk.state c.args.disk.now).file) (sym c.self.view_is)
     (c.requires.over (ap (λ (x : Kept). x.is_broken) (sym c.self.view_is) ∙ sk.whole) told) in
-    let sf = some_flight c.self.inside inv unbroken (del_of c.args.name.now) (parts_of c.begin_del-begun.new.hands) (phase_now c.begin_del-begun.result.phase.course c.begin_del-begun.new.hands.table)
+    let sf = some_flight c.self.inside inv unbroken (del_of c.args.name.now)
+    (parts_of c.begin_del-begun.new.hands) (phase_now c.begin_del-begun.result.phase.course
+    c.begin_del-begun.new.hands.table)
     c.begin_del-begun.result.place [] begun sk.named refl sk.fresh (g.D.Disk.state c.args.disk.now) over in (
       lit< tt,
       (
@@ -166,7 +188,8 @@ invariant_of-self g c =
     let t = c.args.self.now in
     let sv = del_served t c.args.name.now c.requires.served in
     let unbroken : c.self.inside.broken ≡ false = ap (λ (x : Kept). x.is_broken) c.self.view_is ∙ sv.whole in
-    let w : IsFlown c.self.inside (del_of c.args.name.now) c.begin_del-begun.new.hands (phase_now c.begin_del-begun.result.phase.course c.begin_del-begun.new.hands.table)
+    let w : IsFlown c.self.inside (del_of c.args.name.now) c.begin_del-begun.new.hands
+    (phase_now c.begin_del-begun.result.phase.course c.begin_del-begun.new.hands.table)
     c.begin_del-begun.result.place
     [] c.fly-flown.new.hands (g.D.Disk.state c.args.disk.now) (g.D.Disk.state c.fly-flown.new.disk) = record {
       whole = c.self.invariant;
@@ -175,11 +198,13 @@ invariant_of-self g c =
       name = sv.named;
       object = refl;
       fresh = omega (arith, sv.fresh, ap (λ (x : Kept). x.in_use.sequence) c.self.view_is);
-      over = λ told. subst (λ (x : Kept). IsOver g.row.C x (g.D.Disk.state c.args.disk.now).file) (sym c.self.view_is)
-          (c.requires.over sv.whole told);
+      over = λ told. subst (λ (x : Kept). IsOver g.row.C x (g.D.Disk.state c.args.disk.now).file)
+          (sym c.self.view_is) (c.requires.over sv.whole told);
       left = c.fly-flown.ensures.left;
       made = c.fly-flown.ensures.made;
     } in
-    done_whole c.self.inside (del_of c.args.name.now) c.begin_del-begun.new.hands (phase_now c.begin_del-begun.result.phase.course c.begin_del-begun.new.hands.table)
+    done_whole c.self.inside (del_of c.args.name.now) c.begin_del-begun.new.hands
+    (phase_now c.begin_del-begun.result.phase.course c.begin_del-begun.new.hands.table)
     c.begin_del-begun.result.place
-    [] c.fly-flown.new.hands (g.D.Disk.state c.args.disk.now) (g.D.Disk.state c.fly-flown.new.disk) w c.in-Ok.ensures.ends c.in-Ok.ensures.saves.0 c.in-Ok.ensures.saves.1
+    [] c.fly-flown.new.hands (g.D.Disk.state c.args.disk.now) (g.D.Disk.state c.fly-flown.new.disk) w
+    c.in-Ok.ensures.ends c.in-Ok.ensures.saves.0 c.in-Ok.ensures.saves.1

@@ -74,8 +74,8 @@ invariant_of-self g c =
     (subst AreInRange after c.set.ensures.table.now_in_range))
     (store_freed t o.store name spot.size spot.place (grid_of c.args.layout) c.requires.charged
     c.self.inside.hands.guard.spans c.free_spot.new.guard.spans o.freed
-    (subst (λ x. FreesSpot x (fin.get t.kept name) c.self.inside.hands.guard.spans c.free_spot.new.guard.spans)
-    (c.get-now.ensures ∙ ap (λ (m : Spots). fin.get m name) o.now)
+    (subst (λ x. FreesSpot x (fin.get t.kept name) c.self.inside.hands.guard.spans
+    c.free_spot.new.guard.spans) (c.get-now.ensures ∙ ap (λ (m : Spots). fin.get m name) o.now)
     (subst (λ x. FreesSpot c.get-now.result x c.self.inside.hands.guard.spans c.free_spot.new.guard.spans)
     (c.old.ensures ∙ ap (λ (m : Spots). fin.get m name) o.kept) c.free_spot.ensures.freed)))
 
@@ -86,6 +86,7 @@ returns g c =
     let o = opened c.self.inside t c.self.view_is c.self.invariant c.requires.whole in
     let after = c.set.ensures.now ∙ ap (λ (m : Spots). fin.insert m name c.args.spot) o.now in
     let view = changed_view c.self.inside t c.self.view_is c.self.invariant c.set.new.self
-    c.free_spot.new.guard c.add_size.new.ledger c.args.layout (fin.insert t.now name c.args.spot) after c.set.ensures.kept
+    c.free_spot.new.guard c.add_size.new.ledger c.args.layout (fin.insert t.now name c.args.spot) after
+    c.set.ensures.kept
     c.requires.caps (c.add_size.ensures.moved ∙ c.add_gone.ensures.moved) in
     search rules

@@ -55,7 +55,7 @@ invariant_of-self g c =
     ))
     (subst AreInRange after c.remove.ensures.table.now_in_range))
     (freed_gone c.self.inside.hands.guard.spans t.now t.kept o.freed name c.free_spot.new.guard.spans
-    (subst (λ x. FreesSpot x (fin.get t.kept name) c.self.inside.hands.guard.spans c.free_spot.new.guard.spans)
-    (c.get-now.ensures ∙ ap (λ (m : Spots). fin.get m name) o.now)
+    (subst (λ x. FreesSpot x (fin.get t.kept name) c.self.inside.hands.guard.spans
+    c.free_spot.new.guard.spans) (c.get-now.ensures ∙ ap (λ (m : Spots). fin.get m name) o.now)
     (subst (λ x. FreesSpot c.get-now.result x c.self.inside.hands.guard.spans c.free_spot.new.guard.spans)
     (c.old.ensures ∙ ap (λ (m : Spots). fin.get m name) o.kept) c.free_spot.ensures.freed)))

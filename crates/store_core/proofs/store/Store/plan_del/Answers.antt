@@ -17,8 +17,8 @@ charge_gone-requires g c =
         c.self.invariant.classes,
         (
           c.self.invariant.wide,
-          small_if_there s (opened c.self.inside s c.self.view_is c.self.invariant d.whole).store name c.get.result
-              (c.get.ensures ∙ ap (λ (x : Kept). fin.get x.now name) c.self.view_is),
+          small_if_there s (opened c.self.inside s c.self.view_is c.self.invariant d.whole).store name
+              c.get.result (c.get.ensures ∙ ap (λ (x : Kept). fin.get x.now name) c.self.view_is),
         ),
       ),
     )
@@ -29,7 +29,8 @@ returns-then-charge_gone-clause-plan g c =
     del_planned c.args.self.now name name (divisor_of c.self.inside.hands.layout)
     (divisor_of c.charge_gone.new.layout) (caps_of c.self.inside.hands.layout)
     (caps_of c.charge_gone.new.layout)
-    (grid_of c.self.inside.hands.layout) (grid_of c.charge_gone.new.layout) c.get.result c.requires.served refl
+    (grid_of c.self.inside.hands.layout) (grid_of c.charge_gone.new.layout) c.get.result
+    c.requires.served refl
     (c.self.invariant.divisor ∙ ap (λ (x : Kept). x.in_use.block.k) c.self.view_is)
     (ap (λ (x : Kept). x.book.caps) c.self.view_is) (ap (λ (x : Kept). x.book.grid) c.self.view_is)
     (c.get.ensures ∙ ap (λ (x : Kept). fin.get x.now name) c.self.view_is)
@@ -40,8 +41,8 @@ returns-then-charge_gone-clause-quiet g c some = del_quiet c.args.self.now c.arg
     (grid_of c.charge_gone.new.layout) (returns-then-charge_gone-clause-plan g c).charged
 
 pub returns-then-charge_gone-clause-sound : goal.returns-then-charge_gone-clause-sound
-returns-then-charge_gone-clause-sound g c = (opened c.self.inside c.args.self.now c.self.view_is c.self.invariant
-    (del_served c.args.self.now c.args.name.now c.requires.served).whole).store
+returns-then-charge_gone-clause-sound g c = (opened c.self.inside c.args.self.now c.self.view_is
+    c.self.invariant (del_served c.args.self.now c.args.name.now c.requires.served).whole).store
 
 pub returns-else-charge_gone-clause-loud : goal.returns-else-charge_gone-clause-loud
 returns-else-charge_gone-clause-loud g c none =
@@ -50,8 +51,9 @@ returns-else-charge_gone-clause-loud g c none =
     (caps_of c.self.inside.hands.layout) (grid_of c.self.inside.hands.layout) c.get.result
     (c.self.invariant.divisor ∙ ap (λ (x : Kept). x.in_use.block.k) c.self.view_is)
     (ap (λ (x : Kept). x.book.caps) c.self.view_is) (ap (λ (x : Kept). x.book.grid) c.self.view_is)
-    (c.get.ensures ∙ ap (λ (x : Kept). fin.get x.now name) c.self.view_is) (c.if-charge_gone.ensures.loud refl)
+    (c.get.ensures ∙ ap (λ (x : Kept). fin.get x.now name) c.self.view_is)
+    (c.if-charge_gone.ensures.loud refl)
 
 pub returns-else-charge_gone-clause-sound : goal.returns-else-charge_gone-clause-sound
-returns-else-charge_gone-clause-sound g c = (opened c.self.inside c.args.self.now c.self.view_is c.self.invariant
-    (del_served c.args.self.now c.args.name.now c.requires.served).whole).store
+returns-else-charge_gone-clause-sound g c = (opened c.self.inside c.args.self.now c.self.view_is
+    c.self.invariant (del_served c.args.self.now c.args.name.now c.requires.served).whole).store

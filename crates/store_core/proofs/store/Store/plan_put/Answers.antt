@@ -18,8 +18,8 @@ charge_put-requires g c =
         (
           c.self.invariant.wide,
           (
-            small_if_there s (opened c.self.inside s c.self.view_is c.self.invariant p.whole).store name c.get.result
-                (c.get.ensures ∙ ap (λ (x : Kept). fin.get x.now name) c.self.view_is),
+            small_if_there s (opened c.self.inside s c.self.view_is c.self.invariant p.whole).store name
+                c.get.result (c.get.ensures ∙ ap (λ (x : Kept). fin.get x.now name) c.self.view_is),
             p.small,
           ),
         ),

@@ -11,9 +11,11 @@ use Rattle.store_core.proofs.store.Store.put.Goals as goal
 pub returns-in-Ok-clause-answer : goal.returns-in-Ok-clause-answer
 returns-in-Ok-clause-answer g c =
     let same = (accepted _ _ _ c.in-Ok.ensures.answer).1 in
-    let se = subst (λ (n : List ℕ). ServesChange g.row.C (put_of n c.args.bytes.now) c.args.self.now c.put_accepted.new.self
-    (g.D.Disk.state c.args.disk.now) (g.D.Disk.state c.put_accepted.new.disk) c.put_accepted.result) same c.put_accepted.ensures in
-    subst (λ o. AnswersChange (is_quiet (charges_of c.args.self.now (put_of c.args.name.now c.args.bytes.now))) o c.put_accepted.result)
+    let se = subst (λ (n : List ℕ). ServesChange g.row.C (put_of n c.args.bytes.now) c.args.self.now
+    c.put_accepted.new.self (g.D.Disk.state c.args.disk.now) (g.D.Disk.state c.put_accepted.new.disk)
+    c.put_accepted.result) same c.put_accepted.ensures in
+    subst (λ o. AnswersChange (is_quiet (charges_of c.args.self.now (put_of c.args.name.now
+    c.args.bytes.now))) o c.put_accepted.result)
     (sym (accepted _ _ _ c.in-Ok.ensures.answer).0) se.answer
 
 pub returns-in-Ok-clause-refused : goal.returns-in-Ok-clause-refused
@@ -22,27 +24,31 @@ returns-in-Ok-clause-refused g c some = not_some _ (accepted _ _ _ c.in-Ok.ensur
 pub returns-in-Ok-clause-quiet : goal.returns-in-Ok-clause-quiet
 returns-in-Ok-clause-quiet g c none quiet =
     let same = (accepted _ _ _ c.in-Ok.ensures.answer).1 in
-    let se = subst (λ (n : List ℕ). ServesChange g.row.C (put_of n c.args.bytes.now) c.args.self.now c.put_accepted.new.self
-    (g.D.Disk.state c.args.disk.now) (g.D.Disk.state c.put_accepted.new.disk) c.put_accepted.result) same c.put_accepted.ensures in
+    let se = subst (λ (n : List ℕ). ServesChange g.row.C (put_of n c.args.bytes.now) c.args.self.now
+    c.put_accepted.new.self (g.D.Disk.state c.args.disk.now) (g.D.Disk.state c.put_accepted.new.disk)
+    c.put_accepted.result) same c.put_accepted.ensures in
     se.quiet quiet
 
 pub returns-in-Ok-clause-flush : goal.returns-in-Ok-clause-flush
 returns-in-Ok-clause-flush g c none loud =
     let same = (accepted _ _ _ c.in-Ok.ensures.answer).1 in
-    let se = subst (λ (n : List ℕ). ServesChange g.row.C (put_of n c.args.bytes.now) c.args.self.now c.put_accepted.new.self
-    (g.D.Disk.state c.args.disk.now) (g.D.Disk.state c.put_accepted.new.disk) c.put_accepted.result) same c.put_accepted.ensures in
+    let se = subst (λ (n : List ℕ). ServesChange g.row.C (put_of n c.args.bytes.now) c.args.self.now
+    c.put_accepted.new.self (g.D.Disk.state c.args.disk.now) (g.D.Disk.state c.put_accepted.new.disk)
+    c.put_accepted.result) same c.put_accepted.ensures in
     se.flush loud
 
 pub returns-in-Ok-clause-step : goal.returns-in-Ok-clause-step
 returns-in-Ok-clause-step g c whole told =
     let same = (accepted _ _ _ c.in-Ok.ensures.answer).1 in
-    let se = subst (λ (n : List ℕ). ServesChange g.row.C (put_of n c.args.bytes.now) c.args.self.now c.put_accepted.new.self
-    (g.D.Disk.state c.args.disk.now) (g.D.Disk.state c.put_accepted.new.disk) c.put_accepted.result) same c.put_accepted.ensures in
+    let se = subst (λ (n : List ℕ). ServesChange g.row.C (put_of n c.args.bytes.now) c.args.self.now
+    c.put_accepted.new.self (g.D.Disk.state c.args.disk.now) (g.D.Disk.state c.put_accepted.new.disk)
+    c.put_accepted.result) same c.put_accepted.ensures in
     se.step told
 
 pub returns-in-Ok-clause-broken : goal.returns-in-Ok-clause-broken
 returns-in-Ok-clause-broken g c =
-    let served = put_served c.args.self.now c.args.name.now c.args.bytes.now (accepted _ _ _ c.in-Ok.ensures.answer).0 in
+    let served = put_served c.args.self.now c.args.name.now c.args.bytes.now
+    (accepted _ _ _ c.in-Ok.ensures.answer).0 in
     c.put_accepted.ensures.broken
     ∙ ap (λ (b : Bool). b || is_disk_fault c.put_accepted.result) (sym served.whole)
 

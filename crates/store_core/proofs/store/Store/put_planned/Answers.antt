@@ -43,14 +43,15 @@ returns-in-Ok-clause-quiet g c =
     let size = length c.args.bytes.now in
     let served = put_served t c.args.name.now c.args.bytes.now c.requires.plan.served in
     let o = opened c.self.inside t c.self.view_is c.self.invariant served.whole in
-    quiet_effects (put_of c.args.name.now c.args.bytes.now) t c.enter.new.self (g.D.Disk.state c.args.disk.now)
+    quiet_effects (put_of c.args.name.now c.args.bytes.now) t c.enter.new.self
+    (g.D.Disk.state c.args.disk.now)
     (g.D.Disk.state c.write_new.new.disk) _ c.self.inside.hands.base plan.spot.place size c.requires.sound
     o.base
     (c.requires.over served.whole)
     (apart_kept t c.requires.sound c.args.name.now size plan.spot.place (grid_of plan.layout)
     c.requires.plan.charged) c.write_new.ensures.writes (calls_ok _ _ c.in-Ok.ensures.calls)
-    (put_value t c.requires.sound c.args.name.now c.args.bytes.now (divisor_of plan.layout) (caps_of plan.layout)
-    (grid_of plan.layout) plan.spot c.requires.plan c.enter.new.self c.enter.ensures)
+    (put_value t c.requires.sound c.args.name.now c.args.bytes.now (divisor_of plan.layout)
+    (caps_of plan.layout) (grid_of plan.layout) plan.spot c.requires.plan c.enter.new.self c.enter.ensures)
 
 pub returns-in-Err-clause-quiet : goal.returns-in-Err-clause-quiet
 returns-in-Err-clause-quiet g c =
@@ -73,7 +74,8 @@ returns-in-Ok-clause-step g c told =
     let file = (g.D.Disk.state c.args.disk.now).file in
     let served = put_served t c.args.name.now c.args.bytes.now c.requires.plan.served in
     let o = opened c.self.inside t c.self.view_is c.self.invariant served.whole in
-    put_step t c.requires.sound c.args.name.now c.args.bytes.now (divisor_of plan.layout) (caps_of plan.layout)
+    put_step t c.requires.sound c.args.name.now c.args.bytes.now (divisor_of plan.layout)
+    (caps_of plan.layout)
     (grid_of plan.layout) plan.spot c.requires.plan file (g.D.Disk.state c.write_new.new.disk).file
     (c.requires.over served.whole told)
     (c.in-Ok.ensures.written told
@@ -88,7 +90,8 @@ returns-in-Ok-clause-over g c whole told =
     let served = put_served t c.args.name.now c.args.bytes.now c.requires.plan.served in
     let o = opened c.self.inside t c.self.view_is c.self.invariant served.whole in
     let first = subst IsTrue c.write_new.ensures.writes.stays.told told in
-    put_over t c.requires.sound c.args.name.now c.args.bytes.now (divisor_of plan.layout) (caps_of plan.layout)
+    put_over t c.requires.sound c.args.name.now c.args.bytes.now (divisor_of plan.layout)
+    (caps_of plan.layout)
     (grid_of plan.layout) plan.spot c.requires.plan file (g.D.Disk.state c.write_new.new.disk).file
     (c.requires.over served.whole first)
     (c.in-Ok.ensures.written first

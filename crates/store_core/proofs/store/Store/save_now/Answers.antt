@@ -26,7 +26,8 @@ save-requires-clause-count g c = omega (
 pub returns-in-Err-clause-kept : goal.returns-in-Err-clause-kept
 returns-in-Err-clause-kept g c =
     let same = c.in-Err.ensures.same_pair in
-    keep_failed c.self.inside c.args.self.now c.self.view_is c.self.invariant c.requires.whole c.requires.fresh
+    keep_failed c.self.inside c.args.self.now c.self.view_is c.self.invariant c.requires.whole
+    c.requires.fresh
     c.header_of-next.result c.header_of-next.ensures.header c.requires.over c.save.ensures.left
     c.save.ensures.frame _ _
     (λ i. record (kept_of c.self.inside) {
@@ -39,9 +40,11 @@ returns-in-Err-clause-kept g c =
     }) (calls_err _ _ c.in-Err.ensures.calls)
 
 pub invariant_of-self : goal.invariant_of-self
-invariant_of-self g c = kept_whole c.self.inside c.self.invariant c.keep_spots.new.table c.keep_spots.new.guard
-    c.save.new.self _ c.in-Ok.ensures.pair c.keep_spots.ensures.now c.keep_spots.ensures.kept
-    c.keep_spots.ensures.table c.keep_spots.ensures.names c.keep_spots.ensures.empty c.keep_spots.ensures.room (search rules)
+invariant_of-self g c = kept_whole c.self.inside c.self.invariant c.keep_spots.new.table
+    c.keep_spots.new.guard c.save.new.self _ c.in-Ok.ensures.pair c.keep_spots.ensures.now
+    c.keep_spots.ensures.kept
+    c.keep_spots.ensures.table c.keep_spots.ensures.names c.keep_spots.ensures.empty c.keep_spots.ensures.room
+    (search rules)
 
 pub returns-in-Ok-clause-kept : goal.returns-in-Ok-clause-kept
 returns-in-Ok-clause-kept g c =
