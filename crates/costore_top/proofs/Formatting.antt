@@ -97,13 +97,17 @@ formats_by k names end formats = record {
 }
 
 -- the statuses of a session alone
-pub plain_status : (end : Result (Unit {0}) Stop) → IfErr end IsPlain → (status_at end ≢ 2) × (status_at end ≢ 8)
-    × (status_at end ≢ 11)
+pub plain_status : (end : Result (Unit {0}) Stop) → IfErr end IsPlain → (status_at end ≢ 2)
+    × (status_at end ≢ 8) × (status_at end ≢ 11)
 plain_status (Ok x) is = (λ e. omega (arith, e), λ e. omega (arith, e), λ e. omega (arith, e))
 plain_status (Err stop.Sink) is = (λ e. omega (arith, e), λ e. omega (arith, e), λ e. omega (arith, e))
 plain_status (Err stop.Words) is = (λ e. omega (arith, e), λ e. omega (arith, e), λ e. omega (arith, e))
 plain_status (Err stop.NoFile) is = (λ e. omega (arith, e), λ e. omega (arith, e), λ e. omega (arith, e))
-plain_status (Err (stop.NotStore f)) is = (λ e. omega (arith, e), λ e. omega (arith, e), λ e. omega (arith, e))
+plain_status (Err (stop.NotStore f)) is = (
+  λ e. omega (arith, e),
+  λ e. omega (arith, e),
+  λ e. omega (arith, e),
+)
 plain_status (Err (stop.Taken n)) is = (λ e. omega (arith, e), λ e. omega (arith, e), λ e. omega (arith, e))
 plain_status (Err stop.Missing) is = (λ e. omega (arith, e), λ e. omega (arith, e), λ e. omega (arith, e))
 plain_status (Err stop.Disk) is = (λ e. omega (arith, e), λ e. omega (arith, e), λ e. omega (arith, e))

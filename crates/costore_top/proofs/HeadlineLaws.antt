@@ -12,7 +12,6 @@ use Rattle.disk_face.proofs.MomentLaws.{Leaves-call, Leaves-trans, Leaves-weaken
 use Rattle.size_class.specs.declared.TheConstants.{CLASSES, SIZE_MAX}
 use Rattle.slot_codec.specs.Choice as choice
 use Rattle.slot_codec.specs.declared.codec.SuperBlock.{SuperBlock}
-use Rattle.slot_codec.specs.declared.codec.Kind.{Kind}
 use Rattle.slot_codec.specs.declared.codec.Kind.TheVariants as kind
 use Rattle.slot_pair.specs.declared.find.SlotFault.TheVariants as slot
 use Rattle.store_terms.specs.Maps.{Map}
@@ -24,7 +23,6 @@ use Rattle.store_core.specs.Stores.{IsStore}
 use Rattle.store_core.specs.States as store
 use Rattle.store_core.specs.Opened.{IsFoundImage, IsOpening, RestsOnFound, SameOnFound, found_base, state_at}
 use Rattle.store_core.proofs.OpeningLaws.{found_image}
-use Rattle.reopen.specs.Refusals.{RefusesToOpen}
 use Rattle.reopen.specs.declared.fault.OpenFault.{OpenFault}
 use Rattle.reopen.specs.declared.fault.OpenFault.TheVariants as opening
 use Rattle.ask_text.specs.Inputs.{Asks}
@@ -35,47 +33,20 @@ use Rattle.ask_session.specs.Runs.{EndsRun, budget}
 use Rattle.ask_session.specs.declared.ends.End.{End}
 use Rattle.ask_session.specs.declared.ends.End.TheVariants as ends
 use Rattle.costore_top.specs.Getting.{stop_of}
-use Rattle.costore_top.specs.Headline.{BeginsFrom, HasMounted, HowFar, IsNextStart, RunsAs, Starts, turn_opened}
+use Rattle.costore_top.specs.Headline.{HasMounted, HowFar, IsNextStart, RunsAs, Starts, turn_opened}
 use Rattle.costore_top.specs.Outcomes.{PutsLast, line_at, mounted, status_at}
 use Rattle.costore_top.specs.Sessions.{IsServed, IsUnbegun, IsUnopened, Went, WentFrom, ended_as, end_of, outcome_of, unserved}
 use Rattle.costore_top.specs.Words.{Command}
 use Rattle.costore_top.specs.declared.stop.Stop.{Stop}
 use Rattle.costore_top.specs.declared.stop.Stop.TheVariants as stop
-use Rattle.costore_top.specs.declared.stop.StoreFault.TheVariants as fault
 use Rattle.costore_top.specs.declared.run.Ended.{Ended}
 use Rattle.costore_top.specs.declared.top.Outcome.{Outcome}
-use Rattle.costore_top.proofs.AnswerLaws.{opens_or_not}
 use Rattle.costore_top.proofs.OpeningLemmas.{Opened, left_first, left_opening, opened_by, opens_first, rests_first, told_first}
 use Rattle.costore_top.proofs.RunLaws.{all_answered, disk_failed, input_ended, line_failed, next_over, sink_failed, source_failed}
 use Rattle.costore_top.proofs.SettledLaws.{ends_with_layout}
 use Rattle.costore_top.proofs.UnservedLaws.{unserved_runs}
-
--- ---- a file that opens isn't refused
-
--- opening it failed for want of a device or of memory
-pub data WhyUnopened : OpenFault → Type 0 where
-  disk : WhyUnopened (opening.Slot slot.Disk)
-  memory : WhyUnopened opening.NoMemory
-
-pub why_unopened : (t : choice.Table) (m : Map) (b : Book) (file : List ℕ) (why : OpenFault)
-    → OpensBy CLASSES SIZE_MAX t file m b → RefusesToOpen CLASSES file why → WhyUnopened why
-why_unopened t m b file (opening.Slot slot.Disk) o is = disk
-why_unopened t m b file opening.NoMemory o is = memory
-why_unopened t m b file (opening.Slot slot.Short) o is = absurd (let read = o.read in cc)
-why_unopened t m b file (opening.Slot slot.Unformatted) o is = absurd (let read = o.read in cc)
-why_unopened t m b file (opening.Slot slot.NoGate) o is = absurd (let read = o.read in cc)
-why_unopened t m b file (opening.Slot slot.SameSequence) o is = absurd (let read = o.read in cc)
-why_unopened t m b file (opening.Slot (slot.Codec f at)) o is = absurd (let read = o.read in cc)
-why_unopened t m b file (opening.Table broken) o is =
-    absurd (opens_or_not file m b (fault.Table broken) (record { table = t; opens = o }) is)
-
-never_true : IsTrue false → ⊥
-never_true is = let e : true ≡ false = sym is in absurd (cc)
-
--- the sequence at the start may be the one found
-pub begins_itself : (k : Kind) (found : ℕ) → BeginsFrom k found found
-begins_itself kind.Settled found = refl
-begins_itself kind.Moving found = (omega arith, omega arith)
+use Rattle.costore_top.proofs.UnopenedLaws.{WhyUnopened, why_unopened, never_true, begins_itself}
+use Rattle.costore_top.proofs.UnopenedLaws.WhyUnopened.{disk, memory}
 
 -- ---- the whole
 

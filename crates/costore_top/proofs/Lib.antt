@@ -13,6 +13,7 @@ mod OpeningLemmas
 mod RunLaws
 mod UnservedLaws
 mod SettledLaws
+mod UnopenedLaws
 mod HeadlineLaws
 mod ClauseLaws
 mod WentLaws

@@ -79,7 +79,8 @@ module _ (t : choice.Table) (m : Map) (b : Book) (old first : State) (mount : Af
     room = room_of t.chosen.header.kind t.chosen.header.sequence low
 
     -- what an opening leaves meanwhile, whether it fails or not
-    pub left_opening : (result : Result Kept OpenFault) → IsOpening CLASSES first a result → RestsOnFound t old
+    pub left_opening : (result : Result Kept OpenFault) → IsOpening CLASSES first a result
+        → RestsOnFound t old
         → Leaves old a (IsFoundImage CLASSES m b (length old.file))
     left_opening result opening rests = Leaves-trans (left_first rests)
         (subst (λ (f : List ℕ). Leaves first a (IsFoundImage CLASSES m b (length f))) file_first
@@ -103,7 +104,8 @@ module _ (t : choice.Table) (m : Map) (b : Book) (old first : State) (mount : Af
           unbroken = opening.fresh.whole;
           left = left_opening (Ok s) opening;
           rests = λ rests. found.rests (rests_first rests);
-          turn = λ settled. turn_of t.chosen.header.kind t m b first.file first.turn a.turn s found.calls settled
+          turn = λ settled. turn_of t.chosen.header.kind t m b first.file first.turn a.turn s
+              found.calls settled
               ∙ (λ i. turn_after_cut (found_base t + book_end t.chosen.block.k b) (file_first i)
               (mount.same_turn i));
           told = opening.frame.stays.told ∙ told_first;

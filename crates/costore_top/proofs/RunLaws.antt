@@ -618,7 +618,8 @@ module _ {t : choice.Table} {m : Map} {b : Book} {requests : List Request} {end 
               (λ _. OpensTo next_one.state image) [
                 | inl one ↦ opens_with image (sym one.kept ∙ ap (λ (y : store.State). y.kept) (sym t2_is))
                     (sym one.book ∙ ap (λ (y : store.State). y.kept_book) (sym t2_is))
-                    (kept_image new.store (sound unbroken_z) z.file over_z image (rests_z rests image left)).opens
+                    (kept_image new.store (sound unbroken_z) z.file over_z image
+                    (rests_z rests image left)).opens
                 | inr none ↦ absurd (omega (arith, least, none.least))
               ]
 

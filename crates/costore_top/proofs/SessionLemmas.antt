@@ -35,8 +35,8 @@ module _ {D I O : Type 0} (disk_of : D → State) (source_of : I → SourceState
         new = new;
         end = end;
         opening = opening;
-        ran = subst (λ (x : Sitting). EndsRun disk_of source_of sink_of CLASSES x new mid now from rest out after
-            end)
+        ran = subst (λ (x : Sitting). EndsRun disk_of source_of sink_of CLASSES x new mid now from rest out
+            after end)
             (is ∙ ap (λ (n : ℕ). new_sitting store n) at) ran;
         sound = sound;
         ended = ended;

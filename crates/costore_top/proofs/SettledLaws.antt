@@ -95,8 +95,8 @@ module _ (t : choice.Table) (file : List ℕ) (m : Map) (b : Book)
       let book = ap (λ (x : Book). book_end k x) o.same_book in
       omega (arith, opens_long CLASSES SIZE_MAX t file m b o, last_one, is, ends, book)
 
--- Where opening would have returned by now though no changing call was made, the file ends with its layout, and that
--- turn is the one in which the call began.
+-- Where opening would have returned by now though no changing call was made, the file ends with its layout,
+-- and that turn is the one in which the call began.
 pub record EndsWithLayout (t : choice.Table) (b : Book) (old : State) : Type 0 where
   pub same_turn : turn_opened t b old ≡ old.turn
   pub same_length : length old.file ≡ found_base t + book_end t.chosen.block.k b

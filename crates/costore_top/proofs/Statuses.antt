@@ -95,14 +95,15 @@ line_unless sink_of old mid new (Ok x) status is none told line = inl is
 line_unless {O} sink_of old mid new (Err why) status is none told line = elim none
     as (λ _. (status ≡ 0) ⊎ (status ≡ 7) ⊎ (status ≡ 9) ⊎ PutsLine status (sink_of old) new) [
       | inl disk ↦ inr (inl (is ∙ ap status_of disk))
-      | inr rest ↦ elim rest as (λ _. (status ≡ 0) ⊎ (status ≡ 7) ⊎ (status ≡ 9) ⊎ PutsLine status (sink_of old) new) [
-        | inl sink ↦ inr (inr (inl (is ∙ ap status_of sink)))
-        | inr same ↦ inr (inr (inr (record {
-          why = why;
-          same_status = is;
-          line = subst (λ (x : O). PutsLast (sink_of x).given new.given (line_of why)
-              (Rose (sink_of x).faults new.faults)) same
-              (line (subst (λ (x : O). IsTrue (sink_of x).tells) (sym same) told));
-        })))
-      ]
+      | inr rest ↦ elim rest as (λ _. (status ≡ 0) ⊎ (status ≡ 7) ⊎ (status ≡ 9) ⊎ PutsLine status
+          (sink_of old) new) [
+            | inl sink ↦ inr (inr (inl (is ∙ ap status_of sink)))
+            | inr same ↦ inr (inr (inr (record {
+              why = why;
+              same_status = is;
+              line = subst (λ (x : O). PutsLast (sink_of x).given new.given (line_of why)
+                  (Rose (sink_of x).faults new.faults)) same
+                  (line (subst (λ (x : O). IsTrue (sink_of x).tells) (sym same) told));
+            })))
+          ]
     ]

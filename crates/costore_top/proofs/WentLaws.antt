@@ -156,24 +156,25 @@ module _ (file : List ℕ) (old z : State) (from rest : SourceState) (out mid_ou
         → z.tells_images ≡ first.tells_images → z.last_mount ≡ first.last_mount → e.kept_turn ≡ z.turn
         → (status_at e.end ≡ 7 → Rose first.faults z.faults) → status_at e.end ≢ 0 → status_at e.end ≢ 3
         → status_at e.end ≢ 8 → status_at e.end ≢ 9 → rest ≡ from → mid_out ≡ out → same → Is e
-    unserved_there later turns told images stays turn rose zero three eight nine source sink is_same = record {
-      keeps = record {
-        later = omega (arith, calm, later);
-        rose = λ is. subst (λ (n : ℕ). Rose n z.faults) calm (rose is);
-        no_turn_back = omega (arith, mount.same_turn, turns);
-        told = told ∙ mount.told;
-        images_told = images ∙ mount.images_told;
-        source_later = omega (arith, ap (λ (x : SourceState). x.faults) source);
-        source_rose = λ is. absurd (eight is);
-        sink_later = omega (arith, ap (λ (x : SinkState). x.faults) sink);
-        sink_rose = λ is. absurd (nine is);
-        sink_calm = λ is. absurd (zero is);
-        sink_told = ap (λ (x : SinkState). x.tells) sink;
-      };
-      mounted = mounted_there stays three;
-      turn = turn_there stays (omega (arith, turn, turns)) (omega (arith, turn)) (λ is. turn);
-      unread = λ is. is_same;
-    }
+    unserved_there later turns told images stays turn rose zero three eight nine source sink is_same =
+        record {
+          keeps = record {
+            later = omega (arith, calm, later);
+            rose = λ is. subst (λ (n : ℕ). Rose n z.faults) calm (rose is);
+            no_turn_back = omega (arith, mount.same_turn, turns);
+            told = told ∙ mount.told;
+            images_told = images ∙ mount.images_told;
+            source_later = omega (arith, ap (λ (x : SourceState). x.faults) source);
+            source_rose = λ is. absurd (eight is);
+            sink_later = omega (arith, ap (λ (x : SinkState). x.faults) sink);
+            sink_rose = λ is. absurd (nine is);
+            sink_calm = λ is. absurd (zero is);
+            sink_told = ap (λ (x : SinkState). x.tells) sink;
+          };
+          mounted = mounted_there stays three;
+          turn = turn_there stays (omega (arith, turn, turns)) (omega (arith, turn)) (λ is. turn);
+          unread = λ is. is_same;
+        }
 
 -- the status of a file that isn't opened
 pub status_unopened : (why : OpenFault) → (status_of (stop_of why) ≡ 4) ⊎ (status_of (stop_of why) ≡ 7)

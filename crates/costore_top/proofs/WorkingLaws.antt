@@ -29,8 +29,8 @@ use Rattle.costore_top.specs.Working.{WorksAs}
 use Rattle.costore_top.specs.declared.stop.Stop.{Stop}
 use Rattle.costore_top.specs.declared.stop.Stop.TheVariants as stop
 use Rattle.costore_top.proofs.DidLaws.{no_line}
-use Rattle.costore_top.proofs.HeadlineLaws.{WhyUnopened, begins_itself, why_unopened}
-use Rattle.costore_top.proofs.HeadlineLaws.WhyUnopened.{disk, memory}
+use Rattle.costore_top.proofs.UnopenedLaws.{WhyUnopened, begins_itself, why_unopened}
+use Rattle.costore_top.proofs.UnopenedLaws.WhyUnopened.{disk, memory}
 use Rattle.costore_top.proofs.OpeningLemmas.{Opened, left_first, left_opening, opened_by, opens_first, rests_first, told_first}
 use Rattle.costore_top.proofs.Statuses.{Puts-front}
 use Rattle.costore_top.proofs.WorkLaws.{all_done, in_a_job, none_begun, none_done}

@@ -80,6 +80,7 @@ pub fn jobs_are_done<B: Bay, O: Sink>()
         → WorksSo status (B.state old) (B.state new) (O.state out) (O.state after)
         → IsMounted (work file number count) (B.state new).last_mount (status ≡ 7) (status ≡ 3)
         → (B.state new).last_mount ≡ mounted (work file number count) There
-        → IsCalm (B.state old).faults (B.state new).faults → IsCalm (O.state out).faults (O.state after).faults
+        → IsCalm (B.state old).faults (B.state new).faults
+        → IsCalm (O.state out).faults (O.state after).faults
         → (status ≡ 0) ⊎ (status ≡ 10) }
 {}

@@ -88,7 +88,8 @@ fn serve_from<D: Disk, I: Source, O: Sink>(
     output: &mut O,
 ) -> Ended
     requires ready { IsTrue (D.state disk.old).is_ready }
-    ensures { Went D.state I.state O.state disk.old disk.new input.old input.new output.old output.new result }
+    ensures { Went D.state I.state O.state disk.old disk.new input.old input.new output.old output.new
+        result }
 {
     let opened = Store::open(alloc, disk);
     let turn = disk.turns();

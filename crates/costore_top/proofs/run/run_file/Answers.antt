@@ -29,8 +29,8 @@ returns-clause-headline g c = λ told source t m b requests end o low asks.
     (g.O.Sink.state c.args.output.now) (g.O.Sink.state c.finish-outcome.new.output)) (sym status)
     (headline g.B.Disk.state g.I.Source.state g.O.Sink.state g.met.B.Disk.lawful c.args.bay.now
     c.serve_file-ended.new.bay c.args.input.now c.serve_file-ended.new.input c.args.output.now
-    c.serve_file-ended.new.output (g.O.Sink.state c.finish-outcome.new.output) told source t m b requests end o low
-    asks (run c.args.file.now) e c.serve_file-ended.ensures
+    c.serve_file-ended.new.output (g.O.Sink.state c.finish-outcome.new.output) told source t m b requests end
+    o low asks (run c.args.file.now) e c.serve_file-ended.ensures
     (line_after (g.B.Disk.state c.args.bay.now) (g.B.Disk.state c.serve_file-ended.new.bay)
     (g.I.Source.state c.args.input.now) (g.I.Source.state c.serve_file-ended.new.input)
     (g.O.Sink.state c.args.output.now) (g.O.Sink.state c.serve_file-ended.new.output)
@@ -99,9 +99,11 @@ returns-clause-serves g c =
       }) (HasMounted (g.B.Disk.state c.serve_file-ended.new.bay)) (g.B.Disk.state c.args.bay.now).turn
           (g.B.Disk.state c.serve_file-ended.new.bay).turn) (sym status) w.turn;
       unread = λ unserved. (w.unread (subst IsUnserved status unserved)).0;
-      untouched = λ is. untouched g.B.Disk.state g.I.Source.state g.O.Sink.state c.args.file.now c.args.bay.now
-          c.serve_file-ended.new.bay c.args.input.now c.serve_file-ended.new.input c.args.output.now
-          c.serve_file-ended.new.output e c.serve_file-ended.ensures (subst (λ n. (n ≡ 3) ⊎ (n ≡ 4)) status is);
+      untouched = λ is. untouched g.B.Disk.state g.I.Source.state g.O.Sink.state c.args.file.now
+          c.args.bay.now c.serve_file-ended.new.bay c.args.input.now c.serve_file-ended.new.input
+          c.args.output.now
+          c.serve_file-ended.new.output e c.serve_file-ended.ensures
+          (subst (λ n. (n ≡ 3) ⊎ (n ≡ 4)) status is);
       line_alone = λ told unserved. only_line (g.B.Disk.state c.args.bay.now)
           (g.B.Disk.state c.serve_file-ended.new.bay) (g.I.Source.state c.args.input.now)
           (g.I.Source.state c.serve_file-ended.new.input) (g.O.Sink.state c.args.output.now)
