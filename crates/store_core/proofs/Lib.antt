@@ -21,6 +21,8 @@ pub mod KeepLaws
 pub mod KeepEffectLaws
 pub mod FlushedLaws
 pub mod BeginLaws
+pub mod ChargedLaws
+pub mod StartingLaws
 pub mod BegunLaws
 pub mod FlyLaws
 pub mod FlushLaws
@@ -28,6 +30,7 @@ pub mod FlownLaws
 pub mod FlushDoneLaws
 pub mod ServeLaws
 pub mod OpeningLaws
+pub mod StillStoreLaws
 pub mod StillLaws
 pub mod MovingLaws
 pub mod GoingLaws

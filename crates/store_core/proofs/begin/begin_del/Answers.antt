@@ -1,7 +1,8 @@
 use Rattle.std.proofs.Common.{arith, lit<}
 use Rattle.segment_layout.specs.Layouts.{caps_of, divisor_of, grid_of}
 use Rattle.flush_run.specs.Parts.{parts_of}
-use Rattle.store_core.proofs.BegunLaws.{ChargesTo, del_begun, del_ready, old_small}
+use Rattle.store_core.proofs.ChargedLaws.{ChargesTo, old_small}
+use Rattle.store_core.proofs.BegunLaws.{del_begun, del_ready}
 use Rattle.store_core.proofs.begin.begin_del.Goals as goal
 
 pub charge_change-outcome-requires : goal.charge_change-outcome-requires

@@ -2,7 +2,8 @@ use Rattle.std.proofs.Common.{length, lit<}
 use Rattle.size_class.specs.Rows.{cells_of}
 use Rattle.segment_layout.specs.Layouts.{caps_of, divisor_of, grid_of}
 use Rattle.flush_run.specs.Parts.{parts_of}
-use Rattle.store_core.proofs.BegunLaws.{ChargesTo, old_small, placed_begun, placed_ends, placed_ready, room_for, waiting_begun, waiting_high, waiting_new, waiting_ready, waiting_some}
+use Rattle.store_core.proofs.ChargedLaws.{ChargesTo, old_small}
+use Rattle.store_core.proofs.BegunLaws.{placed_begun, placed_ends, placed_ready, room_for, waiting_begun, waiting_high, waiting_new, waiting_ready, waiting_some}
 use Rattle.store_core.proofs.begin.begin_put.Goals as goal
 
 pub charge_change-outcome-requires : goal.charge_change-outcome-requires

@@ -4,7 +4,8 @@ use Rattle.segment_layout.specs.Layouts.{caps_of}
 use Rattle.segment_layout.specs.Shapes.{end_of}
 use Rattle.slot_codec.specs.Spelling.{head_len}
 use Rattle.store_core.specs.Opened.{IsOpening}
-use Rattle.store_core.proofs.StillLaws.{still_done, still_failed, still_laid}
+use Rattle.store_core.proofs.StillStoreLaws.{still_laid}
+use Rattle.store_core.proofs.StillLaws.{still_done, still_failed}
 use Rattle.store_core.proofs.open.open_still.Goals as goal
 
 pub store_of-requires : goal.store_of-requires

@@ -1,0 +1,283 @@
+-- A flush begins once the name of its change is gone, and where the new object was placed or waits.
+use Rattle.std.specs.Prelude.{◌≡◌, ℕ, ◌+◌, ◌≤◌, true, false, List, [], ◌++◌, fold, length, Option, refl}
+use Rattle.std.proofs.Common.{arith, sym, ◌∙◌, ap, subst, inr}
+use Rattle.std.proofs.lemmas.List.{append-nil}
+use Rattle.std.specs.FinMap as fin
+use Rattle.size_class.specs.Classes.{class_of}
+use Rattle.size_class.specs.declared.TheConstants.{SIZE_MAX}
+use Rattle.slot_codec.specs.Names.{IsName}
+use Rattle.span_math.specs.declared.span.Span.{Span}
+use Rattle.segment_layout.specs.Books.{is_quiet, some_size, trigger}
+use Rattle.segment_layout.specs.Shapes.{boundary_of, end_of, is_boundary}
+use Rattle.extent_table.specs.declared.spot.Spot.{Spot}
+use Rattle.extent_table.specs.Extents.{Extents, Spots}
+use Rattle.spot_terms.specs.Held.{FreesSpot}
+use Rattle.spot_terms.specs.Quiet.{PlacedTo}
+use Rattle.spot_terms.specs.Reads.{read_at}
+use Rattle.spot_terms.proofs.EntryLaws.{insert-remove}
+use Rattle.plan_terms.specs.declared.item.Numbers.{Numbers}
+use Rattle.plan_terms.specs.Phases.{Phase}
+use Rattle.plan_terms.specs.Plans.{numbers_of}
+use Rattle.flush_run.specs.Flights.{Flight, IsFreeSpace}
+use Rattle.flush_run.specs.Hands.{suffix_items}
+use Rattle.flush_run.specs.Shelved.{phase_now}
+use Rattle.flush_plan.specs.Shelves.{course_of}
+use Rattle.flush_run.specs.Parts.{Parts}
+use Rattle.flush_start.specs.Charging.{between, charged_by, new_charged}
+use Rattle.flush_start.specs.Lifting.{BeginsLift}
+use Rattle.flush_start.specs.Starts.{CanStart, IsLoud, IsWith, IsWithout, WasBefore}
+use Rattle.flush_start.proofs.LiftStartLaws.{pending_high, pending_is_free, pending_lifts, pending_some, pending_starts, placed_free, placed_in_reach, placed_lifts, placed_starts, removed_lifts, removed_starts}
+use Rattle.flush_start.proofs.LooseLaws.{pending_loose, placed_loose, removed_loose}
+use Rattle.flush_start.proofs.ReachLaws.{reach_low, reach_past_wall, wall_past_end}
+use Rattle.flush_start.proofs.StartLaws.{placed_within}
+use Rattle.store_core.specs.Flushing.{IsBegun, IsStarted, MayBegin, Setting, book_before, flight_of}
+use Rattle.store_core.specs.Quiet.{added, del_of, put_of, sizes_at}
+
+module _ {classes : ℕ} {kept_grid : List (List ℕ)} {x0 : Parts} (may : MayBegin classes kept_grid x0)
+    (name : List ℕ) where
+  abbrev k : ℕ
+  k = x0.in_use.block.k
+
+  abbrev old : Option Spot
+  old = fin.get x0.table.now name
+
+  -- ---- once the name is gone
+
+  module _ (gone : Extents) (freed : List Span) (asked : List ℕ) (without : IsWithout name x0.table gone)
+      (frees : FreesSpot old (fin.get x0.table.kept name) x0.spans freed)
+      (after : List (List ℕ)) (b : ℕ) where
+    abbrev parts : Extents → Parts
+    parts e = record x0 { table = e; grid = after; spans = freed; asked = asked }
+
+    abbrev h : WasBefore classes SIZE_MAX x0.caps x0.grid kept_grid x0.in_use x0.table x0.spans
+    h = may.before
+
+    -- some setting, where none matters
+    abbrev some_setting : Setting
+    some_setting = record {
+      map = read_at 0 [] x0.table.now;
+      kept_map = read_at 0 [] x0.table.now;
+      kept_book = book_before classes x0;
+      is_at_rest = false;
+    }
+
+    -- ---- a removal
+
+    module _ (l : IsLoud k x0.caps x0.grid old 0 after b) where
+      abbrev numbers : Numbers
+      numbers = numbers_of k x0.caps b (suffix_items b gone) 0
+
+      abbrev del_flight : ℕ → Setting → Flight
+      del_flight reach g = flight_of classes x0 (del_of name) reach g
+
+      pub del_starts : CanStart classes SIZE_MAX x0.caps after kept_grid b x0.in_use gone freed
+      del_starts = removed_starts (del_flight 0 some_setting) x0.caps x0.grid kept_grid x0.in_use x0.table
+          x0.spans h may.base name after b gone without freed frees l
+
+      pub begun_removed : (p : Phase) → IsStarted b k x0.caps gone p
+          → asked ≡ fold added x0.asked (sizes_at old) → IsBegun classes x0 (del_of name) (parts gone) p 0
+      begun_removed p st sums =
+          let reach : p.numbers.reach ≡ numbers.reach = ap (λ (q : Phase). q.numbers.reach) st.value in
+          record {
+            lifts = λ g sized. subst (λ (q : Phase). BeginsLift (del_flight p.numbers.reach g) x0.caps after
+                x0.in_use gone freed q) (sym st.value)
+                (removed_lifts (del_flight p.numbers.reach g) x0.caps x0.grid kept_grid x0.in_use x0.table
+                x0.spans h may.base name after b gone without freed frees l reach g.map sized
+                refl);
+            loose = λ m sized balanced. removed_loose (del_flight p.numbers.reach some_setting) x0.caps
+                x0.grid kept_grid x0.in_use x0.table x0.spans h may.base name after b gone without
+                freed frees m sized
+                balanced l reach;
+            now = without.now;
+            free = record { live = λ q s there. inr (omega arith); held = λ q s there. inr (omega arith) };
+            within = omega arith;
+            longer = omega (
+              arith,
+              reach,
+              wall_past_end classes SIZE_MAX x0.caps after kept_grid b x0.in_use gone freed del_starts 0
+                  (omega arith),
+              reach_past_wall classes SIZE_MAX x0.caps after kept_grid b x0.in_use gone freed del_starts 0
+                  (omega arith),
+            );
+            low = omega (
+              arith,
+              reach,
+              reach_low classes SIZE_MAX x0.caps after kept_grid b x0.in_use gone freed del_starts
+                  0 (omega arith),
+            );
+            whole = subst (λ (q : Phase). is_boundary after q.numbers.boundary ≡ true) (sym st.value)
+                del_starts.boundary;
+            boundary = ap (λ (q : Phase). q.numbers.boundary) st.value ∙ l.boundary
+                ∙ ap (λ (g : List (List ℕ)). boundary_of g (trigger (charged_by k x0.caps x0.grid old 0)))
+                l.after_is;
+            divisor = may.divisor ∙ sym (ap (λ (q : Phase). q.k) st.value);
+            asked = sums ∙ ap (λ (xs : List ℕ). fold added x0.asked xs) (sym (append-nil (sizes_at old)));
+            kept = without.kept;
+            table = without.table;
+            names = without.names;
+            rest = refl;
+          }
+
+    -- ---- a put
+
+    module _ (is : IsName name) (object : List ℕ) (small : length object ≤ SIZE_MAX)
+        (l : IsLoud k x0.caps x0.grid old (length object) after b) where
+      abbrev size : ℕ
+      size = length object
+
+      abbrev spot_at : ℕ → Spot
+      spot_at place = record { place = place; size = size }
+
+      abbrev put_flight : ℕ → Setting → Flight
+      put_flight reach g = flight_of classes x0 (put_of name object) reach g
+
+      now_is : (place key : ℕ) (put : Extents) → IsWith name (spot_at place) key gone put
+          → put.now ≡ fin.insert x0.table.now name (spot_at place)
+      now_is place key put joins = joins.now
+          ∙ ap (λ (m : Spots). fin.insert m name (spot_at place)) without.now
+          ∙ insert-remove x0.table.now name (spot_at place)
+
+      free_is : (place : ℕ) → IsFreeSpace gone.now gone.kept place size
+          → IsFreeSpace (fin.remove x0.table.now name) x0.table.kept place size
+      free_is place free = subst (λ (m : Spots). IsFreeSpace (fin.remove x0.table.now name) m place size)
+          without.kept (subst (λ (m : Spots). IsFreeSpace m gone.kept place size) without.now free)
+
+      -- whose object found room
+
+      module _ (place : ℕ) (placed : PlacedTo k x0.caps (between k x0.caps x0.grid old) size
+          after place) where
+        pub put_starts : (key : ℕ) (put : Extents) → IsWith name (spot_at place) key gone put
+            → CanStart classes SIZE_MAX x0.caps after kept_grid b x0.in_use put freed
+        put_starts key put joins = placed_starts (put_flight 0 some_setting) x0.caps x0.grid kept_grid
+            x0.in_use x0.table x0.spans h may.base name after b gone without freed frees is object small l
+            place key placed
+            put joins
+
+        pub begun_placed : (key : ℕ) (put : Extents) → IsWith name (spot_at place) key gone put → (p : Phase)
+            → IsStarted b k x0.caps put p
+            → asked ≡ fold added x0.asked (sizes_at old ++ some_size size)
+            → IsBegun classes x0 (put_of name object) (parts put) p place
+        begun_placed key put joins p st sums =
+            let starts = put_starts key put joins in
+            let reach : p.numbers.reach ≡ (numbers_of k x0.caps b (suffix_items b put) 0).reach =
+            ap (λ (q : Phase). q.numbers.reach) st.value in
+            record {
+              lifts = λ g sized. subst (λ (q : Phase). BeginsLift (put_flight p.numbers.reach g) x0.caps after
+                  x0.in_use put freed q) (sym st.value)
+                  (placed_lifts (put_flight p.numbers.reach g) x0.caps x0.grid kept_grid x0.in_use x0.table
+                  x0.spans h may.base name after b gone without freed frees is object small l place key placed
+                  put joins reach g.map sized refl);
+              loose = λ m sized balanced. placed_loose (put_flight p.numbers.reach some_setting) x0.caps
+                  x0.grid kept_grid x0.in_use x0.table x0.spans h may.base name after b gone without
+                  freed frees m sized
+                  balanced is object small l place key placed put joins reach;
+              now = now_is place key put joins;
+              free = free_is place (placed_free (put_flight 0 some_setting) x0.caps x0.grid kept_grid
+                  x0.in_use x0.table x0.spans h may.base name after b gone without freed frees is object small
+                  l place key placed put joins);
+              within = omega (
+                arith,
+                reach,
+                placed_in_reach (put_flight 0 some_setting) x0.caps x0.grid kept_grid x0.in_use x0.table
+                    x0.spans h may.base name after b gone without freed frees is object small l place key
+                    placed put joins,
+              );
+              longer = omega (
+                arith,
+                reach,
+                wall_past_end classes SIZE_MAX x0.caps after kept_grid b x0.in_use put freed starts
+                    0 (omega arith),
+                reach_past_wall classes SIZE_MAX x0.caps after kept_grid b x0.in_use put freed starts 0
+                    (omega arith),
+              );
+              low = omega (
+                arith,
+                reach,
+                reach_low classes SIZE_MAX x0.caps after kept_grid b x0.in_use put freed starts
+                    0 (omega arith),
+              );
+              whole = subst (λ (q : Phase). is_boundary after q.numbers.boundary ≡ true) (sym st.value)
+                  starts.boundary;
+              boundary = ap (λ (q : Phase). q.numbers.boundary) st.value ∙ l.boundary
+                  ∙ ap (λ (g : List (List ℕ)). boundary_of g
+                  (trigger (charged_by k x0.caps x0.grid old size)))
+                  l.after_is;
+              divisor = may.divisor ∙ sym (ap (λ (q : Phase). q.k) st.value);
+              asked = sums;
+              kept = joins.kept ∙ without.kept;
+              table = joins.table;
+              names = joins.names ∙ without.names;
+              rest = refl;
+            }
+
+        -- it ends where the layout does, or before
+        pub placed_low : place + size ≤ end_of k x0.caps
+        placed_low = placed_within classes SIZE_MAX x0.caps x0.grid kept_grid x0.in_use x0.table x0.spans h
+            name size place after placed
+
+      -- whose object waits
+
+      module _ (missed : is_quiet (new_charged k x0.caps (between k x0.caps x0.grid old) size) ≡ false) where
+        pub wait_starts : CanStart classes SIZE_MAX x0.caps after kept_grid b x0.in_use gone freed
+        wait_starts = pending_starts (put_flight 0 some_setting) x0.caps x0.grid kept_grid x0.in_use x0.table
+            x0.spans h may.base name after b gone without freed frees is object small l missed
+
+        pub wait_some : 1 ≤ size
+        wait_some = pending_some (put_flight 0 some_setting) x0.caps x0.grid kept_grid x0.in_use x0.table
+            x0.spans h may.base name after b gone without freed frees is object small l missed
+
+        pub wait_high : b ≤ class_of size
+        wait_high = pending_high (put_flight 0 some_setting) x0.caps x0.grid kept_grid x0.in_use x0.table
+            x0.spans h may.base name after b gone without freed frees is object small l missed
+
+        pub begun_waiting : (place key : ℕ) (put : Extents) → IsWith name (spot_at place) key gone put
+            → (p : Phase) → p ≡ phase_now (course_of k x0.caps (numbers_of k x0.caps b
+            (suffix_items b gone) size) size) put
+            → place + size ≡ p.numbers.reach
+            → asked ≡ fold added x0.asked (sizes_at old ++ some_size size)
+            → IsBegun classes x0 (put_of name object) (parts put) p place
+        begun_waiting place key put joins p value ends sums =
+            let reach : p.numbers.reach ≡ (numbers_of k x0.caps b (suffix_items b gone) size).reach =
+            ap (λ (q : Phase). q.numbers.reach) value in
+            record {
+              lifts = λ g sized. subst (λ (q : Phase). BeginsLift (put_flight p.numbers.reach g) x0.caps after
+                  x0.in_use put freed q) (sym value)
+                  (pending_lifts (put_flight p.numbers.reach g) x0.caps x0.grid kept_grid x0.in_use x0.table
+                  x0.spans h may.base name after b gone without freed frees is object small l missed place
+                  reach ends key put joins g.map sized refl);
+              loose = λ m sized balanced. pending_loose (put_flight p.numbers.reach some_setting) x0.caps
+                  x0.grid kept_grid x0.in_use x0.table x0.spans h may.base name after b gone without
+                  freed frees m sized
+                  balanced is object small l missed place reach ends key put joins;
+              now = now_is place key put joins;
+              free = free_is place (pending_is_free (put_flight p.numbers.reach some_setting) x0.caps x0.grid
+                  kept_grid x0.in_use x0.table x0.spans h may.base name after b gone without freed frees is
+                  object small l missed place reach ends);
+              within = omega (arith, ends);
+              longer = omega (
+                arith,
+                reach,
+                wall_past_end classes SIZE_MAX x0.caps after kept_grid b x0.in_use gone freed
+                    wait_starts size small,
+                reach_past_wall classes SIZE_MAX x0.caps after kept_grid b x0.in_use gone freed wait_starts
+                    size small,
+              );
+              low = omega (
+                arith,
+                reach,
+                reach_low classes SIZE_MAX x0.caps after kept_grid b x0.in_use gone freed
+                    wait_starts size small,
+              );
+              whole = subst (λ (q : Phase). is_boundary after q.numbers.boundary ≡ true) (sym value)
+                  wait_starts.boundary;
+              boundary = ap (λ (q : Phase). q.numbers.boundary) value ∙ l.boundary
+                  ∙ ap (λ (g : List (List ℕ)). boundary_of g
+                  (trigger (charged_by k x0.caps x0.grid old size)))
+                  l.after_is;
+              divisor = may.divisor ∙ sym (ap (λ (q : Phase). q.k) value);
+              asked = sums;
+              kept = joins.kept ∙ without.kept;
+              table = joins.table;
+              names = joins.names ∙ without.names;
+              rest = refl;
+            }
