@@ -6,7 +6,7 @@ use Rattle.std.proofs.lemmas.List.Sums.{sum_by-cons}
 use Rattle.size_class.specs.Classes.{width}
 use Rattle.segment_layout.specs.Shapes.{end_of, start_of}
 use Rattle.plan_terms.specs.declared.item.Item.{Item}
-use Rattle.plan_terms.specs.Phases.{AreObjects, CanFlush}
+use Rattle.plan_terms.specs.Phases.{CanFlush}
 use Rattle.plan_terms.specs.Plans.{class_total, in_class, laid_length, numbers_of, object_of, stands_in_payload, total}
 use Rattle.plan_terms.proofs.FinalLaws.{class_total_is}
 use Rattle.plan_terms.proofs.LargestLaws.{largest-permuted}
@@ -26,14 +26,6 @@ module _ (xs ys : List Item) (same : IsPermutation xs ys) where
     class = λ it has. flush.class it (back it has);
     from = λ it has. flush.from it (back it has);
     stands = λ it has. flush.stands it (back it has);
-  }
-
-  pub objects_permuted : (b : ℕ) → AreObjects b xs → AreObjects b ys
-  objects_permuted b are = record {
-    apart = apart_permuted xs ys same are.apart;
-    some = λ it has. are.some it (back it has);
-    class = λ it has. are.class it (back it has);
-    from = λ it has. are.from it (back it has);
   }
 
   class_with : (size d : ℕ) → class_total (object_of size ∷ ys) d ≡ class_total (object_of size ∷ xs) d

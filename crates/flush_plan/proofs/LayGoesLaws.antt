@@ -8,7 +8,7 @@ use Rattle.plan_terms.specs.declared.item.Move.{Move}
 use Rattle.plan_terms.specs.declared.item.Numbers.{Numbers}
 use Rattle.plan_terms.specs.Plans.{AreBelow, class_total, IsLaid, IsPacked, IsNextLay, ItemsCanResume, laid_length, mover, relocated, sizes_before, weight}
 use Rattle.plan_terms.specs.Phases.{AreItems, AreLaying, IsLaidWhole, IsLaying, IsPackedWhole, moved_by, Phase}
-use Rattle.plan_terms.specs.LaidSoFar.{ArePlaces}
+use Rattle.plan_terms.specs.Segments.{ArePlaces}
 use Rattle.plan_terms.specs.Steps.{IsLayStep}
 use Rattle.plan_terms.proofs.ItemLaws.{total_is, weight_moves}
 use Rattle.plan_terms.proofs.PlaceLaws.{segments_same}

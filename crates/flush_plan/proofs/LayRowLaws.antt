@@ -8,12 +8,11 @@ use Rattle.plan_terms.specs.declared.item.Item.{Item}
 use Rattle.plan_terms.specs.declared.item.Numbers.{Numbers}
 use Rattle.plan_terms.specs.Plans.{AreBelow, class_total, laid_length, relocated, segments_length}
 use Rattle.plan_terms.specs.Phases.{IsPackedWhole}
-use Rattle.plan_terms.specs.LaidSoFar.{ArePlaces}
+use Rattle.plan_terms.specs.Segments.{ArePlaces}
 use Rattle.plan_terms.proofs.FinalLaws.{laid_length_class, laid_length_split}
 use Rattle.plan_terms.proofs.PlaceLaws.{segments_same, totals_low}
 use Rattle.plan_terms.proofs.SettledLaws.{class_total_none}
-use Rattle.plan_terms.proofs.SortLaws.{class_total_permuted}
-use Rattle.plan_terms.proofs.StartLaws.{below_permuted}
+use Rattle.plan_terms.proofs.SortLaws.{below_permuted, class_total_permuted}
 use Rattle.flush_plan.specs.Shelves.{from_place, IsFirstOf, phase_on}
 use Rattle.flush_plan.specs.Packs.{KeepsPacking, Pack, Packs}
 use Rattle.flush_plan.specs.Lays.{IsNextClass, KeepsLaying, Lay}
@@ -71,7 +70,7 @@ module _ (C : ℕ) (v : Pack) (items xs : List Item) (packs : Packs C v items xs
   keeps = packs.keeps
 
   pub shelf_below : AreBelow C suffix
-  shelf_below = below_permuted C v.course.numbers items suffix packs.on.same keeps.classes
+  shelf_below = below_permuted items suffix packs.on.same C keeps.classes
 
   pub shelf_totals : (it : Item) → Contains suffix it → class_total suffix it.class < 2 ^ 64
   shelf_totals it has = omega (

@@ -16,14 +16,13 @@ use Rattle.plan_terms.specs.Steps.{IsLiftStep}
 use Rattle.plan_terms.proofs.BeginLaws.{begun, begun_below, begun_small, HasBegun, push_each}
 use Rattle.plan_terms.proofs.ItemLaws.{after_is, same_or_apart}
 use Rattle.plan_terms.proofs.LargestLaws.{largest-permuted}
-use Rattle.plan_terms.proofs.LiftLaws.{lift_ends_before, lift_past, lifted_after, payload_parts, start_of-rises}
+use Rattle.plan_terms.proofs.LiftLaws.{lift_ends_before, lift_past, lifted_after, lifted_in_none, payload_parts, start_of-rises}
 use Rattle.plan_terms.proofs.PhaseLaws.{below_after, lifting_moved, small_after}
-use Rattle.plan_terms.proofs.SortLaws.{items_permuted, lifted_permuted, lifting_permuted, suits_permuted, total_permuted}
-use Rattle.plan_terms.proofs.StartLaws.{below_permuted, lifted_in_none, small_permuted}
+use Rattle.plan_terms.proofs.SortLaws.{below_permuted, items_permuted, lifted_permuted, lifting_permuted, small_permuted, suits_permuted, total_permuted}
 use Rattle.plan_terms.proofs.StepLaws.{lift_step}
 use Rattle.flush_plan.specs.Lifts.{ArePassed, IsFirstUnlifted, KeepsLifting, Lift, Lifts}
 use Rattle.flush_plan.specs.Shelves.{Course, course_of, IsRank, phase_on}
-use Rattle.flush_plan.proofs.ShelfLaws.{few_items, first_is_least, first_item, none_is_left}
+use Rattle.flush_plan.proofs.ShelfLaws.{first_is_least, first_item, none_is_left}
 
 -- the value of Lift at a place, with the next target
 abbrev pub lift_at : Course → ℕ → ℕ → Lift
@@ -233,7 +232,7 @@ module _ (C k : ℕ) (caps : List ℕ) (n : Numbers) (items : List Item) (pendin
       (IsPermutation-sym (with_pending items pending) all same) there
 
   small : AreSmall n all
-  small = small_permuted C n (with_pending items pending) all same
+  small = small_permuted (with_pending items pending) all same n
       (begun_small k caps n items pending high begins)
 
   lifting : IsLifting (phase_on course all)
@@ -251,7 +250,6 @@ module _ (C k : ℕ) (caps : List ℕ) (n : Numbers) (items : List Item) (pendin
           ap (λ bytes. bytes / k) (total_permuted before all same (stands_below (phase_on course all))),
         );
         classes = has.classes;
-        room = few_items n all are small.1;
       }
 
   pub lift_begins : KeepsLifting C (lift_at course n.start n.wall) all
@@ -261,7 +259,7 @@ module _ (C k : ℕ) (caps : List ℕ) (n : Numbers) (items : List Item) (pendin
         boundary = omega (arith, boundary);
         divisor = divisor;
         lifting = lifting;
-        classes = below_permuted C n (with_pending items pending) all same
+        classes = below_permuted (with_pending items pending) all same C
             (begun_below C k caps n items pending row class begins);
         small = small;
         stands = λ it there low. begun_stands k caps n items pending begins it (back it there) low;

@@ -1,8 +1,6 @@
 -- How Pack goes on, move by move, and where it begins and ends.
-use Rattle.std.specs.Prelude.{◌≡◌, ◌≢◌, ℕ, ◌+◌, ◌-◌, ◌^◌, ◌<◌, ◌≤◌, nat_le, List, length, Contains, refl}
+use Rattle.std.specs.Prelude.{◌≡◌, ◌≢◌, ℕ, ◌+◌, ◌-◌, ◌^◌, ◌<◌, ◌≤◌, List, Contains, refl}
 use Rattle.std.proofs.Common.{arith, ap, subst, inl, inr}
-use Rattle.std.proofs.lemmas.List.Sorted.{length_permutation}
-use Rattle.std.proofs.lemmas.List.Sums.{count_by-le-length, length-filter}
 use Rattle.size_class.specs.Classes.{width}
 use Rattle.segment_layout.specs.Shapes.{start_of}
 use Rattle.plan_terms.specs.declared.item.Item.{Item}
@@ -13,7 +11,7 @@ use Rattle.plan_terms.specs.Phases.{AreItems, IsLifted, IsLifting, IsPackedWhole
 use Rattle.plan_terms.specs.Steps.{IsPackStep}
 use Rattle.plan_terms.proofs.PhaseLaws.{below_after, packing_begins, packing_moved, packing_resumes, small_after}
 use Rattle.plan_terms.proofs.StepLaws.{pack_step}
-use Rattle.flush_plan.specs.Shelves.{Course, course_of, from_place, IsLastBefore, phase_on}
+use Rattle.flush_plan.specs.Shelves.{Course, course_of, IsLastBefore, phase_on}
 use Rattle.flush_plan.specs.Packs.{CanGoOn, IsPackedFrom, KeepsPacking, Pack, Packs}
 use Rattle.flush_plan.proofs.PackStepLaws.{alone_at_top, ends_before_top, over_is_row, pack_loosens, pack_moves, pack_next, pack_stays, packed_from_wall}
 
@@ -159,36 +157,26 @@ module _ (C k : ℕ) (caps : List ℕ) (n : Numbers) (items shelf : List Item)
         let same = alone_at_top k n items again_items can.resumes top down m last it has less ends in
         differ (omega (arith, ends, ap (λ (x : Item). x.place) same, ap (λ (x : Item). x.size) same))
 
-  module _ (fits : C ≤ width) (boundary : n.boundary < C) (divisor : 2 ≤ k) (few : length shelf ≤ 2 ^ 64)
-    where
-      abbrev course : Course
-      course = course_of k caps n 0
+  module _ (fits : C ≤ width) (boundary : n.boundary < C) (divisor : 2 ≤ k) where
+    abbrev course : Course
+    course = course_of k caps n 0
 
-      few_items : length items ≤ 2 ^ 64
-      few_items = omega (
-        arith,
-        few,
-        length_permutation items (from_place n.start shelf) can.on.same,
-        length-filter (λ (it : Item). nat_le n.start it.place) shelf,
-        count_by-le-length (λ (it : Item). nat_le n.start it.place) shelf,
-      )
-
-      pub pack_from : (top : ℕ) → IsPackedFrom n items top
-          → ((it : Item) → Contains items it → it.place < top → it.place + it.size ≢ top)
-          → KeepsPacking C (pack_at course top) items
-      pack_from top down loose =
-          record {
-            fits = fits;
-            boundary = omega (arith, boundary);
-            divisor = divisor;
-            packing = packing_resumes (phase_on course items) can.objects can.resumes
-                (record { boundary = omega (arith, boundary, fits); start = can.start; end = can.end })
-                can.reaches few_items;
-            classes = can.classes;
-            small = can.small;
-            from_top = down;
-            loose = loose;
-          }
+    pub pack_from : (top : ℕ) → IsPackedFrom n items top
+        → ((it : Item) → Contains items it → it.place < top → it.place + it.size ≢ top)
+        → KeepsPacking C (pack_at course top) items
+    pack_from top down loose =
+        record {
+          fits = fits;
+          boundary = omega (arith, boundary);
+          divisor = divisor;
+          packing = packing_resumes (phase_on course items) can.objects can.resumes
+              (record { boundary = omega (arith, boundary, fits); start = can.start; end = can.end })
+              can.reaches;
+          classes = can.classes;
+          small = can.small;
+          from_top = down;
+          loose = loose;
+        }
 
 -- A flush that is interrupted in Pack can go on over the same shelf.
 pub can_go_on : (C k : ℕ) (caps : List ℕ) (v : Pack) (items shelf : List Item) → Packs C v items shelf

@@ -7,12 +7,11 @@ use Rattle.plan_terms.specs.declared.item.Move.{Move}
 use Rattle.plan_terms.specs.declared.item.Numbers.{Numbers}
 use Rattle.plan_terms.specs.Plans.{is_below_wall, IsNextPack, IsPacked, ItemsCanResume, mover, relocated, sizes_over, weight}
 use Rattle.plan_terms.specs.Phases.{AreItems}
-use Rattle.plan_terms.specs.PackedSoFar.{is_from}
 use Rattle.plan_terms.proofs.ListLaws.{sum_by_more_in, sum_by_none_in, sum_by_same_in}
 use Rattle.plan_terms.proofs.ItemLaws.{after_is, items_within, same_or_apart, target, total_is, weight_moves}
 use Rattle.plan_terms.proofs.PackLaws.{over, over_before, over_counts, over_other, over_past, pack_far, sizes_over_is, target_packed}
 use Rattle.flush_plan.specs.Shelves.{IsLastBefore}
-use Rattle.flush_plan.specs.Packs.{IsPackedFrom}
+use Rattle.flush_plan.specs.Packs.{is_from, IsPackedFrom}
 
 abbrev from_place : Numbers → ℕ → Item → ℕ
 from_place n place it = cond (is_from n place it) it.size 0

@@ -1,17 +1,13 @@
 -- The objects of a shelf by rank and by place, and the items of a flush among them.
-use Rattle.std.specs.Prelude.{◌≡◌, ℕ, zero, suc, ◌+◌, ◌-◌, ◌<◌, ◌≤◌, nat_le, ◌==◌, Bool, true, List, [], ◌∷◌, length, drop, filter, slice_get, slice_index_or, cond, ◌^◌, Some, Contains, refl, sum_by}
+use Rattle.std.specs.Prelude.{◌≡◌, ℕ, zero, suc, ◌+◌, ◌-◌, ◌<◌, ◌≤◌, nat_le, ◌==◌, Bool, true, List, [], ◌∷◌, length, drop, filter, slice_get, Some, Contains, refl}
 use Rattle.std.proofs.Common.{arith, sym, ◌∙◌, ap, subst, inl, inr}
 use Rattle.std.proofs.lemmas.Bool.{both_ways, cases_Bool, cases_order, cond-true, cond-false, le-leb, leb-true, lt-leb}
 use Rattle.std.proofs.lemmas.List.{length-drop}
-use Rattle.std.proofs.lemmas.List.Sorted.{Contains-permutation, IsPermutation-sym, sum_by-IsPermutation}
-use Rattle.std.proofs.lemmas.List.Sums.{sum_by-cons}
-use Rattle.std.proofs.lemmas.Option.{get_or_from_slice_get, slice_get-get_or, slice_get_within, same_Some}
-use Rattle.segment_layout.proofs.ApartLaws.{ArePairsApart, pairs_from_places}
+use Rattle.std.proofs.lemmas.List.Sorted.{Contains-permutation, IsPermutation-sym}
+use Rattle.std.proofs.lemmas.Option.{get_or_from_slice_get, slice_get_within, same_Some}
 use Rattle.plan_terms.specs.declared.item.Item.{Item}
-use Rattle.plan_terms.specs.declared.item.Numbers.{Numbers}
-use Rattle.plan_terms.specs.Phases.{AreItems}
 use Rattle.plan_terms.specs.Plans.{AreBelow, class_total, total}
-use Rattle.plan_terms.proofs.ListLaws.{contains_cases, contains_here, apart_in, contains_later, got_at, sizes-permuted}
+use Rattle.plan_terms.proofs.ListLaws.{contains_cases, contains_here, contains_later, got_at, sizes-permuted}
 use Rattle.flush_plan.specs.Shelves.{from_place, IsOnShelf, IsRank, IsShelf}
 
 -- ---- what a filter leaves
@@ -61,16 +57,6 @@ module _ (xs : List Item) (rises : IsShelf xs) where
       → a.place < b.place
   places_rise i j a b less at_i at_j =
       omega (arith, rises.rising i j a b less at_i at_j, rises.some a (got_has xs i a at_i))
-
-  pub ranks_rise : (i j : ℕ) (a b : Item) → slice_get xs i ≡ Some a → slice_get xs j ≡ Some b
-      → a.place < b.place → i < j
-  ranks_rise i j a b at_i at_j less = elim (cases_order i j) [
-    | inl e ↦
-        let same : a ≡ b = same_Some a b (sym at_i ∙ ap (slice_get xs) e ∙ at_j) in
-        absurd (omega (arith, less, ap (λ (x : Item). x.place) same))
-    | inr (inl before) ↦ before
-    | inr (inr behind) ↦ absurd (omega (arith, less, places_rise j i b a behind at_j at_i))
-  ]
 
   -- two objects at one place are one
   pub place_is_one : (a b : Item) → Contains xs a → Contains xs b → a.place ≡ b.place → a ≡ b
@@ -225,10 +211,6 @@ module _ (start : ℕ) (items xs : List Item) (on : IsOnShelf start items xs) wh
     pub none_is_left : length xs ≤ rank → (it : Item) → Contains items it → it.place < place
     none_is_left ended it has = rank_none xs on.rises place rank is ended it (item_on_shelf it has).0
 
-  -- sums over the items, and the sizes of those that pass a test, are those of the shelf from the start on
-  pub sum_on_shelf : (f : Item → ℕ) → sum_by f (from_place start xs) ≡ sum_by f items
-  sum_on_shelf f = sum_by-IsPermutation f items (from_place start xs) on.same
-
   pub total_on_shelf : (q : Item → Bool) → total (filter q (from_place start xs)) ≡ total (filter q items)
   total_on_shelf q =
       sizes-permuted (λ it. it.place) (λ it. it.size) q items (from_place start xs) on.same
@@ -238,32 +220,3 @@ module _ (start : ℕ) (items xs : List Item) (on : IsOnShelf start items xs) wh
 
   pub below_on_shelf : (C : ℕ) → AreBelow C items → AreBelow C (from_place start xs)
   below_on_shelf C classes it has = classes it (among_items it has)
-
--- ---- items of at least a byte each, no two of which share one, are no more than the places
-
-ones : (xs : List Item) → sum_by (λ (it : Item). cond true 1 0) xs ≡ length xs
-ones [] = refl
-ones (x ∷ xs) = omega (arith, sum_by-cons (λ (it : Item). cond true 1 0) x xs, ones xs)
-
-pub few_items : (n : Numbers) (items : List Item) → AreItems n items
-    → ((it : Item) → Contains items it → it.place < 2 ^ 64) → length items ≤ 2 ^ 64
-few_items n [] are small = omega arith
-few_items n (x ∷ xs) are small =
-    omega (
-      arith,
-      ones (x ∷ xs),
-      apart_in (λ (it : Item). it.place) (λ (it : Item). 1) (λ (it : Item). true) 0 (2 ^ 64) (x ∷ xs) pairs
-          (omega arith) (λ it has is. (omega arith, omega (arith, small it has))),
-    )
-  where
-    pairs : ArePairsApart (λ (it : Item). it.place) (λ (it : Item). 1) (x ∷ xs)
-    pairs = pairs_from_places (λ (it : Item). it.place) (λ (it : Item). 1) x (x ∷ xs) (λ i h less within.
-        let a = slice_index_or (x ∷ xs) h x in
-        let b = slice_index_or (x ∷ xs) i x in
-        let at_a : slice_get (x ∷ xs) h ≡ Some a =
-        slice_get-get_or (x ∷ xs) h x (omega (arith, less, within)) in
-        let at_b : slice_get (x ∷ xs) i ≡ Some b = slice_get-get_or (x ∷ xs) i x within in
-        elim (are.apart h i a b less at_a at_b).bytes [
-          | inl e ↦ inr (inr (inl (omega (arith, e, are.some a (got_has (x ∷ xs) h a at_a)))))
-          | inr e ↦ inr (inr (inr (omega (arith, e, are.some b (got_has (x ∷ xs) i b at_b)))))
-        ])

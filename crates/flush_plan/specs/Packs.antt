@@ -1,18 +1,21 @@
 -- How far Pack has come: what stands below the wall from a place on is packed.
-use Rattle.std.specs.Prelude.{◌≡◌, ◌≢◌, ℕ, ◌+◌, ◌<◌, ◌≤◌, List, Contains, filter}
+use Rattle.std.specs.Prelude.{◌≡◌, ◌≢◌, ℕ, ◌+◌, ◌<◌, ◌≤◌, nat_le, ◌&&◌, Bool, List, Contains, filter}
 use Rattle.size_class.specs.Classes.{width}
 use Rattle.segment_layout.specs.Shapes.{start_of}
 use Rattle.plan_terms.specs.declared.item.Item.{Item}
 use Rattle.plan_terms.specs.declared.item.Numbers.{Numbers}
-use Rattle.plan_terms.specs.Plans.{AreBelow, AreSmall, IsPacked, ItemsCanResume, laid_length, total}
+use Rattle.plan_terms.specs.Plans.{AreBelow, AreSmall, is_below_wall, IsPacked, ItemsCanResume, laid_length, total}
 use Rattle.plan_terms.specs.Phases.{AreObjects, IsPacking}
-use Rattle.plan_terms.specs.PackedSoFar.{is_from}
 use Rattle.flush_plan.specs.Shelves.{Course, IsOnShelf, phase_on}
 
 -- the value of Pack: the place from which all is packed
 pub record Pack : Type 0 where
   pub course : Course
   pub top : ℕ
+
+-- an item below the wall stands at a place or behind it
+abbrev pub is_from : Numbers → ℕ → Item → Bool
+is_from n place it = is_below_wall n it && nat_le place it.place
 
 -- the items below the wall from a place on are packed, and fill the range to the wall
 pub record IsPackedFrom (n : Numbers) (items : List Item) (top : ℕ) : Type 0 where

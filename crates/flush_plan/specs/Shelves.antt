@@ -1,5 +1,5 @@
 -- Objects on a shelf, by rising place, and the items of a flush among them.
-use Rattle.std.specs.Prelude.{◌≡◌, ◌≢◌, ℕ, ◌+◌, ◌^◌, ◌<◌, ◌≤◌, nat_le, List, length, filter, slice_get, Some, Contains, IsPermutation}
+use Rattle.std.specs.Prelude.{◌≡◌, ◌≢◌, ℕ, ◌+◌, ◌<◌, ◌≤◌, nat_le, List, length, filter, slice_get, Some, Contains, IsPermutation}
 use Rattle.plan_terms.specs.declared.item.Item.{Item}
 use Rattle.plan_terms.specs.declared.item.Numbers.{Numbers}
 use Rattle.plan_terms.specs.Phases.{Phase, phase_of}
@@ -53,4 +53,4 @@ course_of k caps numbers pending = record { k = k; caps = caps; numbers = number
 
 -- the phase over its items, which are kept in no list
 abbrev pub phase_on : Course → List Item → Phase
-phase_on c items = phase_of c.k c.caps c.numbers c.pending items (2 ^ 64)
+phase_on c items = phase_of c.k c.caps c.numbers c.pending items

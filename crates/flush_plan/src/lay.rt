@@ -35,7 +35,7 @@ pub struct Laying<const C: usize> {
 impl<const C: usize> Model for Laying<C> {
     ghost use Rattle.std.specs.Prelude.{slice_index};
     ghost use Rattle.size_class.specs.Rows.{cells_of};
-    ghost use Rattle.plan_terms.specs.LaidSoFar.{ArePlaces};
+    ghost use Rattle.plan_terms.specs.Segments.{ArePlaces};
     ghost use Rattle.flush_plan.specs.Shelves.{course_of};
     ghost use Rattle.flush_plan.specs.Lays.{Lay};
 

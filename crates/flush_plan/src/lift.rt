@@ -34,7 +34,7 @@ pub struct Lifting<const C: usize> {
 
 impl<const C: usize> Model for Lifting<C> {
     ghost use Rattle.size_class.specs.Rows.{cells_of};
-    ghost use Rattle.plan_terms.specs.LiftedSoFar.{AreStarts};
+    ghost use Rattle.plan_terms.specs.Segments.{AreStarts};
     ghost use Rattle.flush_plan.specs.Shelves.{course_of};
     ghost use Rattle.flush_plan.specs.Lifts.{Lift};
 

@@ -125,8 +125,8 @@ module _ (k : ℕ) (caps : List ℕ) (b : ℕ) (items : List Item) (flush : CanF
     stands it = is_below_wall n it && stands_in_payload k caps it
 
     -- the slack pays for what stands in payload segments
-    pub pays_all : PaysFor (phase_of k caps n pending.size all 0)
-        (payload_bytes (phase_of k caps n pending.size all 0))
+    pub pays_all : PaysFor (phase_of k caps n pending.size all)
+        (payload_bytes (phase_of k caps n pending.size all))
     pays_all = omega (arith, most, ap (λ bytes. bytes / k) same)
       where
         most : largest_of all 0 ≤ largest_of items pending.size
@@ -148,7 +148,7 @@ module _ (k : ℕ) (caps : List ℕ) (b : ℕ) (items : List Item) (flush : CanF
           | inr none ↦ omega (arith, none, cond_at_most (stands pending) pending.size)
         ]
 
-        same : payload_bytes (phase_of k caps n pending.size all 0)
+        same : payload_bytes (phase_of k caps n pending.size all)
             ≡ total (filter (stands_in_payload k caps) items)
         same = omega (
           arith,
@@ -210,8 +210,8 @@ module _ (k : ℕ) (caps : List ℕ) (b : ℕ) (items : List Item) (flush : CanF
     pub suits_begin : b ≤ width → SuitsLayout k caps n all
     suits_begin low = suits_all all sums only (λ x. class) (λ x. place) low
 
-    pub pays_begin : PaysFor (phase_of k caps n pending.size all 0)
-        (payload_bytes (phase_of k caps n pending.size all 0))
+    pub pays_begin : PaysFor (phase_of k caps n pending.size all)
+        (payload_bytes (phase_of k caps n pending.size all))
     pays_begin = pays_all all sums only (λ x. class) (λ x. place)
 
     pub none_lifted : lifted_bytes n pending.size all ≡ 0
@@ -287,7 +287,7 @@ pub record HasBegun (k : ℕ) (caps : List ℕ) (n : Numbers) (pending : ℕ) (a
   pub items : AreItems n all
   pub layout : SuitsLayout k caps n all
   pub lifting : AreLifting k caps n pending all
-  pub pays : PaysFor (phase_of k caps n pending all 0) (payload_bytes (phase_of k caps n pending all 0))
+  pub pays : PaysFor (phase_of k caps n pending all) (payload_bytes (phase_of k caps n pending all))
   pub classes : length caps ≡ width
   pub none : lifted_bytes n pending all ≡ 0
 

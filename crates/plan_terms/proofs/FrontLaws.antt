@@ -163,9 +163,6 @@ module _ (p : Phase) (is : IsLaying p) (mv : Move) (next : IsNextLay p.k p.numbe
       | inr is_packed ↦ is_packed
     ]
 
-    low_side : u.place + u.size ≤ n.wall
-    low_side = omega (arith, packed)
-
     at_least : sizes_over n p.items u.place + u.size ≤ weight (from_place u) p.items
     unfolding from_place
     at_least = omega (

@@ -8,14 +8,10 @@ pub mod LargestLaws
 pub mod LayKeepsLaws
 pub mod LayLaws
 pub mod LiftLaws
-pub mod LiftStepLaws
 pub mod ListLaws
-pub mod NextLaws
 pub mod NumbersLaws
 pub mod OneLaws
-pub mod PackGoesLaws
 pub mod PackLaws
-pub mod PackStepLaws
 pub mod PhaseLaws
 pub mod PlaceLaws
 pub mod ResumedLaws
@@ -23,7 +19,6 @@ pub mod RowLaws
 pub mod RunLaws
 pub mod SettledLaws
 pub mod SortLaws
-pub mod StartLaws
 pub mod StepLaws
 pub mod SumLaws
 pub mod WaitingLaws

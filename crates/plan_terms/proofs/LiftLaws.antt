@@ -1,8 +1,8 @@
 -- A move of Lift: it lands past the wall, apart from all, within the reach; and what Lift leaves can be
 -- packed.
-use Rattle.std.specs.Prelude.{◌≡◌, ℕ, ◌+◌, ◌-◌, ◌<◌, ◌≤◌, nat_le, nat_lt, not, true, cond, List, length, take, slice_index, Contains, IsTrue, refl}
+use Rattle.std.specs.Prelude.{◌≡◌, ℕ, ◌+◌, ◌-◌, ◌<◌, ◌≤◌, nat_le, nat_lt, ◌==◌, ◌&&◌, not, true, Bool, cond, List, length, take, slice_index, Contains, IsTrue, refl}
 use Rattle.std.proofs.Common.{arith, sym, ap, subst, inl, inr}
-use Rattle.std.proofs.lemmas.Bool.{cases_lt, cond-true, cond-false, leb-true, lt-ltb, le-ltb, le-leb, lt-leb, and_parts, and_from, and_left}
+use Rattle.std.proofs.lemmas.Bool.{cases_Bool, cases_lt, cond-true, cond-false, leb-true, lt-ltb, le-ltb, le-leb, lt-leb, and_parts, and_from, and_left, and_right}
 use Rattle.std.proofs.lemmas.List.{get_or-take, length-take-le, take-take}
 use Rattle.size_class.specs.Classes.{width}
 use Rattle.size_class.proofs.ClassLaws.{class_below}
@@ -12,8 +12,8 @@ use Rattle.plan_terms.specs.declared.item.Item.{Item}
 use Rattle.plan_terms.specs.declared.item.Move.{Move}
 use Rattle.plan_terms.specs.declared.item.Numbers.{Numbers}
 use Rattle.plan_terms.specs.Plans.{is_below_wall, is_lifted, is_unlifted, IsNextLift, IsSafe, ItemsCanResume, lifted_bytes, mover, relocated, sizes_over, stands_in_payload, unlifted_bytes}
-use Rattle.plan_terms.specs.Phases.{AreItems, AreLifting}
-use Rattle.plan_terms.proofs.ListLaws.{sum_by_more_in}
+use Rattle.plan_terms.specs.Phases.{AreItems, AreLifting, lifted_in, Phase}
+use Rattle.plan_terms.proofs.ListLaws.{cond_at_most, sum_by_le_in, sum_by_more_in}
 use Rattle.plan_terms.proofs.ItemLaws.{after_is, items_after, items_within, same_or_apart, target, total_is, weight_moves}
 use Rattle.plan_terms.proofs.PackLaws.{is_over, laid_length_after, over_parts, sizes_over_is}
 
@@ -212,3 +212,32 @@ module _ (k : ℕ) (caps : List ℕ) (n : Numbers) (pending : ℕ) (items : List
             order = order;
             gap = λ it has low. inr (gap it has low);
           }
+
+-- nothing is lifted yet, in no class
+pub lifted_in_none : (p : Phase) → lifted_bytes p.numbers p.pending p.items ≡ 0 → (c : ℕ) → lifted_in p c ≡ 0
+lifted_in_none p none c =
+    let q : Item → Bool = λ it. (it.class == c) && is_lifted p.numbers p.pending it in
+    omega (
+      arith,
+      none,
+      total_is (is_lifted p.numbers p.pending) p.items,
+      total_is q p.items,
+      sum_by_le_in (λ it. cond (q it) it.size 0) (λ it. cond (is_lifted p.numbers p.pending it) it.size 0)
+          p.items each,
+    )
+  where
+    each : (it : Item) → Contains p.items it
+        → cond ((it.class == c) && is_lifted p.numbers p.pending it) it.size 0
+        ≤ cond (is_lifted p.numbers p.pending it) it.size 0
+    each it has = elim (cases_Bool (is_lifted p.numbers p.pending it)) [
+      | inl is ↦ omega (
+        arith,
+        cond-true (is_lifted p.numbers p.pending it) it.size 0 is,
+        cond_at_most ((it.class == c) && is_lifted p.numbers p.pending it) it.size,
+      )
+      | inr other ↦ omega (
+        arith,
+        cond-false ((it.class == c) && is_lifted p.numbers p.pending it) it.size 0
+            (and_right (it.class == c) (is_lifted p.numbers p.pending it) other),
+      )
+    ]

@@ -74,9 +74,6 @@ module _ (k : ℕ) (caps : List ℕ) (b : ℕ) (items : List Item) (flush : CanF
   pub slack_over_pending : pending ≤ n.slack
   slack_over_pending = omega (arith, largest-from pending items)
 
-  slack_some : 1 ≤ n.slack
-  slack_some = omega arith
-
   pub wall_over_old_end : end_of k caps + n.slack ≤ n.wall
   wall_over_old_end = omega (arith, le-max_left (end_of k caps) n.end)
 

@@ -1,23 +1,20 @@
 -- What the phases keep, from one to the next: each move keeps it, and each phase's end begins the next one.
-use Rattle.std.specs.Prelude.{◌≡◌, ℕ, ◌+◌, ◌<◌, ◌≤◌, List, length, Contains, cond, refl, ◌/◌}
+use Rattle.std.specs.Prelude.{◌≡◌, ℕ, ◌+◌, ◌<◌, ◌≤◌, List, Contains, cond, refl, ◌/◌}
 use Rattle.std.proofs.Common.{arith, ap, inl, inr, subst, sym, ◌∙◌}
-use Rattle.std.proofs.lemmas.List.{length-map}
 use Rattle.size_class.specs.Classes.{width}
 use Rattle.plan_terms.specs.declared.item.Item.{Item}
 use Rattle.plan_terms.specs.declared.item.Move.{Move}
-use Rattle.plan_terms.specs.Plans.{IsNextLay, IsNextLift, IsNextPack, ItemsCanResume, moved_item, relocated, mover, AreSmall, AreBelow, is_below_wall, stands_in_payload}
-use Rattle.plan_terms.specs.Phases.{AreItems, IsLaying, IsLifted, IsLifting, IsPackedWhole, IsPacking, moved_by, Phase, AreObjects, SuitsLayout, PaysFor, bytes_below, payload_bytes, stands_below}
+use Rattle.plan_terms.specs.declared.item.Numbers.{Numbers}
+use Rattle.plan_terms.specs.Plans.{IsLaid, IsNextLay, IsNextLift, IsNextPack, IsPacked, ItemsCanResume, relocated, mover, AreSmall, AreBelow, is_below_wall, stands_in_payload}
+use Rattle.plan_terms.specs.Phases.{AreItems, AreLaying, IsLaying, IsLifted, IsLifting, IsPackedWhole, IsPacking, moved_by, Phase, AreObjects, SuitsLayout, PaysFor, bytes_below, payload_bytes, stands_below}
 use Rattle.plan_terms.proofs.LiftLaws.{lift_items, lift_keeps, lift_leaves, lift_reaches, lift_past}
 use Rattle.plan_terms.proofs.PackLaws.{pack_items, pack_keeps, laid_length_after}
 use Rattle.plan_terms.proofs.LayKeepsLaws.{lay_items, lay_keeps, lay_resumes}
-use Rattle.plan_terms.proofs.NextLaws.{lay_begins}
+use Rattle.plan_terms.proofs.LayLaws.{packed_far, past_far}
 use Rattle.plan_terms.proofs.ItemLaws.{after_is, total_is, weight_moves, target}
 use Rattle.std.proofs.lemmas.Bool.{and_from, and_left, and_right, cases_lt, cond-false, cond-true, le-ltb, lt-ltb, not-true}
 use Rattle.plan_terms.proofs.LargestLaws.{largest-relocated}
 use Rattle.plan_terms.proofs.ListLaws.{sum_by_same_in}
-
-same_length : (mv : Move) (items : List Item) → length (relocated mv.key mv.to items) ≡ length items
-same_length mv items = length-map items (moved_item mv.key mv.to)
 
 -- a move leaves where the new layout ends
 suits_after : (p : Phase) (mv : Move) → AreItems p.numbers p.items → Contains p.items (mover mv)
@@ -83,7 +80,6 @@ lifting_moved p mv is next =
         ap (λ bytes. bytes / p.k) (payload_after p mv is next),
       );
       classes = is.classes;
-      room = omega (arith, is.room, same_length mv p.items);
     }
 
 pub packing_begins : (p : Phase) → IsLifting p → IsLifted p → IsPacking p
@@ -93,7 +89,6 @@ packing_begins p is ended =
       layout = is.layout;
       resumes = lift_leaves p.k p.caps p.numbers p.pending p.items is.items is.lifting is.classes ended;
       reaches = lift_reaches p.k p.caps p.numbers p.pending p.items is.items is.lifting;
-      room = is.room;
     }
 
 -- once nothing is left to lift, all that lies below the wall stands in payload segments
@@ -120,8 +115,8 @@ lift_pays p is ended = omega (arith, is.pays, ap (λ bytes. bytes / p.k) same)
 -- a flush that was interrupted goes on from any objects that share no byte and can be resumed
 pub packing_resumes : (p : Phase) → AreObjects p.numbers.boundary p.items
     → ItemsCanResume p.k p.numbers p.items → SuitsLayout p.k p.caps p.numbers p.items
-    → p.numbers.wall ≤ p.numbers.reach → length p.items ≤ p.room → IsPacking p
-packing_resumes p objects can suits reaches room =
+    → p.numbers.wall ≤ p.numbers.reach → IsPacking p
+packing_resumes p objects can suits reaches =
     record {
       items = record {
         apart = objects.apart;
@@ -137,7 +132,6 @@ packing_resumes p objects can suits reaches room =
       layout = suits;
       resumes = can;
       reaches = reaches;
-      room = room;
     }
 
 pub packing_moved : (p : Phase) (mv : Move) → IsPacking p → IsNextPack p.numbers p.items mv
@@ -148,8 +142,29 @@ packing_moved p mv is next =
       layout = suits_after p mv is.items next.item is.layout;
       resumes = pack_keeps p.k p.numbers p.items is.items is.resumes mv next;
       reaches = is.reaches;
-      room = omega (arith, is.room, same_length mv p.items);
     }
+
+-- once all is packed no item is laid
+lay_begins : (k : ℕ) (n : Numbers) (items : List Item) → AreItems n items → ItemsCanResume k n items
+    → ((it : Item) → Contains items it → it.place < n.wall → IsPacked n items it) → AreLaying k n items
+lay_begins k n items are can whole =
+    record {
+      packed = λ it has low. inr (whole it has low);
+      front = λ a b has_a has_b before laid. absurd (not_yet b has_b laid);
+    }
+  where
+    not_yet : (it : Item) → Contains items it → IsLaid k n items it → ⊥
+    not_yet it has laid = elim (cases_lt it.place n.wall) [
+      | inl low ↦ omega (
+        arith,
+        laid,
+        packed_far k n items are can.wall can.order it has low
+            (whole it has low),
+        can.slack it has,
+        are.some it has,
+      )
+      | inr past ↦ omega (arith, laid, past_far k n items are can.wall can.order it has past, are.some it has)
+    ]
 
 pub laying_begins : (p : Phase) → IsPacking p → IsPackedWhole p → IsLaying p
 laying_begins p is ended = record {
@@ -167,7 +182,6 @@ laying_moved p mv is next =
         layout = suits_after p mv q.items next.item q.layout;
         resumes = lay_resumes p.k p.numbers p.items q.items q.resumes is.laying mv next q.reaches;
         reaches = q.reaches;
-        room = omega (arith, q.room, same_length mv p.items);
       };
       laying = lay_keeps p.k p.numbers p.items q.items q.resumes is.laying mv next;
     }

@@ -1,7 +1,6 @@
 -- The bytes of each class, and where each class's new segment begins, as they are counted up.
-use Rattle.std.specs.Prelude.{◌≡◌, ℕ, ◌+◌, ◌-◌, ◌*◌, ◌^◌, ◌<◌, ◌≤◌, ◌==◌, List, [], length, take, slice_index, slice_index_or, slice_set, Some, slice_get, Contains, sum_by, refl, suc, zero, ◌/◌}
-use Rattle.std.specs.List.Sorted.{IsNonDecreasingBy}
-use Rattle.std.proofs.Common.{arith, sym, ◌∙◌, ap, subst, inl, inr}
+use Rattle.std.specs.Prelude.{◌≡◌, ℕ, ◌+◌, ◌-◌, ◌^◌, ◌<◌, ◌≤◌, ◌==◌, List, [], length, take, slice_index, slice_set, Some, slice_get, Contains, sum_by, refl, suc, zero, ◌/◌}
+use Rattle.std.proofs.Common.{arith, sym, ◌∙◌, ap, inl, inr}
 use Rattle.std.proofs.lemmas.Bool.{cases_eq, cases_order, cond-false, ne_eqb}
 use Rattle.std.proofs.lemmas.List.{get_or-set_other, get_or-set_same, take_all}
 use Rattle.std.proofs.lemmas.List.Sums.{sum_by-cons, sum_by-take-le, sum_by_more}
@@ -10,10 +9,9 @@ use Rattle.byte_ranges.specs.Lists.{counting_from}
 use Rattle.size_class.specs.Classes.{zero_row, width}
 use Rattle.size_class.proofs.ClassLaws.{zero_row-index}
 use Rattle.plan_terms.specs.declared.item.Item.{Item}
-use Rattle.plan_terms.specs.declared.item.Numbers.{Numbers}
-use Rattle.plan_terms.specs.Plans.{class_total, IsBefore, in_class, segments_length, AreBelow, AreSmall}
-use Rattle.plan_terms.specs.Phases.{AreItems, Phase, IsLaying, IsPacking}
-use Rattle.plan_terms.specs.LaidSoFar.{ArePlaces, AreVolumes, KeepsLaying}
+use Rattle.plan_terms.specs.Plans.{class_total, in_class, segments_length, AreBelow, AreSmall}
+use Rattle.plan_terms.specs.Phases.{Phase, IsPacking}
+use Rattle.plan_terms.specs.Segments.{AreVolumes}
 use Rattle.plan_terms.proofs.FinalLaws.{class_total_is, in_class_counts, laid_length_split, laid_length_class}
 use Rattle.segment_layout.specs.Shapes.{buffer_of, start_of}
 use Rattle.segment_layout.proofs.ShapeLaws.{buffer_of-zero, start_of-le}
@@ -88,10 +86,6 @@ module _ (k : ℕ) (volume : ℕ → ℕ) where
         ap (λ x. sum_by f (counting_from x 1)) from,
         sum_by-cons f d [],
       )
-
-  pub segments_none : (b : ℕ) → segments_length k volume b b ≡ 0
-  segments_none b = let none : b - b ≡ 0 = omega arith in
-      ap (λ x. sum_by (λ c. volume c + buffer_of k (volume c)) (counting_from b x)) none
 
   pub segments_rise : (b c d : ℕ) → b ≤ c → c ≤ d
       → segments_length k volume b c ≤ segments_length k volume b d
@@ -183,35 +177,6 @@ segments_same k u v b c each = by b (c - b) (λ d low high. each d low (omega (a
           by (first + 1) n (λ d low high. same d (omega (arith, low)) (omega (arith, high))),
         )
 
--- items that stand in the order of class and place
-pub order_from_sorted : (n : Numbers) (items : List Item) → AreItems n items
-    → ((it : Item) → Contains items it → it.place < 2 ^ 64)
-    → IsNonDecreasingBy (λ it. it.class * 2 ^ 64 + it.place) items → (i j : ℕ) (a b : Item) → i < j
-    → slice_get items i ≡ Some a → slice_get items j ≡ Some b → IsBefore a b
-order_from_sorted n items are small sorted i j a b less at_i at_j =
-    let high : j < length items = slice_get_within items j b at_j in
-    let low : i < length items = slice_get_within items i a at_i in
-    let is_a : slice_index_or items i a ≡ a = get_or_from_slice_get items i a a at_i in
-    let is_b : slice_index_or items j a ≡ b = get_or_from_slice_get items j b a at_j in
-    let has_a : Contains items a = (i, low, is_a) in
-    let has_b : Contains items b = (j, high, get_or_from_slice_get items j b b at_j) in
-    let up : a.class * 2 ^ 64 + a.place ≤ b.class * 2 ^ 64 + b.place =
-    subst (λ (x : Item). x.class * 2 ^ 64 + x.place ≤ b.class * 2 ^ 64 + b.place) is_a
-    (subst (λ (x : Item). (slice_index_or items i a).class * 2 ^ 64 + (slice_index_or items i a).place
-    ≤ x.class * 2 ^ 64 + x.place) is_b (sorted i j a (omega (arith, less)) high)) in
-    let apart = are.apart i j a b less at_i at_j in
-    elim (cases_order a.class b.class) [
-      | inr (inl c) ↦ inl c
-      | inr (inr c) ↦ absurd (omega (arith, c, up, small b has_b))
-      | inl same ↦ inr (
-        same,
-        elim apart.bytes [
-          | inl e ↦ omega (arith, e, are.some a has_a)
-          | inr e ↦ absurd (omega (arith, e, up, same, are.some b has_b))
-        ],
-      )
-    ]
-
 -- the bytes of a class are a number of 64 bits
 pub totals_low : (C : ℕ) (p : Phase) → C ≤ width → IsPacking p → AreBelow C p.items
     → AreSmall p.numbers p.items
@@ -227,30 +192,3 @@ totals_low C p fits is classes small it has =
       is.reaches,
       small.0,
     )
-
--- Lay begins where Pack ends, once the items stand in the order of class and place.
-pub lay_from_start : (C : ℕ) (p : Phase) (volumes places : List ℕ) → C ≤ width → IsLaying p
-    → AreBelow C p.items → AreSmall p.numbers p.items
-    → ((i j : ℕ) (a b : Item) → i < j → slice_get p.items i ≡ Some a → slice_get p.items j ≡ Some b
-    → IsBefore a b)
-    → ((c : ℕ) → c < C → slice_index volumes c ≡ class_total p.items c)
-    → ArePlaces p.k p.numbers.start p.numbers.boundary (slice_index volumes) C places
-    → KeepsLaying C p 0 places
-lay_from_start C p volumes places fits laying classes small rising totals so =
-    record {
-      fits = fits;
-      laying = laying;
-      classes = classes;
-      small = small;
-      up = record {
-        within = omega arith;
-        rising = rising;
-        laid = λ i it less. absurd (omega (arith, less));
-        next = λ c from below. omega (
-          arith,
-          so c from below,
-          segments_same p.k (slice_index volumes) (class_total p.items) p.numbers.boundary c
-              (λ d low high. totals d (omega (arith, high, below))),
-        );
-      };
-    }

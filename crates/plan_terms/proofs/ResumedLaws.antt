@@ -1,5 +1,5 @@
 -- The numbers of a flush that goes on after it was interrupted.
-use Rattle.std.specs.Prelude.{◌≡◌, ℕ, ◌+◌, ◌^◌, ◌<◌, ◌≤◌, List, length, slice_index, Contains, refl}
+use Rattle.std.specs.Prelude.{◌≡◌, ℕ, ◌+◌, ◌^◌, ◌<◌, ◌≤◌, List, slice_index, Contains, refl}
 use Rattle.std.proofs.Common.{arith, sym, ◌∙◌, inl, inr}
 use Rattle.std.proofs.lemmas.Bool.{cases_lt}
 use Rattle.size_class.specs.Classes.{IsRow, width}
@@ -20,14 +20,14 @@ module _ (C k : ℕ) (caps : List ℕ) (b wall slack : ℕ) (items : List Item) 
   n = numbers_again k caps b wall slack items
 
   abbrev p : Phase
-  p = phase_of k caps n 0 items (length items)
+  p = phase_of k caps n 0 items
 
   packing : IsPacking p
   packing = packing_resumes p objects can (record {
     boundary = omega (arith, low, fits);
     start = refl;
     end = refl;
-  }) (omega arith) (omega arith)
+  }) (omega arith)
 
   pub totals_again : (it : Item) → Contains items it → class_total items it.class < 2 ^ 64
   totals_again = totals_low C p fits packing classes small

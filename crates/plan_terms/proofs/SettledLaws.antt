@@ -14,8 +14,7 @@ use Rattle.plan_terms.specs.declared.item.Item.{Item}
 use Rattle.plan_terms.specs.declared.item.Numbers.{Numbers}
 use Rattle.plan_terms.specs.Plans.{class_total, in_class, laid_length}
 use Rattle.plan_terms.specs.Phases.{Phase}
-use Rattle.plan_terms.specs.LaidSoFar.{KeepsSettled}
-use Rattle.plan_terms.specs.Settlements.{IsPlaced, new_caps, new_end, Settlement}
+use Rattle.plan_terms.specs.Settlements.{IsPlaced, KeepsSettled, new_caps, new_end, Settlement}
 use Rattle.plan_terms.proofs.ListLaws.{sum_by_more_in, sum_by_none_in}
 use Rattle.plan_terms.proofs.FinalLaws.{class_total_is, earlier, earlier_le, earlier_later, earlier_sum_is, in_class_counts, laid_length_split, segment}
 

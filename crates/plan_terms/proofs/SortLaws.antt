@@ -1,23 +1,20 @@
 -- What the phases keep is kept in whatever order the items stand.
-use Rattle.std.specs.Prelude.{◌≡◌, ◌≢◌, ◌⊎◌, ℕ, ◌+◌, ◌-◌, ◌<◌, ◌≤◌, ◌==◌, Bool, cond, List, length, Some, slice_get, slice_index_or, Contains, sum_by, IsPermutation, refl, filter, ◌/◌}
+use Rattle.std.specs.Prelude.{◌≡◌, ◌≢◌, ◌⊎◌, ℕ, ◌+◌, ◌-◌, ◌<◌, ◌≤◌, ◌==◌, Bool, cond, List, length, Some, slice_get, slice_index_or, Contains, sum_by, IsPermutation, refl, filter}
 use Rattle.std.specs.List.{swap}
 use Rattle.std.specs.List.Sorted.{IsNonDecreasingBy}
 use Rattle.std.proofs.Common.{arith, sym, ◌∙◌, ap, subst, inl, inr}
 use Rattle.std.proofs.lemmas.Bool.{cases_eq, cases_order}
 use Rattle.std.proofs.lemmas.List.Edits.{length-swap, swapped_from_swap}
-use Rattle.std.proofs.lemmas.List.Sorted.{Contains-permutation, IsPermutation-keeps, IsPermutation-sym, length_permutation, sum_by-IsPermutation}
+use Rattle.std.proofs.lemmas.List.Sorted.{Contains-permutation, IsPermutation-keeps, IsPermutation-sym, sum_by-IsPermutation}
 use Rattle.std.proofs.lemmas.Option.{get_or_from_slice_get, slice_get-get_or, slice_get_within}
 use Rattle.byte_ranges.specs.Lists.{counting_from}
 use Rattle.size_class.specs.Classes.{width}
 use Rattle.segment_layout.specs.Shapes.{buffer_of}
 use Rattle.plan_terms.specs.declared.item.Item.{Item}
 use Rattle.plan_terms.specs.declared.item.Numbers.{Numbers}
-use Rattle.plan_terms.specs.Plans.{class_total, final_place, is_lifted, is_unlifted, ItemsApart, ItemsCanResume, laid_length, lifted_bytes, sizes_over, unlifted_bytes, total}
-use Rattle.plan_terms.specs.Phases.{AreItems, AreLaying, AreLifting, IsLaying, IsLifting, IsPacking, Phase, SuitsLayout, stands_below}
+use Rattle.plan_terms.specs.Plans.{AreBelow, AreSmall, class_total, is_lifted, is_unlifted, ItemsApart, laid_length, lifted_bytes, unlifted_bytes, total}
+use Rattle.plan_terms.specs.Phases.{AreItems, AreLifting, SuitsLayout}
 use Rattle.plan_terms.proofs.ItemLaws.{total_is}
-use Rattle.plan_terms.proofs.PackLaws.{is_over}
-use Rattle.plan_terms.proofs.FinalLaws.{is_earlier}
-use Rattle.plan_terms.proofs.LargestLaws.{largest-permuted}
 
 abbrev ApartInOrder : List Item → Type 0
 ApartInOrder xs = (i j : ℕ) (a b : Item) → i < j → slice_get xs i ≡ Some a → slice_get xs j ≡ Some b
@@ -126,33 +123,6 @@ module _ (xs ys : List Item) (perm : IsPermutation xs ys) where
   laid_length_permuted k b c = ap (λ (f : ℕ → ℕ). sum_by f (counting_from b (c - b)))
       (λ i d. class_total_permuted d i + buffer_of k (class_total_permuted d i))
 
-  pub over_permuted : (n : Numbers) (place : ℕ) → sizes_over n ys place ≡ sizes_over n xs place
-  over_permuted n place = total_is (is_over n place) ys ∙ weight_permuted (is_over n place)
-      ∙ sym (total_is (is_over n place) xs)
-
-  pub final_permuted : (k : ℕ) (n : Numbers) (c place : ℕ)
-      → final_place k n ys c place ≡ final_place k n xs c place
-  final_permuted k n c place = omega (
-    arith,
-    laid_length_permuted k n.boundary c,
-    total_is (is_earlier c place) ys,
-    weight_permuted (is_earlier c place),
-    total_is (is_earlier c place) xs,
-  )
-
-  pub resume_permuted : (k : ℕ) (n : Numbers) → ItemsCanResume k n xs → ItemsCanResume k n ys
-  resume_permuted k n can =
-      record {
-        wall = omega (arith, can.wall, laid_length_permuted k n.boundary width);
-        slack = λ it has. can.slack it (back it has);
-        side = λ it has. can.side it (back it has);
-        order = λ it other has has_other. can.order it other (back it has) (back other has_other);
-        gap = λ it has low. elim (can.gap it (back it has) low) [
-          | inl packed ↦ inl (omega (arith, packed, over_permuted n it.place))
-          | inr gap ↦ inr (omega (arith, gap, over_permuted n it.place))
-        ];
-      }
-
   pub suits_permuted : (k : ℕ) (caps : List ℕ) (n : Numbers) → SuitsLayout k caps n xs
       → SuitsLayout k caps n ys
   suits_permuted k caps n suits = record {
@@ -186,54 +156,11 @@ module _ (xs ys : List Item) (perm : IsPermutation xs ys) where
   lifted_permuted n pending = total_is (is_lifted n pending) ys ∙ weight_permuted (is_lifted n pending)
       ∙ sym (total_is (is_lifted n pending) xs)
 
-  pub laying_permuted : (k : ℕ) (n : Numbers) → AreLaying k n xs → AreLaying k n ys
-  laying_permuted k n is =
-      record {
-        packed = λ it has low. elim (is.packed it (back it has) low) [
-          | inl laid ↦ inl (omega (arith, laid, final_permuted k n it.class it.place))
-          | inr packed ↦ inr (omega (arith, packed, over_permuted n it.place))
-        ];
-        front = λ a b has_a has_b before laid.
-            let old = is.front a b (back a has_a) (back b has_b) before
-            (omega (arith, laid, final_permuted k n b.class b.place)) in
-            omega (arith, old, final_permuted k n a.class a.place);
-      }
+  pub below_permuted : (C : ℕ) → AreBelow C xs → AreBelow C ys
+  below_permuted C classes it has = classes it (back it has)
 
--- the phases, with their items in another order
-pub lifting_sorted : (p : Phase) (ys : List Item) → IsPermutation p.items ys → IsLifting p
-    → IsLifting (record p { items = ys })
-lifting_sorted p ys perm is =
-    record {
-      items = items_permuted p.items ys perm p.numbers is.items;
-      layout = suits_permuted p.items ys perm p.k p.caps p.numbers is.layout;
-      lifting = lifting_permuted p.items ys perm p.k p.caps p.numbers p.pending is.lifting;
-      pays = omega (
-        arith,
-        is.pays,
-        largest-permuted 0 p.items ys perm,
-        ap (λ bytes. bytes / p.k) (total_permuted p.items ys perm (stands_below p)),
-      );
-      classes = is.classes;
-      room = omega (arith, is.room, length_permutation p.items ys perm);
-    }
-
-pub packing_sorted : (p : Phase) (ys : List Item) → IsPermutation p.items ys → IsPacking p
-    → IsPacking (record p { items = ys })
-packing_sorted p ys perm is =
-    record {
-      items = items_permuted p.items ys perm p.numbers is.items;
-      layout = suits_permuted p.items ys perm p.k p.caps p.numbers is.layout;
-      resumes = resume_permuted p.items ys perm p.k p.numbers is.resumes;
-      reaches = is.reaches;
-      room = omega (arith, is.room, length_permutation p.items ys perm);
-    }
-
-pub laying_sorted : (p : Phase) (ys : List Item) → IsPermutation p.items ys → IsLaying p
-    → IsLaying (record p { items = ys })
-laying_sorted p ys perm is = record {
-  packing = packing_sorted p ys perm is.packing;
-  laying = laying_permuted p.items ys perm p.k p.numbers is.laying;
-}
+  pub small_permuted : (n : Numbers) → AreSmall n xs → AreSmall n ys
+  small_permuted n small = (small.0, λ it has. small.1 it (back it has))
 
 -- items that stand in the order of their places
 pub rising_from_sorted : (n : Numbers) (items : List Item) → AreItems n items

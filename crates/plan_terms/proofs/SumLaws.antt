@@ -2,7 +2,7 @@
 use Rattle.std.specs.Prelude.{◌≡◌, ℕ, zero, suc, ◌+◌, ◌<◌, ◌≤◌, ◌==◌, max, Bool, cond, List, [], ◌∷◌, length, take, slice_index, slice_set, Some, slice_get, false, not, true, ◌^◌}
 use Rattle.std.proofs.Common.{arith, sym, ◌∙◌, ap, inl, inr, subst}
 use Rattle.plan_terms.specs.declared.item.Item.{Item}
-use Rattle.plan_terms.specs.LaidSoFar.{AreVolumes}
+use Rattle.plan_terms.specs.Segments.{AreStarts, AreVolumes}
 use Rattle.std.proofs.lemmas.Bool.{cases_eq, cond-false, ne_eqb, cond-true, not_from_false, cases_lt}
 use Rattle.size_class.specs.Classes.{class_of, width, zero_row, IsRow}
 use Rattle.plan_terms.proofs.ListLaws.{cond_at_most}
@@ -11,9 +11,8 @@ use Rattle.std.proofs.lemmas.Option.{get_or_from_slice_get, same_Some, slice_get
 use Rattle.plan_terms.proofs.FinalLaws.{in_class_counts}
 use Rattle.plan_terms.specs.Plans.{largest_of, object_of, class_total, stands_in_payload, in_class, weight, laid_length, segments_length}
 use Rattle.size_class.proofs.ClassLaws.{length-zero_row, zero_row-index}
-use Rattle.std.proofs.lemmas.List.Sums.{sum_by-cons, sum_by-take-le, sum_by_more}
+use Rattle.std.proofs.lemmas.List.Sums.{sum_by-take-le, sum_by_more}
 use Rattle.plan_terms.proofs.PlaceLaws.{volumes_all, volumes_fit, volumes_more, segments_same}
-use Rattle.plan_terms.specs.LiftedSoFar.{AreStarts}
 use Rattle.plan_terms.specs.Phases.{CanFlush}
 use Rattle.plan_terms.specs.declared.item.Numbers.{Numbers}
 use Rattle.plan_terms.proofs.BoundLaws.{class_rest}
@@ -33,13 +32,6 @@ volume_one C size fits class c below = elim (cases_eq c (class_of size)) [
 pub volume_nothing : (size c : ℕ) → size ≡ 0 → slice_index zero_row c ≡ in_class c (object_of size)
 volume_nothing size c none =
     omega (arith, none, zero_row-index c, cond_at_most (class_of size == c) size)
-
--- where a row has the bytes of one object, it has those of a list's first
-pub volumes_first : (C size : ℕ) (items : List Item) (cells : List ℕ)
-    → ((c : ℕ) → c < C → slice_index cells c ≡ in_class c (object_of size))
-    → AreVolumes C (object_of size ∷ items) 1 cells
-volumes_first C size items cells so c below =
-    omega (arith, so c below, sum_by-cons (in_class c) (object_of size) [])
 
 pub got_behind : (x m : Item) (items : List Item) (i : ℕ) → slice_get items i ≡ Some m
     → slice_get (x ∷ items) (i + 1) ≡ Some m

@@ -3,9 +3,7 @@ pub mod Phases
 pub mod Steps
 pub mod Runs
 pub mod Begins
-pub mod LiftedSoFar
-pub mod PackedSoFar
-pub mod LaidSoFar
+pub mod Segments
 pub mod Resumed
 pub mod Settlements
 pub mod LooseReach

@@ -7,19 +7,18 @@ use Rattle.plan_terms.specs.declared.item.Move.{Move}
 use Rattle.plan_terms.specs.declared.item.Numbers.{Numbers}
 use Rattle.plan_terms.specs.Plans.{HasRoom, is_below_wall, is_laid, is_lifted, is_packed, is_unlifted, IsBefore, IsInBuffer, ItemsApart, ItemsCanResume, IsLaid, IsPacked, laid_length, largest_of, lifted_bytes, relocated, stands_in_payload, total, unlifted_bytes}
 
--- The value of a phase: the layout that the flush began with, its numbers, the size of the pending item, the
--- items in any order, and how many there may be.
+-- The value of a phase: the layout that the flush began with, its numbers, the size of the pending item, and
+-- its items in any order.
 pub record Phase : Type 0 where
   pub k : ℕ
   pub caps : List ℕ
   pub numbers : Numbers
   pub pending : ℕ
   pub items : List Item
-  pub room : ℕ
 
-abbrev pub phase_of : ℕ → List ℕ → Numbers → ℕ → List Item → ℕ → Phase
-phase_of k caps numbers pending items room =
-    record { k = k; caps = caps; numbers = numbers; pending = pending; items = items; room = room }
+abbrev pub phase_of : ℕ → List ℕ → Numbers → ℕ → List Item → Phase
+phase_of k caps numbers pending items =
+    record { k = k; caps = caps; numbers = numbers; pending = pending; items = items }
 
 -- the phase once a move is made
 abbrev pub moved_by : Move → Phase → Phase
@@ -93,7 +92,6 @@ pub record IsLifting (p : Phase) : Type 0 where
   pub lifting : AreLifting p.k p.caps p.numbers p.pending p.items
   pub pays : PaysFor p (payload_bytes p)
   pub classes : length p.caps ≡ width
-  pub room : length p.items ≤ p.room
 
 -- a moving table of these items may be saved and resumed
 pub record IsPacking (p : Phase) : Type 0 where
@@ -101,7 +99,6 @@ pub record IsPacking (p : Phase) : Type 0 where
   pub layout : SuitsLayout p.k p.caps p.numbers p.items
   pub resumes : ItemsCanResume p.k p.numbers p.items
   pub reaches : p.numbers.wall ≤ p.numbers.reach
-  pub room : length p.items ≤ p.room
 
 -- what lies below the wall and isn't laid is packed against it, and the items that are laid come first by
 -- class and place

@@ -1,9 +1,18 @@
 -- What a flush leaves: each item at its new place, in the new payload segment of its class.
-use Rattle.std.specs.Prelude.{◌≡◌, ℕ, ◌+◌, List, IsTrue}
+use Rattle.std.specs.Prelude.{◌≡◌, ℕ, ◌+◌, ◌<◌, ◌≤◌, List, IsTrue, slice_index}
+use Rattle.size_class.specs.Classes.{width}
 use Rattle.segment_layout.specs.Shapes.{end_of, settled_caps, start_of}
 use Rattle.plan_terms.specs.declared.item.Item.{Item}
-use Rattle.plan_terms.specs.Plans.{sizes_before, stands_in_payload}
-use Rattle.plan_terms.specs.Phases.{Phase}
+use Rattle.plan_terms.specs.Plans.{AreBelow, class_total, sizes_before, stands_in_payload}
+use Rattle.plan_terms.specs.Phases.{IsLaidWhole, IsLaying, Phase}
+
+-- what is kept once all is laid
+pub record KeepsSettled (C : ℕ) (p : Phase) (volumes : List ℕ) : Type 0 where
+  pub fits : C ≤ width
+  pub laying : IsLaying p
+  pub laid : IsLaidWhole p
+  pub classes : AreBelow C p.items
+  pub totals : (c : ℕ) → c < C → slice_index volumes c ≡ class_total p.items c
 
 -- what is handed on at the end: the phase and the bytes of each class
 pub record Settlement : Type 0 where

@@ -4,8 +4,7 @@ ghost use Rattle.size_class.specs.Classes.{width};
 ghost use Rattle.size_class.specs.Rows.{cells_of};
 ghost use Rattle.segment_layout.specs.Layouts.{divisor_of, caps_of};
 ghost use Rattle.plan_terms.specs.Plans.{segments_length, stands_in_payload};
-ghost use Rattle.plan_terms.specs.LiftedSoFar.{AreStarts};
-ghost use Rattle.plan_terms.specs.LaidSoFar.{ArePlaces};
+ghost use Rattle.plan_terms.specs.Segments.{ArePlaces, AreStarts};
 
 use crate::item::Item;
 use segment_layout::Layout;

@@ -72,7 +72,7 @@ module _ {C : ℕ} (x : Loaded C) (loads : KeepsLoaded x) (moving : x.header.kin
 
   abbrev pub phase : Phase
   phase = phase_of (divisor_of x.layout) (caps_of x.layout)
-      (numbers x loads moving few wide (divisor_of x.layout)) 0 p.items (2 ^ 64)
+      (numbers x loads moving few wide (divisor_of x.layout)) 0 p.items
 
   fresh_sequence : x.slots.sequence < 2 ^ 62 - 2 ^ 18
   fresh_sequence =
@@ -95,7 +95,7 @@ module _ {C : ℕ} (x : Loaded C) (loads : KeepsLoaded x) (moving : x.header.kin
     can_there = record {
       goes = record {
         hands = hands_again x loads moving few wide n v fresh rests m book (divisor_of x.layout)
-            (same_divisor x loads moving few wide) p.items (2 ^ 64)
+            (same_divisor x loads moving few wide) p.items
             (IsPermutation-sym _ p.items packs.items);
         book = book_saved x loads moving few wide n v;
         same_base = refl;
@@ -146,7 +146,7 @@ module _ {C : ℕ} (x : Loaded C) (loads : KeepsLoaded x) (moving : x.header.kin
           slot = from.in_use;
           same_length = omega (arith, begins_within, same_base);
           within = (hands_again x loads moving few wide n from.opens.valid fresh rests m b
-              (divisor_of x.layout) (same_divisor x loads moving few wide) p.items (2 ^ 64)
+              (divisor_of x.layout) (same_divisor x loads moving few wide) p.items
               (IsPermutation-sym _ p.items packs.items)).lower;
           live = ap (λ z. read_at z first.file now) same_base;
         };

@@ -243,9 +243,9 @@ module _ {C : ℕ} (x : Loaded C) (loads : KeepsLoaded x) (moving : x.header.kin
     }
 
     module _ (fresh rests : Bool) (m : Map) (book : Book) (divisor : ℕ) (same : divisor ≡ k) (all : List Item)
-        (room : ℕ) (perm : IsPermutation all items) where
+        (perm : IsPermutation all items) where
       pub hands_again : IsHandsFor (again fresh rests m book) x.slots x.table caps grid []
-          (phase_of divisor caps (numbers divisor) 0 all room)
+          (phase_of divisor caps (numbers divisor) 0 all)
       hands_again = record {
         block = subst IsSuperBlock (sym loads.same_block) loads.ranges;
         base = refl;
@@ -283,8 +283,8 @@ module _ {C : ℕ} (x : Loaded C) (loads : KeepsLoaded x) (moving : x.header.kin
 
     pub can_again : (divisor : ℕ) → divisor ≡ k → ItemsCanResume divisor (numbers divisor) items
     can_again divisor same = items_can (again true true fin.empty (book_of t)) x.slots x.table caps grid []
-        (phase_of divisor caps (numbers divisor) 0 items 0)
-        (hands_again true true fin.empty (book_of t) divisor same items 0 (IsPermutation-refl items))
+        (phase_of divisor caps (numbers divisor) 0 items)
+        (hands_again true true fin.empty (book_of t) divisor same items (IsPermutation-refl items))
         valid_saved.1
 
     -- ---- packing may go on
@@ -297,8 +297,8 @@ module _ {C : ℕ} (x : Loaded C) (loads : KeepsLoaded x) (moving : x.header.kin
 
     on_shelf : IsOnShelf (numbers divisor).start items (shelf_of x.table)
     on_shelf = shelf_holds (again true true fin.empty (book_of t)) x.slots x.table caps grid []
-        (phase_of divisor caps (numbers divisor) 0 items 0)
-        (hands_again true true fin.empty (book_of t) divisor same_divisor items 0 (IsPermutation-refl items))
+        (phase_of divisor caps (numbers divisor) 0 items)
+        (hands_again true true fin.empty (book_of t) divisor same_divisor items (IsPermutation-refl items))
         (λ it has. elim (can.side it has) as (λ _. (numbers divisor).start ≤ it.place) [
           | inl past ↦ omega (arith, past, can.wall)
           | inr within ↦ within.0

@@ -186,7 +186,7 @@ module _ {C : ℕ} (x : Loaded C) (loads : KeepsLoaded x) (moving : x.header.kin
         hand : IsHandsFor f x.slots x.table (caps_of x.layout) (grid_of x.layout) []
             (phase x loads moving few wide y starts p packs)
         hand = hands_again x loads moving few wide _ (from told).opens.valid false false f.new_map f.new_book
-            _ (same_divisor x loads moving few wide) p.items (2 ^ 64)
+            _ (same_divisor x loads moving few wide) p.items
             (IsPermutation-sym _ p.items packs.items)
 
         boundary_is : p.numbers.boundary ≡ x.header.boundary

@@ -33,7 +33,7 @@ pub record StartsAgain {C : ℕ} (x : Loaded C) (y : Parts) : Type 0 where
 pub record PacksAgain {C : ℕ} (x : Loaded C) (p : Phase) : Type 0 where
   pub value : p ≡ phase_of (divisor_of x.layout) (caps_of x.layout)
       (numbers_again (divisor_of x.layout) (caps_of x.layout) x.header.boundary x.header.wall x.header.slack
-      (suffix_items x.header.boundary x.table)) 0 p.items (2 ^ 64)
+      (suffix_items x.header.boundary x.table)) 0 p.items
   pub items : IsPermutation (suffix_items x.header.boundary x.table) p.items
 
 -- A store may be made of these hands: what stands now is the checkpoint, the layout holds it, and no other

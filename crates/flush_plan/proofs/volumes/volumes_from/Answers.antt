@@ -5,7 +5,7 @@ use Rattle.size_class.specs.declared.row.Row.{Row}
 use Rattle.size_class.proofs.RowLaws.{row_shape}
 use Rattle.plan_terms.specs.declared.item.Item.{Item}
 use Rattle.plan_terms.specs.Plans.{AreBelow, class_total}
-use Rattle.plan_terms.specs.LaidSoFar.{AreVolumes}
+use Rattle.plan_terms.specs.Segments.{AreVolumes}
 use Rattle.plan_terms.proofs.PlaceLaws.{volumes_all, volumes_fit, volumes_more, volumes_none}
 use Rattle.flush_plan.specs.Shelves.{from_place, IsRank}
 use Rattle.flush_plan.proofs.ShelfLaws.{from_at, from_length, got_has}

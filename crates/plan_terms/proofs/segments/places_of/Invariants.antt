@@ -1,7 +1,7 @@
 use Rattle.std.proofs.Common.{◌≡◌, ◌+◌, ◌-◌, ◌≤◌, slice_index}
 use Rattle.size_class.specs.Rows.{cells_of}
 use Rattle.plan_terms.specs.Plans.{segments_length}
-use Rattle.plan_terms.specs.LaidSoFar.{ArePlaces}
+use Rattle.plan_terms.specs.Segments.{ArePlaces}
 use Rattle.plan_terms.proofs.segments.places_of.Given as goal
 
 abbrev pub invariant-classes : goal.invariant-classes

@@ -2,7 +2,7 @@ use Rattle.std.proofs.Common.{◌≡◌, ◌-◌, ◌≤◌}
 use Rattle.size_class.specs.Rows.{cells_of}
 use Rattle.segment_layout.specs.Layouts.{divisor_of, caps_of}
 use Rattle.segment_layout.specs.Shapes.{start_of}
-use Rattle.plan_terms.specs.LiftedSoFar.{AreStarts}
+use Rattle.plan_terms.specs.Segments.{AreStarts}
 use Rattle.plan_terms.proofs.segments.starts_of.Given as goal
 
 abbrev pub invariant-classes : goal.invariant-classes

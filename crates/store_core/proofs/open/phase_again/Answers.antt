@@ -58,7 +58,7 @@ returns-clause-again g c =
     let course = c.resume.ensures.course ∙ ap (λ n. course_of k caps n 0) found in
     let now = suffix_items c.resume.result.course.numbers.boundary x.table in
     record {
-      value = ap (λ (q : Course). phase_of q.k q.caps q.numbers q.pending now (2 ^ 64)) course;
+      value = ap (λ (q : Course). phase_of q.k q.caps q.numbers q.pending now) course;
       items = subst (λ (b : ℕ). IsPermutation items (suffix_items b x.table))
           (sym (ap (λ (q : Course). q.numbers.boundary) course)) (IsPermutation-refl items);
     }

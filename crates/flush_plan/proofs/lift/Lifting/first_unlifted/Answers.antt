@@ -3,7 +3,7 @@ use Rattle.std.specs.Prelude.{Contains, ◌^◌}
 use Rattle.size_class.specs.Rows.{cells_of}
 use Rattle.segment_layout.specs.Shapes.{start_of}
 use Rattle.plan_terms.specs.declared.item.Item.{Item}
-use Rattle.plan_terms.specs.LiftedSoFar.{AreStarts}
+use Rattle.plan_terms.specs.Segments.{AreStarts}
 use Rattle.plan_terms.specs.Plans.{stands_in_payload}
 use Rattle.flush_plan.specs.declared.lift.Lifting.TheInside.{Inside}
 use Rattle.flush_plan.specs.Lifts.{ArePassed, Lift, Lifts}

@@ -1,4 +1,4 @@
-use Rattle.std.proofs.Common.{arith, sym, subst}
+use Rattle.std.proofs.Common.{sym, subst}
 use Rattle.segment_layout.specs.Layouts.{caps_of, divisor_of}
 use Rattle.segment_layout.proofs.LayoutLaws.{layout_shape}
 use Rattle.flush_plan.specs.Packs.{KeepsPacking}
@@ -15,5 +15,5 @@ returns-clause-keeps g c = λ items can.
     (subst (λ x. KeepsPacking g.row.C (pack_at (course_of x (caps_of layout) n 0) top) items)
     (sym c.k.ensures)
     (pack_from g.row.C (divisor_of layout) (caps_of layout) n items (g.S.Shelf.items c.args.shelf.now) can
-    c.requires.fits c.requires.boundary (layout_shape layout).k_low (omega (arith, c.len-objects.ensures)) top
+    c.requires.fits c.requires.boundary (layout_shape layout).k_low top
     (c.packed_down-top.ensures.packed items can) (c.packed_down-top.ensures.loose items can)))
