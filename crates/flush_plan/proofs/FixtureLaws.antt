@@ -13,6 +13,8 @@ use Rattle.plan_terms.specs.Phases.{AreItems}
 use Rattle.plan_terms.proofs.ListLaws.{contains_here, contains_later, got_at}
 use Rattle.plan_terms.proofs.SortLaws.{items_permuted, rising_from_sorted}
 use Rattle.flush_plan.specs.Shelves.{from_place, IsOnShelf, IsRank, IsShelf}
+use Rattle.flush_plan.specs.Packs.{KeepsPacking, Pack, Packs}
+use Rattle.flush_plan.specs.Lays.{KeepsLaying, Lay, Lays}
 use Rattle.flush_plan.proofs.ShelfLaws.{places_rise}
 
 pub all_from : (start : ℕ) (xs : List Item) → ((it : Item) → Contains xs it → start ≤ it.place)
@@ -43,6 +45,17 @@ listed n items xs are same sorted =
       rises = is_shelf n xs there sorted;
       same = subst (IsPermutation items) (sym (all_from n.start xs there.start)) same;
     }
+
+-- items that Pack keeps, or Lay, are those that it goes on over
+pub packs_list : (C : ℕ) (v : Pack) (xs : List Item) (h : (items : List Item) × KeepsPacking C v items
+    × IsPermutation items xs × IsNonDecreasingBy (λ (it : Item). it.place) xs) → Packs C v h.0 xs
+packs_list C v xs h =
+    record { keeps = h.1; on = listed v.course.numbers h.0 xs h.1.packing.items h.2 h.3 }
+
+pub lays_list : (C : ℕ) (v : Lay) (xs : List Item) (h : (items : List Item) × KeepsLaying C v items
+    × IsPermutation items xs × IsNonDecreasingBy (λ (it : Item). it.place) xs) → Lays C v h.0 xs
+lays_list C v xs h =
+    record { keeps = h.1; on = listed v.course.numbers h.0 xs h.1.laying.packing.items h.2 h.3 }
 
 -- the object at the rank of its place
 pub at_rank : (xs : List Item) → IsShelf xs → (m : Item) → Contains xs m → (rank : ℕ)

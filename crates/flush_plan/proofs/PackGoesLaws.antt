@@ -1,17 +1,18 @@
 -- How Pack goes on, move by move, and where it begins and ends.
-use Rattle.std.specs.Prelude.{◌≡◌, ◌≢◌, ℕ, ◌+◌, ◌-◌, ◌^◌, ◌<◌, ◌≤◌, List, Contains, refl}
+use Rattle.std.specs.Prelude.{◌≡◌, ◌≢◌, ◌⊎◌, ℕ, ◌+◌, ◌-◌, ◌^◌, ◌<◌, ◌≤◌, List, Contains, refl}
 use Rattle.std.proofs.Common.{arith, ap, subst, inl, inr}
 use Rattle.size_class.specs.Classes.{width}
 use Rattle.segment_layout.specs.Shapes.{start_of}
 use Rattle.plan_terms.specs.declared.item.Item.{Item}
 use Rattle.plan_terms.specs.declared.item.Move.{Move}
 use Rattle.plan_terms.specs.declared.item.Numbers.{Numbers}
-use Rattle.plan_terms.specs.Plans.{AreBelow, AreSmall, IsNextPack, ItemsCanResume, laid_length, mover, relocated}
+use Rattle.plan_terms.specs.Plans.{AreBelow, AreSmall, IsNextPack, ItemsCanResume, mover, relocated}
 use Rattle.plan_terms.specs.Phases.{AreItems, IsLifted, IsLifting, IsPackedWhole, IsPacking, Phase}
 use Rattle.plan_terms.specs.Steps.{IsPackStep}
+use Rattle.plan_terms.specs.Resumed.{numbers_again}
 use Rattle.plan_terms.proofs.PhaseLaws.{below_after, packing_begins, packing_moved, packing_resumes, small_after}
 use Rattle.plan_terms.proofs.StepLaws.{pack_step}
-use Rattle.flush_plan.specs.Shelves.{Course, course_of, IsLastBefore, phase_on}
+use Rattle.flush_plan.specs.Shelves.{Course, course_of, IsLastBefore, IsOnShelf, phase_on}
 use Rattle.flush_plan.specs.Packs.{CanGoOn, IsPackedFrom, KeepsPacking, Pack, Packs}
 use Rattle.flush_plan.proofs.PackStepLaws.{alone_at_top, ends_before_top, over_is_row, pack_loosens, pack_moves, pack_next, pack_stays, packed_from_wall}
 
@@ -178,12 +179,14 @@ module _ (C k : ℕ) (caps : List ℕ) (n : Numbers) (items shelf : List Item)
           loose = loose;
         }
 
--- A flush that is interrupted in Pack can go on over the same shelf.
-pub can_go_on : (C k : ℕ) (caps : List ℕ) (v : Pack) (items shelf : List Item) → Packs C v items shelf
-    → v.course.k ≡ k → v.course.numbers.start ≡ start_of k caps v.course.numbers.boundary
-    → CanGoOn C k caps v.course.numbers items shelf
-can_go_on C k caps v items shelf packs same start =
-    let is = packs.keeps.packing in
+-- A flush that is interrupted in Pack or in Lay can go on over the same shelf, by the wall and the slack that
+-- it began with.
+pub can_go_on : (C k : ℕ) (caps : List ℕ) (v : Course) (items shelf : List Item) → IsPacking (phase_on v items)
+    → AreBelow C items → AreSmall v.numbers items → IsOnShelf v.numbers.start items shelf → v.k ≡ k
+    → v.numbers.start ≡ start_of k caps v.numbers.boundary
+    → CanGoOn C k caps (numbers_again k caps v.numbers.boundary v.numbers.wall v.numbers.slack items) items shelf
+can_go_on C k caps v items shelf is classes small on same start =
+    let can : ItemsCanResume k v.numbers items = subst (λ x. ItemsCanResume x v.numbers items) same is.resumes in
     record {
       objects = record {
         apart = is.items.apart;
@@ -191,12 +194,18 @@ can_go_on C k caps v items shelf packs same start =
         class = is.items.class;
         from = is.items.from;
       };
-      resumes = subst (λ x. ItemsCanResume x v.course.numbers items) same is.resumes;
-      start = start;
-      end = subst (λ x. v.course.numbers.end ≡ v.course.numbers.start
-          + laid_length x items v.course.numbers.boundary width) same is.layout.end;
-      reaches = is.reaches;
-      classes = packs.keeps.classes;
-      small = packs.keeps.small;
-      on = packs.on;
+      resumes = record {
+        wall = omega (arith, can.wall, start);
+        slack = can.slack;
+        side = subst (λ x. (it : Item) → Contains items it → (v.numbers.wall ≤ it.place)
+            ⊎ ((x ≤ it.place) × (it.place + it.size ≤ v.numbers.wall))) start can.side;
+        order = can.order;
+        gap = can.gap;
+      };
+      start = refl;
+      end = refl;
+      reaches = omega arith;
+      classes = classes;
+      small = (omega (arith, small.0, is.reaches), small.1);
+      on = subst (λ x. IsOnShelf x items shelf) start on;
     }

@@ -5,17 +5,21 @@ ghost use Rattle.size_class.specs.Classes.{class_of as class_of_lem};
 ghost use Rattle.segment_layout.specs.Layouts.{divisor_of, caps_of};
 ghost use Rattle.plan_terms.specs.declared.item.Item.{Item as AnyItem};
 ghost use Rattle.plan_terms.specs.declared.item.Numbers.{Numbers as AnyNumbers};
-ghost use Rattle.plan_terms.specs.Plans.{IsInBuffer, ItemsApart, mover, relocated, stands_in_payload};
-ghost use Rattle.plan_terms.specs.Phases.{AreItems, CanFlush};
+ghost use Rattle.plan_terms.specs.Plans.{AreBelow, AreSmall, IsInBuffer, ItemsApart, mover, relocated, stands_in_payload};
+ghost use Rattle.plan_terms.specs.Phases.{AreItems, CanFlush, IsPacking};
+ghost use Rattle.flush_plan.specs.Shelves.{Course, phase_on};
 ghost use Rattle.flush_plan.specs.Lifts.{KeepsLifting};
 ghost use Rattle.flush_plan.specs.Packs.{KeepsPacking};
+ghost use Rattle.flush_plan.specs.Lays.{KeepsLaying};
 
+use crate::again::numbers_again;
 use crate::counts::numbers;
+use crate::lay::Laying;
 use crate::lift::Lifting;
 use crate::pack::Packing;
 use crate::ranks::rank_from;
 use crate::shelf::Shelf;
-use plan_terms::{Item, Move};
+use plan_terms::{Item, Move, Numbers};
 use segment_layout::Layout;
 use size_class::{Row, class_of};
 
@@ -132,7 +136,7 @@ pub(crate) fn flush_of<const C: usize>(
     Some(Begun { lifting, shelf })
 }
 
-/// Goes on with a flush whose objects were found again on a shelf.
+/// Goes on with a flush that was interrupted within Pack, or before its first move.
 pub(crate) fn found_again<const C: usize>(
     layout: &Layout<C>,
     packing: Packing<C>,
@@ -145,12 +149,47 @@ pub(crate) fn found_again<const C: usize>(
         × IsPermutation items shelf.now.items.items
         × IsNonDecreasingBy (λ (it : AnyItem). it.place) shelf.now.items.items) }
 {
-    let numbers = packing.numbers();
+    resumed(layout, packing.k, packing.numbers(), shelf)
+}
+
+/// Goes on with a flush that was interrupted within Lay.
+pub(crate) fn found_laid<const C: usize>(
+    layout: &Layout<C>,
+    laying: Laying<C>,
+    shelf: &ListShelf,
+) -> Option<Packing<C>>
+    requires { (items : List AnyItem) × KeepsLaying C laying items
+        × IsPermutation items shelf.now.items.items
+        × IsNonDecreasingBy (λ (it : AnyItem). it.place) shelf.now.items.items }
+    ensures { IfSome result (λ again. (items : List AnyItem) × KeepsPacking C again items
+        × IsPermutation items shelf.now.items.items
+        × IsNonDecreasingBy (λ (it : AnyItem). it.place) shelf.now.items.items) }
+{
+    resumed(layout, laying.k, laying.numbers(), shelf)
+}
+
+/// Goes on with a flush of which the layout, the boundary, the wall and the slack are known, over the shelf
+/// on which its objects were found.
+fn resumed<const C: usize>(
+    layout: &Layout<C>,
+    k: u64,
+    numbers: Numbers,
+    shelf: &ListShelf,
+) -> Option<Packing<C>>
+    requires { (v : Course) × (v.k ≡ k) × (v.numbers ≡ numbers) × (items : List AnyItem)
+        × IsPacking (phase_on v items) × AreBelow C items × AreSmall v.numbers items
+        × IsPermutation items shelf.now.items.items
+        × IsNonDecreasingBy (λ (it : AnyItem). it.place) shelf.now.items.items }
+    ensures { IfSome result (λ again. (items : List AnyItem) × KeepsPacking C again items
+        × IsPermutation items shelf.now.items.items
+        × IsNonDecreasingBy (λ (it : AnyItem). it.place) shelf.now.items.items) }
+{
     let b = numbers.boundary;
-    if packing.k != layout.k() || b as usize >= C || layout.start(b) != numbers.start {
+    if C > 32 || b as usize >= C || k != layout.k() || layout.start(b) != numbers.start {
         return None;
     }
-    Some(Packing::resume(layout, numbers, shelf))
+    let again = numbers_again(layout, b, numbers.wall, numbers.slack, shelf);
+    Some(Packing::resume(layout, again, shelf))
 }
 
 /// Whether a flush from class `b` on may begin with these items.

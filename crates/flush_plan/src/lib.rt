@@ -5,10 +5,14 @@
 mod again;
 mod counts;
 #[cfg(test)]
+mod draws;
+#[cfg(test)]
 mod fixtures;
 mod lay;
 mod lift;
 mod pack;
+#[cfg(test)]
+mod passes;
 mod ranks;
 mod settled;
 mod shelf;

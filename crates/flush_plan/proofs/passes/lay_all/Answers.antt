@@ -1,18 +1,9 @@
-use Rattle.std.proofs.Common.{arith, ℕ, List, IsPermutation}
-use Rattle.std.specs.List.Sorted.{IsNonDecreasingBy}
+use Rattle.std.proofs.Common.{arith}
 use Rattle.std.proofs.lemmas.List.Sorted.{Contains-permutation}
-use Rattle.plan_terms.specs.declared.item.Item.{Item}
 use Rattle.plan_terms.specs.Plans.{mover, relocated}
 use Rattle.plan_terms.proofs.SortLaws.{items_permuted}
-use Rattle.flush_plan.specs.Lays.{KeepsLaying, Lay, Lays}
-use Rattle.flush_plan.proofs.FixtureLaws.{listed, relisted}
-use Rattle.flush_plan.proofs.tests.lay_all.Goals as goal
-
--- the objects of the list are those that Lay goes on over
-lays_list : (C : ℕ) (v : Lay) (xs : List Item) (h : (items : List Item) × KeepsLaying C v items
-    × IsPermutation items xs × IsNonDecreasingBy (λ (it : Item). it.place) xs) → Lays C v h.0 xs
-lays_list C v xs h =
-    record { keeps = h.1; on = listed v.course.numbers h.0 xs h.1.laying.packing.items h.2 h.3 }
+use Rattle.flush_plan.proofs.FixtureLaws.{lays_list, relisted}
+use Rattle.flush_plan.proofs.passes.lay_all.Goals as goal
 
 pub next-requires : goal.next-requires
 next-requires g c =

@@ -8,7 +8,7 @@ use Rattle.plan_terms.proofs.SortLaws.{items_permuted}
 use Rattle.flush_plan.specs.Lifts.{KeepsLifting, Lift, Lifts}
 use Rattle.flush_plan.specs.Shelves.{phase_on}
 use Rattle.flush_plan.proofs.FixtureLaws.{listed, relisted}
-use Rattle.flush_plan.proofs.tests.lift_all.Goals as goal
+use Rattle.flush_plan.proofs.passes.lift_all.Goals as goal
 
 -- the objects of the list are those that Lift goes on over
 lifts_list : (C : ℕ) (v : Lift) (xs : List Item) (h : (items : List Item) × KeepsLifting C v items

@@ -1,20 +1,12 @@
-use Rattle.std.proofs.Common.{arith, refl, sym, subst, ℕ, List, IsPermutation}
-use Rattle.std.specs.List.Sorted.{IsNonDecreasingBy}
+use Rattle.std.proofs.Common.{arith, refl, sym, subst}
 use Rattle.std.proofs.lemmas.List.Sorted.{Contains-permutation}
-use Rattle.plan_terms.specs.declared.item.Item.{Item}
 use Rattle.plan_terms.specs.Phases.{IsPackedWhole}
 use Rattle.plan_terms.specs.Plans.{mover, relocated}
 use Rattle.plan_terms.proofs.SortLaws.{items_permuted}
-use Rattle.flush_plan.specs.Packs.{KeepsPacking, Pack, Packs}
+use Rattle.flush_plan.specs.Packs.{Pack, Packs}
 use Rattle.flush_plan.specs.Shelves.{phase_on}
-use Rattle.flush_plan.proofs.FixtureLaws.{listed, relisted}
-use Rattle.flush_plan.proofs.tests.pack_all.Goals as goal
-
--- the objects of the list are those that Pack goes on over
-packs_list : (C : ℕ) (v : Pack) (xs : List Item) (h : (items : List Item) × KeepsPacking C v items
-    × IsPermutation items xs × IsNonDecreasingBy (λ (it : Item). it.place) xs) → Packs C v h.0 xs
-packs_list C v xs h =
-    record { keeps = h.1; on = listed v.course.numbers h.0 xs h.1.packing.items h.2 h.3 }
+use Rattle.flush_plan.proofs.FixtureLaws.{packs_list, relisted}
+use Rattle.flush_plan.proofs.passes.pack_all.Goals as goal
 
 pub next-requires : goal.next-requires
 next-requires g c =
