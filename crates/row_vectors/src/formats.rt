@@ -1,5 +1,5 @@
 //! Formats, what they leave of a file, and formats that stop.
-use crate::answers::try_answer;
+use crate::answers::{try_answer, try_command};
 use crate::images::disk;
 use crate::runs::run_on;
 use disk_face::Disk;
@@ -10,19 +10,6 @@ use std::process::Abort;
 use std::test::Fail;
 
 const FORMAT: [&str; 4] = ["format", "f", "9", "16"];
-
-/// What a command puts of a file that is there. The disk is given back.
-fn try_command(
-    rt: &impl Abort,
-    alloc: Global,
-    file: MemDisk,
-    words: &[&str],
-    status: u8,
-    puts: &str,
-) -> Result<MemDisk, Fail> {
-    let ran = run_on(alloc, words, true, file, Vec::new(alloc))?;
-    try_answer(rt, ran, status, puts)
-}
 
 #[test]
 fn formats_a_file_that_is_not_there(rt: HostRuntime) -> Result<(), Fail> {

@@ -31,11 +31,17 @@ mod failing_sinks;
 #[cfg(test)]
 mod formats;
 #[cfg(test)]
+mod fronts;
+#[cfg(test)]
 mod gets;
 pub mod images;
 pub mod inputs;
 #[cfg(test)]
 mod limits;
+#[cfg(test)]
+mod refusals;
+#[cfg(test)]
+mod resumed;
 pub mod runs;
 #[cfg(test)]
 mod tables;

@@ -7,19 +7,18 @@ use std::alloc::Global;
 use std::process::Abort;
 use std::test::Fail;
 
-/// Changes of an image, the status of both commands on it, and what each puts.
+/// Changes of an image, and what each of the two commands puts of it.
 #[derive(Clone, Copy)]
 struct Row {
     length: usize,
     changes: &'static [Change],
-    status: u8,
     check: &'static str,
     map: &'static str,
 }
 
 macro_rules! rows {
-    ($($length:literal, $changes:expr => $status:literal $check:literal $map:literal;)*) => {
-        [$(Row { length: $length, changes: &$changes, status: $status, check: $check, map: $map }),*]
+    ($($length:literal, $changes:expr => $check:literal $map:literal;)*) => {
+        [$(Row { length: $length, changes: &$changes, check: $check, map: $map }),*]
     };
 }
 
@@ -29,7 +28,7 @@ fn try_rows(rt: &impl Abort, alloc: Global, first: &[Change], rows: &[Row]) -> R
         let bytes = image(alloc, row.length, first, row.changes)?;
         for (words, text) in [(["check", "f"], row.check), (["map", "f"], row.map)] {
             let ran = run(alloc, &words, &bytes)?;
-            let file = try_answer(rt, ran, row.status, text)?;
+            let file = try_answer(rt, ran, 0, text)?;
             assert_eq!(rt; file.turns(), 0, "{text}");
         }
     }
@@ -39,16 +38,14 @@ fn try_rows(rt: &impl Abort, alloc: Global, first: &[Change], rows: &[Row]) -> R
 #[test]
 fn tells_files_at_rest(rt: HostRuntime) -> Result<(), Fail> {
     let rows = rows! {
-        19608, [] => 0 "store 9 16 1 5 5 1 still\n" "class 2 5 0 0\nobject a 0 5\n";
+        19608, [] => "store 9 16 1 5 5 1 still\n" "class 2 5 0 0\nobject a 0 5\n";
         // The layout ends at 111, in a file that had grown to 254 bytes of data.
         19857, [(72, 7), (120, 0), (152, 100), (8624, 100)]
-            => 0 "store 9 16 1 100 254 7 still\n" "class 6 100 11 0\nobject a 0 100\n";
+            => "store 9 16 1 100 254 7 still\n" "class 6 100 11 0\nobject a 0 100\n";
         // `b` stands in the buffer of class 6.
         19714, [(80, 2), (120, 0), (152, 100), (1920, 10), (8624, 100), (8632, 1), (8633, b'b'), (8696, 100),
             (8704, 10)]
-            => 0 "store 9 16 2 110 111 1 still\n" "class 6 100 11 10\nobject a 0 100\nobject b 100 10\n";
-        19607, [] => 4 "fault store rule 3 at 0\n" "fault store rule 3 at 0\n";
-        19608, [(19602, 0)] => 4 "fault store slot 2\n" "fault store slot 2\n";
+            => "store 9 16 2 110 111 1 still\n" "class 6 100 11 10\nobject a 0 100\nobject b 100 10\n";
     };
     try_rows(&rt, rt.alloc(), &[], &rows)
 }
@@ -56,11 +53,10 @@ fn tells_files_at_rest(rt: HostRuntime) -> Result<(), Fail> {
 #[test]
 fn tells_moving_files(rt: HostRuntime) -> Result<(), Fail> {
     let rows = rows! {
-        19857, [] => 0 "store 9 16 3 115 254 1 moving\n"
+        19857, [] => "store 9 16 3 115 254 1 moving\n"
             "moving 2 239 112\nobject a 139 100\nobject b 239 10\nobject c 249 5\n";
         19714, [(66, 7), (80, 1), (88, 111), (96, 0), (152, 100), (8616, 0)]
-            => 0 "store 9 16 1 100 111 1 moving\n" "moving 7 111 0\nclass 6 100 11 0\nobject a 0 100\n";
-        19857, [(96, 113)] => 4 "fault store rule 11 at 0\n" "fault store rule 11 at 0\n";
+            => "store 9 16 1 100 111 1 moving\n" "moving 7 111 0\nclass 6 100 11 0\nobject a 0 100\n";
     };
     try_rows(&rt, rt.alloc(), &MOVING, &rows)
 }
