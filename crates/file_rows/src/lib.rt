@@ -1,8 +1,7 @@
-//! Worked files, opened by `plain_opening` and by `read_state` beside it, and the texts of their faults.
+//! Files opened by `plain_opening` and by `read_state` beside it; worked files, and the texts of their faults.
 #![tactic(auto)]
 
-#[cfg(test)]
-mod both;
+pub mod alike;
 #[cfg(test)]
 mod moving;
 #[cfg(test)]

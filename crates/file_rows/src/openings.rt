@@ -1,5 +1,5 @@
 //! A worked file, its changes, and what each opens to, by `plain_opening` and by `read_state` alike.
-use crate::both::refusal_of;
+use crate::alike::refusal_by_both;
 use plain_opening::{Refusal, open};
 use row_vectors::images::{Change, disk};
 use slot_codec::{CodecFault, Name};
@@ -32,8 +32,8 @@ pub fn try_rows(
 ) -> Result<(), Fail> {
     for row in rows {
         let mut file = disk(alloc, row.length, common, row.changes)?;
-        let refusal = refusal_of(rt, alloc, &mut file, row.what)?;
-        assert_eq!(rt; refusal, row.refusal, "{}", row.what);
+        let refusal = refusal_by_both(alloc, &mut file);
+        assert_eq!(rt; refusal, Ok(row.refusal), "{}", row.what);
     }
     Ok(())
 }

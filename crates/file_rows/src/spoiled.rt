@@ -1,8 +1,7 @@
 //! Worked files of which one byte is spoiled: `plain_opening` and `read_state` agree on each.
-use crate::both::refusal_of;
+use crate::alike::refusal_by_both;
 use row_vectors::images::{Change, MOVING, disk};
 use std::alloc::Global;
-use std::process::Abort;
 use std::test::Fail;
 
 /// A byte of each part that opening reads: the superblock, the header with the capacities and entries
@@ -13,17 +12,11 @@ const PLACES: [usize; 30] = [
 ];
 
 /// Spoils each of the bytes by each of some values.
-fn spoil(
-    rt: &impl Abort,
-    alloc: Global,
-    length: usize,
-    common: &[Change],
-    values: &[u8],
-) -> Result<(), Fail> {
+fn spoil(alloc: Global, length: usize, common: &[Change], values: &[u8]) -> Result<(), Fail> {
     for at in PLACES {
         for value in values {
             let mut file = disk(alloc, length, common, &[(at, *value)])?;
-            let _ = refusal_of(rt, alloc, &mut file, "a spoiled byte")?;
+            let _ = refusal_by_both(alloc, &mut file)?;
         }
     }
     Ok(())
@@ -31,10 +24,10 @@ fn spoil(
 
 #[test]
 fn agrees_on_spoiled_settled_files(rt: HostRuntime) -> Result<(), Fail> {
-    spoil(&rt, rt.alloc(), 19_608, &[], &[0, 1, 2, 5])
+    spoil(rt.alloc(), 19_608, &[], &[0, 1, 2, 5])
 }
 
 #[test]
 fn agrees_on_spoiled_moving_files(rt: HostRuntime) -> Result<(), Fail> {
-    spoil(&rt, rt.alloc(), 19_857, &MOVING, &[0, 1, 2, 0xEF])
+    spoil(rt.alloc(), 19_857, &MOVING, &[0, 1, 2, 0xEF])
 }

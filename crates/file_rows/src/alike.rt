@@ -1,0 +1,117 @@
+//! Opening by `read_state`, which the program uses, beside the plain way: they are to agree.
+use disk_mem::MemDisk;
+use extent_table::Spot;
+use plain_opening::{Opened, Refusal, open};
+use reopen::{Loaded, OpenFault, State, read_state};
+use slot_codec::Kind;
+use std::alloc::Global;
+use thiserror::Error;
+
+/// The classes of the program.
+const CLASSES: u8 = 21;
+
+/// The most bytes of an object.
+const SIZE_MAX: u64 = 1_048_576;
+
+/// What a file is by both ways of opening it.
+#[derive(Clone, Copy, Debug, PartialEq, Eq)]
+pub enum Seen {
+    /// It has a settled table.
+    Still,
+    /// It has a moving table.
+    Moving,
+    /// It isn't opened.
+    Refused(Refusal),
+}
+
+/// In what the two ways differ first.
+#[derive(Clone, Copy, Debug, PartialEq, Eq, Error)]
+pub enum Parting {
+    #[error("one way opens the file and the other doesn't")]
+    Opening,
+    #[error("they refuse the file for other reasons")]
+    Refusal,
+    #[error("the state isn't of the kind that the header has")]
+    Kind,
+    #[error("they found other superblocks")]
+    Block,
+    #[error("they found slots of other sequences")]
+    Sequence,
+    #[error("they found other headers")]
+    Header,
+    #[error("they found other numbers of objects")]
+    Count,
+    #[error("an object stands at another spot")]
+    Spot,
+}
+
+/// Opens a file in both ways. Where they agree, they found one table or refuse it for one reason.
+/// Where one of them finds no memory and the other does, they differ.
+pub fn opened_by_both(alloc: Global, file: &mut MemDisk) -> Result<Seen, Parting> {
+    let plain = open(alloc, file, CLASSES, SIZE_MAX);
+    let read = read_state::<MemDisk, 21>(alloc, file);
+    match (plain, read) {
+        (Ok(opened), Ok(State::Still(loaded))) => {
+            same_table(&opened, &loaded, Kind::Settled)?;
+            Ok(Seen::Still)
+        }
+        (Ok(opened), Ok(State::Moving(loaded))) => {
+            same_table(&opened, &loaded, Kind::Moving)?;
+            Ok(Seen::Moving)
+        }
+        (Err(refusal), Err(fault)) if as_refusal(fault) == refusal => Ok(Seen::Refused(refusal)),
+        (Err(_), Err(_)) => Err(Parting::Refusal),
+        (_, _) => Err(Parting::Opening),
+    }
+}
+
+/// Why a file isn't opened by both ways, if it isn't.
+pub fn refusal_by_both(alloc: Global, file: &mut MemDisk) -> Result<Option<Refusal>, Parting> {
+    match opened_by_both(alloc, file)? {
+        Seen::Refused(refusal) => Ok(Some(refusal)),
+        Seen::Still | Seen::Moving => Ok(None),
+    }
+}
+
+/// A refusal of one way, as the other says it.
+fn as_refusal(fault: OpenFault) -> Refusal {
+    match fault {
+        OpenFault::Slot(fault) => Refusal::Slot(fault),
+        OpenFault::Table(broken) => Refusal::Rule(broken.rule, broken.at),
+        OpenFault::NoMemory => Refusal::NoMemory,
+    }
+}
+
+/// Both have the same superblock, slot, header and objects, and the header is of a kind.
+fn same_table(opened: &Opened, loaded: &Loaded<21>, kind: Kind) -> Result<(), Parting> {
+    if loaded.header.kind != kind {
+        return Err(Parting::Kind);
+    }
+    if opened.found.block != loaded.block {
+        return Err(Parting::Block);
+    }
+    if opened.found.sequence != loaded.slots.sequence() {
+        return Err(Parting::Sequence);
+    }
+    if opened.table.header != loaded.header {
+        return Err(Parting::Header);
+    }
+    same_objects(opened, loaded)
+}
+
+/// Both have the same objects at the same spots.
+fn same_objects(opened: &Opened, loaded: &Loaded<21>) -> Result<(), Parting> {
+    if opened.table.records.len() as u64 != loaded.table.count() {
+        return Err(Parting::Count);
+    }
+    for record in opened.table.records.iter() {
+        let spot = Spot {
+            place: record.place,
+            size: record.size,
+        };
+        if loaded.table.get(&record.name) != Some(spot) {
+            return Err(Parting::Spot);
+        }
+    }
+    Ok(())
+}
