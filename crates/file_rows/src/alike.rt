@@ -51,17 +51,32 @@ pub fn opened_by_both(alloc: Global, file: &mut MemDisk) -> Result<Seen, Parting
     let plain = open(alloc, file, CLASSES, SIZE_MAX);
     let read = read_state::<MemDisk, 21>(alloc, file);
     match (plain, read) {
-        (Ok(opened), Ok(State::Still(loaded))) => {
-            same_table(&opened, &loaded, Kind::Settled)?;
+        (Ok(opened), Ok(state)) => same_state(&opened, &state),
+        (Err(refusal), Err(fault)) => same_refusal(refusal, fault),
+        (_, _) => Err(Parting::Opening),
+    }
+}
+
+/// Both found one table, of the kind of the state.
+fn same_state(opened: &Opened, state: &State<21>) -> Result<Seen, Parting> {
+    match state {
+        State::Still(loaded) => {
+            same_table(opened, loaded, Kind::Settled)?;
             Ok(Seen::Still)
         }
-        (Ok(opened), Ok(State::Moving(loaded))) => {
-            same_table(&opened, &loaded, Kind::Moving)?;
+        State::Moving(loaded) => {
+            same_table(opened, loaded, Kind::Moving)?;
             Ok(Seen::Moving)
         }
-        (Err(refusal), Err(fault)) if as_refusal(fault) == refusal => Ok(Seen::Refused(refusal)),
-        (Err(_), Err(_)) => Err(Parting::Refusal),
-        (_, _) => Err(Parting::Opening),
+    }
+}
+
+/// Both refuse the file for one reason.
+fn same_refusal(refusal: Refusal, fault: OpenFault) -> Result<Seen, Parting> {
+    if as_refusal(fault) == refusal {
+        Ok(Seen::Refused(refusal))
+    } else {
+        Err(Parting::Refusal)
     }
 }
 

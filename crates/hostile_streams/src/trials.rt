@@ -1,0 +1,91 @@
+//! One list of requests, given to the program and to the plain map.
+use crate::lists::drawn_list;
+use crate::plain_map::{Object, PlainMap, bytes_of};
+use crate::spoils::spoil;
+use costore_top::Outcome;
+use disk_face::Disk;
+use disk_mem::{Choice, MemDisk};
+use drawn_words::Drawn;
+use plain_opening::open;
+use row_vectors::runs::{Ran, formatted, session};
+use slot_codec::Record;
+use std::alloc::Global;
+use std::test::Fail;
+
+/// The classes of the program, and the most bytes of an object.
+const CLASSES: u8 = 21;
+
+const SIZE_MAX: u64 = 1_048_576;
+
+/// Where the data part of a file with room for 16 names begins.
+const HEAD: u64 = 19_603;
+
+/// How a session ended; how many names and bytes the file holds then, as the plain map says; and whether
+/// all that was put, all numbers and what a crash would leave of the file are as it says.
+#[derive(Clone, Copy)]
+pub struct Trial {
+    pub outcome: Outcome,
+    pub names: usize,
+    pub bytes: u64,
+    pub agrees: bool,
+}
+
+/// The trial of a number: its list, with none to two spoilt bytes, in a session on a new file with k = 9
+/// and room for 16 names.
+pub fn tried(alloc: Global, number: u64) -> Result<Trial, Fail> {
+    let mut words = Drawn::new(number);
+    let mut list = drawn_list(alloc, &mut words)?;
+    let spoils = words.below(3);
+    for _ in 0..spoils {
+        spoil(&mut list, &mut words)?;
+    }
+    let piece = 1 + words.below(300) as usize;
+    let Ran { outcome, put, disk } = session(alloc, formatted(alloc, "9")?, &list.bytes, piece)?;
+    let mut map = PlainMap::new(alloc);
+    let is_whole = map.serve_all(&list.bytes, &put)?;
+    let status = if is_whole { 0 } else { 2 };
+    let is_answered = put.as_slice() == map.replies.as_slice();
+    let is_counted = are_numbers(&outcome, status, map.done, map.kept_done);
+    let is_held = holds(alloc, &disk, &map.kept)?;
+    Ok(Trial {
+        outcome,
+        names: map.kept.len(),
+        bytes: bytes_of(&map.kept),
+        agrees: is_answered && is_counted && is_held,
+    })
+}
+
+/// Whether a session ended with these numbers.
+fn are_numbers(outcome: &Outcome, status: u8, done: u64, kept_done: u64) -> bool {
+    outcome.status == status && outcome.done == done && outcome.kept_done == kept_done
+}
+
+/// Whether what a crash would leave of a disk now has these objects and no others, as the plain way of
+/// opening a file finds them.
+fn holds(alloc: Global, disk: &MemDisk, objects: &[Object<'_>]) -> Result<bool, Fail> {
+    let left = disk.image(disk.turns(), Choice::Durable)?;
+    let mut file = MemDisk::from_bytes(alloc, &left)?;
+    let Ok(opened) = open(alloc, &mut file, CLASSES, SIZE_MAX) else {
+        return Ok(false);
+    };
+    let records = opened.table.records.as_slice();
+    Ok(records.len() == objects.len() && are_records(records, objects, &left))
+}
+
+/// Whether records of a file have the names of these objects, in turn, and their bytes.
+fn are_records(records: &[Record], objects: &[Object<'_>], file: &[u8]) -> bool {
+    for (record, object) in records.iter().zip(objects.iter()) {
+        let is_named = record.name.as_bytes() == object.name;
+        if !is_named || bytes_of_record(file, record) != object.bytes {
+            return false;
+        }
+    }
+    true
+}
+
+/// The bytes of a record's object; none where it doesn't lie in the file.
+fn bytes_of_record<'a>(file: &'a [u8], record: &Record) -> &'a [u8] {
+    let from = HEAD.saturating_add(record.place) as usize;
+    let to = from.saturating_add(record.size as usize);
+    file.get(from..to).unwrap_or(&[])
+}
