@@ -1,6 +1,7 @@
 pub mod PutLemmas
 pub mod ChoiceLaws
 pub mod HeaderLaws
+pub mod NameLemmas
 pub mod PartLaws
 pub mod PickLaws
 pub mod RecordLaws

@@ -1,12 +1,12 @@
 -- A record has one spelling, and reading is its inverse.
 use Rattle.std.proofs.Common.{◌≡◌, ◌↔◌, ℕ, ◌+◌, ◌-◌, ◌<◌, ◌≤◌, ◌^◌, true, false, not, ◌&&◌, ◌||◌, List, [], ◌∷◌, ◌++◌, length, take, refl, sym, ap, ◌∙◌, arith, drop-cons, length-append}
-use Rattle.std.proofs.lemmas.Bool.{and_from, and_parts, le-ltb, leb-true, lt-ltb, ltb-false, ltb-true, not-false, not_from_true, or_from, or_parts}
+use Rattle.std.proofs.lemmas.Bool.{and_from, and_parts, le-ltb, lt-ltb, ltb-false, ltb-true, not-false, not_from_true, or_from, or_parts}
 use Rattle.std.proofs.lemmas.List.{take_all, length-replicate}
-use Rattle.std.specs.List.{list_all}
-use Rattle.std.specs.Prelude.{nat_le, nat_lt, slice_index, Ok}
+use Rattle.std.specs.Prelude.{nat_lt, slice_index, Ok}
 use Rattle.byte_ranges.specs.Ranges.{bytes_at}
 use Rattle.byte_ranges.proofs.RangeLaws.{length-bytes_at}
-use Rattle.slot_codec.specs.Names.{is_name, is_name_byte, IsName}
+use Rattle.slot_codec.specs.Names.{is_name, IsName}
+use Rattle.slot_codec.proofs.NameLemmas.{name_short}
 use Rattle.slot_codec.proofs.PartLaws.{StandsAt, bytes_at-more, number_spelled, same_joined, stands_bytes, stands_index, stands_left, stands_number, stands_right, stands_whole, zeros_are_zeros, zeros_spelled}
 use Rattle.slot_codec.specs.Readable.{IsRecord}
 use Rattle.slot_codec.specs.Reading.{are_zeros, is_in_range, number_at, read_record, record_of}
@@ -14,13 +14,6 @@ use Rattle.slot_codec.specs.Spelling.{AreBytes, number, record_bytes, zeros}
 use Rattle.slot_codec.proofs.StepLaws.{from_ok, guard_from, guard_ok}
 use Rattle.slot_codec.specs.declared.codec.Record.{Record}
 use Rattle.slot_codec.specs.declared.codec.CodecFault.TheVariants as fault
-
--- a name has at most 63 bytes
-pub name_short : (name : List ℕ) → IsName name → length name ≤ 63
-name_short name h =
-    let parts = and_parts (nat_lt 0 (length name) && nat_le (length name) 63) (list_all is_name_byte name) h
-    in
-    leb-true (length name) 63 (and_parts (nat_lt 0 (length name)) (nat_le (length name) 63) parts.0).1
 
 -- what bytes have that are read as a record
 pub record RecordParts (bytes : List ℕ) (r : Record) : Type 0 where

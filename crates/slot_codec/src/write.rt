@@ -3,7 +3,6 @@ ghost use Rattle.std.specs.Prelude.{◌≡◌, length};
 ghost use Rattle.slot_codec.specs.Spelling.{header_bytes, kind_code, record_bytes, superblock_bytes};
 
 use crate::lengths::{HEADER_LEN, RECORD_LEN, SUPERBLOCK_LEN};
-use crate::name::len_of;
 use crate::put::{put, put_number, put_numbers, put_zeros};
 use crate::{Header, Kind, Record, SuperBlock};
 
@@ -23,10 +22,7 @@ pub fn write_record(record: &Record, out: &mut [u8])
     requires { length out.old ≡ RECORD_LEN }
     ensures { out.new ≡ record_bytes «record».now }
 {
-    let len = len_of(&record.name);
-    put(out, 0, &[len as u8]);
-    put(out, 1, record.name.as_bytes());
-    put_zeros(out, 1 + len, 63 - len);
+    put(out, 0, record.name.spelled());
     put_number(out, 64, record.place);
     put_number(out, 72, record.size);
 }

@@ -4,14 +4,15 @@ ghost use Rattle.extent_table.specs.Extents.{IsLive};
 
 use crate::{ROUNDS, mean};
 use extent_table::Table;
+use slot_codec::{Roll, write_record};
 use std::alloc::{AllocError, Global};
 use std::io;
 use std::time::Instant;
 
-/// Times `in_order` and `kept_spot`, each at all live names. What they answer is summed and printed,
-/// so that no call is left out.
+/// Times `in_order`, `kept_spot` and the writing of a record, each at all live names. What they answer
+/// is summed and printed, so that no call is left out.
 pub fn time(rt: &HostRuntime, table: &Table) -> io::Result<()> {
-    let mut least = [u64::MAX; 2];
+    let mut least = [u64::MAX; 3];
     let mut sum = 0u64;
     for _ in 0..ROUNDS {
         let keys = live_keys(rt.alloc(), table)?;
@@ -21,9 +22,12 @@ pub fn time(rt: &HostRuntime, table: &Table) -> io::Result<()> {
         let start = Instant::now(rt)?;
         sum = sum.wrapping_add(sum_of_kept(table, &keys));
         least[1] = least[1].min(mean(rt, start, keys.len())?);
+        let start = Instant::now(rt)?;
+        sum = sum.wrapping_add(sum_of_records(table));
+        least[2] = least[2].min(mean(rt, start, keys.len())?);
     }
-    let [in_order, kept_spot] = least;
-    println!(rt; "in_order {in_order}, kept_spot {kept_spot}, sum {sum}")?;
+    let [in_order, kept_spot, record] = least;
+    println!(rt; "in_order {in_order}, kept_spot {kept_spot}, record {record}, sum {sum}")?;
     Ok(())
 }
 
@@ -46,6 +50,17 @@ fn sum_in_order(table: &Table) -> u64 {
         let (_, name, spot) = table.in_order(n);
         let last = name.as_bytes().last().copied().unwrap_or(0);
         sum = sum.wrapping_add(spot.place).wrapping_add(u64::from(last));
+    }
+    sum
+}
+
+/// The sum of a byte of each record, after it is written.
+fn sum_of_records<R: Roll>(roll: &R) -> u64 {
+    let mut sum = 0u64;
+    let mut out = [0; 80];
+    for n in 0..roll.count() {
+        write_record(&roll.nth(n), &mut out);
+        sum = sum.wrapping_add(u64::from(out[(n % 80) as usize]));
     }
     sum
 }

@@ -4,7 +4,5 @@ use Rattle.slot_codec.proofs.write.write_record.Goals as goal
 
 pub returns : goal.returns
 returns c =
-    record_grown _ _ _ _ _ _ _ _ _ _ c.len_of-len.ensures.value c.len_of-len.ensures.short
-    c.as_bytes.ensures.value
-    (omega arith) c.put.ensures c.put-2.ensures c.put_zeros.ensures c.put_number.ensures
-    c.put_number-2.ensures
+    record_grown _ _ _ _ _ _ _ c.spelled.ensures.named c.spelled.ensures.value (omega arith) c.put.ensures
+    c.put_number.ensures c.put_number-2.ensures
