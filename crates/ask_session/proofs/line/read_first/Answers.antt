@@ -1,4 +1,5 @@
 use Rattle.std.proofs.Common.{◌≡◌, ◌++◌, ◌∷◌, true, Bool, false, Ok, IsTrue, arith, ap, subst, ◌∙◌, length}
+use Rattle.std.proofs.lemmas.Grind.{common_steps}
 use Rattle.ask_text.specs.Asks.{AsksForNothing}
 use Rattle.ask_session.specs.Inputs.{newline_if}
 use Rattle.ask_session.proofs.LineLemmas.{line_not_empty, no_ask, no_line, not_empty}
@@ -50,3 +51,12 @@ pub returns-in-Err-read_ask-clause-some : goal.returns-in-Err-read_ask-clause-so
 returns-in-Err-read_ask-clause-some g c told is =
     not_empty (c.args.ahead.now ++ (g.I.Source.state c.args.input.now).left) c.read_line.new.line.items
     (c.read_line.new.ahead ++ (g.I.Source.state c.read_line.new.input).left) (line_front g c told)
+
+pub returns-in-Err : goal.returns-in-Err
+returns-in-Err g c = grind (arith, common_steps)
+
+pub returns-in-Ok : goal.returns-in-Ok
+returns-in-Ok g c = grind (arith, common_steps)
+
+pub returns-in-Ok-false : goal.returns-in-Ok-false
+returns-in-Ok-false g c = grind (arith, common_steps)

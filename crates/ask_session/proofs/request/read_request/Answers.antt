@@ -1,5 +1,5 @@
-use Rattle.std.proofs.Common.{◌++◌, ◌≡◌, IsTrue, Err, ap, arith}
-use Rattle.std.proofs.Common.{None, Bool, subst, ◌∷◌}
+use Rattle.std.proofs.Common.{◌++◌, ◌≡◌, IsTrue, Err, ap, arith, None, Bool, subst, ◌∷◌}
+use Rattle.std.proofs.lemmas.Grind.{common_steps}
 use Rattle.ask_session.specs.declared.ends.End.{End}
 use Rattle.ask_session.specs.declared.ends.End.TheVariants as ends
 use Rattle.ask_session.specs.Inputs.{HoldsObject, size_asked}
@@ -35,3 +35,6 @@ returns-in-Err-clause-none g c told is =
     (c.read_first.new.ahead ++ (g.I.Source.state c.read_first.new.input).left) c.in_ok-ask.ask c.in-Some.size
     c.in_ok-ask.ensures.ask c.in-Some.ensures (c.in_ok-ask.ensures.line told)
     (c.in-Err.ensures.none still (ap (λ (x : End). Err x) same))
+
+pub returns-in_err-ask : goal.returns-in_err-ask
+returns-in_err-ask g c = grind (arith, common_steps)

@@ -1,4 +1,5 @@
-use Rattle.std.proofs.Common.{◌≡◌, ap, sym, ◌∙◌, subst}
+use Rattle.std.proofs.Common.{arith, ◌≡◌, ap, sym, ◌∙◌, subst}
+use Rattle.std.proofs.lemmas.Grind.{common_steps}
 use Rattle.costore_top.specs.Commands.{Formats, IsDone}
 use Rattle.costore_top.specs.Words.{command_of, format}
 use Rattle.costore_top.proofs.asked.do_asked.Goals as goal

@@ -1,4 +1,5 @@
 use Rattle.std.proofs.Common.{◌≡◌, IsTrue, arith, length, refl, rules, subst, sym}
+use Rattle.std.proofs.lemmas.Grind.{common_steps}
 use Rattle.std.proofs.lemmas.Bool.{eq-eqb}
 use Rattle.costore_top.specs.Commands.{IsDone, IsFormatted}
 use Rattle.costore_top.specs.declared.stop.Stop.TheVariants as stop
@@ -72,3 +73,9 @@ returns-in_err-map_err-clause-keeps g c = record {
       let none : length (g.D.Disk.state c.args.disk.now).file ≡ 0 = grind (arith, is) in
       absurd (omega (arith, none, some));
 }
+
+pub returns-in_err-length : goal.returns-in_err-length
+returns-in_err-length g c = grind (arith, common_steps)
+
+pub returns-then-length-ne0 : goal.returns-then-length-ne0
+returns-then-length-ne0 g c = grind (arith, common_steps)

@@ -1,4 +1,5 @@
-use Rattle.std.proofs.Common.{refl}
+use Rattle.std.proofs.Common.{arith, refl}
+use Rattle.std.proofs.lemmas.Grind.{common_steps}
 use Rattle.costore_top.specs.Texts.{IsMapped}
 use Rattle.costore_top.specs.declared.stop.Stop.TheVariants as stop
 use Rattle.costore_top.proofs.AnswerLaws.{stopped}
@@ -8,3 +9,9 @@ pub returns-in-Err-clause-answers : goal.returns-in-Err-clause-answers
 returns-in-Err-clause-answers g c = λ told.
     let output = g.O.Sink.state c.args.output.now in
     stopped (IsMapped (g.B.Disk.state c.args.bay.now).file) output output stop.Disk refl (λ is. cc) tt
+
+pub returns-in-Ok-Absent : goal.returns-in-Ok-Absent
+returns-in-Ok-Absent g c = grind (arith, common_steps)
+
+pub returns-in-Ok-There : goal.returns-in-Ok-There
+returns-in-Ok-There g c = grind (arith, common_steps)

@@ -38,3 +38,6 @@ returns-in_err-put_piece-clause-put g c = λ told sink_told.
     c.pieces.done
     c.min-n.result c.args.size (omega arith) (c.requires.within told) first (rw same at second) in
     search rules
+
+pub returns : goal.returns
+returns g c = grind (arith, common_steps)

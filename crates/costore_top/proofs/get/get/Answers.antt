@@ -1,4 +1,5 @@
-use Rattle.std.proofs.Common.{refl, rules}
+use Rattle.std.proofs.Common.{arith, refl, rules}
+use Rattle.std.proofs.lemmas.Grind.{common_steps}
 use Rattle.costore_top.specs.Getting.{IsObject}
 use Rattle.costore_top.proofs.AnswerLaws.{stopped}
 use Rattle.costore_top.proofs.get.get.Goals as goal
@@ -9,3 +10,6 @@ returns-in_err-at-clause-answers g c = λ told.
     let all = stopped (IsObject c.args.name.now (g.D.Disk.state c.args.disk.now).file) output output
     c.in_err-at.field-0.0 refl c.in_err-at.ensures.looks.only.0 (c.in_err-at.ensures.stopped told) in
     search rules
+
+pub returns : goal.returns
+returns g c = grind (arith, common_steps)

@@ -1,4 +1,5 @@
-use Rattle.std.proofs.Common.{inr, rules}
+use Rattle.std.proofs.Common.{arith, inr, rules}
+use Rattle.std.proofs.lemmas.Grind.{common_steps}
 use Rattle.costore_top.specs.Getting.{IsObject, IsRefused}
 use Rattle.costore_top.proofs.AnswerLaws.{stops_more}
 use Rattle.costore_top.proofs.get.locate.Goals as goal

@@ -1,5 +1,6 @@
+use Rattle.std.proofs.Common.{arith, ◌≡◌, Err, IsTrue, subst, sym}
+use Rattle.std.proofs.lemmas.Grind.{common_steps}
 -- What was read is the one command that the words mean.
-use Rattle.std.proofs.Common.{◌≡◌, Err, IsTrue, subst, sym}
 use Rattle.costore_top.specs.Words.{command_of, format, texts}
 use Rattle.costore_top.specs.Commands.{IsMounted}
 use Rattle.costore_top.specs.declared.stop.Stop.TheVariants as stop
@@ -32,3 +33,6 @@ returns-in-Some-clause-formats g c = λ file k names means told empty.
 
 pub do_asked-requires-clause-no_session : goal.do_asked-requires-clause-no_session
 do_asked-requires-clause-no_session g c = c.requires.no_session (command_of c.in-Some.asked) c.in-Some.ensures
+
+pub returns-in-None : goal.returns-in-None
+returns-in-None g c = grind (arith, common_steps)

@@ -1,4 +1,5 @@
-use Rattle.std.proofs.Common.{refl, sym, subst}
+use Rattle.std.proofs.Common.{arith, refl, sym, subst}
+use Rattle.std.proofs.lemmas.Grind.{common_steps}
 use Rattle.reopen.specs.Loads.{IsLoadedFrom, KeepsLoaded}
 use Rattle.reopen.proofs.StateLaws.{breaks_first, is_loaded, keeps_loaded, loaded_from}
 use Rattle.reopen.proofs.state.read_state.Goals as goal
@@ -28,3 +29,6 @@ returns-in-Ok-clause-state g c =
 pub returns-in-Err-clause-refused : goal.returns-in-Err-clause-refused
 returns-in-Err-clause-refused g c = λ told. breaks_first g.row.C (g.D.Disk.state c.args.disk.now).file
     c.in_ok-found.field-0 c.in-Err.fault (c.in_ok-found.ensures.told told) c.in-Err.ensures.broken
+
+pub returns-in_err-found : goal.returns-in_err-found
+returns-in_err-found g c = grind (arith, common_steps)

@@ -1,4 +1,5 @@
-use Rattle.std.proofs.Common.{IsTrue, subst, sym}
+use Rattle.std.proofs.Common.{arith, IsTrue, subst, sym}
+use Rattle.std.proofs.lemmas.Grind.{common_steps}
 use Rattle.slot_pair.specs.Finding.{chosen_of}
 use Rattle.reopen.proofs.TableLaws.{no_header, no_records}
 use Rattle.reopen.proofs.table.read_table.Goals as goal
@@ -15,3 +16,9 @@ returns-in-Err-load_records-clause-refused g c = λ told.
     let bad = rw same at (c.in-Err-load_records.ensures.refused told') in
     no_records (g.D.Disk.state c.args.disk.now).file (chosen_of c.in-Ok.found.0 c.in-Ok.found.1)
     c.in-Err-load_records.fault (c.in-Ok.ensures.told told).read bad
+
+pub returns-in_default : goal.returns-in_default
+returns-in_default g c = grind (arith, common_steps)
+
+pub returns-in_default-length_of : goal.returns-in_default-length_of
+returns-in_default-length_of g c = grind (arith, common_steps)

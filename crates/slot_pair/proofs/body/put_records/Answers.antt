@@ -1,4 +1,5 @@
 use Rattle.std.proofs.Common.{◌+◌, ◌*◌, ◌≡◌, ◌≤◌, ℕ, IsTrue, arith, flat_map, length, min, refl, subst, sym, take, List}
+use Rattle.std.proofs.lemmas.Grind.{common_steps}
 use Rattle.std.proofs.lemmas.List.{length-take-le}
 use Rattle.byte_ranges.specs.Ranges.{bytes_at}
 use Rattle.slot_codec.specs.Spelling.{record_bytes}
@@ -53,3 +54,6 @@ pieces-preserved g c =
       calls = omega (arith, w.frame.one_turn, c.pieces.invariant.calls);
       calm = omega (arith, c.in_ok-write_at.ensures.cause.calm, c.pieces.invariant.calm);
     }
+
+pub returns : goal.returns
+returns g c = grind (arith, common_steps)

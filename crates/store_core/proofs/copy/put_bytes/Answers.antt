@@ -1,4 +1,5 @@
 use Rattle.std.proofs.Common.{◌≡◌, rules, arith, IsTrue, length, take}
+use Rattle.std.proofs.lemmas.Grind.{common_steps}
 use Rattle.std.proofs.lemmas.List.{length-take-le}
 use Rattle.disk_face.proofs.FrameLaws.{Unchanged-trans}
 use Rattle.store_core.proofs.PieceLaws.{put_more, put_front}
@@ -42,3 +43,6 @@ returns-in_err-put_piece-clause-put g c = λ told sink_told.
     (c.pieces.invariant.put told sink_told)
     (rw (c.pieces.invariant.frame.same_file told, len) at second) in
     search rules
+
+pub returns : goal.returns
+returns g c = grind (arith, common_steps)

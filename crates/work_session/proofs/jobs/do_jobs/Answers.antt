@@ -1,4 +1,5 @@
 use Rattle.std.proofs.Common.{arith, sym, subst}
+use Rattle.std.proofs.lemmas.Grind.{common_steps}
 use Rattle.work_maker.specs.Making.{asked_by, jobs_left}
 use Rattle.work_session.specs.Jobs.{IsWorking}
 use Rattle.work_session.specs.declared.tally.Tally.{Tally}
@@ -51,3 +52,6 @@ returns-in-Err-clause-stopped g c =
     (jobs_left c.next.new.self) (asked_by c.in-Some.job) (g.D.Disk.state c.args.disk.now)
     (g.D.Disk.state c.jobs.disk) (g.D.Disk.state c.do_job.new.disk) c.jobs.tally
     (as_left c.jobs.invariant c.in-Some.ensures.next) _ c.in-Err.ensures
+
+pub returns : goal.returns
+returns g c = grind (arith, common_steps)

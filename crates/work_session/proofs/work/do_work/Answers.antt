@@ -1,4 +1,5 @@
 use Rattle.std.proofs.Common.{arith, ap, sym, subst, length, ◌∙◌}
+use Rattle.std.proofs.lemmas.Grind.{common_steps}
 use Rattle.std.specs.Prelude.{List, [], ℕ}
 use Rattle.store_terms.specs.Requests.{Request}
 use Rattle.work_maker.specs.Jobs.{jobs}
@@ -40,3 +41,9 @@ returns-in-Ok-do_jobs-clause-done g c =
     (subst (λ (n : ℕ). HasTally c.in-Ok-do_jobs.tally n c.sum_up.result)
     (sym (jobs_long c.args.number c.args.count c.args.store.in_use.block.names)) c.sum_up.ensures.tally)
     c.sum_up.ensures.end c.sum_up.ensures.lines c.sum_up.ensures.zeros
+
+pub returns : goal.returns
+returns g c = grind (arith, common_steps)
+
+pub returns-in_default : goal.returns-in_default
+returns-in_default g c = grind (arith, common_steps)

@@ -1,4 +1,5 @@
 use Rattle.std.proofs.Common.{◌∙◌, IsTrue, Ok, ap, arith, sym}
+use Rattle.std.proofs.lemmas.Grind.{common_steps}
 use Rattle.slot_codec.specs.Choice.{InUse}
 use Rattle.slot_pair.specs.Finding.{in_use_of}
 use Rattle.slot_pair.proofs.SavePhases.{Begins, IsClosed, IsWritten, is_closed, is_written, left_closing, left_filling, left_opening, opened_in_use, opened_saved}
@@ -78,3 +79,102 @@ returns-clause-saved g c = λ told.
     let is = closed g at.In_ok-close_other (begun g at.After-close_other told) in
     rw (← c.self.view_is) (opened_saved (written g at.In_ok-write_table is) c.open_gate.ensures.writes
     c.in_ok-open_gate.ensures.opened)
+
+pub close_other-requires : goal.close_other-requires
+close_other-requires g c = grind (arith, common_steps)
+
+pub returns-in_err-close_other-clause-answer : goal.returns-in_err-close_other-clause-answer
+returns-in_err-close_other-clause-answer g c = grind (arith, common_steps)
+
+pub returns-in_err-close_other-clause-pair : goal.returns-in_err-close_other-clause-pair
+returns-in_err-close_other-clause-pair g c = grind (arith, common_steps)
+
+pub returns-in_err-close_other-clause-same_pair : goal.returns-in_err-close_other-clause-same_pair
+returns-in_err-close_other-clause-same_pair g c = grind (arith, common_steps)
+
+pub returns-in_err-close_other-clause-calls : goal.returns-in_err-close_other-clause-calls
+returns-in_err-close_other-clause-calls g c = grind (arith, common_steps)
+
+pub returns-in_err-close_other-clause-in_use : goal.returns-in_err-close_other-clause-in_use
+returns-in_err-close_other-clause-in_use g c = grind (arith, common_steps)
+
+pub returns-in_err-close_other-clause-saved : goal.returns-in_err-close_other-clause-saved
+returns-in_err-close_other-clause-saved g c = grind (arith, common_steps)
+
+pub returns-in_err-close_other-clause-rests : goal.returns-in_err-close_other-clause-rests
+returns-in_err-close_other-clause-rests g c = grind (arith, common_steps)
+
+pub returns-in_err-close_other-clause-frame : goal.returns-in_err-close_other-clause-frame
+returns-in_err-close_other-clause-frame g c = grind (arith, common_steps)
+
+pub slot_at-requires : goal.slot_at-requires
+slot_at-requires g c = grind (arith, common_steps)
+
+pub write_table-requires : goal.write_table-requires
+write_table-requires g c = grind (arith, common_steps)
+
+pub returns-in_err-write_table-clause-answer : goal.returns-in_err-write_table-clause-answer
+returns-in_err-write_table-clause-answer g c = grind (arith, common_steps)
+
+pub returns-in_err-write_table-clause-pair : goal.returns-in_err-write_table-clause-pair
+returns-in_err-write_table-clause-pair g c = grind (arith, common_steps)
+
+pub returns-in_err-write_table-clause-same_pair : goal.returns-in_err-write_table-clause-same_pair
+returns-in_err-write_table-clause-same_pair g c = grind (arith, common_steps)
+
+pub returns-in_err-write_table-clause-calls : goal.returns-in_err-write_table-clause-calls
+returns-in_err-write_table-clause-calls g c = grind (arith, common_steps)
+
+pub returns-in_err-write_table-clause-in_use : goal.returns-in_err-write_table-clause-in_use
+returns-in_err-write_table-clause-in_use g c = grind (arith, common_steps)
+
+pub returns-in_err-write_table-clause-saved : goal.returns-in_err-write_table-clause-saved
+returns-in_err-write_table-clause-saved g c = grind (arith, common_steps)
+
+pub returns-in_err-write_table-clause-rests : goal.returns-in_err-write_table-clause-rests
+returns-in_err-write_table-clause-rests g c = grind (arith, common_steps)
+
+pub returns-in_err-write_table-clause-frame : goal.returns-in_err-write_table-clause-frame
+returns-in_err-write_table-clause-frame g c = grind (arith, common_steps)
+
+pub open_gate-requires : goal.open_gate-requires
+open_gate-requires g c = grind (arith, common_steps)
+
+pub returns-in_err-open_gate-clause-answer : goal.returns-in_err-open_gate-clause-answer
+returns-in_err-open_gate-clause-answer g c = grind (arith, common_steps)
+
+pub returns-in_err-open_gate-clause-pair : goal.returns-in_err-open_gate-clause-pair
+returns-in_err-open_gate-clause-pair g c = grind (arith, common_steps)
+
+pub returns-in_err-open_gate-clause-same_pair : goal.returns-in_err-open_gate-clause-same_pair
+returns-in_err-open_gate-clause-same_pair g c = grind (arith, common_steps)
+
+pub returns-in_err-open_gate-clause-calls : goal.returns-in_err-open_gate-clause-calls
+returns-in_err-open_gate-clause-calls g c = grind (arith, common_steps)
+
+pub returns-in_err-open_gate-clause-in_use : goal.returns-in_err-open_gate-clause-in_use
+returns-in_err-open_gate-clause-in_use g c = grind (arith, common_steps)
+
+pub returns-in_err-open_gate-clause-saved : goal.returns-in_err-open_gate-clause-saved
+returns-in_err-open_gate-clause-saved g c = grind (arith, common_steps)
+
+pub returns-in_err-open_gate-clause-rests : goal.returns-in_err-open_gate-clause-rests
+returns-in_err-open_gate-clause-rests g c = grind (arith, common_steps)
+
+pub returns-in_err-open_gate-clause-frame : goal.returns-in_err-open_gate-clause-frame
+returns-in_err-open_gate-clause-frame g c = grind (arith, common_steps)
+
+pub returns-clause-answer : goal.returns-clause-answer
+returns-clause-answer g c = grind (arith, common_steps)
+
+pub returns-clause-pair : goal.returns-clause-pair
+returns-clause-pair g c = grind (arith, common_steps)
+
+pub returns-clause-calls : goal.returns-clause-calls
+returns-clause-calls g c = grind (arith, common_steps)
+
+pub returns-clause-rests : goal.returns-clause-rests
+returns-clause-rests g c = grind (arith, common_steps)
+
+pub returns-clause-frame : goal.returns-clause-frame
+returns-clause-frame g c = grind (arith, common_steps)
