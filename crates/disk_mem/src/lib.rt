@@ -1,8 +1,11 @@
-//! The outside in memory: disks that keep a record or none, a bay of one file, a source and a sink.
+//! The outside in memory: disks that keep a record or none, disks that fail when they are told to, a bay of one
+//! file, a source and a sink.
 #![tactic(auto)]
 
 mod bay;
+mod calls;
 mod disk;
+mod fuse;
 mod image;
 mod laws;
 mod plain;
@@ -10,12 +13,11 @@ mod record;
 mod replay;
 mod smear;
 mod streams;
-#[cfg(test)]
-mod tests;
 mod turns;
 
 pub use bay::MemBay;
 pub use disk::MemDisk;
+pub use fuse::Fuse;
 pub use image::Choice;
 pub use plain::PlainDisk;
 pub use streams::{MemSink, MemSource};

@@ -4,7 +4,5 @@
 
 mod guard;
 mod search;
-#[cfg(test)]
-mod tests;
 
 pub use guard::Guard;

@@ -2,8 +2,7 @@
 use crate::maps::{Map, ONE, THREE, try_map, try_text};
 use costore_top::Outcome;
 use disk_face::Disk;
-use disk_fuse::Fuse;
-use disk_mem::{Choice, MemDisk};
+use disk_mem::{Choice, Fuse, MemDisk};
 use row_vectors::inputs::{KEPT, OK, PUT_A, PUT_B, PUT_C};
 use row_vectors::runs::{formatted, joined, session};
 use std::alloc::Global;

@@ -8,8 +8,6 @@ ghost use Rattle.move_cost.specs.Costs as costs;
 mod laws;
 mod table;
 mod tables;
-#[cfg(test)]
-mod tests;
 mod weight;
 
 pub use laws::{worked_factors, worked_weights};

@@ -2,8 +2,7 @@
 use crate::answers::{is_front_of_long, try_answer};
 use crate::images::{LONG, disk};
 use crate::runs::{Ran, ended, run_on};
-use disk_fuse::Fuse;
-use disk_mem::MemDisk;
+use disk_mem::{Fuse, MemDisk};
 use std::alloc::Global;
 use std::process::Abort;
 use std::test::Fail;

@@ -2,8 +2,7 @@
 use crate::cases::{Case, Left, PIECES, cases, try_answers, try_case, try_file};
 use costore_top::Outcome;
 use disk_face::Disk;
-use disk_fuse::Fuse;
-use disk_mem::{Choice, MemDisk, MemSource};
+use disk_mem::{Choice, Fuse, MemDisk, MemSource};
 use row_vectors::inputs::{DATA_A, KEPT, OK, PUT_A, PUT_B, PUT_C};
 use row_vectors::runs::{Ran, formatted, joined, run_with, session};
 use std::alloc::Global;

@@ -6,8 +6,6 @@ ghost use Rattle.size_class.specs.Classes.{class_of, lg_up, IsClass};
 
 mod grid;
 mod row;
-#[cfg(test)]
-mod tests;
 
 pub use grid::Grid;
 pub use row::Row;

@@ -10,8 +10,6 @@ mod name;
 mod put;
 mod read;
 mod roll;
-#[cfg(test)]
-mod tests;
 mod write;
 
 pub use codec::{CodecFault, Header, Kind, NoMemory, Record, SuperBlock};

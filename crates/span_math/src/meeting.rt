@@ -25,22 +25,3 @@ pub fn any_meets(list: &[Span], s: Span) -> bool
     }
     false
 }
-
-#[cfg(test)]
-mod tests {
-    use super::*;
-
-    #[test]
-    fn spans_meet_where_they_share_a_byte(rt: HostRuntime) {
-        let wide = Span { place: 0, size: 10 };
-        let next = Span { place: 10, size: 5 };
-        let last = Span { place: 9, size: 1 };
-        let empty = Span { place: 3, size: 0 };
-        assert!(rt; !meets(wide, next));
-        assert!(rt; meets(wide, last));
-        assert!(rt; !meets(empty, wide));
-        assert!(rt; !meets(wide, empty));
-        assert!(rt; any_meets(&[next, empty, last], wide));
-        assert!(rt; !any_meets(&[next, empty], wide));
-    }
-}

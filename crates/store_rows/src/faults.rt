@@ -6,8 +6,7 @@ use crate::requests::{Ask, KEPT, Looks, QUIET, Reply, Row, refused, rows, try_lo
 use crate::trials::{Trial, store_on};
 use crate::worked::{HUNDRED, UNCHANGED, at_one};
 use disk_face::Disk;
-use disk_fuse::Fuse;
-use disk_mem::MemDisk;
+use disk_mem::{Fuse, MemDisk};
 use std::alloc::Global;
 use std::process::Abort;
 use std::test::Fail;

@@ -5,8 +5,6 @@
 mod job;
 mod laws;
 mod next;
-#[cfg(test)]
-mod tests;
 mod work;
 
 pub use job::Job;

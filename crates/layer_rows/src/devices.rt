@@ -1,0 +1,181 @@
+//! The devices in memory: the images of each turn of a disk, a file in a bay, and pieces of a stream.
+ghost use Rattle.std.specs.Prelude.{IsTrue, IfOk};
+ghost use Rattle.disk_mem.specs.Bays.{bay_state};
+
+use disk_face::{Bay, Disk, Mounted, Sink, Source};
+use disk_mem::{Choice, MemBay, MemDisk, MemSink, MemSource, PlainDisk};
+use slot_codec::NoMemory;
+use std::alloc::Global;
+use std::process::Abort;
+use std::test::Fail;
+
+/// A turn, which of its images is built, and its bytes.
+type Image = (u64, Choice, &'static [u8]);
+
+const IMAGES: [Image; 18] = [
+    (0, Choice::Durable, b"abcd"),
+    (0, Choice::Newest, b"abcd"),
+    (0, Choice::Torn(b'?'), b"a??d"),
+    (1, Choice::Durable, b"abcd"),
+    (1, Choice::Newest, b"aXYd"),
+    (1, Choice::Torn(b'?'), b"a??d"),
+    (2, Choice::Durable, b"abcd"),
+    (2, Choice::Newest, b"aXYd\0\0"),
+    (2, Choice::Torn(b'?'), b"a??d??"),
+    (3, Choice::Durable, b"aXYd\0\0"),
+    (3, Choice::Newest, b"aXYd\0\0"),
+    (3, Choice::Torn(b'?'), b"aXYd\0\0"),
+    (4, Choice::Durable, b"aXYd\0\0"),
+    (4, Choice::Newest, b"aXY"),
+    (4, Choice::Torn(b'?'), b"?XY"),
+    (5, Choice::Durable, b"aXYd\0\0"),
+    (5, Choice::Newest, b"ZXY"),
+    (5, Choice::Torn(b'?'), b"?XY"),
+];
+
+/// What each call on a source of `hello` takes in pieces of 3 bytes, the second one failing.
+const TAKES: [Option<usize>; 4] = [Some(3), None, Some(2), Some(0)];
+
+/// What is put, and whether a sink of 4 bytes takes it, the first call failing.
+const PUTS: [(&[u8], bool); 4] = [(b"ab", false), (b"cde", true), (b"fg", false), (b"h", true)];
+
+/// A disk of 6 bytes after three changing calls, the last of them a sync.
+fn synced_disk(rt: &impl Abort, alloc: Global) -> Result<MemDisk, Fail> {
+    let mut disk = MemDisk::from_bytes(alloc, b"abcd")?;
+    assert!(rt; disk.len()? == 4);
+    disk.write_at(1, b"XY")?;
+    disk.set_len(6)?;
+    disk.sync()?;
+    Ok(disk)
+}
+
+/// Cuts a disk, and writes on it.
+fn cut(rt: &impl Abort, disk: &mut MemDisk) -> Result<(), Fail> {
+    disk.set_len(3)?;
+    assert!(rt; disk.len()? == 3);
+    disk.write_at(0, b"Z")?;
+    Ok(())
+}
+
+/// Whether this is an image of a turn.
+fn is_image(disk: &MemDisk, turn: u64, choice: Choice, wanted: &[u8]) -> bool {
+    if disk.turns() < turn {
+        return false;
+    }
+    match disk.image(turn, choice) {
+        Ok(built) => built.as_slice() == wanted,
+        Err(NoMemory) => false,
+    }
+}
+
+#[test]
+fn builds_the_images_of_each_turn(rt: HostRuntime) -> Result<(), Fail> {
+    let mut disk = synced_disk(&rt, rt.alloc())?;
+    cut(&rt, &mut disk)?;
+    for (turn, choice, wanted) in IMAGES {
+        assert!(rt;
+            is_image(&disk, turn, choice, wanted),
+            "{choice:?} at {turn}"
+        );
+    }
+    Ok(())
+}
+
+/// A bay whose file `f` was made, with room for 8 bytes.
+fn made_bay(rt: &impl Abort, alloc: Global) -> Result<MemBay<PlainDisk>, Fail>
+    ensures { IfOk result (λ bay. IsTrue (bay_state bay).is_ready) }
+{
+    let disk = PlainDisk::with_room(alloc, 8)?;
+    let name = String::from_str(alloc, "f")?;
+    let mut bay = MemBay::new(alloc, name, false, disk);
+    assert!(rt; bay.mount("f", true)? == Mounted::Made);
+    Ok(bay)
+}
+
+/// Grows the file, which fails above the room.
+fn grow(rt: &impl Abort, bay: &mut MemBay<PlainDisk>) -> Result<(), Fail>
+    requires { IsTrue (bay_state bay.old).is_ready }
+    ensures { IsTrue (bay_state bay.new).is_ready }
+{
+    assert!(rt; bay.set_len(9).is_err());
+    bay.set_len(2)?;
+    Ok(())
+}
+
+/// Writes the file.
+fn fill(rt: &impl Abort, bay: &mut MemBay<PlainDisk>) -> Result<(), Fail>
+    requires { IsTrue (bay_state bay.old).is_ready }
+{
+    assert!(rt; bay.len()? == 2);
+    bay.write_at(0, b"ok")?;
+    bay.sync()?;
+    Ok(())
+}
+
+/// The disk of a bay that was written.
+fn written_disk(rt: &impl Abort, alloc: Global) -> Result<PlainDisk, Fail> {
+    let mut bay = made_bay(rt, alloc)?;
+    grow(rt, &mut bay)?;
+    fill(rt, &mut bay)?;
+    assert!(rt; bay.turns() == 4);
+    Ok(bay.into_disk())
+}
+
+#[test]
+fn keeps_a_file_in_a_bay(rt: HostRuntime) -> Result<(), Fail> {
+    let mut disk = written_disk(&rt, rt.alloc())?;
+    let mut out = [0u8; 2];
+    assert!(rt; disk.len()? == 2);
+    disk.read_at(0, &mut out)?;
+    assert!(rt; out.as_slice() == b"ok".as_slice());
+    Ok(())
+}
+
+/// A bay whose file `f` was written before, once a file `g` was looked for.
+fn searched_bay(rt: &impl Abort, alloc: Global) -> Result<MemBay<PlainDisk>, Fail> {
+    let name = String::from_str(alloc, "f")?;
+    let mut bay = MemBay::new(alloc, name, true, written_disk(rt, alloc)?);
+    assert!(rt; bay.mount("g", false)? == Mounted::Absent);
+    Ok(bay)
+}
+
+#[test]
+fn finds_no_file_of_another_name(rt: HostRuntime) -> Result<(), Fail> {
+    let bay = searched_bay(&rt, rt.alloc())?;
+    assert!(rt; bay.disk().turns() == 4);
+    Ok(())
+}
+
+/// A source of five bytes, whose second call fails.
+fn hello(alloc: Global) -> Result<MemSource, Fail> {
+    let bytes = Vec::from_slice(alloc, b"hello")?;
+    let fails = Vec::from_slice(alloc, &[2u64])?;
+    Ok(MemSource::new(bytes, 3, fails))
+}
+
+#[test]
+fn takes_in_pieces(rt: HostRuntime) -> Result<(), Fail> {
+    let mut source = hello(rt.alloc())?;
+    let mut out = [0u8; 8];
+    for taken in TAKES {
+        assert!(rt; source.take(&mut out).ok() == taken);
+    }
+    assert!(rt; &out[..3] == b"lol".as_slice());
+    Ok(())
+}
+
+/// A sink of four bytes, whose first call fails.
+fn small_sink(alloc: Global) -> Result<MemSink, Fail> {
+    let fails = Vec::from_slice(alloc, &[1u64])?;
+    Ok(MemSink::with_room(alloc, 4, fails)?)
+}
+
+#[test]
+fn puts_in_pieces(rt: HostRuntime) -> Result<(), Fail> {
+    let mut sink = small_sink(rt.alloc())?;
+    for (bytes, is_put) in PUTS {
+        assert!(rt; sink.put(bytes).is_ok() == is_put);
+    }
+    assert!(rt; sink.bytes() == b"cdeh".as_slice());
+    Ok(())
+}
