@@ -3,14 +3,23 @@
 //! are still opened, how many are refused for each reason, and on how many the two differ.
 #![tactic(auto)]
 
+mod alike;
 mod bases;
+#[cfg(test)]
+mod moving;
+#[cfg(test)]
+mod openings;
+#[cfg(test)]
+mod spoiled;
 mod spoils;
 mod tally;
+#[cfg(test)]
+mod texts;
 
+use alike::opened_by_both;
 use bases::drawn_base;
 use disk_mem::MemDisk;
 use drawn_words::Drawn;
-use file_rows::alike::opened_by_both;
 use row_vectors::images::image;
 use spoils::spoil;
 use std::alloc::Global;

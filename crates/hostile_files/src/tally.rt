@@ -1,7 +1,7 @@
 //! Counts of what files were found to be.
 ghost use Rattle.std.specs.Prelude.{◌<◌};
 
-use file_rows::alike::{Parting, Seen};
+use crate::alike::{Parting, Seen};
 use plain_opening::Refusal;
 use slot_codec::CodecFault;
 use slot_pair::SlotFault;

@@ -1,151 +1,138 @@
-//! The calls that a bay makes of a system, and calls that fail.
+//! The calls that a disk makes of a system, and calls that fail.
+ghost use Rattle.std.specs.Prelude.{IsTrue, IsFalse};
+ghost use Rattle.disk_file.specs.Bays.{bay_state};
+
+use super::bays::{mounts, word};
 use super::faulty::Faulty;
-use crate::host::{Kind, Use};
+use crate::FileBay;
+use crate::host::{Host, Kind, Use};
 use crate::positions::{fill, write_whole};
-use crate::{Cause, FileBay};
-use disk_face::{Bay, Disk, Mounted};
+use disk_face::{Disk, Mounted};
+use std::process::Abort;
 use std::test::Fail;
 
-/// The calls of a mount, in order: a digit of the log for each.
-#[test]
-fn mounts_in_order(rt: HostRuntime) -> Result<(), Fail> {
-    let mounts: [(Option<Kind>, usize, Use, bool, u64); 9] = [
-        (Some(Kind::File), 4, Use::Changing, true, 0x12_3457),
-        (Some(Kind::File), 4, Use::Changing, false, 0x12_3457),
-        (Some(Kind::File), 0, Use::Changing, true, 0x123_4576),
-        (Some(Kind::File), 0, Use::Reading, false, 0x1234),
-        (None, 0, Use::Changing, true, 0x12_3456),
-        (None, 0, Use::Changing, false, 0x1),
-        (None, 0, Use::Reading, true, 0x1),
-        (Some(Kind::Folder), 0, Use::Changing, true, 0x1),
-        (Some(Kind::Other), 0, Use::Reading, false, 0x1),
-    ];
-    let answers: [Option<Mounted>; 9] = [
-        Some(Mounted::There),
-        Some(Mounted::There),
-        Some(Mounted::There),
-        Some(Mounted::There),
-        Some(Mounted::Made),
-        Some(Mounted::Absent),
-        None,
-        None,
-        None,
-    ];
-    for ((kind, len, usage, make, log), answer) in mounts.into_iter().zip(answers) {
-        let mut host = Faulty::new(kind, 0);
-        host.len = len;
-        let mut bay = FileBay::over(host, usage);
-        assert_eq!(rt;
-            bay.mount("f", make).ok(),
-            answer,
-            "{kind:?}, {usage:?}, {make}"
-        );
-        assert_eq!(rt; bay.host().log.get(), log, "{kind:?}, {usage:?}, {make}");
-        assert_eq!(rt; bay.turns(), 0);
-    }
-    Ok(())
+/// What is seen where the system's call of a number fails: which changes fail, a 1 for each of `set_len`,
+/// `write_at` and `sync`, and the cause after them; which of `read_at`, `len` and a second `sync` fail, and
+/// the cause at the end; whether what was to be written was read; and the turns.
+#[derive(Clone, Copy, Debug, PartialEq, Eq)]
+struct Row {
+    fails: u64,
+    changes: [u8; 3],
+    cause: &'static str,
+    reads: [u8; 3],
+    end: &'static str,
+    is_read: bool,
+    turns: u64,
 }
 
-/// Each call of a mount that makes a file fails in turn, and so does a mount of a file that is held or
-/// that turns out to be a pipe. Nothing is asked after that.
-#[test]
-fn fails_to_mount(rt: HostRuntime) -> Result<(), Fail> {
-    let logs: [u64; 6] = [0x1, 0x12, 0x123, 0x1234, 0x1_2345, 0x12_3456];
-    for (i, log) in logs.iter().enumerate() {
-        let mut bay = FileBay::over(Faulty::new(None, (i as u64).wrapping_add(1)), Use::Changing);
-        assert!(rt; bay.mount("f", true).is_err());
-        assert!(rt; matches!(bay.cause(), Some(Cause::System(_))));
-        assert_eq!(rt; bay.host().log.get(), *log);
-    }
-    for usage in [Use::Reading, Use::Changing] {
-        let mut held = Faulty::new(Some(Kind::File), 0);
-        held.held = true;
-        let mut bay = FileBay::over(held, usage);
-        assert!(rt; bay.mount("f", false).is_err());
-        assert!(rt; matches!(bay.cause(), Some(Cause::InUse)));
-        assert_eq!(rt; bay.host().log.get(), 0x1234);
-        let mut swapped = Faulty::new(Some(Kind::File), 0);
-        swapped.opened = Kind::Other;
-        let mut bay = FileBay::over(swapped, usage);
-        assert!(rt; bay.mount("f", false).is_err());
-        assert!(rt; matches!(bay.cause(), Some(Cause::Special)));
-        assert_eq!(rt; bay.host().log.get(), 0x123);
-    }
-    Ok(())
+macro_rules! rows {
+    ($($fails:literal: $changes:expr, $cause:literal; $reads:expr, $end:literal, $is_read:literal
+        => $turns:literal;)*) => {
+        [$(Row {
+            fails: $fails,
+            changes: $changes,
+            cause: $cause,
+            reads: $reads,
+            end: $end,
+            is_read: $is_read,
+            turns: $turns,
+        }),*]
+    };
 }
 
-/// A name that is empty or too long is refused before the system is asked.
-#[test]
-fn refuses_names(rt: HostRuntime) -> Result<(), Fail> {
-    let mut bay = FileBay::over(Faulty::new(None, 0), Use::Changing);
-    assert!(rt; bay.mount("", false).is_err());
-    assert!(rt; matches!(bay.cause(), Some(Cause::NoName)));
-    let mut name = String::new(rt.alloc());
-    for _ in 0..4096u64 {
-        name.push('x')?;
-    }
-    assert!(rt; bay.mount(name.as_str(), false).is_err());
-    assert!(rt; matches!(bay.cause(), Some(Cause::LongName)));
-    assert_eq!(rt; bay.host().log.get(), 0);
-    name.pop();
-    assert_eq!(rt; bay.mount(name.as_str(), false)?, Mounted::Absent);
-    Ok(())
-}
+const ROWS: [Row; 11] = rows! {
+    7: [1, 0, 0], "system"; [0, 0, 0], "system", true => 5;
+    8: [0, 1, 0], "system"; [0, 0, 0], "system", false => 4;
+    9: [0, 1, 0], "system"; [0, 0, 0], "system", false => 4;
+    10: [0, 1, 0], "system"; [0, 0, 0], "system", false => 4;
+    11: [0, 0, 1], "system"; [0, 0, 1], "lost", true => 4;
+    12: [0, 0, 0], "none"; [1, 0, 0], "system", false => 4;
+    13: [0, 0, 0], "none"; [1, 0, 0], "system", false => 4;
+    14: [0, 0, 0], "none"; [1, 0, 0], "system", false => 4;
+    15: [0, 0, 0], "none"; [0, 1, 0], "system", true => 4;
+    16: [0, 0, 0], "none"; [0, 0, 1], "system", true => 4;
+    17: [0, 0, 0], "none"; [0, 0, 0], "none", true => 4;
+};
 
 /// A call of the system that fails is a fault of the call that made it, and of no other but a sync
 /// after a failed one.
 #[test]
 fn fails_where_the_system_fails(rt: HostRuntime) -> Result<(), Fail> {
-    for fails in 7..=17u64 {
-        let mut host = Faulty::new(Some(Kind::File), fails);
-        host.len = 1;
-        let mut bay = FileBay::over(host, Use::Changing);
-        let mut out = [0u8; 8];
-        assert_eq!(rt; bay.mount("f", false)?, Mounted::There);
-        assert_eq!(rt; bay.set_len(8).is_err(), fails == 7, "set_len, {fails}");
-        if fails == 7 {
-            bay.set_len(8)?;
-        }
-        let broken = fails >= 8 && fails <= 10;
-        assert_eq!(rt;
-            bay.write_at(0, b"abcdefgh").is_err(),
-            broken,
-            "write_at, {fails}"
-        );
-        assert_eq!(rt; bay.sync().is_err(), fails == 11, "sync, {fails}");
-        assert_eq!(rt; matches!(bay.cause(), Some(Cause::System(_))), fails <= 11);
-        let broken = fails >= 12 && fails <= 14;
-        assert_eq!(rt;
-            bay.read_at(0, &mut out).is_err(),
-            broken,
-            "read_at, {fails}"
-        );
-        if fails > 14 {
-            assert_eq!(rt; out.as_slice(), b"abcdefgh".as_slice());
-        }
-        assert_eq!(rt; bay.len().is_err(), fails == 15, "len, {fails}");
-        let broken = fails == 11 || fails == 16;
-        assert_eq!(rt; bay.sync().is_err(), broken, "second sync, {fails}");
-        if fails == 11 {
-            assert!(rt; matches!(bay.cause(), Some(Cause::Lost)));
-        }
-        assert_eq!(rt; bay.turns(), if fails == 7 { 5 } else { 4 });
+    for row in &ROWS {
+        assert_eq!(rt; seen(&rt, row.fails)?, *row);
     }
     Ok(())
+}
+
+/// Mounts a file of one byte and makes each call of a disk, where a call of the system fails.
+fn seen(rt: &impl Abort, fails: u64) -> Result<Row, Fail> {
+    let mut host = Faulty::new(Some(Kind::File), fails);
+    host.len = 1;
+    let mut bay = FileBay::over(host, Use::Changing);
+    let mut out = [0u8; 8];
+    mounts(rt, &mut bay, "f", false, Mounted::There)?;
+    let changes = failed_changes(&mut bay);
+    let cause = word(bay.cause());
+    let reads = failed_reads(&mut bay, &mut out);
+    Ok(Row {
+        fails,
+        changes,
+        cause,
+        reads,
+        end: word(bay.cause()),
+        is_read: out == *b"abcdefgh",
+        turns: bay.turns(),
+    })
+}
+
+/// Which changes fail. A length that isn't given is given again.
+fn failed_changes<D: Disk>(disk: &mut D) -> [u8; 3]
+    requires ready { IsTrue (D.state disk.old).is_ready }
+    requires untold { IsFalse (D.state disk.old).tells }
+    ensures ready { IsTrue (D.state disk.new).is_ready }
+    ensures untold { IsFalse (D.state disk.new).tells }
+{
+    let mut failed = [0u8; 3];
+    if disk.set_len(8).is_err() {
+        failed[0] = 1 + u8::from(disk.set_len(8).is_err());
+    }
+    failed[1] = u8::from(disk.write_at(0, b"abcdefgh").is_err());
+    failed[2] = u8::from(disk.sync().is_err());
+    failed
+}
+
+/// Which of a read, of asking the length and of a sync fail.
+fn failed_reads<D: Disk>(disk: &mut D, out: &mut [u8; 8]) -> [u8; 3]
+    requires ready { IsTrue (D.state disk.old).is_ready }
+    requires untold { IsFalse (D.state disk.old).tells }
+{
+    let read = u8::from(disk.read_at(0, out).is_err());
+    let len = u8::from(disk.len().is_err());
+    let sync = u8::from(disk.sync().is_err());
+    [read, len, sync]
 }
 
 /// A read past the end and a write past what the system takes are faults with their causes.
 #[test]
 fn tells_why_a_part_is_missing(rt: HostRuntime) -> Result<(), Fail> {
     let mut bay = FileBay::over(Faulty::new(Some(Kind::File), 0), Use::Changing);
-    let mut out = [0u8; 8];
-    assert_eq!(rt; bay.mount("f", false)?, Mounted::There);
-    bay.set_len(4)?;
-    assert!(rt; bay.read_at(0, &mut out).is_err());
-    assert!(rt; matches!(bay.cause(), Some(Cause::Ended)));
-    assert!(rt; bay.write_at(0, b"abcdefgh").is_err());
-    assert!(rt; matches!(bay.cause(), Some(Cause::NoneTaken)));
+    mounts(&rt, &mut bay, "f", false, Mounted::There)?;
+    assert_eq!(rt; causes(&mut bay), ["none", "ended", "none taken"]);
     Ok(())
+}
+
+/// The causes after a file is given four bytes, after eight of them are read, and after eight are written.
+fn causes<H: Host>(bay: &mut FileBay<H>) -> [&'static str; 3]
+    requires ready { IsTrue (bay_state bay.old).is_ready }
+    requires untold { IsFalse (bay_state bay.old).tells }
+{
+    let mut out = [0u8; 8];
+    let _ = bay.set_len(4);
+    let sized = word(bay.cause());
+    let _ = bay.read_at(0, &mut out);
+    let read = word(bay.cause());
+    let _ = bay.write_at(0, b"abcdefgh");
+    [sized, read, word(bay.cause())]
 }
 
 #[test]
@@ -154,12 +141,22 @@ fn reads_and_writes_in_pieces(rt: HostRuntime) -> Result<(), Fail> {
     host.stutters = true;
     host.len = 10;
     let mut out = [0u8; 8];
-    assert!(rt; write_whole(&mut host, 0, b"0123456789").is_ok());
-    assert!(rt; fill(&host, 1, &mut out).is_ok());
-    assert_eq!(rt; out.as_slice(), b"12345678".as_slice());
-    assert!(rt; fill(&host, 3, &mut out).is_err());
-    assert!(rt; write_whole(&mut host, 2, b"abcdefgh").is_ok());
-    assert!(rt; write_whole(&mut host, 3, b"ABCDEFGH").is_err());
-    assert_eq!(rt; &host.bytes[..10], b"01aABCDEFG".as_slice());
+    let is_ok = pieces(&mut host, &mut out);
+    assert_eq!(rt; is_ok, [true, true, false, true, false]);
+    assert!(rt; out == *b"12345678");
+    assert!(rt; &host.bytes[..10] == b"01aABCDEFG".as_slice());
     Ok(())
+}
+
+/// Which of these end well: a write of all ten bytes, a read of eight within them and one past them, a
+/// write of eight within them and one past them.
+fn pieces(host: &mut Faulty, out: &mut [u8; 8]) -> [bool; 5] {
+    let mut past = [0u8; 8];
+    [
+        write_whole(host, 0, b"0123456789").is_ok(),
+        fill(host, 1, out).is_ok(),
+        fill(host, 3, &mut past).is_ok(),
+        write_whole(host, 2, b"abcdefgh").is_ok(),
+        write_whole(host, 3, b"ABCDEFGH").is_ok(),
+    ]
 }

@@ -1,8 +1,14 @@
 //! Real files.
-use crate::{Cause, FileBay, hold_numbers};
-use disk_face::{Bay, Disk, Mounted};
+ghost use Rattle.std.specs.Prelude.{◌≡◌, None, IsTrue, IsFalse};
+ghost use Rattle.disk_file.specs.Bays.{bay_state};
+
+use super::bays::{mounts, refuses};
+use crate::host::Host;
+use crate::{FileBay, hold_numbers};
+use disk_face::{Bay, Disk, DiskFault, Mounted};
 use std::alloc::{AllocError, Global};
-use std::fs;
+use std::fs::{self, File, Files};
+use std::process::Abort;
 use std::test::Fail;
 
 const FOLDER: &str = "scratch_of_disk_file";
@@ -43,24 +49,61 @@ fn store(alloc: Global) -> Result<Vec<u8>, AllocError> {
     Ok(store)
 }
 
+/// The file of that name has these bytes. It is removed.
+fn left(
+    rt: &(impl Abort + Alloc + Files<File = File>),
+    name: &str,
+    bytes: &[u8],
+) -> Result<(), Fail> {
+    let left = fs::read(rt, name)?;
+    fs::remove_file(rt, name)?;
+    assert!(rt; left.as_slice() == bytes);
+    Ok(())
+}
+
 #[test]
 fn keeps_a_real_file(rt: HostRuntime) -> Result<(), Fail> {
     // A run that was cut off may have left it.
     let _ = fs::remove_dir_all(&rt, FOLDER);
     fs::create_dir(&rt, FOLDER)?;
-    let mut out = [0u8; 10];
-    let mut bay = FileBay::new(&rt);
-    assert_eq!(rt; bay.mount(NAME, true)?, Mounted::Made);
-    bay.set_len(10)?;
-    bay.write_at(3, b"hello")?;
-    bay.sync()?;
-    bay.read_at(0, &mut out)?;
-    assert_eq!(rt; out.as_slice(), b"\0\0\0hello\0\0".as_slice());
-    assert!(rt; bay.read_at(1, &mut out).is_err());
-    assert_eq!(rt; bay.turns(), 3);
+    keeps(&rt, &mut FileBay::new(&rt))?;
     fs::remove_dir_all(&rt, FOLDER)?;
-    let mut gone = FileBay::new(&rt);
-    assert_eq!(rt; gone.mount(NAME, false)?, Mounted::Absent);
+    mounts(&rt, &mut FileBay::new(&rt), NAME, false, Mounted::Absent)
+}
+
+/// Makes the file, writes five of its ten bytes, and reads all of them.
+fn keeps<H: Host>(rt: &impl Abort, bay: &mut FileBay<H>) -> Result<(), Fail>
+    requires none { (bay_state bay.old).last_mount ≡ None }
+    requires untold { IsFalse (bay_state bay.old).tells }
+{
+    mounts(rt, bay, NAME, true, Mounted::Made)?;
+    writes(bay)?;
+    reads(rt, bay)?;
+    assert_eq!(rt; bay.turns(), 3);
+    Ok(())
+}
+
+/// Makes three changes, the last of which is a sync.
+fn writes<D: Disk>(disk: &mut D) -> Result<(), DiskFault>
+    requires ready { IsTrue (D.state disk.old).is_ready }
+    requires untold { IsFalse (D.state disk.old).tells }
+    ensures ready { IsTrue (D.state disk.new).is_ready }
+    ensures untold { IsFalse (D.state disk.new).tells }
+{
+    disk.set_len(10)?;
+    disk.write_at(3, b"hello")?;
+    disk.sync()
+}
+
+/// Reads all, and then once more from position 1 on, past the end.
+fn reads<D: Disk>(rt: &impl Abort, disk: &mut D) -> Result<(), Fail>
+    requires ready { IsTrue (D.state disk.old).is_ready }
+    requires untold { IsFalse (D.state disk.old).tells }
+{
+    let mut out = [0u8; 10];
+    disk.read_at(0, &mut out)?;
+    assert!(rt; out == *b"\0\0\0hello\0\0");
+    assert!(rt; disk.read_at(1, &mut out).is_err());
     Ok(())
 }
 
@@ -70,15 +113,20 @@ fn leaves_a_store_whole(rt: HostRuntime) -> Result<(), Fail> {
     let _ = fs::remove_file(&rt, STORE_NAME);
     let written = store(rt.alloc())?;
     fs::write(&rt, STORE_NAME, &written)?;
-    let mut bay = FileBay::new(&rt);
-    assert_eq!(rt; bay.mount(STORE_NAME, true)?, Mounted::There);
-    assert_eq!(rt; bay.len()?, 19608);
+    reads_object(&rt, &mut FileBay::new(&rt))?;
+    left(&rt, STORE_NAME, &written)
+}
+
+/// Reads the length of the store and its object.
+fn reads_object<H: Host>(rt: &impl Abort, bay: &mut FileBay<H>) -> Result<(), Fail>
+    requires none { (bay_state bay.old).last_mount ≡ None }
+    requires untold { IsFalse (bay_state bay.old).tells }
+{
+    mounts(rt, bay, STORE_NAME, true, Mounted::There)?;
     let mut object = [0u8; 5];
+    assert_eq!(rt; bay.len()?, 19608);
     bay.read_at(19603, &mut object)?;
-    assert_eq!(rt; object.as_slice(), b"hello".as_slice());
-    let left = fs::read(&rt, STORE_NAME)?;
-    fs::remove_file(&rt, STORE_NAME)?;
-    assert!(rt; left == written);
+    assert!(rt; object == *b"hello");
     Ok(())
 }
 
@@ -88,32 +136,45 @@ fn holds_the_numbers_of_the_streams(rt: HostRuntime) -> Result<(), Fail> {
     Ok(())
 }
 
-/// What is no regular file is refused, and so is a file that another bay holds. Bays that read share.
+/// What is no regular file is refused.
 #[test]
-fn refuses_what_it_may_not_have(rt: HostRuntime) -> Result<(), Fail> {
-    let _ = fs::remove_file(&rt, HELD_NAME);
-    let mut folder = FileBay::new(&rt);
-    assert!(rt; folder.mount(".", true).is_err());
-    assert!(rt; matches!(folder.cause(), Some(Cause::Folder)));
+fn refuses_what_is_no_file(rt: HostRuntime) -> Result<(), Fail> {
+    refuses(&rt, &mut FileBay::new(&rt), ".", true, "folder");
     let mut device = FileBay::reading(&rt);
-    assert!(rt; device.mount("/dev/null", false).is_err());
-    assert!(rt; matches!(device.cause(), Some(Cause::Special)));
+    refuses(&rt, &mut device, "/dev/null", false, "special");
+    Ok(())
+}
+
+/// A file that another bay holds is refused. Bays that read share.
+#[test]
+fn refuses_what_is_held(rt: HostRuntime) -> Result<(), Fail> {
+    let _ = fs::remove_file(&rt, HELD_NAME);
     fs::write(&rt, HELD_NAME, b"kept".as_slice())?;
-    let mut first = FileBay::reading(&rt);
-    let mut second = FileBay::reading(&rt);
-    let mut third = FileBay::new(&rt);
-    assert_eq!(rt; first.mount(HELD_NAME, false)?, Mounted::There);
-    assert_eq!(rt; second.mount(HELD_NAME, false)?, Mounted::There);
-    assert!(rt; third.mount(HELD_NAME, true).is_err());
-    assert!(rt; matches!(third.cause(), Some(Cause::InUse)));
-    drop((first, second));
-    let mut fourth = FileBay::new(&rt);
-    assert_eq!(rt; fourth.mount(HELD_NAME, true)?, Mounted::There);
-    let mut fifth = FileBay::reading(&rt);
-    assert!(rt; fifth.mount(HELD_NAME, false).is_err());
-    let left = fs::read(&rt, HELD_NAME)?;
-    fs::remove_file(&rt, HELD_NAME)?;
-    assert!(rt; left.as_slice() == b"kept".as_slice());
+    shares(&rt)?;
+    holds(&rt)?;
+    left(&rt, HELD_NAME, b"kept")
+}
+
+/// Two bays that read, and beside them one that would change the file.
+fn shares(rt: &(impl Abort + Files<File = File>)) -> Result<(), Fail> {
+    let mut first = FileBay::reading(rt);
+    mounts(rt, &mut first, HELD_NAME, false, Mounted::There)?;
+    shares_more(rt)
+}
+
+/// A bay that reads beside another, and one that would change the file.
+fn shares_more(rt: &(impl Abort + Files<File = File>)) -> Result<(), Fail> {
+    let mut second = FileBay::reading(rt);
+    mounts(rt, &mut second, HELD_NAME, false, Mounted::There)?;
+    refuses(rt, &mut FileBay::new(rt), HELD_NAME, true, "in use");
+    Ok(())
+}
+
+/// A bay that may change the file, and beside it one that reads.
+fn holds(rt: &(impl Abort + Files<File = File>)) -> Result<(), Fail> {
+    let mut only = FileBay::new(rt);
+    mounts(rt, &mut only, HELD_NAME, true, Mounted::There)?;
+    refuses(rt, &mut FileBay::reading(rt), HELD_NAME, false, "in use");
     Ok(())
 }
 
@@ -121,17 +182,21 @@ fn refuses_what_it_may_not_have(rt: HostRuntime) -> Result<(), Fail> {
 #[test]
 fn only_reads(rt: HostRuntime) -> Result<(), Fail> {
     let _ = fs::remove_file(&rt, READ_NAME);
-    let mut none = FileBay::reading(&rt);
-    assert!(rt; none.mount(READ_NAME, true).is_err());
+    refuses(&rt, &mut FileBay::reading(&rt), READ_NAME, true, "system");
     assert!(rt; !fs::exists(&rt, READ_NAME)?);
     fs::write(&rt, READ_NAME, b"kept".as_slice())?;
-    let mut bay = FileBay::reading(&rt);
-    assert_eq!(rt; bay.mount(READ_NAME, false)?, Mounted::There);
+    changes_nothing(&rt, &mut FileBay::reading(&rt))?;
+    left(&rt, READ_NAME, b"kept")
+}
+
+/// Mounts the file to read it, and is refused its changes.
+fn changes_nothing<H: Host>(rt: &impl Abort, bay: &mut FileBay<H>) -> Result<(), Fail>
+    requires none { (bay_state bay.old).last_mount ≡ None }
+    requires untold { IsFalse (bay_state bay.old).tells }
+{
+    mounts(rt, bay, READ_NAME, false, Mounted::There)?;
     assert_eq!(rt; bay.len()?, 4);
     assert!(rt; bay.write_at(0, b"lost").is_err());
     assert!(rt; bay.set_len(0).is_err());
-    let left = fs::read(&rt, READ_NAME)?;
-    fs::remove_file(&rt, READ_NAME)?;
-    assert!(rt; left.as_slice() == b"kept".as_slice());
     Ok(())
 }

@@ -2,56 +2,101 @@
 use super::slow::{Failing, Slow};
 use crate::{StdSink, StdSource};
 use disk_face::{Sink, Source};
+use std::alloc::{AllocError, Global};
+use std::process::Abort;
 use std::test::Fail;
+
+/// The call of a writer that fails; how many of two puts end well then, and what the writer has.
+const FRONTS: [(u64, u64, &str); 5] = [
+    (1, 0, ""),
+    (2, 0, "012"),
+    (3, 1, "01234"),
+    (4, 1, "01234567"),
+    (5, 2, "0123456789"),
+];
 
 /// An object that is put in two parts, until a put fails: what the writer has is a front of it.
 #[test]
 fn puts_an_object_until_the_writer_fails(rt: HostRuntime) -> Result<(), Fail> {
-    let fronts: [(u64, &str); 5] = [
-        (1, ""),
-        (2, "012"),
-        (3, "01234"),
-        (4, "01234567"),
-        (5, "0123456789"),
-    ];
-    for how in [Failing::ByError, Failing::ByNothing] {
-        for (fails, front) in fronts {
-            let mut slow = Slow::new(Vec::new(rt.alloc()), fails, how);
-            let mut sink = StdSink::new(&mut slow);
-            let first = sink.put(b"01234");
-            assert_eq!(rt; first.is_err(), fails < 3, "first, {how:?}, {fails}");
-            if first.is_ok() {
-                let second = sink.put(b"56789");
-                assert_eq!(rt; second.is_err(), fails < 5, "second, {how:?}, {fails}");
-            }
-            assert_eq!(rt; slow.bytes.as_slice(), front.as_bytes(), "{how:?}, {fails}");
-        }
-    }
+    puts_fronts(&rt, rt.alloc(), Failing::ByError);
+    puts_fronts(&rt, rt.alloc(), Failing::ByNothing);
     Ok(())
+}
+
+/// Puts the object to a writer of each row.
+fn puts_fronts(rt: &impl Abort, alloc: Global, how: Failing) {
+    for row in &FRONTS {
+        puts_front(rt, alloc, how, row);
+    }
+}
+
+/// Puts the object to a writer.
+fn puts_front(rt: &impl Abort, alloc: Global, how: Failing, row: &(u64, u64, &str)) {
+    let (fails, puts, front) = *row;
+    let mut slow = Slow::new(Vec::new(alloc), fails, how);
+    let ended = put_both(&mut slow);
+    assert_eq!(rt; ended, puts);
+    assert_eq!(rt; slow.bytes.as_slice(), front.as_bytes(), "{how:?}, {fails}");
+}
+
+/// Puts both parts, the second if the first ends well, and tells how many do.
+fn put_both(slow: &mut Slow) -> u64 {
+    let mut sink = StdSink::new(slow);
+    if sink.put(b"01234").is_err() {
+        return 0;
+    }
+    if sink.put(b"56789").is_err() {
+        return 1;
+    }
+    2
 }
 
 /// A reader that fails once: each byte comes once, in order, and the failed call takes none.
 #[test]
 fn takes_what_the_reader_gives(rt: HostRuntime) -> Result<(), Fail> {
     for fails in 1..=5u64 {
-        let bytes = Vec::from_slice(rt.alloc(), b"01234567")?;
-        let mut source = StdSource::new(Slow::new(bytes, fails, Failing::ByError));
-        let mut taken = Vec::new(rt.alloc());
-        let mut failed = 0u64;
-        for call in 1..=5u64 {
-            let mut out = [0u8; 4];
-            match source.take(&mut out) {
-                Ok(n) => taken.extend_from_slice(&out[..n])?,
-                Err(_) => {
-                    assert_eq!(rt; call, fails);
-                    failed = failed.wrapping_add(1);
-                }
-            }
-        }
-        assert_eq!(rt; failed, 1);
-        assert_eq!(rt; taken.as_slice(), b"01234567".as_slice(), "{fails}");
-        let mut out = [0u8; 4];
-        assert_eq!(rt; source.take(&mut out)?, 0);
+        takes_all(&rt, rt.alloc(), fails)?;
     }
     Ok(())
+}
+
+/// Takes five times of a reader, of whose calls one fails; and then there is nothing more.
+fn takes_all(rt: &impl Abort, alloc: Global, fails: u64) -> Result<(), Fail> {
+    let mut taken = Vec::new(alloc);
+    let failed = take_five(alloc, fails, &mut taken)?;
+    assert_eq!(rt; failed, fails);
+    assert_eq!(rt; taken.as_slice(), b"01234567".as_slice(), "{fails}");
+    Ok(())
+}
+
+/// Takes five times, and once more. It answers the number of the call that failed, with a digit for each
+/// if there are more, and a 9 if the last call gave anything.
+fn take_five(alloc: Global, fails: u64, taken: &mut Vec<u8>) -> Result<u64, AllocError> {
+    let bytes = Vec::from_slice(alloc, b"01234567")?;
+    let mut source = StdSource::new(Slow::new(bytes, fails, Failing::ByError));
+    let mut failed = 0u64;
+    for call in 1..=5u64 {
+        if take_once(&mut source, taken)?.is_none() {
+            failed = failed.wrapping_mul(10).wrapping_add(call);
+        }
+    }
+    if take_once(&mut source, taken)? != Some(0) {
+        failed = failed.wrapping_mul(10).wrapping_add(9);
+    }
+    Ok(failed)
+}
+
+/// Takes up to four bytes more, unless the reader fails.
+fn take_once(
+    source: &mut StdSource<Slow>,
+    taken: &mut Vec<u8>,
+) -> Result<Option<usize>, AllocError> {
+    let mut out = [0u8; 4];
+    match source.take(&mut out) {
+        Ok(n) => {
+            taken.extend_from_slice(&out[..n])?;
+            Ok(Some(n))
+        }
+        Err(_) => Ok(None),
+    }
 }

@@ -1,0 +1,12 @@
+//! Names by numbers, as the blocks of a database have them.
+use std::alloc::{AllocError, Global};
+
+/// Neighbours in the list of names are so many numbers apart: a prime, so that each number comes
+/// once.
+const STRIDE: u64 = 1_000_003;
+
+/// A letter and eight digits: the name at place `n` of the `count` first numbers in a scrambled order.
+pub fn scrambled(alloc: Global, letter: char, n: u64, count: u64) -> Result<String, AllocError> {
+    let number = n.wrapping_mul(STRIDE) % count.max(1);
+    format!(in alloc; "{letter}{number:08}")
+}

@@ -1,0 +1,51 @@
+//! What the tests of bays share: mounts that are answered or refused, and causes as words.
+ghost use Rattle.std.specs.Prelude.{◌≡◌, None, IsTrue, IsFalse, OnOk};
+ghost use Rattle.disk_face.specs.Mounts.{has_file};
+ghost use Rattle.disk_file.specs.Bays.{bay_state};
+
+use crate::host::Host;
+use crate::{Cause, FileBay};
+use disk_face::{Bay, Mounted};
+use std::process::Abort;
+use std::test::Fail;
+
+/// A cause as a word, which can be compared.
+pub fn word(cause: Option<Cause>) -> &'static str {
+    match cause {
+        None => "none",
+        Some(Cause::System(_)) => "system",
+        Some(Cause::NoName) => "no name",
+        Some(Cause::LongName) => "long name",
+        Some(Cause::Folder) => "folder",
+        Some(Cause::Special) => "special",
+        Some(Cause::InUse) => "in use",
+        Some(Cause::Ended) => "ended",
+        Some(Cause::NoneTaken) => "none taken",
+        Some(Cause::Lost) => "lost",
+    }
+}
+
+/// Mounts a name, and is answered so.
+pub fn mounts<H: Host>(
+    rt: &impl Abort,
+    bay: &mut FileBay<H>,
+    name: &str,
+    make: bool,
+    answer: Mounted,
+) -> Result<(), Fail>
+    requires { (bay_state bay.old).last_mount ≡ None }
+    ensures ready { OnOk result (IsTrue (has_file answer) → IsTrue (bay_state bay.new).is_ready) }
+    ensures untold { IsFalse (bay_state bay.old).tells → IsFalse (bay_state bay.new).tells }
+{
+    assert_eq!(rt; bay.mount(name, make)?, answer);
+    Ok(())
+}
+
+/// Mounts a name, and is refused for a cause.
+pub fn refuses<H: Host>(rt: &impl Abort, bay: &mut FileBay<H>, name: &str, make: bool, cause: &str)
+    requires { (bay_state bay.old).last_mount ≡ None }
+    ensures { (bay_state bay.new).last_mount ≡ None }
+{
+    assert!(rt; bay.mount(name, make).is_err());
+    assert_eq!(rt; word(bay.cause()), cause);
+}

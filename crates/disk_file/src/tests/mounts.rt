@@ -1,0 +1,119 @@
+//! The calls that a mount makes of a system, and mounts that are refused.
+use super::bays::{mounts, refuses, word};
+use super::faulty::Faulty;
+use crate::FileBay;
+use crate::host::{Kind, Use};
+use disk_face::{Bay, Disk, Mounted};
+use std::alloc::{AllocError, Global};
+use std::test::Fail;
+
+/// What stands under the name `f`, and its length; what the bay means to do, and whether the mount may
+/// make the file; the answer, and the calls in order: a digit of the log for each.
+#[derive(Clone, Copy)]
+struct Row {
+    kind: Option<Kind>,
+    len: usize,
+    usage: Use,
+    make: bool,
+    answer: Option<Mounted>,
+    log: u64,
+}
+
+macro_rules! rows {
+    ($($kind:expr, $len:literal, $usage:ident, $make:literal => $answer:expr, $log:literal;)*) => {
+        [$(Row {
+            kind: $kind,
+            len: $len,
+            usage: Use::$usage,
+            make: $make,
+            answer: $answer,
+            log: $log,
+        }),*]
+    };
+}
+
+const MOUNTS: [Row; 9] = rows! {
+    Some(Kind::File), 4, Changing, true => Some(Mounted::There), 0x12_3457;
+    Some(Kind::File), 4, Changing, false => Some(Mounted::There), 0x12_3457;
+    Some(Kind::File), 0, Changing, true => Some(Mounted::There), 0x123_4576;
+    Some(Kind::File), 0, Reading, false => Some(Mounted::There), 0x1234;
+    None, 0, Changing, true => Some(Mounted::Made), 0x12_3456;
+    None, 0, Changing, false => Some(Mounted::Absent), 0x1;
+    None, 0, Reading, true => None, 0x1;
+    Some(Kind::Folder), 0, Changing, true => None, 0x1;
+    Some(Kind::Other), 0, Reading, false => None, 0x1;
+};
+
+#[test]
+fn mounts_in_order(rt: HostRuntime) -> Result<(), Fail> {
+    for (number, row) in MOUNTS.iter().enumerate() {
+        let mut host = Faulty::new(row.kind, 0);
+        host.len = row.len;
+        let (answer, _, log, turns) = mounted(host, row.usage, row.make);
+        assert_eq!(rt;
+            (answer, log, turns),
+            (row.answer, row.log, 0),
+            "row {number}"
+        );
+    }
+    Ok(())
+}
+
+/// What a mount of `f` is answered, the word of the bay's cause, and the calls and the turns then.
+fn mounted(host: Faulty, usage: Use, make: bool) -> (Option<Mounted>, &'static str, u64, u64) {
+    let mut bay = FileBay::over(host, usage);
+    let answer = bay.mount("f", make).ok();
+    (answer, word(bay.cause()), bay.host().log.get(), bay.turns())
+}
+
+/// The calls of a mount that makes a file, and then of one whose first, second, .. call fails.
+const LOGS: [u64; 6] = [0x1, 0x12, 0x123, 0x1234, 0x1_2345, 0x12_3456];
+
+/// Each call of a mount that makes a file fails in turn, and nothing is asked after that.
+#[test]
+fn fails_to_mount(rt: HostRuntime) -> Result<(), Fail> {
+    for (i, log) in LOGS.iter().enumerate() {
+        let host = Faulty::new(None, (i as u64).wrapping_add(1));
+        let (answer, cause, seen, _) = mounted(host, Use::Changing, true);
+        assert_eq!(rt; (answer, cause, seen), (None, "system", *log));
+    }
+    Ok(())
+}
+
+/// A mount of a file that is held or that turns out to be a pipe fails, whatever the bay means to do, and
+/// nothing is asked after that.
+#[test]
+fn fails_to_mount_what_it_opened(rt: HostRuntime) -> Result<(), Fail> {
+    for usage in [Use::Reading, Use::Changing] {
+        let mut held = Faulty::new(Some(Kind::File), 0);
+        held.held = true;
+        let (answer, cause, log, _) = mounted(held, usage, false);
+        assert_eq!(rt; (answer, cause, log), (None, "in use", 0x1234));
+        let mut swapped = Faulty::new(Some(Kind::File), 0);
+        swapped.opened = Kind::Other;
+        let (answer, cause, log, _) = mounted(swapped, usage, false);
+        assert_eq!(rt; (answer, cause, log), (None, "special", 0x123));
+    }
+    Ok(())
+}
+
+/// A name that is empty or too long is refused before the system is asked.
+#[test]
+fn refuses_names(rt: HostRuntime) -> Result<(), Fail> {
+    let mut bay = FileBay::over(Faulty::new(None, 0), Use::Changing);
+    refuses(&rt, &mut bay, "", false, "no name");
+    let mut name = long_name(rt.alloc())?;
+    refuses(&rt, &mut bay, name.as_str(), false, "long name");
+    assert_eq!(rt; bay.host().log.get(), 0);
+    name.pop();
+    mounts(&rt, &mut bay, name.as_str(), false, Mounted::Absent)
+}
+
+/// A name of 4,096 bytes.
+fn long_name(alloc: Global) -> Result<String, AllocError> {
+    let mut name = String::new(alloc);
+    for _ in 0..4096u64 {
+        name.push('x')?;
+    }
+    Ok(name)
+}

@@ -1,0 +1,158 @@
+//! A worked file, its changes, and what each opens to, by `plain_opening` and by `read_state` alike.
+use crate::alike::{Parting, Seen, opened_by_both};
+use disk_mem::MemDisk;
+use plain_opening::{Opened, Refusal, open};
+use row_vectors::images::{Change, disk};
+use slot_codec::{CodecFault, Name};
+use slot_pair::SlotFault;
+use std::alloc::Global;
+use std::process::Abort;
+use std::test::Fail;
+
+/// A change of a file, and why it isn't opened, if it isn't.
+#[derive(Clone, Copy)]
+pub struct Row {
+    pub what: &'static str,
+    pub length: usize,
+    pub changes: &'static [Change],
+    pub refusal: Option<Refusal>,
+}
+
+macro_rules! rows {
+    ($($what:literal: $length:literal, $changes:expr => $refusal:expr;)*) => {
+        [$(Row { what: $what, length: $length, changes: &$changes, refusal: $refusal }),*]
+    };
+}
+
+/// Why a file isn't opened by both ways, if it isn't.
+pub fn refusal_by_both(alloc: Global, file: &mut MemDisk) -> Result<Option<Refusal>, Parting> {
+    match opened_by_both(alloc, file)? {
+        Seen::Refused(refusal) => Ok(Some(refusal)),
+        Seen::Still | Seen::Moving => Ok(None),
+    }
+}
+
+/// Opens the file of each row in both ways, with the changes that all have in common before its own.
+pub fn try_rows(
+    rt: &impl Abort,
+    alloc: Global,
+    common: &[Change],
+    rows: &[Row],
+) -> Result<(), Fail> {
+    for row in rows {
+        let mut file = disk(alloc, row.length, common, row.changes)?;
+        let refusal = refusal_by_both(alloc, &mut file);
+        assert_eq!(rt; refusal, Ok(row.refusal), "{}", row.what);
+    }
+    Ok(())
+}
+
+const NO_SLOT: [Row; 11] = rows! {
+        "one object": 19608, [] => None;
+        "no object": 19603, [(80, 0), (120, 0)] => None;
+        "below a superblock": 63, [] => Some(Refusal::Slot(SlotFault::Short));
+        "below its head": 19602, [] => Some(Refusal::Slot(SlotFault::Short));
+        "no format gate": 19608, [(19602, 0)] => Some(Refusal::Slot(SlotFault::Unformatted));
+        "no open gate": 19608, [(9832, 0)] => Some(Refusal::Slot(SlotFault::NoGate));
+        "two open slots of one sequence": 19608, [(9833, 1), (9841, 1), (19601, 0xA5)]
+            => Some(Refusal::Slot(SlotFault::SameSequence));
+        "an empty table of a greater sequence": 19608, [(9833, 1), (9841, 2), (19601, 0xA5)] => None;
+        "another version": 19608, [(64, 2)] => Some(Refusal::Slot(SlotFault::Codec(CodecFault::Version, 64)));
+        "a byte behind a name": 19608, [(8554, 1)]
+            => Some(Refusal::Slot(SlotFault::Codec(CodecFault::Zeros, 8552)));
+        "one name twice": 19608, [(80, 2), (8632, 1), (8633, b'a')]
+            => Some(Refusal::Slot(SlotFault::Codec(CodecFault::Order, 8632)));
+};
+
+#[test]
+fn refuses_what_no_slot_shows(rt: HostRuntime) -> Result<(), Fail> {
+    try_rows(&rt, rt.alloc(), &[], &NO_SLOT)
+}
+
+const ONE_OBJECT: [Row; 13] = rows! {
+        "1: an object of 1,048,577 bytes": 19608, [(8624, 1), (8626, 0x10)] => Some(Refusal::Rule(1, 0));
+        "2: an empty object at 1": 19608, [(8616, 1), (8624, 0)] => Some(Refusal::Rule(2, 0));
+        "3: an object past the end": 19608, [(8616, 1)] => Some(Refusal::Rule(3, 0));
+        "3: a file that was cut": 19607, [] => Some(Refusal::Rule(3, 0));
+        "3: a layout past the end": 19608, [(120, 6)] => Some(Refusal::Rule(3, 1));
+        "4: a boundary": 19608, [(66, 1)] => Some(Refusal::Rule(4, 0));
+        "4: a wall": 19608, [(88, 1)] => Some(Refusal::Rule(4, 0));
+        "4: a slack": 19608, [(96, 1)] => Some(Refusal::Rule(4, 0));
+        "5: a class too many": 19608, [(272, 1)] => Some(Refusal::Rule(5, 21));
+        "5: a greater class in a buffer": 19608, [(632, 1)] => Some(Refusal::Rule(5, 1));
+        "6: more in a buffer than it has": 19608, [(888, 1)] => Some(Refusal::Rule(6, 2));
+        "7: an object past its segment": 19608, [(120, 4)] => Some(Refusal::Rule(7, 0));
+        "9: a byte that nothing has": 19609, [(120, 6)] => Some(Refusal::Rule(9, 2));
+};
+
+#[test]
+fn refuses_by_the_first_rule_that_one_object_breaks(rt: HostRuntime) -> Result<(), Fail> {
+    try_rows(&rt, rt.alloc(), &[], &ONE_OBJECT)
+}
+
+/// The changes to two objects: `a` of 100 bytes at 0 in class 6, whose capacity stands at 152, and `b`
+/// whose place stands at 8,696 and size at 8,704.
+const TWO: [Change; 6] = [
+    (80, 2),
+    (120, 0),
+    (152, 100),
+    (8624, 100),
+    (8632, 1),
+    (8633, b'b'),
+];
+
+const TWO_OBJECTS: [Row; 4] = rows! {
+        "side by side in class 6": 19825, [(152, 200), (8696, 100), (8704, 100)] => None;
+        "8: two objects share bytes": 19825, [(152, 200), (8696, 50), (8704, 100)] => Some(Refusal::Rule(8, 1));
+        // Class 7, whose capacity stands at 160, has a buffer of 22 bytes.
+        "in class 6 and class 7": 19936, [(160, 200), (8696, 111), (8704, 200)] => None;
+        "10: an entry of 1 byte of class 7": 19936, [(160, 200), (8696, 111), (8704, 200), (2208, 1)]
+            => Some(Refusal::Rule(10, 7));
+};
+
+#[test]
+fn refuses_by_the_first_rule_that_two_objects_break(rt: HostRuntime) -> Result<(), Fail> {
+    try_rows(&rt, rt.alloc(), &TWO, &TWO_OBJECTS)
+}
+
+/// What `plain_opening` makes of a hand-made file.
+pub fn open_plainly(alloc: Global, length: usize, changes: &[Change]) -> Result<Opened, Fail> {
+    let mut file = disk(alloc, length, changes, &[])?;
+    match open(alloc, &mut file, 21, 1_048_576) {
+        Ok(opened) => Ok(opened),
+        Err(_) => Err("a store")?,
+    }
+}
+
+/// Where names stand, or that they don't.
+pub fn stand(
+    rt: &impl Abort,
+    opened: &Opened,
+    spots: &[(&str, Option<(u64, u64)>)],
+) -> Result<(), Fail> {
+    for (text, spot) in spots {
+        let name = Name::new(text.as_bytes()).ok_or("a name")?;
+        assert_eq!(rt; opened.spot_of(&name), *spot, "{text}");
+    }
+    Ok(())
+}
+
+const SPOTS: [(&str, Option<(u64, u64)>); 2] = [("a", Some((0, 5))), ("b", None)];
+
+#[test]
+fn gives_the_book_of_a_file(rt: HostRuntime) -> Result<(), Fail> {
+    let opened = open_plainly(rt.alloc(), 19608, &[])?;
+    let table = &opened.table;
+    assert_eq!(rt; (opened.found.sequence, table.records.len()), (1, 1));
+    assert_eq!(rt;
+        (
+            table.place(0),
+            table.size(0),
+            table.data_len,
+            table.cap(2),
+            table.is_buffered(0)
+        ),
+        (0, 5, 5, 5, false)
+    );
+    stand(&rt, &opened, &SPOTS)
+}

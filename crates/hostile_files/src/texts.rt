@@ -1,0 +1,75 @@
+//! The text of each fault.
+use slot_codec::{CodecFault, NoMemory};
+use slot_pair::SlotFault;
+use std::alloc::Global;
+use std::fmt::Display;
+use std::process::Abort;
+use std::test::Fail;
+
+/// A fault says so.
+fn says(rt: &impl Abort, alloc: Global, fault: &impl Display, text: &str) -> Result<(), Fail> {
+    let said = format!(in alloc; "{fault}")?;
+    assert_eq!(rt; said.as_str(), text);
+    Ok(())
+}
+
+const BYTES: [(CodecFault, &str); 10] = [
+    (
+        CodecFault::Magic,
+        "the file doesn't begin with the store's mark",
+    ),
+    (
+        CodecFault::Params,
+        "the divisor or the number of names is out of range",
+    ),
+    (CodecFault::Version, "the version isn't 1"),
+    (CodecFault::Kind, "the kind is neither settled nor moving"),
+    (CodecFault::Zeros, "a byte that must be zero isn't"),
+    (CodecFault::Count, "there are more records than names"),
+    (
+        CodecFault::NameBytes,
+        "the name isn't 1 to 63 bytes of printable ASCII",
+    ),
+    (
+        CodecFault::Order,
+        "the name isn't greater than the one before it",
+    ),
+    (CodecFault::Worn, "the sequence is worn out"),
+    (CodecFault::Range, "a number is 2^48 or more"),
+];
+
+#[test]
+fn says_what_bytes_are_refused_for(rt: HostRuntime) -> Result<(), Fail> {
+    for (fault, text) in &BYTES {
+        says(&rt, rt.alloc(), fault, text)?;
+    }
+    Ok(())
+}
+
+const SLOTS: [(SlotFault, &str); 6] = [
+    (SlotFault::Short, "the file is too short"),
+    (
+        SlotFault::Unformatted,
+        "the file isn't formatted to its end",
+    ),
+    (SlotFault::NoGate, "no slot's gate is open"),
+    (SlotFault::SameSequence, "both slots have one sequence"),
+    (
+        SlotFault::Codec(CodecFault::Version, 64),
+        "the version isn't 1, at 64",
+    ),
+    (SlotFault::Disk, "the disk failed"),
+];
+
+#[test]
+fn says_why_no_slot_is_in_use(rt: HostRuntime) -> Result<(), Fail> {
+    for (fault, text) in &SLOTS {
+        says(&rt, rt.alloc(), fault, text)?;
+    }
+    Ok(())
+}
+
+#[test]
+fn says_that_memory_is_out(rt: HostRuntime) -> Result<(), Fail> {
+    says(&rt, rt.alloc(), &NoMemory, "out of memory")
+}
