@@ -10,7 +10,7 @@ use Rattle.store_core.specs.Changes.{IsQuietChange, NothingChanged}
 use Rattle.store_core.specs.Connection.{IsConnected, IsOver, Kept}
 use Rattle.store_core.specs.Flushes.{IsFlush}
 use Rattle.store_core.specs.Keeps.{KeepsNow}
-use Rattle.store_rows.specs.Settled.{IsServed, classes}
+use Rattle.store_rows.specs.Served.{IsServed, classes}
 
 served_on : (old new : Kept) (before now : disk.State) → IsServed old before → Stays before now
     → IsConnected classes new now → IsServed new now
@@ -44,12 +44,3 @@ served_kept (Some why) old new before now result served is_refused kept over =
     served_on old new before now served (is_refused (search rules)).same_disk.stays over
 served_kept None old new before now result served is_refused kept over =
     served_on old new before now served (kept (search rules)).frame.stays over
-
--- once a file was opened, which changes nothing
-pub served_opened : (s : Kept) (before now : disk.State) → IsTrue before.tells → Stays before now
-    → now.file ≡ before.file → IsOver classes s before.file → IsServed s now
-served_opened s before now tells stays same over = record {
-  ready = stays.ready;
-  tells = subst IsTrue (sym stays.told) tells;
-  over = λ whole told. subst (λ (file : List ℕ). IsOver classes s file) (sym same) over;
-}

@@ -53,17 +53,40 @@ pub fn save_on<D: Disk>(
     ensures ready { OnOk result (IsTrue (D.state disk.new).is_ready) }
     ensures tells { OnOk result (IsTrue (D.state disk.new).tells) }
 {
+    make_file(disk, data_len)?;
+    let table = write_all(alloc, disk, checkpoint.objects)?;
+    save_table(alloc, disk, &checkpoint.header, &table)
+}
+
+/// Formats a file, and gives it a data part of so many bytes.
+fn make_file<D: Disk>(disk: &mut D, data_len: u64) -> Result<(), Fail>
+    requires ready { IsTrue (D.state disk.old).is_ready }
+    requires tells { IsTrue (D.state disk.old).tells }
+    requires empty { length (D.state disk.old).file ≡ 0 }
+    ensures ready { OnOk result (IsTrue (D.state disk.new).is_ready) }
+    ensures tells { OnOk result (IsTrue (D.state disk.new).tells) }
+{
     SlotPair::format(disk, BLOCK.k, BLOCK.names)?;
-    let mut table = Table::with_room(alloc, BLOCK.names)?;
     if data_len > 1 << 48 {
         return Err("a shorter data part")?;
     }
     disk.set_len(BASE as u64 + data_len)?;
-    'objects: for object in checkpoint.objects {
+    Ok(())
+}
+
+/// Writes objects, and answers the table in which they stand.
+fn write_all<D: Disk>(alloc: Global, disk: &mut D, objects: &[Object]) -> Result<Table, Fail>
+    requires ready { IsTrue (D.state disk.old).is_ready }
+    requires tells { IsTrue (D.state disk.old).tells }
+    ensures ready { IsTrue (D.state disk.new).is_ready }
+    ensures tells { IsTrue (D.state disk.new).tells }
+{
+    let mut table = Table::with_room(alloc, BLOCK.names)?;
+    'objects: for object in objects {
         write_on(disk, object)?;
         add(&mut table, object)?;
     }
-    save_table(alloc, disk, &checkpoint.header, &table)
+    Ok(table)
 }
 
 /// Writes an object.

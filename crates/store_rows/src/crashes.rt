@@ -36,6 +36,28 @@ struct Moments {
     after: &'static [Object],
 }
 
+/// An image of one turn of a request.
+fn try_image(
+    rt: &impl Abort,
+    alloc: Global,
+    image: &[u8],
+    at: (u64, Choice),
+    moments: &Moments,
+) -> Result<(), Fail> {
+    let data = (image.len() as u64).checked_sub(BASE as u64);
+    let within = match data {
+        Some(data) => data <= moments.reach,
+        None => false,
+    };
+    let opens = match opened_map(alloc, image, moments.before, moments.after)? {
+        Which::Before => at.0 < moments.last,
+        Which::After => moments.first <= at.0,
+        Which::Neither => false,
+    };
+    assert_eq!(rt; (within, opens), (true, true), "{at:?}");
+    Ok(())
+}
+
 /// The images of one turn of a request that began at another.
 fn try_turn(
     rt: &impl Abort,
@@ -47,17 +69,7 @@ fn try_turn(
 ) -> Result<(), Fail> {
     for choice in CHOICES {
         let image = trial.image(began.saturating_add(turn), choice)?;
-        let data = (image.len() as u64).checked_sub(BASE as u64);
-        assert!(rt;
-            data.is_some_and(|data| data <= moments.reach),
-            "turn {turn}, {choice:?}"
-        );
-        let opens = match opened_map(alloc, &image, moments.before, moments.after)? {
-            Which::Before => turn < moments.last,
-            Which::After => moments.first <= turn,
-            Which::Neither => false,
-        };
-        assert!(rt; opens, "turn {turn}, {choice:?}");
+        try_image(rt, alloc, &image, (turn, choice), moments)?;
     }
     Ok(())
 }
@@ -133,42 +145,48 @@ fn try_third(rt: &impl Abort, alloc: Global, trial: &mut Trial<MemDisk>) -> Resu
     let began = trial.turns();
     try_moments(rt, alloc, trial, &THIRD)?;
     let image = trial.image(began.saturating_add(3), Choice::Torn(0x5A))?;
-    assert_eq!(rt; image.len(), 19_857);
-    assert!(rt; opens_to(alloc, &image, &ONE)?);
+    let opens = opens_to(alloc, &image, &ONE)?;
+    assert_eq!(rt; (image.len(), opens), (19_857, true));
     Ok(())
 }
+
+/// A put that no checkpoint has.
+const QUIET_ROWS: &[Row] = rows! {
+    Ask::Put("b", TEN) => QUIET, b"", 1;
+};
 
 #[test]
 fn a_put_leaves_one_of_two_maps(rt: HostRuntime) -> Result<(), Fail> {
     let mut trial = fresh_on(rt.alloc(), MemDisk::new(rt.alloc()), 9)?;
     try_moments(&rt, rt.alloc(), &mut trial, &FIRST)?;
-    let rows = rows! {
-        Ask::Put("b", TEN) => QUIET, b"", 1;
-    };
-    try_rows(&rt, rt.alloc(), &mut trial, &rows)?;
+    try_rows(&rt, rt.alloc(), &mut trial, QUIET_ROWS)?;
     try_third(&rt, rt.alloc(), &mut trial)
 }
+
+/// What comes before the removals.
+const THREE_ROWS: &[Row] = rows! {
+    Ask::Put("a", HUNDRED) => KEPT, b"", 12;
+    Ask::Put("b", TEN) => QUIET, b"", 1;
+    Ask::Put("c", FIVE) => KEPT, b"", 23;
+    Ask::Del("b") => QUIET, b"", 0;
+};
 
 #[test]
 fn a_removal_leaves_one_of_two_maps(rt: HostRuntime) -> Result<(), Fail> {
     let mut trial = fresh_on(rt.alloc(), MemDisk::new(rt.alloc()), 9)?;
-    let rows = rows! {
-        Ask::Put("a", HUNDRED) => KEPT, b"", 12;
-        Ask::Put("b", TEN) => QUIET, b"", 1;
-        Ask::Put("c", FIVE) => KEPT, b"", 23;
-        Ask::Del("b") => QUIET, b"", 0;
-    };
-    try_rows(&rt, rt.alloc(), &mut trial, &rows)?;
+    try_rows(&rt, rt.alloc(), &mut trial, THREE_ROWS)?;
     try_moments(&rt, rt.alloc(), &mut trial, &FOURTH)?;
     try_moments(&rt, rt.alloc(), &mut trial, &LAST)
 }
 
+/// What comes before the replacement.
+const ONE_ROWS: &[Row] = rows! {
+    Ask::Put("a", HUNDRED) => KEPT, b"", 12;
+};
+
 #[test]
 fn a_replacement_leaves_one_of_two_maps(rt: HostRuntime) -> Result<(), Fail> {
     let mut trial = fresh_on(rt.alloc(), MemDisk::new(rt.alloc()), 9)?;
-    let rows = rows! {
-        Ask::Put("a", HUNDRED) => KEPT, b"", 12;
-    };
-    try_rows(&rt, rt.alloc(), &mut trial, &rows)?;
+    try_rows(&rt, rt.alloc(), &mut trial, ONE_ROWS)?;
     try_moments(&rt, rt.alloc(), &mut trial, &REPLACED)
 }

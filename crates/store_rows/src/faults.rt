@@ -1,12 +1,14 @@
 //! Worked stores that are worn, or whose disk fails.
 ghost use Rattle.std.specs.Prelude.{IsTrue};
 
+use crate::checkpoints::Checkpoint;
 use crate::flushes::{FIVE, TEN};
 use crate::requests::{Ask, KEPT, Looks, QUIET, Reply, Row, refused, rows, try_looks, try_rows};
 use crate::trials::{Trial, store_on};
-use crate::worked::{HUNDRED, UNCHANGED, at_one};
+use crate::worked::{self, HUNDRED, UNCHANGED, at_one, try_checkpoint};
 use disk_face::Disk;
 use disk_mem::{Fuse, MemDisk};
+use slot_codec::Header;
 use std::alloc::Global;
 use std::process::Abort;
 use std::test::Fail;
@@ -31,22 +33,36 @@ fn at_sequence(alloc: Global, sequence: u64) -> Result<Trial<MemDisk>, Fail> {
     store_on(alloc, MemDisk::from_bytes(alloc, &bytes)?)
 }
 
+/// Changes of a worn file, and what is still served.
+const WORN_ROWS: &[Row] = rows! {
+    Ask::Put("b", b"x") => refused!(Worn), b"", 0;
+    Ask::Put("a", b"") => refused!(Worn), b"", 0;
+    Ask::Del("a") => refused!(Worn), b"", 0;
+    Ask::Keep => refused!(Worn), b"", 0;
+    Ask::Del("q") => refused!(Missing), b"", 0;
+    Ask::Put("a b", b"") => refused!(BadName), b"", 0;
+    Ask::PutZeros("b", 1_048_577) => refused!(TooLong), b"", 0;
+    Ask::Get("a") => Reply::Number(100), HUNDRED, 0;
+    Ask::Back => Reply::Nothing, b"", 0;
+    Ask::Stat => ONE, b"", 0;
+};
+
 /// Changes of a file whose sequence is 2^61, and what is still served.
 fn try_worn(rt: &impl Abort, alloc: Global, trial: &mut Trial<MemDisk>) -> Result<(), Fail> {
-    let rows = rows! {
-        Ask::Put("b", b"x") => refused!(Worn), b"", 0;
-        Ask::Put("a", b"") => refused!(Worn), b"", 0;
-        Ask::Del("a") => refused!(Worn), b"", 0;
-        Ask::Keep => refused!(Worn), b"", 0;
-        Ask::Del("q") => refused!(Missing), b"", 0;
-        Ask::Put("a b", b"") => refused!(BadName), b"", 0;
-        Ask::PutZeros("b", 1_048_577) => refused!(TooLong), b"", 0;
-        Ask::Get("a") => Reply::Number(100), HUNDRED, 0;
-        Ask::Back => Reply::Nothing, b"", 0;
-        Ask::Stat => ONE, b"", 0;
-    };
-    try_rows(rt, alloc, trial, &rows)?;
-    try_looks(rt, trial, &WORN)
+    try_rows(rt, alloc, trial, WORN_ROWS)?;
+    try_looks(rt, trial, &WORN)?;
+    try_checkpoint(rt, alloc, trial, &worn_kept())
+}
+
+/// The checkpoint of the worn file.
+fn worn_kept() -> Checkpoint {
+    Checkpoint {
+        header: Header {
+            sequence: 1 << 61,
+            ..worked::ONE.header
+        },
+        ..worked::ONE
+    }
 }
 
 /// What the worn store says of itself.
@@ -65,18 +81,20 @@ fn refuses_changes_of_a_worn_file(rt: HostRuntime) -> Result<(), Fail> {
     try_worn(&rt, rt.alloc(), &mut worn)
 }
 
+/// Changes of which one saves the last sequence.
+const UP_TO_THERE: &[Row] = rows! {
+    Ask::Put("b", b"x") => QUIET, b"", 1;
+    Ask::Del("b") => QUIET, b"", 0;
+    Ask::Del("a") => KEPT, b"", 9;
+    Ask::Put("a", b"") => refused!(Worn), b"", 0;
+    Ask::Keep => refused!(Worn), b"", 0;
+    Ask::List => Reply::Nothing, b"", 0;
+};
+
 #[test]
 fn serves_changes_up_to_there(rt: HostRuntime) -> Result<(), Fail> {
     let mut trial = at_sequence(rt.alloc(), (1 << 61) - 1)?;
-    let rows = rows! {
-        Ask::Put("b", b"x") => QUIET, b"", 1;
-        Ask::Del("b") => QUIET, b"", 0;
-        Ask::Del("a") => KEPT, b"", 9;
-        Ask::Put("a", b"") => refused!(Worn), b"", 0;
-        Ask::Keep => refused!(Worn), b"", 0;
-        Ask::List => Reply::Nothing, b"", 0;
-    };
-    try_rows(&rt, rt.alloc(), &mut trial, &rows)
+    try_rows(&rt, rt.alloc(), &mut trial, UP_TO_THERE)
 }
 
 /// What the store says of itself after a flush of two saves, the first of which saves the sequence 2^61.
@@ -97,40 +115,35 @@ const PAST: Looks = Looks {
     ],
 };
 
+/// Changes of which one makes a flush of two saves.
+const PAST_ROWS: &[Row] = rows! {
+    Ask::Put("b", TEN) => QUIET, b"", 1;
+    Ask::Put("c", FIVE) => KEPT, b"", 23;
+    Ask::Del("c") => refused!(Worn), b"", 0;
+};
+
 #[test]
 fn ends_a_flush_that_begins_before_there(rt: HostRuntime) -> Result<(), Fail> {
     let mut trial = at_sequence(rt.alloc(), (1 << 61) - 1)?;
-    let rows = rows! {
-        Ask::Put("b", TEN) => QUIET, b"", 1;
-        Ask::Put("c", FIVE) => KEPT, b"", 23;
-        Ask::Del("c") => refused!(Worn), b"", 0;
-    };
-    try_rows(&rt, rt.alloc(), &mut trial, &rows)?;
+    try_rows(&rt, rt.alloc(), &mut trial, PAST_ROWS)?;
     try_looks(&rt, &trial, &PAST)
 }
 
-/// A store whose disk failed at a put: it answers Broken to all, and makes no more calls.
-fn try_broken(
-    rt: &impl Abort,
-    alloc: Global,
-    trial: &mut Trial<Fuse<MemDisk>>,
-) -> Result<(), Fail> {
-    let rows = rows! {
-        Ask::Put("b", b"x") => refused!(Disk), b"", 1;
-        Ask::Put("b", b"x") => refused!(Broken), b"", 0;
-        Ask::Put("a b", b"") => refused!(Broken), b"", 0;
-        Ask::Del("a") => refused!(Broken), b"", 0;
-        Ask::Get("a") => refused!(Broken), b"", 0;
-        Ask::Old("a") => refused!(Broken), b"", 0;
-        Ask::Size("a") => refused!(Broken), b"", 0;
-        Ask::OldSize("a") => refused!(Broken), b"", 0;
-        Ask::List => refused!(Broken), b"", 0;
-        Ask::Stat => refused!(Broken), b"", 0;
-        Ask::Back => refused!(Broken), b"", 0;
-        Ask::Keep => refused!(Broken), b"", 0;
-    };
-    try_rows(rt, alloc, trial, &rows)
-}
+/// A put at which the disk fails, and what the broken store answers to it and to all others.
+const BROKEN_ROWS: &[Row] = rows! {
+    Ask::Put("b", b"x") => refused!(Disk), b"", 1;
+    Ask::Put("b", b"x") => refused!(Broken), b"", 0;
+    Ask::Put("a b", b"") => refused!(Broken), b"", 0;
+    Ask::Del("a") => refused!(Broken), b"", 0;
+    Ask::Get("a") => refused!(Broken), b"", 0;
+    Ask::Old("a") => refused!(Broken), b"", 0;
+    Ask::Size("a") => refused!(Broken), b"", 0;
+    Ask::OldSize("a") => refused!(Broken), b"", 0;
+    Ask::List => refused!(Broken), b"", 0;
+    Ask::Stat => refused!(Broken), b"", 0;
+    Ask::Back => refused!(Broken), b"", 0;
+    Ask::Keep => refused!(Broken), b"", 0;
+};
 
 /// What the broken store says of itself.
 const BROKEN: Looks = Looks {
@@ -139,23 +152,32 @@ const BROKEN: Looks = Looks {
     ..UNCHANGED
 };
 
+/// A read at which the disk fails, and requests that are served all the same.
+const FAILING_ROWS: &[Row] = rows! {
+    Ask::Get("a") => refused!(Disk), b"", 0;
+    Ask::Get("a") => Reply::Number(100), HUNDRED, 0;
+    Ask::Put("z", b"") => QUIET, b"", 0;
+    Ask::Back => Reply::Nothing, b"", 0;
+};
+
 /// A store whose disk fails the first read of an object, which breaks nothing, and the first write.
 fn try_failing(
     rt: &impl Abort,
     alloc: Global,
     trial: &mut Trial<Fuse<MemDisk>>,
 ) -> Result<(), Fail> {
-    let rows = rows! {
-        Ask::Get("a") => refused!(Disk), b"", 0;
-        Ask::Get("a") => Reply::Number(100), HUNDRED, 0;
-        Ask::Put("z", b"") => QUIET, b"", 0;
-        Ask::Back => Reply::Nothing, b"", 0;
-    };
-    try_rows(rt, alloc, trial, &rows)?;
+    try_rows(rt, alloc, trial, FAILING_ROWS)?;
     try_looks(rt, trial, &UNCHANGED)?;
-    try_broken(rt, alloc, trial)?;
+    try_rows(rt, alloc, trial, BROKEN_ROWS)?;
     try_looks(rt, trial, &BROKEN)
 }
+
+/// What the store answers once its file is opened again.
+const AGAIN_ROWS: &[Row] = rows! {
+    Ask::Stat => ONE, b"", 0;
+    Ask::Get("a") => Reply::Number(100), HUNDRED, 0;
+    Ask::Put("b", b"x") => QUIET, b"", 1;
+};
 
 /// Opening the file again leads on.
 fn try_again<D: Disk + Drop>(rt: &impl Abort, alloc: Global, disk: D) -> Result<(), Fail>
@@ -163,19 +185,20 @@ fn try_again<D: Disk + Drop>(rt: &impl Abort, alloc: Global, disk: D) -> Result<
     requires tells { IsTrue (D.state disk).tells }
 {
     let mut trial = store_on(alloc, disk)?;
-    let rows = rows! {
-        Ask::Stat => ONE, b"", 0;
-        Ask::Get("a") => Reply::Number(100), HUNDRED, 0;
-        Ask::Put("b", b"x") => QUIET, b"", 1;
-    };
-    try_rows(rt, alloc, &mut trial, &rows)
+    try_checkpoint(rt, alloc, &mut trial, &worked::ONE)?;
+    try_rows(rt, alloc, &mut trial, AGAIN_ROWS)
+}
+
+/// The store of one object, whose disk fails the first read and the first change from here on.
+fn failing_once(alloc: Global) -> Result<Trial<Fuse<MemDisk>>, Fail> {
+    let trial = at_one(alloc, MemDisk::new(alloc))?;
+    let (changes, reads) = (vec![in alloc; 1]?, vec![in alloc; 1]?);
+    Ok(trial.failing(changes, reads))
 }
 
 #[test]
 fn is_broken_by_a_failed_write_alone(rt: HostRuntime) -> Result<(), Fail> {
-    let trial = at_one(rt.alloc(), MemDisk::new(rt.alloc()))?;
-    let (changes, reads) = (vec![in rt.alloc(); 1]?, vec![in rt.alloc(); 1]?);
-    let mut trial = trial.failing(changes, reads);
+    let mut trial = failing_once(rt.alloc())?;
     try_failing(&rt, rt.alloc(), &mut trial)?;
     try_again(&rt, rt.alloc(), trial.into_disk())
 }

@@ -51,19 +51,36 @@ pub fn try_steps<D: Disk>(
     steps: &[Step],
 ) -> Result<(), Fail> {
     for step in steps {
-        try_rows(rt, alloc, trial, &[step.row])?;
-        let looks = looks_after(step, trial.turns());
-        try_looks(rt, trial, &looks)?;
-        let file = trial.file(alloc)?;
-        assert_eq!(rt;
-            (file.len() as u64).checked_sub(BASE as u64),
-            Some(step.length),
-            "{:?}",
-            step.row.ask
-        );
-        let opens = opens_as(alloc, &file, k, &checkpoint_after(step))?;
-        assert!(rt; opens, "{:?}", step.row.ask);
+        try_step(rt, alloc, trial, k, step)?;
     }
+    Ok(())
+}
+
+/// Makes a request, and looks at the store and its file.
+fn try_step<D: Disk>(
+    rt: &impl Abort,
+    alloc: Global,
+    trial: &mut Trial<D>,
+    k: u64,
+    step: &Step,
+) -> Result<(), Fail> {
+    try_rows(rt, alloc, trial, &[step.row])?;
+    let looks = looks_after(step, trial.turns());
+    try_looks(rt, trial, &looks)?;
+    let file = trial.file(alloc)?;
+    try_file(rt, alloc, &file, k, step)
+}
+
+/// The file after a step: its length, and what it opens to.
+fn try_file(rt: &impl Abort, alloc: Global, file: &[u8], k: u64, step: &Step) -> Result<(), Fail> {
+    let data = (file.len() as u64).checked_sub(BASE as u64);
+    let opens = opens_as(alloc, file, k, &checkpoint_after(step))?;
+    assert_eq!(rt;
+        (data, opens),
+        (Some(step.length), true),
+        "{:?}",
+        step.row.ask
+    );
     Ok(())
 }
 

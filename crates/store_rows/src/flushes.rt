@@ -82,8 +82,11 @@ const THIRD: Step = Step {
     objects: THREE_LAID,
 };
 
+/// The puts of them all.
+const PUTS: &[Step] = &[FIRST, SECOND, THIRD];
+
 /// The removals of them all.
-const REMOVALS: [Step; 3] = [
+const REMOVALS: &[Step] = &[
     Step {
         row: row!(Ask::Del("b") => QUIET, 0),
         asked: &[(2, 5), (3, 20), (6, 100)],
@@ -110,23 +113,20 @@ const REMOVALS: [Step; 3] = [
 ];
 
 /// What is read once all three are put.
-fn try_reads<D: Disk>(rt: &impl Abort, alloc: Global, trial: &mut Trial<D>) -> Result<(), Fail> {
-    let rows = rows! {
-        Ask::Get("a") => Reply::Number(100), HUNDRED, 0;
-        Ask::Get("b") => Reply::Number(10), TEN, 0;
-        Ask::Get("c") => Reply::Number(5), FIVE, 0;
-        Ask::Old("c") => Reply::Number(5), FIVE, 0;
-        Ask::List => Reply::Nothing, b"a 100\nb 10\nc 5\n", 0;
-        Ask::Stat => Reply::Stat(Stat { names: 3, bytes: 115, kept_names: 3, kept_bytes: 115 }), b"", 0;
-    };
-    try_rows(rt, alloc, trial, &rows)
-}
+const READS: &[Row] = rows! {
+    Ask::Get("a") => Reply::Number(100), HUNDRED, 0;
+    Ask::Get("b") => Reply::Number(10), TEN, 0;
+    Ask::Get("c") => Reply::Number(5), FIVE, 0;
+    Ask::Old("c") => Reply::Number(5), FIVE, 0;
+    Ask::List => Reply::Nothing, b"a 100\nb 10\nc 5\n", 0;
+    Ask::Stat => Reply::Stat(Stat { names: 3, bytes: 115, kept_names: 3, kept_bytes: 115 }), b"", 0;
+};
 
 /// The puts, and the removals.
 fn try_flushes<D: Disk>(rt: &impl Abort, alloc: Global, trial: &mut Trial<D>) -> Result<(), Fail> {
-    try_steps(rt, alloc, trial, 9, &[FIRST, SECOND, THIRD])?;
-    try_reads(rt, alloc, trial)?;
-    try_steps(rt, alloc, trial, 9, &REMOVALS)
+    try_steps(rt, alloc, trial, 9, PUTS)?;
+    try_rows(rt, alloc, trial, READS)?;
+    try_steps(rt, alloc, trial, 9, REMOVALS)
 }
 
 #[test]
@@ -142,14 +142,15 @@ fn flushes_on_a_plain_disk(rt: HostRuntime) -> Result<(), Fail> {
 }
 
 /// The largest object, which is moved in 16 pieces, and its removal.
+const LARGEST_ROWS: &[Row] = rows! {
+    Ask::PutZeros("q", 1_048_576) => KEPT, b"", 27;
+    Ask::OldSize("q") => Reply::Number(1_048_576), b"", 0;
+    Ask::Del("q") => KEPT, b"", 9;
+};
+
 #[test]
 fn flushes_for_the_largest_object(rt: HostRuntime) -> Result<(), Fail> {
     let disk = PlainDisk::with_room(rt.alloc(), 3_281_840)?;
     let mut trial = fresh_on(rt.alloc(), disk, 9)?;
-    let rows = rows! {
-        Ask::PutZeros("q", 1_048_576) => KEPT, b"", 27;
-        Ask::OldSize("q") => Reply::Number(1_048_576), b"", 0;
-        Ask::Del("q") => KEPT, b"", 9;
-    };
-    try_rows(&rt, rt.alloc(), &mut trial, &rows)
+    try_rows(&rt, rt.alloc(), &mut trial, LARGEST_ROWS)
 }

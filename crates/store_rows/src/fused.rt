@@ -11,32 +11,46 @@ use std::process::Abort;
 use std::test::Fail;
 use store_core::Refusal;
 
+/// A put that is kept, and one that is not.
+const KEPT_ROWS: &[Row] = rows! {
+    Ask::Put("a", HUNDRED) => KEPT, b"", 12;
+    Ask::Put("b", TEN) => QUIET, b"", 1;
+};
+
 /// A store of 100 bytes that are kept and 10 that aren't, whose disk fails one of the changing calls
 /// from here on.
 fn failing_at(rt: &impl Abort, alloc: Global, call: u64) -> Result<Trial<Fuse<MemDisk>>, Fail> {
     let mut trial = fresh_on(alloc, MemDisk::new(alloc), 9)?;
-    let rows = rows! {
-        Ask::Put("a", HUNDRED) => KEPT, b"", 12;
-        Ask::Put("b", TEN) => QUIET, b"", 1;
-    };
-    try_rows(rt, alloc, &mut trial, &rows)?;
+    try_rows(rt, alloc, &mut trial, KEPT_ROWS)?;
     Ok(trial.failing(vec![in alloc; call]?, Vec::new(alloc)))
 }
 
-/// A put whose flush fails at a call, and what the file opens to from there.
-fn try_call(rt: &impl Abort, alloc: Global, call: u64) -> Result<(), Fail> {
-    let mut trial = failing_at(rt, alloc, call)?;
+/// What a store is asked once a flush failed.
+const BROKEN_ROWS: &[Row] = rows! {
+    Ask::Put("c", FIVE) => refused!(Broken), b"", 0;
+    Ask::Keep => refused!(Broken), b"", 0;
+    Ask::Get("a") => refused!(Broken), b"", 0;
+};
+
+/// A put whose flush fails at a call.
+fn try_refused(
+    rt: &impl Abort,
+    alloc: Global,
+    trial: &mut Trial<Fuse<MemDisk>>,
+    call: u64,
+) -> Result<(), Fail> {
     let failed = Row {
         calls: call,
         ..row!(Ask::Put("c", FIVE) => refused!(Disk), 0)
     };
-    try_rows(rt, alloc, &mut trial, &[failed])?;
-    let rows = rows! {
-        Ask::Put("c", FIVE) => refused!(Broken), b"", 0;
-        Ask::Keep => refused!(Broken), b"", 0;
-        Ask::Get("a") => refused!(Broken), b"", 0;
-    };
-    try_rows(rt, alloc, &mut trial, &rows)?;
+    try_rows(rt, alloc, trial, &[failed])?;
+    try_rows(rt, alloc, trial, BROKEN_ROWS)
+}
+
+/// Such a put, and what the file opens to from there.
+fn try_call(rt: &impl Abort, alloc: Global, call: u64) -> Result<(), Fail> {
+    let mut trial = failing_at(rt, alloc, call)?;
+    try_refused(rt, alloc, &mut trial, call)?;
     let opens = opened_map(alloc, &trial.file(alloc)?, ONE_LAID, THREE_LAID)?;
     // The tenth call opens the gate of the first checkpoint with all three.
     let expected = if call <= 10 {

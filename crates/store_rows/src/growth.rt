@@ -64,19 +64,24 @@ const ELEVENTH: Step = Step {
     objects: ELEVEN_LAID,
 };
 
+/// The three puts after eight.
+const LATER: &[Step] = &[NINTH, TENTH, ELEVENTH];
+
+/// The first eight puts.
+const EIGHT_ROWS: &[Row] = rows! {
+    Ask::Put("o1", &[1; 100]) => KEPT, b"", 12;
+    Ask::Put("o2", &[2; 100]) => KEPT, b"", 21;
+    Ask::Put("o3", &[3; 100]) => KEPT, b"", 30;
+    Ask::Put("o4", &[4; 100]) => KEPT, b"", 39;
+    Ask::Put("o5", &[5; 100]) => KEPT, b"", 41;
+    Ask::Put("o6", &[6; 100]) => KEPT, b"", 43;
+    Ask::Put("o7", &[7; 100]) => KEPT, b"", 52;
+    Ask::Put("o8", &[8; 100]) => KEPT, b"", 61;
+};
+
 #[test]
 fn saves_while_it_packs_and_lays(rt: HostRuntime) -> Result<(), Fail> {
     let mut trial = fresh_on(rt.alloc(), MemDisk::new(rt.alloc()), 9)?;
-    let rows = rows! {
-        Ask::Put("o1", &[1; 100]) => KEPT, b"", 12;
-        Ask::Put("o2", &[2; 100]) => KEPT, b"", 21;
-        Ask::Put("o3", &[3; 100]) => KEPT, b"", 30;
-        Ask::Put("o4", &[4; 100]) => KEPT, b"", 39;
-        Ask::Put("o5", &[5; 100]) => KEPT, b"", 41;
-        Ask::Put("o6", &[6; 100]) => KEPT, b"", 43;
-        Ask::Put("o7", &[7; 100]) => KEPT, b"", 52;
-        Ask::Put("o8", &[8; 100]) => KEPT, b"", 61;
-    };
-    try_rows(&rt, rt.alloc(), &mut trial, &rows)?;
-    try_steps(&rt, rt.alloc(), &mut trial, 9, &[NINTH, TENTH, ELEVENTH])
+    try_rows(&rt, rt.alloc(), &mut trial, EIGHT_ROWS)?;
+    try_steps(&rt, rt.alloc(), &mut trial, 9, LATER)
 }

@@ -19,9 +19,12 @@ mod growth;
 mod maps;
 #[cfg(test)]
 mod moments;
-pub mod openings;
 #[cfg(test)]
 mod quiet;
+#[cfg(test)]
+mod refusals;
+#[cfg(test)]
+mod reopened;
 #[cfg(test)]
 mod replaced;
 #[cfg(test)]
@@ -29,3 +32,5 @@ mod requests;
 pub mod trials;
 #[cfg(test)]
 mod worked;
+#[cfg(test)]
+mod works;

@@ -20,6 +20,20 @@ const CHOICES: [Choice; 6] = [
     Choice::Torn(0xFF),
 ];
 
+/// The image of a turn by a choice opens to a checkpoint.
+fn try_image(
+    rt: &impl Abort,
+    alloc: Global,
+    trial: &Trial<MemDisk>,
+    at: (u64, Choice),
+    checkpoint: &Checkpoint,
+) -> Result<(), Fail> {
+    let image = trial.image(at.0, at.1)?;
+    let opens = opens_to(alloc, &image, checkpoint)?;
+    assert_eq!(rt; (image.len(), opens), (19_714, true), "{at:?}");
+    Ok(())
+}
+
 /// Each image of the turns from one on up to the last opens to a checkpoint.
 fn try_images(
     rt: &impl Abort,
@@ -30,21 +44,17 @@ fn try_images(
 ) -> Result<(), Fail> {
     for turn in from..trial.turns().saturating_add(1) {
         for choice in CHOICES {
-            let image = trial.image(turn, choice)?;
-            assert_eq!(rt; image.len(), 19_714, "turn {turn}, {choice:?}");
-            let opens = opens_to(alloc, &image, checkpoint)?;
-            assert!(rt; opens, "turn {turn}, {choice:?}");
+            try_image(rt, alloc, trial, (turn, choice), checkpoint)?;
         }
     }
     Ok(())
 }
 
+/// A turn, a choice, and the bytes with which their image ends.
+type End = (u64, Choice, &'static [u8]);
+
 /// The bytes with which images of these turns end.
-fn try_ends(
-    rt: &impl Abort,
-    trial: &Trial<MemDisk>,
-    ends: &[(u64, Choice, &[u8])],
-) -> Result<(), Fail> {
+fn try_ends(rt: &impl Abort, trial: &Trial<MemDisk>, ends: &[End]) -> Result<(), Fail> {
     for (turn, choice, end) in ends {
         let image = trial.image(*turn, *choice)?;
         assert!(rt; image.ends_with(end), "turn {turn}, {choice:?}");
@@ -52,54 +62,65 @@ fn try_ends(
     Ok(())
 }
 
+/// How these images end. Within the first put its 10 bytes may be any, and no others; after it they are
+/// what reads give.
+const ONE_ENDS: &[End] = &[
+    (19, Choice::Torn(0x5A), b"9ZZZZZZZZZZ\0"),
+    (20, Choice::Newest, b"9abcdefghij\0"),
+    (20, Choice::Torn(0x5A), b"9ZZZZZZZZZZZ"),
+    (21, Choice::Newest, b"9abcdefghijk"),
+    (21, Choice::Durable, b"9\0\0\0\0\0\0\0\0\0\0\0"),
+];
+
+/// Two quiet puts and a removal.
+const ONE_ROWS: &[Row] = rows! {
+    Ask::Put("b", b"abcdefghij") => QUIET, b"", 1;
+    Ask::Put("c", b"k") => QUIET, b"", 1;
+    Ask::Del("b") => QUIET, b"", 0;
+};
+
 /// Two quiet puts and a removal, where the checkpoint has one object.
 fn try_one(rt: &impl Abort, alloc: Global, trial: &mut Trial<MemDisk>) -> Result<(), Fail> {
-    let rows = rows! {
-        Ask::Put("b", b"abcdefghij") => QUIET, b"", 1;
-        Ask::Put("c", b"k") => QUIET, b"", 1;
-        Ask::Del("b") => QUIET, b"", 0;
-    };
-    try_rows(rt, alloc, trial, &rows)?;
+    try_rows(rt, alloc, trial, ONE_ROWS)?;
     try_images(rt, alloc, trial, 19, &ONE)?;
-    // Within the first put its 10 bytes may be any, and no others; after it they are what reads give.
-    let ends: [(u64, Choice, &[u8]); 5] = [
-        (19, Choice::Torn(0x5A), b"9ZZZZZZZZZZ\0"),
-        (20, Choice::Newest, b"9abcdefghij\0"),
-        (20, Choice::Torn(0x5A), b"9ZZZZZZZZZZZ"),
-        (21, Choice::Newest, b"9abcdefghijk"),
-        (21, Choice::Durable, b"9\0\0\0\0\0\0\0\0\0\0\0"),
-    ];
-    try_ends(rt, trial, &ends)
+    try_ends(rt, trial, ONE_ENDS)
 }
+
+/// How an image ends once they are put.
+const TWO_ENDS: &[End] = &[(22, Choice::Newest, b"9wxyzabcdefg")];
+
+/// A removal, and puts beside what it held.
+const TWO_ROWS: &[Row] = rows! {
+    Ask::Get("q") => Reply::Number(4), b"wxyz", 0;
+    Ask::Del("q") => QUIET, b"", 0;
+    Ask::Get("q") => refused!(Missing), b"", 0;
+    Ask::Old("q") => Reply::Number(4), b"wxyz", 0;
+    // The bytes of `q` are held: 7 are left of the buffer.
+    Ask::Put("q", b"abcd") => QUIET, b"", 1;
+    Ask::Put("r", b"efg") => QUIET, b"", 1;
+    Ask::Get("q") => Reply::Number(4), b"abcd", 0;
+    Ask::Old("q") => Reply::Number(4), b"wxyz", 0;
+    Ask::OldSize("q") => Reply::Number(4), b"", 0;
+    Ask::List => Reply::Nothing, b"p 100\nq 4\nr 3\n", 0;
+};
+
+/// Going back, and a put that makes a flush.
+const BACK_ROWS: &[Row] = rows! {
+    Ask::Back => Reply::Nothing, b"", 0;
+    Ask::Get("q") => Reply::Number(4), b"wxyz", 0;
+    Ask::List => Reply::Nothing, b"p 100\nq 4\n", 0;
+    // These don't find room beside the held ones.
+    Ask::Put("q", b"abcdefgh") => KEPT, b"", 21;
+    Ask::Old("q") => Reply::Number(8), b"abcdefgh", 0;
+    Ask::List => Reply::Nothing, b"p 100\nq 8\n", 0;
+};
 
 /// A removal and puts, where the checkpoint has an object in a buffer.
 fn try_two(rt: &impl Abort, alloc: Global, trial: &mut Trial<MemDisk>) -> Result<(), Fail> {
-    let rows = rows! {
-        Ask::Get("q") => Reply::Number(4), b"wxyz", 0;
-        Ask::Del("q") => QUIET, b"", 0;
-        Ask::Get("q") => refused!(Missing), b"", 0;
-        Ask::Old("q") => Reply::Number(4), b"wxyz", 0;
-        // The bytes of `q` are held: 7 are left of the buffer.
-        Ask::Put("q", b"abcd") => QUIET, b"", 1;
-        Ask::Put("r", b"efg") => QUIET, b"", 1;
-        Ask::Get("q") => Reply::Number(4), b"abcd", 0;
-        Ask::Old("q") => Reply::Number(4), b"wxyz", 0;
-        Ask::OldSize("q") => Reply::Number(4), b"", 0;
-        Ask::List => Reply::Nothing, b"p 100\nq 4\nr 3\n", 0;
-    };
-    try_rows(rt, alloc, trial, &rows)?;
+    try_rows(rt, alloc, trial, TWO_ROWS)?;
     try_images(rt, alloc, trial, 20, &TWO)?;
-    try_ends(rt, trial, &[(22, Choice::Newest, b"9wxyzabcdefg")])?;
-    let rows = rows! {
-        Ask::Back => Reply::Nothing, b"", 0;
-        Ask::Get("q") => Reply::Number(4), b"wxyz", 0;
-        Ask::List => Reply::Nothing, b"p 100\nq 4\n", 0;
-        // These don't find room beside the held ones.
-        Ask::Put("q", b"abcdefgh") => KEPT, b"", 21;
-        Ask::Old("q") => Reply::Number(8), b"abcdefgh", 0;
-        Ask::List => Reply::Nothing, b"p 100\nq 8\n", 0;
-    };
-    try_rows(rt, alloc, trial, &rows)
+    try_ends(rt, trial, TWO_ENDS)?;
+    try_rows(rt, alloc, trial, BACK_ROWS)
 }
 
 #[test]

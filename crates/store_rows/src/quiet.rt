@@ -32,115 +32,116 @@ macro_rules! counts {
 }
 
 /// Quiet changes and what is asked between them.
-fn try_changes<D: Disk>(rt: &impl Abort, alloc: Global, trial: &mut Trial<D>) -> Result<(), Fail> {
-    let rows = rows! {
-        Ask::Stat => counts!(1, 100), b"", 0;
-        Ask::Size("a") => Reply::Number(100), b"", 0;
-        Ask::Get("a") => Reply::Number(100), HUNDRED, 0;
-        Ask::Put("b", TEN) => QUIET, b"", 1;
-        Ask::Stat => counts!(2, 110), b"", 0;
-        Ask::Size("b") => Reply::Number(10), b"", 0;
-        Ask::OldSize("b") => refused!(Missing), b"", 0;
-        Ask::Get("b") => Reply::Number(10), TEN, 0;
-        Ask::Old("b") => refused!(Missing), b"", 0;
-        Ask::List => Reply::Nothing, b"a 100\nb 10\n", 0;
-        Ask::Del("b") => QUIET, b"", 0;
-        Ask::Stat => counts!(1, 100), b"", 0;
-        Ask::Get("b") => refused!(Missing), b"", 0;
-        // 1 byte of the buffer is left.
-        Ask::Put("d", b"w") => QUIET, b"", 1;
-        Ask::Get("d") => Reply::Number(1), b"w", 0;
-        Ask::Stat => counts!(2, 101), b"", 0;
-        Ask::Put("z", b"") => QUIET, b"", 0;
-        Ask::Stat => counts!(3, 101), b"", 0;
-        Ask::Get("z") => Reply::Number(0), b"", 0;
-        Ask::Size("z") => Reply::Number(0), b"", 0;
-        Ask::List => Reply::Nothing, b"a 100\nd 1\nz 0\n", 0;
-        Ask::Back => Reply::Nothing, b"", 0;
-        Ask::List => Reply::Nothing, b"a 100\n", 0;
-        Ask::Stat => counts!(1, 100), b"", 0;
-        Ask::OldSize("a") => Reply::Number(100), b"", 0;
-        Ask::Old("a") => Reply::Number(100), HUNDRED, 0;
-        // The buffer is as it was at the checkpoint.
-        Ask::Put("b", TEN) => QUIET, b"", 1;
-        Ask::Put("b", b"x") => QUIET, b"", 1;
-        Ask::Get("b") => Reply::Number(1), b"x", 0;
-        Ask::Stat => counts!(2, 101), b"", 0;
-    };
-    try_rows(rt, alloc, trial, &rows)
-}
+const CHANGES: &[Row] = rows! {
+    Ask::Stat => counts!(1, 100), b"", 0;
+    Ask::Size("a") => Reply::Number(100), b"", 0;
+    Ask::Get("a") => Reply::Number(100), HUNDRED, 0;
+    Ask::Put("b", TEN) => QUIET, b"", 1;
+    Ask::Stat => counts!(2, 110), b"", 0;
+    Ask::Size("b") => Reply::Number(10), b"", 0;
+    Ask::OldSize("b") => refused!(Missing), b"", 0;
+    Ask::Get("b") => Reply::Number(10), TEN, 0;
+    Ask::Old("b") => refused!(Missing), b"", 0;
+    Ask::List => Reply::Nothing, b"a 100\nb 10\n", 0;
+    Ask::Del("b") => QUIET, b"", 0;
+    Ask::Stat => counts!(1, 100), b"", 0;
+    Ask::Get("b") => refused!(Missing), b"", 0;
+    // 1 byte of the buffer is left.
+    Ask::Put("d", b"w") => QUIET, b"", 1;
+    Ask::Get("d") => Reply::Number(1), b"w", 0;
+    Ask::Stat => counts!(2, 101), b"", 0;
+    Ask::Put("z", b"") => QUIET, b"", 0;
+    Ask::Stat => counts!(3, 101), b"", 0;
+    Ask::Get("z") => Reply::Number(0), b"", 0;
+    Ask::Size("z") => Reply::Number(0), b"", 0;
+    Ask::List => Reply::Nothing, b"a 100\nd 1\nz 0\n", 0;
+    Ask::Back => Reply::Nothing, b"", 0;
+    Ask::List => Reply::Nothing, b"a 100\n", 0;
+    Ask::Stat => counts!(1, 100), b"", 0;
+    Ask::OldSize("a") => Reply::Number(100), b"", 0;
+    Ask::Old("a") => Reply::Number(100), HUNDRED, 0;
+    // The buffer is as it was at the checkpoint.
+    Ask::Put("b", TEN) => QUIET, b"", 1;
+    Ask::Put("b", b"x") => QUIET, b"", 1;
+    Ask::Get("b") => Reply::Number(1), b"x", 0;
+    Ask::Stat => counts!(2, 101), b"", 0;
+};
 
 /// Requests that are refused for what they ask.
-fn try_refusals<D: Disk>(rt: &impl Abort, alloc: Global, trial: &mut Trial<D>) -> Result<(), Fail> {
-    let rows = rows! {
-        Ask::Back => Reply::Nothing, b"", 0;
-        Ask::Put(TOO_LONG, b"") => refused!(BadName), b"", 0;
-        Ask::PutZeros(TOO_LONG, 1_048_577) => refused!(BadName), b"", 0;
-        Ask::Del(TOO_LONG) => refused!(BadName), b"", 0;
-        Ask::Get(TOO_LONG) => refused!(BadName), b"", 0;
-        Ask::Old(TOO_LONG) => refused!(BadName), b"", 0;
-        Ask::Size(TOO_LONG) => refused!(BadName), b"", 0;
-        Ask::OldSize(TOO_LONG) => refused!(BadName), b"", 0;
-        Ask::Put("", b"") => refused!(BadName), b"", 0;
-        Ask::Put("a b", b"") => refused!(BadName), b"", 0;
-        Ask::Del("q") => refused!(Missing), b"", 0;
-        Ask::Get("q") => refused!(Missing), b"", 0;
-        Ask::Old("q") => refused!(Missing), b"", 0;
-        Ask::Size("q") => refused!(Missing), b"", 0;
-        Ask::OldSize("q") => refused!(Missing), b"", 0;
-        Ask::PutZeros("q", 1_048_577) => refused!(TooLong), b"", 0;
-        Ask::PutZeros("a", 1_048_577) => refused!(TooLong), b"", 0;
-        Ask::Put(LONGEST, b"") => QUIET, b"", 0;
-        Ask::Del(LONGEST) => QUIET, b"", 0;
-    };
-    try_rows(rt, alloc, trial, &rows)
-}
+const REFUSALS: &[Row] = rows! {
+    Ask::Back => Reply::Nothing, b"", 0;
+    Ask::Put(TOO_LONG, b"") => refused!(BadName), b"", 0;
+    Ask::PutZeros(TOO_LONG, 1_048_577) => refused!(BadName), b"", 0;
+    Ask::Del(TOO_LONG) => refused!(BadName), b"", 0;
+    Ask::Get(TOO_LONG) => refused!(BadName), b"", 0;
+    Ask::Old(TOO_LONG) => refused!(BadName), b"", 0;
+    Ask::Size(TOO_LONG) => refused!(BadName), b"", 0;
+    Ask::OldSize(TOO_LONG) => refused!(BadName), b"", 0;
+    Ask::Put("", b"") => refused!(BadName), b"", 0;
+    Ask::Put("a b", b"") => refused!(BadName), b"", 0;
+    Ask::Del("q") => refused!(Missing), b"", 0;
+    Ask::Get("q") => refused!(Missing), b"", 0;
+    Ask::Old("q") => refused!(Missing), b"", 0;
+    Ask::Size("q") => refused!(Missing), b"", 0;
+    Ask::OldSize("q") => refused!(Missing), b"", 0;
+    Ask::PutZeros("q", 1_048_577) => refused!(TooLong), b"", 0;
+    Ask::PutZeros("a", 1_048_577) => refused!(TooLong), b"", 0;
+    Ask::Put(LONGEST, b"") => QUIET, b"", 0;
+    Ask::Del(LONGEST) => QUIET, b"", 0;
+};
 
 /// As many names as there may be.
-fn try_full<D: Disk>(rt: &impl Abort, alloc: Global, trial: &mut Trial<D>) -> Result<(), Fail> {
-    for name in [
-        "n1", "n2", "n3", "n4", "n5", "n6", "n7", "n8", "n9", "n10", "n11", "n12", "n13", "n14",
-        "n15",
-    ] {
-        let rows = rows! {
-            Ask::Put(name, b"") => QUIET, b"", 0;
-        };
-        try_rows(rt, alloc, trial, &rows)?;
-    }
-    let rows = rows! {
-        Ask::Stat => counts!(16, 100), b"", 0;
-        Ask::Put("n16", b"") => refused!(Full), b"", 0;
-        Ask::PutZeros("n16", 1_048_577) => refused!(TooLong), b"", 0;
-        Ask::Put("n1", b"") => QUIET, b"", 0;
-        Ask::Del("n2") => QUIET, b"", 0;
-        Ask::Put("n16", b"") => QUIET, b"", 0;
-        Ask::Put("n2", b"") => refused!(Full), b"", 0;
-        Ask::Old("n1") => refused!(Missing), b"", 0;
-        Ask::Stat => counts!(16, 100), b"", 0;
-        Ask::Back => Reply::Nothing, b"", 0;
-        Ask::List => Reply::Nothing, b"a 100\n", 0;
-    };
-    try_rows(rt, alloc, trial, &rows)
-}
+const FULL: &[Row] = rows! {
+    Ask::Put("n1", b"") => QUIET, b"", 0;
+    Ask::Put("n2", b"") => QUIET, b"", 0;
+    Ask::Put("n3", b"") => QUIET, b"", 0;
+    Ask::Put("n4", b"") => QUIET, b"", 0;
+    Ask::Put("n5", b"") => QUIET, b"", 0;
+    Ask::Put("n6", b"") => QUIET, b"", 0;
+    Ask::Put("n7", b"") => QUIET, b"", 0;
+    Ask::Put("n8", b"") => QUIET, b"", 0;
+    Ask::Put("n9", b"") => QUIET, b"", 0;
+    Ask::Put("n10", b"") => QUIET, b"", 0;
+    Ask::Put("n11", b"") => QUIET, b"", 0;
+    Ask::Put("n12", b"") => QUIET, b"", 0;
+    Ask::Put("n13", b"") => QUIET, b"", 0;
+    Ask::Put("n14", b"") => QUIET, b"", 0;
+    Ask::Put("n15", b"") => QUIET, b"", 0;
+    Ask::Stat => counts!(16, 100), b"", 0;
+    Ask::Put("n16", b"") => refused!(Full), b"", 0;
+    Ask::PutZeros("n16", 1_048_577) => refused!(TooLong), b"", 0;
+    Ask::Put("n1", b"") => QUIET, b"", 0;
+    Ask::Del("n2") => QUIET, b"", 0;
+    Ask::Put("n16", b"") => QUIET, b"", 0;
+    Ask::Put("n2", b"") => refused!(Full), b"", 0;
+    Ask::Old("n1") => refused!(Missing), b"", 0;
+    Ask::Stat => counts!(16, 100), b"", 0;
+    Ask::Back => Reply::Nothing, b"", 0;
+    Ask::List => Reply::Nothing, b"a 100\n", 0;
+};
 
-/// A sink that fails its first call and its third.
+/// Reads and lists to a sink that fails its first call and its third.
+const SINKS: &[Row] = rows! {
+    Ask::Get("a") => refused!(Sink), b"", 0;
+    Ask::Get("a") => Reply::Number(100), HUNDRED, 0;
+    Ask::List => refused!(Sink), b"", 0;
+    Ask::List => Reply::Nothing, b"a 100\n", 0;
+    Ask::Old("a") => Reply::Number(100), HUNDRED, 0;
+};
+
+/// Such a sink.
 fn try_sinks<D: Disk>(rt: &impl Abort, alloc: Global, trial: &mut Trial<D>) -> Result<(), Fail> {
-    let rows = rows! {
-        Ask::Get("a") => refused!(Sink), b"", 0;
-        Ask::Get("a") => Reply::Number(100), HUNDRED, 0;
-        Ask::List => refused!(Sink), b"", 0;
-        Ask::List => Reply::Nothing, b"a 100\n", 0;
-        Ask::Old("a") => Reply::Number(100), HUNDRED, 0;
-    };
     let mut sink = MemSink::with_room(alloc, 4096, vec![in alloc; 1, 3]?)?;
-    try_rows_to(rt, alloc, trial, &rows, &mut sink)
+    try_rows_to(rt, alloc, trial, SINKS, &mut sink)
 }
 
 /// A file that ends with these bytes, and is else as before.
 fn try_end(rt: &impl Abort, before: &[u8], after: &[u8], end: &[u8]) -> Result<(), Fail> {
-    assert_eq!(rt; after.len(), 19_714);
-    assert!(rt; is_same_before(before, after, end.len()));
-    assert!(rt; after.ends_with(end));
+    let same = is_same_before(before, after, end.len());
+    assert_eq!(rt;
+        (after.len(), same, after.ends_with(end)),
+        (19_714, true, true)
+    );
     Ok(())
 }
 
@@ -168,9 +169,17 @@ const CHANGED: Looks = Looks {
 /// at 110.
 fn try_file<D: Disk>(rt: &impl Abort, alloc: Global, trial: &mut Trial<D>) -> Result<(), Fail> {
     let before = trial.file(alloc)?;
-    try_changes(rt, alloc, trial)?;
+    try_rows(rt, alloc, trial, CHANGES)?;
     let after = trial.file(alloc)?;
     try_end(rt, &before, &after, b"abcdefghijx")
+}
+
+/// Refusals of each kind, which leave what the changes left.
+fn try_others<D: Disk>(rt: &impl Abort, alloc: Global, trial: &mut Trial<D>) -> Result<(), Fail> {
+    try_rows(rt, alloc, trial, REFUSALS)?;
+    try_rows(rt, alloc, trial, FULL)?;
+    try_sinks(rt, alloc, trial)?;
+    try_looks(rt, trial, &CHANGED)
 }
 
 /// All of these, and what the store says of itself.
@@ -178,10 +187,7 @@ fn try_store<D: Disk>(rt: &impl Abort, alloc: Global, trial: &mut Trial<D>) -> R
     try_looks(rt, trial, &UNCHANGED)?;
     try_file(rt, alloc, trial)?;
     try_looks(rt, trial, &CHANGED)?;
-    try_refusals(rt, alloc, trial)?;
-    try_full(rt, alloc, trial)?;
-    try_sinks(rt, alloc, trial)?;
-    try_looks(rt, trial, &CHANGED)
+    try_others(rt, alloc, trial)
 }
 
 #[test]

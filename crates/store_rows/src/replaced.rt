@@ -1,10 +1,10 @@
 //! A flush for a put in place of an object, checkpoints that are asked for, and flushes at the least
 //! divisor.
-use crate::checkpoints::{Checkpoint, Object, opens_to};
+use crate::checkpoints::{Checkpoint, Object};
 use crate::flushed::{Step, fresh_on, try_steps};
 use crate::flushes::{FIRST, TEN, laid, row};
 use crate::requests::{Ask, KEPT, QUIET, Reply, Row, refused, rows, try_rows};
-use crate::worked::{HUNDRED, TWO};
+use crate::worked::{HUNDRED, TWO, try_checkpoint};
 use disk_mem::MemDisk;
 use slot_codec::Header;
 use std::test::Fail;
@@ -24,15 +24,20 @@ const REPLACED: Step = Step {
     objects: TEN_LAID,
 };
 
+/// The put of the object, and the one in its place.
+const REPLACEMENT: &[Step] = &[FIRST, REPLACED];
+
+/// What is read once the object is replaced.
+const READS: &[Row] = rows! {
+    Ask::Get("a") => Reply::Number(10), TEN, 0;
+    Ask::Old("a") => Reply::Number(10), TEN, 0;
+};
+
 #[test]
 fn flushes_for_a_put_that_finds_room(rt: HostRuntime) -> Result<(), Fail> {
     let mut trial = fresh_on(rt.alloc(), MemDisk::new(rt.alloc()), 9)?;
-    try_steps(&rt, rt.alloc(), &mut trial, 9, &[FIRST, REPLACED])?;
-    let rows = rows! {
-        Ask::Get("a") => Reply::Number(10), TEN, 0;
-        Ask::Old("a") => Reply::Number(10), TEN, 0;
-    };
-    try_rows(&rt, rt.alloc(), &mut trial, &rows)
+    try_steps(&rt, rt.alloc(), &mut trial, 9, REPLACEMENT)?;
+    try_rows(&rt, rt.alloc(), &mut trial, READS)
 }
 
 /// The second checkpoint of a store with an object in a buffer.
@@ -46,29 +51,28 @@ fn two_kept() -> Checkpoint {
     }
 }
 
+/// An object in a buffer that is kept, removed, and there again.
+const KEPT_ROWS: &[Row] = rows! {
+    Ask::Put("p", HUNDRED) => KEPT, b"", 12;
+    Ask::Put("q", b"wxyz") => QUIET, b"", 1;
+    Ask::Old("q") => refused!(Missing), b"", 0;
+    Ask::Keep => KEPT, b"", 7;
+    Ask::Del("q") => QUIET, b"", 0;
+    Ask::Old("q") => Reply::Number(4), b"wxyz", 0;
+    Ask::Get("q") => refused!(Missing), b"", 0;
+    Ask::Back => Reply::Nothing, b"", 0;
+    Ask::Get("q") => Reply::Number(4), b"wxyz", 0;
+};
+
 #[test]
 fn keeps_what_stands_in_a_buffer(rt: HostRuntime) -> Result<(), Fail> {
     let mut trial = fresh_on(rt.alloc(), MemDisk::new(rt.alloc()), 9)?;
-    let rows = rows! {
-        Ask::Put("p", HUNDRED) => KEPT, b"", 12;
-        Ask::Put("q", b"wxyz") => QUIET, b"", 1;
-        Ask::Old("q") => refused!(Missing), b"", 0;
-        Ask::Keep => KEPT, b"", 7;
-        Ask::Del("q") => QUIET, b"", 0;
-        Ask::Old("q") => Reply::Number(4), b"wxyz", 0;
-        Ask::Get("q") => refused!(Missing), b"", 0;
-        Ask::Back => Reply::Nothing, b"", 0;
-        Ask::Get("q") => Reply::Number(4), b"wxyz", 0;
-    };
-    try_rows(&rt, rt.alloc(), &mut trial, &rows)?;
-    let file = trial.file(rt.alloc())?;
-    assert_eq!(rt; file.len(), 19_714);
-    assert!(rt; opens_to(rt.alloc(), &file, &two_kept())?);
-    Ok(())
+    try_rows(&rt, rt.alloc(), &mut trial, KEPT_ROWS)?;
+    try_checkpoint(&rt, rt.alloc(), &mut trial, &two_kept())
 }
 
 /// A byte that comes and goes twice, at the divisor 2.
-const PAIRS: [Step; 4] = [
+const PAIRS: &[Step] = &[
     Step {
         row: row!(Ask::Put("x", b"1") => KEPT, 12),
         length: 1,
@@ -110,5 +114,5 @@ const PAIRS: [Step; 4] = [
 #[test]
 fn flushes_at_the_least_divisor(rt: HostRuntime) -> Result<(), Fail> {
     let mut trial = fresh_on(rt.alloc(), MemDisk::new(rt.alloc()), 2)?;
-    try_steps(&rt, rt.alloc(), &mut trial, 2, &PAIRS)
+    try_steps(&rt, rt.alloc(), &mut trial, 2, PAIRS)
 }

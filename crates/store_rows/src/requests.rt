@@ -5,12 +5,12 @@ use disk_mem::MemSink;
 use std::alloc::Global;
 use std::process::Abort;
 use std::test::Fail;
-use store_core::{Done, Gauge, Refusal, Stat};
+use store_core::{Done, Gauge, Refusal, Stat, Store};
 
 /// Requests, with their answers, the bytes that they put and their changing calls.
 macro_rules! rows {
     ($($ask:expr => $reply:expr, $puts:expr, $calls:literal;)*) => {
-        [$(Row { ask: $ask, reply: $reply, puts: $puts, calls: $calls }),*]
+        &[$(Row { ask: $ask, reply: $reply, puts: $puts, calls: $calls }),*]
     };
 }
 
@@ -52,7 +52,7 @@ pub enum Reply {
 }
 
 /// A request, its answer, the bytes that it puts, and how many changing calls of the disk it makes.
-#[derive(Clone, Copy, Debug)]
+#[derive(Clone, Copy)]
 pub struct Row {
     pub ask: Ask,
     pub reply: Reply,
@@ -80,18 +80,22 @@ pub fn answer<D: Disk>(
             done(trial.put(name, &zeros))
         }
         Ask::Del(name) => done(trial.del(name)),
+        Ask::Keep => done(trial.keep()),
+        Ask::Back => nothing(trial.back()),
         Ask::Get(name) => number(trial.get(name, sink)),
         Ask::Old(name) => number(trial.old(name, sink)),
-        Ask::Size(name) => number(trial.store().size(name.as_bytes())),
-        Ask::OldSize(name) => number(trial.store().old_size(name.as_bytes())),
-        Ask::List => nothing(trial.store().list(sink)),
-        Ask::Stat => match trial.store().stat() {
-            Ok(stat) => Reply::Stat(stat),
-            Err(refusal) => Reply::Refused(refusal),
-        },
-        Ask::Back => nothing(trial.back()),
-        Ask::Keep => done(trial.keep()),
+        Ask::Size(_) | Ask::OldSize(_) | Ask::List | Ask::Stat => tell(trial.store(), ask, sink),
     })
+}
+
+/// What a store answers to a request that needs no disk.
+fn tell(store: &Store<21>, ask: Ask, sink: &mut MemSink) -> Reply {
+    match ask {
+        Ask::Size(name) => number(store.size(name.as_bytes())),
+        Ask::OldSize(name) => number(store.old_size(name.as_bytes())),
+        Ask::List => nothing(store.list(sink)),
+        _ => stat(store.stat()),
+    }
 }
 
 fn done(answer: Result<Done, Refusal>) -> Reply {
@@ -104,6 +108,13 @@ fn done(answer: Result<Done, Refusal>) -> Reply {
 fn number(answer: Result<u64, Refusal>) -> Reply {
     match answer {
         Ok(number) => Reply::Number(number),
+        Err(refusal) => Reply::Refused(refusal),
+    }
+}
+
+fn stat(answer: Result<Stat, Refusal>) -> Reply {
+    match answer {
+        Ok(stat) => Reply::Stat(stat),
         Err(refusal) => Reply::Refused(refusal),
     }
 }
@@ -134,20 +145,29 @@ pub fn try_rows_to<D: Disk>(
     rows: &[Row],
     sink: &mut MemSink,
 ) -> Result<(), Fail> {
-    for n in 0..rows.len() {
-        let row = &rows[n];
-        let (put, turns) = (sink.bytes().len(), trial.turns());
-        let reply = answer(alloc, trial, row.ask, sink)?;
-        assert_eq!(rt; reply, row.reply, "row {n}: {:?}", row.ask);
-        assert_eq!(rt;
-            sink.bytes().get(put..),
-            Some(row.puts),
-            "row {n}: {:?}",
-            row.ask
-        );
-        let after = turns.saturating_add(row.calls);
-        assert_eq!(rt; trial.turns(), after, "row {n}: {:?}", row.ask);
+    for row in rows {
+        try_row(rt, alloc, trial, row, sink)?;
     }
+    Ok(())
+}
+
+/// Makes a request.
+fn try_row<D: Disk>(
+    rt: &impl Abort,
+    alloc: Global,
+    trial: &mut Trial<D>,
+    row: &Row,
+    sink: &mut MemSink,
+) -> Result<(), Fail> {
+    let (put, turns) = (sink.bytes().len(), trial.turns());
+    let reply = answer(alloc, trial, row.ask, sink)?;
+    let after = turns.saturating_add(row.calls);
+    assert_eq!(rt;
+        (reply, sink.bytes().get(put..), trial.turns()),
+        (row.reply, Some(row.puts), after),
+        "{:?}",
+        row.ask
+    );
     Ok(())
 }
 

@@ -1,12 +1,9 @@
 //! A store over its disk, ready for any request.
 ghost use Rattle.std.specs.Prelude.{◌≡◌, ◌≤◌, IsTrue, IfOk};
 
-use crate::openings::settled_store;
 use data_area::Ledger;
 use disk_face::{Disk, Sink, length_of, read};
 use disk_mem::{Choice, Fuse, MemDisk};
-use plain_opening::open;
-use size_class::SIZE_MAX;
 use std::alloc::Global;
 use std::marker::Model;
 use std::test::Fail;
@@ -22,7 +19,7 @@ pub struct Trial<D: Disk> {
 
 impl<D: Disk> Model for Trial<D> {
     ghost use Rattle.std.specs.Prelude.{ℕ};
-    ghost use Rattle.store_rows.specs.Settled.{IsServed};
+    ghost use Rattle.store_rows.specs.Served.{IsServed};
 
     ghost Value = { ℕ };
 
@@ -31,16 +28,13 @@ impl<D: Disk> Model for Trial<D> {
     ghost invariant = { λ t. IsServed t.store (D.state t.disk) };
 }
 
-/// The store of a file with a settled table, over its disk.
+/// Opens the file of a disk.
 pub fn store_on<D: Disk + Drop>(alloc: Global, disk: D) -> Result<Trial<D>, Fail>
     requires ready { IsTrue (D.state disk).is_ready }
     requires tells { IsTrue (D.state disk).tells }
 {
     let mut disk = disk;
-    let Ok(opened) = open(alloc, &mut disk, 21, SIZE_MAX) else {
-        return Err("a store")?;
-    };
-    let store = settled_store(alloc, &opened)?;
+    let store = Store::open(alloc, &mut disk)?;
     Ok(Trial { disk, store })
 }
 

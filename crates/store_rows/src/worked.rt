@@ -1,12 +1,13 @@
 //! The worked checkpoints, and stores that stand at them.
 ghost use Rattle.std.specs.Prelude.{◌≡◌, IsTrue, length};
 
-use crate::checkpoints::{Checkpoint, Object, save_on};
+use crate::checkpoints::{Checkpoint, Object, opens_to, save_on};
 use crate::requests::Looks;
 use crate::trials::{Trial, store_on};
 use disk_face::Disk;
 use slot_codec::{Header, Kind};
 use std::alloc::Global;
+use std::process::Abort;
 use std::test::Fail;
 use store_core::Gauge;
 
@@ -113,4 +114,17 @@ pub fn at_two<D: Disk + Drop>(alloc: Global, disk: D) -> Result<Trial<D>, Fail>
     let mut disk = disk;
     save_on(alloc, &mut disk, 111, &TWO)?;
     store_on(alloc, disk)
+}
+
+/// The file of a store is as long as these, and opens to a checkpoint.
+pub fn try_checkpoint<D: Disk>(
+    rt: &impl Abort,
+    alloc: Global,
+    trial: &mut Trial<D>,
+    checkpoint: &Checkpoint,
+) -> Result<(), Fail> {
+    let file = trial.file(alloc)?;
+    let opens = opens_to(alloc, &file, checkpoint)?;
+    assert_eq!(rt; (file.len(), opens), (19_714, true));
+    Ok(())
 }

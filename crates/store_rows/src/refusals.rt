@@ -73,39 +73,52 @@ fn opening(
     Ok((refusal, disk.turns()))
 }
 
-fn rule(rule: u8, at: u64) -> Option<OpenFault> {
-    Some(OpenFault::Table(TableFault { rule, at }))
+/// A refusal by a rule at a place.
+macro_rules! rule {
+    ($rule:literal, $at:literal) => {
+        Some(OpenFault::Table(TableFault {
+            rule: $rule,
+            at: $at,
+        }))
+    };
 }
 
-fn slot(fault: SlotFault) -> Option<OpenFault> {
-    Some(OpenFault::Slot(fault))
+/// A refusal of the slots.
+macro_rules! slot {
+    ($fault:expr) => {
+        Some(OpenFault::Slot($fault))
+    };
 }
+
+/// How long a file is, its changes, and why it isn't opened, if it isn't.
+type Row = (usize, &'static [Change], Option<OpenFault>);
+
+const ROWS: &[Row] = &[
+    (19_608, &[], None),
+    (19_608, &[(72, 0), (79, 0x20)], None),
+    (
+        19_608,
+        &[(72, 0), (79, 0x40)],
+        slot!(SlotFault::Codec(CodecFault::Worn, 64)),
+    ),
+    (19_825, &SHARED, rule!(8, 1)),
+    (19_608, &[(8616, 1)], rule!(3, 0)),
+    (19_608, &[(888, 1)], rule!(6, 2)),
+    (19_607, &[], rule!(3, 0)),
+    (19_602, &[], slot!(SlotFault::Short)),
+    (63, &[], slot!(SlotFault::Short)),
+    (
+        19_608,
+        &[(8553, 0x20)],
+        slot!(SlotFault::Codec(CodecFault::NameBytes, 8552)),
+    ),
+];
 
 #[test]
 fn opens_or_refuses_without_a_change(rt: HostRuntime) -> Result<(), Fail> {
-    let rows: [(usize, &[Change], Option<OpenFault>); 10] = [
-        (19_608, &[], None),
-        (19_608, &[(72, 0), (79, 0x20)], None),
-        (
-            19_608,
-            &[(72, 0), (79, 0x40)],
-            slot(SlotFault::Codec(CodecFault::Worn, 64)),
-        ),
-        (19_825, &SHARED, rule(8, 1)),
-        (19_608, &[(8616, 1)], rule(3, 0)),
-        (19_608, &[(888, 1)], rule(6, 2)),
-        (19_607, &[], rule(3, 0)),
-        (19_602, &[], slot(SlotFault::Short)),
-        (63, &[], slot(SlotFault::Short)),
-        (
-            19_608,
-            &[(8553, 0x20)],
-            slot(SlotFault::Codec(CodecFault::NameBytes, 8552)),
-        ),
-    ];
-    for (length, changes, refusal) in rows {
-        let found = opening(rt.alloc(), length, changes)?;
-        assert_eq!(rt; found, (refusal, 0), "{length} bytes, {changes:?}");
+    for (length, changes, refusal) in ROWS {
+        let found = opening(rt.alloc(), *length, changes)?;
+        assert_eq!(rt; found, (*refusal, 0), "{length} bytes, {changes:?}");
     }
     Ok(())
 }

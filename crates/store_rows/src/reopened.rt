@@ -1,12 +1,14 @@
 //! Openings of what crashes leave of a flush, and of an opening that goes on with it.
-use crate::reopened::{Reopened, open_on};
+use crate::checkpoints::BASE;
+use crate::flushed::fresh_on;
+use crate::flushes::{FIVE, TEN};
+use crate::trials::{Trial, store_on};
+use crate::worked::HUNDRED;
 use disk_mem::{Choice, MemDisk, MemSink};
-use slot_pair::SlotPair;
 use std::alloc::Global;
 use std::process::Abort;
 use std::test::Fail;
 use store_core::{Done, Gauge};
-use store_rows::trials::{Trial, store_on};
 
 /// The names of a store, all that it tells of them, and how long its data part is.
 #[derive(Clone, Copy)]
@@ -40,14 +42,10 @@ const BEGAN: u64 = 23;
 /// A store of 100 bytes that are kept and 10 that aren't, and then the put of 5 bytes, which makes a flush
 /// of 23 calls. Its first save has the calls 5 to 11, of which the tenth opens the gate.
 fn flushed(alloc: Global) -> Result<Trial<MemDisk>, Fail> {
-    let mut disk = MemDisk::new(alloc);
-    SlotPair::format(&mut disk, 9, 16)?;
-    let mut trial = store_on(alloc, disk)?;
-    let hundred =
-        b"0123456789012345678901234567890123456789012345678901234567890123456789012345678901234567890123456789";
-    trial.put("a", hundred)?;
-    trial.put("b", b"abcdefghij")?;
-    trial.put("c", b"klmno")?;
+    let mut trial = fresh_on(alloc, MemDisk::new(alloc), 9)?;
+    trial.put("a", HUNDRED)?;
+    trial.put("b", TEN)?;
+    trial.put("c", FIVE)?;
     Ok(trial)
 }
 
@@ -60,41 +58,65 @@ struct Left {
     calls: u64,
 }
 
-/// Opens the image of a turn by a choice.
+/// A turn and a choice, which an image is of.
+type At = (u64, Choice);
+
+/// Opens an image.
 fn try_opening(
     rt: &impl Abort,
     alloc: Global,
-    at: (u64, Choice),
+    at: At,
     image: &[u8],
     left: &Left,
-) -> Result<Reopened, Fail> {
-    let mut store = open_on(alloc, MemDisk::from_bytes(alloc, image)?)?;
+) -> Result<Trial<MemDisk>, Fail> {
+    let mut trial = store_on(alloc, MemDisk::from_bytes(alloc, image)?)?;
+    try_left(rt, &trial, at, left)?;
+    try_map(rt, alloc, &mut trial, &left.map)?;
+    Ok(trial)
+}
+
+/// What the opening left: the gauge, how many changing calls it made, and how long the file is.
+fn try_left(rt: &impl Abort, trial: &Trial<MemDisk>, at: At, left: &Left) -> Result<(), Fail> {
     let gauge = Gauge {
         length: left.map.data,
         sequence: left.sequence,
     };
+    let file = trial.image(left.calls, Choice::Durable)?;
+    let data = (file.len() as u64).checked_sub(BASE as u64);
     assert_eq!(rt;
-        (store.gauge(), store.turns()),
-        (gauge, left.calls),
+        (trial.store().gauge(), trial.turns(), data),
+        (gauge, left.calls, Some(left.map.data)),
         "{at:?}"
     );
-    let file = store.image(left.calls, Choice::Durable)?;
-    assert_eq!(rt;
-        (file.len() as u64).checked_sub(19_603),
-        Some(left.map.data)
-    );
-    try_map(rt, alloc, &mut store, &left.map)?;
-    Ok(store)
+    Ok(())
 }
 
 /// The names of a store, and their bytes.
-fn try_map(rt: &impl Abort, alloc: Global, store: &mut Reopened, map: &Map) -> Result<(), Fail> {
+fn try_map(
+    rt: &impl Abort,
+    alloc: Global,
+    trial: &mut Trial<MemDisk>,
+    map: &Map,
+) -> Result<(), Fail> {
     let mut sink = MemSink::with_room(alloc, 1 << 10, Vec::new(alloc))?;
-    store.list(&mut sink)?;
+    trial.store().list(&mut sink)?;
     for name in map.names {
-        store.get(name, &mut sink)?;
+        trial.get(name, &mut sink)?;
     }
     assert_eq!(rt; sink.bytes(), map.told);
+    Ok(())
+}
+
+/// Opens an image of a store.
+fn try_image(
+    rt: &impl Abort,
+    alloc: Global,
+    trial: &Trial<MemDisk>,
+    at: At,
+    left: &Left,
+) -> Result<(), Fail> {
+    let image = trial.image(at.0, at.1)?;
+    try_opening(rt, alloc, at, &image, left)?;
     Ok(())
 }
 
@@ -123,7 +145,7 @@ macro_rules! row {
 
 /// A file that is longer than its layout is cut in 2 calls. A flush goes on in 12: 3 moves, a save of 7,
 /// and the cut.
-const ROWS: [Row; 11] = [
+const ROWS: &[Row] = &[
     row!(3, Choice::Torn(0x5A), 19_857 => ONE, 2, 2),
     row!(9, Choice::Durable, 19_857 => ONE, 2, 2),
     row!(9, Choice::Newest, 19_857 => ONE, 2, 2),
@@ -137,14 +159,20 @@ const ROWS: [Row; 11] = [
     row!(23, Choice::Durable, 19_730 => THREE, 4, 0),
 ];
 
+/// Opens an image of the flush.
+fn try_row(rt: &impl Abort, alloc: Global, trial: &Trial<MemDisk>, row: &Row) -> Result<(), Fail> {
+    let at = (row.turn.saturating_add(BEGAN), row.choice);
+    let image = trial.image(at.0, at.1)?;
+    assert_eq!(rt; image.len(), row.length, "{at:?}");
+    try_opening(rt, alloc, at, &image, &row.left)?;
+    Ok(())
+}
+
 #[test]
 fn opens_what_a_flush_leaves(rt: HostRuntime) -> Result<(), Fail> {
     let trial = flushed(rt.alloc())?;
-    for row in &ROWS {
-        let at = (row.turn.saturating_add(BEGAN), row.choice);
-        let image = trial.image(at.0, at.1)?;
-        assert_eq!(rt; image.len(), row.length, "{at:?}");
-        try_opening(&rt, rt.alloc(), at, &image, &row.left)?;
+    for row in ROWS {
+        try_row(&rt, rt.alloc(), &trial, row)?;
     }
     Ok(())
 }
@@ -161,46 +189,66 @@ fn calls_after(turn: u64) -> u64 {
     }
 }
 
+/// A store that was opened over the image of the flush's eleventh turn, and went on with the flush.
+fn gone_on(alloc: Global) -> Result<Trial<MemDisk>, Fail> {
+    let image = flushed(alloc)?.image(BEGAN + 11, Choice::Durable)?;
+    store_on(alloc, MemDisk::from_bytes(alloc, &image)?)
+}
+
 #[test]
 fn opens_what_an_opening_leaves(rt: HostRuntime) -> Result<(), Fail> {
-    let image = flushed(rt.alloc())?.image(BEGAN + 11, Choice::Durable)?;
-    let store = open_on(rt.alloc(), MemDisk::from_bytes(rt.alloc(), &image)?)?;
-    assert_eq!(rt; store.turns(), 12);
+    let trial = gone_on(rt.alloc())?;
+    assert_eq!(rt; trial.turns(), 12);
     for turn in 0..13 {
-        let at = (turn, Choice::Durable);
-        let again = store.image(at.0, at.1)?;
         let left = Left {
             map: THREE,
             sequence: 4,
             calls: calls_after(turn),
         };
-        try_opening(&rt, rt.alloc(), at, &again, &left)?;
+        try_image(&rt, rt.alloc(), &trial, (turn, Choice::Durable), &left)?;
     }
     Ok(())
 }
 
+/// What the opening leaves of a save that was stopped.
+const STOPPED: Left = Left {
+    map: ONE,
+    sequence: 2,
+    calls: 2,
+};
+
+/// The same before the next checkpoint is saved, in a file that isn't longer than its layout.
+const BEFORE: Left = Left {
+    calls: 0,
+    ..STOPPED
+};
+
+/// The same once it is saved.
+const KEPT: Left = Left {
+    sequence: 3,
+    ..BEFORE
+};
+
 /// The slot that isn't in use has the header of the flush's first save, of sequence 3, behind a closed gate.
-#[test]
-fn keeps_over_a_save_that_was_stopped(rt: HostRuntime) -> Result<(), Fail> {
+fn try_stopped(rt: &impl Abort, alloc: Global) -> Result<Trial<MemDisk>, Fail> {
     let at = (BEGAN + 9, Choice::Durable);
-    let image = flushed(rt.alloc())?.image(at.0, at.1)?;
+    let image = flushed(alloc)?.image(at.0, at.1)?;
     let (sequence, gate) = (image.get(72), image.get(9_832));
     assert_eq!(rt; (sequence, gate), (Some(&3), Some(&0)));
-    let mut left = Left {
-        map: ONE,
-        sequence: 2,
-        calls: 2,
-    };
-    let mut store = try_opening(&rt, rt.alloc(), at, &image, &left)?;
-    assert_eq!(rt; store.keep(), Ok(Done { kept: true }));
-    assert_eq!(rt; store.turns(), 9);
-    left.calls = 0;
-    let at = (2, Choice::Torn(0xA5));
-    let torn = store.image(at.0, at.1)?;
-    try_opening(&rt, rt.alloc(), at, &torn, &left)?;
-    left.sequence = 3;
-    let at = (9, Choice::Durable);
-    let kept = store.image(at.0, at.1)?;
-    try_opening(&rt, rt.alloc(), at, &kept, &left)?;
+    try_opening(rt, alloc, at, &image, &STOPPED)
+}
+
+/// Saves a checkpoint of a store, whose disk had two changing calls.
+fn try_keep(rt: &impl Abort, trial: &mut Trial<MemDisk>) -> Result<(), Fail> {
+    let done = trial.keep();
+    assert_eq!(rt; (done, trial.turns()), (Ok(Done { kept: true }), 9));
     Ok(())
+}
+
+#[test]
+fn keeps_over_a_save_that_was_stopped(rt: HostRuntime) -> Result<(), Fail> {
+    let mut trial = try_stopped(&rt, rt.alloc())?;
+    try_keep(&rt, &mut trial)?;
+    try_image(&rt, rt.alloc(), &trial, (2, Choice::Torn(0xA5)), &BEFORE)?;
+    try_image(&rt, rt.alloc(), &trial, (9, Choice::Durable), &KEPT)
 }

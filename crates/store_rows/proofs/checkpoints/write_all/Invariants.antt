@@ -1,5 +1,5 @@
 use Rattle.std.proofs.Common.{IsTrue}
-use Rattle.store_rows.proofs.checkpoints.save_on.Given as goal
+use Rattle.store_rows.proofs.checkpoints.write_all.Given as goal
 
 abbrev pub invariant-objects : goal.invariant-objects
 invariant-objects g l = record {
