@@ -2,11 +2,11 @@
 use crate::lists::drawn_list;
 use crate::plain_map::{Object, PlainMap, bytes_of};
 use crate::spoils::spoil;
-use costore_top::Outcome;
 use disk_face::Disk;
 use disk_mem::{Choice, MemDisk};
 use drawn_words::Drawn;
 use plain_opening::open;
+use row_vectors::Outcome;
 use row_vectors::runs::{Ran, formatted, session};
 use slot_codec::Record;
 use std::alloc::Global;

@@ -1,21 +1,67 @@
 //! What a command put, and how it ended.
-use crate::runs::{Ran, ended, run_on};
+use crate::Outcome;
+use crate::images::{Change, MOVING};
+use crate::runs::{Ran, ended, run, run_on};
 use disk_face::Disk;
 use disk_mem::MemDisk;
 use std::alloc::Global;
+use std::fmt::Debug;
 use std::process::Abort;
 use std::test::Fail;
 
-/// What a command put, its status and its numbers, which are 0. The disk is given back.
-pub fn try_answer<D: Disk + Drop>(
-    rt: &impl Abort,
-    ran: Ran<D>,
-    status: u8,
-    puts: &str,
-) -> Result<D, Fail> {
-    assert_eq!(rt; ran.put.as_slice(), puts.as_bytes(), "{puts}");
-    assert_eq!(rt; ran.outcome, ended(status), "{puts}");
-    Ok(ran.disk)
+/// The words of a command, its status, and all that it puts.
+#[derive(Clone, Copy)]
+pub struct Told {
+    pub words: &'static [&'static str],
+    pub status: u8,
+    pub puts: &'static str,
+}
+
+/// Lines of a table of commands.
+macro_rules! told {
+    ($([$($word:literal),*] => $status:literal $puts:expr;)*) => {
+        [$(Told { words: &[$($word),*], status: $status, puts: $puts }),*]
+    };
+}
+
+pub(crate) use told;
+
+/// The words of some commands.
+pub const GET: &[&str] = &["get", "f", "a"];
+
+pub const CHECK: &[&str] = &["check", "f"];
+
+pub const MAP: &[&str] = &["map", "f"];
+
+pub const FORMAT: &[&str] = &["format", "f", "9", "16"];
+
+/// The changes to the moving table.
+pub const MOVED: &[Change] = &MOVING;
+
+/// The bytes of a row are the expected ones.
+pub fn try_bytes(rt: &impl Abort, bytes: &[u8], expected: &[u8], row: &impl Debug) {
+    assert_eq!(rt; bytes, expected, "{row:?}");
+}
+
+/// The status and the numbers of a row are the expected ones.
+pub fn try_outcome(rt: &impl Abort, outcome: Outcome, expected: Outcome, row: &impl Debug) {
+    assert_eq!(rt; outcome, expected, "{row:?}");
+}
+
+/// A number of a row is the expected one.
+pub fn try_number(rt: &impl Abort, number: u64, expected: u64, row: &impl Debug) {
+    assert_eq!(rt; number, expected, "{row:?}");
+}
+
+/// What holds of a row.
+pub fn try_holds(rt: &impl Abort, holds: bool, row: &impl Debug) {
+    assert!(rt; holds, "{row:?}");
+}
+
+/// What a command put, its status and its numbers, which are 0.
+pub fn try_answer<D: Disk>(rt: &impl Abort, ran: &Ran<D>, status: u8, puts: &str) {
+    try_bytes(rt, &ran.put, puts.as_bytes(), &puts);
+    try_outcome(rt, ran.outcome, ended(status), &puts);
 }
 
 /// What a command puts of a file that is there. The disk is given back.
@@ -28,7 +74,23 @@ pub fn try_command(
     puts: &str,
 ) -> Result<MemDisk, Fail> {
     let ran = run_on(alloc, words, true, file, Vec::new(alloc))?;
-    try_answer(rt, ran, status, puts)
+    try_answer(rt, &ran, status, puts);
+    Ok(ran.disk)
+}
+
+/// What a command puts of a file of some bytes, which it doesn't change.
+pub fn try_unchanged(
+    rt: &impl Abort,
+    alloc: Global,
+    bytes: &[u8],
+    words: &[&str],
+    status: u8,
+    puts: &str,
+) -> Result<(), Fail> {
+    let ran = run(alloc, words, bytes)?;
+    try_answer(rt, &ran, status, puts);
+    try_number(rt, ran.disk.turns(), 0, &puts);
+    Ok(())
 }
 
 /// `get` of an object of so many bytes, of which the first is `<` and the last `>`. It changes nothing. The
@@ -38,26 +100,31 @@ pub fn try_ends(
     alloc: Global,
     name: &str,
     file: MemDisk,
-    length: usize,
+    length: u64,
 ) -> Result<MemDisk, Fail> {
     let turns = file.turns();
     let ran = run_on(alloc, &["get", "f", name], true, file, Vec::new(alloc))?;
-    assert_eq!(rt; ran.outcome, ended(0), "{name}");
-    assert_eq!(rt; ran.disk.turns(), turns, "{name}");
-    assert_eq!(rt; ran.put.len(), length, "{name}");
-    assert!(rt;
-        ran.put.starts_with(b"<") && ran.put.ends_with(b">"),
-        "{name}"
-    );
+    try_outcome(rt, ran.outcome, ended(0), &name);
+    try_number(rt, ran.disk.turns(), turns, &name);
+    try_number(rt, ran.put.len() as u64, length, &name);
+    try_holds(rt, has_ends(&ran.put), &name);
     Ok(ran.disk)
 }
+
+/// Whether the first byte is `<` and the last `>`.
+fn has_ends(bytes: &[u8]) -> bool {
+    bytes.starts_with(b"<") && bytes.ends_with(b">")
+}
+
+/// The bytes that tell the pieces of the object of 10,000 bytes, and where they stand.
+const TELLING: &[Change] = &[(0, b'h'), (4096, b'i'), (8192, b'j'), (9999, b'k')];
 
 /// Whether bytes are a front, of some length, of the object of 10,000 bytes, by the bytes that tell its
 /// pieces.
 pub fn is_front_of_long(bytes: &[u8], length: usize) -> bool {
-    for (at, byte) in [(0, b'h'), (4096, b'i'), (8192, b'j'), (9999, b'k')] {
-        let expected = if at < length { Some(byte) } else { None };
-        if bytes.get(at).copied() != expected {
+    for (at, byte) in TELLING {
+        let expected = if *at < length { Some(*byte) } else { None };
+        if bytes.get(*at).copied() != expected {
             return false;
         }
     }

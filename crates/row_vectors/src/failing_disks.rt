@@ -1,5 +1,7 @@
 //! Runs over a disk that fails at one call.
-use crate::answers::{is_front_of_long, try_answer};
+use crate::answers::{
+    FORMAT, GET, is_front_of_long, try_answer, try_command, try_holds, try_outcome,
+};
 use crate::images::{LONG, disk};
 use crate::runs::{Ran, ended, run_on};
 use disk_mem::{Fuse, MemDisk};
@@ -10,24 +12,32 @@ use std::test::Fail;
 /// `get f a` of a file over a fuse that fails the read of a number.
 fn get_failing(alloc: Global, file: MemDisk, number: u64) -> Result<Ran<Fuse<MemDisk>>, Fail> {
     let fuse = Fuse::listed(file, Vec::new(alloc), vec![in alloc; number]?);
-    run_on(alloc, &["get", "f", "a"], true, fuse, Vec::new(alloc))
+    run_on(alloc, GET, true, fuse, Vec::new(alloc))
+}
+
+/// What that puts of the object of 5 bytes, which is read by the tenth call, in one piece.
+fn try_read(rt: &impl Abort, alloc: Global, number: u64) -> Result<(), Fail> {
+    let file = disk(alloc, 19608, &[], &[])?;
+    let ran = get_failing(alloc, file, number)?;
+    let (status, puts) = if number <= 10 {
+        (7, "fault disk\n")
+    } else {
+        (0, "hello")
+    };
+    try_answer(rt, &ran, status, puts);
+    Ok(())
 }
 
 #[test]
 fn tells_each_failing_read(rt: HostRuntime) -> Result<(), Fail> {
     for number in 1..12 {
-        let file = disk(rt.alloc(), 19608, &[], &[])?;
-        let ran = get_failing(rt.alloc(), file, number)?;
-        // The object is read by the tenth call, in one piece.
-        let (status, puts) = if number <= 10 {
-            (7, "fault disk\n")
-        } else {
-            (0, "hello")
-        };
-        try_answer(&rt, ran, status, puts)?;
+        try_read(&rt, rt.alloc(), number)?;
     }
     Ok(())
 }
+
+/// The number of a read that fails, the status, and how much is put of the object of 10,000 bytes.
+const PIECES: &[(u64, u8, usize)] = &[(10, 7, 0), (11, 7, 4096), (12, 7, 8192), (13, 0, 10_000)];
 
 /// What a read puts of the object of 10,000 bytes before the fault line.
 fn try_long(
@@ -37,25 +47,45 @@ fn try_long(
     status: u8,
     front: usize,
 ) -> Result<(), Fail> {
-    let file = disk(alloc, 30714, &LONG, &[])?;
+    let file = disk(alloc, 30714, LONG, &[])?;
     let ran = get_failing(alloc, file, number)?;
     let line = if status == 7 { "fault disk\n" } else { "" };
-    let given = ran
-        .put
-        .strip_suffix(line.as_bytes())
-        .ok_or("the fault line")?;
-    assert_eq!(rt; ran.outcome, ended(status), "call {number}");
-    assert!(rt; is_front_of_long(given, front), "call {number}");
+    try_outcome(rt, ran.outcome, ended(status), &number);
+    let is_front = is_front_and_line(&ran.put, front, line);
+    try_holds(rt, is_front, &number);
     Ok(())
+}
+
+/// Whether bytes are a front of that object, and then a line.
+fn is_front_and_line(bytes: &[u8], front: usize, line: &str) -> bool {
+    match bytes.strip_suffix(line.as_bytes()) {
+        Some(given) => is_front_of_long(given, front),
+        None => false,
+    }
 }
 
 #[test]
 fn puts_what_it_read_before_a_failing_read(rt: HostRuntime) -> Result<(), Fail> {
-    for (number, status, front) in [(10, 7, 0), (11, 7, 4096), (12, 7, 8192), (13, 0, 10_000)] {
-        try_long(&rt, rt.alloc(), number, status, front)?;
+    for (number, status, front) in PIECES {
+        try_long(&rt, rt.alloc(), *number, *status, *front)?;
     }
     Ok(())
 }
+
+/// The number of the changing call of a format that failed, and what `get f a` then comes to. After the
+/// tenth, the last sync, reads give a store that a crash might not leave.
+const FORMATS: &[(u64, u8, &str)] = &[
+    (1, 4, "fault store slot 1\n"),
+    (2, 4, "fault store codec 1 at 0\n"),
+    (3, 4, "fault store slot 1\n"),
+    (4, 4, "fault store slot 1\n"),
+    (5, 4, "fault store slot 1\n"),
+    (6, 4, "fault store slot 1\n"),
+    (7, 4, "fault store slot 1\n"),
+    (8, 4, "fault store slot 1\n"),
+    (9, 4, "fault store slot 2\n"),
+    (10, 6, "fault missing\n"),
+];
 
 /// A format of which the changing call of a number failed, and what `get f a` then comes to.
 fn try_format(
@@ -67,32 +97,17 @@ fn try_format(
 ) -> Result<(), Fail> {
     let none = MemDisk::new(alloc);
     let fuse = Fuse::listed(none, vec![in alloc; number]?, Vec::new(alloc));
-    let words = ["format", "f", "9", "16"];
-    let ran = run_on(alloc, &words, false, fuse, Vec::new(alloc))?;
-    let file = try_answer(rt, ran, 7, "fault disk\n")?.into_inner();
-    let after = run_on(alloc, &["get", "f", "a"], true, file, Vec::new(alloc))?;
-    try_answer(rt, after, status, puts)?;
+    let ran = run_on(alloc, FORMAT, false, fuse, Vec::new(alloc))?;
+    try_answer(rt, &ran, 7, "fault disk\n");
+    let file = ran.disk.into_inner();
+    try_command(rt, alloc, file, GET, status, puts)?;
     Ok(())
 }
 
 #[test]
 fn tells_no_format_whose_call_failed(rt: HostRuntime) -> Result<(), Fail> {
-    // What `get f a` then puts, by the number of the changing call that failed. After the tenth, the
-    // last sync, reads give a store that a crash might not leave.
-    let rows = [
-        (1, 4, "fault store slot 1\n"),
-        (2, 4, "fault store codec 1 at 0\n"),
-        (3, 4, "fault store slot 1\n"),
-        (4, 4, "fault store slot 1\n"),
-        (5, 4, "fault store slot 1\n"),
-        (6, 4, "fault store slot 1\n"),
-        (7, 4, "fault store slot 1\n"),
-        (8, 4, "fault store slot 1\n"),
-        (9, 4, "fault store slot 2\n"),
-        (10, 6, "fault missing\n"),
-    ];
-    for (number, status, puts) in rows {
-        try_format(&rt, rt.alloc(), number, status, puts)?;
+    for (number, status, puts) in FORMATS {
+        try_format(&rt, rt.alloc(), *number, *status, *puts)?;
     }
     Ok(())
 }

@@ -1,5 +1,7 @@
 //! Runs whose sink fails at one call.
-use crate::answers::{is_front_of_long, try_answer};
+use crate::answers::{
+    FORMAT, GET, Told, is_front_of_long, told, try_answer, try_holds, try_number, try_outcome,
+};
 use crate::images::{LONG, disk};
 use crate::runs::{ended, run_on};
 use disk_face::Disk;
@@ -7,6 +9,9 @@ use disk_mem::MemDisk;
 use std::alloc::Global;
 use std::process::Abort;
 use std::test::Fail;
+
+/// The number of a put that fails, the status, and how much is put of the object of 10,000 bytes.
+const PIECES: &[(u64, u8, usize)] = &[(1, 9, 0), (2, 9, 4096), (3, 9, 8192), (4, 0, 10_000)];
 
 /// What is put of the object of 10,000 bytes where the put of a number fails.
 fn try_long(
@@ -16,69 +21,70 @@ fn try_long(
     status: u8,
     length: usize,
 ) -> Result<(), Fail> {
-    let file = disk(alloc, 30714, &LONG, &[])?;
-    let ran = run_on(
-        alloc,
-        &["get", "f", "a"],
-        true,
-        file,
-        vec![in alloc; fails]?,
-    )?;
-    assert_eq!(rt; ran.outcome, ended(status), "call {fails}");
-    assert!(rt; is_front_of_long(&ran.put, length), "call {fails}");
-    assert_eq!(rt; ran.disk.turns(), 0);
+    let file = disk(alloc, 30714, LONG, &[])?;
+    let ran = run_on(alloc, GET, true, file, vec![in alloc; fails]?)?;
+    try_outcome(rt, ran.outcome, ended(status), &fails);
+    try_holds(rt, is_front_of_long(&ran.put, length), &fails);
+    try_number(rt, ran.disk.turns(), 0, &fails);
     Ok(())
 }
 
 #[test]
 fn puts_a_front_of_the_object(rt: HostRuntime) -> Result<(), Fail> {
-    for (fails, status, length) in [(1, 9, 0), (2, 9, 4096), (3, 9, 8192), (4, 0, 10_000)] {
-        try_long(&rt, rt.alloc(), fails, status, length)?;
+    for (fails, status, length) in PIECES {
+        try_long(&rt, rt.alloc(), *fails, *status, *length)?;
     }
     Ok(())
 }
+
+/// What a command comes to over the hand-made file where the first put fails.
+fn try_row(rt: &impl Abort, alloc: Global, row: &Told) -> Result<(), Fail> {
+    let file = disk(alloc, 19608, &[], &[])?;
+    let ran = run_on(alloc, row.words, true, file, vec![in alloc; 1]?)?;
+    try_answer(rt, &ran, row.status, row.puts);
+    Ok(())
+}
+
+/// Commands that are refused by a fault line.
+const REFUSED: &[Told] = &told! {
+    ["get", "f"] => 1 "";
+    ["get", "g", "a"] => 3 "";
+    ["format", "f", "9", "16"] => 5 "";
+    ["get", "f", "b"] => 6 "";
+    ["work", "g", "1", "1"] => 3 "";
+};
 
 #[test]
 fn keeps_the_status_where_the_fault_line_is_not_put(rt: HostRuntime) -> Result<(), Fail> {
-    let rows: [(&[&str], u8); 5] = [
-        (&["get", "f"], 1),
-        (&["get", "g", "a"], 3),
-        (&["format", "f", "9", "16"], 5),
-        (&["get", "f", "b"], 6),
-        (&["work", "g", "1", "1"], 3),
-    ];
-    for (words, status) in rows {
-        let file = disk(rt.alloc(), 19608, &[], &[])?;
-        let ran = run_on(rt.alloc(), words, true, file, vec![in rt.alloc(); 1]?)?;
-        try_answer(&rt, ran, status, "")?;
+    for row in REFUSED {
+        try_row(&rt, rt.alloc(), row)?;
     }
     Ok(())
 }
 
+/// Commands that are done.
+const DONE: &[Told] = &told! {
+    ["get", "f", "a"] => 9 "";
+    ["check", "f"] => 9 "";
+    ["map", "f"] => 9 "";
+    ["work", "f", "1", "1"] => 9 "";
+    ["--help"] => 9 "";
+    ["--version"] => 9 "";
+};
+
 #[test]
 fn says_that_the_sink_failed(rt: HostRuntime) -> Result<(), Fail> {
-    let rows: [&[&str]; 6] = [
-        &["get", "f", "a"],
-        &["check", "f"],
-        &["map", "f"],
-        &["work", "f", "1", "1"],
-        &["--help"],
-        &["--version"],
-    ];
-    for words in rows {
-        let file = disk(rt.alloc(), 19608, &[], &[])?;
-        let ran = run_on(rt.alloc(), words, true, file, vec![in rt.alloc(); 1]?)?;
-        try_answer(&rt, ran, 9, "")?;
+    for row in DONE {
+        try_row(&rt, rt.alloc(), row)?;
     }
     Ok(())
 }
 
 #[test]
 fn formats_before_the_sink_fails_to_be_told(rt: HostRuntime) -> Result<(), Fail> {
-    let words = ["format", "f", "9", "16"];
     let none = MemDisk::new(rt.alloc());
-    let ran = run_on(rt.alloc(), &words, false, none, vec![in rt.alloc(); 1]?)?;
-    let file = try_answer(&rt, ran, 9, "")?;
-    assert_eq!(rt; file.turns(), 10);
+    let ran = run_on(rt.alloc(), FORMAT, false, none, vec![in rt.alloc(); 1]?)?;
+    try_answer(&rt, &ran, 9, "");
+    try_number(&rt, ran.disk.turns(), 10, &"format");
     Ok(())
 }

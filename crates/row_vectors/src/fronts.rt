@@ -1,6 +1,7 @@
 //! An input of two requests that ends too early: each of its fronts.
+use crate::Outcome;
+use crate::answers::{try_bytes, try_number, try_outcome};
 use crate::runs::{formatted, session};
-use costore_top::Outcome;
 use disk_face::Disk;
 use std::alloc::Global;
 use std::process::Abort;
@@ -36,14 +37,22 @@ macro_rules! rows {
     };
 }
 
+/// The fronts, by what is put of them. A format makes 10 changing calls, the put 12 and the get none.
+const ROWS: &[Row] = &rows! {
+    0 to 0 => "", 0 (0, 0, 10);
+    1 to 11 => "fault request 1\n", 2 (0, 0, 10);
+    12 to 12 => "ok kept\n", 0 (1, 1, 22);
+    13 to 17 => "ok kept\nfault request 2\n", 2 (1, 1, 22);
+    18 to 18 => "ok kept\ndata 3\nxyz\n", 0 (2, 1, 22);
+};
+
 /// Serves a front on a fresh file. It comes in pieces of 7 bytes, the last of which may be shorter.
 fn try_front(rt: &impl Abort, alloc: Global, length: usize, row: &Row) -> Result<(), Fail> {
     let front = INPUT.get(..length).ok_or("a front")?;
     let ran = session(alloc, formatted(alloc, "9")?, front, 7)?;
-    let turns = ran.disk.turns();
-    assert_eq!(rt; ran.put.as_slice(), row.puts.as_bytes(), "length {length}");
-    assert_eq!(rt; ran.outcome, row.outcome, "length {length}");
-    assert_eq!(rt; turns, row.outcome.kept_turn, "length {length}");
+    try_bytes(rt, &ran.put, row.puts.as_bytes(), &length);
+    try_outcome(rt, ran.outcome, row.outcome, &length);
+    try_number(rt, ran.disk.turns(), row.outcome.kept_turn, &length);
     Ok(())
 }
 
@@ -55,17 +64,9 @@ fn try_row(rt: &impl Abort, alloc: Global, row: &Row) -> Result<(), Fail> {
     Ok(())
 }
 
-// A format makes 10 changing calls, the put 12 and the get none.
 #[test]
 fn serves_each_front_up_to_its_last_whole_request(rt: HostRuntime) -> Result<(), Fail> {
-    let rows = rows! {
-        0 to 0 => "", 0 (0, 0, 10);
-        1 to 11 => "fault request 1\n", 2 (0, 0, 10);
-        12 to 12 => "ok kept\n", 0 (1, 1, 22);
-        13 to 17 => "ok kept\nfault request 2\n", 2 (1, 1, 22);
-        18 to 18 => "ok kept\ndata 3\nxyz\n", 0 (2, 1, 22);
-    };
-    for row in &rows {
+    for row in ROWS {
         try_row(&rt, rt.alloc(), row)?;
     }
     Ok(())

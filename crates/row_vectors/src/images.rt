@@ -7,7 +7,7 @@ use std::test::Fail;
 pub type Change = (usize, u8);
 
 /// The mark, k = 9, 16 names, and a settled table of sequence 1 with the one object `a` = `hello`.
-const HELLO: [Change; 24] = [
+const HELLO: &[Change] = &[
     (0, b'C'),
     (1, b'O'),
     (2, b'S'),
@@ -37,7 +37,7 @@ const HELLO: [Change; 24] = [
 /// The changes to an object of 10,000 bytes, in a file of 30,714 bytes. Its class is 13, with a
 /// capacity of 10,000 (0x2710) and a buffer of 1,111. It is put in three pieces; this tells the
 /// first byte of each, and the last.
-pub const LONG: [Change; 9] = [
+pub const LONG: &[Change] = &[
     (120, 0),
     (208, 0x10),
     (209, 0x27),

@@ -4,7 +4,8 @@
 ghost use Rattle.std.specs.Prelude.{◌≡◌, None};
 ghost use Rattle.disk_mem.specs.Bays.{last_mount_of};
 
-use costore_top::{Outcome, costore};
+pub use costore_top::Outcome;
+use costore_top::costore;
 use disk_face::Disk;
 use disk_mem::{MemBay, MemSink, MemSource};
 use std::alloc::Global;

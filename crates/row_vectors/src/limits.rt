@@ -1,39 +1,66 @@
 //! The largest sizes that the limits name.
-use crate::answers::try_answer;
-use crate::images::image;
+use crate::answers::{GET, try_answer, try_command, try_holds, try_number, try_outcome};
+use crate::images::{Change, image};
 use crate::runs::{ended, run, run_on};
 use disk_face::Disk;
 use disk_mem::MemDisk;
+use std::alloc::Global;
+use std::process::Abort;
 use std::test::Fail;
 
-#[test]
-fn gets_an_object_of_the_greatest_size(rt: HostRuntime) -> Result<(), Fail> {
-    // The class is 20, with a capacity of 1,048,576 (0x100000) and a buffer of 116,508.
-    let changes = [(120, 0), (266, 0x10), (8624, 0), (8626, 0x10)];
-    let mut bytes = image(rt.alloc(), 1_184_687, &changes, &[])?;
-    let mut object = Vec::new(rt.alloc());
+/// The class is 20, with a capacity of 1,048,576 (0x100000) and a buffer of 116,508.
+const LARGEST: &[Change] = &[(120, 0), (266, 0x10), (8624, 0), (8626, 0x10)];
+
+/// The bytes of the largest object.
+fn largest(alloc: Global) -> Result<Vec<u8>, Fail> {
+    let mut object = Vec::new(alloc);
     for n in 0..1_048_576u32 {
         object.push((n % 251) as u8)?;
     }
+    Ok(object)
+}
+
+/// The image that has it.
+fn image_of(alloc: Global, object: &[u8]) -> Result<Vec<u8>, Fail> {
+    let mut bytes = image(alloc, 1_184_687, LARGEST, &[])?;
     if bytes.len() == 1_184_687 && object.len() == 1_048_576 {
-        bytes[19_603..1_068_179].copy_from_slice(&object);
+        bytes[19_603..1_068_179].copy_from_slice(object);
     }
-    let ran = run(rt.alloc(), &["get", "f", "a"], &bytes)?;
-    assert_eq!(rt; ran.outcome, ended(0));
-    assert_eq!(rt; ran.put.len(), 1_048_576);
-    assert!(rt; ran.put.as_slice() == object.as_slice());
+    Ok(bytes)
+}
+
+/// `get f a` of an image puts the object.
+fn try_get(rt: &impl Abort, alloc: Global, bytes: &[u8], object: &[u8]) -> Result<(), Fail> {
+    let ran = run(alloc, GET, bytes)?;
+    try_outcome(rt, ran.outcome, ended(0), &"status");
+    try_number(rt, ran.put.len() as u64, 1_048_576, &"length");
+    try_holds(rt, ran.put.as_slice() == object, &"bytes");
     Ok(())
 }
 
 #[test]
+fn gets_an_object_of_the_greatest_size(rt: HostRuntime) -> Result<(), Fail> {
+    let object = largest(rt.alloc())?;
+    let bytes = image_of(rt.alloc(), &object)?;
+    try_get(&rt, rt.alloc(), &bytes, &object)
+}
+
+/// The words of a format with room for the most names.
+const FORMAT: &[&str] = &["format", "f", "64", "65536"];
+
+/// What such a format makes. The disk is given back.
+fn try_format(rt: &impl Abort, alloc: Global) -> Result<MemDisk, Fail> {
+    let ran = run_on(alloc, FORMAT, false, MemDisk::new(alloc), Vec::new(alloc))?;
+    try_answer(rt, &ran, 0, "formatted\n");
+    let mut file = ran.disk;
+    try_number(rt, file.turns(), 10, &"turns");
+    try_number(rt, file.len()?, 10_502_803, &"length");
+    Ok(file)
+}
+
+#[test]
 fn formats_room_for_the_most_names(rt: HostRuntime) -> Result<(), Fail> {
-    let words = ["format", "f", "64", "65536"];
-    let none = MemDisk::new(rt.alloc());
-    let ran = run_on(rt.alloc(), &words, false, none, Vec::new(rt.alloc()))?;
-    let mut file = try_answer(&rt, ran, 0, "formatted\n")?;
-    assert_eq!(rt; (file.turns(), file.len()?), (10, 10_502_803));
-    let none = Vec::new(rt.alloc());
-    let after = run_on(rt.alloc(), &["get", "f", "a"], true, file, none)?;
-    try_answer(&rt, after, 6, "fault missing\n")?;
+    let file = try_format(&rt, rt.alloc())?;
+    try_command(&rt, rt.alloc(), file, GET, 6, "fault missing\n")?;
     Ok(())
 }

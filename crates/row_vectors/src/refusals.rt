@@ -1,8 +1,6 @@
 //! Hostile files: images that are no store. Each command that opens a file refuses them alike.
-use crate::answers::try_answer;
+use crate::answers::try_unchanged;
 use crate::images::{Change, MOVING, image};
-use crate::runs::run;
-use disk_face::Disk;
 use std::alloc::Global;
 use std::process::Abort;
 use std::test::Fail;
@@ -40,7 +38,7 @@ const TWO: [Change; 9] = [
 ];
 
 /// The words of each command that opens a file.
-const COMMANDS: [&[&str]; 5] = [
+const COMMANDS: &[&[&str]] = &[
     &["get", "f", "a"],
     &["check", "f"],
     &["map", "f"],
@@ -55,9 +53,7 @@ const NO_STORE: u8 = 4;
 fn try_row(rt: &impl Abort, alloc: Global, row: &Row) -> Result<(), Fail> {
     let bytes = image(alloc, row.length, row.base, row.changes)?;
     for words in COMMANDS {
-        let ran = run(alloc, words, &bytes)?;
-        let file = try_answer(rt, ran, NO_STORE, row.puts)?;
-        assert_eq!(rt; file.turns(), 0, "{}", row.puts);
+        try_unchanged(rt, alloc, &bytes, *words, NO_STORE, row.puts)?;
     }
     Ok(())
 }
@@ -70,96 +66,104 @@ fn try_rows(rt: &impl Abort, alloc: Global, rows: &[Row]) -> Result<(), Fail> {
     Ok(())
 }
 
+/// Faulty heads.
+const HEADS: &[Row] = &rows! {
+    SETTLED 19608, [(0, b'c')] => "fault store codec 1 at 0\n";
+    SETTLED 19608, [(8, 1)] => "fault store codec 2 at 0\n";
+    SETTLED 19608, [(8, 65)] => "fault store codec 2 at 0\n";
+    SETTLED 19608, [(16, 15)] => "fault store codec 2 at 0\n";
+    SETTLED 19608, [(63, 1)] => "fault store codec 5 at 0\n";
+    SETTLED 19608, [(19602, 0)] => "fault store slot 2\n";
+    SETTLED 19608, [(9832, 0)] => "fault store slot 3\n";
+    SETTLED 19608, [(72, 8), (9833, 1), (9841, 8), (19601, 0xA5)] => "fault store slot 4\n";
+    SETTLED 19608, [(64, 2)] => "fault store codec 3 at 64\n";
+    SETTLED 19608, [(65, 2)] => "fault store codec 4 at 64\n";
+    SETTLED 19608, [(67, 1)] => "fault store codec 5 at 64\n";
+    // The sequence 2^62.
+    SETTLED 19608, [(72, 0), (79, 0x40)] => "fault store codec 9 at 64\n";
+    SETTLED 19608, [(80, 17)] => "fault store codec 6 at 64\n";
+    SETTLED 19608, [(94, 1)] => "fault store codec 10 at 64\n";
+};
+
 #[test]
 fn refuses_a_faulty_head(rt: HostRuntime) -> Result<(), Fail> {
-    let rows = rows! {
-        SETTLED 19608, [(0, b'c')] => "fault store codec 1 at 0\n";
-        SETTLED 19608, [(8, 1)] => "fault store codec 2 at 0\n";
-        SETTLED 19608, [(8, 65)] => "fault store codec 2 at 0\n";
-        SETTLED 19608, [(16, 15)] => "fault store codec 2 at 0\n";
-        SETTLED 19608, [(63, 1)] => "fault store codec 5 at 0\n";
-        SETTLED 19608, [(19602, 0)] => "fault store slot 2\n";
-        SETTLED 19608, [(9832, 0)] => "fault store slot 3\n";
-        SETTLED 19608, [(72, 8), (9833, 1), (9841, 8), (19601, 0xA5)] => "fault store slot 4\n";
-        SETTLED 19608, [(64, 2)] => "fault store codec 3 at 64\n";
-        SETTLED 19608, [(65, 2)] => "fault store codec 4 at 64\n";
-        SETTLED 19608, [(67, 1)] => "fault store codec 5 at 64\n";
-        // The sequence 2^62.
-        SETTLED 19608, [(72, 0), (79, 0x40)] => "fault store codec 9 at 64\n";
-        SETTLED 19608, [(80, 17)] => "fault store codec 6 at 64\n";
-        SETTLED 19608, [(94, 1)] => "fault store codec 10 at 64\n";
-    };
-    try_rows(&rt, rt.alloc(), &rows)
+    try_rows(&rt, rt.alloc(), HEADS)
 }
+
+/// Faulty records.
+const RECORDS: &[Row] = &rows! {
+    SETTLED 19608, [(8553, 0x20)] => "fault store codec 7 at 8552\n";
+    SETTLED 19608, [(8552, 0)] => "fault store codec 7 at 8552\n";
+    SETTLED 19608, [(8552, 64)] => "fault store codec 7 at 8552\n";
+    SETTLED 19608, [(8554, 1)] => "fault store codec 5 at 8552\n";
+    SETTLED 19608, [(8622, 1)] => "fault store codec 10 at 8552\n";
+    SETTLED 19608, [(80, 2), (8632, 1), (8633, b'a')] => "fault store codec 8 at 8632\n";
+    SETTLED 19608, [(80, 2), (8632, 1), (8633, b'A')] => "fault store codec 8 at 8632\n";
+};
 
 #[test]
 fn refuses_faulty_records(rt: HostRuntime) -> Result<(), Fail> {
-    let rows = rows! {
-        SETTLED 19608, [(8553, 0x20)] => "fault store codec 7 at 8552\n";
-        SETTLED 19608, [(8552, 0)] => "fault store codec 7 at 8552\n";
-        SETTLED 19608, [(8552, 64)] => "fault store codec 7 at 8552\n";
-        SETTLED 19608, [(8554, 1)] => "fault store codec 5 at 8552\n";
-        SETTLED 19608, [(8622, 1)] => "fault store codec 10 at 8552\n";
-        SETTLED 19608, [(80, 2), (8632, 1), (8633, b'a')] => "fault store codec 8 at 8632\n";
-        SETTLED 19608, [(80, 2), (8632, 1), (8633, b'A')] => "fault store codec 8 at 8632\n";
-    };
-    try_rows(&rt, rt.alloc(), &rows)
+    try_rows(&rt, rt.alloc(), RECORDS)
 }
+
+/// What breaks a rule.
+const RULES: &[Row] = &rows! {
+    // An object of 1,048,577 bytes, and one of 1,114,117.
+    SETTLED 19608, [(8624, 1), (8626, 0x10)] => "fault store rule 1 at 0\n";
+    SETTLED 19608, [(8626, 0x11)] => "fault store rule 1 at 0\n";
+    // An empty object that stands at 1.
+    SETTLED 19608, [(8616, 1), (8624, 0)] => "fault store rule 2 at 0\n";
+    // An object past the end of the file; a layout that is; the wall of a moving table; its last object.
+    SETTLED 19608, [(8616, 1)] => "fault store rule 3 at 0\n";
+    SETTLED 19608, [(120, 6)] => "fault store rule 3 at 1\n";
+    MOVING 19857, [(88, 255)] => "fault store rule 3 at 3\n";
+    MOVING 19856, [] => "fault store rule 3 at 2\n";
+    // A settled table with a boundary, and a moving one whose boundary is behind all classes.
+    SETTLED 19608, [(66, 1)] => "fault store rule 4 at 0\n";
+    MOVING 19857, [(66, 21)] => "fault store rule 4 at 0\n";
+    // A capacity of class 21, which no object has; one from the boundary of a moving table on.
+    SETTLED 19608, [(272, 1)] => "fault store rule 5 at 21\n";
+    SETTLED 19608, [(272, 9)] => "fault store rule 5 at 21\n";
+    SETTLED 19608, [(65, 1)] => "fault store rule 5 at 2\n";
+    // One byte is taken of the buffer of class 2, which has none.
+    SETTLED 19608, [(888, 1)] => "fault store rule 6 at 2\n";
+    // The segment is that of class 3, or it has 4 bytes for the object of 5.
+    SETTLED 19608, [(120, 0), (128, 5)] => "fault store rule 7 at 0\n";
+    SETTLED 19608, [(120, 4)] => "fault store rule 7 at 0\n";
+    // `a` and `b` of 100 bytes each in class 6, the second in the middle of the first.
+    SETTLED 19825,
+        [(80, 2), (120, 0), (152, 200), (8624, 100), (8632, 1), (8633, b'b'), (8696, 50), (8704, 100)]
+        => "fault store rule 8 at 1\n";
+    // A segment with one byte more than its object, for which no buffer has a dead one.
+    SETTLED 19609, [(120, 6)] => "fault store rule 9 at 2\n";
+    // Of the buffer of class 7, class 2 has taken 5 bytes, though that of class 6 had room for them; or
+    // class 7 has taken 1 byte, fewer than an object of it has.
+    TWO 19936, [(2168, 5)] => "fault store rule 10 at 2\n";
+    TWO 19936, [(2208, 1)] => "fault store rule 10 at 7\n";
+    // The new layout ends at 127: the wall is too low for the slack of 112, or the slack too large.
+    MOVING 19857, [(88, 238)] => "fault store rule 11 at 0\n";
+    MOVING 19857, [(96, 113)] => "fault store rule 11 at 0\n";
+    // `a` leaves less than the slack below the wall, but not nothing.
+    MOVING 19857, [(8616, 138)] => "fault store rule 12 at 0\n";
+    MOVING 19857, [(8616, 100)] => "fault store rule 12 at 0\n";
+};
 
 #[test]
 fn refuses_what_breaks_a_rule(rt: HostRuntime) -> Result<(), Fail> {
-    let rows = rows! {
-        // An object of 1,048,577 bytes, and one of 1,114,117.
-        SETTLED 19608, [(8624, 1), (8626, 0x10)] => "fault store rule 1 at 0\n";
-        SETTLED 19608, [(8626, 0x11)] => "fault store rule 1 at 0\n";
-        // An empty object that stands at 1.
-        SETTLED 19608, [(8616, 1), (8624, 0)] => "fault store rule 2 at 0\n";
-        // An object past the end of the file; a layout that is; the wall of a moving table; its last object.
-        SETTLED 19608, [(8616, 1)] => "fault store rule 3 at 0\n";
-        SETTLED 19608, [(120, 6)] => "fault store rule 3 at 1\n";
-        MOVING 19857, [(88, 255)] => "fault store rule 3 at 3\n";
-        MOVING 19856, [] => "fault store rule 3 at 2\n";
-        // A settled table with a boundary, and a moving one whose boundary is behind all classes.
-        SETTLED 19608, [(66, 1)] => "fault store rule 4 at 0\n";
-        MOVING 19857, [(66, 21)] => "fault store rule 4 at 0\n";
-        // A capacity of class 21, which no object has; one from the boundary of a moving table on.
-        SETTLED 19608, [(272, 1)] => "fault store rule 5 at 21\n";
-        SETTLED 19608, [(272, 9)] => "fault store rule 5 at 21\n";
-        SETTLED 19608, [(65, 1)] => "fault store rule 5 at 2\n";
-        // One byte is taken of the buffer of class 2, which has none.
-        SETTLED 19608, [(888, 1)] => "fault store rule 6 at 2\n";
-        // The segment is that of class 3, or it has 4 bytes for the object of 5.
-        SETTLED 19608, [(120, 0), (128, 5)] => "fault store rule 7 at 0\n";
-        SETTLED 19608, [(120, 4)] => "fault store rule 7 at 0\n";
-        // `a` and `b` of 100 bytes each in class 6, the second in the middle of the first.
-        SETTLED 19825,
-            [(80, 2), (120, 0), (152, 200), (8624, 100), (8632, 1), (8633, b'b'), (8696, 50), (8704, 100)]
-            => "fault store rule 8 at 1\n";
-        // A segment with one byte more than its object, for which no buffer has a dead one.
-        SETTLED 19609, [(120, 6)] => "fault store rule 9 at 2\n";
-        // Of the buffer of class 7, class 2 has taken 5 bytes, though that of class 6 had room for them; or
-        // class 7 has taken 1 byte, fewer than an object of it has.
-        TWO 19936, [(2168, 5)] => "fault store rule 10 at 2\n";
-        TWO 19936, [(2208, 1)] => "fault store rule 10 at 7\n";
-        // The new layout ends at 127: the wall is too low for the slack of 112, or the slack too large.
-        MOVING 19857, [(88, 238)] => "fault store rule 11 at 0\n";
-        MOVING 19857, [(96, 113)] => "fault store rule 11 at 0\n";
-        // `a` leaves less than the slack below the wall, but not nothing.
-        MOVING 19857, [(8616, 138)] => "fault store rule 12 at 0\n";
-        MOVING 19857, [(8616, 100)] => "fault store rule 12 at 0\n";
-    };
-    try_rows(&rt, rt.alloc(), &rows)
+    try_rows(&rt, rt.alloc(), RULES)
 }
+
+/// The hand-made file, cut.
+const CUTS: &[Row] = &rows! {
+    SETTLED 0, [] => "fault store slot 1\n";
+    SETTLED 63, [] => "fault store slot 1\n";
+    SETTLED 64, [] => "fault store slot 1\n";
+    SETTLED 19602, [] => "fault store slot 1\n";
+    SETTLED 19603, [] => "fault store rule 3 at 0\n";
+    SETTLED 19607, [] => "fault store rule 3 at 0\n";
+};
 
 #[test]
 fn refuses_what_was_cut(rt: HostRuntime) -> Result<(), Fail> {
-    let rows = rows! {
-        SETTLED 0, [] => "fault store slot 1\n";
-        SETTLED 63, [] => "fault store slot 1\n";
-        SETTLED 64, [] => "fault store slot 1\n";
-        SETTLED 19602, [] => "fault store slot 1\n";
-        SETTLED 19603, [] => "fault store rule 3 at 0\n";
-        SETTLED 19607, [] => "fault store rule 3 at 0\n";
-    };
-    try_rows(&rt, rt.alloc(), &rows)
+    try_rows(&rt, rt.alloc(), CUTS)
 }

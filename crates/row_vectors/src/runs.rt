@@ -1,8 +1,7 @@
 //! Runs of the program on a disk, or on the bytes of a file.
 ghost use Rattle.std.specs.Prelude.{◌≡◌, IfOk, IsTrue, IsFalse, length};
 
-use crate::serve;
-use costore_top::Outcome;
+use crate::{Outcome, serve};
 use disk_face::Disk;
 use disk_mem::{MemBay, MemDisk, MemSink, MemSource};
 use std::alloc::Global;
@@ -63,6 +62,9 @@ pub fn run(alloc: Global, words: &[&str], bytes: &[u8]) -> Result<Ran<MemDisk>, 
     run_on(alloc, words, true, disk, Vec::new(alloc))
 }
 
+/// The words of a session.
+const RUN: &[&str] = &["run", "f"];
+
 /// Serves an input by `run f`. It comes in pieces of at most so many bytes, which is not 0.
 pub fn session<D: Disk + Drop>(
     alloc: Global,
@@ -77,7 +79,7 @@ pub fn session<D: Disk + Drop>(
         return Err("pieces of some bytes")?;
     }
     let source = MemSource::new(input.to_vec(alloc)?, piece, Vec::new(alloc));
-    run_with(alloc, &["run", "f"], true, disk, source, Vec::new(alloc))
+    run_with(alloc, RUN, true, disk, source, Vec::new(alloc))
 }
 
 /// A disk on which an absent file `f` was formatted, with a divisor and 16 names.

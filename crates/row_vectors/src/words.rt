@@ -1,60 +1,57 @@
 //! What the words of the command line come to.
-use crate::answers::try_answer;
+use crate::answers::{Told, told, try_answer, try_bytes, try_outcome};
 use crate::images::image;
 use crate::runs::{ended, run};
 use std::alloc::Global;
+use std::process::Abort;
 use std::test::Fail;
+
+/// Commands over the hand-made file.
+const COMMANDS: &[Told] = &told! {
+    ["get", "f", "b"] => 6 "fault missing\n";
+    ["get", "g", "a"] => 3 "fault no file\n";
+    ["get", "f"] => 1 "fault words\n";
+    ["get", "", "a"] => 1 "fault words\n";
+    ["get", "f", "a b"] => 1 "fault words\n";
+    ["got", "f", "a"] => 1 "fault words\n";
+    ["format", "f", "1", "16"] => 1 "fault words\n";
+    ["format", "f", "09", "16"] => 1 "fault words\n";
+    ["format", "f", "9", "+16"] => 1 "fault words\n";
+    ["format", "f", "9", "65537"] => 1 "fault words\n";
+    ["work", "f", "18446744073709551616", "1"] => 1 "fault words\n";
+    ["work", "f", "0", "0"] => 1 "fault words\n";
+    ["work", "f", "0", "1000001"] => 1 "fault words\n";
+    ["work", "g", "18446744073709551615", "1000000"] => 3 "fault no file\n";
+    // The first job of this number reads a name that isn't there.
+    ["work", "f", "18446744073709551615", "1"] => 0 concat!(
+            "requests 2\nok 0\nkept 1\nread 0\nrefused 1\nnames 1\nbytes 5\nlength 5\nmoved 0\n",
+            "linear 0 0\nflat 0 0\nseek 0 0\n"
+    );
+    ["check", "f"] => 0 "store 9 16 1 5 5 1 still\n";
+    ["check", ""] => 1 "fault words\n";
+    ["map", "g"] => 3 "fault no file\n";
+    ["format", "f", "9", "16"] => 5 "fault taken 19608\n";
+    ["--version"] => 0 "costore 0.1.0\n";
+};
+
+/// What a command comes to over the hand-made file.
+fn try_row(rt: &impl Abort, alloc: Global, row: &Told) -> Result<(), Fail> {
+    let bytes = image(alloc, 19608, &[], &[])?;
+    let ran = run(alloc, row.words, &bytes)?;
+    try_answer(rt, &ran, row.status, row.puts);
+    Ok(())
+}
 
 #[test]
 fn ends_by_the_words(rt: HostRuntime) -> Result<(), Fail> {
-    let bytes = image(rt.alloc(), 19608, &[], &[])?;
-    let rows: [(&[&str], u8, &str); 20] = [
-        (&["get", "f", "b"], 6, "fault missing\n"),
-        (&["get", "g", "a"], 3, "fault no file\n"),
-        (&["get", "f"], 1, "fault words\n"),
-        (&["get", "", "a"], 1, "fault words\n"),
-        (&["get", "f", "a b"], 1, "fault words\n"),
-        (&["got", "f", "a"], 1, "fault words\n"),
-        (&["format", "f", "1", "16"], 1, "fault words\n"),
-        (&["format", "f", "09", "16"], 1, "fault words\n"),
-        (&["format", "f", "9", "+16"], 1, "fault words\n"),
-        (&["format", "f", "9", "65537"], 1, "fault words\n"),
-        (
-            &["work", "f", "18446744073709551616", "1"],
-            1,
-            "fault words\n",
-        ),
-        (&["work", "f", "0", "0"], 1, "fault words\n"),
-        (&["work", "f", "0", "1000001"], 1, "fault words\n"),
-        (
-            &["work", "g", "18446744073709551615", "1000000"],
-            3,
-            "fault no file\n",
-        ),
-        // The first job of this number reads a name that isn't there.
-        (
-            &["work", "f", "18446744073709551615", "1"],
-            0,
-            concat!(
-                "requests 2\nok 0\nkept 1\nread 0\nrefused 1\nnames 1\nbytes 5\nlength 5\nmoved 0\n",
-                "linear 0 0\nflat 0 0\nseek 0 0\n"
-            ),
-        ),
-        (&["check", "f"], 0, "store 9 16 1 5 5 1 still\n"),
-        (&["check", ""], 1, "fault words\n"),
-        (&["map", "g"], 3, "fault no file\n"),
-        (&["format", "f", "9", "16"], 5, "fault taken 19608\n"),
-        (&["--version"], 0, "costore 0.1.0\n"),
-    ];
-    for (words, status, puts) in rows {
-        let ran = run(rt.alloc(), words, &bytes)?;
-        try_answer(&rt, ran, status, puts)?;
+    for row in COMMANDS {
+        try_row(&rt, rt.alloc(), row)?;
     }
     Ok(())
 }
 
 /// The page of `--help`, word for word.
-const PAGE: [&str; 37] = [
+const PAGE: &[&str] = &[
     "costore keeps named objects of bytes in one file, within a stated factor of its live bytes.",
     "",
     "commands:",
@@ -106,9 +103,9 @@ fn page(alloc: Global) -> Result<Vec<u8>, Fail> {
 
 #[test]
 fn puts_the_whole_page(rt: HostRuntime) -> Result<(), Fail> {
-    let ran = run(rt.alloc(), &["--help"], &[])?;
     let page = page(rt.alloc())?;
-    assert_eq!(rt; ran.outcome, ended(0));
-    assert_eq!(rt; ran.put.as_slice(), page.as_slice());
+    let ran = run(rt.alloc(), &["--help"], &[])?;
+    try_outcome(&rt, ran.outcome, ended(0), &"page");
+    try_bytes(&rt, &ran.put, &page, &"page");
     Ok(())
 }

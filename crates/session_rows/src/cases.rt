@@ -1,8 +1,9 @@
 //! Sessions as tables: what each puts, and what it leaves of its file.
-use costore_top::Outcome;
+use crate::answers::{CHECK, serve_parts, try_number, try_ran, try_told};
 use disk_face::Disk;
 use disk_mem::MemDisk;
-use row_vectors::runs::{Ran, formatted, joined, run_on, session};
+use row_vectors::Outcome;
+use row_vectors::runs::formatted;
 use std::alloc::Global;
 use std::process::Abort;
 use std::test::Fail;
@@ -49,7 +50,7 @@ macro_rules! cases {
 pub(crate) use cases;
 
 /// How many bytes of an input come at a time.
-pub const PIECES: [usize; 3] = [1, 2, 7];
+pub const PIECES: &[usize] = &[1, 2, 7];
 
 /// Serves a session of a table on a disk, and gives the disk back.
 pub fn try_case(
@@ -59,26 +60,11 @@ pub fn try_case(
     case: &Case,
     piece: usize,
 ) -> Result<MemDisk, Fail> {
-    let began = disk.turns();
-    let input = joined(alloc, case.input)?;
-    let ran = session(alloc, disk, &input, piece)?;
-    let ended = began.saturating_add(case.left.calls);
-    assert_eq!(rt; ran.disk.turns(), ended, "{:?}", case.input);
-    let disk = try_answers(rt, alloc, ran, case)?;
-    try_file(rt, alloc, disk, &case.left)
-}
-
-/// What a session put, and its numbers.
-pub fn try_answers<D: Disk + Drop>(
-    rt: &impl Abort,
-    alloc: Global,
-    ran: Ran<D>,
-    case: &Case,
-) -> Result<D, Fail> {
-    let puts = joined(alloc, case.puts)?;
-    assert_eq!(rt; ran.put.as_slice(), puts.as_slice(), "{:?}", case.input);
-    assert_eq!(rt; ran.outcome, case.outcome, "{:?}", case.input);
-    Ok(ran.disk)
+    let ended = disk.turns().saturating_add(case.left.calls);
+    let ran = serve_parts(alloc, disk, case.input, piece)?;
+    try_number(rt, ran.disk.turns(), ended, &case.input);
+    try_ran(rt, alloc, &ran, case.puts, case.outcome, &case.input)?;
+    try_file(rt, alloc, ran.disk, &case.left)
 }
 
 /// How long a file is, and what `check` puts of it.
@@ -89,30 +75,58 @@ pub fn try_file(
     left: &Left,
 ) -> Result<MemDisk, Fail> {
     let mut disk = disk;
-    assert_eq!(rt; disk.len()?, left.length, "{}", left.check);
-    let ran = run_on(alloc, &["check", "f"], true, disk, Vec::new(alloc))?;
-    assert_eq!(rt; ran.put.as_slice(), left.check.as_bytes());
-    Ok(ran.disk)
+    try_number(rt, disk.len()?, left.length, &left.check);
+    try_told(rt, alloc, disk, CHECK, left.check, &left.length)
 }
 
-/// Serves each session on a fresh file of a divisor and 16 names.
-pub fn try_each(rt: &impl Abort, alloc: Global, k: &str, cases: &[Case]) -> Result<(), Fail> {
+/// Serves a session on a fresh file of a divisor and 16 names.
+fn try_fresh(
+    rt: &impl Abort,
+    alloc: Global,
+    k: &str,
+    case: &Case,
+    piece: usize,
+) -> Result<(), Fail> {
+    let disk = formatted(alloc, k)?;
+    try_case(rt, alloc, disk, case, piece)?;
+    Ok(())
+}
+
+/// Serves a session in each size of pieces.
+fn try_pieces(rt: &impl Abort, alloc: Global, k: &str, case: &Case) -> Result<(), Fail> {
     for piece in PIECES {
-        for case in cases {
-            let disk = formatted(alloc, k)?;
-            try_case(rt, alloc, disk, case, piece)?;
-        }
+        try_fresh(rt, alloc, k, case, *piece)?;
     }
     Ok(())
 }
 
-/// Serves the sessions one after another on one fresh file.
+/// Serves each session on a fresh file of a divisor and 16 names.
+pub fn try_each(rt: &impl Abort, alloc: Global, k: &str, cases: &[Case]) -> Result<(), Fail> {
+    for case in cases {
+        try_pieces(rt, alloc, k, case)?;
+    }
+    Ok(())
+}
+
+/// Serves the sessions one after another on one fresh file, in pieces of a size, and gives the disk back.
+pub fn serve_chain(
+    rt: &impl Abort,
+    alloc: Global,
+    k: &str,
+    cases: &[Case],
+    piece: usize,
+) -> Result<MemDisk, Fail> {
+    let mut disk = formatted(alloc, k)?;
+    for case in cases {
+        disk = try_case(rt, alloc, disk, case, piece)?;
+    }
+    Ok(disk)
+}
+
+/// Serves the sessions one after another on one fresh file, in each size of pieces.
 pub fn try_chain(rt: &impl Abort, alloc: Global, k: &str, cases: &[Case]) -> Result<(), Fail> {
     for piece in PIECES {
-        let mut disk = formatted(alloc, k)?;
-        for case in cases {
-            disk = try_case(rt, alloc, disk, case, piece)?;
-        }
+        serve_chain(rt, alloc, k, cases, *piece)?;
     }
     Ok(())
 }

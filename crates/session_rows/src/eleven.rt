@@ -1,9 +1,9 @@
 //! Eleven puts of 100 bytes, where the last one's flush saves while it packs and while it lays.
-use crate::cases::{Case, Left, cases, try_case, try_chain};
+use crate::answers::{MAP, try_told};
+use crate::cases::{Case, Left, cases, serve_chain, try_chain};
 use crate::hundreds::{data_hundred, put_hundred};
-use costore_top::Outcome;
+use row_vectors::Outcome;
 use row_vectors::inputs::{KEPT, OK};
-use row_vectors::runs::{formatted, run_on};
 use std::test::Fail;
 
 const O1: &str = put_hundred!("o1", "1111111111");
@@ -28,38 +28,40 @@ const O10: &str = put_hundred!("o10", "aaaaaaaaaa");
 
 const O11: &str = put_hundred!("o11", "bbbbbbbbbb");
 
-// The first nine make 12, 21, 30, 39, 41, 43, 52, 61 and 63 calls.
+/// The first nine puts make 12, 21, 30, 39, 41, 43, 52, 61 and 63 calls.
+const CHECKPOINTS: &[Case] = &cases! {
+    [O1, O2, O3, O4, O5, O6, O7, O8, O9] => [KEPT, KEPT, KEPT, KEPT, KEPT, KEPT, KEPT, KEPT, KEPT],
+        0 (9, 9, 372), 362 calls, 20_603 bytes, "store 9 16 9 900 1000 36 still\n";
+    [O10, O11, "stat\n"] => [OK, KEPT, "stat 11 1100 11 1100\n"], 0 (3, 2, 433), 61 calls, 20_825 bytes,
+        "store 9 16 11 1100 1222 41 still\n";
+    ["get o1\n", "get o6\n", "get o9\n", "get o10\n", "get o11\n"]
+        => [data_hundred!("1111111111"), data_hundred!("6666666666"), data_hundred!("9999999999"),
+        data_hundred!("aaaaaaaaaa"), data_hundred!("bbbbbbbbbb")], 0 (5, 0, 433), 0 calls, 20_825 bytes,
+        "store 9 16 11 1100 1222 41 still\n";
+};
+
 #[test]
 fn saves_five_checkpoints_in_one_flush(rt: HostRuntime) -> Result<(), Fail> {
-    let cases = cases! {
-        [O1, O2, O3, O4, O5, O6, O7, O8, O9] => [KEPT, KEPT, KEPT, KEPT, KEPT, KEPT, KEPT, KEPT, KEPT],
-            0 (9, 9, 372), 362 calls, 20_603 bytes, "store 9 16 9 900 1000 36 still\n";
-        [O10, O11, "stat\n"] => [OK, KEPT, "stat 11 1100 11 1100\n"], 0 (3, 2, 433), 61 calls, 20_825 bytes,
-            "store 9 16 11 1100 1222 41 still\n";
-        ["get o1\n", "get o6\n", "get o9\n", "get o10\n", "get o11\n"]
-            => [data_hundred!("1111111111"), data_hundred!("6666666666"), data_hundred!("9999999999"),
-            data_hundred!("aaaaaaaaaa"), data_hundred!("bbbbbbbbbb")], 0 (5, 0, 433), 0 calls, 20_825 bytes,
-            "store 9 16 11 1100 1222 41 still\n";
-    };
-    try_chain(&rt, rt.alloc(), "9", &cases)
+    try_chain(&rt, rt.alloc(), "9", CHECKPOINTS)
 }
+
+/// The eleven puts in two sessions.
+const ELEVEN: &[Case] = &cases! {
+    [O1, O2, O3, O4, O5, O6, O7, O8, O9, O10]
+        => [KEPT, KEPT, KEPT, KEPT, KEPT, KEPT, KEPT, KEPT, KEPT, OK], 0 (10, 9, 372), 363 calls,
+        20_603 bytes, "store 9 16 9 900 1000 36 still\n";
+    [O10, O11] => [OK, KEPT], 0 (2, 2, 434), 61 calls, 20_825 bytes, "store 9 16 11 1100 1222 41 still\n";
+};
+
+/// What `map` then puts.
+const ELEVEN_MAP: &str =
+    "class 6 1100 122 0\nobject o1 0 100\nobject o10 900 100\nobject o11 1000 100\n\
+    object o2 100 100\nobject o3 200 100\nobject o4 300 100\nobject o5 400 100\nobject o6 500 100\n\
+    object o7 600 100\nobject o8 700 100\nobject o9 800 100\n";
 
 #[test]
 fn lays_the_eleven_one_behind_the_other(rt: HostRuntime) -> Result<(), Fail> {
-    let cases = cases! {
-        [O1, O2, O3, O4, O5, O6, O7, O8, O9, O10]
-            => [KEPT, KEPT, KEPT, KEPT, KEPT, KEPT, KEPT, KEPT, KEPT, OK], 0 (10, 9, 372), 363 calls,
-            20_603 bytes, "store 9 16 9 900 1000 36 still\n";
-        [O10, O11] => [OK, KEPT], 0 (2, 2, 434), 61 calls, 20_825 bytes, "store 9 16 11 1100 1222 41 still\n";
-    };
-    let mut disk = formatted(rt.alloc(), "9")?;
-    for case in &cases {
-        disk = try_case(&rt, rt.alloc(), disk, case, 7)?;
-    }
-    let ran = run_on(rt.alloc(), &["map", "f"], true, disk, Vec::new(rt.alloc()))?;
-    let puts = "class 6 1100 122 0\nobject o1 0 100\nobject o10 900 100\nobject o11 1000 100\n\
-        object o2 100 100\nobject o3 200 100\nobject o4 300 100\nobject o5 400 100\nobject o6 500 100\n\
-        object o7 600 100\nobject o8 700 100\nobject o9 800 100\n";
-    assert_eq!(rt; ran.put.as_slice(), puts.as_bytes());
+    let disk = serve_chain(&rt, rt.alloc(), "9", ELEVEN, 7)?;
+    try_told(&rt, rt.alloc(), disk, MAP, ELEVEN_MAP, &"map")?;
     Ok(())
 }

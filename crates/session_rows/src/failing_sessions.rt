@@ -1,51 +1,81 @@
 //! Sessions whose disk, input or output fails at one call.
-use crate::cases::{Case, Left, PIECES, cases, try_answers, try_case, try_file};
-use costore_top::Outcome;
+use crate::answers::{serve_parts, try_holds, try_number, try_ran};
+use crate::cases::{Case, Left, PIECES, try_case, try_file};
 use disk_face::Disk;
 use disk_mem::{Choice, Fuse, MemDisk, MemSource};
+use row_vectors::Outcome;
 use row_vectors::inputs::{DATA_A, KEPT, OK, PUT_A, PUT_B, PUT_C};
-use row_vectors::runs::{Ran, formatted, joined, run_with, session};
+use row_vectors::runs::{Ran, formatted, run_with, session};
 use std::alloc::Global;
 use std::process::Abort;
 use std::test::Fail;
 
-// The put of 5 bytes begins after 13 calls of the session; its fifth closes the gate of the slot that isn't
-// in use. The failed one is no call of the disk inside, which so has made 17.
-#[test]
-fn ends_at_a_failing_call_and_opens_again(rt: HostRuntime) -> Result<(), Fail> {
-    let failing = cases! {
-        [PUT_A, PUT_B, PUT_C, "get a\n"] => [KEPT, OK, "fault disk\n"], 7 (2, 1, 22), 17 calls,
-            19_857 bytes, "store 9 16 1 100 254 2 still\n";
-    };
-    let opened = cases! {
-        ["list\n", "get a\n"] => ["list 1\na 100\n", DATA_A], 0 (2, 0, 29), 2 calls, 19_714 bytes,
-            "store 9 16 1 100 111 2 still\n";
-    };
-    for piece in PIECES {
-        let disk = formatted(rt.alloc(), "9")?;
-        let fuse = Fuse::listed(disk, vec![in rt.alloc(); 18]?, Vec::new(rt.alloc()));
-        let disk = try_failing(&rt, rt.alloc(), fuse, &failing[0], piece)?;
-        try_case(&rt, rt.alloc(), disk, &opened[0], piece)?;
-    }
-    Ok(())
-}
+/// The put of 5 bytes begins after 13 calls of the session; its fifth closes the gate of the slot that isn't
+/// in use. The failed one is no call of the disk inside, which so has made 17.
+const FAILING: &Case = &Case {
+    input: &[PUT_A, PUT_B, PUT_C, "get a\n"],
+    puts: &[KEPT, OK, "fault disk\n"],
+    outcome: Outcome {
+        status: 7,
+        done: 2,
+        kept_done: 1,
+        kept_turn: 22,
+    },
+    left: Left {
+        calls: 17,
+        length: 19_857,
+        check: "store 9 16 1 100 254 2 still\n",
+    },
+};
 
-/// Serves a session on a fresh file in a fuse, one of whose changing calls fails, and gives the disk inside
-/// back.
+/// The next session.
+const OPENED: &Case = &Case {
+    input: &["list\n", "get a\n"],
+    puts: &["list 1\na 100\n", DATA_A],
+    outcome: Outcome {
+        status: 0,
+        done: 2,
+        kept_done: 0,
+        kept_turn: 29,
+    },
+    left: Left {
+        calls: 2,
+        length: 19_714,
+        check: "store 9 16 1 100 111 2 still\n",
+    },
+};
+
+/// Serves the session on a fresh file in a fuse, of which that call fails, and gives the disk inside back.
 fn try_failing(
     rt: &impl Abort,
     alloc: Global,
     fuse: Fuse<MemDisk>,
-    case: &Case,
     piece: usize,
 ) -> Result<MemDisk, Fail> {
-    let input = joined(alloc, case.input)?;
-    let ran = session(alloc, fuse, &input, piece)?;
-    let made = case.left.calls.saturating_add(10);
-    assert_eq!(rt; ran.disk.turns(), made.saturating_add(1));
-    let disk = try_answers(rt, alloc, ran, case)?.into_inner();
-    assert_eq!(rt; disk.turns(), made);
-    try_file(rt, alloc, disk, &case.left)
+    let ran = serve_parts(alloc, fuse, FAILING.input, piece)?;
+    let made = FAILING.left.calls.saturating_add(10);
+    try_number(rt, ran.disk.turns(), made.saturating_add(1), &"fuse");
+    try_ran(rt, alloc, &ran, FAILING.puts, FAILING.outcome, &piece)?;
+    let disk = ran.disk.into_inner();
+    try_number(rt, disk.turns(), made, &"disk");
+    try_file(rt, alloc, disk, &FAILING.left)
+}
+
+/// Both sessions.
+fn try_both(rt: &impl Abort, alloc: Global, piece: usize) -> Result<(), Fail> {
+    let disk = formatted(alloc, "9")?;
+    let fuse = Fuse::listed(disk, vec![in alloc; 18]?, Vec::new(alloc));
+    let disk = try_failing(rt, alloc, fuse, piece)?;
+    try_case(rt, alloc, disk, OPENED, piece)?;
+    Ok(())
+}
+
+#[test]
+fn ends_at_a_failing_call_and_opens_again(rt: HostRuntime) -> Result<(), Fail> {
+    for piece in PIECES {
+        try_both(&rt, rt.alloc(), *piece)?;
+    }
+    Ok(())
 }
 
 /// A session that reads the one object of a file, over a fuse that fails one read.
@@ -68,20 +98,20 @@ fn is_front_and_fault(bytes: &[u8]) -> bool {
     }
 }
 
-/// What a session puts of which one read fails, and that it changes nothing. Answers whether one did.
-fn try_read(rt: &impl Abort, ran: Ran<Fuse<MemDisk>>, number: u64) -> Result<bool, Fail> {
-    let has_failed = ran.outcome.status == 7;
-    if has_failed {
-        assert!(rt; is_front_and_fault(&ran.put), "read {number}");
-    } else {
-        assert!(rt; ran.put.as_slice() == DATA_A.as_bytes(), "read {number}");
-        assert!(rt;
-            ran.outcome.status == 0 && ran.outcome.done == 1,
-            "read {number}"
-        );
+/// Whether such a session put what it should: a front of the reply where the read failed, else all of it.
+fn is_answered(put: &[u8], outcome: &Outcome) -> bool {
+    if outcome.status == 7 {
+        return is_front_and_fault(put);
     }
-    assert_eq!(rt; ran.disk.into_inner().turns(), 0, "read {number}");
-    Ok(has_failed)
+    put == DATA_A.as_bytes() && outcome.status == 0 && outcome.done == 1
+}
+
+/// What a session puts of which one read fails, and that it changes nothing. Answers whether one did.
+fn try_read(rt: &impl Abort, ran: Ran<Fuse<MemDisk>>, number: u64) -> bool {
+    try_holds(rt, is_answered(&ran.put, &ran.outcome), &number);
+    let has_failed = ran.outcome.status == 7;
+    try_number(rt, ran.disk.into_inner().turns(), 0, &number);
+    has_failed
 }
 
 /// A session of each number of the read that fails. Those of an opening and of the object fail, the others
@@ -90,23 +120,28 @@ fn try_reads(rt: &impl Abort, alloc: Global, file: &[u8], piece: usize) -> Resul
     let mut last = 0u64;
     for number in 1..40 {
         let ran = read_failing(alloc, file, number, piece)?;
-        if try_read(rt, ran, number)? {
-            assert_eq!(rt; number, last.saturating_add(1));
+        if try_read(rt, ran, number) {
+            try_number(rt, number, last.saturating_add(1), &"failed");
             last = number;
         }
     }
-    assert!(rt; 1 < last && last < 39);
+    try_holds(rt, 1 < last && last < 39, &last);
     Ok(())
+}
+
+/// A file with one object.
+fn one_object(alloc: Global) -> Result<Vec<u8>, Fail> {
+    let disk = formatted(alloc, "9")?;
+    let put = session(alloc, disk, PUT_A.as_bytes(), 7)?;
+    let turn = put.disk.turns();
+    Ok(put.disk.image(turn, Choice::Newest)?)
 }
 
 #[test]
 fn puts_a_front_of_a_reply_whose_read_fails(rt: HostRuntime) -> Result<(), Fail> {
-    let disk = formatted(rt.alloc(), "9")?;
-    let put = session(rt.alloc(), disk, PUT_A.as_bytes(), 7)?;
-    let turn = put.disk.turns();
-    let file = put.disk.image(turn, Choice::Newest)?;
+    let file = one_object(rt.alloc())?;
     for piece in PIECES {
-        try_reads(&rt, rt.alloc(), &file, piece)?;
+        try_reads(&rt, rt.alloc(), &file, *piece)?;
     }
     Ok(())
 }
@@ -114,7 +149,6 @@ fn puts_a_front_of_a_reply_whose_read_fails(rt: HostRuntime) -> Result<(), Fail>
 /// A session on a fresh file whose source or sink fails the listed calls.
 fn failing_streams(
     alloc: Global,
-    input: &[u8],
     piece: usize,
     takes: Vec<u64>,
     puts: Vec<u64>,
@@ -123,49 +157,65 @@ fn failing_streams(
     if piece == 0 {
         return Err("pieces of some bytes")?;
     }
-    let source = MemSource::new(input.to_vec(alloc)?, piece, takes);
+    let input = b"put y 0\n\n".to_vec(alloc)?;
+    let source = MemSource::new(input, piece, takes);
     run_with(alloc, &["run", "f"], true, disk, source, puts)
+}
+
+/// The fresh file, as that session leaves it.
+const FRESH: Left = Left {
+    calls: 0,
+    length: 19_603,
+    check: "store 9 16 0 0 0 1 still\n",
+};
+
+/// What such a session puts, its status, and that it changes nothing.
+fn try_streams(
+    rt: &impl Abort,
+    alloc: Global,
+    ran: Ran<MemDisk>,
+    status: u8,
+    puts: &[&str],
+) -> Result<(), Fail> {
+    let outcome = Outcome {
+        status,
+        done: 0,
+        kept_done: 0,
+        kept_turn: 10,
+    };
+    try_number(rt, ran.disk.turns(), 10, &status);
+    try_ran(rt, alloc, &ran, puts, outcome, &status)?;
+    try_file(rt, alloc, ran.disk, &FRESH)?;
+    Ok(())
+}
+
+/// What is put then.
+const SOURCE_FAULT: &[&str] = &["fault source\n"];
+
+/// The source fails.
+fn try_source(rt: &impl Abort, alloc: Global, piece: usize) -> Result<(), Fail> {
+    let ran = failing_streams(alloc, piece, vec![in alloc; 1]?, Vec::new(alloc))?;
+    try_streams(rt, alloc, ran, 8, SOURCE_FAULT)
 }
 
 #[test]
 fn says_that_the_input_failed(rt: HostRuntime) -> Result<(), Fail> {
-    let cases = cases! {
-        ["put y 0\n\n"] => ["fault source\n"], 8 (0, 0, 10), 0 calls, 19_603 bytes,
-            "store 9 16 0 0 0 1 still\n";
-    };
     for piece in PIECES {
-        let takes = vec![in rt.alloc(); 1]?;
-        let ran = failing_streams(
-            rt.alloc(),
-            b"put y 0\n\n",
-            piece,
-            takes,
-            Vec::new(rt.alloc()),
-        )?;
-        assert_eq!(rt; ran.disk.turns(), 10);
-        let disk = try_answers(&rt, rt.alloc(), ran, &cases[0])?;
-        try_file(&rt, rt.alloc(), disk, &cases[0].left)?;
+        try_source(&rt, rt.alloc(), *piece)?;
     }
     Ok(())
 }
 
+/// The sink fails.
+fn try_sink(rt: &impl Abort, alloc: Global, piece: usize) -> Result<(), Fail> {
+    let ran = failing_streams(alloc, piece, Vec::new(alloc), vec![in alloc; 1]?)?;
+    try_streams(rt, alloc, ran, 9, &[])
+}
+
 #[test]
 fn says_that_the_output_failed(rt: HostRuntime) -> Result<(), Fail> {
-    let cases = cases! {
-        ["put y 0\n\n"] => [], 9 (0, 0, 10), 0 calls, 19_603 bytes, "store 9 16 0 0 0 1 still\n";
-    };
     for piece in PIECES {
-        let puts = vec![in rt.alloc(); 1]?;
-        let ran = failing_streams(
-            rt.alloc(),
-            b"put y 0\n\n",
-            piece,
-            Vec::new(rt.alloc()),
-            puts,
-        )?;
-        assert_eq!(rt; ran.disk.turns(), 10);
-        let disk = try_answers(&rt, rt.alloc(), ran, &cases[0])?;
-        try_file(&rt, rt.alloc(), disk, &cases[0].left)?;
+        try_sink(&rt, rt.alloc(), *piece)?;
     }
     Ok(())
 }

@@ -1,19 +1,44 @@
-//! Worked sessions of the program, as tables: the input, what is put, and what is left of the file.
+//! Worked sessions of the program, as tables: what is put, and what is left of the file, also where a disk
+//! fails at each call, and of what a crash leaves at each turn of a format, a save and a session.
 #![tactic(auto)]
 
+#[cfg(test)]
+mod answers;
 #[cfg(test)]
 mod cases;
 #[cfg(test)]
 mod eleven;
 #[cfg(test)]
+mod failing_calls;
+#[cfg(test)]
 mod failing_sessions;
+#[cfg(test)]
+mod format_images;
+#[cfg(test)]
+mod further_puts;
 #[cfg(test)]
 mod hand_made;
 #[cfg(test)]
 mod hundreds;
 #[cfg(test)]
+mod images;
+#[cfg(test)]
+mod moments;
+#[cfg(test)]
+mod opened_maps;
+#[cfg(test)]
+mod replaced;
+#[cfg(test)]
+mod requests;
+#[cfg(test)]
+mod saves;
+#[cfg(test)]
 mod sessions;
 #[cfg(test)]
 mod sizes;
+#[cfg(test)]
+mod stopped_flushes;
+#[cfg(test)]
+mod stops;
 #[cfg(test)]
 mod works;

@@ -1,4 +1,6 @@
-//! The command `work` over new files, and the summaries that a plain program in another language found of the same jobs.
+//! The command `work` over new files, and the summaries that a plain program in another language found of the
+//! same jobs.
+use crate::answers::{try_bytes, try_holds, try_outcome};
 use disk_mem::PlainDisk;
 use row_vectors::runs::{ended, run_on};
 use std::alloc::Global;
@@ -15,59 +17,72 @@ const FIVE_THOUSAND: &str = concat!(
     "flat 106595055616 6675100416\nseek 334505954902016 18448504373248\n",
 );
 
-/// Formats a new file with this divisor and so many names, and tries the summary of jobs over it.
+/// A disk with a new store of a divisor and so many names.
+fn made(alloc: Global, k: &str, names: &str) -> Result<PlainDisk, Fail> {
+    let new = PlainDisk::with_room(alloc, ROOM)?;
+    let words = ["format", "f", k, names];
+    let ran = run_on(alloc, &words, false, new, Vec::new(alloc))?;
+    Ok(ran.disk)
+}
+
+/// Tries the summary of jobs over a new file with this divisor and so many names.
 fn try_work(
     rt: &impl Abort,
     alloc: Global,
     [k, names, number, count]: [&str; 4],
     summary: &str,
 ) -> Result<(), Fail> {
-    let new = PlainDisk::with_room(alloc, ROOM)?;
-    let made = run_on(
-        alloc,
-        &["format", "f", k, names],
-        false,
-        new,
-        Vec::new(alloc),
-    )?;
+    let disk = made(alloc, k, names)?;
     let words = ["work", "f", number, count];
-    let ran = run_on(alloc, &words, true, made.disk, Vec::new(alloc))?;
-    assert_eq!(rt; ran.put.as_slice(), summary.as_bytes(), "{summary}");
-    assert_eq!(rt; ran.outcome, ended(0));
+    let ran = run_on(alloc, &words, true, disk, Vec::new(alloc))?;
+    try_bytes(rt, &ran.put, summary.as_bytes(), &summary);
+    try_outcome(rt, ran.outcome, ended(0), &summary);
     Ok(())
 }
 
+/// The summary of 2,000 jobs of number 1 at a divisor of 9 and with 4,096 names.
+const FIRST: &str = concat!(
+    "requests 2001\nok 1252\nkept 290\nread 120922\nrefused 431\nnames 1070\nbytes 4375307\n",
+    "length 4787964\nmoved 110498382\nlinear 115865951404032 6284945391616\n",
+    "flat 37638902784 2335734784\nseek 118274841182208 6434432417792\n",
+);
+
+/// The summary of 2,000 jobs of number 7 at a divisor of 2 and with 64 names.
+const SEVENTH: &str = concat!(
+    "requests 2001\nok 1315\nkept 359\nread 881057\nrefused 108\nnames 57\nbytes 227563\n",
+    "length 331223\nmoved 34041866\nlinear 35695483682816 9957081612288\n",
+    "flat 11769705216 3787857408\nseek 36448744816640 10199504486400\n",
+);
+
 #[test]
 fn sums_up_two_thousand_jobs(rt: HostRuntime) -> Result<(), Fail> {
-    let first = concat!(
-        "requests 2001\nok 1252\nkept 290\nread 120922\nrefused 431\nnames 1070\nbytes 4375307\n",
-        "length 4787964\nmoved 110498382\nlinear 115865951404032 6284945391616\n",
-        "flat 37638902784 2335734784\nseek 118274841182208 6434432417792\n",
-    );
-    let seventh = concat!(
-        "requests 2001\nok 1315\nkept 359\nread 881057\nrefused 108\nnames 57\nbytes 227563\n",
-        "length 331223\nmoved 34041866\nlinear 35695483682816 9957081612288\n",
-        "flat 11769705216 3787857408\nseek 36448744816640 10199504486400\n",
-    );
-    try_work(&rt, rt.alloc(), ["9", "4096", "1", "2000"], first)?;
-    try_work(&rt, rt.alloc(), ["2", "64", "7", "2000"], seventh)
+    try_work(&rt, rt.alloc(), ["9", "4096", "1", "2000"], FIRST)?;
+    try_work(&rt, rt.alloc(), ["2", "64", "7", "2000"], SEVENTH)
 }
 
 #[test]
 fn does_the_same_jobs_again_over_another_file(rt: HostRuntime) -> Result<(), Fail> {
-    let words = ["9", "4096", "1", "5000"];
-    try_work(&rt, rt.alloc(), words, FIVE_THOUSAND)?;
-    try_work(&rt, rt.alloc(), words, FIVE_THOUSAND)?;
-    // The length is within 10/8 of the live bytes, and by each cost what was moved is at most 561 times what
-    // was asked for.
-    assert!(rt; 8 * 9_285_713 <= 10 * 8_445_335);
-    let costs: [[u64; 2]; 3] = [
-        [327_683_871_342_592, 18_021_297_946_624],
-        [106_595_055_616, 6_675_100_416],
-        [334_505_954_902_016, 18_448_504_373_248],
-    ];
-    for [moved, asked] in costs {
-        assert!(rt; moved <= 561 * asked);
+    try_work(&rt, rt.alloc(), ["9", "4096", "1", "5000"], FIVE_THOUSAND)?;
+    try_work(&rt, rt.alloc(), ["9", "4096", "1", "5000"], FIVE_THOUSAND)
+}
+
+/// By each cost what was moved, and what was asked for.
+const COSTS: &[(u64, u64)] = &[
+    (327_683_871_342_592, 18_021_297_946_624),
+    (106_595_055_616, 6_675_100_416),
+    (334_505_954_902_016, 18_448_504_373_248),
+];
+
+/// Whether what was moved is at most 561 times what was asked for.
+fn is_paid_for(moved: u64, asked: u64) -> bool {
+    (moved as u128) <= 561 * (asked as u128)
+}
+
+// Of the 5,000 jobs: the length is within 10/8 of the live bytes, and each cost is paid for.
+#[test]
+fn keeps_length_and_costs_of_the_jobs_within_their_bounds(rt: HostRuntime) {
+    try_holds(&rt, 8 * 9_285_713 <= 10 * 8_445_335, &"length");
+    for (moved, asked) in COSTS {
+        try_holds(&rt, is_paid_for(*moved, *asked), moved);
     }
-    Ok(())
 }

@@ -1,10 +1,11 @@
 //! What a crash leaves at each turn of a session: what `check` puts, and a session that goes on from it.
+use crate::answers::{try_number, try_ran};
+use crate::further_puts::FURTHER;
 use crate::images::{CHOICES, image_at, try_check};
-use crate::maps::FURTHER;
-use costore_top::Outcome;
 use disk_face::Disk;
 use disk_mem::{Choice, MemDisk};
-use row_vectors::runs::{Ran, joined, session};
+use row_vectors::Outcome;
+use row_vectors::runs::{Ran, session};
 use std::alloc::Global;
 use std::process::Abort;
 use std::test::Fail;
@@ -38,14 +39,18 @@ pub struct Story {
     pub durable: &'static [(u64, u64)],
 }
 
-/// The checkpoint of an image. A gate that is open in it was written, or it is the byte that each torn byte
-/// is.
-fn stage_at(story: &Story, turn: u64, choice: Choice) -> Result<Stage, Fail> {
-    let seen = match choice {
+/// Up to which turn an image has open gates: one was written, or synced, or it is the byte that each torn
+/// byte is.
+fn seen_at(turn: u64, choice: Choice) -> u64 {
+    match choice {
         Choice::Newest => turn,
         Choice::Torn(0xA5) => turn.saturating_add(1),
         Choice::Torn(_) | Choice::Durable => turn.saturating_sub(1),
-    };
+    }
+}
+
+/// The last checkpoint up to a turn.
+fn stage_at(story: &Story, seen: u64) -> Result<Stage, Fail> {
     let mut last = None;
     for stage in story.stages {
         if stage.from <= seen {
@@ -66,6 +71,28 @@ fn at_turn(numbers: &[(u64, u64)], turn: u64) -> u64 {
     last
 }
 
+/// How long the data part of an image is.
+fn data_of(story: &Story, turn: u64, choice: Choice) -> u64 {
+    match choice {
+        Choice::Durable => at_turn(story.durable, turn),
+        _ => at_turn(story.newest, turn),
+    }
+}
+
+/// An image of a turn.
+fn try_moment(
+    rt: &impl Abort,
+    alloc: Global,
+    disk: &MemDisk,
+    story: &Story,
+    at: (u64, Choice),
+) -> Result<(), Fail> {
+    let stage = stage_at(story, seen_at(at.0, at.1))?;
+    let data = data_of(story, at.0, at.1);
+    let image = image_at(rt, disk, at.0, at.1)?;
+    try_image(rt, alloc, &image, &stage, data, at)
+}
+
 /// The images of a turn.
 fn try_turn(
     rt: &impl Abort,
@@ -75,15 +102,20 @@ fn try_turn(
     turn: u64,
 ) -> Result<(), Fail> {
     for choice in CHOICES {
-        let stage = stage_at(story, turn, choice)?;
-        let data = match choice {
-            Choice::Durable => at_turn(story.durable, turn),
-            _ => at_turn(story.newest, turn),
-        };
-        let image = image_at(rt, disk, turn, choice)?;
-        try_image(rt, alloc, &image, &stage, data, (turn, choice))?;
+        try_moment(rt, alloc, disk, story, (turn, *choice))?;
     }
     Ok(())
+}
+
+/// What `check` puts of a checkpoint in a data part of some length.
+fn line_of(alloc: Global, stage: &Stage, data: u64) -> Result<String, Fail> {
+    let Stage {
+        counts,
+        sequence,
+        kind,
+        ..
+    } = *stage;
+    Ok(format!(in alloc; "store 9 16 {counts} {data} {sequence} {kind}\n")?)
 }
 
 /// One image, whose data part is so long.
@@ -95,16 +127,10 @@ fn try_image(
     data: u64,
     at: (u64, Choice),
 ) -> Result<(), Fail> {
-    let Stage {
-        counts,
-        sequence,
-        kind,
-        ..
-    } = *stage;
-    let line = format!(in alloc; "store 9 16 {counts} {data} {sequence} {kind}\n")?;
+    let line = line_of(alloc, stage, data)?;
     try_check(rt, alloc, image, 0, &line, at)?;
-    let calls = calls_to_open(stage, data);
-    try_further(rt, alloc, image, stage, calls, at)
+    let turn = calls_to_open(stage, data).saturating_add(stage.calls);
+    try_further(rt, alloc, image, stage, turn, at)
 }
 
 /// How many changing calls an opening makes. A file that is longer than its layout is cut in 2.
@@ -116,46 +142,45 @@ fn calls_to_open(stage: &Stage, data: u64) -> u64 {
     }
 }
 
-/// The session that goes on from an image, and what the file durably is after it.
+/// The session that goes on from an image.
+fn further(alloc: Global, image: &[u8]) -> Result<Ran<MemDisk>, Fail> {
+    let disk = MemDisk::from_bytes(alloc, image)?;
+    session(alloc, disk, FURTHER.as_bytes(), 7)
+}
+
+/// What that session puts, that its last call was the checkpoint's, at a turn, and what the file durably is
+/// then.
 fn try_further(
     rt: &impl Abort,
     alloc: Global,
     image: &[u8],
     stage: &Stage,
-    opening: u64,
-    at: (u64, Choice),
-) -> Result<(), Fail> {
-    let disk = MemDisk::from_bytes(alloc, image)?;
-    let ran = session(alloc, disk, FURTHER.as_bytes(), 7)?;
-    let turn = opening.saturating_add(stage.calls);
-    let disk = try_replies(rt, alloc, ran, stage.puts, turn, at)?;
-    let kept = image_at(rt, &disk, turn, Choice::Durable)?;
-    try_check(rt, alloc, &kept, 0, stage.after, at)
-}
-
-/// What that session puts, and that its last call was the checkpoint's, at a turn. The disk is given back.
-fn try_replies(
-    rt: &impl Abort,
-    alloc: Global,
-    ran: Ran<MemDisk>,
-    puts: &[&str],
     turn: u64,
     at: (u64, Choice),
-) -> Result<MemDisk, Fail> {
+) -> Result<(), Fail> {
+    let ran = further(alloc, image)?;
     let outcome = Outcome {
         status: 0,
         done: 8,
         kept_done: 8,
         kept_turn: turn,
     };
-    assert_eq!(rt;
-        (ran.outcome, ran.disk.turns()),
-        (outcome, turn),
-        "turn {at:?}"
-    );
-    let puts = joined(alloc, puts)?;
-    assert_eq!(rt; ran.put.as_slice(), puts.as_slice(), "turn {at:?}");
-    Ok(ran.disk)
+    try_number(rt, ran.disk.turns(), turn, &at);
+    try_ran(rt, alloc, &ran, stage.puts, outcome, &at)?;
+    try_kept(rt, alloc, &ran.disk, turn, stage.after, at)
+}
+
+/// What `check` puts of what a disk durably is at a turn.
+pub fn try_kept(
+    rt: &impl Abort,
+    alloc: Global,
+    disk: &MemDisk,
+    turn: u64,
+    puts: &str,
+    at: (u64, Choice),
+) -> Result<(), Fail> {
+    let kept = image_at(rt, disk, turn, Choice::Durable)?;
+    try_check(rt, alloc, &kept, 0, puts, at)
 }
 
 /// The images of the turns of a session from one to before another.

@@ -1,4 +1,5 @@
 //! Images of a disk, and what the program makes of each.
+use crate::answers::{CHECK, try_bytes, try_number};
 use disk_face::Disk;
 use disk_mem::{Choice, MemDisk};
 use row_vectors::runs::run;
@@ -8,7 +9,7 @@ use std::test::Fail;
 
 /// What the last sync left, what reads give, and these with one value in each byte that isn't synced or
 /// that the next call writes.
-pub const CHOICES: [Choice; 5] = [
+pub const CHOICES: &[Choice] = &[
     Choice::Durable,
     Choice::Newest,
     Choice::Torn(0),
@@ -27,7 +28,7 @@ pub fn image_at(
     Ok(disk.image(turn, choice)?)
 }
 
-/// What `check f` puts of a file, by its status.
+/// What `check f` puts of a file, by its status. It changes nothing.
 pub fn try_check(
     rt: &impl Abort,
     alloc: Global,
@@ -36,9 +37,9 @@ pub fn try_check(
     puts: &str,
     at: (u64, Choice),
 ) -> Result<(), Fail> {
-    let ran = run(alloc, &["check", "f"], file)?;
-    assert_eq!(rt; ran.put.as_slice(), puts.as_bytes(), "turn {at:?}");
-    assert_eq!(rt; ran.outcome.status, status, "turn {at:?}");
-    assert_eq!(rt; ran.disk.turns(), 0, "turn {at:?}");
+    let ran = run(alloc, CHECK, file)?;
+    try_bytes(rt, &ran.put, puts.as_bytes(), &at);
+    try_number(rt, ran.outcome.status as u64, status as u64, &at);
+    try_number(rt, ran.disk.turns(), 0, &at);
     Ok(())
 }

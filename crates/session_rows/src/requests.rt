@@ -1,17 +1,18 @@
 //! A session of three puts and three removals, of which four flush: what a crash leaves at each turn.
-use crate::maps::{NONE, ONE, THREE};
+use crate::answers::{serve_parts, try_number, try_puts};
+use crate::further_puts::{NONE, ONE, THREE};
 use crate::moments::{Stage, Story, try_turns};
 use disk_face::Disk;
 use disk_mem::MemDisk;
 use row_vectors::inputs::{KEPT, OK, PUT_A, PUT_B, PUT_C};
-use row_vectors::runs::{formatted, joined, session};
+use row_vectors::runs::formatted;
 use std::alloc::Global;
 use std::process::Abort;
 use std::test::Fail;
 
 /// After a format of 10 calls, `a` is put in 12, `b` in 1, `c` in 23, `b` is removed in none, `c` in 19 and
 /// `a` in 9.
-pub const SESSION: Story = Story {
+const SESSION: &Story = &Story {
     stages: &[
         Stage {
             from: 9,
@@ -115,45 +116,48 @@ pub const SESSION: Story = Story {
     ],
 };
 
+/// Its requests.
+const REQUESTS: &[&str] = &[PUT_A, PUT_B, PUT_C, "del b\n", "del c\n", "del a\n"];
+
+/// Their replies.
+const REPLIES: &[&str] = &[KEPT, OK, KEPT, OK, KEPT, KEPT];
+
 /// The disk of that session.
 pub fn served(rt: &impl Abort, alloc: Global) -> Result<MemDisk, Fail> {
-    let input = joined(
-        alloc,
-        &[PUT_A, PUT_B, PUT_C, "del b\n", "del c\n", "del a\n"],
-    )?;
-    let ran = session(alloc, formatted(alloc, "9")?, &input, 7)?;
-    let puts = joined(alloc, &[KEPT, OK, KEPT, OK, KEPT, KEPT])?;
-    assert_eq!(rt; ran.put.as_slice(), puts.as_slice());
-    assert_eq!(rt; ran.disk.turns(), 74);
+    let disk = formatted(alloc, "9")?;
+    let ran = serve_parts(alloc, disk, REQUESTS, 7)?;
+    try_puts(rt, alloc, &ran.put, REPLIES, &"replies")?;
+    try_number(rt, ran.disk.turns(), 74, &"turns");
     Ok(ran.disk)
+}
+
+/// The images of its turns from one to before another.
+fn try_session(rt: &impl Abort, alloc: Global, turns: (u64, u64)) -> Result<(), Fail> {
+    let disk = served(rt, alloc)?;
+    try_turns(rt, alloc, &disk, SESSION, turns)
 }
 
 #[test]
 fn goes_on_from_each_turn_of_a_first_put(rt: HostRuntime) -> Result<(), Fail> {
-    let disk = served(&rt, rt.alloc())?;
-    try_turns(&rt, rt.alloc(), &disk, &SESSION, (10, 23))
+    try_session(&rt, rt.alloc(), (10, 23))
 }
 
 #[test]
 fn goes_on_from_each_turn_of_a_put_in_a_buffer_and_of_a_flush(rt: HostRuntime) -> Result<(), Fail> {
-    let disk = served(&rt, rt.alloc())?;
-    try_turns(&rt, rt.alloc(), &disk, &SESSION, (23, 36))
+    try_session(&rt, rt.alloc(), (23, 36))
 }
 
 #[test]
 fn goes_on_from_each_turn_of_the_rest_of_that_flush(rt: HostRuntime) -> Result<(), Fail> {
-    let disk = served(&rt, rt.alloc())?;
-    try_turns(&rt, rt.alloc(), &disk, &SESSION, (36, 47))
+    try_session(&rt, rt.alloc(), (36, 47))
 }
 
 #[test]
 fn goes_on_from_each_turn_of_removals(rt: HostRuntime) -> Result<(), Fail> {
-    let disk = served(&rt, rt.alloc())?;
-    try_turns(&rt, rt.alloc(), &disk, &SESSION, (47, 65))
+    try_session(&rt, rt.alloc(), (47, 65))
 }
 
 #[test]
 fn goes_on_from_each_turn_of_a_last_removal(rt: HostRuntime) -> Result<(), Fail> {
-    let disk = served(&rt, rt.alloc())?;
-    try_turns(&rt, rt.alloc(), &disk, &SESSION, (65, 75))
+    try_session(&rt, rt.alloc(), (65, 75))
 }

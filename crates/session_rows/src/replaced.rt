@@ -1,13 +1,17 @@
 //! A put of 10 bytes in place of 100: each image opens to the one or to the other.
-use crate::maps::{NONE, ONE, TEN};
+use crate::answers::{serve_parts, try_number, try_puts};
+use crate::further_puts::{NONE, ONE, TEN};
 use crate::moments::{Stage, Story, try_turns};
 use disk_face::Disk;
+use disk_mem::MemDisk;
 use row_vectors::inputs::{KEPT, PUT_A};
-use row_vectors::runs::{formatted, joined, session};
+use row_vectors::runs::formatted;
+use std::alloc::Global;
+use std::process::Abort;
 use std::test::Fail;
 
 /// After a format of 10 calls, `a` of 100 bytes is put in 12, and `a` of 10 bytes in 20.
-const SESSION: Story = Story {
+const SESSION: &Story = &Story {
     stages: &[
         Stage {
             from: 9,
@@ -58,12 +62,23 @@ const SESSION: Story = Story {
     durable: &[(10, 0), (15, 312), (22, 111), (27, 132), (42, 11)],
 };
 
+/// The disk of that session.
+fn served(rt: &impl Abort, alloc: Global) -> Result<MemDisk, Fail> {
+    let disk = formatted(alloc, "9")?;
+    let ran = serve_parts(alloc, disk, REQUESTS, 7)?;
+    try_puts(rt, alloc, &ran.put, REPLIES, &"replies")?;
+    try_number(rt, ran.disk.turns(), 42, &"turns");
+    Ok(ran.disk)
+}
+
+/// Its requests.
+const REQUESTS: &[&str] = &[PUT_A, "put a 10\nabcdefghij\n"];
+
+/// Their replies.
+const REPLIES: &[&str] = &[KEPT, KEPT];
+
 #[test]
 fn goes_on_from_each_turn_of_a_replacement(rt: HostRuntime) -> Result<(), Fail> {
-    let input = joined(rt.alloc(), &[PUT_A, "put a 10\nabcdefghij\n"])?;
-    let ran = session(rt.alloc(), formatted(rt.alloc(), "9")?, &input, 7)?;
-    let puts = joined(rt.alloc(), &[KEPT, KEPT])?;
-    assert_eq!(rt; ran.put.as_slice(), puts.as_slice());
-    assert_eq!(rt; ran.disk.turns(), 42);
-    try_turns(&rt, rt.alloc(), &ran.disk, &SESSION, (22, 43))
+    let disk = served(&rt, rt.alloc())?;
+    try_turns(&rt, rt.alloc(), &disk, SESSION, (22, 43))
 }

@@ -4,7 +4,7 @@ use Rattle.std.specs.FinMap as fin
 use Rattle.extent_table.proofs.ExtentLaws.{records_of-few}
 use Rattle.extent_table.proofs.SaveLaws.{records_in_range}
 use Rattle.slot_codec.specs.Choice.{InUse}
-use Rattle.image_rows.proofs.saves.save.Goals as goal
+use Rattle.session_rows.proofs.saves.save.Goals as goal
 
 pub save-requires-clause-records : goal.save-requires-clause-records
 save-requires-clause-records g c = records_in_range c.args.table.now c.count.ensures.table

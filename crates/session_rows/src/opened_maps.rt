@@ -1,10 +1,12 @@
 //! The maps that a file may open to, by what the program puts of each.
-use costore_top::Outcome;
+use crate::answers::{MAP, try_ran, try_told};
 use disk_face::Disk;
-use disk_mem::{Choice, MemDisk};
+use disk_mem::MemDisk;
+use row_vectors::Outcome;
 use row_vectors::inputs::{DATA_A, DATA_B, DATA_C, MISSING};
-use row_vectors::runs::{ended, joined, run_on, session};
+use row_vectors::runs::session;
 use std::alloc::Global;
+use std::fmt::Debug;
 use std::process::Abort;
 use std::test::Fail;
 
@@ -38,21 +40,6 @@ pub const THREE: Map = Map {
     map: "class 2 5 0 0\nclass 3 10 1 0\nclass 6 100 11 0\nobject a 16 100\nobject b 5 10\nobject c 0 5\n",
 };
 
-/// What `check` or `map` puts of a file, which is a store. The disk is given back.
-pub fn try_text(
-    rt: &impl Abort,
-    alloc: Global,
-    disk: MemDisk,
-    words: &[&str],
-    text: &str,
-    at: (u64, Choice),
-) -> Result<MemDisk, Fail> {
-    let ran = run_on(alloc, words, true, disk, Vec::new(alloc))?;
-    assert_eq!(rt; ran.put.as_slice(), text.as_bytes(), "call {at:?}");
-    assert_eq!(rt; ran.outcome, ended(0), "call {at:?}");
-    Ok(ran.disk)
-}
-
 /// Opens a file by the further session: it has each object of the map with its bytes, and then its book. The
 /// disk is given back.
 pub fn try_map(
@@ -60,7 +47,7 @@ pub fn try_map(
     alloc: Global,
     disk: MemDisk,
     map: &Map,
-    at: (u64, Choice),
+    row: &impl Debug,
 ) -> Result<MemDisk, Fail> {
     let ran = session(alloc, disk, LOOK, 7)?;
     // All calls were those of the opening.
@@ -70,8 +57,6 @@ pub fn try_map(
         kept_done: 0,
         kept_turn: ran.disk.turns(),
     };
-    let puts = joined(alloc, map.puts)?;
-    assert_eq!(rt; ran.put.as_slice(), puts.as_slice(), "call {at:?}");
-    assert_eq!(rt; ran.outcome, outcome, "call {at:?}");
-    try_text(rt, alloc, ran.disk, &["map", "f"], map.map, at)
+    try_ran(rt, alloc, &ran, map.puts, outcome, row)?;
+    try_told(rt, alloc, ran.disk, MAP, map.map, row)
 }

@@ -1,16 +1,17 @@
 //! A session of three puts and three removals, over a disk that stops after each number of changing calls.
-use crate::maps::{Map, NONE, ONE, THREE, try_map};
-use costore_top::Outcome;
+use crate::answers::{serve_parts, try_holds, try_number, try_ran};
+use crate::opened_maps::{Map, NONE, ONE, THREE, try_map};
 use disk_face::Disk;
 use disk_mem::{Choice, Fuse, MemDisk};
+use row_vectors::Outcome;
 use row_vectors::inputs::{KEPT, OK, PUT_A, PUT_B, PUT_C};
-use row_vectors::runs::{formatted, joined, session};
+use row_vectors::runs::formatted;
 use std::alloc::Global;
 use std::process::Abort;
 use std::test::Fail;
 
 /// The requests make 12, 1, 23, 0, 0, 0, 19 and 9 changing calls.
-const REQUESTS: [&str; 8] = [
+const REQUESTS: &[&str] = &[
     PUT_A, PUT_B, PUT_C, "list\n", "stat\n", "del b\n", "del c\n", "del a\n",
 ];
 
@@ -45,18 +46,20 @@ macro_rules! reaches {
     };
 }
 
+/// How far it comes by its stops.
+const REACHES: &[Reach] = &reaches! {
+    0 => [FAULT], 7 (0, 0, 10);
+    12 => [KEPT, FAULT], 7 (1, 1, 22);
+    13 => [KEPT, OK, FAULT], 7 (2, 1, 22);
+    36 => [KEPT, OK, KEPT, LIST, STAT, OK, FAULT], 7 (6, 3, 46);
+    55 => [KEPT, OK, KEPT, LIST, STAT, OK, KEPT, FAULT], 7 (7, 7, 65);
+    64 => [KEPT, OK, KEPT, LIST, STAT, OK, KEPT, KEPT], 0 (8, 8, 74);
+};
+
 /// How far the session comes at a stop.
 fn reach_of(calls: u64) -> Result<Reach, Fail> {
-    let reaches = reaches! {
-        0 => [FAULT], 7 (0, 0, 10);
-        12 => [KEPT, FAULT], 7 (1, 1, 22);
-        13 => [KEPT, OK, FAULT], 7 (2, 1, 22);
-        36 => [KEPT, OK, KEPT, LIST, STAT, OK, FAULT], 7 (6, 3, 46);
-        55 => [KEPT, OK, KEPT, LIST, STAT, OK, KEPT, FAULT], 7 (7, 7, 65);
-        64 => [KEPT, OK, KEPT, LIST, STAT, OK, KEPT, KEPT], 0 (8, 8, 74);
-    };
     let mut last = None;
-    for reach in &reaches {
+    for reach in REACHES {
         if reach.from <= calls {
             last = Some(*reach);
         }
@@ -79,21 +82,27 @@ macro_rules! checkpoints {
     };
 }
 
-/// The checkpoint of an image of the last turn, in which a gate is open where it was written, or synced.
-fn checkpoint_of(calls: u64, choice: Choice) -> Result<Checkpoint, Fail> {
-    let checkpoints = checkpoints! {
-        0 => 0 NONE;
-        9 => 1 ONE;
-        23 => 3 THREE;
-        44 => 7 ONE;
-        61 => 8 NONE;
-    };
-    let seen = match choice {
+/// The checkpoints of the session.
+const CHECKPOINTS: &[Checkpoint] = &checkpoints! {
+    0 => 0 NONE;
+    9 => 1 ONE;
+    23 => 3 THREE;
+    44 => 7 ONE;
+    61 => 8 NONE;
+};
+
+/// Up to which call an image of the last turn has an open gate: where it was written, or synced.
+fn seen_at(calls: u64, choice: Choice) -> u64 {
+    match choice {
         Choice::Newest => calls,
         Choice::Torn(_) | Choice::Durable => calls.saturating_sub(1),
-    };
+    }
+}
+
+/// The last checkpoint up to a call.
+fn checkpoint_of(seen: u64) -> Result<Checkpoint, Fail> {
     let mut last = None;
-    for checkpoint in &checkpoints {
+    for checkpoint in CHECKPOINTS {
         if checkpoint.gate <= seen {
             last = Some(*checkpoint);
         }
@@ -101,22 +110,31 @@ fn checkpoint_of(calls: u64, choice: Choice) -> Result<Checkpoint, Fail> {
     Ok(last.ok_or("a checkpoint")?)
 }
 
+/// A fresh file in a fuse that stops after so many calls.
+fn fused(alloc: Global, calls: u64) -> Result<Fuse<MemDisk>, Fail> {
+    Ok(Fuse::stop_after(formatted(alloc, "9")?, calls))
+}
+
 /// Serves the session up to a stop, on a fresh file, and gives the disk inside back.
 fn stopped(rt: &impl Abort, alloc: Global, calls: u64, reach: &Reach) -> Result<MemDisk, Fail> {
-    let fuse = Fuse::stop_after(formatted(alloc, "9")?, calls);
-    let input = joined(alloc, &REQUESTS)?;
-    let ran = session(alloc, fuse, &input, 7)?;
-    let puts = joined(alloc, reach.puts)?;
-    assert_eq!(rt; ran.put.as_slice(), puts.as_slice(), "stop after {calls}");
-    assert_eq!(rt; ran.outcome, reach.outcome, "stop after {calls}");
+    let fuse = fused(alloc, calls)?;
+    let ran = serve_parts(alloc, fuse, REQUESTS, 7)?;
+    try_ran(rt, alloc, &ran, reach.puts, reach.outcome, &calls)?;
     let disk = ran.disk.into_inner();
     // The format made 10.
-    assert_eq!(rt; disk.turns(), calls.saturating_add(10));
+    try_number(rt, disk.turns(), calls.saturating_add(10), &calls);
     Ok(disk)
 }
 
-/// An image of the last turn. It has the map at the last acknowledged checkpoint, or, where the session
-/// stopped, the one after the request that it stopped in.
+/// Whether a checkpoint is the last acknowledged one, or, where the session stopped, the one after the
+/// request that it stopped in.
+fn is_left(checkpoint: &Checkpoint, outcome: &Outcome) -> bool {
+    let is_acknowledged = checkpoint.requests == outcome.kept_done;
+    let is_next = outcome.status == 7 && checkpoint.requests == outcome.done.saturating_add(1);
+    is_acknowledged || is_next
+}
+
+/// An image of the last turn. It has the map at one of these.
 fn try_image(
     rt: &impl Abort,
     alloc: Global,
@@ -124,24 +142,29 @@ fn try_image(
     outcome: &Outcome,
     at: (u64, Choice),
 ) -> Result<(), Fail> {
-    let checkpoint = checkpoint_of(at.0, at.1)?;
-    let is_acknowledged = checkpoint.requests == outcome.kept_done;
-    let is_next = outcome.status == 7 && checkpoint.requests == outcome.done.saturating_add(1);
-    assert!(rt; is_acknowledged || is_next, "stop after {at:?}");
-    let turn = disk.turns();
-    let image = disk.image(turn, at.1)?;
-    let opened = MemDisk::from_bytes(alloc, &image)?;
-    try_map(rt, alloc, opened, &checkpoint.map, at)?;
+    let checkpoint = checkpoint_of(seen_at(at.0, at.1))?;
+    try_holds(rt, is_left(&checkpoint, outcome), &at);
+    let opened = last_image(alloc, disk, at.1)?;
+    try_map(rt, alloc, opened, &checkpoint.map, &at)?;
     Ok(())
 }
 
-/// What a crash leaves of a session that stopped: what the last sync left, what reads give, and this with one
-/// value in each byte that isn't synced.
+/// A disk that holds an image of the last turn.
+fn last_image(alloc: Global, disk: &MemDisk, choice: Choice) -> Result<MemDisk, Fail> {
+    let turn = disk.turns();
+    let image = disk.image(turn, choice)?;
+    Ok(MemDisk::from_bytes(alloc, &image)?)
+}
+
+/// What the last sync left, what reads give, and this with one value in each byte that isn't synced.
+const CHOICES: &[Choice] = &[Choice::Durable, Choice::Newest, Choice::Torn(90)];
+
+/// What a crash leaves of a session that stopped.
 fn try_stop(rt: &impl Abort, alloc: Global, calls: u64) -> Result<(), Fail> {
     let reach = reach_of(calls)?;
     let disk = stopped(rt, alloc, calls, &reach)?;
-    for choice in [Choice::Durable, Choice::Newest, Choice::Torn(90)] {
-        try_image(rt, alloc, &disk, &reach.outcome, (calls, choice))?;
+    for choice in CHOICES {
+        try_image(rt, alloc, &disk, &reach.outcome, (calls, *choice))?;
     }
     Ok(())
 }

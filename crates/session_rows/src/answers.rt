@@ -1,0 +1,90 @@
+//! What a run put, how it ended and what it left, beside what its row expects.
+ghost use Rattle.std.specs.Prelude.{IsTrue};
+
+use disk_face::Disk;
+use disk_mem::MemDisk;
+use row_vectors::Outcome;
+use row_vectors::runs::{Ran, ended, joined, run_on, session};
+use std::alloc::Global;
+use std::fmt::Debug;
+use std::process::Abort;
+use std::test::Fail;
+
+/// The words of the commands that tell what a file is.
+pub const CHECK: &[&str] = &["check", "f"];
+
+pub const MAP: &[&str] = &["map", "f"];
+
+/// The bytes of a row are the expected ones.
+pub fn try_bytes(rt: &impl Abort, bytes: &[u8], expected: &[u8], row: &impl Debug) {
+    assert_eq!(rt; bytes, expected, "{row:?}");
+}
+
+/// The status and the numbers of a row are the expected ones.
+pub fn try_outcome(rt: &impl Abort, outcome: Outcome, expected: Outcome, row: &impl Debug) {
+    assert_eq!(rt; outcome, expected, "{row:?}");
+}
+
+/// A number of a row is the expected one.
+pub fn try_number(rt: &impl Abort, number: u64, expected: u64, row: &impl Debug) {
+    assert_eq!(rt; number, expected, "{row:?}");
+}
+
+/// What holds of a row.
+pub fn try_holds(rt: &impl Abort, holds: bool, row: &impl Debug) {
+    assert!(rt; holds, "{row:?}");
+}
+
+/// What was put, by its parts.
+pub fn try_puts(
+    rt: &impl Abort,
+    alloc: Global,
+    put: &[u8],
+    puts: &[&str],
+    row: &impl Debug,
+) -> Result<(), Fail> {
+    let expected = joined(alloc, puts)?;
+    try_bytes(rt, put, &expected, row);
+    Ok(())
+}
+
+/// What a run put, by its parts, and its numbers.
+pub fn try_ran<D: Disk>(
+    rt: &impl Abort,
+    alloc: Global,
+    ran: &Ran<D>,
+    puts: &[&str],
+    outcome: Outcome,
+    row: &impl Debug,
+) -> Result<(), Fail> {
+    try_outcome(rt, ran.outcome, outcome, row);
+    try_puts(rt, alloc, &ran.put, puts, row)
+}
+
+/// What `check` or `map` puts of a file, which is a store. The disk is given back.
+pub fn try_told(
+    rt: &impl Abort,
+    alloc: Global,
+    disk: MemDisk,
+    words: &[&str],
+    text: &str,
+    row: &impl Debug,
+) -> Result<MemDisk, Fail> {
+    let ran = run_on(alloc, words, true, disk, Vec::new(alloc))?;
+    try_bytes(rt, &ran.put, text.as_bytes(), row);
+    try_outcome(rt, ran.outcome, ended(0), row);
+    Ok(ran.disk)
+}
+
+/// Serves an input, by its parts, in pieces of at most so many bytes.
+pub fn serve_parts<D: Disk + Drop>(
+    alloc: Global,
+    disk: D,
+    parts: &[&str],
+    piece: usize,
+) -> Result<Ran<D>, Fail>
+    requires ready { IsTrue (D.state disk).is_ready }
+{
+    let input = joined(alloc, parts)?;
+    session(alloc, disk, &input, piece)
+}
