@@ -1,6 +1,5 @@
 pub mod CountLaws
 pub mod EndLaws
-pub mod FixtureLaws
 pub mod LastLaws
 pub mod LayGoesLaws
 pub mod LayRowLaws

@@ -4,22 +4,12 @@
 
 mod again;
 mod counts;
-#[cfg(test)]
-mod draws;
-#[cfg(test)]
-mod fixtures;
 mod lay;
 mod lift;
 mod pack;
-#[cfg(test)]
-mod passes;
 mod ranks;
 mod settled;
 mod shelf;
-#[cfg(test)]
-mod slow;
-#[cfg(test)]
-mod tests;
 mod volumes;
 
 pub use again::numbers_again;

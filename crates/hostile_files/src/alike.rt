@@ -1,7 +1,7 @@
 //! Opening by `read_state`, which the program uses, beside the plain way: they are to agree.
 use disk_mem::MemDisk;
 use extent_table::Spot;
-use plain_opening::{Opened, Refusal, open};
+use plain_layout::{Opened, Refusal, open};
 use reopen::{Loaded, OpenFault, State, read_state};
 use slot_codec::Kind;
 use std::alloc::Global;

@@ -1,5 +1,5 @@
 //! Tries the opening of files with tables that were spoilt: a thousand, each with one, two or three
-//! parts that its number draws, are opened by `read_state` and by `plain_opening`. It prints how many
+//! parts that its number draws, are opened by `read_state` and by `plain_layout`. It prints how many
 //! are still opened, how many are refused for each reason, and on how many the two differ.
 #![tactic(auto)]
 

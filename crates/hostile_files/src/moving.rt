@@ -1,6 +1,6 @@
 //! A worked file with a moving table, its changes, and what each opens to.
 use crate::openings::{Row, open_plainly, stand, try_rows};
-use plain_opening::Refusal;
+use plain_layout::Refusal;
 use row_vectors::images::MOVING;
 use std::test::Fail;
 

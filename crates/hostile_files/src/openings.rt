@@ -1,7 +1,7 @@
-//! A worked file, its changes, and what each opens to, by `plain_opening` and by `read_state` alike.
+//! A worked file, its changes, and what each opens to, by `plain_layout` and by `read_state` alike.
 use crate::alike::{Parting, Seen, opened_by_both};
 use disk_mem::MemDisk;
-use plain_opening::{Opened, Refusal, open};
+use plain_layout::{Opened, Refusal, open};
 use row_vectors::images::{Change, disk};
 use slot_codec::{CodecFault, Name};
 use slot_pair::SlotFault;
@@ -115,7 +115,7 @@ fn refuses_by_the_first_rule_that_two_objects_break(rt: HostRuntime) -> Result<(
     try_rows(&rt, rt.alloc(), &TWO, &TWO_OBJECTS)
 }
 
-/// What `plain_opening` makes of a hand-made file.
+/// What `plain_layout` makes of a hand-made file.
 pub fn open_plainly(alloc: Global, length: usize, changes: &[Change]) -> Result<Opened, Fail> {
     let mut file = disk(alloc, length, changes, &[])?;
     match open(alloc, &mut file, 21, 1_048_576) {

@@ -1,4 +1,4 @@
-//! Worked files of which one byte is spoiled: `plain_opening` and `read_state` agree on each.
+//! Worked files of which one byte is spoiled: `plain_layout` and `read_state` agree on each.
 use crate::openings::refusal_by_both;
 use row_vectors::images::{Change, MOVING, disk};
 use std::alloc::Global;

@@ -2,7 +2,7 @@
 ghost use Rattle.std.specs.Prelude.{◌<◌};
 
 use crate::alike::{Parting, Seen};
-use plain_opening::Refusal;
+use plain_layout::Refusal;
 use slot_codec::CodecFault;
 use slot_pair::SlotFault;
 use std::io;

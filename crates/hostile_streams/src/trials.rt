@@ -5,7 +5,7 @@ use crate::spoils::spoil;
 use disk_face::Disk;
 use disk_mem::{Choice, MemDisk};
 use drawn_words::Drawn;
-use plain_opening::open;
+use plain_layout::open;
 use row_vectors::Outcome;
 use row_vectors::runs::{Ran, formatted, session};
 use slot_codec::Record;

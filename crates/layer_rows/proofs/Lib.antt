@@ -1,1 +1,3 @@
-pub mod VolumeLemmas
+mod FlushBeginLaws
+mod ListedLaws
+mod VolumeLemmas

@@ -1,3 +1,6 @@
 pub mod SumSteps
 pub mod ChargeSteps
 pub mod ChangeLemmas
+mod Reading
+mod Tables
+mod ObjectLaws

@@ -1,4 +1,5 @@
-//! The definitions of layouts, tables and books as plain and slow programs, to be tried on examples.
+//! The definitions of layouts, tables and books as plain and slow programs, to be tried on examples; and so
+//! is the way from a file to the map and the book for which it stands.
 #![tactic(auto)]
 
 mod balance;
@@ -7,19 +8,21 @@ mod bounds;
 mod change;
 mod class;
 mod first;
+mod objects;
+mod opened;
 mod opening;
+mod record_list;
 mod resume;
 mod rules;
 mod settle;
 mod sums;
 mod table;
-#[cfg(test)]
-mod tests;
 
 pub use book::{Book, Charged};
 pub use bounds::{Sizes, is_loose, is_tight};
 pub use change::{Next, items_of};
 pub use class::class_of;
 pub use first::{Rule, rule_of};
+pub use opened::{Opened, Refusal, open};
 pub use settle::volume_of;
 pub use table::Table;

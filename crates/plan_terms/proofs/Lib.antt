@@ -1,7 +1,6 @@
 pub mod BeginLaws
 pub mod BoundLaws
 pub mod FinalLaws
-pub mod FixtureLaws
 pub mod FrontLaws
 pub mod ItemLaws
 pub mod LargestLaws

@@ -5,7 +5,7 @@ ghost use Rattle.slot_codec.specs.Reading.{all_in_range};
 use disk_face::{Disk, length_of};
 use disk_mem::MemDisk;
 use extent_table::{Spot, Table, a_table_can_be_saved};
-use plain_opening::open;
+use plain_layout::open;
 use size_class::SIZE_MAX;
 use slot_codec::{Header, Name, SuperBlock};
 use slot_pair::SlotPair;

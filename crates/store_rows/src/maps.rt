@@ -1,7 +1,7 @@
 //! The names of a file and their bytes, wherever they stand.
 use crate::checkpoints::{Object, has_bytes};
 use disk_mem::MemDisk;
-use plain_opening::open;
+use plain_layout::open;
 use size_class::SIZE_MAX;
 use std::alloc::Global;
 use std::test::Fail;

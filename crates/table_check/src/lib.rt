@@ -12,8 +12,6 @@ mod places;
 mod resume;
 mod room;
 mod spots;
-#[cfg(test)]
-mod tests;
 
 pub use check::{check_moving, check_settled};
 pub use fault::TableFault;

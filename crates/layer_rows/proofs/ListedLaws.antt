@@ -1,0 +1,86 @@
+-- A list in the order of places is a shelf, and stays one through the moves of a flush.
+use Rattle.std.specs.Prelude.{◌≡◌, ℕ, ◌≤◌, nat_le, List, [], ◌∷◌, slice_get, slice_index_or, Some, Contains, IsPermutation, refl}
+use Rattle.std.specs.List.Sorted.{IsNonDecreasingBy}
+use Rattle.std.proofs.Common.{arith, sym, ◌∙◌, ap, subst, inl, inr}
+use Rattle.std.proofs.lemmas.Bool.{cases_order, cond-true, le-leb}
+use Rattle.std.proofs.lemmas.List.Sorted.{IsPermutation-map, IsPermutation-trans}
+use Rattle.std.proofs.lemmas.Option.{slice_get-get_or}
+use Rattle.plan_terms.specs.declared.item.Item.{Item}
+use Rattle.plan_terms.specs.declared.item.Move.{Move}
+use Rattle.plan_terms.specs.declared.item.Numbers.{Numbers}
+use Rattle.plan_terms.specs.Plans.{moved_item, relocated}
+use Rattle.plan_terms.specs.Phases.{AreItems}
+use Rattle.plan_terms.proofs.ListLaws.{contains_here, contains_later, got_at}
+use Rattle.plan_terms.proofs.SortLaws.{items_permuted, rising_from_sorted}
+use Rattle.flush_plan.specs.Shelves.{from_place, IsOnShelf, IsRank, IsShelf}
+use Rattle.flush_plan.specs.Lifts.{Lift, Lifts}
+use Rattle.flush_plan.specs.Packs.{Pack, Packs}
+use Rattle.flush_plan.specs.Lays.{Lay, Lays}
+use Rattle.layer_rows.specs.Listed.{LaysList, LiftsList, PacksList}
+use Rattle.flush_plan.proofs.ShelfLaws.{places_rise}
+
+pub all_from : (start : ℕ) (xs : List Item) → ((it : Item) → Contains xs it → start ≤ it.place)
+    → from_place start xs ≡ xs
+all_from start [] each = refl
+all_from start (x ∷ xs) each =
+    cond-true (nat_le start x.place) (x ∷ from_place start xs) (from_place start xs)
+    (le-leb start x.place (each x (contains_here x xs)))
+    ∙ ap (λ ys. x ∷ ys) (all_from start xs (λ it has. each it (contains_later x it xs has)))
+
+pub is_shelf : (n : Numbers) (xs : List Item) → AreItems n xs → IsNonDecreasingBy (λ it. it.place) xs
+    → IsShelf xs
+is_shelf n xs are sorted = record {
+  some = are.some;
+  keys = λ i j a b less at_a at_b. (are.apart i j a b less at_a at_b).keys;
+  rising = λ i j a b less at_a at_b. elim (are.apart i j a b less at_a at_b).bytes [
+    | inl e ↦ e
+    | inr e ↦ absurd (omega (arith, e, rising_from_sorted n xs are sorted i j a b less at_a at_b))
+  ];
+}
+
+-- items in whatever order stand on the shelf that is their list by place
+pub listed : (n : Numbers) (items xs : List Item) → AreItems n items → IsPermutation items xs
+    → IsNonDecreasingBy (λ it. it.place) xs → IsOnShelf n.start items xs
+listed n items xs are same sorted =
+    let there = items_permuted items xs same n are in
+    record {
+      rises = is_shelf n xs there sorted;
+      same = subst (IsPermutation items) (sym (all_from n.start xs there.start)) same;
+    }
+
+-- items that a phase keeps are those that it goes on over
+pub lifts_on : {C k : ℕ} {v : Lift} {xs : List Item} (h : LiftsList C k v xs) → Lifts C v h.items xs
+lifts_on {C} {k} {v} {xs} h =
+    record { keeps = h.keeps; on = listed v.course.numbers h.items xs h.keeps.lifting.items h.same h.rising }
+
+pub packs_on : {C k : ℕ} {v : Pack} {xs : List Item} (h : PacksList C k v xs) → Packs C v h.items xs
+packs_on {C} {k} {v} {xs} h =
+    record { keeps = h.keeps; on = listed v.course.numbers h.items xs h.keeps.packing.items h.same h.rising }
+
+pub lays_on : {C k : ℕ} {v : Lay} {xs : List Item} (h : LaysList C k v xs) → Lays C v h.items xs
+lays_on {C} {k} {v} {xs} h = record {
+  keeps = h.keeps;
+  on = listed v.course.numbers h.items xs h.keeps.laying.packing.items h.same h.rising;
+}
+
+-- the object at the rank of its place
+pub at_rank : (xs : List Item) → IsShelf xs → (m : Item) → Contains xs m → (rank : ℕ)
+    → IsRank xs m.place rank → slice_get xs rank ≡ Some m
+at_rank xs rises m has rank is = elim (cases_order has.0 rank) [
+  | inl e ↦ subst (λ i. slice_get xs i ≡ Some m) e (got_at m xs has)
+  | inr (inl less) ↦ absurd (omega (arith, is.before has.0 m less (got_at m xs has)))
+  | inr (inr more) ↦
+      let a = slice_index_or xs rank m in
+      let at : slice_get xs rank ≡ Some a = slice_get-get_or xs rank m (omega (arith, more, has.1)) in
+      absurd (omega (
+        arith,
+        is.from rank a (omega arith) at,
+        places_rise xs rises rank has.0 a m more at (got_at m xs has),
+      ))
+]
+
+-- what a move leaves
+pub relisted : (items xs ys : List Item) (mv : Move) → IsPermutation items xs
+    → IsPermutation (relocated mv.key mv.to xs) ys → IsPermutation (relocated mv.key mv.to items) ys
+relisted items xs ys mv same after = IsPermutation-trans (relocated mv.key mv.to items)
+    (relocated mv.key mv.to xs) ys (IsPermutation-map (moved_item mv.key mv.to) items xs same) after

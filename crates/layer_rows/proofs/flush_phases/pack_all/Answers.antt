@@ -1,0 +1,75 @@
+use Rattle.std.proofs.Common.{arith, ap, refl, sym, subst, ◌∙◌}
+use Rattle.std.proofs.lemmas.List.Sorted.{Contains-permutation}
+use Rattle.plan_terms.specs.Phases.{IsPackedWhole}
+use Rattle.plan_terms.specs.Plans.{mover, relocated}
+use Rattle.plan_terms.proofs.SortLaws.{items_permuted}
+use Rattle.flush_plan.specs.Shelves.{Course, phase_on}
+use Rattle.flush_plan.specs.Packs.{Pack, Packs}
+use Rattle.layer_rows.proofs.ListedLaws.{packs_on, relisted}
+use Rattle.layer_rows.proofs.flush_phases.pack_all.Goals as goal
+
+pub next-requires : goal.next-requires
+next-requires g c =
+    let h = c.packs.invariant in
+    (omega arith, (h.items, packs_on h))
+
+pub relocate-requires-clause-items : goal.relocate-requires-clause-items
+relocate-requires-clause-items g c =
+    let h = c.packs.invariant in
+    let n = c.packs.packing.course.numbers in
+    (n, items_permuted h.items c.packs.shelf.items.items h.same n h.keeps.packing.items)
+
+pub relocate-requires-clause-has : goal.relocate-requires-clause-has
+relocate-requires-clause-has g c =
+    let h = c.packs.invariant in
+    let xs = c.packs.shelf.items.items in
+    Contains-permutation h.items xs (mover c.in-Some.mv) h.same
+    (c.in-Some.ensures.step h.items (packs_on h)).item.has
+
+pub packs-preserved : goal.packs-preserved
+packs-preserved g c =
+    let h = c.packs.invariant in
+    let xs = c.packs.shelf.items.items in
+    let mv = c.in-Some.mv in
+    record {
+      items = relocated mv.key mv.to h.items;
+      divisor = ap (λ (x : Course). x.k) c.in-Some.ensures.course ∙ h.divisor;
+      keeps = c.in-Some.ensures.keeps h.items (packs_on h);
+      same = relisted h.items xs c.relocate.new.self.items.items mv h.same c.relocate.ensures.same;
+      rising = c.relocate.ensures.rising;
+    }
+
+pub into_laying-requires : goal.into_laying-requires
+into_laying-requires g c =
+    let h = c.packs.invariant in
+    let xs = c.packs.shelf.items.items in
+    let packs = packs_on h in
+    let same = sym (c.in-None.ensures.same refl) in (
+      omega arith,
+      (
+        omega arith,
+        (
+          h.items,
+          subst (λ u. Packs g.row.C u h.items xs) same packs,
+          subst (λ (u : Pack). IsPackedWhole (phase_on u.course h.items)) same
+              ((c.in-None.ensures.end h.items packs).0 refl),
+        ),
+      ),
+    )
+
+pub returns-in-None : goal.returns-in-None
+returns-in-None g c =
+    let h = c.packs.invariant in
+    let xs = c.packs.shelf.items.items in
+    let packs = packs_on h in
+    let same = sym (c.in-None.ensures.same refl) in
+    record {
+      items = h.items;
+      divisor = ap (λ (x : Course). x.k) (c.into_laying.ensures.course ∙ c.in-None.ensures.course)
+          ∙ h.divisor;
+      keeps = c.into_laying.ensures.keeps h.items (subst (λ u. Packs g.row.C u h.items xs) same packs)
+          (subst (λ (u : Pack). IsPackedWhole (phase_on u.course h.items)) same
+          ((c.in-None.ensures.end h.items packs).0 refl));
+      same = h.same;
+      rising = h.rising;
+    }

@@ -1,0 +1,56 @@
+-- From the parts of a table to the table.
+use Rattle.std.specs.Prelude.{◌≡◌, refl, ℕ, List, Result, Ok}
+use Rattle.std.proofs.Common.{ap, sym, subst, ◌∙◌}
+use Rattle.byte_ranges.specs.Lists.{◌>>=◌}
+use Rattle.slot_codec.specs.Choice.{SlotRefusal, Chosen, Table, slot_in_use, chosen, records_of, table_of}
+use Rattle.slot_codec.specs.declared.codec.Record.{Record}
+use Rattle.slot_pair.specs.Finding.{Refuses}
+use Rattle.slot_pair.specs.declared.find.SlotFault.{SlotFault}
+use Rattle.plain_layout.specs.Refusals.{RefusesBy}
+use Rattle.plain_layout.specs.Opened.{RefusesToOpen}
+use Rattle.plain_layout.specs.declared.opened.Refusal.{Refusal}
+use Rattle.plain_layout.specs.declared.opened.Refusal.TheVariants as refusal
+use Rattle.plain_layout.proofs.Reading.{refuses_on, refuses_by_on}
+
+with_records : Chosen → List Record → Result Table SlotRefusal
+with_records c rs = Ok (record { chosen = c; records = rs })
+
+of_chosen : List ℕ → Chosen → Result Table SlotRefusal
+of_chosen file c = records_of file c >>= with_records c
+
+by_chosen : (file : List ℕ) → table_of file ≡ (chosen file >>= of_chosen file)
+unfolding table_of of_chosen with_records
+by_chosen file = refl
+
+-- a refusal to find the slot in use
+pub no_slot : (file : List ℕ) (why : SlotFault) → Refuses (slot_in_use file) why → Refuses (chosen file) why
+no_slot file why h = refuses_on (slot_in_use file) _ why h
+
+-- a refusal of its header
+pub no_header : (file : List ℕ) (why : SlotFault) → Refuses (chosen file) why → Refuses (table_of file) why
+no_header file why h = subst (λ x. Refuses x why) (sym (by_chosen file))
+    (refuses_on (chosen file) (of_chosen file) why h)
+
+by_records : (file : List ℕ) (c : Chosen) → chosen file ≡ Ok c
+    → table_of file ≡ (records_of file c >>= with_records c)
+unfolding of_chosen
+by_records file c h = by_chosen file ∙ ap (λ x. x >>= of_chosen file) h
+
+-- a refusal of its records
+pub no_records : (file : List ℕ) (c : Chosen) (why : Refusal) → chosen file ≡ Ok c
+    → RefusesBy (records_of file c) why → RefusesBy (table_of file) why
+no_records file c why h bad = subst (λ x. RefusesBy x why) (sym (by_records file c h))
+    (refuses_by_on (records_of file c) (with_records c) why bad)
+
+-- a file whose table is refused isn't opened
+pub no_table : (classes size_max : ℕ) (file : List ℕ) (why : Refusal) → RefusesBy (table_of file) why
+    → RefusesToOpen classes size_max file why
+no_table classes size_max file (refusal.Slot f) h = h
+no_table classes size_max file (refusal.Rule number at) h = absurd h
+no_table classes size_max file refusal.NoMemory h = h
+
+-- the table
+pub a_table : (file : List ℕ) (c : Chosen) (rs : List Record) → chosen file ≡ Ok c → records_of file c ≡ Ok rs
+    → table_of file ≡ Ok (record { chosen = c; records = rs })
+unfolding with_records
+a_table file c rs h good = by_records file c h ∙ ap (λ x. x >>= with_records c) good
