@@ -1,4 +1,6 @@
 //! A worked file, its changes, and what each opens to, by `plain_layout` and by `read_state` alike.
+ghost use Rattle.std.specs.Prelude.{◌≤◌, IfOk};
+
 use crate::alike::{Parting, Seen, opened_by_both};
 use disk_mem::MemDisk;
 use plain_layout::{Opened, Refusal, open};
@@ -116,7 +118,9 @@ fn refuses_by_the_first_rule_that_two_objects_break(rt: HostRuntime) -> Result<(
 }
 
 /// What `plain_layout` makes of a hand-made file.
-pub fn open_plainly(alloc: Global, length: usize, changes: &[Change]) -> Result<Opened, Fail> {
+pub fn open_plainly(alloc: Global, length: usize, changes: &[Change]) -> Result<Opened, Fail>
+    ensures divisor { IfOk result (λ o. (2 ≤ o.table.k) × (o.table.k ≤ 64)) }
+{
     let mut file = disk(alloc, length, changes, &[])?;
     match open(alloc, &mut file, 21, 1_048_576) {
         Ok(opened) => Ok(opened),
