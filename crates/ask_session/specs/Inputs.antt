@@ -1,5 +1,5 @@
 -- What is read of an input: bytes that were read ahead, and then what the source has left.
-use Rattle.std.specs.Prelude.{◌≡◌, ℕ, ◌≤◌, ◌<◌, Bool, true, false, List, [], ◌∷◌, ◌++◌, length, take, drop, Option, Some, None, Result, Ok, Err, IfOk, OnErr}
+use Rattle.std.specs.Prelude.{◌≡◌, ℕ, ◌≤◌, ◌<◌, Bool, true, false, List, [], ◌∷◌, ◌++◌, length, take, drop, Option, Some, None, Result, Ok, Err, IfOk, IfSome, OnErr}
 use Rattle.std.specs.List.{AllByRecursion}
 use Rattle.disk_face.specs.Counts.{Rose}
 use Rattle.store_terms.specs.Requests.{Request}
@@ -63,6 +63,10 @@ pub record HoldsObject (told : Type 0) (input rest : List ℕ) (size : ℕ) (bod
   pub long : length object ≡ size
   pub held : size ≤ SIZE_MAX → take size body ≡ object
   pub whole : told → input ≡ object ++ rest
+
+-- the buffer is as long as the object of the line, where that isn't too long
+abbrev pub HoldsSize : Ask → List ℕ → Type 0
+HoldsSize a body = IfSome (size_asked a) (λ size. size ≤ SIZE_MAX → size ≤ length body)
 
 -- the object of a put stands in the buffer, where it isn't too long
 abbrev pub HasBody : List ℕ → Request → Type 0

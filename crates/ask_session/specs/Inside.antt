@@ -1,5 +1,5 @@
 -- What a session's contracts see of its fields.
-use Rattle.std.specs.Prelude.{◌≡◌, ℕ, vec_len}
+use Rattle.std.specs.Prelude.{ℕ, ◌≤◌, vec_capacity}
 use Rattle.size_class.specs.declared.TheConstants.{SIZE_MAX}
 use Rattle.ask_session.specs.declared.session.Session.TheInside.{Inside}
 use Rattle.ask_session.specs.Sittings.{Sitting}
@@ -14,6 +14,6 @@ sitting_of s = record {
   kept_turn = s.kept_turn;
 }
 
--- its body has room for the longest object
+-- its body has room for the longest object, and is as long as the longest one so far
 abbrev pub HasRoom : {C : ℕ} → Inside C → Type 0
-HasRoom s = vec_len s.body ≡ SIZE_MAX
+HasRoom s = SIZE_MAX ≤ vec_capacity s.body

@@ -1,5 +1,5 @@
 //! Reading the object of a put, and its newline.
-ghost use Rattle.std.specs.Prelude.{◌≡◌, ◌≤◌, ◌<◌, ◌++◌, ◌∷◌, ℕ, List, false, true, length, drop, IfOk, IfErr, IsTrue, Err, Ok, OnOk};
+ghost use Rattle.std.specs.Prelude.{◌≡◌, ◌≤◌, ◌<◌, ◌++◌, ◌∷◌, ℕ, List, false, true, length, drop, IfOk, IfErr, IsTrue, Err, Ok, OnOk, vec_capacity, vec_len};
 ghost use Rattle.disk_face.specs.Counts.{HasCause};
 ghost use Rattle.ask_session.specs.Inputs.{HasSourceCause, HoldsObject, IsInputFault, LacksObject};
 
@@ -9,17 +9,19 @@ use disk_face::{Source, SourceFault};
 use size_class::SIZE_MAX;
 
 /// Reads an object of so many bytes, and the newline behind it, into the front of `body`. One that is
-/// longer than `body` is read and dropped.
+/// longer than the longest object is read and dropped.
 pub(crate) fn read_object<I: Source>(
     ahead: &mut Ahead,
     input: &mut I,
     size: u64,
-    body: &mut [u8],
+    body: &mut Vec<u8>,
 ) -> Result<(), End>
-    requires room { length body.old ≡ SIZE_MAX }
+    requires room { SIZE_MAX ≤ vec_capacity body.old }
     ensures object { OnOk result (HoldsObject (IsTrue (I.state input.old).tells) (ahead.old
         ++ (I.state input.old).left)
-        (10 ∷ (ahead.new ++ (I.state input.new).left)) size body.new) }
+        (10 ∷ (ahead.new ++ (I.state input.new).left)) size body.new.items) }
+    ensures long { OnOk result (size ≤ SIZE_MAX → size ≤ vec_len body.new) }
+    ensures same_room { vec_capacity body.old ≤ vec_capacity body.new }
     ensures only { IfErr result IsInputFault }
     ensures no_end { result ≡ Err End.End → ⊥ }
     ensures none { IsTrue (I.state input.old).tells → result ≡ Err End.Line
@@ -34,17 +36,19 @@ pub(crate) fn read_object<I: Source>(
     }
 }
 
-/// Takes so many bytes into the front of `body`, or drops them where it has no room for them; false
-/// where the input ends before.
+/// Takes so many bytes into the front of `body`, or drops them where they are more than any object has;
+/// false where the input ends before.
 fn take_body<I: Source>(
     ahead: &mut Ahead,
     input: &mut I,
     size: u64,
-    body: &mut [u8],
+    body: &mut Vec<u8>,
 ) -> Result<bool, SourceFault>
-    requires room { length body.old ≡ SIZE_MAX }
+    requires room { SIZE_MAX ≤ vec_capacity body.old }
     ensures object { result ≡ Ok true → HoldsObject (IsTrue (I.state input.old).tells)
-        (ahead.old ++ (I.state input.old).left) (ahead.new ++ (I.state input.new).left) size body.new }
+        (ahead.old ++ (I.state input.old).left) (ahead.new ++ (I.state input.new).left) size body.new.items }
+    ensures long { size ≤ SIZE_MAX → size ≤ vec_len body.new }
+    ensures same_room { vec_capacity body.old ≤ vec_capacity body.new }
     ensures ended { IsTrue (I.state input.old).tells → result ≡ Ok false
         → length (ahead.old ++ (I.state input.old).left) < size }
     ensures told { (I.state input.new).tells ≡ (I.state input.old).tells }
@@ -53,7 +57,38 @@ fn take_body<I: Source>(
     if size > SIZE_MAX {
         return drop_body(ahead, input, size);
     }
+    lengthen(body, size as usize);
+    fill_front(ahead, input, size, body)
+}
+
+/// Fills the first bytes of `body`, so many; false where the input ends before.
+fn fill_front<I: Source>(
+    ahead: &mut Ahead,
+    input: &mut I,
+    size: u64,
+    body: &mut [u8],
+) -> Result<bool, SourceFault>
+    requires room { size ≤ length body.old }
+    ensures object { result ≡ Ok true → HoldsObject (IsTrue (I.state input.old).tells)
+        (ahead.old ++ (I.state input.old).left) (ahead.new ++ (I.state input.new).left) size body.new }
+    ensures ended { IsTrue (I.state input.old).tells → result ≡ Ok false
+        → length (ahead.old ++ (I.state input.old).left) < size }
+    ensures told { (I.state input.new).tells ≡ (I.state input.old).tells }
+    ensures cause { HasCause (I.state input.old).faults (I.state input.new).faults result }
+{
     fill_body(ahead, input, &mut body[..size as usize])
+}
+
+/// Makes `body` at least so long, within its room. So memory is touched once, and only as far as the
+/// longest object so far needs it.
+fn lengthen(body: &mut Vec<u8>, size: usize)
+    requires room { size ≤ vec_capacity body.old }
+    ensures long { size ≤ vec_len body.new }
+    ensures same_room { vec_capacity body.old ≤ vec_capacity body.new }
+{
+    if body.len() < size {
+        body.resize(size, 0).unwrap();
+    }
 }
 
 /// Takes a newline.

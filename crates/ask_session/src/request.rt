@@ -1,7 +1,7 @@
 //! Reading a request.
-ghost use Rattle.std.specs.Prelude.{◌≡◌, ◌++◌, [], length, IfOk, IfErr, IsTrue, Err};
+ghost use Rattle.std.specs.Prelude.{◌≡◌, ◌≤◌, ◌++◌, [], IfOk, IfErr, IsTrue, Err, vec_capacity};
 ghost use Rattle.ask_text.specs.Inputs.{BeginsNone};
-ghost use Rattle.ask_session.specs.Inputs.{HasSourceCause, IsInputFault, IsRead, size_asked};
+ghost use Rattle.ask_session.specs.Inputs.{HasSourceCause, HoldsSize, IsInputFault, IsRead, size_asked};
 
 use crate::End;
 use crate::ahead::Ahead;
@@ -15,11 +15,12 @@ use size_class::SIZE_MAX;
 pub(crate) fn read_request<I: Source>(
     ahead: &mut Ahead,
     input: &mut I,
-    body: &mut [u8],
+    body: &mut Vec<u8>,
 ) -> Result<Ask, End>
-    requires room { length body.old ≡ SIZE_MAX }
+    requires room { SIZE_MAX ≤ vec_capacity body.old }
     ensures read { IfOk result (λ ask. IsRead (IsTrue (I.state input.old).tells)
-        (ahead.old ++ (I.state input.old).left) (ahead.new ++ (I.state input.new).left) ask body.new) }
+        (ahead.old ++ (I.state input.old).left) (ahead.new ++ (I.state input.new).left) ask body.new.items) }
+    ensures long { IfOk result (λ ask. HoldsSize ask body.new.items) }
     ensures only { IfErr result IsInputFault }
     ensures end { IsTrue (I.state input.old).tells → result ≡ Err End.End
         → ahead.old ++ (I.state input.old).left ≡ [] }
@@ -29,6 +30,7 @@ pub(crate) fn read_request<I: Source>(
         → ahead.old ++ (I.state input.old).left ≡ [] → ⊥ }
     ensures told { (I.state input.new).tells ≡ (I.state input.old).tells }
     ensures cause { HasSourceCause (I.state input.old).faults (I.state input.new).faults result }
+    ensures same_room { vec_capacity body.old ≤ vec_capacity body.new }
 {
     let ask = read_first(ahead, input)?;
     let Some(size) = object_size(&ask) else {

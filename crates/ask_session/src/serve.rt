@@ -8,7 +8,7 @@ ghost use Rattle.store_core.specs.Quiet.{put_of};
 ghost use Rattle.store_core.specs.Stores.{IsStore};
 ghost use Rattle.ask_text.specs.Asks.{ask_of};
 ghost use Rattle.ask_session.specs.Heads.{Answers};
-ghost use Rattle.ask_session.specs.Inputs.{HasBody};
+ghost use Rattle.ask_session.specs.Inputs.{HasBody, HoldsSize};
 ghost use Rattle.ask_session.specs.Serving.{Replies};
 
 use crate::End;
@@ -32,7 +32,7 @@ pub(crate) fn serve<const C: usize, D: Disk, O: Sink>(
     requires ready { IsTrue (D.state disk.old).is_ready }
     requires over { IsConnected C store.old (D.state disk.old) }
     requires whole { store.old.is_broken ≡ false }
-    requires room { length body.now ≡ SIZE_MAX }
+    requires room { HoldsSize ask.now body.now }
     ensures { (r : Request) → ask_of r ≡ ask.now → HasBody body.now r → Replies C r store.old store.new
         (D.state disk.old) (D.state disk.new) (O.state output.old) (O.state output.new) result }
 {
@@ -66,7 +66,7 @@ fn serve_sized<const C: usize, D: Disk>(
     requires over { IsConnected C store.old (D.state disk.old) }
     requires whole { store.old.is_broken ≡ false }
     requires sound { IsStore C store.old }
-    requires room { length body.now ≡ SIZE_MAX }
+    requires room { size ≤ SIZE_MAX → size ≤ length body.now }
     ensures { (object : List ℕ) → length object ≡ size → (size ≤ SIZE_MAX → take size body.now ≡ object)
         → Answers C (ask.change (put_of name.now object)) store.old store.new (D.state disk.old)
         (D.state disk.new) result }

@@ -59,7 +59,7 @@ impl<const C: usize> Session<C> {
         let Ok(ahead) = Ahead::new(alloc) else {
             return Err((store, NoMemory));
         };
-        let Ok(body) = vec![in alloc; 0; SIZE_MAX as usize] else {
+        let Ok(body) = Vec::with_capacity(alloc, SIZE_MAX as usize) else {
             return Err((store, NoMemory));
         };
         Ok(Session {

@@ -204,3 +204,13 @@ ends_by_the_answer c file answer status old new is ends =
     subst (λ n. (n ≡ status_at answer) ⊎ IsFree n) (sym ends.same_status)
     (status_by answer ends.bytes (IsAnswer c file) ends.end (λ other h. one_answer c file answer other is h)
     ends.by)
+
+-- want of memory stops any command before it puts any
+pub stopped_for_memory : (answer : Result (List ℕ) Stop → Type 0) (state : SinkState) (why : Stop)
+    → why ≡ stop.NoMemory → Answers answer state state (Err why)
+stopped_for_memory answer state why is = subst (λ (w : Stop). Answers answer state state (Err w)) (sym is)
+    (record {
+      bytes = [];
+      ends = refl;
+      puts = λ told. record { all = tt; front = (0, omega arith, sym (append-nil state.given)) };
+    })

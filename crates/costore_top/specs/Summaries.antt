@@ -44,7 +44,7 @@ eleven_jobs = record {
   bytes = 115;
   length = 127;
   moved = 325;
-  linear = record { moved = 340787200; asked = 120586240 };
-  flat = record { moved = 8847360; asked = 4259840 };
-  seek = record { moved = 907018240; asked = 393216000 };
+  linear = record { moved = 21810380800; asked = 7717519360 };
+  flat = record { moved = 566231040; asked = 272629760 };
+  seek = record { moved = 58049167360; asked = 25165824000 };
 }

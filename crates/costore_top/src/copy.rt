@@ -1,5 +1,5 @@
 //! Copying bytes of the file to the sink.
-ghost use Rattle.std.specs.Prelude.{◌≡◌, ◌⊎◌, ◌+◌, ◌^◌, ◌<◌, ◌≤◌, Err, OnErr, IsTrue, length};
+ghost use Rattle.std.specs.Prelude.{◌≡◌, ◌⊎◌, ◌+◌, ◌^◌, ◌<◌, ◌≤◌, Err, IfErr, IfOk, OnErr, IsTrue, length, min, vec_len};
 ghost use Rattle.byte_ranges.specs.Ranges.{bytes_at};
 ghost use Rattle.disk_face.specs.Counts.{HasCause};
 ghost use Rattle.disk_face.specs.Frames.{Unchanged};
@@ -8,19 +8,31 @@ ghost use Rattle.costore_top.specs.Layers.{HasCausesAt};
 
 use crate::Stop;
 use disk_face::{Disk, Sink, read};
+use std::alloc::Global;
 
 /// How many bytes are copied at a time.
-const PIECE: usize = 4096;
+const PIECE: u64 = 65_536;
 
-/// Puts `size` bytes of the file from position `at` on, in pieces. Where a device fails, a front of
-/// them was put.
+/// Memory for a piece of an object of so many bytes.
+pub fn take_piece(alloc: Global, size: u64) -> Result<Vec<u8>, Stop>
+    ensures long { IfOk result (λ piece. vec_len piece ≡ min size PIECE) }
+    ensures refused { IfErr result (λ why. why ≡ Stop.NoMemory) }
+{
+    let length = size.min(PIECE) as usize;
+    vec![in alloc; 0; length].map_err(|_| Stop::NoMemory)
+}
+
+/// Puts `size` bytes of the file from position `at` on, in pieces, through a buffer that has room for
+/// one. Where a device fails, a front of them was put.
 pub fn put_bytes<D: Disk, O: Sink>(
     disk: &mut D,
     at: u64,
     size: u64,
+    piece: &mut [u8],
     output: &mut O,
 ) -> Result<(), Stop>
     requires ready { IsTrue (D.state disk.old).is_ready }
+    requires room { min size PIECE ≤ length piece.old }
     requires range { at + size < 2 ^ 64 }
     requires within { IsTrue (D.state disk.old).tells → at + size ≤ length (D.state disk.old).file }
     ensures put { IsTrue (D.state disk.old).tells → IsTrue (O.state output.old).tells
@@ -31,11 +43,10 @@ pub fn put_bytes<D: Disk, O: Sink>(
         (O.state output.new) result }
     ensures frame { Unchanged (D.state disk.old) (D.state disk.new) }
 {
-    let mut buffer = [0u8; PIECE];
     let mut done = 0;
     'pieces: while done < size {
-        let n = (size - done).min(PIECE as u64);
-        put_piece(disk, at + done, n as usize, &mut buffer, output)?;
+        let n = (size - done).min(PIECE);
+        put_piece(disk, at + done, n as usize, piece, output)?;
         done += n;
     }
     Ok(())

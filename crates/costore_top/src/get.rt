@@ -7,7 +7,7 @@ ghost use Rattle.costore_top.specs.Getting.{IsObject, StopsAs};
 ghost use Rattle.costore_top.specs.Layers.{Answers, HasCausesAt, IsPlain, Looks, PutsNone};
 
 use crate::Stop;
-use crate::copy::put_bytes;
+use crate::copy::{put_bytes, take_piece};
 use crate::load::load;
 use disk_face::{Disk, Sink};
 use reopen::Loaded;
@@ -35,7 +35,8 @@ pub fn get<D: Disk, O: Sink>(
     ensures frame { Unchanged (D.state disk.old) (D.state disk.new) }
 {
     let (at, size) = locate(alloc, disk, name)?;
-    put_bytes(disk, at, size, output)
+    let mut piece = take_piece(alloc, size)?;
+    put_bytes(disk, at, size, &mut piece, output)
 }
 
 /// Where the object of a name begins in the file, and how many bytes it has.

@@ -59,7 +59,7 @@ pub fn worked_texts()
 pub fn worked_summary()
     ensures { summary_text eleven_jobs
         ≡ codes "requests 11\nok 4\nkept 3\nread 4096\nrefused 2\nnames 3\nbytes 115\nlength 127\n"
-        ++ codes "moved 325\nlinear 340787200 120586240\nflat 8847360 4259840\nseek 907018240 393216000\n" }
+        ++ codes "moved 325\nlinear 21810380800 7717519360\nflat 566231040 272629760\nseek 58049167360 25165824000\n" }
 {}
 
 /// A command ends with the status of its answer, unless its file isn't there, a device failed, or

@@ -1,6 +1,6 @@
 -- The end of a layout: its book is balanced, so that it is in proportion to the bytes that it holds, and
 -- these are few.
-use Rattle.std.specs.Prelude.{◌≡◌, ℕ, ◌+◌, ◌-◌, ◌*◌, ◌^◌, ◌≤◌, false, T, List, [], ◌∷◌, map, replicate, slice_index_or, refl}
+use Rattle.std.specs.Prelude.{◌≡◌, ℕ, ◌+◌, ◌-◌, ◌*◌, ◌≤◌, false, T, List, [], ◌∷◌, map, replicate, slice_index_or, refl}
 use Rattle.std.proofs.Common.{arith, sym, subst}
 use Rattle.std.proofs.Math.Nat.{le_of_mul-le-mul_left, mul-le-mul_left, mul-le-mul_right}
 use Rattle.std.proofs.lemmas.List.{length-replicate}
@@ -9,6 +9,7 @@ use Rattle.std.specs.declared.cmp.Ordering.{Ordering}
 use Rattle.std.specs.declared.cmp.Ordering.TheVariants.{Less, Equal, Greater}
 use Rattle.std.specs.FinMap as fin
 use Rattle.std.specs.FinMap.Entries.{below_all, is_sorted}
+use Rattle.size_class.specs.declared.TheConstants.{SIZE_MAX}
 use Rattle.slot_codec.specs.Names.{name_cmp}
 use Rattle.segment_layout.specs.Bounds.{Tight}
 use Rattle.segment_layout.specs.Balance.{IsBalanced}
@@ -22,6 +23,7 @@ use Rattle.extent_table.specs.Extents.{Spots, record_of, records_of, volume_of}
 use Rattle.extent_table.proofs.ExtentLaws.{records_of-all}
 use Rattle.spot_terms.specs.LaidOut.{IsLaidOut, shown_book}
 use Rattle.spot_terms.specs.Laid.{settled_table}
+use Rattle.spot_terms.specs.Limits.{most_bytes}
 use Rattle.spot_terms.specs.Reads.{AreNamed, EndWithin, read_at}
 use Rattle.spot_terms.proofs.EntryLaws.{first_of_both, second_of_both}
 use Rattle.spot_terms.proofs.LaidOutLaws.{full_rows, laid_places, laid_within}
@@ -70,6 +72,10 @@ records_lie base file spots named within i low =
 
 -- ---- the end
 
+-- where the longest layout ends, or before
+abbrev pub most_end : ℕ
+most_end = 3 * most_bytes
+
 module _ (classes size_max k : ℕ) (caps : List ℕ) (grid : List (List ℕ)) (spots : Spots)
     (h : IsLaidOut classes size_max k caps grid spots) where
   -- the book that a layout shows of its objects is balanced
@@ -105,9 +111,9 @@ module _ (classes size_max k : ℕ) (caps : List ℕ) (grid : List (List ℕ)) (
       le_of_mul-le-mul_left {m = end_of k caps} {n = 3 * v} {k = k - 1}
       (omega (arith, laid_tight, mul-le-mul_right v most)) (omega (arith, low))
 
-  -- A layout of few objects ends below 2^38.
-  pub end_small : (names : ℕ) → 2 ≤ k → names ≤ 65536 → size_max ≤ 2 ^ 20 → fin.len spots ≤ names
-      → end_of k caps ≤ 2 ^ 38
+  -- a layout of few objects ends here, or before
+  pub end_small : (names : ℕ) → 2 ≤ k → names ≤ 65536 → size_max ≤ SIZE_MAX → fin.len spots ≤ names
+      → end_of k caps ≤ most_end
   end_small names low most small few = omega (
     arith,
     laid_end low,

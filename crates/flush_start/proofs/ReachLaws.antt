@@ -1,11 +1,12 @@
 -- How far a flush reaches: the numbers of its items are small, since these are few.
-use Rattle.std.specs.Prelude.{◌≡◌, ℕ, ◌+◌, ◌^◌, ◌<◌, ◌≤◌, ◌==◌, max, not, List, ◌∷◌, filter, Some, Contains}
+use Rattle.std.specs.Prelude.{◌≡◌, ℕ, ◌+◌, ◌*◌, ◌^◌, ◌<◌, ◌≤◌, max, not, true, List, ◌∷◌, filter, Some, Contains}
 use Rattle.std.proofs.Common.{arith, ap, inl, inr}
 use Rattle.std.proofs.Math.Nat.{div-le_self, max-le}
 use Rattle.std.proofs.lemmas.Bool.{cases_lt}
 use Rattle.std.proofs.lemmas.List.Sums.{sum_by-cons}
 use Rattle.std.specs.FinMap as fin
 use Rattle.size_class.specs.Classes.{class_of, width}
+use Rattle.size_class.specs.declared.TheConstants.{SIZE_MAX}
 use Rattle.size_class.proofs.ClassLaws.{class_below}
 use Rattle.slot_codec.specs.Choice as choice
 use Rattle.slot_codec.specs.declared.codec.Record.{Record}
@@ -21,17 +22,15 @@ use Rattle.spot_terms.proofs.LaidOutLaws.{laid_ends}
 use Rattle.spot_terms.proofs.SegmentLaws.{lies_parts}
 use Rattle.plan_terms.specs.declared.item.Item.{Item}
 use Rattle.plan_terms.specs.declared.item.Numbers.{Numbers}
-use Rattle.plan_terms.specs.Plans.{class_total, in_class, laid_length, numbers_of, object_of, stands_in_payload, total}
-use Rattle.plan_terms.proofs.BoundLaws.{segments_at_most, weight_fits}
-use Rattle.plan_terms.proofs.FinalLaws.{class_total_is}
+use Rattle.plan_terms.specs.Plans.{laid_length, numbers_of, object_of, stands_in_payload, total}
+use Rattle.plan_terms.proofs.BoundLaws.{laid_by_total, weight_fits}
 use Rattle.plan_terms.proofs.ItemLaws.{total_is}
 use Rattle.plan_terms.proofs.LargestLaws.{largest-le}
-use Rattle.plan_terms.proofs.ListLaws.{cond_at_most}
 use Rattle.plan_terms.proofs.NumbersLaws.{reach_is, wall_over_old_end}
 use Rattle.flush_run.specs.Hands.{AllEndBy, suffix_items}
 use Rattle.flush_start.specs.Starts.{CanStart}
 use Rattle.flush_start.proofs.CanFlushLaws.{can_flush}
-use Rattle.flush_start.proofs.EndLaws.{end_small}
+use Rattle.flush_start.proofs.EndLaws.{end_small, most_end}
 use Rattle.flush_start.proofs.SuffixLaws.{has_item}
 
 module _ (classes size_max : ℕ) (caps : List ℕ) (grid kept_grid : List (List ℕ)) (b : ℕ) (u : choice.InUse)
@@ -87,28 +86,33 @@ module _ (classes size_max : ℕ) (caps : List ℕ) (grid kept_grid : List (List
 
   -- ---- the reach
 
-  end_low : end_of k caps ≤ 2 ^ 38
+  end_low : end_of k caps ≤ most_end
   end_low = end_small classes size_max k caps kept_grid e.kept h.kept u.block.names h.block.divisor_low
       h.block.names_high h.small (omega (arith, h.table.kept_room, h.names))
+
+  -- the items of a flush and the pending one have no more bytes together
+  abbrev most_items : ℕ
+  most_items = most_end + SIZE_MAX
 
   module _ (pending : ℕ) (small : pending ≤ size_max) where
     abbrev n : Numbers
     n = numbers_of k caps b items pending
 
-    class_few : (d : ℕ) → class_total (object_of pending ∷ items) d ≤ 2 ^ 39
-    class_few d = omega (
+    items_few : total items ≤ end_of k caps
+    items_few = weight_fits k caps b items (can_flush classes size_max caps grid kept_grid b u e spans h)
+        (λ it. true)
+
+    all_few : total (object_of pending ∷ items) ≤ most_items
+    all_few = omega (
       arith,
-      class_total_is (object_of pending ∷ items) d,
-      sum_by-cons (in_class d) (object_of pending) items,
-      cond_at_most ((object_of pending).class == d) pending,
-      weight_fits k caps b items
-          (can_flush classes size_max caps grid kept_grid b u e spans h) (λ it. it.class == d),
+      sum_by-cons (λ (it : Item). it.size) (object_of pending) items,
+      items_few,
       end_low,
       small,
       h.small,
     )
 
-    slack_few : n.slack ≤ 2 ^ 39
+    slack_few : n.slack ≤ most_items + 1
     slack_few = omega (
       arith,
       largest-le pending size_max items small item_small,
@@ -120,13 +124,14 @@ module _ (classes size_max : ℕ) (caps : List ℕ) (grid kept_grid : List (List
       end_low,
     )
 
-    wall_few : n.wall ≤ 2 ^ 46
+    wall_few : n.wall ≤ 3 * most_items + most_end + 1
     wall_few =
-        let laid : laid_length k (object_of pending ∷ items) b width ≤ 2 ^ 45 = omega (
+        let laid : laid_length k (object_of pending ∷ items) b width ≤ 2 * most_items = omega (
           arith,
-          segments_at_most k (class_total (object_of pending ∷ items)) b (2 ^ 39) class_few,
+          laid_by_total k (object_of pending ∷ items) b,
+          all_few,
         ) in
-        let ends : max (end_of k caps) n.end ≤ 2 ^ 45 + 2 ^ 38 =
+        let ends : max (end_of k caps) n.end ≤ 2 * most_items + most_end =
         max-le (omega (arith, end_low)) (omega (arith, laid, end_of-split k caps b, end_low)) in
         omega (arith, slack_few, ends)
 

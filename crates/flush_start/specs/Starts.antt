@@ -1,6 +1,7 @@
 -- What there is before a change that isn't quiet, what such a change is, and what a flush begins with.
-use Rattle.std.specs.Prelude.{◌≡◌, ℕ, ◌^◌, ◌<◌, ◌≤◌, false, true, List, Option}
+use Rattle.std.specs.Prelude.{◌≡◌, ℕ, ◌<◌, ◌≤◌, false, true, List, Option}
 use Rattle.std.specs.FinMap as fin
+use Rattle.size_class.specs.declared.TheConstants.{SIZE_MAX}
 use Rattle.slot_codec.specs.Choice as choice
 use Rattle.slot_codec.specs.Readable.{IsSuperBlock}
 use Rattle.span_math.specs.declared.span.Span.{Span}
@@ -21,7 +22,7 @@ pub record WasBefore (classes size_max : ℕ) (caps : List ℕ) (grid kept_grid 
   pub block : IsSuperBlock u.block
   pub table : IsTable e
   pub names : e.names ≡ u.block.names
-  pub small : size_max ≤ 2 ^ 20
+  pub small : size_max ≤ SIZE_MAX
   pub both : HoldsBoth classes size_max u.block.k caps grid kept_grid e.now e.kept spans
 
 -- A change that isn't quiet: where an old object goes and a new one of a size comes, of 0 bytes where none
@@ -56,7 +57,7 @@ pub record CanStart (classes size_max : ℕ) (caps : List ℕ) (grid kept_grid :
   pub block : IsSuperBlock u.block
   pub table : IsTable e
   pub names : e.names ≡ u.block.names
-  pub small : size_max ≤ 2 ^ 20
+  pub small : size_max ≤ SIZE_MAX
   pub low : b < classes
   pub boundary : is_boundary grid b ≡ true
   pub below : IsLaidBelow classes size_max u.block.k caps grid b e.now

@@ -1,5 +1,6 @@
 //! Worked examples of factors and weights, as contracts of functions that do nothing.
 ghost use Rattle.std.specs.Prelude.{◌≡◌};
+ghost use Rattle.size_class.specs.declared.TheConstants.{CLASSES};
 ghost use Rattle.move_cost.specs.Costs.{factor, weigh, linear, flat, seek};
 ghost use Rattle.move_cost.specs.Worked.{worked_moved, worked_asked};
 
@@ -10,13 +11,13 @@ pub fn worked_factors()
     ensures most { factor 64 ≡ 4995 }
 {}
 
-/// A worked session among 21 classes moved 5, 20 and 300 bytes of the classes 2, 3 and 6, and asked 5,
-/// 10 and 100: what they weigh by each cost.
+/// A worked session moved 5, 20 and 300 bytes of the classes 2, 3 and 6, and asked 5, 10 and 100: what
+/// they weigh by each cost among all classes.
 pub fn worked_weights()
-    ensures moved_linear { weigh 21 linear worked_moved ≡ 340787200 }
-    ensures asked_linear { weigh 21 linear worked_asked ≡ 120586240 }
-    ensures moved_flat { weigh 21 flat worked_moved ≡ 8847360 }
-    ensures asked_flat { weigh 21 flat worked_asked ≡ 4259840 }
-    ensures moved_seek { weigh 21 seek worked_moved ≡ 907018240 }
-    ensures asked_seek { weigh 21 seek worked_asked ≡ 393216000 }
+    ensures moved_linear { weigh CLASSES linear worked_moved ≡ 21810380800 }
+    ensures asked_linear { weigh CLASSES linear worked_asked ≡ 7717519360 }
+    ensures moved_flat { weigh CLASSES flat worked_moved ≡ 566231040 }
+    ensures asked_flat { weigh CLASSES flat worked_asked ≡ 272629760 }
+    ensures moved_seek { weigh CLASSES seek worked_moved ≡ 58049167360 }
+    ensures asked_seek { weigh CLASSES seek worked_asked ≡ 25165824000 }
 {}

@@ -1,7 +1,7 @@
 -- The numbers of a flush are numbers of 64 bits, and each of its items is of a class that the layout has.
-use Rattle.std.specs.Prelude.{◌≡◌, ℕ, zero, suc, ◌+◌, ◌-◌, ◌*◌, ◌^◌, ◌<◌, ◌≤◌, max, not, Bool, List, ◌∷◌, slice_index, Contains, filter, sum_by, ◌==◌, length}
+use Rattle.std.specs.Prelude.{◌≡◌, ℕ, zero, suc, ◌+◌, ◌-◌, ◌*◌, ◌^◌, ◌<◌, ◌≤◌, max, not, Bool, List, [], ◌∷◌, slice_index, Contains, filter, sum_by, ◌==◌, length, refl}
 use Rattle.std.proofs.Common.{arith, ap, inl, inr}
-use Rattle.std.proofs.lemmas.Bool.{cases_lt, cond-false, ne_eqb}
+use Rattle.std.proofs.lemmas.Bool.{cases_eq, cases_lt, cond-false, ne_eqb}
 use Rattle.std.proofs.lemmas.List.Sums.{sum_by-cons}
 use Rattle.std.proofs.Math.Nat.{div-le_self, max-le, mul-le-mul_right}
 use Rattle.byte_ranges.specs.Lists.{counting_from}
@@ -40,6 +40,87 @@ segments_at_most k volume b most each =
     (λ d. omega (arith, each d, buffer_of-le k (volume d))) in
     let few : width - b ≤ 32 = omega arith in
     omega (arith, terms, mul-le-mul_right (2 * most) few)
+
+-- ---- new segments are at most twice as long as the items
+
+-- an item is of one class
+past_class : (it : Item) (first n : ℕ) → it.class < first
+    → sum_by (λ d. in_class d it) (counting_from first n) ≡ 0
+past_class it first zero low = refl
+past_class it first (suc n) low = omega (
+  arith,
+  sum_by-cons (λ d. in_class d it) first (counting_from (first + 1) n),
+  cond-false (it.class == first) it.size 0 (ne_eqb it.class first (λ e. omega (arith, e, low))),
+  past_class it (first + 1) n (omega (arith, low)),
+)
+
+one_class : (it : Item) (first n : ℕ) → sum_by (λ d. in_class d it) (counting_from first n) ≤ it.size
+one_class it first zero = omega arith
+one_class it first (suc n) = elim (cases_eq it.class first) [
+  | inl same ↦ omega (
+    arith,
+    sum_by-cons (λ d. in_class d it) first (counting_from (first + 1) n),
+    cond_at_most (it.class == first) it.size,
+    past_class it (first + 1) n (omega (arith, same)),
+  )
+  | inr other ↦ omega (
+    arith,
+    sum_by-cons (λ d. in_class d it) first (counting_from (first + 1) n),
+    cond-false (it.class == first) it.size 0 (ne_eqb it.class first other),
+    one_class it (first + 1) n,
+  )
+]
+
+-- the classes have together no more than all items
+classes_together : (items : List Item) (ds : List ℕ)
+    → ((it : Item) → sum_by (λ d. in_class d it) ds ≤ it.size)
+    → sum_by (λ d. sum_by (in_class d) items) ds ≤ total items
+classes_together [] ds one = omega (arith, none ds)
+  where
+    none : (xs : List ℕ) → sum_by (λ d. sum_by (in_class d) []) xs ≡ 0
+    none [] = refl
+    none (x ∷ xs) = omega (arith, sum_by-cons (λ d. sum_by (in_class d) []) x xs, none xs)
+classes_together (it ∷ items) ds one = omega (
+  arith,
+  split ds,
+  one it,
+  classes_together items ds one,
+  sum_by-cons (λ (x : Item). x.size) it items,
+)
+  where
+    split : (xs : List ℕ) → sum_by (λ d. sum_by (in_class d) (it ∷ items)) xs
+        ≡ sum_by (λ d. in_class d it) xs + sum_by (λ d. sum_by (in_class d) items) xs
+    split [] = refl
+    split (x ∷ xs) = omega (
+      arith,
+      sum_by-cons (λ d. sum_by (in_class d) (it ∷ items)) x xs,
+      sum_by-cons (in_class x) it items,
+      sum_by-cons (λ d. in_class d it) x xs,
+      sum_by-cons (λ d. sum_by (in_class d) items) x xs,
+      split xs,
+    )
+
+segments_twice : (k : ℕ) (items : List Item) (ds : List ℕ)
+    → sum_by (λ d. class_total items d + buffer_of k (class_total items d)) ds
+    ≤ 2 * sum_by (λ d. sum_by (in_class d) items) ds
+segments_twice k items [] = omega arith
+segments_twice k items (d ∷ ds) = omega (
+  arith,
+  sum_by-cons (λ x. class_total items x + buffer_of k (class_total items x)) d ds,
+  sum_by-cons (λ x. sum_by (in_class x) items) d ds,
+  buffer_of-le k (class_total items d),
+  class_total_is items d,
+  segments_twice k items ds,
+)
+
+pub laid_by_total : (k : ℕ) (items : List Item) (b : ℕ) → laid_length k items b width ≤ 2 * total items
+laid_by_total k items b =
+    let ds = counting_from b (width - b) in
+    omega (
+      arith,
+      segments_twice k items ds,
+      classes_together items ds (λ it. one_class it b (width - b)),
+    )
 
 -- a layout ends below 2 ^ 54
 pub end_small : (k : ℕ) (caps : List ℕ) → ((c : ℕ) → slice_index caps c < 2 ^ 48) → length caps ≡ width

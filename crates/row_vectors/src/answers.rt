@@ -116,10 +116,10 @@ fn has_ends(bytes: &[u8]) -> bool {
     bytes.starts_with(b"<") && bytes.ends_with(b">")
 }
 
-/// The bytes that tell the pieces of the object of 10,000 bytes, and where they stand.
-const TELLING: &[Change] = &[(0, b'h'), (4096, b'i'), (8192, b'j'), (9999, b'k')];
+/// The bytes that tell the pieces of the object of 160,000 bytes, and where they stand.
+const TELLING: &[Change] = &[(0, b'h'), (65_536, b'i'), (131_072, b'j'), (159_999, b'k')];
 
-/// Whether bytes are a front, of some length, of the object of 10,000 bytes, by the bytes that tell its
+/// Whether bytes are a front, of some length, of the object of 160,000 bytes, by the bytes that tell its
 /// pieces.
 pub fn is_front_of_long(bytes: &[u8], length: usize) -> bool {
     for (at, byte) in TELLING {

@@ -36,10 +36,15 @@ fn tells_each_failing_read(rt: HostRuntime) -> Result<(), Fail> {
     Ok(())
 }
 
-/// The number of a read that fails, the status, and how much is put of the object of 10,000 bytes.
-const PIECES: &[(u64, u8, usize)] = &[(10, 7, 0), (11, 7, 4096), (12, 7, 8192), (13, 0, 10_000)];
+/// The number of a read that fails, the status, and how much is put of the object of 160,000 bytes.
+const PIECES: &[(u64, u8, usize)] = &[
+    (10, 7, 0),
+    (11, 7, 65_536),
+    (12, 7, 131_072),
+    (13, 0, 160_000),
+];
 
-/// What a read puts of the object of 10,000 bytes before the fault line.
+/// What a read puts of the object of 160,000 bytes before the fault line.
 fn try_long(
     rt: &impl Abort,
     alloc: Global,
@@ -47,7 +52,7 @@ fn try_long(
     status: u8,
     front: usize,
 ) -> Result<(), Fail> {
-    let file = disk(alloc, 30714, LONG, &[])?;
+    let file = disk(alloc, 197_380, LONG, &[])?;
     let ran = get_failing(alloc, file, number)?;
     let line = if status == 7 { "fault disk\n" } else { "" };
     try_outcome(rt, ran.outcome, ended(status), &number);

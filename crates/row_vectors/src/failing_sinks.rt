@@ -10,10 +10,10 @@ use std::alloc::Global;
 use std::process::Abort;
 use std::test::Fail;
 
-/// The number of a put that fails, the status, and how much is put of the object of 10,000 bytes.
-const PIECES: &[(u64, u8, usize)] = &[(1, 9, 0), (2, 9, 4096), (3, 9, 8192), (4, 0, 10_000)];
+/// The number of a put that fails, the status, and how much is put of the object of 160,000 bytes.
+const PIECES: &[(u64, u8, usize)] = &[(1, 9, 0), (2, 9, 65_536), (3, 9, 131_072), (4, 0, 160_000)];
 
-/// What is put of the object of 10,000 bytes where the put of a number fails.
+/// What is put of the object of 160,000 bytes where the put of a number fails.
 fn try_long(
     rt: &impl Abort,
     alloc: Global,
@@ -21,7 +21,7 @@ fn try_long(
     status: u8,
     length: usize,
 ) -> Result<(), Fail> {
-    let file = disk(alloc, 30714, LONG, &[])?;
+    let file = disk(alloc, 197_380, LONG, &[])?;
     let ran = run_on(alloc, GET, true, file, vec![in alloc; fails]?)?;
     try_outcome(rt, ran.outcome, ended(status), &fails);
     try_holds(rt, is_front_of_long(&ran.put, length), &fails);

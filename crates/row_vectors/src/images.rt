@@ -34,19 +34,20 @@ const HELLO: &[Change] = &[
     (19607, b'o'),
 ];
 
-/// The changes to an object of 10,000 bytes, in a file of 30,714 bytes. Its class is 13, with a
-/// capacity of 10,000 (0x2710) and a buffer of 1,111. It is put in three pieces; this tells the
+/// The changes to an object of 160,000 bytes, in a file of 197,380 bytes. Its class is 17, with a
+/// capacity of 160,000 (0x27100) and a buffer of 17,777. It is put in three pieces; this tells the
 /// first byte of each, and the last.
 pub const LONG: &[Change] = &[
     (120, 0),
-    (208, 0x10),
-    (209, 0x27),
-    (8624, 0x10),
-    (8625, 0x27),
-    (19603, b'h'),
-    (23699, b'i'),
-    (27795, b'j'),
-    (29602, b'k'),
+    (241, 0x71),
+    (242, 0x02),
+    (8624, 0),
+    (8625, 0x71),
+    (8626, 0x02),
+    (19_603, b'h'),
+    (85_139, b'i'),
+    (150_675, b'j'),
+    (179_602, b'k'),
 ];
 
 /// The changes to a table that is moved from boundary 2 on, behind a wall of 239 with a slack of 112,

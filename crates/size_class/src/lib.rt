@@ -10,11 +10,11 @@ mod row;
 pub use grid::Grid;
 pub use row::Row;
 
-/// How many classes there are: objects have at most 2^20 bytes, and so a class from 0 to 20.
-pub const CLASSES: usize = 21;
+/// How many classes there are: objects have at most 2^26 bytes, and so a class from 0 to 26.
+pub const CLASSES: usize = 27;
 
 /// The size of the largest object, in bytes.
-pub const SIZE_MAX: u64 = 1_048_576;
+pub const SIZE_MAX: u64 = 67_108_864;
 
 /// The class of an object of `w` bytes: the class `c` has the sizes from 2^c up to 2^(c + 1), this
 /// one left out.

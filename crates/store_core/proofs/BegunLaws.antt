@@ -22,7 +22,7 @@ use Rattle.flush_plan.specs.Shelves.{course_of}
 use Rattle.flush_run.specs.Parts.{Parts}
 use Rattle.flush_start.specs.Charging.{PlacesNew, between, new_charged}
 use Rattle.flush_start.specs.Starts.{IsLoud, IsWith, IsWithout}
-use Rattle.flush_start.proofs.EndLaws.{end_small}
+use Rattle.flush_start.proofs.EndLaws.{end_small, most_end}
 use Rattle.store_core.specs.Flushing.{CanStartAt, IsBegun, IsLoudAt, IsStarted, MayBegin, StartsPlaced, StartsWaiting, TakesOut}
 use Rattle.store_core.specs.Quiet.{added, del_of, put_of, sizes_at}
 use Rattle.store_core.proofs.ChargedLaws.{ChargesTo, can_start_at, started_at, is_loud, places_here}
@@ -85,7 +85,7 @@ module _ {classes : ℕ} {kept_grid : List (List ℕ)} {x0 : Parts} (may : MayBe
         ]
       ]
 
-  pub end_is_low : end_of k x0.caps ≤ 2 ^ 38
+  pub end_is_low : end_of k x0.caps ≤ most_end
   end_is_low = end_small classes SIZE_MAX k x0.caps x0.grid x0.table.now may.before.both.now_laid
       x0.in_use.block.names may.before.block.divisor_low may.before.block.names_high may.before.small
       (omega (arith, may.before.table.now_room, may.before.names))

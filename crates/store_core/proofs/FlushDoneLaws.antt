@@ -24,7 +24,7 @@ use Rattle.segment_layout.specs.Layouts.{caps_of, divisor_of, grid_of}
 use Rattle.extent_table.specs.Extents.{Spots}
 use Rattle.plan_terms.specs.Phases.{Phase}
 use Rattle.flush_run.specs.declared.hands.Hands.{Hands}
-use Rattle.flush_run.specs.Calls.{CallsSoFar}
+use Rattle.flush_run.specs.Calls.{CallsSoFar, piece_calls}
 use Rattle.flush_run.specs.Flights.{Flight}
 use Rattle.flush_run.specs.Parts.{Parts, parts_of, size_in}
 use Rattle.flush_run.specs.Settling.{FlushEnds}
@@ -89,13 +89,13 @@ module _ {C : ℕ} (s : Inside C) (c : Change) (hands1 : Hands C) (p : Phase) (p
   asked_is : cells_of hands2.ledger.asked ≡ asked_after ks c
   asked_is = w.made.keeps.asked ∙ w.begun.asked
 
-  most_is : CallsSoFar a.turn d.turn ks.moved (cells_of hands2.ledger.moved) 20
+  most_is : CallsSoFar a.turn d.turn ks.moved (cells_of hands2.ledger.moved) (piece_calls + 4)
       (hands2.slots.sequence - ks.in_use.sequence + 1) (names_after ks c)
-  most_is = subst (λ n. CallsSoFar a.turn d.turn ks.moved (cells_of hands2.ledger.moved) 20
+  most_is = subst (λ n. CallsSoFar a.turn d.turn ks.moved (cells_of hands2.ledger.moved) (piece_calls + 4)
       (hands2.slots.sequence - ks.in_use.sequence + 1) n) names_are
-      (subst (λ q. CallsSoFar a.turn d.turn ks.moved (cells_of hands2.ledger.moved) 20
+      (subst (λ q. CallsSoFar a.turn d.turn ks.moved (cells_of hands2.ledger.moved) (piece_calls + 4)
       (hands2.slots.sequence - q + 1) (fin.len hands1.table.now)) same_sequence
-      (subst (λ r. CallsSoFar a.turn d.turn r (cells_of hands2.ledger.moved) 20
+      (subst (λ r. CallsSoFar a.turn d.turn r (cells_of hands2.ledger.moved) (piece_calls + 4)
       (hands2.slots.sequence - hands1.slots.sequence + 1) (fin.len hands1.table.now)) same_moved w.made.most))
 
   content_is : IsTrue a.tells → IsFlushImage C ks c a.file d.file

@@ -36,7 +36,7 @@ use Rattle.store_core.specs.Keeps.{now_map}
 use Rattle.store_core.specs.Quiet.{charges_of, del_of, put_of}
 use Rattle.store_core.specs.States.{Limits, Served, State, Step, facts_of, refusal, served}
 use Rattle.store_core.specs.Stores.{IsStore}
-use Rattle.store_core.proofs.EndLaws.{shown_balanced}
+use Rattle.flush_start.proofs.EndLaws.{shown_balanced}
 use Rattle.store_core.proofs.OverLaws.{head_is, opens_again}
 use Rattle.store_core.proofs.StepLaws.{served_by}
 use Rattle.store_core.proofs.StoreLaws.{now_lies}

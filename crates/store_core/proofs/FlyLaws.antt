@@ -18,6 +18,7 @@ use Rattle.spot_terms.proofs.EntryLaws.{insert-remove}
 use Rattle.spot_terms.proofs.ReadLaws.{AreNamed-remove, read_at-put}
 use Rattle.plan_terms.specs.declared.item.Item.{Item}
 use Rattle.plan_terms.specs.Phases.{Phase}
+use Rattle.flush_run.specs.Calls.{piece_calls}
 use Rattle.flush_run.specs.Flights.{Flies, Flight, IsAtHand, IsFreeSpace, IsOldOrNew, LeavesOldOrNew, OpensEither}
 use Rattle.flush_run.specs.Parts.{Parts}
 use Rattle.flush_run.specs.Runs.{CanRun, HasRun}
@@ -296,10 +297,10 @@ flown_then {b} {items} {first} {mid} {now} {x} {x2} kept faults few r = record {
   later = r.later;
   lower = r.lower;
   few = r.few;
-  most = calls_wider first.turn now.turn now.turn x.moved x2.moved (2 + 18) 20
+  most = calls_wider first.turn now.turn now.turn x.moved x2.moved (2 + (piece_calls + 2)) (piece_calls + 4)
       (0 + (x2.in_use.sequence - x.in_use.sequence + 1)) (x2.in_use.sequence - x.in_use.sequence + 1)
       (fin.len x.table.now)
-      (calls_then first.turn mid.turn now.turn x.moved x.moved x2.moved 2 18 0
+      (calls_then first.turn mid.turn now.turn x.moved x.moved x2.moved 2 (piece_calls + 2) 0
       (x2.in_use.sequence - x.in_use.sequence + 1) (fin.len x.table.now)
       (calls_wider first.turn first.turn mid.turn x.moved x.moved 0 2 0 0 (fin.len x.table.now)
       (calls_none first.turn x.moved (fin.len x.table.now)) (omega arith) (omega (arith, few))) r.most)

@@ -23,7 +23,7 @@ use Rattle.store_core.specs.declared.store.Store.TheInside.{Inside}
 use Rattle.store_core.specs.Connection.{IsOver, Kept, base_of, opened_store, state_of}
 use Rattle.store_core.specs.Inside.{IsWhole, kept_of}
 use Rattle.store_core.specs.Stores.{IsStore}
-use Rattle.store_core.proofs.EndLaws.{shown_balanced}
+use Rattle.flush_start.proofs.EndLaws.{shown_balanced}
 use Rattle.store_core.proofs.StoreLaws.{kept_lies, now_lies}
 
 -- ---- tight

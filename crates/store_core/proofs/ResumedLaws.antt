@@ -41,7 +41,7 @@ use Rattle.store_core.specs.Connection.{Kept, opened_store}
 use Rattle.store_core.specs.Flushed.{IsFlushed}
 use Rattle.store_core.specs.Opened.{ContinuesFrom, IsFresh, IsOpened, IsOpening, MovesOn, OpenCallsOf, OpensFound}
 use Rattle.store_core.specs.Resuming.{MakesStore, PacksAgain, StartsAgain}
-use Rattle.store_core.proofs.EndLaws.{names_differ_all, records_lie}
+use Rattle.flush_start.proofs.EndLaws.{names_differ_all, records_lie}
 use Rattle.store_core.proofs.FlushedLaws.{ended_over, ended_rests, ended_state, ended_store}
 use Rattle.store_core.proofs.GoingLaws.{begins_within, can_told, content_again, flight, left_again, phase, some_again}
 use Rattle.store_core.proofs.MovingLaws.{hands_again, same_divisor}

@@ -14,7 +14,7 @@ use Rattle.segment_layout.specs.Books.{Book, is_quiet, next_book, trigger, volum
 use Rattle.segment_layout.specs.Bounds.{Loose}
 use Rattle.segment_layout.specs.Shapes.{boundary_of}
 use Rattle.table_rules.specs.Opening.{Opens}
-use Rattle.flush_run.specs.Calls.{CallsSoFar}
+use Rattle.flush_run.specs.Calls.{CallsSoFar, piece_calls}
 use Rattle.flush_run.specs.Parts.{size_in}
 use Rattle.flush_start.specs.Sized.{IsSizedBy}
 use Rattle.store_core.specs.declared.answers.Refusal.{Refusal}
@@ -71,7 +71,7 @@ pub record ChangesByFlush (c : Change) (old new : Kept) : Type 0 where
 -- checkpoint or to what stands after the change, and so does all that a crash may leave meanwhile, where the
 -- disk rested on its table. Once it is done, the new content is all that a crash may leave. The calls are at
 -- most 4, those of the bytes moved, and those of the saves, each of as many records as there are names after
--- the change; where the disk failed 16 more, and those of one save. No byte of a class below the boundary is
+-- the change; where the disk failed those of one move more, and of one save. No byte of a class below the boundary is
 -- moved, and of each other class at most twice the bytes of the map after; on a disk that tells nothing, of
 -- any map changed so whose objects had the sizes of what stood.
 pub record IsFlush (classes : ℕ) (c : Change) (old new : Kept) (before now : disk.State)
@@ -87,7 +87,7 @@ pub record IsFlush (classes : ℕ) (c : Change) (old new : Kept) (before now : d
   pub on_table : IsTrue before.tells → OnOk result (RestsOnTable (base_of new) new.kept now)
   pub calls : OnOk result (CallsSoFar before.turn now.turn old.moved new.moved 4
       (new.in_use.sequence - old.in_use.sequence) (names_after old c))
-  pub most : CallsSoFar before.turn now.turn old.moved new.moved 20
+  pub most : CallsSoFar before.turn now.turn old.moved new.moved (piece_calls + 4)
       (new.in_use.sequence - old.in_use.sequence + 1) (names_after old c)
   pub lower : (d : ℕ) → d < flush_boundary old c → slice_index new.moved d ≡ slice_index old.moved d
   pub few : IsTrue before.tells → (d : ℕ) → slice_index new.moved d

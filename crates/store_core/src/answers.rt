@@ -10,7 +10,7 @@ pub enum Refusal {
     /// The bytes are no name.
     #[error("the name isn't 1 to 63 bytes from 0x21 to 0x7e")]
     BadName,
-    /// The object has more than 1,048,576 bytes.
+    /// The object has more bytes than the largest one may have (`SIZE_MAX` of `size_class`).
     #[error("the object is too long")]
     TooLong,
     /// The name isn't in the map that was asked.

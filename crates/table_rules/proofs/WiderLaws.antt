@@ -1,10 +1,11 @@
 -- A table that is valid among some classes is valid among more, and its book is the same.
-use Rattle.std.specs.Prelude.{◌≡◌, ℕ, suc, ◌^◌, ◌<◌, ◌≤◌, ◌==◌, nat_lt, Bool, not, ◌&&◌, cond, if◌then◌else◌, List, [], ◌∷◌, length, filter, map, slice_index, slice_index_or, refl}
+use Rattle.std.specs.Prelude.{◌≡◌, ◌⊎◌, ℕ, suc, ◌^◌, ◌<◌, ◌≤◌, ◌==◌, nat_lt, Bool, not, ◌&&◌, cond, if◌then◌else◌, List, [], ◌∷◌, length, filter, map, slice_index, slice_index_or, refl}
 use Rattle.std.proofs.Common.{arith, sym, ◌∙◌, ap, subst, inl, inr}
 use Rattle.std.proofs.lemmas.Bool.{cases_lt, cases_Bool, cond-false, and_parts, and_from, lt-ltb, le-ltb, ltb-true, eqb-true}
 use Rattle.std.proofs.lemmas.List.{ext_get_or, get_or_past}
 use Rattle.std.specs.FinSet as set
 use Rattle.size_class.specs.Classes.{width, class_of, cell, row}
+use Rattle.size_class.specs.declared.TheConstants.{CLASSES, SIZE_MAX}
 use Rattle.size_class.proofs.ClassLaws.{class_low, power_rises}
 use Rattle.slot_codec.specs.Choice as choice
 use Rattle.slot_codec.specs.declared.codec.Kind.{Kind}
@@ -15,9 +16,9 @@ use Rattle.store_terms.proofs.MapLaws.{sum_by-map}
 use Rattle.segment_layout.specs.Shapes.{settled_caps, settled_grid}
 use Rattle.segment_layout.specs.Books.{Book, volumes_of_sizes}
 use Rattle.table_rules.specs.Tables.{PlacedTable, boundary_of_kind, table_boundary, nth, no_record, sizes, is_of, is_lower, lies_in_payload, lies_in_buffer, live_in_buffer, end_of_record, last_end, book_of, HasFullRows, is_buffered}
-use Rattle.table_rules.specs.Opening.{OpensBy, placed_table}
+use Rattle.table_rules.specs.Opening.{HasNoneFrom, Opens, OpensAsBefore, OpensBy, placed_table}
 use Rattle.segment_layout.proofs.SumLaws.{sum_by_same_places}
-use Rattle.segment_layout.proofs.ShapeLaws.{end_of-rest, length-settled_caps, caps-settled_below, caps-settled_above, length-settled_grid, row-settled_below, row-settled_above}
+use Rattle.segment_layout.proofs.ShapeLaws.{end_of-rest, length-settled_caps, caps-settled_below, caps-settled_above, cell-settled_below, cell-settled_above, length-settled_grid, row-settled_below, row-settled_above}
 use Rattle.segment_layout.proofs.SettleLaws.{row_is_zero}
 use Rattle.segment_layout.proofs.LayoutLaws.{taken_nothing}
 use Rattle.segment_layout.proofs.BalanceLaws.{bytes_in}
@@ -42,6 +43,22 @@ filter_same_places d p q [] each = refl
 filter_same_places d p q (x ∷ xs) each =
     let rest = filter_same_places d p q xs (λ i h. each (suc i) (omega arith)) in
     λ i. cond (each 0 (omega arith) i) (x ∷ rest i) (rest i)
+
+-- objects of a class that none has are of no bytes together
+no_bytes : (t : PlacedTable) (c : ℕ)
+    → ((i : ℕ) → i < length t.records → 0 < (nth t i).size → class_of (nth t i).size ≡ c → ⊥)
+    → slice_index (volumes_of_sizes (sizes t.records)) c ≡ 0
+no_bytes t c none =
+    volumes_of_sizes-index (sizes t.records) c
+    ∙ sum_by-map (λ size. bytes_in c size) (λ (r : Record). r.size) t.records
+    ∙ sum_by_same_places no_record (λ r. bytes_in c r.size) (λ r. 0) t.records (λ i within.
+    elim (cases_Bool (is_of c (nth t i))) [
+      | inr other ↦ cond-false (is_of c (nth t i)) (nth t i).size 0 other
+      | inl is ↦
+          let parts = and_parts (nat_lt 0 (nth t i).size) (class_of (nth t i).size == c) is in
+          absurd (none i within (ltb-true 0 (nth t i).size parts.0) (eqb-true (class_of (nth t i).size) c parts.1))
+    ])
+    ∙ sum_by_none (λ (r : Record). 0) t.records (λ r. refl)
 
 module _ (n s : ℕ) (t : PlacedTable) (h : HasFullRows t) (p : KeepsPlaces t) (more : t.size_max ≤ s)
     (first : table_boundary t ≤ table_boundary (among n s t)) (fits : table_boundary (among n s t) ≤ width)
@@ -122,18 +139,7 @@ module _ (n s : ℕ) (t : PlacedTable) (h : HasFullRows t) (p : KeepsPlaces t) (
 
   no_volume : (c : ℕ) → table_boundary t ≤ c → c < table_boundary (among n s t)
       → slice_index (volumes_of_sizes (sizes t.records)) c ≡ 0
-  no_volume c high low =
-      volumes_of_sizes-index (sizes t.records) c
-      ∙ sum_by-map (λ size. bytes_in c size) (λ (r : Record). r.size) t.records
-      ∙ sum_by_same_places no_record (λ r. bytes_in c r.size) (λ r. 0) t.records (λ i within.
-      elim (cases_Bool (is_of c (nth t i))) [
-        | inr other ↦ cond-false (is_of c (nth t i)) (nth t i).size 0 other
-        | inl is ↦
-            let parts = and_parts (nat_lt 0 (nth t i).size) (class_of (nth t i).size == c) is in
-            let class = eqb-true (class_of (nth t i).size) c parts.1 in
-            absurd (none i within (ltb-true 0 (nth t i).size parts.0) (omega arith) (omega arith))
-      ])
-      ∙ sum_by_none (λ (r : Record). 0) t.records (λ r. refl)
+  no_volume c high low = no_bytes t c (λ i within some class. none i within some (omega arith) (omega arith))
 
   same_caps : settled_caps (table_boundary (among n s t)) t.header.caps (volumes_of_sizes (sizes t.records))
       ≡ settled_caps (table_boundary t) t.header.caps (volumes_of_sizes (sizes t.records))
@@ -296,17 +302,78 @@ wider_valid n s t h few wide small more v =
       wider_book n s t h p more first fits none,
     )
 
+-- the table of a file that opens
+full_rows : (classes size_max : ℕ) (t : choice.Table) (file : List ℕ) (m : Map) (book : Book)
+    → classes ≤ width → OpensBy classes size_max t file m book → HasFullRows (placed_table classes size_max file t)
+full_rows classes size_max t file m book wide o =
+    let header = file_header file t o.read in
+    record { caps_full = header.0; grid_full = header.1; classes = wide }
+
 -- what a file stands for among some classes it stands for among more
 pub more_classes : (few many size_max more : ℕ) (t : choice.Table) (file : List ℕ) (m : Map) (book : Book)
     → few ≤ many → many ≤ width → size_max < 2 ^ few → size_max ≤ more → OpensBy few size_max t file m book
     → OpensBy many more t file m book
 more_classes few many size_max more t file m book low wide small larger o =
     let placed = placed_table few size_max file t in
-    let header = file_header file t o.read in
-    let tables : HasFullRows placed = record {
-      caps_full = header.0;
-      grid_full = header.1;
-      classes = omega arith;
-    } in
+    let tables = full_rows few size_max t file m book (omega arith) o in
     let valid = wider_valid many more placed tables low wide small larger o.valid in
     record { read = o.read; valid = valid.0; same_map = o.same_map; same_book = o.same_book ∙ sym valid.1 }
+
+-- ---- the classes that a table doesn't have
+
+boundary_fits : (t : PlacedTable) (kind : Kind) → KindFits t kind
+    → boundary_of_kind t.classes kind t.header.boundary ≤ t.classes
+boundary_fits t Settled rule = omega arith
+boundary_fits t Moving rule = omega (arith, rule)
+
+module _ (t : PlacedTable) (h : HasFullRows t) (small : t.size_max < 2 ^ t.classes) (v : IsValid t) where
+  in_classes : table_boundary t ≤ t.classes
+  in_classes = boundary_fits t t.header.kind v.0.front
+
+  -- its book has no capacity of them
+  pub no_cap_above : (c : ℕ) → t.classes ≤ c → slice_index (book_of t).caps c ≡ 0
+  no_cap_above c high =
+      caps-settled_above (table_boundary t) c t.header.caps (volumes_of_sizes (sizes t.records)) h.caps_full
+      (omega (arith, in_classes, h.classes)) (omega (arith, in_classes, high))
+      ∙ no_bytes t c (λ i within some class. omega (
+        arith,
+        v.0.places.sizes i within,
+        small,
+        class_low (nth t i).size some,
+        power_rises t.classes (class_of (nth t i).size) (omega (arith, class, high)),
+      ))
+
+  -- and no entry of them, in any buffer, nor one in theirs
+  pub no_entry_above : (j c : ℕ) → (t.classes ≤ j) ⊎ (t.classes ≤ c) → cell (book_of t).grid j c ≡ 0
+  no_entry_above j c out =
+      let b = table_boundary t in
+      let wide = h.grid_full.full in
+      let fits : b ≤ width = omega (arith, in_classes, h.classes) in
+      elim (cases_lt j b) [
+        | inr high ↦ cell-settled_above b j c t.header.used wide fits high
+        | inl low ↦ cell-settled_below b j c t.header.used wide fits low
+            ∙ zero_cell t h v.0.places j c (inr (elim out as (λ _. j < c) [
+              | inl row ↦ absurd (omega (arith, in_classes, low, row))
+              | inr column ↦ omega (arith, in_classes, low, column)
+            ]))
+      ]
+
+pub no_more_classes : (classes size_max : ℕ) (file : List ℕ) (m : Map) (book : Book) → classes ≤ width
+    → size_max < 2 ^ classes → Opens classes size_max file m book → HasNoneFrom classes book
+no_more_classes classes size_max file m book wide small o =
+    let t = placed_table classes size_max file o.table in
+    let full = full_rows classes size_max o.table file m book wide o.opens in
+    record {
+      caps = λ c high. ap (λ (b : Book). slice_index b.caps c) o.opens.same_book
+          ∙ no_cap_above t full small o.opens.valid c high;
+      entries = λ j c out. ap (λ (b : Book). cell b.grid j c) o.opens.same_book
+          ∙ no_entry_above t full small o.opens.valid j c out;
+    }
+
+pub files_of_before : (file : List ℕ) (m : Map) (book : Book) → OpensAsBefore file m book
+    → Opens CLASSES SIZE_MAX file m book
+files_of_before file m book o = record {
+  table = o.table;
+  opens = more_classes 21 CLASSES 1048576 SIZE_MAX o.table file m book (omega arith) (omega arith) (omega arith)
+      (omega arith) o.opens;
+}

@@ -1,5 +1,6 @@
 -- What a whole file stands for.
-use Rattle.std.specs.Prelude.{◌≡◌, ℕ, ◌-◌, List, length, Ok}
+use Rattle.std.specs.Prelude.{◌≡◌, ◌⊎◌, ℕ, ◌-◌, ◌≤◌, List, length, slice_index, Ok}
+use Rattle.size_class.specs.Classes.{cell}
 use Rattle.slot_codec.specs.Spelling.{head_len}
 use Rattle.slot_codec.specs.Choice as choice
 use Rattle.store_terms.specs.Maps.{Map}
@@ -31,3 +32,12 @@ pub record OpensBy (classes size_max : ℕ) (t : choice.Table) (file : List ℕ)
 pub record Opens (classes size_max : ℕ) (file : List ℕ) (m : Map) (b : Book) : Type 0 where
   pub table : choice.Table
   pub opens : OpensBy classes size_max table file m b
+
+-- The same under the rules of the first programs, whose objects had at most 2^20 bytes and so one of 21 classes.
+abbrev pub OpensAsBefore : List ℕ → Map → Book → Type 0
+OpensAsBefore file m b = Opens 21 1048576 file m b
+
+-- A book has no capacity of the classes from one on, and no entry of them or in their buffers.
+pub record HasNoneFrom (first : ℕ) (b : Book) : Type 0 where
+  pub caps : (c : ℕ) → first ≤ c → slice_index b.caps c ≡ 0
+  pub entries : (j c : ℕ) → (first ≤ j) ⊎ (first ≤ c) → cell b.grid j c ≡ 0

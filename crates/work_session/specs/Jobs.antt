@@ -1,10 +1,11 @@
 -- What one job does, and what is known of a store between two jobs.
-use Rattle.std.specs.Prelude.{◌≡◌, ℕ, ◌+◌, ◌*◌, ◌^◌, ◌%◌, ◌<◌, ◌≤◌, List, ◌++◌, length, slice_index, sum_by, Result, IfErr, IfOk, IsTrue, OnOk}
+use Rattle.std.specs.Prelude.{◌≡◌, ℕ, ◌+◌, ◌*◌, ◌%◌, ◌<◌, ◌≤◌, List, ◌++◌, length, slice_index, sum_by, Result, IfErr, IfOk, IsTrue, OnOk}
 use Rattle.disk_face.specs.States as disk
 use Rattle.size_class.specs.Classes.{width}
 use Rattle.size_class.specs.declared.TheConstants.{SIZE_MAX}
 use Rattle.store_terms.specs.Requests as ask
 use Rattle.store_terms.specs.Requests.{Request}
+use Rattle.spot_terms.specs.Limits.{most_bytes}
 use Rattle.flush_run.specs.Calls.{move_calls, risen}
 use Rattle.move_cost.specs.Costs.{IsCost, potential}
 use Rattle.store_core.specs.Connection.{Kept, state_of}
@@ -47,7 +48,7 @@ most_read = SIZE_MAX
 
 -- in one job no class of the ledger rises by more
 abbrev pub most_rise : ℕ
-most_rise = 2 ^ 37
+most_rise = 2 * most_bytes
 
 abbrev pub read_head : Reply → ℕ
 read_head (head.Data size) = size

@@ -7,5 +7,5 @@ returns-then-size-gt-SIZE_MAX-clause-object g c ok =
     dropped (IsTrue (g.I.Source.state c.args.input.now).tells)
     (c.args.ahead.now ++ (g.I.Source.state c.args.input.now).left)
     (c.drop_body.new.ahead
-    ++ (g.I.Source.state c.drop_body.new.input).left) c.args.body.now c.args.size (omega arith)
+    ++ (g.I.Source.state c.drop_body.new.input).left) c.args.body.now.items c.args.size (omega arith)
     (λ told. c.drop_body.ensures.dropped told ok)

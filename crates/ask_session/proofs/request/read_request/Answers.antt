@@ -11,7 +11,7 @@ returns-in_default-clause-read g c =
     let none : size_asked c.in_ok-ask.ask ≡ None = grind arith in
     read_bare (IsTrue (g.I.Source.state c.args.input.now).tells) (c.args.ahead.now
     ++ (g.I.Source.state c.args.input.now).left)
-    (c.read_first.new.ahead ++ (g.I.Source.state c.read_first.new.input).left) c.args.body.now c.in_ok-ask.ask
+    (c.read_first.new.ahead ++ (g.I.Source.state c.read_first.new.input).left) c.args.body.now.items c.in_ok-ask.ask
     c.in_ok-ask.ensures.ask none c.in_ok-ask.ensures.line
 
 pub returns-in-Ok-clause-read : goal.returns-in-Ok-clause-read
@@ -19,12 +19,12 @@ returns-in-Ok-clause-read g c =
     read_sized (IsTrue (g.I.Source.state c.args.input.now).tells)
     (c.args.ahead.now ++ (g.I.Source.state c.args.input.now).left)
     (c.read_first.new.ahead ++ (g.I.Source.state c.read_first.new.input).left)
-    (c.read_object.new.ahead ++ (g.I.Source.state c.read_object.new.input).left) c.read_object.new.body
+    (c.read_object.new.ahead ++ (g.I.Source.state c.read_object.new.input).left) c.read_object.new.body.items
     c.in_ok-ask.ask c.in-Some.size c.in_ok-ask.ensures.ask c.in-Some.ensures c.in_ok-ask.ensures.line
     (subst (λ (b : Bool). HoldsObject (IsTrue b)
     (c.read_first.new.ahead ++ (g.I.Source.state c.read_first.new.input).left)
     (10 ∷ (c.read_object.new.ahead ++ (g.I.Source.state c.read_object.new.input).left)) c.in-Some.size
-    c.read_object.new.body) c.in_ok-ask.ensures.told c.in-Ok.ensures.object)
+    c.read_object.new.body.items) c.in_ok-ask.ensures.told c.in-Ok.ensures.object)
 
 pub returns-in-Err-clause-none : goal.returns-in-Err-clause-none
 returns-in-Err-clause-none g c told is =

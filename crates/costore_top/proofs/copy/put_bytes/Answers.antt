@@ -7,7 +7,7 @@ use Rattle.costore_top.proofs.copy.put_bytes.Goals as goal
 pub pieces-preserved : goal.pieces-preserved
 pieces-preserved g c = record {
   within = omega arith;
-  buffer = grind (arith, common_steps);
+  room = grind (arith, common_steps);
   put = λ told sink_told.
       let here : IsTrue (g.D.Disk.state c.pieces.disk).tells =
       grind (arith, c.pieces.invariant.frame.stays.told) in

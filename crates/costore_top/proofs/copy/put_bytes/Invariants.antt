@@ -6,7 +6,7 @@ use Rattle.costore_top.proofs.copy.put_bytes.Given as goal
 abbrev pub invariant-pieces : goal.invariant-pieces
 invariant-pieces g l = record {
   within : l.done ≤ l.size;
-  buffer : length l.buffer ≡ 4096;
+  room : length l.piece ≡ length l.fn.piece;
   put : IsTrue (g.D.Disk.state l.fn.disk).tells → IsTrue (g.O.Sink.state l.fn.output).tells
       → (g.O.Sink.state l.output).given ≡ (g.O.Sink.state l.fn.output).given
       ++ bytes_at (g.D.Disk.state l.fn.disk).file l.at l.done;

@@ -1,7 +1,7 @@
 use Rattle.std.proofs.Common.{arith, refl, rules}
 use Rattle.std.proofs.lemmas.Grind.{common_steps}
 use Rattle.costore_top.specs.Getting.{IsObject}
-use Rattle.costore_top.proofs.AnswerLaws.{stopped}
+use Rattle.costore_top.proofs.AnswerLaws.{stopped, stopped_for_memory}
 use Rattle.costore_top.proofs.get.get.Goals as goal
 
 pub returns-in_err-at-clause-answers : goal.returns-in_err-at-clause-answers
@@ -9,6 +9,12 @@ returns-in_err-at-clause-answers g c = λ told.
     let output = g.O.Sink.state c.args.output.now in
     let all = stopped (IsObject c.args.name.now (g.D.Disk.state c.args.disk.now).file) output output
     c.in_err-at.field-0.0 refl c.in_err-at.ensures.looks.only.0 (c.in_err-at.ensures.stopped told) in
+    search rules
+
+pub returns-in_err-piece-clause-answers : goal.returns-in_err-piece-clause-answers
+returns-in_err-piece-clause-answers g c = λ told.
+    let all = stopped_for_memory (IsObject c.args.name.now (g.D.Disk.state c.args.disk.now).file)
+    (g.O.Sink.state c.args.output.now) c.in_err-piece.field-0.0 c.in_err-piece.ensures.refused in
     search rules
 
 pub returns : goal.returns
