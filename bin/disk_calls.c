@@ -1,6 +1,6 @@
 /* What the calls of a disk cost in C: writes and reads of 4 KiB and 64 KiB in a row, and writes with a sync each, over
    a scratch file where it runs, which is removed. It prints for each size the size, the pieces, and the microseconds of
-   each kind, as `bench disk` of crates/bench does (docs/REAL_FILE.md). The word is the number of pieces.
+   each kind, as `bench disk` of crates/bench does (docs/PERFORMANCE.md). The word is the number of pieces.
 
        gcc -O2 -o disk_calls bin/disk_calls.c && ./disk_calls 10000
 */

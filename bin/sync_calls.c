@@ -1,5 +1,5 @@
 /* What fsync and fdatasync cost in C, after a write of 4 KiB each: over a file that stays as long as it is, and over one
-   that grows. It prints the microseconds of a call (docs/REAL_FILE.md). The scratch file stands where it runs, and is
+   that grows. It prints the microseconds of a call (docs/PERFORMANCE.md). The scratch file stands where it runs, and is
    removed. The word is the number of calls.
 
        gcc -O2 -o sync_calls bin/sync_calls.c && ./sync_calls 100
