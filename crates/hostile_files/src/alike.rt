@@ -3,14 +3,9 @@ use disk_mem::MemDisk;
 use extent_table::Spot;
 use plain_layout::{Opened, Refusal, open};
 use reopen::{Loaded, OpenFault, State, read_state};
+use size_class::{CLASSES, SIZE_MAX};
 use slot_codec::Kind;
 use std::alloc::Global;
-
-/// The classes of the program.
-const CLASSES: u8 = 21;
-
-/// The most bytes of an object.
-const SIZE_MAX: u64 = 1_048_576;
 
 /// What a file is by both ways of opening it.
 #[derive(Clone, Copy)]
@@ -47,8 +42,8 @@ pub enum Parting {
 /// Opens a file in both ways. Where they agree, they found one table or refuse it for one reason.
 /// Where one of them finds no memory and the other does, they differ.
 pub fn opened_by_both(alloc: Global, file: &mut MemDisk) -> Result<Seen, Parting> {
-    let plain = open(alloc, file, CLASSES, SIZE_MAX);
-    let read = read_state::<MemDisk, 21>(alloc, file);
+    let plain = open(alloc, file, CLASSES as u8, SIZE_MAX);
+    let read = read_state::<MemDisk, CLASSES>(alloc, file);
     match (plain, read) {
         (Ok(opened), Ok(state)) => same_state(&opened, &state),
         (Err(refusal), Err(fault)) => same_refusal(refusal, fault),
@@ -57,7 +52,7 @@ pub fn opened_by_both(alloc: Global, file: &mut MemDisk) -> Result<Seen, Parting
 }
 
 /// Both found one table, of the kind of the state.
-fn same_state(opened: &Opened, state: &State<21>) -> Result<Seen, Parting> {
+fn same_state(opened: &Opened, state: &State<CLASSES>) -> Result<Seen, Parting> {
     match state {
         State::Still(loaded) => {
             same_table(opened, loaded, Kind::Settled)?;
@@ -89,7 +84,7 @@ fn as_refusal(fault: OpenFault) -> Refusal {
 }
 
 /// Both have the same superblock, slot, header and objects, and the header is of a kind.
-fn same_table(opened: &Opened, loaded: &Loaded<21>, kind: Kind) -> Result<(), Parting> {
+fn same_table(opened: &Opened, loaded: &Loaded<CLASSES>, kind: Kind) -> Result<(), Parting> {
     if loaded.header.kind != kind {
         return Err(Parting::Kind);
     }
@@ -106,7 +101,7 @@ fn same_table(opened: &Opened, loaded: &Loaded<21>, kind: Kind) -> Result<(), Pa
 }
 
 /// Both have the same objects at the same spots.
-fn same_objects(opened: &Opened, loaded: &Loaded<21>) -> Result<(), Parting> {
+fn same_objects(opened: &Opened, loaded: &Loaded<CLASSES>) -> Result<(), Parting> {
     if opened.table.records.len() as u64 != loaded.table.count() {
         return Err(Parting::Count);
     }

@@ -39,16 +39,18 @@ fn opens_more_moving_files(rt: HostRuntime) -> Result<(), Fail> {
     try_rows(&rt, rt.alloc(), &MOVING, &MORE)
 }
 
-const ANY_TABLE: [Row; 12] = rows! {
-        "1: an object of 1,048,577 bytes": 19857, [(8624, 1), (8626, 0x10)] => Some(Refusal::Rule(1, 0));
+const ANY_TABLE: [Row; 14] = rows! {
+        "1: an object of 67,108,865 bytes": 19857, [(8624, 1), (8627, 4)] => Some(Refusal::Rule(1, 0));
         "2: an empty object at 249": 19857, [(8784, 0)] => Some(Refusal::Rule(2, 2));
+        "3: an object of 1,048,577 bytes": 19857, [(8624, 1), (8626, 0x10)] => Some(Refusal::Rule(3, 0));
         "3: an object past the end": 19857, [(8776, 250)] => Some(Refusal::Rule(3, 2));
         "3: a wall past the end": 19857, [(88, 255)] => Some(Refusal::Rule(3, 3));
-        "4: a boundary behind all classes": 19857, [(66, 21)] => Some(Refusal::Rule(4, 0));
+        "4: a boundary behind all classes": 19857, [(66, 27)] => Some(Refusal::Rule(4, 0));
         "5: a capacity from the boundary on": 19857, [(120, 5)] => Some(Refusal::Rule(5, 2));
         "5: an entry from the boundary on": 19857, [(888, 1)] => Some(Refusal::Rule(5, 2));
         "6: more in a buffer than it has": 19857, [(360, 1)] => Some(Refusal::Rule(6, 0));
         "7: an object below the boundary past its segment": 19857, [(8784, 1)] => Some(Refusal::Rule(7, 2));
+        "7: a boundary behind the classes of all objects": 19857, [(66, 21)] => Some(Refusal::Rule(7, 0));
         "8: two objects share a byte": 19857, [(8696, 240)] => Some(Refusal::Rule(8, 2));
         "9: a byte that nothing has": 19857, [(112, 1)] => Some(Refusal::Rule(9, 1));
         // Below boundary 7 the one object fills its segment of 100 bytes, behind which its buffer has 11.

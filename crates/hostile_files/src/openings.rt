@@ -5,6 +5,7 @@ use crate::alike::{Parting, Seen, opened_by_both};
 use disk_mem::MemDisk;
 use plain_layout::{Opened, Refusal, open};
 use row_vectors::images::{Change, disk};
+use size_class::{CLASSES, SIZE_MAX};
 use slot_codec::{CodecFault, Name};
 use slot_pair::SlotFault;
 use std::alloc::Global;
@@ -71,16 +72,18 @@ fn refuses_what_no_slot_shows(rt: HostRuntime) -> Result<(), Fail> {
     try_rows(&rt, rt.alloc(), &[], &NO_SLOT)
 }
 
-const ONE_OBJECT: [Row; 13] = rows! {
-        "1: an object of 1,048,577 bytes": 19608, [(8624, 1), (8626, 0x10)] => Some(Refusal::Rule(1, 0));
+const ONE_OBJECT: [Row; 15] = rows! {
+        "1: an object of 67,108,865 bytes": 19608, [(8624, 1), (8627, 4)] => Some(Refusal::Rule(1, 0));
         "2: an empty object at 1": 19608, [(8616, 1), (8624, 0)] => Some(Refusal::Rule(2, 0));
         "3: an object past the end": 19608, [(8616, 1)] => Some(Refusal::Rule(3, 0));
         "3: a file that was cut": 19607, [] => Some(Refusal::Rule(3, 0));
+        "3: an object of 1,048,577 bytes": 19608, [(8624, 1), (8626, 0x10)] => Some(Refusal::Rule(3, 0));
         "3: a layout past the end": 19608, [(120, 6)] => Some(Refusal::Rule(3, 1));
+        "3: a layout of class 21 past the end": 19608, [(272, 1)] => Some(Refusal::Rule(3, 1));
         "4: a boundary": 19608, [(66, 1)] => Some(Refusal::Rule(4, 0));
         "4: a wall": 19608, [(88, 1)] => Some(Refusal::Rule(4, 0));
         "4: a slack": 19608, [(96, 1)] => Some(Refusal::Rule(4, 0));
-        "5: a class too many": 19608, [(272, 1)] => Some(Refusal::Rule(5, 21));
+        "5: a class too many": 19608, [(320, 1)] => Some(Refusal::Rule(5, 27));
         "5: a greater class in a buffer": 19608, [(632, 1)] => Some(Refusal::Rule(5, 1));
         "6: more in a buffer than it has": 19608, [(888, 1)] => Some(Refusal::Rule(6, 2));
         "7: an object past its segment": 19608, [(120, 4)] => Some(Refusal::Rule(7, 0));
@@ -122,7 +125,7 @@ pub fn open_plainly(alloc: Global, length: usize, changes: &[Change]) -> Result<
     ensures divisor { IfOk result (λ o. (2 ≤ o.table.k) × (o.table.k ≤ 64)) }
 {
     let mut file = disk(alloc, length, changes, &[])?;
-    match open(alloc, &mut file, 21, 1_048_576) {
+    match open(alloc, &mut file, CLASSES as u8, SIZE_MAX) {
         Ok(opened) => Ok(opened),
         Err(_) => Err("a store")?,
     }

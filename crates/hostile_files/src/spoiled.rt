@@ -6,9 +6,9 @@ use std::test::Fail;
 
 /// A byte of each part that opening reads: the superblock, the header with the capacities and entries
 /// of the first classes, the records, the gates.
-const PLACES: [usize; 30] = [
-    0, 7, 8, 16, 24, 64, 65, 66, 67, 71, 72, 79, 80, 88, 96, 104, 112, 120, 152, 272, 360, 624,
-    888, 8552, 8553, 8554, 8616, 8624, 9832, 19_602,
+const PLACES: [usize; 31] = [
+    0, 7, 8, 16, 24, 64, 65, 66, 67, 71, 72, 79, 80, 88, 96, 104, 112, 120, 152, 272, 320, 360,
+    624, 888, 8552, 8553, 8554, 8616, 8624, 9832, 19_602,
 ];
 
 /// Spoils each of the bytes by each of some values.

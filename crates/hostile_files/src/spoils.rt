@@ -2,6 +2,7 @@
 ghost use Rattle.std.specs.Prelude.{◌<◌, ◌≤◌, ◌+◌, length};
 
 use drawn_words::Drawn;
+use size_class::{CLASSES, SIZE_MAX};
 use std::alloc::AllocError;
 
 /// A part of a file. Those of tables are parts of slot 0.
@@ -24,9 +25,9 @@ enum Part {
     Count,
     Wall,
     Slack,
-    /// The capacity of a class from 0 to 21.
+    /// The capacity of a class in use, or of the one behind them.
     Capacity,
-    /// What some class has taken of some buffer, each from 0 to 21, or of buffer 6, each from 0 to 7.
+    /// What some class has taken of some buffer, each of them such a class, or of buffer 6 one from 0 to 7.
     Used,
     Six,
     /// Of one of the first four records the length of the name, its first byte, the byte behind that, the
@@ -81,6 +82,9 @@ const PARTS: [Part; 36] = [
     Part::Gate,
     Part::Length,
 ];
+
+/// The classes that are spoilt are below this one.
+const LIMIT: u32 = CLASSES as u32 + 1;
 
 /// No file gets longer.
 const LONGEST: u64 = 30_000;
@@ -138,8 +142,8 @@ fn place(part: Part, words: &mut Drawn) -> usize
         Part::Count => 80,
         Part::Wall => 88,
         Part::Slack => 96,
-        Part::Capacity => 104 + 8 * below(22, words),
-        Part::Used => 360 + 256 * below(22, words) + 8 * below(22, words),
+        Part::Capacity => 104 + 8 * below(LIMIT, words),
+        Part::Used => 360 + 256 * below(LIMIT, words) + 8 * below(LIMIT, words),
         Part::Six => 1896 + 8 * below(8, words),
         Part::Letters => 8552 + 80 * below(4, words),
         Part::Letter => 8553 + 80 * below(4, words),
@@ -198,7 +202,7 @@ fn value(old: u64, words: &mut Drawn) -> u64 {
         2 | 3 => old.wrapping_add(1),
         4 | 5 => old.wrapping_sub(1),
         6 => 1 << 48,
-        7 => 1_048_577,
+        7 => SIZE_MAX + 1,
         8 => 0xA5,
         9 => u64::from(words.below(256)),
         10 => old.wrapping_add(u64::from(words.below(256))),

@@ -2,6 +2,7 @@
 ghost use Rattle.std.specs.Prelude.{◌<◌, IfSome, length};
 
 use crate::plain_reader::{Asked, first_request};
+use size_class::SIZE_MAX;
 use std::alloc::{AllocError, Global};
 
 /// An object, by the bytes of the input that it came with.
@@ -29,7 +30,7 @@ const NAMES: usize = 16;
 /// The longest name of an object, and the most bytes of one.
 const LONGEST: usize = 63;
 
-const LARGEST: usize = 1_048_576;
+const LARGEST: usize = SIZE_MAX as usize;
 
 impl<'a> PlainMap<'a> {
     /// A map without objects.

@@ -8,14 +8,10 @@ use drawn_words::Drawn;
 use plain_layout::open;
 use row_vectors::Outcome;
 use row_vectors::runs::{Ran, formatted, session};
+use size_class::{CLASSES, SIZE_MAX};
 use slot_codec::Record;
 use std::alloc::Global;
 use std::test::Fail;
-
-/// The classes of the program, and the most bytes of an object.
-const CLASSES: u8 = 21;
-
-const SIZE_MAX: u64 = 1_048_576;
 
 /// Where the data part of a file with room for 16 names begins.
 const HEAD: u64 = 19_603;
@@ -65,7 +61,7 @@ fn are_numbers(outcome: &Outcome, status: u8, done: u64, kept_done: u64) -> bool
 fn holds(alloc: Global, disk: &MemDisk, objects: &[Object<'_>]) -> Result<bool, Fail> {
     let left = disk.image(disk.turns(), Choice::Durable)?;
     let mut file = MemDisk::from_bytes(alloc, &left)?;
-    let Ok(opened) = open(alloc, &mut file, CLASSES, SIZE_MAX) else {
+    let Ok(opened) = open(alloc, &mut file, CLASSES as u8, SIZE_MAX) else {
         return Ok(false);
     };
     let records = opened.table.records.as_slice();

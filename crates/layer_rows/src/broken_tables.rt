@@ -4,8 +4,9 @@ ghost use Rattle.std.specs.Prelude.{◌≡◌};
 ghost use Rattle.std.specs.List.{list_all};
 ghost use Rattle.slot_codec.specs.Reading.{all_in_range, is_in_range};
 
-use crate::table_words::{Number, TableWords, header_of, plain_table};
+use crate::table_words::{FEWER, LIMITS, Limits, Number, TableWords, header_of, plain_table};
 use extent_table::{Spot, Table};
+use size_class::{CLASSES, SIZE_MAX};
 use slot_codec::{Header, Kind, Name, NoMemory};
 use std::alloc::Global;
 use std::process::Abort;
@@ -39,7 +40,7 @@ macro_rules! settled {
 }
 
 macro_rules! moving {
-    ($($what:literal: $kind:ident $boundary:literal, $wall:literal, $slack:literal, $place:literal =>
+    ($($what:literal: $kind:ident $boundary:expr, $wall:literal, $slack:literal, $place:literal =>
         $first:expr),*) => {
         &[$(Tried {
             what: $what,
@@ -57,6 +58,7 @@ macro_rules! moving {
     };
 }
 
+/// Tables that break the same rule among all classes and among fewer.
 const SETTLED: &[Tried] = settled!(
     "one object": 5, 0, [Number::Cap(2, 5)], [(b'a', 0, 5)] => None,
     "no object": 0, 0, [], [] => None,
@@ -64,14 +66,15 @@ const SETTLED: &[Tried] = settled!(
         [(b'a', 0, 100), (b'b', 100, 10)] => None,
     "laid out by class": 127, 0, [Number::Cap(2, 5), Number::Cap(3, 10), Number::Cap(6, 100)],
         [(b'a', 16, 100), (b'b', 5, 10), (b'c', 0, 5)] => None,
-    "too large": 5, 0, [Number::Cap(2, 5)], [(b'a', 0, 1_048_577)] => Some((1, 0)),
+    "too large": 5, 0, [Number::Cap(2, 5)], [(b'a', 0, SIZE_MAX + 1)] => Some((1, 0)),
     "empty and not at 0": 5, 0, [Number::Cap(2, 5)], [(b'a', 1, 0)] => Some((2, 0)),
     "the second empty and not at 0": 5, 0, [Number::Cap(2, 5)], [(b'a', 0, 5), (b'b', 1, 0)] => Some((2, 1)),
     "past the end": 5, 0, [Number::Cap(2, 5)], [(b'a', 1, 5)] => Some((3, 0)),
     "cut": 4, 0, [Number::Cap(2, 5)], [(b'a', 0, 5)] => Some((3, 0)),
     "a layout past the end": 5, 0, [Number::Cap(2, 5), Number::Cap(3, 1)], [(b'a', 0, 5)] => Some((3, 1)),
     "a boundary": 5, 2, [Number::Cap(2, 5)], [(b'a', 0, 5)] => Some((4, 0)),
-    "a class too many": 5, 0, [Number::Cap(2, 5), Number::Cap(21, 1)], [(b'a', 0, 5)] => Some((5, 21)),
+    "a class too many": 5, 0, [Number::Cap(2, 5), Number::Cap(CLASSES, 1)], [(b'a', 0, 5)] =>
+        Some((5, CLASSES as u64)),
     "an entry without room": 5, 0, [Number::Cap(2, 5), Number::Used(2, 2, 1)], [(b'a', 0, 5)] => Some((6, 2)),
     "in another class": 5, 0, [Number::Cap(3, 5)], [(b'a', 0, 5)] => Some((7, 0)),
     "half in a buffer": 111, 0, [Number::Cap(6, 100), Number::Used(6, 3, 10)],
@@ -90,22 +93,37 @@ const SETTLED: &[Tried] = settled!(
         [(b'a', 0, 100), (b'b', 111, 200)] => Some((10, 7))
 );
 
+/// The same of moving tables.
 const MOVING: &[Tried] = moving!(
     "as a flush left it": Moving 2, 239, 112, 139 => None,
     "settled with a boundary": Settled 2, 0, 0, 139 => Some((4, 0)),
-    "no class to move": Moving 21, 239, 112, 139 => Some((4, 0)),
+    "no class to move": Moving CLASSES as u8, 239, 112, 139 => Some((4, 0)),
     "a wall past the end": Moving 2, 255, 112, 139 => Some((3, 3)),
     "too little room": Moving 2, 238, 112, 139 => Some((11, 0)),
     "a gap of a byte": Moving 2, 239, 112, 138 => Some((12, 0)),
     "across the wall": Moving 2, 239, 112, 140 => Some((8, 1))
 );
 
-const OF_MORE_CLASSES: &[Tried] = settled!(
-    "one object": 5, 0, [Number::Cap(2, 5)], [(b'a', 0, 5)] => None,
-    "too large": 5, 0, [Number::Cap(2, 5)], [(b'a', 0, 67_108_865)] => Some((1, 0)),
+/// Tables that break another rule among all classes than among fewer: there the object is within the sizes,
+/// the capacity is one of the layout, and the boundary is among the classes.
+const OTHERWISE: &[Tried] = settled!(
     "large": 5, 0, [Number::Cap(2, 5)], [(b'a', 0, 1_048_577)] => Some((3, 0)),
-    "a layout past the end": 5, 0, [Number::Cap(2, 5), Number::Cap(21, 1)], [(b'a', 0, 5)] => Some((3, 1)),
-    "a class too many": 5, 0, [Number::Cap(2, 5), Number::Cap(27, 1)], [(b'a', 0, 5)] => Some((5, 27))
+    "a larger class past the end": 5, 0, [Number::Cap(2, 5), Number::Cap(21, 1)], [(b'a', 0, 5)] =>
+        Some((3, 1))
+);
+
+const MOVING_OTHERWISE: &[Tried] = moving!(
+    "a larger class to move": Moving 21, 239, 112, 139 => Some((7, 0))
+);
+
+/// The same tables among fewer.
+const OF_FEWER_CLASSES: &[Tried] = settled!(
+    "too large": 5, 0, [Number::Cap(2, 5)], [(b'a', 0, 1_048_577)] => Some((1, 0)),
+    "a class too many": 5, 0, [Number::Cap(2, 5), Number::Cap(21, 1)], [(b'a', 0, 5)] => Some((5, 21))
+);
+
+const MOVING_OF_FEWER: &[Tried] = moving!(
+    "no class to move": Moving 21, 239, 112, 139 => Some((4, 0))
 );
 
 /// Whether a header's numbers are below 2^48.
@@ -160,8 +178,8 @@ fn checked(alloc: Global, words: &TableWords) -> Result<Option<(u8, u64)>, NoMem
         return Ok(Some((0, 0)));
     }
     let checked = match words.kind {
-        Kind::Settled => check_settled::<21>(&table, &header, 9, words.len, &mut order),
-        Kind::Moving => check_moving::<21>(&table, &header, 9, words.len, &mut order),
+        Kind::Settled => check_settled::<CLASSES>(&table, &header, 9, words.len, &mut order),
+        Kind::Moving => check_moving::<CLASSES>(&table, &header, 9, words.len, &mut order),
     };
     match checked {
         Ok(_layout) => Ok(None),
@@ -180,31 +198,43 @@ fn try_checked(rt: &impl Abort, alloc: Global, tried: &Tried) {
     try_first(rt, "checked", found, tried);
 }
 
-/// Tries what the plain definitions name, for so many classes.
-fn try_plain(rt: &impl Abort, alloc: Global, classes: u8, tried: &Tried) {
-    let table = plain_table(alloc, classes, &tried.table).expect(rt, "memory");
+/// Tries what the plain definitions name, for some limits.
+fn try_plain(rt: &impl Abort, alloc: Global, limits: Limits, tried: &Tried) {
+    let table = plain_table(alloc, limits, &tried.table).expect(rt, "memory");
     try_first(rt, "plainly", table.first_broken(), tried);
+}
+
+/// Tries what the check of each table names, and the plain definitions for the program's limits.
+fn try_each(rt: &impl Abort, alloc: Global, tables: &[Tried]) {
+    for tried in tables {
+        try_checked(rt, alloc, tried);
+        try_plain(rt, alloc, LIMITS, tried);
+    }
+}
+
+/// Tries what the plain definitions name of each table among fewer classes.
+fn try_fewer(rt: &impl Abort, alloc: Global, tables: &[Tried]) {
+    for tried in tables {
+        try_plain(rt, alloc, FEWER, tried);
+    }
 }
 
 #[test]
 fn broken_rules_of_settled_tables(rt: HostRuntime) {
-    for tried in SETTLED {
-        try_checked(&rt, rt.alloc(), tried);
-        try_plain(&rt, rt.alloc(), 21, tried);
-    }
+    try_each(&rt, rt.alloc(), SETTLED);
+    try_fewer(&rt, rt.alloc(), SETTLED);
 }
 
 #[test]
 fn broken_rules_of_moving_tables(rt: HostRuntime) {
-    for tried in MOVING {
-        try_checked(&rt, rt.alloc(), tried);
-        try_plain(&rt, rt.alloc(), 21, tried);
-    }
+    try_each(&rt, rt.alloc(), MOVING);
+    try_fewer(&rt, rt.alloc(), MOVING);
 }
 
 #[test]
 fn more_classes_break_other_rules(rt: HostRuntime) {
-    for tried in OF_MORE_CLASSES {
-        try_plain(&rt, rt.alloc(), 27, tried);
-    }
+    try_each(&rt, rt.alloc(), OTHERWISE);
+    try_each(&rt, rt.alloc(), MOVING_OTHERWISE);
+    try_fewer(&rt, rt.alloc(), OF_FEWER_CLASSES);
+    try_fewer(&rt, rt.alloc(), MOVING_OF_FEWER);
 }

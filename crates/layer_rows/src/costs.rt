@@ -1,6 +1,6 @@
 //! Weights and factors at known values.
 use move_cost::{Flat, Linear, Seek, factor, weighted};
-use size_class::Row;
+use size_class::{CLASSES, Row};
 
 /// A divisor, and its factor.
 const FACTORS: [(u64, u64); 3] = [(2, 79), (9, 561), (64, 4995)];
@@ -18,8 +18,8 @@ fn factors(rt: HostRuntime) {
 }
 
 /// A row of three classes.
-fn moved() -> Row<21> {
-    let mut moved = Row::<21>::zero();
+fn moved() -> Row<CLASSES> {
+    let mut moved = Row::<CLASSES>::zero();
     moved.set(6, 300);
     moved.set(3, 20);
     moved.set(2, 5);
@@ -29,8 +29,8 @@ fn moved() -> Row<21> {
 #[test]
 fn weights_of_rows(rt: HostRuntime) {
     let moved = moved();
-    assert!(rt; weighted(&Linear, &moved) == 340_787_200);
-    assert!(rt; weighted(&Flat, &moved) == 8_847_360);
-    assert!(rt; weighted(&Seek, &moved) == 907_018_240);
-    assert!(rt; weighted(&Linear, &Row::<21>::zero()) == 0);
+    assert!(rt; weighted(&Linear, &moved) == 21_810_380_800);
+    assert!(rt; weighted(&Flat, &moved) == 566_231_040);
+    assert!(rt; weighted(&Seek, &moved) == 58_049_167_360);
+    assert!(rt; weighted(&Linear, &Row::<CLASSES>::zero()) == 0);
 }

@@ -9,6 +9,7 @@ use crate::flush_resumes::found_again;
 use crate::list_shelf::ListShelf;
 use flush_plan::{Item, Laying, Lifting, Move, Numbers, Packing, Settled};
 use segment_layout::Layout;
+use size_class::CLASSES;
 use std::alloc::{AllocError, Global};
 use std::process::Abort;
 use std::test::Fail;
@@ -47,6 +48,8 @@ macro_rules! flushes {
 
 const FLUSHES: &[Worked] = flushes!(
     [], [], 100, [6, 0, 212, 101, 312, 111] => [(PENDING, 212, 0)];
+    [], [], 67_108_864, [26, 0, 141_674_269, 67_108_865, 208_783_133, 74_565_404]
+        => [(PENDING, 141_674_269, 0)];
     [(6, 100)], [(0, 6, 0, 100), (1, 3, 100, 10)], 5, [2, 0, 239, 112, 254, 127]
         => [(1, 100, 239), (0, 0, 139), (PENDING, 249, 0), (1, 239, 5), (0, 139, 16)];
     [(2, 5), (3, 10), (6, 100)], [(0, 6, 16, 100)], 0, [2, 0, 239, 112, 239, 111]
@@ -87,9 +90,9 @@ fn items_of(alloc: Global, objects: &[(u32, u8, u64, u64)]) -> Result<Vec<Item>,
 }
 
 /// Begins a worked flush.
-fn begin(alloc: Global, layout: &Layout<21>, worked: &Worked) -> Result<Begun<21>, Fail>
+fn begin(alloc: Global, layout: &Layout<CLASSES>, worked: &Worked) -> Result<Begun<CLASSES>, Fail>
     ensures { IfOk result (λ begun.
-        LiftsList 21 (divisor_of layout.now) begun.lifting begun.shelf.items.items) }
+        LiftsList CLASSES (divisor_of layout.now) begun.lifting begun.shelf.items.items) }
 {
     let items = items_of(alloc, worked.objects)?;
     let begun = flush_of(layout, worked.numbers.boundary, items, worked.pending).ok_or("no flush")?;
@@ -118,7 +121,7 @@ fn try_moves(rt: &impl Abort, made: &[Move], wanted: &[(u32, u64, u64)]) {
 fn try_flush(
     rt: &impl Abort,
     alloc: Global,
-    layout: &Layout<21>,
+    layout: &Layout<CLASSES>,
     worked: &Worked,
 ) -> Result<(), Fail> {
     let Begun { lifting, shelf } = begin(alloc, layout, worked)?;
@@ -136,7 +139,7 @@ fn try_flush(
 fn try_found_flush(
     rt: &impl Abort,
     alloc: Global,
-    layout: &Layout<21>,
+    layout: &Layout<CLASSES>,
     worked: &Worked,
 ) -> Result<(), Fail> {
     let Begun { lifting, shelf } = begin(alloc, layout, worked)?;
@@ -156,13 +159,13 @@ fn try_found_flush(
 /// Tries the numbers of a flush from Pack on, and notes its moves.
 fn try_packed(
     rt: &impl Abort,
-    layout: &Layout<21>,
-    packing: Packing<21>,
+    layout: &Layout<CLASSES>,
+    packing: Packing<CLASSES>,
     shelf: ListShelf,
     made: &mut Vec<Move>,
     numbers: Numbers,
 ) -> Result<(), Fail>
-    requires { PacksList 21 (divisor_of layout.now) packing shelf.items.items }
+    requires { PacksList CLASSES (divisor_of layout.now) packing shelf.items.items }
 {
     let mut shelf = shelf;
     try_numbers(rt, packing.numbers(), numbers);
@@ -173,13 +176,13 @@ fn try_packed(
 /// Tries the numbers of a flush from Lay on, and notes its moves.
 fn try_laid(
     rt: &impl Abort,
-    layout: &Layout<21>,
-    laying: Laying<21>,
+    layout: &Layout<CLASSES>,
+    laying: Laying<CLASSES>,
     shelf: ListShelf,
     made: &mut Vec<Move>,
     numbers: Numbers,
 ) -> Result<(), Fail>
-    requires { LaysList 21 (divisor_of layout.now) laying shelf.items.items }
+    requires { LaysList CLASSES (divisor_of layout.now) laying shelf.items.items }
 {
     let mut shelf = shelf;
     try_numbers(rt, laying.numbers(), numbers);
@@ -202,7 +205,7 @@ fn worked_flushes(rt: HostRuntime) -> Result<(), Fail> {
 fn try_found_packed(
     rt: &impl Abort,
     alloc: Global,
-    layout: &Layout<21>,
+    layout: &Layout<CLASSES>,
     worked: &Worked,
 ) -> Result<(), Fail> {
     let Begun { lifting, shelf } = begin(alloc, layout, worked)?;
@@ -217,13 +220,13 @@ fn try_found_packed(
 
 /// Makes the moves of Lift, and notes them, then one of Pack, and finds the flush again.
 fn lift_and_find(
-    layout: &Layout<21>,
-    lifting: Lifting<21>,
+    layout: &Layout<CLASSES>,
+    lifting: Lifting<CLASSES>,
     shelf: &mut ListShelf,
     made: &mut Vec<Move>,
-) -> Result<Packing<21>, Fail>
-    requires { LiftsList 21 (divisor_of layout.now) lifting shelf.old.items.items }
-    ensures { IfOk result (λ again. PacksList 21 (divisor_of layout.now) again shelf.new.items.items) }
+) -> Result<Packing<CLASSES>, Fail>
+    requires { LiftsList CLASSES (divisor_of layout.now) lifting shelf.old.items.items }
+    ensures { IfOk result (λ again. PacksList CLASSES (divisor_of layout.now) again shelf.new.items.items) }
 {
     let lifted = lift_all(layout, lifting, shelf, made)?;
     let packing = pack_once(layout, lifted, shelf).ok_or("nothing to pack")?;
@@ -234,12 +237,12 @@ fn lift_and_find(
 /// Goes on to the end. One move was noted before, and Pack has none left.
 fn pack_and_lay(
     rt: &impl Abort,
-    layout: &Layout<21>,
-    packing: Packing<21>,
+    layout: &Layout<CLASSES>,
+    packing: Packing<CLASSES>,
     shelf: ListShelf,
     made: &mut Vec<Move>,
-) -> Result<Settled<21>, Fail>
-    requires { PacksList 21 (divisor_of layout.now) packing shelf.items.items }
+) -> Result<Settled<CLASSES>, Fail>
+    requires { PacksList CLASSES (divisor_of layout.now) packing shelf.items.items }
 {
     let mut shelf = shelf;
     let laying = pack_all(layout, packing, &mut shelf, made)?;
@@ -248,7 +251,7 @@ fn pack_and_lay(
 }
 
 /// Tries the bytes of three classes at the end.
-fn try_volumes(rt: &impl Abort, settled: &Settled<21>) {
+fn try_volumes(rt: &impl Abort, settled: &Settled<CLASSES>) {
     let volumes = settled.volumes();
     assert_eq!(rt;
         (volumes.get(2), volumes.get(3), volumes.get(6)),

@@ -3,7 +3,7 @@ ghost use Rattle.std.specs.Prelude.{◌<◌, ◌≤◌, ◌^◌, ℕ, slice_inde
 ghost use Rattle.size_class.specs.Rows.{cells_of};
 
 use segment_layout::{Charge, Layout};
-use size_class::{Row, SIZE_MAX, class_of};
+use size_class::{CLASSES, Row, SIZE_MAX, class_of};
 
 /// A class, a size of it, and where such bytes are charged, if anywhere.
 type Charging = (u8, u64, Option<Charge>);
@@ -46,7 +46,7 @@ const ALONE: [Charging; 3] = [
 ];
 
 /// A class, and where its segment and its buffer begin.
-const SEGMENTS: [(u8, u64, u64); 3] = [(2, 0, 10), (3, 12, 21), (20, 23, 23)];
+const SEGMENTS: [(u8, u64, u64); 3] = [(2, 0, 10), (3, 12, 21), (CLASSES as u8 - 1, 23, 23)];
 
 /// A place, and whether it lies in the payload segment of class 3.
 const PLACES: [(u64, bool); 4] = [(11, false), (12, true), (20, true), (21, false)];
@@ -102,13 +102,13 @@ fn are_charged<const C: usize>(layout: &mut Layout<C>, rows: &[Charging]) -> boo
 
 #[test]
 fn a_small_object_beside_a_large_one(rt: HostRuntime) {
-    let mut layout = Layout::<21>::empty(9);
+    let mut layout = Layout::<CLASSES>::empty(9);
     assert!(rt; is_charged(&mut layout, &(6, 100, None)));
     settle(&mut layout, &volumes(0, 0, 6, 100));
     assert!(rt; layout.end() == 111);
     assert!(rt; are_charged(&mut layout, &BESIDE));
     for (class, boundary) in BOUNDARIES {
-        assert!(rt; class < 21 && layout.boundary(class) == boundary);
+        assert!(rt; (class as usize) < CLASSES && layout.boundary(class) == boundary);
     }
 }
 
@@ -121,15 +121,17 @@ fn one_class_alone(rt: HostRuntime) {
 }
 
 /// The layout of 10 bytes of class 2 and 9 of class 3.
-fn two_classes() -> Layout<21> {
-    let mut layout = Layout::<21>::empty(4);
+fn two_classes() -> Layout<CLASSES> {
+    let mut layout = Layout::<CLASSES>::empty(4);
     settle(&mut layout, &volumes(2, 10, 3, 9));
     layout
 }
 
 /// Whether the segment and the buffer of a class begin there.
-fn is_segment(layout: &Layout<21>, class: u8, start: u64, buffer: u64) -> bool {
-    class < 21 && layout.start(class) == start && layout.buffer_start(class) == buffer
+fn is_segment(layout: &Layout<CLASSES>, class: u8, start: u64, buffer: u64) -> bool {
+    (class as usize) < CLASSES
+        && layout.start(class) == start
+        && layout.buffer_start(class) == buffer
 }
 
 #[test]

@@ -1,7 +1,7 @@
 //! Worked changes of a book, and the books of worked tables, as the plain definitions have them.
 ghost use Rattle.std.specs.Prelude.{◌≡◌, ◌<◌, ◌^◌, sum};
 
-use crate::table_words::{Number, TableWords, header_of, plain_table};
+use crate::table_words::{LIMITS, Number, TableWords, header_of, plain_table};
 use plain_layout::{Book, items_of};
 use slot_codec::Kind;
 use std::alloc::Global;
@@ -207,7 +207,7 @@ fn try_name(rt: &impl Abort, named: &Named) {
 /// Tries the book of a table, and which of its first two names stand in buffers.
 fn try_table(rt: &impl Abort, alloc: Global, booked: &Booked) {
     let (words, numbers, stand) = *booked;
-    let table = plain_table(alloc, 21, &words).expect(rt, "memory");
+    let table = plain_table(alloc, LIMITS, &words).expect(rt, "memory");
     assert!(rt; table.table_boundary() <= 32 && table.bytes() < 1 << 64);
     try_book(rt, "of a table", table.book(), book(9, numbers));
     assert_eq!(rt; (table.is_buffered(0), table.is_buffered(1)), stand);

@@ -1,14 +1,20 @@
 //! Classes and tables at known values.
-use size_class::{Grid, Row, SIZE_MAX, class_of, lg_up};
+use size_class::{CLASSES, Grid, Row, SIZE_MAX, class_of, lg_up};
+
+/// The last class.
+const LAST: u8 = CLASSES as u8 - 1;
 
 /// A size, and its class.
-const CLASSES: [(u64, u8); 8] = [
+const SIZES: &[(u64, u8)] = &[
     (1, 0),
     (2, 1),
     (3, 1),
     (4, 2),
     (1_048_575, 19),
-    (SIZE_MAX, 20),
+    (1_048_576, 20),
+    (67_108_863, 25),
+    (67_108_864, 26),
+    (SIZE_MAX, LAST),
     (2_147_483_647, 30),
     (2_147_483_648, 31),
 ];
@@ -28,8 +34,8 @@ fn is_power(k: u64, n: u64) -> bool {
 
 #[test]
 fn classes_of_sizes(rt: HostRuntime) {
-    for (size, class) in CLASSES {
-        assert!(rt; is_class(size, class), "size {size}");
+    for (size, class) in SIZES {
+        assert!(rt; is_class(*size, *class), "size {size}");
     }
 }
 
@@ -41,24 +47,24 @@ fn powers_from_numbers_on(rt: HostRuntime) {
 }
 
 /// A row of two classes, the last at the greatest number.
-fn full_row() -> Row<21> {
-    let mut row = Row::<21>::zero();
+fn full_row() -> Row<CLASSES> {
+    let mut row = Row::<CLASSES>::zero();
     row.set(6, 100);
     row.add(6, 11);
-    row.add(20, u64::MAX);
-    row.add(20, 1);
+    row.add(LAST, u64::MAX);
+    row.add(LAST, 1);
     row
 }
 
 #[test]
 fn rows_keep_numbers(rt: HostRuntime) {
     let row = full_row();
-    assert!(rt; (row.get(6), row.get(7), row.get(20)) == (111, 0, u64::MAX));
+    assert!(rt; (row.get(6), row.get(7), row.get(LAST)) == (111, 0, u64::MAX));
 }
 
 #[test]
 fn grids_keep_numbers(rt: HostRuntime) {
-    let mut grid = Grid::<21>::zero();
+    let mut grid = Grid::<CLASSES>::zero();
     grid.set(6, 3, 10);
     grid.set(7, 3, 1);
     assert!(rt; (grid.get(6, 3), grid.get(3, 6), grid.get(7, 3)) == (10, 0, 1));
@@ -67,16 +73,16 @@ fn grids_keep_numbers(rt: HostRuntime) {
 #[test]
 #[tactic(auto, unfolding(size_class::specs::Classes::zero_row))]
 fn sums_of_a_row(rt: HostRuntime) {
-    let mut row = Row::<21>::zero();
+    let mut row = Row::<CLASSES>::zero();
     row.set(6, 100);
-    row.set(20, 16);
+    row.set(LAST, 16);
     assert!(rt; row.sum() == 116);
 }
 
 #[test]
 #[tactic(auto, unfolding(size_class::specs::Classes::zero_row, size_class::specs::Classes::zero_grid))]
 fn sums_of_a_grid(rt: HostRuntime) {
-    let mut grid = Grid::<21>::zero();
+    let mut grid = Grid::<CLASSES>::zero();
     grid.set(6, 3, 10);
     grid.set(6, 5, 7);
     assert!(rt; grid.row_sum(6) == 17);

@@ -2,6 +2,7 @@
 ghost use Rattle.std.specs.Prelude.{◌≡◌, IfOk};
 
 use plain_layout::Table;
+use size_class::{CLASSES, SIZE_MAX};
 use slot_codec::{Header, Kind, Name, Record};
 use std::alloc::{AllocError, Global};
 
@@ -23,6 +24,15 @@ pub(crate) struct TableWords {
     pub(crate) numbers: &'static [Number],
     pub(crate) objects: &'static [(u8, u64, u64)],
 }
+
+/// How many classes objects may have, and the size of the largest one.
+pub(crate) type Limits = (u8, u64);
+
+/// Those of the program.
+pub(crate) const LIMITS: Limits = (CLASSES as u8, SIZE_MAX);
+
+/// Those under which files were made when there were fewer classes.
+pub(crate) const FEWER: Limits = (21, 1_048_576);
 
 /// The header of a table.
 pub(crate) fn header_of(words: &TableWords) -> Header {
@@ -59,15 +69,15 @@ fn with_numbers(bare: Header, numbers: &[Number]) -> Header {
     header
 }
 
-/// The table as the plain definitions take it, for the divisor 9 and for 21 classes, or for 27.
+/// The table as the plain definitions take it, for the divisor 9 and for some limits.
 pub(crate) fn plain_table(
     alloc: Global,
-    classes: u8,
+    limits: Limits,
     words: &TableWords,
 ) -> Result<Table, AllocError>
     ensures { IfOk result (λ table. table.k ≡ 9) }
 {
-    let size_max = if classes == 21 { 1_048_576 } else { 67_108_864 };
+    let (classes, size_max) = limits;
     Ok(Table {
         classes,
         size_max,

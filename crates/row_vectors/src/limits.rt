@@ -1,4 +1,4 @@
-//! The largest sizes that the limits name.
+//! An object of a mebibyte, and room for the most names.
 use crate::answers::{GET, try_answer, try_command, try_holds, try_number, try_outcome};
 use crate::images::{Change, image};
 use crate::runs::{ended, run, run_on};
@@ -9,10 +9,10 @@ use std::process::Abort;
 use std::test::Fail;
 
 /// The class is 20, with a capacity of 1,048,576 (0x100000) and a buffer of 116,508.
-const LARGEST: &[Change] = &[(120, 0), (266, 0x10), (8624, 0), (8626, 0x10)];
+const LARGE: &[Change] = &[(120, 0), (266, 0x10), (8624, 0), (8626, 0x10)];
 
-/// The bytes of the largest object.
-fn largest(alloc: Global) -> Result<Vec<u8>, Fail> {
+/// The bytes of the object.
+fn large(alloc: Global) -> Result<Vec<u8>, Fail> {
     let mut object = Vec::new(alloc);
     for n in 0..1_048_576u32 {
         object.push((n % 251) as u8)?;
@@ -22,7 +22,7 @@ fn largest(alloc: Global) -> Result<Vec<u8>, Fail> {
 
 /// The image that has it.
 fn image_of(alloc: Global, object: &[u8]) -> Result<Vec<u8>, Fail> {
-    let mut bytes = image(alloc, 1_184_687, LARGEST, &[])?;
+    let mut bytes = image(alloc, 1_184_687, LARGE, &[])?;
     if bytes.len() == 1_184_687 && object.len() == 1_048_576 {
         bytes[19_603..1_068_179].copy_from_slice(object);
     }
@@ -39,8 +39,8 @@ fn try_get(rt: &impl Abort, alloc: Global, bytes: &[u8], object: &[u8]) -> Resul
 }
 
 #[test]
-fn gets_an_object_of_the_greatest_size(rt: HostRuntime) -> Result<(), Fail> {
-    let object = largest(rt.alloc())?;
+fn gets_an_object_of_a_mebibyte(rt: HostRuntime) -> Result<(), Fail> {
+    let object = large(rt.alloc())?;
     let bytes = image_of(rt.alloc(), &object)?;
     try_get(&rt, rt.alloc(), &bytes, &object)
 }

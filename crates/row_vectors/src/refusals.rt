@@ -108,28 +108,33 @@ fn refuses_faulty_records(rt: HostRuntime) -> Result<(), Fail> {
 
 /// What breaks a rule.
 const RULES: &[Row] = &rows! {
-    // An object of 1,048,577 bytes, and one of 1,114,117.
-    SETTLED 19608, [(8624, 1), (8626, 0x10)] => "fault store rule 1 at 0\n";
-    SETTLED 19608, [(8626, 0x11)] => "fault store rule 1 at 0\n";
+    // An object of 67,108,865 bytes, and one of 83,886,085.
+    SETTLED 19608, [(8624, 1), (8627, 4)] => "fault store rule 1 at 0\n";
+    SETTLED 19608, [(8627, 5)] => "fault store rule 1 at 0\n";
     // An empty object that stands at 1.
     SETTLED 19608, [(8616, 1), (8624, 0)] => "fault store rule 2 at 0\n";
-    // An object past the end of the file; a layout that is; the wall of a moving table; its last object.
+    // An object past the end of the file, and one of 1,048,577 bytes; a layout that is, also by a capacity of
+    // class 21; the wall of a moving table; its last object.
     SETTLED 19608, [(8616, 1)] => "fault store rule 3 at 0\n";
+    SETTLED 19608, [(8624, 1), (8626, 0x10)] => "fault store rule 3 at 0\n";
     SETTLED 19608, [(120, 6)] => "fault store rule 3 at 1\n";
+    SETTLED 19608, [(272, 1)] => "fault store rule 3 at 1\n";
     MOVING 19857, [(88, 255)] => "fault store rule 3 at 3\n";
     MOVING 19856, [] => "fault store rule 3 at 2\n";
     // A settled table with a boundary, and a moving one whose boundary is behind all classes.
     SETTLED 19608, [(66, 1)] => "fault store rule 4 at 0\n";
-    MOVING 19857, [(66, 21)] => "fault store rule 4 at 0\n";
-    // A capacity of class 21, which no object has; one from the boundary of a moving table on.
-    SETTLED 19608, [(272, 1)] => "fault store rule 5 at 21\n";
-    SETTLED 19608, [(272, 9)] => "fault store rule 5 at 21\n";
+    MOVING 19857, [(66, 27)] => "fault store rule 4 at 0\n";
+    // A capacity of class 27, which no object has; one from the boundary of a moving table on.
+    SETTLED 19608, [(320, 1)] => "fault store rule 5 at 27\n";
+    SETTLED 19608, [(320, 9)] => "fault store rule 5 at 27\n";
     SETTLED 19608, [(65, 1)] => "fault store rule 5 at 2\n";
     // One byte is taken of the buffer of class 2, which has none.
     SETTLED 19608, [(888, 1)] => "fault store rule 6 at 2\n";
-    // The segment is that of class 3, or it has 4 bytes for the object of 5.
+    // The segment is that of class 3, or it has 4 bytes for the object of 5; or the boundary is behind the
+    // classes of all objects, none of which has a segment.
     SETTLED 19608, [(120, 0), (128, 5)] => "fault store rule 7 at 0\n";
     SETTLED 19608, [(120, 4)] => "fault store rule 7 at 0\n";
+    MOVING 19857, [(66, 21)] => "fault store rule 7 at 0\n";
     // `a` and `b` of 100 bytes each in class 6, the second in the middle of the first.
     SETTLED 19825,
         [(80, 2), (120, 0), (152, 200), (8624, 100), (8632, 1), (8633, b'b'), (8696, 50), (8704, 100)]

@@ -1,8 +1,7 @@
 //! What a run put, how it ended and what it left, beside what its row expects.
-ghost use Rattle.std.specs.Prelude.{IsTrue};
+ghost use Rattle.std.specs.Prelude.{IfOk, IsTrue};
 
 use disk_face::Disk;
-use disk_mem::MemDisk;
 use row_vectors::Outcome;
 use row_vectors::runs::{Ran, ended, joined, run_on, session};
 use std::alloc::Global;
@@ -62,14 +61,17 @@ pub fn try_ran<D: Disk>(
 }
 
 /// What `check` or `map` puts of a file, which is a store. The disk is given back.
-pub fn try_told(
+pub fn try_told<D: Disk + Drop>(
     rt: &impl Abort,
     alloc: Global,
-    disk: MemDisk,
+    disk: D,
     words: &[&str],
     text: &str,
     row: &impl Debug,
-) -> Result<MemDisk, Fail> {
+) -> Result<D, Fail>
+    requires ready { IsTrue (D.state disk).is_ready }
+    ensures { IfOk result (λ told. IsTrue (D.state told).is_ready) }
+{
     let ran = run_on(alloc, words, true, disk, Vec::new(alloc))?;
     try_bytes(rt, &ran.put, text.as_bytes(), row);
     try_outcome(rt, ran.outcome, ended(0), row);

@@ -1,4 +1,6 @@
 //! Sessions as tables: what each puts, and what it leaves of its file.
+ghost use Rattle.std.specs.Prelude.{IfOk, IsTrue};
+
 use crate::answers::{CHECK, serve_parts, try_number, try_ran, try_told};
 use disk_face::Disk;
 use disk_mem::MemDisk;
@@ -68,12 +70,15 @@ pub fn try_case(
 }
 
 /// How long a file is, and what `check` puts of it.
-pub fn try_file(
+pub fn try_file<D: Disk + Drop>(
     rt: &impl Abort,
     alloc: Global,
-    disk: MemDisk,
+    disk: D,
     left: &Left,
-) -> Result<MemDisk, Fail> {
+) -> Result<D, Fail>
+    requires ready { IsTrue (D.state disk).is_ready }
+    ensures { IfOk result (λ file. IsTrue (D.state file).is_ready) }
+{
     let mut disk = disk;
     try_number(rt, disk.len()?, left.length, &left.check);
     try_told(rt, alloc, disk, CHECK, left.check, &left.length)

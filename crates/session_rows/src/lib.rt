@@ -25,6 +25,8 @@ mod images;
 #[cfg(test)]
 mod moments;
 #[cfg(test)]
+mod older_files;
+#[cfg(test)]
 mod opened_maps;
 #[cfg(test)]
 mod replaced;

@@ -1,22 +1,38 @@
 //! Objects of sizes at the bounds of a class, and one that is too large, by sessions.
+ghost use Rattle.std.specs.Prelude.{◌<◌, IsTrue};
+
 use crate::answers::{MAP, try_bytes, try_number, try_outcome, try_told};
 use crate::cases::{Left, PIECES, try_file};
 use disk_face::Disk;
-use disk_mem::MemDisk;
+use disk_mem::{MemSource, PlainDisk};
 use row_vectors::Outcome;
-use row_vectors::runs::{Ran, formatted, session};
-use std::alloc::Global;
+use row_vectors::runs::{Ran, formatted, run_on, run_with, session};
+use size_class::SIZE_MAX;
+use std::alloc::{AllocError, Global};
 use std::process::Abort;
 use std::test::Fail;
 
 /// A put of an object `x` of so many bytes.
-fn put_of(alloc: Global, size: usize) -> Result<Vec<u8>, Fail> {
+fn put_of(alloc: Global, size: usize) -> Result<Vec<u8>, AllocError> {
+    let mut input = Vec::with_capacity(alloc, size.saturating_add(64))?;
     let line = format!(in alloc; "put x {size}\n")?;
-    let mut input = vec![in alloc; b'x'; size]?;
+    input.extend_from_slice(line.as_bytes())?;
+    add_object(&mut input, size)?;
+    Ok(input)
+}
+
+/// How many bytes of an object are added at a time.
+const PIECE: usize = 65_536;
+
+/// Adds an object of so many bytes, and the newline behind it.
+fn add_object(input: &mut Vec<u8>, size: usize) -> Result<(), AllocError> {
+    let piece = vec![in *input.allocator(); b'x'; PIECE]?;
+    'pieces: for _ in 0..size / PIECE {
+        input.extend_from_slice(&piece)?;
+    }
+    input.extend_from_slice(&piece[..size % PIECE])?;
     input.push(b'\n')?;
-    let mut whole = line.as_bytes().to_vec(alloc)?;
-    whole.extend_from_slice(&input)?;
-    Ok(whole)
+    Ok(())
 }
 
 /// A size, and what is left once an object of it is put on a fresh file.
@@ -39,7 +55,7 @@ macro_rules! rows {
 }
 
 /// The answer to the put, and how many calls were made with the ten of the format.
-fn try_put(rt: &impl Abort, ran: &Ran<MemDisk>, row: &Row) {
+fn try_put<D: Disk>(rt: &impl Abort, ran: &Ran<D>, row: &Row) {
     let turn = row.left.calls.saturating_add(10);
     let outcome = Outcome {
         status: 0,
@@ -52,7 +68,22 @@ fn try_put(rt: &impl Abort, ran: &Ran<MemDisk>, row: &Row) {
     try_number(rt, ran.disk.turns(), turn, &row.size);
 }
 
-/// Puts an object on a fresh file in pieces of a size: the answer, what it leaves, and what `map` puts.
+/// The answer to the put, what it leaves, and what `map` puts.
+fn try_left<D: Disk + Drop>(
+    rt: &impl Abort,
+    alloc: Global,
+    ran: Ran<D>,
+    row: &Row,
+) -> Result<(), Fail>
+    requires ready { IsTrue (D.state ran.disk).is_ready }
+{
+    try_put(rt, &ran, row);
+    let disk = try_file(rt, alloc, ran.disk, &row.left)?;
+    try_told(rt, alloc, disk, MAP, row.map, &row.size)?;
+    Ok(())
+}
+
+/// Puts an object on a fresh file in pieces of a size.
 fn try_row(
     rt: &impl Abort,
     alloc: Global,
@@ -61,10 +92,7 @@ fn try_row(
     piece: usize,
 ) -> Result<(), Fail> {
     let ran = session(alloc, formatted(alloc, "9")?, input, piece)?;
-    try_put(rt, &ran, row);
-    let disk = try_file(rt, alloc, ran.disk, &row.left)?;
-    try_told(rt, alloc, disk, MAP, row.map, &row.size)?;
-    Ok(())
+    try_left(rt, alloc, ran, row)
 }
 
 /// Puts an object in each size of pieces.
@@ -97,8 +125,8 @@ fn sets_each_size_in_its_class(rt: HostRuntime) -> Result<(), Fail> {
     try_rows(&rt, rt.alloc(), SMALLEST)
 }
 
-/// The largest sizes. Each object is moved in 16 pieces of 65,536 bytes or less.
-const LARGEST: &[Row] = &rows! {
+/// Large sizes. Each object is moved in 16 pieces of 65,536 bytes or less.
+const LARGE: &[Row] = &rows! {
     1_048_575 => 27 calls, 1_184_686 bytes, "store 9 16 1 1048575 1165083 2 still\n"
         "class 19 1048575 116508 0\nobject x 0 1048575\n";
     1_048_576 => 27 calls, 1_184_687 bytes, "store 9 16 1 1048576 1165084 2 still\n"
@@ -106,8 +134,46 @@ const LARGEST: &[Row] = &rows! {
 };
 
 #[test]
+fn sets_large_sizes_in_their_classes(rt: HostRuntime) -> Result<(), Fail> {
+    try_rows(&rt, rt.alloc(), LARGE)
+}
+
+/// The largest sizes. Each object is moved in 1,024 pieces, and has a buffer of 7,456,540 bytes.
+const LARGEST: &[Row] = &rows! {
+    67_108_863 => 1_035 calls, 74_585_006 bytes, "store 9 16 1 67108863 74565403 2 still\n"
+        "class 25 67108863 7456540 0\nobject x 0 67108863\n";
+    67_108_864 => 1_035 calls, 74_585_007 bytes, "store 9 16 1 67108864 74565404 2 still\n"
+        "class 26 67108864 7456540 0\nobject x 0 67108864\n";
+};
+
+/// How far a fresh file reaches while the largest object is put.
+const LARGEST_REACH: u64 = 208_802_736;
+
+/// The words of a format, and of a session.
+const FORMAT: &[&str] = &["format", "f", "9", "16"];
+
+const RUN: &[&str] = &["run", "f"];
+
+/// How many bytes of a long input come at a time: a little less than is read ahead, and a lot more.
+const LONG_PIECES: &[usize] = &[4_095, 65_536];
+
+/// Puts an object on a fresh file of a disk that keeps no record.
+fn put_plainly(alloc: Global, size: usize, piece: usize) -> Result<Ran<PlainDisk>, Fail>
+    requires { 0 < piece }
+{
+    let new = PlainDisk::with_room(alloc, LARGEST_REACH)?;
+    let made = run_on(alloc, FORMAT, false, new, Vec::new(alloc))?;
+    let source = MemSource::new(put_of(alloc, size)?, piece, Vec::new(alloc));
+    run_with(alloc, RUN, true, made.disk, source, Vec::new(alloc))
+}
+
+#[test]
 fn sets_the_largest_sizes_in_their_classes(rt: HostRuntime) -> Result<(), Fail> {
-    try_rows(&rt, rt.alloc(), LARGEST)
+    for row in LARGEST {
+        let ran = put_plainly(rt.alloc(), row.size, 65_536)?;
+        try_left(&rt, rt.alloc(), ran, row)?;
+    }
+    Ok(())
 }
 
 /// What is put where the object is too large.
@@ -132,9 +198,9 @@ fn try_too_large(rt: &impl Abort, alloc: Global, input: &[u8], piece: usize) -> 
 
 #[test]
 fn reads_an_object_that_is_too_large_to_its_end(rt: HostRuntime) -> Result<(), Fail> {
-    let mut input = put_of(rt.alloc(), 1_048_577)?;
+    let mut input = put_of(rt.alloc(), SIZE_MAX as usize + 1)?;
     input.extend_from_slice(b"get x\nstat\n")?;
-    for piece in PIECES {
+    for piece in LONG_PIECES {
         try_too_large(&rt, rt.alloc(), &input, *piece)?;
     }
     Ok(())

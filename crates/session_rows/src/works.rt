@@ -13,8 +13,8 @@ const ROOM: u64 = 1 << 25;
 /// The summary of 5,000 jobs of number 1 at a divisor of 9 and with 4,096 names.
 const FIVE_THOUSAND: &str = concat!(
     "requests 5001\nok 3277\nkept 646\nread 824408\nrefused 879\nnames 2078\nbytes 8445335\n",
-    "length 9285713\nmoved 312503692\nlinear 327683871342592 18021297946624\n",
-    "flat 106595055616 6675100416\nseek 334505954902016 18448504373248\n",
+    "length 9285713\nmoved 312503692\nlinear 20971767765925888 1153363068583936\n",
+    "flat 6822083559424 427206426624\nseek 21408381113729024 1180704279887872\n",
 );
 
 /// A disk with a new store of a divisor and so many names.
@@ -43,15 +43,15 @@ fn try_work(
 /// The summary of 2,000 jobs of number 1 at a divisor of 9 and with 4,096 names.
 const FIRST: &str = concat!(
     "requests 2001\nok 1252\nkept 290\nread 120922\nrefused 431\nnames 1070\nbytes 4375307\n",
-    "length 4787964\nmoved 110498382\nlinear 115865951404032 6284945391616\n",
-    "flat 37638902784 2335734784\nseek 118274841182208 6434432417792\n",
+    "length 4787964\nmoved 110498382\nlinear 7415420889858048 402236505063424\n",
+    "flat 2408889778176 149487026176\nseek 7569589835661312 411803674738688\n",
 );
 
 /// The summary of 2,000 jobs of number 7 at a divisor of 2 and with 64 names.
 const SEVENTH: &str = concat!(
     "requests 2001\nok 1315\nkept 359\nread 881057\nrefused 108\nnames 57\nbytes 227563\n",
-    "length 331223\nmoved 34041866\nlinear 35695483682816 9957081612288\n",
-    "flat 11769705216 3787857408\nseek 36448744816640 10199504486400\n",
+    "length 331223\nmoved 34041866\nlinear 2284510955700224 637253223186432\n",
+    "flat 753261133824 242422874112\nseek 2332719668264960 652768287129600\n",
 );
 
 #[test]
@@ -68,9 +68,9 @@ fn does_the_same_jobs_again_over_another_file(rt: HostRuntime) -> Result<(), Fai
 
 /// By each cost what was moved, and what was asked for.
 const COSTS: &[(u64, u64)] = &[
-    (327_683_871_342_592, 18_021_297_946_624),
-    (106_595_055_616, 6_675_100_416),
-    (334_505_954_902_016, 18_448_504_373_248),
+    (20_971_767_765_925_888, 1_153_363_068_583_936),
+    (6_822_083_559_424, 427_206_426_624),
+    (21_408_381_113_729_024, 1_180_704_279_887_872),
 ];
 
 /// Whether what was moved is at most 561 times what was asked for.

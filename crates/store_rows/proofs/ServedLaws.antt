@@ -4,16 +4,17 @@ use Rattle.std.proofs.Common.{rules, sym, subst}
 use Rattle.disk_face.specs.States as disk
 use Rattle.disk_face.specs.Frames.{Stays}
 use Rattle.store_terms.specs.Requests.{Change}
+use Rattle.size_class.specs.declared.TheConstants.{CLASSES}
 use Rattle.store_core.specs.declared.answers.Refusal.{Refusal}
 use Rattle.store_core.specs.declared.answers.Done.{Done}
 use Rattle.store_core.specs.Changes.{IsQuietChange, NothingChanged}
 use Rattle.store_core.specs.Connection.{IsConnected, IsOver, Kept}
 use Rattle.store_core.specs.Flushes.{IsFlush}
 use Rattle.store_core.specs.Keeps.{KeepsNow}
-use Rattle.store_rows.specs.Served.{IsServed, classes}
+use Rattle.store_rows.specs.Served.{IsServed}
 
 served_on : (old new : Kept) (before now : disk.State) → IsServed old before → Stays before now
-    → IsConnected classes new now → IsServed new now
+    → IsConnected CLASSES new now → IsServed new now
 served_on old new before now served stays over = record {
   ready = stays.ready;
   tells = subst IsTrue (sym stays.told) served.tells;
@@ -24,9 +25,9 @@ served_on old new before now served stays over = record {
 pub served_after : (refused : Option Refusal) (is_quiet : Bool) (c : Change) (old new : Kept)
     (before now : disk.State) (result : Result Done Refusal) → IsServed old before
     → (IsSome refused → NothingChanged old new before now)
-    → (IsNone refused → is_quiet ≡ true → IsQuietChange classes c old new before now result)
-    → (IsNone refused → is_quiet ≡ false → IsFlush classes c old new before now result)
-    → IsConnected classes new now → IsServed new now
+    → (IsNone refused → is_quiet ≡ true → IsQuietChange CLASSES c old new before now result)
+    → (IsNone refused → is_quiet ≡ false → IsFlush CLASSES c old new before now result)
+    → IsConnected CLASSES new now → IsServed new now
 served_after (Some why) is_quiet c old new before now result served is_refused quiet flush over =
     served_on old new before now served (is_refused (search rules)).same_disk.stays over
 served_after None true c old new before now result served is_refused quiet flush over =
@@ -38,7 +39,7 @@ served_after None false c old new before now result served is_refused quiet flus
 pub served_kept : (refused : Option Refusal) (old new : Kept) (before now : disk.State)
     (result : Result Done Refusal) → IsServed old before
     → (IsSome refused → NothingChanged old new before now)
-    → (IsNone refused → KeepsNow classes old new before now result) → IsConnected classes new now
+    → (IsNone refused → KeepsNow CLASSES old new before now result) → IsConnected CLASSES new now
     → IsServed new now
 served_kept (Some why) old new before now result served is_refused kept over =
     served_on old new before now served (is_refused (search rules)).same_disk.stays over

@@ -6,7 +6,7 @@ use disk_face::{Disk, length_of};
 use disk_mem::MemDisk;
 use extent_table::{Spot, Table, a_table_can_be_saved};
 use plain_layout::open;
-use size_class::SIZE_MAX;
+use size_class::{CLASSES, SIZE_MAX};
 use slot_codec::{Header, Name, SuperBlock};
 use slot_pair::SlotPair;
 use std::alloc::Global;
@@ -149,7 +149,7 @@ pub fn opens_to(alloc: Global, file: &[u8], checkpoint: &Checkpoint) -> Result<b
 /// The same for a file of another divisor.
 pub fn opens_as(alloc: Global, file: &[u8], k: u64, checkpoint: &Checkpoint) -> Result<bool, Fail> {
     let mut disk = MemDisk::from_bytes(alloc, file)?;
-    let Ok(opened) = open(alloc, &mut disk, 21, SIZE_MAX) else {
+    let Ok(opened) = open(alloc, &mut disk, CLASSES as u8, SIZE_MAX) else {
         return Ok(false);
     };
     let same_header = opened.table.header == checkpoint.header;

@@ -3,7 +3,9 @@ ghost use Rattle.std.specs.Prelude.{IsTrue};
 
 use crate::checkpoints::Checkpoint;
 use crate::flushes::{FIVE, TEN};
-use crate::requests::{Ask, KEPT, Looks, QUIET, Reply, Row, refused, rows, try_looks, try_rows};
+use crate::requests::{
+    Ask, KEPT, Looks, ONE_TOO_MANY, QUIET, Reply, Row, refused, rows, try_looks, try_rows,
+};
 use crate::trials::{Trial, store_on};
 use crate::worked::{self, HUNDRED, UNCHANGED, at_one, try_checkpoint};
 use disk_face::Disk;
@@ -41,7 +43,7 @@ const WORN_ROWS: &[Row] = rows! {
     Ask::Keep => refused!(Worn), b"", 0;
     Ask::Del("q") => refused!(Missing), b"", 0;
     Ask::Put("a b", b"") => refused!(BadName), b"", 0;
-    Ask::PutZeros("b", 1_048_577) => refused!(TooLong), b"", 0;
+    Ask::PutZeros("b", ONE_TOO_MANY) => refused!(TooLong), b"", 0;
     Ask::Get("a") => Reply::Number(100), HUNDRED, 0;
     Ask::Back => Reply::Nothing, b"", 0;
     Ask::Stat => ONE, b"", 0;

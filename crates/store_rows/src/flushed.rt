@@ -116,7 +116,7 @@ pub fn checkpoint_after(step: &Step) -> Checkpoint {
 }
 
 /// The listed numbers of classes, and 0 of each other one.
-fn by_class(listed: &[(usize, u64)]) -> [u64; 32] {
+pub fn by_class(listed: &[(usize, u64)]) -> [u64; 32] {
     let mut cells = [0; 32];
     for (class, number) in listed {
         if let Some(cell) = cells.get_mut(*class) {

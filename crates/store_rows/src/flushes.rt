@@ -1,7 +1,7 @@
 //! Puts and removals on a fresh store, most of which make a flush.
 use crate::checkpoints::Object;
-use crate::flushed::{Step, fresh_on, try_steps};
-use crate::requests::{Ask, KEPT, QUIET, Reply, Row, rows, try_rows};
+use crate::flushed::{Step, by_class, fresh_on, try_steps};
+use crate::requests::{Ask, KEPT, Looks, QUIET, Reply, Row, refused, rows, try_looks, try_rows};
 use crate::trials::Trial;
 use crate::worked::HUNDRED;
 use disk_face::Disk;
@@ -9,7 +9,7 @@ use disk_mem::{MemDisk, PlainDisk};
 use std::alloc::Global;
 use std::process::Abort;
 use std::test::Fail;
-use store_core::Stat;
+use store_core::{Gauge, Refusal, Stat};
 
 /// A request that puts no bytes.
 macro_rules! row {
@@ -141,16 +141,72 @@ fn flushes_on_a_plain_disk(rt: HostRuntime) -> Result<(), Fail> {
     try_flushes(&rt, rt.alloc(), &mut plain)
 }
 
-/// The largest object, which is moved in 16 pieces, and its removal.
-const LARGEST_ROWS: &[Row] = rows! {
+/// An object that is moved in 16 pieces, and its removal.
+const LARGE_ROWS: &[Row] = rows! {
     Ask::PutZeros("q", 1_048_576) => KEPT, b"", 27;
     Ask::OldSize("q") => Reply::Number(1_048_576), b"", 0;
     Ask::Del("q") => KEPT, b"", 9;
 };
 
 #[test]
-fn flushes_for_the_largest_object(rt: HostRuntime) -> Result<(), Fail> {
+fn flushes_for_a_large_object(rt: HostRuntime) -> Result<(), Fail> {
     let disk = PlainDisk::with_room(rt.alloc(), 3_281_840)?;
     let mut trial = fresh_on(rt.alloc(), disk, 9)?;
-    try_rows(&rt, rt.alloc(), &mut trial, LARGEST_ROWS)
+    try_rows(&rt, rt.alloc(), &mut trial, LARGE_ROWS)
+}
+
+/// How far a fresh file reaches while the largest object is put: 19,603 bytes of the head, a wall of
+/// 141,674,269, and the object behind it.
+const LARGEST_REACH: u64 = 208_802_736;
+
+/// A put of the largest object, which is moved in 1,024 pieces.
+const LARGEST_ROWS: &[Row] = rows! {
+    Ask::PutZeros("h", 67_108_864) => KEPT, b"", 1035;
+};
+
+/// What the store says of itself then: the object has a buffer of 7,456,540 bytes.
+fn largest_looks() -> Looks {
+    Looks {
+        turns: 1_045,
+        gauge: Gauge {
+            length: 74_565_404,
+            sequence: 2,
+        },
+        is_broken: false,
+        asked: by_class(&[(26, 67_108_864)]),
+        moved: by_class(&[(26, 67_108_864)]),
+    }
+}
+
+/// Its size, and its removal.
+const LARGEST_GONE: &[Row] = rows! {
+    Ask::OldSize("h") => Reply::Number(67_108_864), b"", 0;
+    Ask::Del("h") => KEPT, b"", 9;
+};
+
+/// The put, and the removal.
+fn try_largest<D: Disk>(rt: &impl Abort, alloc: Global, trial: &mut Trial<D>) -> Result<(), Fail> {
+    try_rows(rt, alloc, trial, LARGEST_ROWS)?;
+    try_looks(rt, trial, &largest_looks())?;
+    try_rows(rt, alloc, trial, LARGEST_GONE)
+}
+
+#[test]
+fn flushes_for_the_largest_object(rt: HostRuntime) -> Result<(), Fail> {
+    let disk = PlainDisk::with_room(rt.alloc(), LARGEST_REACH)?;
+    let mut trial = fresh_on(rt.alloc(), disk, 9)?;
+    try_largest(&rt, rt.alloc(), &mut trial)
+}
+
+/// The same put where the disk has room for one byte less: its first call fails.
+const LARGEST_REFUSED: &[Row] = rows! {
+    Ask::PutZeros("h", 67_108_864) => refused!(Disk), b"", 1;
+    Ask::Stat => refused!(Broken), b"", 0;
+};
+
+#[test]
+fn fails_where_the_largest_object_has_no_room(rt: HostRuntime) -> Result<(), Fail> {
+    let disk = PlainDisk::with_room(rt.alloc(), LARGEST_REACH - 1)?;
+    let mut trial = fresh_on(rt.alloc(), disk, 9)?;
+    try_rows(&rt, rt.alloc(), &mut trial, LARGEST_REFUSED)
 }

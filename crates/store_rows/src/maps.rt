@@ -2,7 +2,7 @@
 use crate::checkpoints::{Object, has_bytes};
 use disk_mem::MemDisk;
 use plain_layout::open;
-use size_class::SIZE_MAX;
+use size_class::{CLASSES, SIZE_MAX};
 use std::alloc::Global;
 use std::test::Fail;
 
@@ -23,7 +23,7 @@ pub fn opened_map(
     after: &[Object],
 ) -> Result<Which, Fail> {
     let mut disk = MemDisk::from_bytes(alloc, file)?;
-    let Ok(opened) = open(alloc, &mut disk, 21, SIZE_MAX) else {
+    let Ok(opened) = open(alloc, &mut disk, CLASSES as u8, SIZE_MAX) else {
         return Ok(Which::Neither);
     };
     if has_map(&opened.table, file, before) {

@@ -1,6 +1,6 @@
 //! Worked requests on the store of one object, whose buffer has room for 11 bytes.
 use crate::requests::{
-    Ask, Looks, QUIET, Reply, Row, refused, rows, try_looks, try_rows, try_rows_to,
+    Ask, Looks, ONE_TOO_MANY, QUIET, Reply, Row, refused, rows, try_looks, try_rows, try_rows_to,
 };
 use crate::trials::Trial;
 use crate::worked::{HUNDRED, UNCHANGED, at_one};
@@ -71,7 +71,7 @@ const CHANGES: &[Row] = rows! {
 const REFUSALS: &[Row] = rows! {
     Ask::Back => Reply::Nothing, b"", 0;
     Ask::Put(TOO_LONG, b"") => refused!(BadName), b"", 0;
-    Ask::PutZeros(TOO_LONG, 1_048_577) => refused!(BadName), b"", 0;
+    Ask::PutZeros(TOO_LONG, ONE_TOO_MANY) => refused!(BadName), b"", 0;
     Ask::Del(TOO_LONG) => refused!(BadName), b"", 0;
     Ask::Get(TOO_LONG) => refused!(BadName), b"", 0;
     Ask::Old(TOO_LONG) => refused!(BadName), b"", 0;
@@ -84,8 +84,8 @@ const REFUSALS: &[Row] = rows! {
     Ask::Old("q") => refused!(Missing), b"", 0;
     Ask::Size("q") => refused!(Missing), b"", 0;
     Ask::OldSize("q") => refused!(Missing), b"", 0;
-    Ask::PutZeros("q", 1_048_577) => refused!(TooLong), b"", 0;
-    Ask::PutZeros("a", 1_048_577) => refused!(TooLong), b"", 0;
+    Ask::PutZeros("q", ONE_TOO_MANY) => refused!(TooLong), b"", 0;
+    Ask::PutZeros("a", ONE_TOO_MANY) => refused!(TooLong), b"", 0;
     Ask::Put(LONGEST, b"") => QUIET, b"", 0;
     Ask::Del(LONGEST) => QUIET, b"", 0;
 };
@@ -109,7 +109,7 @@ const FULL: &[Row] = rows! {
     Ask::Put("n15", b"") => QUIET, b"", 0;
     Ask::Stat => counts!(16, 100), b"", 0;
     Ask::Put("n16", b"") => refused!(Full), b"", 0;
-    Ask::PutZeros("n16", 1_048_577) => refused!(TooLong), b"", 0;
+    Ask::PutZeros("n16", ONE_TOO_MANY) => refused!(TooLong), b"", 0;
     Ask::Put("n1", b"") => QUIET, b"", 0;
     Ask::Del("n2") => QUIET, b"", 0;
     Ask::Put("n16", b"") => QUIET, b"", 0;

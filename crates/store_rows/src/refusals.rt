@@ -2,6 +2,7 @@
 use disk_face::Disk;
 use disk_mem::MemDisk;
 use reopen::OpenFault;
+use size_class::CLASSES;
 use slot_codec::CodecFault;
 use slot_pair::SlotFault;
 use std::alloc::Global;
@@ -66,7 +67,7 @@ fn opening(
         }
     }
     let mut disk = MemDisk::from_bytes(alloc, &bytes)?;
-    let refusal = match Store::<21>::open(alloc, &mut disk) {
+    let refusal = match Store::<CLASSES>::open(alloc, &mut disk) {
         Ok(_) => None,
         Err(fault) => Some(fault),
     };

@@ -4,17 +4,18 @@ ghost use Rattle.std.specs.Prelude.{◌≡◌, ◌≤◌, IsTrue, IfOk};
 use data_area::Ledger;
 use disk_face::{Disk, Sink, length_of, read};
 use disk_mem::{Choice, Fuse, MemDisk};
+use size_class::CLASSES;
 use std::alloc::Global;
 use std::marker::Model;
 use std::test::Fail;
 use store_core::{Done, Gauge, Refusal, Stat, Store};
 
-/// A store of 21 classes over its disk, which belong together at each moment. Contracts know nothing
+/// A store over its disk, which belong together at each moment. Contracts know nothing
 /// else of it: what it answers is tried.
 #[derive(Drop)]
 pub struct Trial<D: Disk> {
     disk: D,
-    store: Store<21>,
+    store: Store<CLASSES>,
 }
 
 impl<D: Disk> Model for Trial<D> {
@@ -70,7 +71,7 @@ impl<D: Disk> Trial<D> {
     }
 
     /// The store alone, for what needs no disk.
-    pub fn store(&self) -> &Store<21> {
+    pub fn store(&self) -> &Store<CLASSES> {
         &self.store
     }
 

@@ -5,6 +5,7 @@ ghost use Rattle.reopen.specs.Loads.{KeepsLoaded};
 use crate::clock::{micros, now};
 use disk_face::Disk;
 use reopen::{Loaded, State, read_state};
+use size_class::CLASSES;
 use slot_pair::SlotPair;
 use std::io;
 use std::test::Fail;
@@ -13,9 +14,6 @@ use table_check::check_settled;
 
 /// How often each part is measured. The least time is taken, since other processes run.
 const ROUNDS: u64 = 8;
-
-/// The classes of the program.
-const CLASSES: usize = 21;
 
 /// The least microseconds of finding the slot in use, of reading the state, of trying the rules of its
 /// table alone, and of opening a store.
