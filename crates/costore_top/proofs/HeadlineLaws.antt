@@ -140,6 +140,7 @@ module _ {D I O : Type 0} (disk_of : D → State) (source_of : I → SourceState
           disk = λ is. inr refl;
           sink = λ is. absurd (omega (arith, is));
           memory = λ is. absurd (omega (arith, is));
+          few = omega arith;
           limit = (λ is. absurd (omega (arith, is)), λ is. absurd (omega (arith, is)));
         })
 
@@ -163,6 +164,7 @@ module _ {D I O : Type 0} (disk_of : D → State) (source_of : I → SourceState
           disk = λ is. absurd (omega (arith, is));
           sink = λ is. absurd (omega (arith, is));
           memory = λ is. absurd (omega (arith, is));
+          few = omega arith;
           limit = (λ is. absurd (omega (arith, is)), λ is. absurd (omega (arith, is)));
         })
 
@@ -175,6 +177,7 @@ module _ {D I O : Type 0} (disk_of : D → State) (source_of : I → SourceState
       disk = λ is. absurd (omega (arith, is));
       sink = λ is. absurd (omega (arith, is));
       memory = λ is. (refl, ap source_of same_source);
+      few = omega arith;
       limit = (λ is. absurd (omega (arith, is)), λ is. absurd (omega (arith, is)));
     }
 

@@ -17,6 +17,7 @@ mod UnopenedLaws
 mod HeadlineLaws
 mod ClauseLaws
 mod WentLaws
+mod CountLaws
 mod EndLaws
 mod OtherLaws
 mod WorkLaws

@@ -118,6 +118,9 @@ module _ {t : choice.Table} {m : Map} {b : Book} {requests : List Request} {end 
   pub done_is : s1.done ≡ n
   done_is = omega (arith, ran.done, few)
 
+  few_done : s1.done ≤ budget
+  few_done = omega (arith, done_is, few)
+
   abbrev ran_of : (d : ℕ) (others : List Request) → split.others ≡ others → d ≡ s1.done
       → Ran limits start requests d
   ran_of d others is same = record {
@@ -343,6 +346,7 @@ module _ {t : choice.Table} {m : Map} {b : Book} {requests : List Request} {end 
           disk = λ is. absurd (omega (arith, is));
           sink = λ is. absurd (omega (arith, is));
           memory = λ is. absurd (omega (arith, is));
+          few = few_done;
           limit = (λ is. absurd (omega (arith, is)), λ is. absurd (some_left fewer is));
         })
 
@@ -360,6 +364,7 @@ module _ {t : choice.Table} {m : Map} {b : Book} {requests : List Request} {end 
           disk = λ is. absurd (omega (arith, is));
           sink = λ is. absurd (omega (arith, is));
           memory = λ is. absurd (omega (arith, is));
+          few = few_done;
           limit = (λ is. absurd (omega (arith, is)), λ is. absurd (some_left fewer is));
         })
 
@@ -375,6 +380,7 @@ module _ {t : choice.Table} {m : Map} {b : Book} {requests : List Request} {end 
           disk = λ is. absurd (omega (arith, is));
           sink = λ is. absurd (omega (arith, is));
           memory = λ is. absurd (omega (arith, is));
+          few = few_done;
           limit = (λ is. absurd (omega (arith, is)), λ is. absurd (some_left fewer is));
         })
 
@@ -390,6 +396,7 @@ module _ {t : choice.Table} {m : Map} {b : Book} {requests : List Request} {end 
           disk = λ is. absurd (omega (arith, is));
           sink = λ is. absurd (omega (arith, is));
           memory = λ is. absurd (omega (arith, is));
+          few = few_done;
           limit = (λ is. done_is ∙ all, λ is. refl);
         })
 
@@ -522,6 +529,9 @@ module _ {t : choice.Table} {m : Map} {b : Book} {requests : List Request} {end 
         abbrev RunsTo : ℕ → Type 0
         RunsTo status = RunsAs u t m b requests end (counts_of status) old z from rest out after
 
+        few_z : new.done ≤ budget
+        few_z = omega (arith, x.counts.done, few_done)
+
         not_all : new.done ≡ budget → ⊥
         not_all is = omega (arith, is, x.counts.done, done_is, fewer)
 
@@ -555,6 +565,7 @@ module _ {t : choice.Table} {m : Map} {b : Book} {requests : List Request} {end 
               disk = λ is. inl next_some;
               sink = λ is. absurd (omega (arith, is));
               memory = λ is. absurd (omega (arith, is));
+              few = few_z;
               limit = (λ is. absurd (omega (arith, is)), λ is. absurd (not_all is));
             };
             replies = λ told. replied_z after 7 refl (λ is. disk) ending status_is numbered told (line told);
@@ -692,6 +703,7 @@ module _ {t : choice.Table} {m : Map} {b : Book} {requests : List Request} {end 
               disk = λ is. absurd (omega (arith, is));
               sink = λ is. next_some;
               memory = λ is. absurd (omega (arith, is));
+              few = few_z;
               limit = (λ is. absurd (omega (arith, is)), λ is. absurd (not_all is));
             };
             replies = λ told. replied_z after 9 refl

@@ -170,6 +170,7 @@ pub record HowFar (status n : ℕ) (others : List Request) (end : List ℕ)
   pub disk : status ≡ 7 → (others ≢ []) ⊎ (n ≡ 0)
   pub sink : status ≡ 9 → others ≢ []
   pub memory : status ≡ 10 → (n ≡ 0) × (rest ≡ from)
+  pub few : n ≤ budget
   pub limit : (status ≡ 11) ↔ (n ≡ budget)
 
 -- ---- lengths

@@ -1,5 +1,5 @@
 -- How a session over a file went, step by step.
-use Rattle.std.specs.Prelude.{◌≡◌, ◌⊎◌, ℕ, ◌≤◌, false, List, IsTrue, Result, None, Ok, Err}
+use Rattle.std.specs.Prelude.{◌≡◌, ◌⊎◌, ◌↔◌, ℕ, ◌≤◌, false, List, IsTrue, Result, None, Ok, Err}
 use Rattle.disk_face.specs.Counts.{Rose, counted}
 use Rattle.disk_face.specs.Frames.{AfterMount, Untouched}
 use Rattle.disk_face.specs.declared.bay.Mounted.TheVariants.{Absent, There}
@@ -14,7 +14,7 @@ use Rattle.store_core.specs.Opened.{IsOpening}
 use Rattle.store_core.specs.Stores.{IsStore}
 use Rattle.reopen.specs.declared.fault.OpenFault.{OpenFault}
 use Rattle.ask_session.specs.Sittings.{Sitting, new_sitting}
-use Rattle.ask_session.specs.Runs.{EndsRun}
+use Rattle.ask_session.specs.Runs.{EndsRun, budget}
 use Rattle.ask_session.specs.declared.ends.End.{End}
 use Rattle.ask_session.specs.declared.ends.End.TheVariants as ends
 use Rattle.costore_top.specs.Words.{Command}
@@ -129,12 +129,22 @@ pub record KeepsRun (old new : State) (from rest : SourceState) (out after : Sin
 abbrev pub IsUnserved : ℕ → Type 0
 IsUnserved status = (status ≡ 3) ⊎ (status ≡ 4) ⊎ (status ≡ 10)
 
+-- How many requests were answered and are kept. None where no session was begun for want of the file, of a
+-- store or of memory, or where no file was mounted; else at most as many as one session answers, and so many
+-- exactly where it ended for that. Of a disk that tells its content no more are kept than were answered.
+pub record HasCounted (o : Outcome) (told mounted : Type 0) : Type 0 where
+  pub none : IsUnserved o.status ⊎ (mounted → ⊥) → (o.done ≡ 0) × (o.kept_done ≡ 0)
+  pub few : o.done ≤ budget
+  pub limit : (o.status ≡ 11) ↔ (o.done ≡ budget)
+  pub kept : told → o.kept_done ≤ o.done
+
 -- What the command that serves requests does whatever the file and the devices tell. Where no request was
 -- read the input is as it was, and the fault line is all that is put; where the file isn't there or is
 -- refused, it stays as it was.
 pub record ServesSo (o : Outcome) (old new : State) (from rest : SourceState) (out after : SinkState)
     (same_input : Type 0) : Type 0 where
   pub keeps : KeepsRun old new from rest out after o.status
+  pub numbers : HasCounted o (IsTrue old.tells) (HasMounted new)
   pub turn : IsKeptTurn o (HasMounted new) old.turn new.turn
   pub unread : IsUnserved o.status → same_input
   pub untouched : (o.status ≡ 3) ⊎ (o.status ≡ 4) → Untouched old new

@@ -1,11 +1,13 @@
 use Rattle.std.proofs.Common.{◌≡◌, ◌⊎◌, true, ap, sym, subst}
+use Rattle.std.specs.Prelude.{IsTrue}
 use Rattle.costore_top.specs.Commands.{IsMounted}
 use Rattle.costore_top.specs.Getting.{IsRefused}
 use Rattle.costore_top.specs.Headline.{HasMounted, IsKeptTurn, RunsAs, is_session}
 use Rattle.costore_top.specs.Outcomes.{status_at}
-use Rattle.costore_top.specs.Sessions.{IsUnserved}
+use Rattle.costore_top.specs.Sessions.{HasCounted, IsUnserved}
 use Rattle.costore_top.specs.Words.{run}
 use Rattle.costore_top.specs.declared.top.Outcome.{Outcome}
+use Rattle.costore_top.proofs.CountLaws.{has_counted}
 use Rattle.costore_top.proofs.EndLaws.{ends_after, keeps_after, line_after, only_line}
 use Rattle.costore_top.proofs.HeadlineLaws.{headline}
 use Rattle.costore_top.proofs.WentLaws.{known, refused_by, untouched, whole}
@@ -91,6 +93,16 @@ returns-clause-serves g c =
           (g.O.Sink.state c.finish-outcome.new.output) e.end c.finish-outcome.result.status status w.keeps
           c.finish-outcome.ensures.line c.finish-outcome.ensures.told c.finish-outcome.ensures.later
           c.finish-outcome.ensures.calm;
+      numbers = subst (λ n. HasCounted (record {
+        status = n;
+        done = e.done;
+        kept_done = e.kept_done;
+        kept_turn = e.kept_turn;
+      }) (IsTrue (g.B.Disk.state c.args.bay.now).tells)
+          (HasMounted (g.B.Disk.state c.serve_file-ended.new.bay))) (sym status)
+          (has_counted g.B.Disk.state g.I.Source.state g.O.Sink.state c.args.file.now c.args.bay.now
+          c.serve_file-ended.new.bay c.args.input.now c.serve_file-ended.new.input c.args.output.now
+          c.serve_file-ended.new.output e c.serve_file-ended.ensures);
       turn = subst (λ n. IsKeptTurn (record {
         status = n;
         done = e.done;
