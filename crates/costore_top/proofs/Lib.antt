@@ -2,6 +2,7 @@ mod Pieces
 mod GettingLaws
 mod AnswerLaws
 mod Statuses
+mod EmptyLaws
 mod Formatting
 mod WordLists
 mod TextLaws

@@ -1,9 +1,13 @@
 -- What a command leaves of its bay.
-use Rattle.std.specs.Prelude.{◌≡◌, ◌⊎◌, ◌↔◌, ℕ, Option, Result, Ok, Err, if◌then◌else◌}
+use Rattle.std.specs.Prelude.{◌≡◌, ◌⊎◌, ◌↔◌, ℕ, List, Option, Result, Ok, Err, if◌then◌else◌}
+use Rattle.std.specs.FinMap as fin
 use Rattle.disk_face.specs.Counts.{counted}
 use Rattle.disk_face.specs.States.{State}
 use Rattle.disk_face.specs.Moments.{Leaves, Rests}
-use Rattle.slot_pair.specs.Formats.{HasFirstTable, IsNoneOrFirst, formatted_file}
+use Rattle.size_class.specs.declared.TheConstants.{CLASSES, SIZE_MAX}
+use Rattle.slot_pair.specs.Formats.{HasFirstTable, IsNoStore, first_table, formatted_file}
+use Rattle.segment_layout.specs.Books.{empty_book}
+use Rattle.table_rules.specs.Opening.{OpensBy}
 use Rattle.disk_face.specs.Mounts.{Mount}
 use Rattle.disk_face.specs.declared.bay.Mounted.{Mounted}
 use Rattle.disk_face.specs.declared.bay.Mounted.TheVariants.{There, Made, Absent}
@@ -27,16 +31,28 @@ pub record IsMounted (c : Command) (mount : Option Mount) (disk_failed no_file :
 abbrev pub IsDone : Result (Unit {0}) Stop → Type 0
 IsDone end = (end ≡ Ok tt) ⊎ (end ≡ Err stop.Sink)
 
--- A file was formatted by ten changing calls: it is the store with no names, and a crash leaves it.
+-- A file is the store with no names: it has the table that a store is made with, and by that it opens to the
+-- empty map and the empty book.
+pub record IsEmptyStore (k names : ℕ) (file : List ℕ) : Type 0 where
+  pub table : HasFirstTable k names file
+  pub opens : OpensBy CLASSES SIZE_MAX (first_table k names) file fin.empty empty_book
+
+-- a file is no store, or the store with no names
+abbrev pub IsNoneOrEmpty : ℕ → ℕ → List ℕ → Type 0
+IsNoneOrEmpty k names file = IsNoStore file ⊎ IsEmptyStore k names file
+
+-- A file was formatted by ten changing calls: it is the store with no names, and so is each image that a
+-- crash leaves now.
 pub record IsFormatted (k names : ℕ) (old new : State) : Type 0 where
   pub file : new.file ≡ formatted_file k names
-  pub table : HasFirstTable k names new.file
+  pub store : IsEmptyStore k names new.file
   pub rests : Rests new
+  pub left : (image : List ℕ) → new.may_leave image → IsEmptyStore k names image
   pub calls : new.turn ≡ counted old.turn 10
 
 -- What `format` of an empty file leaves: no store, or the store with no names, and so does a crash at any
 -- moment where the file rested empty. Once it is done, the file is that store.
 pub record Formats (k names : ℕ) (old new : State) (done : Type 0) : Type 0 where
-  pub stopped : IsNoneOrFirst k names new.file
-  pub images : Rests old → Leaves old new (IsNoneOrFirst k names)
+  pub stopped : IsNoneOrEmpty k names new.file
+  pub images : Rests old → Leaves old new (IsNoneOrEmpty k names)
   pub formatted : done → IsFormatted k names old new

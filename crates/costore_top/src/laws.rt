@@ -5,7 +5,8 @@ ghost use Rattle.disk_face.specs.Counts.{IsCalm};
 ghost use Rattle.disk_face.specs.Streams.{SinkState};
 ghost use Rattle.disk_face.specs.declared.bay.Mounted.TheVariants.{There};
 ghost use Rattle.slot_codec.specs.Choice as choice;
-ghost use Rattle.segment_layout.specs.Books.{Book};
+ghost use Rattle.slot_pair.specs.Formats.{HasFirstTable, IsNoStore, first_table};
+ghost use Rattle.segment_layout.specs.Books.{Book, empty_book};
 ghost use Rattle.store_terms.specs.Maps.{Map, volume};
 ghost use Rattle.table_rules.specs.Opening.{Opens, OpensBy};
 ghost use Rattle.table_rules.specs.Tables.{size_sum};
@@ -43,6 +44,15 @@ pub fn told_of_the_map()
         → OpensBy CLASSES SIZE_MAX t file m b → length t.records ≡ fin.len m }
     ensures bytes { (t : choice.Table) (file : List ℕ) (m : Map) (b : Book)
         → OpensBy CLASSES SIZE_MAX t file m b → size_sum t.records ≡ volume m }
+{}
+
+/// A file with the table that a store is made with opens by it to the empty map and the empty book, and a
+/// file that is no store opens to nothing.
+pub fn a_formatted_file_is_the_empty_store()
+    ensures opens { (k names : ℕ) (file : List ℕ) → HasFirstTable k names file
+        → OpensBy CLASSES SIZE_MAX (first_table k names) file fin.empty empty_book }
+    ensures none { (file : List ℕ) (m : Map) (b : Book) → IsNoStore file → Opens CLASSES SIZE_MAX file m b
+        → ⊥ }
 {}
 
 /// What `check` and `map` put of two small files with k = 9: one at rest, and one of 19,857 bytes in

@@ -22,7 +22,8 @@ mod work;
 
 pub use changing::may_change;
 pub use laws::{
-    ends_by_the_answer, jobs_are_done, one_answer, told_of_the_map, worked_summary, worked_texts,
+    a_formatted_file_is_the_empty_store, ends_by_the_answer, jobs_are_done, one_answer,
+    told_of_the_map, worked_summary, worked_texts,
 };
 pub use stop::{Stop, StoreFault};
 pub use top::{Outcome, costore};

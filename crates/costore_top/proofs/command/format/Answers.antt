@@ -1,11 +1,14 @@
 use Rattle.std.proofs.Common.{◌≡◌, IsTrue, arith, length, refl, rules, subst, sym}
 use Rattle.std.proofs.lemmas.Grind.{common_steps}
 use Rattle.std.proofs.lemmas.Bool.{eq-eqb}
+use Rattle.disk_face.specs.Counts.{counted}
+use Rattle.disk_face.specs.Moments.{Rests}
+use Rattle.slot_pair.specs.Formats.{HasFirstTable, formatted_file}
 use Rattle.costore_top.specs.Commands.{IsDone, IsFormatted}
 use Rattle.costore_top.specs.declared.stop.Stop.TheVariants as stop
 use Rattle.costore_top.specs.Outcomes.{format_answer}
 use Rattle.costore_top.proofs.AnswerLaws.{stopped}
-use Rattle.costore_top.proofs.Formatting.{formats_later, formats_now, untouched}
+use Rattle.costore_top.proofs.Formatting.{formats_later, formats_now, formatted_now, untouched}
 use Rattle.costore_top.proofs.command.format.Goals as goal
 
 pub returns-in_err-map_err-clause-formats : goal.returns-in_err-map_err-clause-formats
@@ -35,8 +38,13 @@ pub returns-clause-formats : goal.returns-clause-formats
 returns-clause-formats g c = λ told empty.
     let same = c.length_of.ensures.frame in
     let here : IsTrue (g.D.Disk.state c.length_of.new.disk).tells = subst IsTrue (sym same.stays.told) told in
-    let whole : IsFormatted c.args.k c.args.names (g.D.Disk.state c.length_of.new.disk)
-    (g.D.Disk.state c.format.new.disk) = search rules in
+    let now = g.D.Disk.state c.format.new.disk in
+    let file : now.file ≡ formatted_file c.args.k c.args.names = search rules in
+    let table : HasFirstTable c.args.k c.args.names now.file = search rules in
+    let rests : Rests now = search rules in
+    let calls : now.turn ≡ counted (g.D.Disk.state c.length_of.new.disk).turn 10 = search rules in
+    let whole : IsFormatted c.args.k c.args.names (g.D.Disk.state c.length_of.new.disk) now =
+    formatted_now c.args.k c.args.names file table rests calls in
     let done = IsDone c.put_whole.result in
     formats_later c.args.k c.args.names done (untouched same) told empty
     (formats_now c.args.k c.args.names done (grind (arith, same.same_file told, empty))
