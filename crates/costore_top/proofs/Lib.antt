@@ -19,6 +19,7 @@ mod HeadlineLaws
 mod ClauseLaws
 mod WentLaws
 mod CountLaws
+mod ServedLaws
 mod EndLaws
 mod OtherLaws
 mod WorkLaws

@@ -33,7 +33,7 @@ use Rattle.costore_top.specs.declared.stop.StoreFault.TheVariants as fault
 use Rattle.costore_top.specs.declared.run.Ended.{Ended}
 use Rattle.costore_top.proofs.ClauseLaws.{SessionKeeps, session_keeps}
 
-not_both : {A : Type 0} → false ≡ true → A
+pub not_both : {A : Type 0} → false ≡ true → A
 not_both is = absurd (cc)
 
 -- the devices, the mount, and the turn that is told

@@ -1,5 +1,5 @@
 //! What holds of the answers, as contracts of functions that do nothing.
-ghost use Rattle.std.specs.Prelude.{◌≡◌, ◌⊎◌, ◌++◌, ◌-◌, ◌^◌, ◌<◌, List, ℕ, Ok, Option, Result, codes, length};
+ghost use Rattle.std.specs.Prelude.{◌≡◌, ◌⊎◌, ◌++◌, ◌-◌, ◌^◌, ◌<◌, [], List, ℕ, Ok, Option, Result, codes, length};
 ghost use Rattle.std.specs.FinMap as fin;
 ghost use Rattle.disk_face.specs.Counts.{IsCalm};
 ghost use Rattle.disk_face.specs.Streams.{SinkState};
@@ -8,19 +8,24 @@ ghost use Rattle.slot_codec.specs.Choice as choice;
 ghost use Rattle.slot_pair.specs.Formats.{HasFirstTable, IsNoStore, first_table};
 ghost use Rattle.segment_layout.specs.Books.{Book, empty_book};
 ghost use Rattle.store_terms.specs.Maps.{Map, volume};
+ghost use Rattle.store_terms.specs.Requests.{Request};
 ghost use Rattle.table_rules.specs.Opening.{Opens, OpensBy};
 ghost use Rattle.table_rules.specs.Tables.{size_sum};
+ghost use Rattle.ask_text.specs.Inputs.{Asks};
+ghost use Rattle.ask_session.specs.Runs.{budget};
 ghost use Rattle.costore_top.specs.Commands.{IsMounted};
 ghost use Rattle.costore_top.specs.Getting.{or_missing};
+ghost use Rattle.costore_top.specs.Headline.{RunsFrom};
 ghost use Rattle.costore_top.specs.Outcomes.{Ends, IsAnswer, mounted, status_at};
+ghost use Rattle.costore_top.specs.Sessions.{ServesSo};
 ghost use Rattle.costore_top.specs.Summaries.{eleven_jobs, summary_text};
 ghost use Rattle.costore_top.specs.Texts.{check_text, map_text};
-ghost use Rattle.costore_top.specs.Words.{Command, check, get, map_of, work};
+ghost use Rattle.costore_top.specs.Words.{Command, check, get, map_of, run, work};
 ghost use Rattle.costore_top.specs.Worked.{hello, moved_up};
 ghost use Rattle.costore_top.specs.Working.{WorksFrom, WorksSo};
 
-use crate::Stop;
-use disk_face::{Bay, Mounted, Sink};
+use crate::{Outcome, Stop};
+use disk_face::{Bay, Mounted, Sink, Source};
 use size_class::{CLASSES, SIZE_MAX};
 
 /// There is one answer of a command to the bytes of a file. Of `get` of a file that opens it is what
@@ -93,4 +98,23 @@ pub fn jobs_are_done<B: Bay, O: Sink>()
         → IsCalm (B.state old).faults (B.state new).faults
         → IsCalm (O.state out).faults (O.state after).faults
         → (status ≡ 0) ⊎ (status ≡ 10) }
+{}
+
+/// Where the words are `run FILE`, the mount finds the file, it opens by a table whose sequence leaves
+/// room, the input asks for fewer than 2^32 requests and has nothing behind them, and no count of failures
+/// rises, each request is answered or memory is wanting before the first.
+pub fn requests_are_served<B: Bay, I: Source, O: Sink>()
+    ensures { (t : choice.Table) (m : Map) (b : Book) (file : List ℕ) (requests : List Request) (o : Outcome)
+        (old new : B) (from rest : I) (out after : O) → OpensBy CLASSES SIZE_MAX t (B.state old).file m b
+        → t.chosen.header.sequence < 2 ^ 62 - 2 ^ 19 → Asks (I.state from).left requests []
+        → length requests < budget
+        → RunsFrom o (B.state old) (B.state new) (I.state from) (I.state rest) (O.state out) (O.state after)
+        → ServesSo o (B.state old) (B.state new) (I.state from) (I.state rest) (O.state out) (O.state after)
+        (rest ≡ from)
+        → IsMounted (run file) (B.state new).last_mount (o.status ≡ 7) (o.status ≡ 3)
+        → (B.state new).last_mount ≡ mounted (run file) There
+        → IsCalm (B.state old).faults (B.state new).faults
+        → IsCalm (I.state from).faults (I.state rest).faults
+        → IsCalm (O.state out).faults (O.state after).faults
+        → ((o.status ≡ 0) × (o.done ≡ length requests)) ⊎ ((o.status ≡ 10) × (o.done ≡ 0)) }
 {}
