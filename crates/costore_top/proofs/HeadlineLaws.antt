@@ -1,5 +1,5 @@
 -- The headline of the command that serves requests, from how it went.
-use Rattle.std.specs.Prelude.{◌≡◌, ℕ, ◌+◌, ◌-◌, ◌^◌, ◌<◌, ◌≤◌, true, false, List, length, Result, Ok, Err, IsTrue, refl}
+use Rattle.std.specs.Prelude.{◌≡◌, ℕ, ◌+◌, ◌<◌, ◌≤◌, true, false, List, length, Result, Ok, Err, IsTrue, refl}
 use Rattle.std.proofs.Common.{arith, ap, sym, ◌∙◌, subst, inl, inr}
 use Rattle.disk_face.specs.Counts.{Rose, counted, last}
 use Rattle.disk_face.specs.States.{IsLawful, State}
@@ -21,7 +21,7 @@ use Rattle.table_rules.specs.Opening.{OpensBy}
 use Rattle.store_core.specs.Connection.{Kept, state_of}
 use Rattle.store_core.specs.Stores.{IsStore}
 use Rattle.store_core.specs.States as store
-use Rattle.store_core.specs.Opened.{IsFoundImage, IsOpening, RestsOnFound, SameOnFound, found_base, state_at}
+use Rattle.store_core.specs.Opened.{IsFoundImage, IsOpening, LeavesRoom, RestsOnFound, SameOnFound, found_base, state_at}
 use Rattle.store_core.proofs.OpeningLaws.{found_image}
 use Rattle.reopen.specs.declared.fault.OpenFault.{OpenFault}
 use Rattle.reopen.specs.declared.fault.OpenFault.TheVariants as opening
@@ -56,7 +56,7 @@ module _ {D I O : Type 0} (disk_of : D → State) (source_of : I → SourceState
     (told : IsTrue (disk_of before).tells) (told_source : IsTrue (source_of from).tells)
     (t : choice.Table) (m : Map) (b : Book) (requests : List Request) (end : List ℕ)
     (o : OpensBy CLASSES SIZE_MAX t (disk_of before).file m b)
-    (low : t.chosen.header.sequence < 2 ^ 62 - 2 ^ 19) (asks : Asks (source_of from).left requests end) where
+    (asks : Asks (source_of from).left requests end) where
   abbrev old : State
   old = disk_of before
 
@@ -122,7 +122,7 @@ module _ {D I O : Type 0} (disk_of : D → State) (source_of : I → SourceState
 
     -- the disk failed before a session began
     failed_before : (k : ℕ) → old.turn ≤ z.turn
-        → (RestsOnFound t old → Leaves old z (IsFoundImage CLASSES m b (length old.file)))
+        → (LeavesRoom t → RestsOnFound t old → Leaves old z (IsFoundImage CLASSES m b (length old.file)))
         → Rose old.faults z.faults → (HasMounted z → k ≡ z.turn) → PutsEnd (Err stop.Disk)
         → Runs (outcome_of (unserved stop.Disk k))
     failed_before k later left rose since line =
@@ -149,7 +149,7 @@ module _ {D I O : Type 0} (disk_of : D → State) (source_of : I → SourceState
         → Runs (outcome_of (unserved stop.NoFile 0))
     absent c mount is line =
         unserved_runs t.chosen.block found_start found_starts (lawful now) left_before mount.time.later
-        (left_first t m b old z mount told o)
+        (λ room. left_first t m b old z mount told o)
         (λ rests below calm settled opened. settled_still mount.same_turn
         (λ rests. Leaves-call old.may_leave mount.time mount.images) rests below settled opened)
         requests end (source_of from) (source_of rest) (sink_of out) after 3 0 refl refl
@@ -193,7 +193,7 @@ module _ {D I O : Type 0} (disk_of : D → State) (source_of : I → SourceState
           (Leaves-weaken old.may_leave mount.images same.since) in
           unserved_runs t.chosen.block found_start found_starts (lawful now) left_before
           (omega (arith, same.same_turn, mount.same_turn))
-          (λ rests. Leaves-weaken (IsFoundImage CLASSES m b (length old.file))
+          (λ room rests. Leaves-weaken (IsFoundImage CLASSES m b (length old.file))
           (λ image may. found_image CLASSES t old.file m b o image (rests image may)) (still rests))
           (λ rests below calm settled opened. settled_still
           (same.same_turn ∙ mount.same_turn) still rests below
@@ -210,7 +210,7 @@ module _ {D I O : Type 0} (disk_of : D → State) (source_of : I → SourceState
       unopened_by e (opening.Slot slot.Disk) disk is ended line =
           subst (λ (y : Ended). Runs (outcome_of y)) (sym ended) (failed_before z.turn
           (omega (arith, mount.same_turn, is.frame.no_turn_back))
-          (left_opening t m b old first mount told o low z (Err (opening.Slot slot.Disk)) is)
+          (left_opening t m b old first mount told o z (Err (opening.Slot slot.Disk)) is)
           (omega (arith, calm_mount, is.cause.rose refl)) (λ has. refl)
           (subst (λ (y : Ended). PutsEnd y.end) ended line))
       unopened_by e opening.NoMemory memory is ended line =
@@ -231,7 +231,7 @@ module _ {D I O : Type 0} (disk_of : D → State) (source_of : I → SourceState
       unbegun : (e : Ended) → IsUnbegun first z e → PutsEnd e.end → Runs (outcome_of e)
       unbegun e x line =
           let op : Opened t m b old z x.store =
-          opened_by t m b old first mount told o low z x.store calm_mount x.opening in
+          opened_by t m b old first mount told o z x.store calm_mount x.opening in
           subst (λ (y : Ended). Runs (outcome_of y)) (sym x.ended)
           (subst (λ (u : SuperBlock). RunsAs u t m b requests end
           (outcome_of (unserved stop.NoMemory z.turn)) old z
@@ -255,7 +255,7 @@ module _ {D I O : Type 0} (disk_of : D → State) (source_of : I → SourceState
       (e : Ended) (s : Kept) (mid : D) (opens : IsOpening CLASSES (disk_of first) (disk_of mid) (Ok s))
       (new : Sitting) (line : PutsEnd e.end) where
     op : Opened t m b old (disk_of mid) s
-    op = opened_by t m b old (disk_of first) mount told o low (disk_of mid) s calm_mount opens
+    op = opened_by t m b old (disk_of first) mount told o (disk_of mid) s calm_mount opens
 
     abbrev s0 : Sitting
     s0 = new_sitting s (disk_of mid).turn
@@ -390,7 +390,7 @@ module _ {D I O : Type 0} (disk_of : D → State) (source_of : I → SourceState
       → PutsEnd e.end → Runs (outcome_of e)
   headline c e (inl (is, source, sink)) line = elim is.which as (λ _. Runs (outcome_of e)) [
     | inl failed ↦ subst (λ (y : Ended). Runs (outcome_of y)) (sym failed.0) (failed_before source sink 0
-        is.mount.time.later (left_first t m b old z is.mount told o) failed.2
+        is.mount.time.later (λ room. left_first t m b old z is.mount told o) failed.2
         (λ has. absurd (never_true (sym (ap is_mounted failed.1) ∙ has)))
         (subst (λ (y : Ended). PutsEnd y.end) failed.0 line))
     | inr gone ↦ subst (λ (y : Ended). Runs (outcome_of y)) (sym gone.0) (absent source sink c is.mount gone.1

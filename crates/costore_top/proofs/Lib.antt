@@ -22,6 +22,7 @@ mod CountLaws
 mod ServedLaws
 mod EndLaws
 mod OtherLaws
+mod RefusalLaws
 mod WorkLaws
 mod DoingLemmas
 mod DidLaws

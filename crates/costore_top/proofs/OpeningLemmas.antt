@@ -1,5 +1,5 @@
 -- What mounting and opening a file leave that opens by a table.
-use Rattle.std.specs.Prelude.{◌≡◌, ℕ, ◌+◌, ◌-◌, ◌^◌, ◌<◌, ◌≤◌, false, List, length, Result, Ok, IsTrue}
+use Rattle.std.specs.Prelude.{◌≡◌, ℕ, ◌+◌, ◌<◌, ◌≤◌, false, List, length, Result, Ok, IsTrue}
 use Rattle.std.proofs.Common.{arith, ap, sym, ◌∙◌, subst}
 use Rattle.disk_face.specs.Counts.{last}
 use Rattle.disk_face.specs.States.{IsLawful, State}
@@ -15,7 +15,7 @@ use Rattle.segment_layout.specs.Books.{Book, book_end}
 use Rattle.table_rules.specs.Opening.{OpensBy}
 use Rattle.store_core.specs.Connection.{IsOver, Kept, RestsOnTable, base_of, state_of}
 use Rattle.store_core.specs.Stores.{IsStore}
-use Rattle.store_core.specs.Opened.{ContinuesFrom, IsFoundImage, IsOpened, IsOpening, LeavesRoom, OpenCallsOf, OpensFound, RestsOnFound, RoomOf, SameOnFound, found_base, state_at, turn_after_cut}
+use Rattle.store_core.specs.Opened.{ContinuesFrom, IsFoundImage, IsOpened, IsOpening, LeavesRoom, OpenCallsOf, OpensFound, RestsOnFound, SameOnFound, found_base, state_at, turn_after_cut}
 use Rattle.store_core.proofs.OpeningLaws.{FoundSame, found_image, found_one}
 use Rattle.reopen.specs.declared.fault.OpenFault.{OpenFault}
 use Rattle.costore_top.specs.Headline.{BeginsFrom, turn_opened}
@@ -28,16 +28,12 @@ pub record Opened (t : choice.Table) (m : Map) (b : Book) (old a : State) (s : K
   pub over : IsOver CLASSES s a.file
   pub sound : IsStore CLASSES s
   pub unbroken : s.is_broken ≡ false
-  pub left : RestsOnFound t old → Leaves old a (IsFoundImage CLASSES m b (length old.file))
+  pub left : LeavesRoom t → RestsOnFound t old → Leaves old a (IsFoundImage CLASSES m b (length old.file))
   pub rests : RestsOnFound t old → RestsOnTable (base_of s) s.kept a
   pub turn : t.chosen.header.kind ≡ kind.Settled → a.turn ≡ turn_opened t b old
   pub told : IsTrue a.tells
   pub later : old.turn ≤ a.turn
   pub faults : old.faults ≤ a.faults
-
-room_of : (k : Kind) (q : ℕ) → q < 2 ^ 62 - 2 ^ 19 → RoomOf k q
-room_of kind.Settled q low = tt
-room_of kind.Moving q low = omega (arith, low)
 
 begins_of : (k : Kind) (found q : ℕ) → ContinuesFrom k found q → BeginsFrom k found q
 begins_of kind.Settled found q is = is
@@ -74,15 +70,12 @@ module _ (t : choice.Table) (m : Map) (b : Book) (old first : State) (mount : Af
   left_old lawful below rests image since =
       found_image CLASSES t old.file m b o image (rests image (lawful.only_now image below since))
 
-  module _ (low : t.chosen.header.sequence < 2 ^ 62 - 2 ^ 19) (a : State) where
-    room : LeavesRoom t
-    room = room_of t.chosen.header.kind t.chosen.header.sequence low
-
+  module _ (a : State) where
     -- what an opening leaves meanwhile, whether it fails or not
     pub left_opening : (result : Result Kept OpenFault) → IsOpening CLASSES first a result
-        → RestsOnFound t old
+        → LeavesRoom t → RestsOnFound t old
         → Leaves old a (IsFoundImage CLASSES m b (length old.file))
-    left_opening result opening rests = Leaves-trans (left_first rests)
+    left_opening result opening room rests = Leaves-trans (left_first rests)
         (subst (λ (f : List ℕ). Leaves first a (IsFoundImage CLASSES m b (length f))) file_first
         ((opening.found told_first t m b opens_first).left room (rests_first rests)))
 

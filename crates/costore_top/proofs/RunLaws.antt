@@ -22,7 +22,7 @@ use Rattle.store_core.specs.Connection.{IsOver, Kept, RestsOnTable, base_of, lim
 use Rattle.store_core.specs.Stores.{IsStore}
 use Rattle.store_core.specs.States as store
 use Rattle.store_core.specs.States.{Limits, Served, Step, served}
-use Rattle.store_core.specs.Opened.{IsFoundImage, RestsOnFound}
+use Rattle.store_core.specs.Opened.{IsFoundImage, LeavesRoom, RestsOnFound}
 use Rattle.store_core.proofs.OpenedLaws.{tight_kept, tight_now}
 use Rattle.store_core.proofs.OpeningLaws.{alike_found}
 use Rattle.store_core.proofs.OverLaws.{kept_image, same_block}
@@ -182,15 +182,15 @@ module _ {t : choice.Table} {m : Map} {b : Book} {requests : List Request} {end 
   pub turn_c : a.turn ≤ c.turn
   turn_c = ran.frame.no_turn_back
 
-  pub crash_c : RestsOnFound t old → c.turn < last
+  pub crash_c : LeavesRoom t → RestsOnFound t old → c.turn < last
       → LeftOnly c old.turn (OpensToKept start ran.replies states)
-  crash_c rests below =
+  crash_c room rests below =
       let P = OpensToKept start ran.replies states in
       LeftOnly-after old.turn P op.later
       (LeftOnly-after old.turn P (omega arith)
       (λ image since. inl (found_start image (left_before (omega (arith, below, turn_c, op.later)) rests image
       since).opens))
-      (Leaves-weaken P (λ image is. inl (found_start image is.opens)) (op.left rests)))
+      (Leaves-weaken P (λ image is. inl (found_start image is.opens)) (op.left room rests)))
       (Leaves-weaken P run_shows (ran.left op.told (op.rests rests)))
 
   pub rests_a : RestsOnFound t old → (image : List ℕ) → a.may_leave image
@@ -211,9 +211,9 @@ module _ {t : choice.Table} {m : Map} {b : Book} {requests : List Request} {end 
   loose_run image is = inr (some_weaker (IsStepImage CLASSES u.k (base_of s) image)
       (λ x y. Loose u.k (length image - base_of s) x.map y.map) start states (λ x y h. h.loose) is)
 
-  pub long_c : RestsOnFound t old → c.turn < last
+  pub long_c : LeavesRoom t → RestsOnFound t old → c.turn < last
       → IsLong u.k (base_of s) t (turn_opened t b old) start states old c
-  long_c rests below = record {
+  long_c room rests below = record {
     settled = λ settled later.
         let at = op.turn settled in
         subst (λ (k : ℕ). LeftOnly c k (IsWithinBounds u.k (base_of s) start states)) at
@@ -229,7 +229,7 @@ module _ {t : choice.Table} {m : Map} {b : Book} {requests : List Request} {end 
         (LeftOnly-after old.turn P (omega arith)
         (λ image since. inl (left_before
         (omega (arith, below, turn_c, op.later)) rests image since).no_longer)
-        (Leaves-weaken P (λ image is. inl is.no_longer) (op.left rests)))
+        (Leaves-weaken P (λ image is. inl is.no_longer) (op.left room rests)))
         (Leaves-weaken P (λ image is. inr (loose_run image is)) (ran.left op.told (op.rests rests)));
   }
 
@@ -298,11 +298,11 @@ module _ {t : choice.Table} {m : Map} {b : Book} {requests : List Request} {end 
           (last_state start xs) c.file)
           (sym same_states) (subst (λ (y : store.State). EndsTight u.k (head_len u.names) y c.file) newest
           (tight_over s1.store c.file u sound over_c ran.block));
-      within = λ calm rests below. subst (λ (xs : List store.State). IsLong u.k (head_len u.names) t
-          (turn_opened t b old) start xs old c) (sym same_states) (long_c rests below);
+      within = λ calm room rests below. subst (λ (xs : List store.State). IsLong u.k (head_len u.names) t
+          (turn_opened t b old) start xs old c) (sym same_states) (long_c room rests below);
       opened = λ calm settled has. told_c settled;
-      crash = λ rests below. record {
-        crash = λ image since. inl (crash_c rests below image since);
+      crash = λ room rests below. record {
+        crash = λ image since. inl (crash_c room rests below image since);
         since = λ mounted image since. inl (since_c rests below image since);
         safe = λ is. absurd (nine is);
       };
@@ -448,14 +448,14 @@ module _ {t : choice.Table} {m : Map} {b : Book} {requests : List Request} {end 
         (served_at s1.store c.file r).state.map) ran.block is.loose))
 
     module _ (status : ℕ) (failed : IsTrue (has_failed status)) where
-      crash_z : RestsOnFound t old → z.turn < last → LeftOnly z old.turn
+      crash_z : LeavesRoom t → RestsOnFound t old → z.turn < last → LeftOnly z old.turn
           (λ image. OpensToKept start ran.replies states image
           ⊎ OpensToBeing status limits last_one others image)
-      crash_z rests below =
+      crash_z room rests below =
           let P = λ (image : List ℕ). OpensToKept start ran.replies states image
           ⊎ OpensToBeing status limits last_one others image in
           LeftOnly-after old.turn P (omega (arith, op.later, turn_c))
-          (λ image since. inl (crash_c rests (omega (arith, below, turn_z)) image since))
+          (λ image since. inl (crash_c room rests (omega (arith, below, turn_z)) image since))
           (Leaves-weaken P (λ image is. elim (opens_z image is) as (λ _. P image) [
             | inl kept ↦ inl (last_kept_shows image kept)
             | inr one ↦ inr (failed, one)
@@ -573,10 +573,10 @@ module _ {t : choice.Table} {m : Map} {b : Book} {requests : List Request} {end 
               | inl whole ↦ (let e : false ≡ true = whole in absurd (cc))
               | inr nine ↦ omega (arith, nine)
             ]);
-            within = λ calm rests below. never calm;
+            within = λ calm room rests below. never calm;
             opened = λ calm settled has. never calm;
-            crash = λ rests below. record {
-              crash = crash_z 7 refl rests below;
+            crash = λ room rests below. record {
+              crash = crash_z 7 refl room rests below;
               since = λ mounted. since_z 7 refl rests below;
               safe = λ is. absurd (omega (arith, is));
             };
@@ -649,10 +649,11 @@ module _ {t : choice.Table} {m : Map} {b : Book} {requests : List Request} {end 
           loose_next image is = inr (some_last (λ x y. Loose u.k (length image - base_of s) x.map y.map) start
               next_one.state states (loose_z image is))
 
-          long_z : RestsOnFound t old → z.turn < last → IsLong u.k (base_of s) t (turn_opened t b old) start
+          long_z : LeavesRoom t → RestsOnFound t old → z.turn < last
+              → IsLong u.k (base_of s) t (turn_opened t b old) start
               (states ++ next_one.state ∷ []) old z
-          long_z rests below =
-              let was = long_c rests (omega (arith, below, turn_z)) in
+          long_z room rests below =
+              let was = long_c room rests (omega (arith, below, turn_z)) in
               let within = λ (image : List ℕ). IsWithinBounds u.k (base_of s) start
               (states ++ next_one.state ∷ []) image in
               record {
@@ -712,13 +713,13 @@ module _ {t : choice.Table} {m : Map} {b : Book} {requests : List Request} {end 
             between = λ is. subst (λ (y : store.State). EndsTight u.k (head_len u.names) y z.file)
                 (sym last_served)
                 tight_z;
-            within = λ calm rests below. long_z rests below;
+            within = λ calm room rests below. long_z room rests below;
             opened = λ calm settled has. record {
               low = omega (arith, x.counts.kept_turn, (told_c settled).low);
               first = λ none. x.counts.kept_turn ∙ (told_c settled).first (sym x.counts.kept_done ∙ none);
             };
-            crash = λ rests below. record {
-              crash = crash_z 9 refl rests below;
+            crash = λ room rests below. record {
+              crash = crash_z 9 refl room rests below;
               since = λ mounted. since_z 9 refl rests below;
               safe = λ is. safe_z rests;
             };

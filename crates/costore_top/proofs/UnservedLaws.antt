@@ -16,7 +16,7 @@ use Rattle.store_terms.specs.Requests.{Request}
 use Rattle.segment_layout.specs.Books.{Book, book_end}
 use Rattle.table_rules.specs.Opening.{Opens}
 use Rattle.store_core.specs.States as store
-use Rattle.store_core.specs.Opened.{IsFoundImage, RestsOnFound}
+use Rattle.store_core.specs.Opened.{IsFoundImage, LeavesRoom, RestsOnFound}
 use Rattle.ask_session.specs.Runs.{last_state}
 use Rattle.ask_session.proofs.RunLaws.{opens_with}
 use Rattle.costore_top.specs.Headline.{HasMounted, HowFar, IsLong, IsNextStart, NumbersLine, OpensTo, RunsAs, Starts, has_opened, is_whole, limits_with, next_reply, next_saves, next_states, served_states, turn_opened}
@@ -29,7 +29,7 @@ module _ {t : choice.Table} {m : Map} {b : Book} {old z : State}
     (left_before : old.turn < last → RestsOnFound t old
     → LeftOnly old old.turn (IsFoundImage CLASSES m b (length old.file)))
     (later : old.turn ≤ z.turn)
-    (left : RestsOnFound t old → Leaves old z (IsFoundImage CLASSES m b (length old.file)))
+    (left : LeavesRoom t → RestsOnFound t old → Leaves old z (IsFoundImage CLASSES m b (length old.file)))
     (settled_long : RestsOnFound t old → z.turn < last → IsCalm old.faults z.faults
     → t.chosen.header.kind ≡ kind.Settled → turn_opened t b old ≤ z.turn → LeftOnly z (turn_opened t b old)
     (λ image. length image ≡ head_len u.names + book_end u.k start.book)) where
@@ -37,10 +37,11 @@ module _ {t : choice.Table} {m : Map} {b : Book} {old z : State}
   found_start image is = opens_with image (ap (λ (y : store.State). y.map) starts.state)
       (ap (λ (y : store.State). y.book) starts.state) is
 
-  left_found : RestsOnFound t old → z.turn < last
+  left_found : LeavesRoom t → RestsOnFound t old → z.turn < last
       → LeftOnly z old.turn (IsFoundImage CLASSES m b (length old.file))
-  left_found rests below = LeftOnly-after old.turn (IsFoundImage CLASSES m b (length old.file)) (omega arith)
-      (left_before (omega (arith, later, below)) rests) (left rests)
+  left_found room rests below = LeftOnly-after old.turn (IsFoundImage CLASSES m b (length old.file))
+      (omega arith)
+      (left_before (omega (arith, later, below)) rests) (left room rests)
 
   module _ (requests : List Request) (end : List ℕ) (from rest : SourceState) (out after : SinkState)
       (status kept_turn : ℕ)
@@ -93,16 +94,16 @@ module _ {t : choice.Table} {m : Map} {b : Book} {old z : State}
         | inl whole ↦ (let e : true ≡ false = sym whole ∙ not_whole in absurd (cc))
         | inr is_nine ↦ nine is_nine
       ]);
-      within = λ calm rests below. subst (λ (xs : List store.State). IsLong u.k (head_len u.names) t
+      within = λ calm room rests below. subst (λ (xs : List store.State). IsLong u.k (head_len u.names) t
           (turn_opened t b old) start xs old z) (sym same_states) (record {
             settled = λ settled low image is. inl (settled_long rests below calm settled low image is);
-            moving = λ moving image is. inl (left_found rests below image is).no_longer;
+            moving = λ moving image is. inl (left_found room rests below image is).no_longer;
           });
       opened = λ calm settled has. absurd (told calm has);
-      crash = λ rests below. record {
-        crash = λ image is. inl (inl (found_start image (left_found rests below image is).opens));
+      crash = λ room rests below. record {
+        crash = λ image is. inl (inl (found_start image (left_found room rests below image is).opens));
         since = λ mounted image is. inl
-            (found_start image (left_found rests below image (lawful.counts_now old.turn
+            (found_start image (left_found room rests below image (lawful.counts_now old.turn
             image later (lawful.only_now image below (subst (λ (k : ℕ). z.left_since k image) (since mounted)
             is)))).opens);
         safe = λ is. absurd (nine is);

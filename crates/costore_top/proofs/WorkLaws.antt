@@ -18,7 +18,7 @@ use Rattle.table_rules.specs.Opening.{Opens, OpensBy}
 use Rattle.store_core.specs.Connection.{IsOver, Kept, base_of, limits_of, state_of}
 use Rattle.store_core.specs.States as store
 use Rattle.store_core.specs.States.{Chain}
-use Rattle.store_core.specs.Opened.{IsFoundImage, RestsOnFound, found_base}
+use Rattle.store_core.specs.Opened.{IsFoundImage, LeavesRoom, RestsOnFound, found_base}
 use Rattle.store_core.proofs.OpeningLaws.{found_image}
 use Rattle.ask_session.specs.Runs as run
 use Rattle.ask_session.specs.Runs.{IsRunImage, IsStepImage, last_state}
@@ -63,15 +63,16 @@ module _ (t : choice.Table) (m : Map) (b : Book) (old : State) (lawful : IsLawfu
 
   module _ (u : SuperBlock) (start : store.State) (starts : Starts t m b start) {z : State}
       (later : old.turn ≤ z.turn)
-      (left : RestsOnFound t old → Leaves old z (IsFoundImage CLASSES m b (length old.file))) where
+      (left : LeavesRoom t → RestsOnFound t old
+      → Leaves old z (IsFoundImage CLASSES m b (length old.file))) where
     found_start : (image : List ℕ) → Opens CLASSES SIZE_MAX image m b → OpensTo start image
     found_start image is = opens_with image (ap (λ (y : store.State). y.map) starts.state)
         (ap (λ (y : store.State). y.book) starts.state) is
 
-    pub left_start : RestsOnFound t old → z.turn < last → LeftOnly z old.turn (OpensTo start)
-    left_start rests below image since = found_start image
+    pub left_start : LeavesRoom t → RestsOnFound t old → z.turn < last → LeftOnly z old.turn (OpensTo start)
+    left_start room rests below image since = found_start image
         (LeftOnly-after old.turn (IsFoundImage CLASSES m b (length old.file)) (omega arith)
-        (left_before (omega (arith, later, below)) rests) (left rests) image since).opens
+        (left_before (omega (arith, later, below)) rests) (left room rests) image since).opens
 
     pub none_begun : (status : ℕ) → is_working status ≡ true → has_worked status ≡ false
         → (IsCalm old.faults z.faults → IsNextStart t start start.sequence old z)
@@ -96,8 +97,8 @@ module _ (t : choice.Table) (m : Map) (b : Book) (old : State) (lawful : IsLawfu
         none = λ is. refl;
       };
       done = λ is. absurd (let e : true ≡ false = sym is ∙ none in cc);
-      crash = λ rests below image since. inl (inl (left_start rests below image since));
-      unbegun = λ is rests below. left_start rests below;
+      crash = λ room rests below image since. inl (inl (left_start room rests below image since));
+      unbegun = λ is room rests below. left_start room rests below;
       next_start = next;
     }
 
@@ -119,8 +120,8 @@ module _ (t : choice.Table) (m : Map) (b : Book) (old : State) (lawful : IsLawfu
         (ap (λ (y : store.State). y.book) op.state ∙ ap (λ (y : store.State). y.kept_book) (sym op.state)) is
 
     -- what was left until the first job
-    left_mid : RestsOnFound t old → mid.turn < last → LeftOnly mid old.turn (OpensTo start)
-    left_mid rests below = left_start u start starts op.later op.left rests below
+    left_mid : LeavesRoom t → RestsOnFound t old → mid.turn < last → LeftOnly mid old.turn (OpensTo start)
+    left_mid room rests below = left_start u start starts op.later op.left room rests below
 
     pub none_done : (status : ℕ) → is_working status ≡ true → has_worked status ≡ false
         → WorksAs u t m b number count status old mid out after
@@ -177,11 +178,11 @@ module _ (t : choice.Table) (m : Map) (b : Book) (old : State) (lawful : IsLawfu
           none = λ is. absurd (omega (arith, is));
         };
         done = λ is. absurd (let e : false ≡ true = is in cc);
-        crash = λ rests below.
+        crash = λ room rests below.
             let P = λ (image : List ℕ). OpensToKept start x.replies x.states image
             ⊎ OpensToBeing 7 (limits_with u) (last_state start x.states) (x.next ∷ x.others) image in
             LeftOnly-after old.turn P op.later
-            (λ image since. inl (inl (left_mid rests (omega (arith, below, x.frame.no_turn_back)) image
+            (λ image since. inl (inl (left_mid room rests (omega (arith, below, x.frame.no_turn_back)) image
             since)))
             (Leaves-weaken P (λ image is. elim is as (λ _. P image) [
               | inl ran ↦ inl (run_shows x.done x.replies x.states (x.chain op.told) image ran)
@@ -256,12 +257,12 @@ module _ (t : choice.Table) (m : Map) (b : Book) (old : State) (lawful : IsLawfu
                   exact,
             );
           };
-          crash = λ rests below.
+          crash = λ room rests below.
               let P = λ (image : List ℕ). OpensToKept start d.replies d.states image
               ⊎ OpensToBeing status (limits_with u) (last_state start d.states) [] image in
               LeftOnly-after old.turn P op.later
-              (λ image since. inl (inl (left_mid rests (omega (arith, below, d.ran.frame.no_turn_back)) image
-              since)))
+              (λ image since. inl (inl (left_mid room rests (omega (arith, below, d.ran.frame.no_turn_back))
+              image since)))
               (Leaves-weaken P (λ image is. inl (run_shows requests d.replies d.states chain_d image is))
               (d.ran.left op.told (op.rests rests)));
           unbegun = λ is. absurd (begun is);

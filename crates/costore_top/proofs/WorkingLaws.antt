@@ -1,5 +1,5 @@
 -- The headline of `work` in each way that the command may go.
-use Rattle.std.specs.Prelude.{◌≡◌, ◌⊎◌, ℕ, ◌^◌, ◌-◌, ◌<◌, ◌≤◌, List, ◌++◌, length, Ok, Err, Result, OnErr, IsTrue, refl}
+use Rattle.std.specs.Prelude.{◌≡◌, ◌⊎◌, ℕ, ◌≤◌, List, ◌++◌, length, Ok, Err, Result, OnErr, IsTrue, refl}
 use Rattle.std.proofs.Common.{arith, sym, ◌∙◌, subst, inl, inr}
 use Rattle.disk_face.specs.Counts.{Rose}
 use Rattle.disk_face.specs.States.{IsLawful, State}
@@ -15,7 +15,7 @@ use Rattle.segment_layout.specs.Books.{Book}
 use Rattle.table_rules.specs.Opening.{OpensBy}
 use Rattle.store_core.specs.Connection.{Kept}
 use Rattle.store_core.specs.States as store
-use Rattle.store_core.specs.Opened.{IsFoundImage, IsOpening, RestsOnFound, SameOnFound, state_at}
+use Rattle.store_core.specs.Opened.{IsFoundImage, IsOpening, LeavesRoom, RestsOnFound, SameOnFound, state_at}
 use Rattle.reopen.specs.declared.fault.OpenFault.{OpenFault}
 use Rattle.reopen.specs.declared.fault.OpenFault.TheVariants as opening
 use Rattle.work_session.specs.declared.summary.Summary.{Summary}
@@ -37,7 +37,7 @@ use Rattle.costore_top.proofs.WorkLaws.{all_done, in_a_job, none_begun, none_don
 
 module _ (t : choice.Table) (m : Map) (b : Book) (old : State) (lawful : IsLawful old)
     (told : IsTrue old.tells)
-    (o : OpensBy CLASSES SIZE_MAX t old.file m b) (low : t.chosen.header.sequence < 2 ^ 62 - 2 ^ 19)
+    (o : OpensBy CLASSES SIZE_MAX t old.file m b)
     {D : Type 0} (disk_of : D → State) (number count : ℕ) (z : State) (out put after : SinkState) where
   abbrev Works : ℕ → Type 0
   Works n = WorksAs t.chosen.block t m b number count n old z out after
@@ -69,7 +69,7 @@ module _ (t : choice.Table) (m : Map) (b : Book) (old : State) (lawful : IsLawfu
   }
 
   failed_before : old.turn ≤ z.turn
-      → (RestsOnFound t old → Leaves old z (IsFoundImage CLASSES m b (length old.file)))
+      → (LeavesRoom t → RestsOnFound t old → Leaves old z (IsFoundImage CLASSES m b (length old.file)))
       → Rose old.faults z.faults → Works 7
   failed_before later left rose = none_begun t m b old lawful o number count out after t.chosen.block
       found_start
@@ -77,7 +77,7 @@ module _ (t : choice.Table) (m : Map) (b : Book) (old : State) (lawful : IsLawfu
 
   absent : AfterMount old z → Works 3
   absent mount = none_begun t m b old lawful o number count out after t.chosen.block found_start found_starts
-      mount.time.later (left_first t m b old z mount told o) 3 refl refl
+      mount.time.later (λ room. left_first t m b old z mount told o) 3 refl refl
       (λ calm. next_found (mount.same_file told) (rests_first t m b old z mount told o))
 
   module _ (first : State) (mount : AfterMount old first) (calm_mount : first.faults ≡ old.faults) where
@@ -85,7 +85,7 @@ module _ (t : choice.Table) (m : Map) (b : Book) (old : State) (lawful : IsLawfu
         → Works (status_of (stop_of why))
     unopened_by (opening.Slot slot.Disk) disk is = failed_before
         (omega (arith, mount.same_turn, is.frame.no_turn_back))
-        (left_opening t m b old first mount told o low z (Err (opening.Slot slot.Disk)) is)
+        (left_opening t m b old first mount told o z (Err (opening.Slot slot.Disk)) is)
         (omega (arith, calm_mount, is.cause.rose refl))
     unopened_by opening.NoMemory memory is =
         let same : Unchanged first z = is.unchanged in
@@ -93,7 +93,7 @@ module _ (t : choice.Table) (m : Map) (b : Book) (old : State) (lawful : IsLawfu
         ∙ mount.same_file told in
         none_begun t m b old lawful o number count out after t.chosen.block found_start found_starts
         (omega (arith, mount.same_turn, same.same_turn))
-        (left_opening t m b old first mount told o low z (Err opening.NoMemory) is) 10 refl refl
+        (left_opening t m b old first mount told o z (Err opening.NoMemory) is) 10 refl refl
         (λ calm. next_found file (λ rests image left. subst (λ (f : List ℕ). SameOnFound t f image) (sym file)
         (rests image (mount.images image (same.images image left)))))
     unopened_by (opening.Slot slot.Short) none is = elim none [ ]
@@ -123,14 +123,14 @@ module _ (t : choice.Table) (m : Map) (b : Book) (old : State) (lawful : IsLawfu
       not_begun : IsNotBegun first z end → Works (status_at end)
       not_begun x =
           let op : Opened t m b old z x.store =
-          opened_by t m b old first mount told o low z x.store calm_mount x.opening in
+          opened_by t m b old first mount told o z x.store calm_mount x.opening in
           carried (Err stop.NoMemory) x.ended (over_block 10 op
           (none_done t m b old lawful o number count out after op 10 refl refl))
 
       in_job : IsStopped disk_of number count first z end → Works (status_at end)
       in_job x =
           let op : Opened t m b old (disk_of x.mid) x.store =
-          opened_by t m b old first mount told o low (disk_of x.mid) x.store calm_mount x.opening in
+          opened_by t m b old first mount told o (disk_of x.mid) x.store calm_mount x.opening in
           carried (Err stop.Disk) x.ended (over_block 7 op
           (in_a_job t m b old lawful o number count out after op x.stopped))
 
@@ -151,7 +151,7 @@ module _ (t : choice.Table) (m : Map) (b : Book) (old : State) (lawful : IsLawfu
       summed x line = by end refl x.only x.puts line
         where
           op : Opened t m b old (disk_of x.mid) x.store
-          op = opened_by t m b old first mount told o low (disk_of x.mid) x.store calm_mount x.opening
+          op = opened_by t m b old first mount told o (disk_of x.mid) x.store calm_mount x.opening
 
           by : (e : Result (Unit {0}) Stop) → end ≡ e → OnErr e (e ≡ Err stop.Sink)
               → (IsTrue out.tells → Puts out.given put.given (summary_text x.summary) e) → PutsEnd e
@@ -177,7 +177,7 @@ module _ (t : choice.Table) (m : Map) (b : Book) (old : State) (lawful : IsLawfu
       → Works (status_at end)
   works c end (inl (is, same)) line = elim is.which as (λ _. Works (status_at end)) [
     | inl failed ↦ subst (λ (x : Result (Unit {0}) Stop). Works (status_at x)) (sym failed.0)
-        (failed_before is.mount.time.later (left_first t m b old z is.mount told o) failed.2)
+        (failed_before is.mount.time.later (λ room. left_first t m b old z is.mount told o) failed.2)
     | inr gone ↦ subst (λ (x : Result (Unit {0}) Stop). Works (status_at x)) (sym gone.0) (absent is.mount)
   ]
   works c end (inr x) line = by x.did

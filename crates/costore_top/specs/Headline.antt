@@ -18,7 +18,7 @@ use Rattle.segment_layout.specs.Books.{Book, book_end}
 use Rattle.segment_layout.specs.Bounds.{Loose, Tight}
 use Rattle.table_rules.specs.Opening.{Opens, OpensBy}
 use Rattle.store_core.specs.States.{Chain, Limits, State, served}
-use Rattle.store_core.specs.Opened.{RestsOnFound, found_base, state_at, turn_after_cut}
+use Rattle.store_core.specs.Opened.{LeavesRoom, RestsOnFound, found_base, state_at, turn_after_cut}
 use Rattle.ask_text.specs.Inputs.{Asks}
 use Rattle.ask_text.specs.Replies.{reply_text}
 use Rattle.ask_session.specs.Serving.{acknowledges, is_changing}
@@ -263,8 +263,9 @@ abbrev pub turn_opened : choice.Table → Book → disk.State → ℕ
 turn_opened t b old = turn_after_cut (found_base t + book_end t.chosen.block.k b) old.file old.turn
 
 -- What a session over a file does that has a superblock, opens by a table to a map and a book, and whose
--- input asks for these requests. What is said of images is said of a disk that rested on that table, and
--- below the last turn; what is said of lengths, of a disk whose count of faults didn't rise.
+-- input asks for these requests. What is said of images is said of a disk that rested on that table, below
+-- the last turn, and of a moving table whose sequence leaves room for the saves of its flush; what is said of
+-- lengths, of a disk whose count of faults didn't rise.
 pub record RunsAs (u : SuperBlock) (t : choice.Table) (m : Map) (b : Book) (requests : List Request)
     (end : List ℕ)
     (o : Outcome) (old new : disk.State) (from rest : SourceState) (out after : SinkState) : Type 0 where
@@ -280,14 +281,14 @@ pub record RunsAs (u : SuperBlock) (t : choice.Table) (m : Map) (b : Book) (requ
   pub between : IsTrue (is_whole o.status) ⊎ (o.status ≡ 9) → EndsTight u.k (head_len u.names)
       (last_state start (served_states o.status (limits_with u) start ran.states ran.others)) new.file
   -- within a request
-  pub within : IsCalm old.faults new.faults → RestsOnFound t old → new.turn < last
+  pub within : IsCalm old.faults new.faults → LeavesRoom t → RestsOnFound t old → new.turn < last
       → IsLong u.k (head_len u.names) t
       (turn_opened t b old) start (served_states o.status (limits_with u) start ran.states ran.others) old new
   pub opened : IsCalm old.faults new.faults → t.chosen.header.kind ≡ kind.Settled
       → IsTrue (has_opened o.status)
       → IsTold (turn_opened t b old) o.kept_done o.kept_turn
   -- a crash at any moment
-  pub crash : RestsOnFound t old → new.turn < last
+  pub crash : LeavesRoom t → RestsOnFound t old → new.turn < last
       → IsCrashSafe (limits_with u) start (last_state start ran.states)
       ran.replies ran.states ran.others o (HasMounted new) old new
   -- what is acknowledged
@@ -299,11 +300,10 @@ pub record RunsAs (u : SuperBlock) (t : choice.Table) (m : Map) (b : Book) (requ
       + (if o.status == 9 then next_saves (limits_with u) (last_state start ran.states) ran.others else 0))
       old new
 
--- The headline: so it is of every file that opens by a table whose sequence leaves room, and of every input.
+-- The headline: so it is of every file that opens, and of every input.
 abbrev pub RunsFrom : Outcome → disk.State → disk.State → SourceState → SourceState → SinkState → SinkState
     → Type 0
 RunsFrom o old new from rest out after =
     (t : choice.Table) (m : Map) (b : Book) (requests : List Request) (end : List ℕ)
-    → OpensBy CLASSES SIZE_MAX t old.file m b → t.chosen.header.sequence < 2 ^ 62 - 2 ^ 19
-    → Asks from.left requests end
+    → OpensBy CLASSES SIZE_MAX t old.file m b → Asks from.left requests end
     → RunsAs t.chosen.block t m b requests end o old new from rest out after

@@ -138,9 +138,13 @@ pub record HasCounted (o : Outcome) (told mounted : Type 0) : Type 0 where
   pub limit : (o.status ≡ 11) ↔ (o.done ≡ budget)
   pub kept : told → o.kept_done ≤ o.done
 
+-- no map and no book is what the file opens to
+abbrev pub NeverOpens : List ℕ → Type 0
+NeverOpens file = (m : Map) (b : Book) → Opens CLASSES SIZE_MAX file m b → ⊥
+
 -- What the command that serves requests does whatever the file and the devices tell. Where no request was
 -- read the input is as it was, and the fault line is all that is put; where the file isn't there or is
--- refused, it stays as it was.
+-- refused, it stays as it was. One that opens isn't refused.
 pub record ServesSo (o : Outcome) (old new : State) (from rest : SourceState) (out after : SinkState)
     (same_input : Type 0) : Type 0 where
   pub keeps : KeepsRun old new from rest out after o.status
@@ -148,11 +152,8 @@ pub record ServesSo (o : Outcome) (old new : State) (from rest : SourceState) (o
   pub turn : IsKeptTurn o (HasMounted new) old.turn new.turn
   pub unread : IsUnserved o.status → same_input
   pub untouched : (o.status ≡ 3) ⊎ (o.status ≡ 4) → Untouched old new
+  pub refused : IsTrue old.tells → o.status ≡ 4 → NeverOpens old.file
   pub line_alone : IsTrue out.tells → IsUnserved o.status → PutsLine o.status out after
-
--- no map and no book is what the file opens to
-abbrev pub NeverOpens : List ℕ → Type 0
-NeverOpens file = (m : Map) (b : Book) → Opens CLASSES SIZE_MAX file m b → ⊥
 
 -- the status and the numbers of an end
 abbrev pub outcome_of : Ended → Outcome

@@ -15,7 +15,7 @@ use Rattle.store_terms.specs.Requests.{Reply, Request}
 use Rattle.segment_layout.specs.Books.{Book, book_end}
 use Rattle.table_rules.specs.Opening.{OpensBy}
 use Rattle.store_core.specs.States.{State}
-use Rattle.store_core.specs.Opened.{RestsOnFound, found_base}
+use Rattle.store_core.specs.Opened.{LeavesRoom, RestsOnFound, found_base}
 use Rattle.ask_session.specs.Runs as run
 use Rattle.ask_session.specs.Runs.{last_state}
 use Rattle.work_maker.specs.Jobs.{jobs}
@@ -24,6 +24,7 @@ use Rattle.work_session.specs.Works.{ArePaidLines, CountsOf, LinesOf}
 use Rattle.work_session.specs.declared.summary.Summary.{Summary}
 use Rattle.costore_top.specs.Headline.{EndsTight, IsNextStart, OpensTo, OpensToBeing, OpensToKept, Ran, Starts, limits_with}
 use Rattle.costore_top.specs.Outcomes.{PutsLast, PutsLine}
+use Rattle.costore_top.specs.Sessions.{NeverOpens}
 use Rattle.costore_top.specs.Summaries.{summary_text}
 
 -- ---- statuses
@@ -85,9 +86,10 @@ pub record AreDone (u : SuperBlock) (t : choice.Table) (b : Book) (start : State
 
 -- What the jobs of a number over a file do that has a superblock, and opens by a table to a map and a book.
 -- The first were done one after another, from the state in which the file is opened. What is said of images
--- is said of a disk that rested on that table, and below the last turn: at any moment a crash leaves the
--- start, or what stood after a job that made a checkpoint, or the one that the job makes in which the disk
--- failed; and the start alone where no job was begun.
+-- is said of a disk that rested on that table, below the last turn, and of a moving table whose sequence
+-- leaves room for the saves of its flush: at any moment a crash leaves the start, or what stood after a job
+-- that made a checkpoint, or the one that the job makes in which the disk failed; and the start alone where no
+-- job was begun.
 pub record WorksAs (u : SuperBlock) (t : choice.Table) (m : Map) (b : Book) (number count status : ℕ)
     (old new : disk.State) (out after : SinkState) : Type 0 where
   pub start : State
@@ -97,18 +99,18 @@ pub record WorksAs (u : SuperBlock) (t : choice.Table) (m : Map) (b : Book) (num
   pub far : HowManyJobs status n ran.others
   pub done : IsTrue (has_worked status)
       → AreDone u t b start ran.answered ran.replies ran.states status old new out after
-  pub crash : RestsOnFound t old → new.turn < last → LeftOnly new old.turn
+  pub crash : LeavesRoom t → RestsOnFound t old → new.turn < last → LeftOnly new old.turn
       (λ image. OpensToKept start ran.replies ran.states image
       ⊎ OpensToBeing status (limits_with u) (last_state start ran.states) ran.others image)
-  pub unbegun : (status ≡ 3) ⊎ (status ≡ 10) → RestsOnFound t old → new.turn < last
+  pub unbegun : (status ≡ 3) ⊎ (status ≡ 10) → LeavesRoom t → RestsOnFound t old → new.turn < last
       → LeftOnly new old.turn (OpensTo start)
   pub next_start : IsCalm old.faults new.faults
       → IsNextStart t (last_state start ran.states) (last_state start ran.states).sequence old new
 
--- So it is of every file that opens by a table whose sequence leaves room.
+-- So it is of every file that opens.
 abbrev pub WorksFrom : ℕ → ℕ → ℕ → disk.State → disk.State → SinkState → SinkState → Type 0
 WorksFrom number count status old new out after = (t : choice.Table) (m : Map) (b : Book)
-    → OpensBy CLASSES SIZE_MAX t old.file m b → t.chosen.header.sequence < 2 ^ 62 - 2 ^ 19
+    → OpensBy CLASSES SIZE_MAX t old.file m b
     → WorksAs t.chosen.block t m b number count status old new out after
 
 -- ---- whatever is told
@@ -127,9 +129,11 @@ pub record KeepsWork (old new : disk.State) (out after : SinkState) (status : �
   pub sink_told : after.tells ≡ out.tells
 
 -- What `work` does whatever the file and the devices tell. Where the jobs weren't all done the fault line is
--- all that is put; where the file isn't there or is refused, it stays as it was.
+-- all that is put; where the file isn't there or is refused, it stays as it was. One that opens isn't
+-- refused.
 pub record WorksSo (status : ℕ) (old new : disk.State) (out after : SinkState) : Type 0 where
   pub known : (is_working status ≡ true) ⊎ (status ≡ 4)
   pub keeps : KeepsWork old new out after status
   pub untouched : (status ≡ 3) ⊎ (status ≡ 4) → Untouched old new
+  pub refused : IsTrue old.tells → status ≡ 4 → NeverOpens old.file
   pub line_alone : IsTrue out.tells → has_worked status ≡ false → PutsLine status out after

@@ -1,5 +1,5 @@
 //! What holds of the answers, as contracts of functions that do nothing.
-ghost use Rattle.std.specs.Prelude.{◌≡◌, ◌⊎◌, ◌++◌, ◌-◌, ◌^◌, ◌<◌, [], List, ℕ, Ok, Option, Result, codes, length};
+ghost use Rattle.std.specs.Prelude.{◌≡◌, ◌⊎◌, ◌++◌, ◌<◌, [], List, ℕ, Ok, Option, Result, codes, length};
 ghost use Rattle.std.specs.FinMap as fin;
 ghost use Rattle.disk_face.specs.Counts.{IsCalm};
 ghost use Rattle.disk_face.specs.Streams.{SinkState};
@@ -85,12 +85,11 @@ pub fn ends_by_the_answer()
         ⊎ (status ≡ 3) ⊎ (status ≡ 7) ⊎ (status ≡ 9) ⊎ (status ≡ 10) }
 {}
 
-/// Where the words are `work FILE NUMBER COUNT`, the mount finds the file, it opens by a table whose
-/// sequence leaves room, and no count of failures rises, all jobs are done or memory is wanting.
+/// Where the words are `work FILE NUMBER COUNT`, the mount finds the file, it opens, and no count of
+/// failures rises, all jobs are done or memory is wanting.
 pub fn jobs_are_done<B: Bay, O: Sink>()
     ensures { (t : choice.Table) (m : Map) (b : Book) (file : List ℕ) (number count status : ℕ) (old new : B)
         (out after : O) → OpensBy CLASSES SIZE_MAX t (B.state old).file m b
-        → t.chosen.header.sequence < 2 ^ 62 - 2 ^ 19
         → WorksFrom number count status (B.state old) (B.state new) (O.state out) (O.state after)
         → WorksSo status (B.state old) (B.state new) (O.state out) (O.state after)
         → IsMounted (work file number count) (B.state new).last_mount (status ≡ 7) (status ≡ 3)
@@ -100,14 +99,13 @@ pub fn jobs_are_done<B: Bay, O: Sink>()
         → (status ≡ 0) ⊎ (status ≡ 10) }
 {}
 
-/// Where the words are `run FILE`, the mount finds the file, it opens by a table whose sequence leaves
-/// room, the input asks for fewer than 2^32 requests and has nothing behind them, and no count of failures
-/// rises, each request is answered or memory is wanting before the first.
+/// Where the words are `run FILE`, the mount finds the file, it opens, the input asks for fewer than 2^32
+/// requests and has nothing behind them, and no count of failures rises, each request is answered or memory
+/// is wanting before the first.
 pub fn requests_are_served<B: Bay, I: Source, O: Sink>()
     ensures { (t : choice.Table) (m : Map) (b : Book) (file : List ℕ) (requests : List Request) (o : Outcome)
         (old new : B) (from rest : I) (out after : O) → OpensBy CLASSES SIZE_MAX t (B.state old).file m b
-        → t.chosen.header.sequence < 2 ^ 62 - 2 ^ 19 → Asks (I.state from).left requests []
-        → length requests < budget
+        → Asks (I.state from).left requests [] → length requests < budget
         → RunsFrom o (B.state old) (B.state new) (I.state from) (I.state rest) (O.state out) (O.state after)
         → ServesSo o (B.state old) (B.state new) (I.state from) (I.state rest) (O.state out) (O.state after)
         (rest ≡ from)

@@ -1,4 +1,4 @@
-use Rattle.std.proofs.Common.{◌≡◌, ◌⊎◌, true, ap, sym, subst}
+use Rattle.std.proofs.Common.{◌≡◌, ◌⊎◌, ◌∙◌, true, ap, sym, subst}
 use Rattle.std.specs.Prelude.{IsTrue}
 use Rattle.costore_top.specs.Commands.{IsMounted}
 use Rattle.costore_top.specs.Getting.{IsRefused}
@@ -10,11 +10,12 @@ use Rattle.costore_top.specs.declared.top.Outcome.{Outcome}
 use Rattle.costore_top.proofs.CountLaws.{has_counted}
 use Rattle.costore_top.proofs.EndLaws.{ends_after, keeps_after, line_after, only_line}
 use Rattle.costore_top.proofs.HeadlineLaws.{headline}
+use Rattle.costore_top.proofs.RefusalLaws.{never_ran}
 use Rattle.costore_top.proofs.WentLaws.{known, refused_by, untouched, whole}
 use Rattle.costore_top.proofs.run.run_file.Goals as goal
 
 pub returns-clause-headline : goal.returns-clause-headline
-returns-clause-headline g c = λ told source t m b requests end o low asks.
+returns-clause-headline g c = λ told source t m b requests end o asks.
     let e = c.serve_file-ended.result in
     let status : c.finish-outcome.result.status ≡ status_at e.end =
     ap (λ (x : Outcome). x.status) c.finish-outcome.ensures.status in
@@ -32,7 +33,7 @@ returns-clause-headline g c = λ told source t m b requests end o low asks.
     (headline g.B.Disk.state g.I.Source.state g.O.Sink.state g.met.B.Disk.lawful c.args.bay.now
     c.serve_file-ended.new.bay c.args.input.now c.serve_file-ended.new.input c.args.output.now
     c.serve_file-ended.new.output (g.O.Sink.state c.finish-outcome.new.output) told source t m b requests end
-    o low asks (run c.args.file.now) e c.serve_file-ended.ensures
+    o asks (run c.args.file.now) e c.serve_file-ended.ensures
     (line_after (g.B.Disk.state c.args.bay.now) (g.B.Disk.state c.serve_file-ended.new.bay)
     (g.I.Source.state c.args.input.now) (g.I.Source.state c.serve_file-ended.new.input)
     (g.O.Sink.state c.args.output.now) (g.O.Sink.state c.serve_file-ended.new.output)
@@ -116,6 +117,10 @@ returns-clause-serves g c =
           c.args.output.now
           c.serve_file-ended.new.output e c.serve_file-ended.ensures
           (subst (λ n. (n ≡ 3) ⊎ (n ≡ 4)) status is);
+      refused = λ told four. never_ran g.B.Disk.state g.I.Source.state g.O.Sink.state c.args.file.now
+          c.args.bay.now c.serve_file-ended.new.bay c.args.input.now c.serve_file-ended.new.input
+          c.args.output.now c.serve_file-ended.new.output e told (sym status ∙ four)
+          c.serve_file-ended.ensures;
       line_alone = λ told unserved. only_line (g.B.Disk.state c.args.bay.now)
           (g.B.Disk.state c.serve_file-ended.new.bay) (g.I.Source.state c.args.input.now)
           (g.I.Source.state c.serve_file-ended.new.input) (g.O.Sink.state c.args.output.now)

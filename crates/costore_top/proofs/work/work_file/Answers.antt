@@ -7,11 +7,12 @@ use Rattle.costore_top.specs.Words.{work}
 use Rattle.costore_top.specs.Working.{WorksAs, WorksSo}
 use Rattle.costore_top.specs.declared.top.Outcome.{Outcome}
 use Rattle.costore_top.proofs.DidLaws.{ends_by_line, keeps_line, line_only, refused_did, whole}
+use Rattle.costore_top.proofs.RefusalLaws.{never_did}
 use Rattle.costore_top.proofs.WorkingLaws.{works}
 use Rattle.costore_top.proofs.work.work_file.Goals as goal
 
 pub returns-clause-works : goal.returns-clause-works
-returns-clause-works g c = λ told t m b opens low.
+returns-clause-works g c = λ told t m b opens.
     let old = g.B.Disk.state c.args.bay.now in
     let new = g.B.Disk.state c.work_over-end.new.bay in
     let out = g.O.Sink.state c.args.output.now in
@@ -20,7 +21,7 @@ returns-clause-works g c = λ told t m b opens low.
     let status : c.finish.result.status ≡ status_at c.work_over-end.result =
     ap (λ (x : Outcome). x.status) c.finish.ensures.status in
     subst (λ n. WorksAs t.chosen.block t m b c.args.number c.args.count n old new out after) (sym status)
-    (works t m b old (g.met.B.Disk.lawful c.args.bay.now) told opens low g.B.Disk.state c.args.number
+    (works t m b old (g.met.B.Disk.lawful c.args.bay.now) told opens g.B.Disk.state c.args.number
     c.args.count new out put after
     (work c.args.file.now c.args.number c.args.count) c.work_over-end.result c.work_over-end.ensures
     c.finish.ensures.line)
@@ -71,5 +72,7 @@ returns-clause-keeps g c =
       keeps = keeps_line old new out put after end w.keeps c.finish.ensures.later c.finish.ensures.calm
           c.finish.ensures.told;
       untouched = w.untouched;
+      refused = λ told four. never_did g.B.Disk.state c.args.file.now c.args.number c.args.count old new out
+          put end told four c.work_over-end.ensures;
       line_alone = λ told none. line_only out put after end none (w.nothing none) told c.finish.ensures.line;
     })
