@@ -52,9 +52,10 @@ pub(crate) fn settle_held<D: Disk, const C: usize>(
         → IsSaveable f hands.old.slots hands.old.table.now header.now
         → CanCut f hands.old.slots hands.old.table.now header.now end
         → Flies f hands.old.slots hands.old.table (D.state disk.old)
-        → LeavesOldOrNew f (D.state disk.old) (D.state disk.new) }
+        → LeavesOldOrNew f (hands.old.slots.sequence + 1) (D.state disk.old) (D.state disk.new) }
     ensures pair { OnOk result (hands.new.slots ≡ next_in_use hands.old.slots) }
     ensures same_pair { OnErr result ((hands.old.slots.sequence ≤ hands.new.slots.sequence)) }
+    ensures one { hands.new.slots.sequence ≤ hands.old.slots.sequence + 1 }
     ensures table { OnOk result (hands.new.table ≡ record hands.old.table { kept = hands.old.table.now }) }
     ensures guard { OnOk result (hands.new.guard.spans ≡ []) }
     ensures calls { Calls (save_calls (length (records_of hands.old.table.now)) + 2) (D.state disk.old)
@@ -87,9 +88,10 @@ pub(crate) fn settle<D: Disk, const C: usize>(
     ensures left { (f : Flight) → Lays C f (caps_of hands.old.layout) (grid_of hands.old.layout)
         (parts_of hands.old) (phase_now settled.now.course hands.old.table) (D.state disk.old)
         → IsTrue (D.state disk.old).tells
-        → LeavesOldOrNew f (D.state disk.old) (D.state disk.new) }
+        → LeavesOldOrNew f (hands.old.slots.sequence + 1) (D.state disk.old) (D.state disk.new) }
     ensures pair { OnOk result (hands.new.slots ≡ next_in_use hands.old.slots) }
     ensures later { hands.old.slots.sequence ≤ hands.new.slots.sequence }
+    ensures one { hands.new.slots.sequence ≤ hands.old.slots.sequence + 1 }
     ensures calls { Calls (save_calls (length (records_of hands.old.table.now)) + 2) (D.state disk.old)
         (D.state disk.new) result }
     ensures keeps { KeepsSettling (D.state disk.old) (D.state disk.new) (parts_of hands.old)

@@ -54,7 +54,7 @@ pub(crate) fn free_target<D: Disk, const C: usize>(
     ensures left { (f : Flight) → IsTrue (D.state disk.old).tells
         → IsSaveable f hands.old.slots hands.old.table.now header.now
         → Flies f hands.old.slots hands.old.table (D.state disk.old)
-        → LeavesOldOrNew f (D.state disk.old) (D.state disk.new) }
+        → LeavesOldOrNew f (hands.old.slots.sequence + 1) (D.state disk.old) (D.state disk.new) }
     ensures most { (D.state disk.new).turn
         ≤ (D.state disk.old).turn + save_calls (length (records_of hands.old.table.now)) }
     ensures none { IfOk result (λ saved. IsFalse saved → (D.state disk.new).turn ≡ (D.state disk.old).turn) }
@@ -100,7 +100,7 @@ pub(crate) fn move_one<D: Disk, const C: usize>(
     ensures left { (f : Flight) (u : InUse) → IsTrue (D.state disk.old).tells → f.base ≡ hands.old.base
         → IsFreeSpace hands.old.table.now hands.old.table.kept mv.now.to mv.now.size
         → Flies f u hands.old.table (D.state disk.old)
-        → LeavesOldOrNew f (D.state disk.old) (D.state disk.new) }
+        → LeavesOldOrNew f u.sequence (D.state disk.old) (D.state disk.new) }
     ensures most { (D.state disk.new).turn ≤ (D.state disk.old).turn + pieces 65536 mv.now.size }
     ensures ledger { OnOk result (cells_of hands.new.ledger.moved
         ≡ slice_set (cells_of hands.old.ledger.moved)

@@ -3,13 +3,14 @@ use Rattle.plan_terms.specs.Phases.{IsLaidWhole, moved_by}
 use Rattle.flush_plan.specs.Lays.{KeepsLaying, Lay}
 use Rattle.flush_run.specs.Loops.{Lays, LaysPaid}
 use Rattle.flush_run.specs.Parts.{parts_of}
-use Rattle.flush_run.proofs.LeftLaws.{left_then, none_of, source_within, still_told, target_within, told_before}
+use Rattle.flush_run.proofs.LeftLaws.{left_then, left_wider, none_of, source_within, still_told, target_within, told_before}
+use Rattle.slot_codec.specs.Choice as choice
 use Rattle.extent_table.specs.Extents.{Extents, Spots}
 use Rattle.flush_run.specs.Parts.{size_in}
 use Rattle.flush_run.specs.Shelved.{items_now, phase_now}
 use Rattle.flush_run.proofs.ShelvedLaws.{phase_moved, phase_same}
 use Rattle.flush_run.proofs.SizeLaws.{sizes_moved}
-use Rattle.flush_run.proofs.LayLaws.{lay_begins, lay_calls, lay_can, lay_falls, lay_few, lay_fresh, lay_goes, lay_head, lay_keeps, lay_made, lay_most, lay_most_saved, lay_names, lay_next, lay_over, lay_part, lay_part_saved, lay_pays, lay_saveable, lay_slot, lay_space, lay_target}
+use Rattle.flush_run.proofs.LayLaws.{lay_begins, lay_calls, lay_can, lay_falls, lay_few, lay_few_part, lay_fresh, lay_goes, lay_head, lay_keeps, lay_made, lay_most, lay_most_saved, lay_names, lay_next, lay_over, lay_part, lay_part_saved, lay_pays, lay_saveable, lay_saves, lay_slot, lay_space, lay_target}
 use Rattle.flush_run.proofs.lay.lay_all.Goals as goal
 
 pub moves-init : goal.moves-init
@@ -53,9 +54,11 @@ returns-in_err-free_target-clause-left g c f start told =
     let i = c.moves.invariant in
     let s = i.all f start in
     let here = still_told i.made.keeps told in
-    left_then (s.left told)
+    let later = c.free_target.ensures.later in
+    left_then (omega (arith, later)) (s.left told)
+    (left_wider (omega (arith, later))
     (c.free_target.ensures.left f here (lay_saveable i start (c.in-Some.ensures.step _ (lay_over i start)) _
-    c.requires.moving) (s.lays.goes.flies here))
+    c.requires.moving) (s.lays.goes.flies here)))
 
 pub returns-in_err-free_target-clause-made : goal.returns-in_err-free_target-clause-made
 returns-in_err-free_target-clause-made g c =
@@ -122,9 +125,11 @@ returns-in_err-move_one-clause-left g c f start told =
     let space = lay_space i start step c.requires.moving _ refl refl _ c.in_ok-free_target.ensures.answer
     t.keeps (c.in_ok-free_target.ensures.flies f) in
     let there = still_told t.keeps here in
-    left_then (s.left told)
-    (left_then (t.left f here save (s.lays.goes.flies here))
-    (c.move_one.ensures.left f c.free_target.new.hands.slots there goes.same_base space (goes.flies there)))
+    let slots = ap (λ (u : choice.InUse). u.sequence) c.move_one.ensures.slots in
+    left_then (omega (arith, t.later, slots)) (s.left told)
+    (left_then (omega (arith, t.later, slots)) (t.left f here save (s.lays.goes.flies here))
+    (left_wider (omega (arith, slots))
+    (c.move_one.ensures.left f c.free_target.new.hands.slots there goes.same_base space (goes.flies there))))
 
 pub returns-in_err-move_one-clause-made : goal.returns-in_err-move_one-clause-made
 returns-in_err-move_one-clause-made g c =
@@ -193,7 +198,7 @@ moves-preserved g c =
           let r = lay_can i start step c.requires.moving _ refl refl _ answer t.keeps
           (c.in_ok-free_target.ensures.flies f) in
           lay_next i start step c.requires.moving _ refl refl _ answer t.keeps
-          (c.in_ok-free_target.ensures.flies f) after t.one m.keeps m.slots
+          (c.in_ok-free_target.ensures.flies f) after t.one t.later m.keeps m.slots
           c.in_ok-move_one.ensures.moved
           (λ told3.
           let back = told_before m.keeps told3 in
@@ -202,13 +207,15 @@ moves-preserved g c =
           (λ told.
           let here = still_told i.made.keeps told in
           let there = still_told t.keeps here in
-          left_then (t.left f here save (s.lays.goes.flies here))
-          (m.left f c.free_target.new.hands.slots there goes.same_base space (goes.flies there)));
+          let slots = ap (λ (u : choice.InUse). u.sequence) m.slots in
+          left_then (omega (arith, t.later, slots)) (t.left f here save (s.lays.goes.flies here))
+          (left_wider (omega (arith, slots))
+          (m.left f c.free_target.new.hands.slots there goes.same_base space (goes.flies there))));
       paid = λ f start pay total q paid.
           let s = i.all f start in
           let save = lay_saveable i start step _ c.requires.moving in
           lay_pays i start step c.requires.moving _ refl refl _ answer t.keeps
-          (c.in_ok-free_target.ensures.flies f) after t.one m.keeps m.slots
+          (c.in_ok-free_target.ensures.flies f) after t.one t.later m.keeps m.slots
           c.in_ok-move_one.ensures.moved (i.paid f start pay total q paid);
     }
 
@@ -252,3 +259,40 @@ returns-clause-paid g c f start pay total q paid =
 
 pub returns-clause-left : goal.returns-clause-left
 returns-clause-left g c f start told = (c.moves.invariant.all f start).left told
+
+pub returns-in_err-free_target-clause-few_saves : goal.returns-in_err-free_target-clause-few_saves
+returns-in_err-free_target-clause-few_saves g c =
+    let i = c.moves.invariant in
+    lay_few_part i (c.in-Some.ensures.step _ (lay_over i c.requires.start.1))
+    (parts_of c.free_target.new.hands) c.free_target.ensures.one
+
+pub returns-in_err-move_one-clause-few_saves : goal.returns-in_err-move_one-clause-few_saves
+returns-in_err-move_one-clause-few_saves g c =
+    let i = c.moves.invariant in
+    lay_few_part i (c.in-Some.ensures.step _ (lay_over i c.requires.start.1))
+    (parts_of c.move_one.new.hands)
+    (omega (
+      arith,
+      c.free_target.ensures.one,
+      ap (λ (u : choice.InUse). u.sequence) c.move_one.ensures.slots,
+    ))
+
+pub returns-clause-few_saves : goal.returns-clause-few_saves
+returns-clause-few_saves g c = omega (arith, c.moves.invariant.few)
+
+pub returns-in_err-free_target-clause-paid_saves : goal.returns-in_err-free_target-clause-paid_saves
+returns-in_err-free_target-clause-paid_saves g c f start pay total q k paid enough =
+    omega (arith, lay_saves c.moves.invariant start k paid enough, c.free_target.ensures.one)
+
+pub returns-in_err-move_one-clause-paid_saves : goal.returns-in_err-move_one-clause-paid_saves
+returns-in_err-move_one-clause-paid_saves g c f start pay total q k paid enough =
+    omega (
+      arith,
+      lay_saves c.moves.invariant start k paid enough,
+      c.free_target.ensures.one,
+      ap (λ (u : choice.InUse). u.sequence) c.move_one.ensures.slots,
+    )
+
+pub returns-clause-paid_saves : goal.returns-clause-paid_saves
+returns-clause-paid_saves g c f start pay total q k paid enough =
+    omega (arith, lay_saves c.moves.invariant start k paid enough)

@@ -4,13 +4,14 @@ use Rattle.plan_terms.specs.Phases.{IsPackedWhole, moved_by}
 use Rattle.flush_plan.specs.Packs.{KeepsPacking, Pack}
 use Rattle.flush_run.specs.Loops.{Packs, PacksPaid}
 use Rattle.flush_run.specs.Parts.{parts_of}
-use Rattle.flush_run.proofs.LeftLaws.{left_then, none_of, source_within, still_told, target_within, told_before}
+use Rattle.flush_run.proofs.LeftLaws.{left_then, left_wider, none_of, source_within, still_told, target_within, told_before}
+use Rattle.slot_codec.specs.Choice as choice
 use Rattle.extent_table.specs.Extents.{Extents, Spots}
 use Rattle.flush_run.specs.Parts.{size_in}
 use Rattle.flush_run.specs.Shelved.{items_now, phase_now}
 use Rattle.flush_run.proofs.ShelvedLaws.{phase_moved, phase_same}
 use Rattle.flush_run.proofs.SizeLaws.{sizes_moved}
-use Rattle.flush_run.proofs.PackLaws.{pack_begins, pack_calls, pack_can, pack_falls, pack_few, pack_fresh, pack_goes, pack_head, pack_keeps, pack_made, pack_most, pack_most_saved, pack_names, pack_next, pack_over, pack_part, pack_part_saved, pack_pays, pack_saveable, pack_slot, pack_space, pack_target}
+use Rattle.flush_run.proofs.PackLaws.{pack_begins, pack_calls, pack_can, pack_falls, pack_few, pack_few_part, pack_fresh, pack_goes, pack_head, pack_keeps, pack_made, pack_most, pack_most_saved, pack_names, pack_next, pack_over, pack_part, pack_part_saved, pack_pays, pack_saveable, pack_saves, pack_slot, pack_space, pack_target}
 use Rattle.flush_run.proofs.pack.pack_all.Goals as goal
 
 pub moves-init : goal.moves-init
@@ -54,9 +55,11 @@ returns-in_err-free_target-clause-left g c f start told =
     let i = c.moves.invariant in
     let s = i.all f start in
     let here = still_told i.made.keeps told in
-    left_then (s.left told)
+    let later = c.free_target.ensures.later in
+    left_then (omega (arith, later)) (s.left told)
+    (left_wider (omega (arith, later))
     (c.free_target.ensures.left f here (pack_saveable i start (c.in-Some.ensures.step _ (pack_over i start)) _
-    c.requires.moving) (s.packs.goes.flies here))
+    c.requires.moving) (s.packs.goes.flies here)))
 
 pub returns-in_err-free_target-clause-made : goal.returns-in_err-free_target-clause-made
 returns-in_err-free_target-clause-made g c =
@@ -123,9 +126,11 @@ returns-in_err-move_one-clause-left g c f start told =
     let space = pack_space i start step c.requires.moving _ refl refl _ c.in_ok-free_target.ensures.answer
     t.keeps (c.in_ok-free_target.ensures.flies f) in
     let there = still_told t.keeps here in
-    left_then (s.left told)
-    (left_then (t.left f here save (s.packs.goes.flies here))
-    (c.move_one.ensures.left f c.free_target.new.hands.slots there goes.same_base space (goes.flies there)))
+    let slots = ap (λ (u : choice.InUse). u.sequence) c.move_one.ensures.slots in
+    left_then (omega (arith, t.later, slots)) (s.left told)
+    (left_then (omega (arith, t.later, slots)) (t.left f here save (s.packs.goes.flies here))
+    (left_wider (omega (arith, slots))
+    (c.move_one.ensures.left f c.free_target.new.hands.slots there goes.same_base space (goes.flies there))))
 
 pub returns-in_err-move_one-clause-made : goal.returns-in_err-move_one-clause-made
 returns-in_err-move_one-clause-made g c =
@@ -195,7 +200,7 @@ moves-preserved g c =
           let r = pack_can i start step c.requires.moving _ refl refl _ answer t.keeps
           (c.in_ok-free_target.ensures.flies f) in
           pack_next i start step c.requires.moving _ refl refl _ answer t.keeps
-          (c.in_ok-free_target.ensures.flies f) after t.one m.keeps m.slots
+          (c.in_ok-free_target.ensures.flies f) after t.one t.later m.keeps m.slots
           c.in_ok-move_one.ensures.moved
           (λ told3.
           let back = told_before m.keeps told3 in
@@ -204,13 +209,15 @@ moves-preserved g c =
           (λ told.
           let here = still_told i.made.keeps told in
           let there = still_told t.keeps here in
-          left_then (t.left f here save (s.packs.goes.flies here))
-          (m.left f c.free_target.new.hands.slots there goes.same_base space (goes.flies there)));
+          let slots = ap (λ (u : choice.InUse). u.sequence) m.slots in
+          left_then (omega (arith, t.later, slots)) (t.left f here save (s.packs.goes.flies here))
+          (left_wider (omega (arith, slots))
+          (m.left f c.free_target.new.hands.slots there goes.same_base space (goes.flies there))));
       paid = λ f start pay total q paid.
           let s = i.all f start in
           let save = pack_saveable i start step _ c.requires.moving in
           pack_pays i start step c.requires.moving _ refl refl _ answer t.keeps
-          (c.in_ok-free_target.ensures.flies f) after t.one m.keeps m.slots
+          (c.in_ok-free_target.ensures.flies f) after t.one t.later m.keeps m.slots
           c.in_ok-move_one.ensures.moved (i.paid f start pay total q paid);
     }
 
@@ -254,3 +261,40 @@ returns-clause-paid g c f start pay total q paid =
 
 pub returns-clause-left : goal.returns-clause-left
 returns-clause-left g c f start told = (c.moves.invariant.all f start).left told
+
+pub returns-in_err-free_target-clause-few_saves : goal.returns-in_err-free_target-clause-few_saves
+returns-in_err-free_target-clause-few_saves g c =
+    let i = c.moves.invariant in
+    pack_few_part i (c.in-Some.ensures.step _ (pack_over i c.requires.start.1))
+    (parts_of c.free_target.new.hands) c.free_target.ensures.one
+
+pub returns-in_err-move_one-clause-few_saves : goal.returns-in_err-move_one-clause-few_saves
+returns-in_err-move_one-clause-few_saves g c =
+    let i = c.moves.invariant in
+    pack_few_part i (c.in-Some.ensures.step _ (pack_over i c.requires.start.1))
+    (parts_of c.move_one.new.hands)
+    (omega (
+      arith,
+      c.free_target.ensures.one,
+      ap (λ (u : choice.InUse). u.sequence) c.move_one.ensures.slots,
+    ))
+
+pub returns-clause-few_saves : goal.returns-clause-few_saves
+returns-clause-few_saves g c = omega (arith, c.moves.invariant.few)
+
+pub returns-in_err-free_target-clause-paid_saves : goal.returns-in_err-free_target-clause-paid_saves
+returns-in_err-free_target-clause-paid_saves g c f start pay total q k paid enough =
+    omega (arith, pack_saves c.moves.invariant start k paid enough, c.free_target.ensures.one)
+
+pub returns-in_err-move_one-clause-paid_saves : goal.returns-in_err-move_one-clause-paid_saves
+returns-in_err-move_one-clause-paid_saves g c f start pay total q k paid enough =
+    omega (
+      arith,
+      pack_saves c.moves.invariant start k paid enough,
+      c.free_target.ensures.one,
+      ap (λ (u : choice.InUse). u.sequence) c.move_one.ensures.slots,
+    )
+
+pub returns-clause-paid_saves : goal.returns-clause-paid_saves
+returns-clause-paid_saves g c f start pay total q k paid enough =
+    omega (arith, pack_saves c.moves.invariant start k paid enough)
