@@ -43,7 +43,7 @@ pub record IsFlown {C : ℕ} (s : Inside C) (c : Change) (hands1 : Hands C) (p :
   pub fresh : s.hands.slots.sequence < 2 ^ 61
   pub over : IsTrue a.tells → IsOver C (kept_of s) a.file
   pub left : (x : Parts) (e : Change) (g : Setting) → CanFly C x e g (parts_of hands1) p place bytes a
-      → IsTrue a.tells → LeavesOldOrNew (flight_of C x e p.numbers.reach g) a d
+      → IsTrue a.tells → LeavesOldOrNew (flight_of C x e p.numbers.reach g) (hands2.slots.sequence + 1) a d
   pub made : HasFlown p.numbers.boundary p.items a d (parts_of hands1) (parts_of hands2)
 
 -- what a change charges, by the size of its object

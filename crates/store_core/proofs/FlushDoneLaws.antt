@@ -98,16 +98,27 @@ module _ {C : ℕ} (s : Inside C) (c : Change) (hands1 : Hands C) (p : Phase) (p
       (subst (λ r. CallsSoFar a.turn d.turn r (cells_of hands2.ledger.moved) (piece_calls + 4)
       (hands2.slots.sequence - hands1.slots.sequence + 1) (fin.len hands1.table.now)) same_moved w.made.most))
 
+  few_saves_is : hands2.slots.sequence ≤ ks.in_use.sequence + 2 * ks.in_use.block.k
+  few_saves_is = omega (
+    arith,
+    w.made.few_saves,
+    same_sequence,
+    ap (λ (y : Parts). y.in_use.block.k) w.begun.rest,
+  )
+
+  few_image : hands2.slots.sequence + 1 ≤ ks.in_use.sequence + 2 * ks.in_use.block.k + 1
+  few_image = omega (arith, few_saves_is)
+
   content_is : IsTrue a.tells → IsFlushImage C ks c a.file d.file
   content_is told = flush_content s w.whole w.unbroken c (parts_of hands1) p place bytes w.begun w.name
-      w.object w.fresh a (w.over told) (w.left x0 c _ (can_fly s w.whole w.unbroken c (parts_of hands1) p
-      place bytes w.begun w.name w.object w.fresh a (w.over told) false (λ t.
+      w.object w.fresh a (w.over told) _ few_image (w.left x0 c _ (can_fly s w.whole w.unbroken c (parts_of hands1)
+      p place bytes w.begun w.name w.object w.fresh a (w.over told) false (λ t.
       absurd (let e : false ≡ true = t in cc))) told)
 
   left_is : IsTrue a.tells → RestsOnTable (base_of ks) ks.kept a → Leaves a d (IsFlushImage C ks c a.file)
   left_is told rests = flush_left s w.whole w.unbroken c (parts_of hands1) p place bytes w.begun w.name
-      w.object w.fresh a (w.over told) (w.left x0 c _ (can_fly s w.whole w.unbroken c (parts_of hands1) p
-      place bytes w.begun w.name w.object w.fresh a (w.over told) true (λ t. rests)) told)
+      w.object w.fresh a (w.over told) _ few_image (w.left x0 c _ (can_fly s w.whole w.unbroken c (parts_of hands1)
+      p place bytes w.begun w.name w.object w.fresh a (w.over told) true (λ t. rests)) told)
 
   -- ---- the bytes moved
 
@@ -175,6 +186,7 @@ module _ {C : ℕ} (s : Inside C) (c : Change) (hands1 : Hands C) (p : Phase) (p
     left = left_is;
     rests = λ told. tt;
     on_table = λ told. tt;
+    few_saves = few_saves_is;
     calls = tt;
     most = most_is;
     lower = lower_is;
@@ -273,7 +285,6 @@ module _ {C : ℕ} (s : Inside C) (c : Change) (hands1 : Hands C) (p : Phase) (p
               (grid_of hands2.layout) m) any_ends.kept;
           asked = asked_is;
           saved = omega (arith, low, same_sequence);
-          few_saves = omega (arith, high, same_sequence, ap (λ (y : Parts). y.in_use.block.k) w.begun.rest);
         };
         opened = λ told. ended_opens hands2 (told_flight told) d (told_ends told) names_now block_now
             (kept_of done_inside) view base_now (still told);
@@ -283,6 +294,7 @@ module _ {C : ℕ} (s : Inside C) (c : Change) (hands1 : Hands C) (p : Phase) (p
             (kept_of done_inside) view base_now (still told);
         on_table = λ told. ended_rests hands2 (told_flight told) d (told_ends told) names_now block_now
             (kept_of done_inside) view base_now (still told);
+        few_saves = few_saves_is;
         calls = subst (λ n. CallsSoFar a.turn d.turn ks.moved (cells_of hands2.ledger.moved) 4
             (hands2.slots.sequence - ks.in_use.sequence) n) names_are
             (subst (λ q. CallsSoFar a.turn d.turn ks.moved (cells_of hands2.ledger.moved) 4

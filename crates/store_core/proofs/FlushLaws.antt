@@ -16,6 +16,7 @@ use Rattle.store_terms.specs.Requests.{Change, changed}
 use Rattle.segment_layout.specs.Books.{Book, is_quiet, next_book}
 use Rattle.segment_layout.specs.Bounds.{Loose}
 use Rattle.segment_layout.specs.Layouts.{caps_of, grid_of}
+use Rattle.table_rules.proofs.SequenceLaws.{sequence_wider}
 use Rattle.table_rules.specs.Opening.{Opens}
 use Rattle.spot_terms.specs.Reads.{read_at}
 use Rattle.spot_terms.proofs.LaidOutLaws.{laid_ends}
@@ -212,25 +213,27 @@ module _ {C : ℕ} (s : Inside C) (whole : IsWhole s) (unbroken : s.broken ≡ f
             (now_lies ks a.file h over)),
       )
 
-      pub flush_image : (rests : Bool) (image : List ℕ)
-          → IsOldOrNew (flight_of C x0 c p.numbers.reach (setting a.file rests)) image
-          → IsFlushImage C ks c a.file image
-      flush_image rests image i = record {
-        opens = elim i.either as (λ _. Opens C SIZE_MAX image (kept_map ks a.file) ks.kept_book
-            ⊎ Opens C SIZE_MAX image (map_after ks c a.file) (book_after ks c a.file)) [
-              | inl old ↦ inl (subst (λ (m : Map). Opens C SIZE_MAX image m ks.kept_book) old.0
-                  (subst (λ (b : Book). Opens C SIZE_MAX image i.m b) old.1 i.opens))
-              | inr new ↦ inr (subst (λ (m : Map). Opens C SIZE_MAX image m (book_after ks c a.file)) new.0
-                  (subst (λ (b : Book). Opens C SIZE_MAX image i.m b) new.1 i.opens))
-            ];
-        loose = loose_at (length image - base_of ks) (omega (arith, i.longest, whole.base));
-      }
+      module _ (most : ℕ) (few : most ≤ ks.in_use.sequence + 2 * ks.in_use.block.k + 1) where
+        pub flush_image : (rests : Bool) (image : List ℕ)
+            → IsOldOrNew (flight_of C x0 c p.numbers.reach (setting a.file rests)) most image
+            → IsFlushImage C ks c a.file image
+        flush_image rests image i = record {
+          opens = elim i.either as (λ _. Opens C SIZE_MAX image (kept_map ks a.file) ks.kept_book
+              ⊎ Opens C SIZE_MAX image (map_after ks c a.file) (book_after ks c a.file)) [
+                | inl old ↦ inl (subst (λ (m : Map). Opens C SIZE_MAX image m ks.kept_book) old.0
+                    (subst (λ (b : Book). Opens C SIZE_MAX image i.m b) old.1 i.opens))
+                | inr new ↦ inr (subst (λ (m : Map). Opens C SIZE_MAX image m (book_after ks c a.file)) new.0
+                    (subst (λ (b : Book). Opens C SIZE_MAX image i.m b) new.1 i.opens))
+              ];
+          sequence = sequence_wider most (ks.in_use.sequence + 2 * ks.in_use.block.k + 1) image few i.sequence;
+          loose = loose_at (length image - base_of ks) (omega (arith, i.longest, whole.base));
+        }
 
-      module _ {d : disk.State} where
-        pub flush_left : LeavesOldOrNew (flight_of C x0 c p.numbers.reach (setting a.file true)) a d
-            → Leaves a d (IsFlushImage C ks c a.file)
-        flush_left left = Leaves-weaken (IsFlushImage C ks c a.file) (flush_image true) ((left refl).0 refl)
+        module _ {d : disk.State} where
+          pub flush_left : LeavesOldOrNew (flight_of C x0 c p.numbers.reach (setting a.file true)) most a d
+              → Leaves a d (IsFlushImage C ks c a.file)
+          flush_left left = Leaves-weaken (IsFlushImage C ks c a.file) (flush_image true) ((left refl).0 refl)
 
-        pub flush_content : LeavesOldOrNew (flight_of C x0 c p.numbers.reach (setting a.file false)) a d
-            → IsFlushImage C ks c a.file d.file
-        flush_content left = flush_image false d.file (left refl).1
+          pub flush_content : LeavesOldOrNew (flight_of C x0 c p.numbers.reach (setting a.file false)) most a d
+              → IsFlushImage C ks c a.file d.file
+          flush_content left = flush_image false d.file (left refl).1

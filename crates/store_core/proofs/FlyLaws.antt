@@ -1,5 +1,5 @@
 -- The device calls of a flush, from the growing of the file to the first move.
-use Rattle.std.specs.Prelude.{◌≡◌, ◌⊎◌, ℕ, ◌+◌, ◌-◌, ◌^◌, ◌<◌, ◌≤◌, List, [], length, Option, Some, None, IsTrue, refl}
+use Rattle.std.specs.Prelude.{◌≡◌, ◌⊎◌, ℕ, ◌+◌, ◌-◌, ◌*◌, ◌^◌, ◌<◌, ◌≤◌, List, [], length, Option, Some, None, IsTrue, refl}
 use Rattle.std.proofs.Common.{arith, sym, ◌∙◌, ap, subst, inl, inr}
 use Rattle.std.specs.FinMap as fin
 use Rattle.byte_ranges.specs.Ranges.{overwritten, resized}
@@ -8,9 +8,11 @@ use Rattle.disk_face.specs.Frames.{AfterLength}
 use Rattle.disk_face.specs.Moments.{Leaves}
 use Rattle.disk_face.specs.Writes.{KeepsDisk, WritesWithin}
 use Rattle.disk_face.proofs.FrameLaws.{Stays-trans}
+use Rattle.slot_codec.specs.Choice as choice
 use Rattle.store_terms.specs.Maps.{Map}
 use Rattle.store_terms.specs.Requests.{Change, changed}
 use Rattle.segment_layout.specs.Shapes.{end_of}
+use Rattle.table_rules.proofs.SequenceLaws.{sequence_of_table}
 use Rattle.extent_table.specs.declared.spot.Spot.{Spot}
 use Rattle.extent_table.specs.Extents.{Spots}
 use Rattle.spot_terms.specs.Reads.{AreNamed, LiesApart, read_at}
@@ -23,7 +25,7 @@ use Rattle.flush_run.specs.Flights.{Flies, Flight, IsAtHand, IsFreeSpace, IsOldO
 use Rattle.flush_run.specs.Parts.{Parts}
 use Rattle.flush_run.specs.Runs.{CanRun, HasRun}
 use Rattle.flush_run.proofs.CallLaws.{calls_none, calls_then, calls_wider}
-use Rattle.flush_run.proofs.FlightLaws.{content_written, left_written, opens_written}
+use Rattle.flush_run.proofs.FlightLaws.{checkpoint_sequence, content_written, left_written, opens_written}
 use Rattle.flush_run.proofs.LeftLaws.{left_then}
 use Rattle.flush_run.proofs.MoveLaws.{content_grown, left_grown, moved_within, opens_grown}
 use Rattle.flush_start.specs.Lifting.{BeginsLift}
@@ -40,12 +42,14 @@ size_of_bytes c = by c.object
 
 -- what opens is old or new
 opens_either : (f : Flight) (kept : Spots) (file : List ℕ) (may_leave : List ℕ → Type 0)
-    → OpensEither f kept file may_leave → length file ≤ f.base + f.reach → IsOldOrNew f file
-opens_either f kept file may_leave o low = record {
+    → (o : OpensEither f kept file may_leave) → (most : ℕ) → o.t.chosen.header.sequence ≤ most
+    → length file ≤ f.base + f.reach → IsOldOrNew f most file
+opens_either f kept file may_leave o most few low = record {
   m = o.m;
   b = o.b;
   either = o.checkpoint.either;
   opens = record { table = o.t; opens = o.opens };
+  sequence = sequence_of_table file o.t most o.opens.read few;
   longest = low;
 }
 
@@ -78,6 +82,10 @@ module _ {classes : ℕ} {x0 : Parts} {c : Change} {g : Setting} {x : Parts} {p 
 
   same_in_use : x.in_use ≡ x0.in_use
   same_in_use = ap (λ (y : Parts). y.in_use) can.begun.rest
+
+  -- the sequence before any save, and one more
+  abbrev most : ℕ
+  most = x.in_use.sequence + 1
 
   named : AreNamed stays
   named = AreNamed-remove x0.table.now c.name can.may.before.table.now_named
@@ -133,6 +141,14 @@ module _ {classes : ℕ} {x0 : Parts} {c : Change} {g : Setting} {x : Parts} {p 
     abbrev at : IsAtStart classes x0 c reach g a
     at = can.start told
 
+    few_at : at.opens.t.chosen.header.sequence ≤ most
+    few_at = omega (
+      arith,
+      checkpoint_sequence (record f { reach = end }) x0.in_use x0.table.kept a.file a.may_leave at.content.slot
+          at.opens,
+      ap (λ (u : choice.InUse). u.sequence) same_in_use,
+    )
+
     module _ (len : ℕ) (len_is : len ≡ x.base + reach) {b : disk.State} (grows : AfterLength len a b) where
       here : len ≡ f.base + f.reach
       here = len_is ∙ ap (λ n. n + reach) same_base
@@ -144,24 +160,25 @@ module _ {classes : ℕ} {x0 : Parts} {c : Change} {g : Setting} {x : Parts} {p 
       abbrev as_grown : disk.State
       as_grown = record b { file = resized a.file (f.base + f.reach) }
 
-      grown_since : IsTrue f.is_at_rest → Leaves a b (IsOldOrNew f)
+      grown_since : IsTrue f.is_at_rest → Leaves a b (IsOldOrNew f most)
       grown_since rests =
           let l = left_grown f end can.begun.longer a as_grown at.content.same_length refl x0.table.kept
-          grows_here.images at.opens (record {
+          grows_here.images at.opens most few_at (record {
             later = grows_here.time.later;
             each = grows_here.time.each;
             keeps = grows_here.time.keeps;
           }) rests in
           record { later = l.later; each = l.each }
 
-      unchanged_left : b.file ≡ a.file → LeavesOldOrNew f a b
+      unchanged_left : b.file ≡ a.file → LeavesOldOrNew f most a b
       unchanged_left same fresh = (
         grown_since,
-        subst (IsOldOrNew f) (sym same) (record {
+        subst (IsOldOrNew f most) (sym same) (record {
           m = at.opens.m;
           b = at.opens.b;
           either = at.opens.checkpoint.either;
           opens = record { table = at.opens.t; opens = at.opens.opens };
+          sequence = sequence_of_table a.file at.opens.t most at.opens.opens.read few_at;
           longest = omega (arith, at.content.same_length, can.begun.longer);
         }),
       )
@@ -178,11 +195,19 @@ module _ {classes : ℕ} {x0 : Parts} {c : Change} {g : Setting} {x : Parts} {p 
         grown_content = content_grown without end can.begun.longer a b at.content.same_length is_here
             x0.in_use stays named at.content
 
-        pub grown_left : LeavesOldOrNew f a b
+        few_grown : grown.t.chosen.header.sequence ≤ most
+        few_grown = omega (
+          arith,
+          checkpoint_sequence f x0.in_use x0.table.kept b.file b.may_leave grown_content.slot grown,
+          ap (λ (u : choice.InUse). u.sequence) same_in_use,
+        )
+
+        pub grown_left : LeavesOldOrNew f most a b
         grown_left fresh = (
           left_grown f end can.begun.longer a b at.content.same_length is_here x0.table.kept grows_here.images
-              at.opens grows_here.time,
-          opens_either f x0.table.kept b.file b.may_leave grown (omega (arith, grown_content.same_length)),
+              at.opens most few_at grows_here.time,
+          opens_either f x0.table.kept b.file b.may_leave grown most few_grown
+              (omega (arith, grown_content.same_length)),
         )
 
         pub write_within : x.base + place + length bytes ≤ length b.file
@@ -203,11 +228,19 @@ module _ {classes : ℕ} {x0 : Parts} {c : Change} {g : Setting} {x : Parts} {p 
           content_after = content_written without x0.in_use stays b.file d.file place (length bytes) named
               free.live (writes_here.others told_there) grown_content
 
-          pub written_left : LeavesOldOrNew f a d
-          written_left = left_then grown_left (λ fresh. (
-            left_written f stays x0.table.kept place (length bytes) can.may.before.table.kept_named free
-                (writes_here.others told_there) writes_here grown,
-            opens_either f x0.table.kept d.file d.may_leave after (omega (arith, content_after.same_length)),
+          few_after : after.t.chosen.header.sequence ≤ most
+          few_after = omega (
+            arith,
+            checkpoint_sequence f x0.in_use x0.table.kept d.file d.may_leave content_after.slot after,
+            ap (λ (u : choice.InUse). u.sequence) same_in_use,
+          )
+
+          pub written_left : LeavesOldOrNew f most a d
+          written_left = left_then (omega arith) grown_left (λ fresh. (
+            left_written f most stays x0.table.kept place (length bytes) can.may.before.table.kept_named free
+                (writes_here.others told_there) writes_here grown few_grown,
+            opens_either f x0.table.kept d.file d.may_leave after most few_after
+                (omega (arith, content_after.same_length)),
           ))
 
           module _ (written : d.file ≡ overwritten b.file (x.base + place) bytes) where
@@ -267,7 +300,7 @@ module _ {classes : ℕ} {x0 : Parts} {c : Change} {g : Setting} {x : Parts} {p 
                   (sym can.begun.kept) after;
             })
 
-      pub grow_failed : (b.file ≡ a.file) ⊎ (b.file ≡ resized a.file len) → LeavesOldOrNew f a b
+      pub grow_failed : (b.file ≡ a.file) ⊎ (b.file ≡ resized a.file len) → LeavesOldOrNew f most a b
       grow_failed (inl same) = unchanged_left same
       grow_failed (inr is) = grown_left is
 
@@ -276,8 +309,9 @@ module _ {classes : ℕ} {x0 : Parts} {c : Change} {g : Setting} {x : Parts} {p 
 -- a flush was made after the growing and the write
 pub flown_then : {b : ℕ} {items : List Item} {first mid now : disk.State} {x x2 : Parts}
     → KeepsDisk first mid → first.faults ≤ mid.faults → mid.turn ≤ first.turn + 2
-    → HasRun b items mid now x x2 → HasFlown b items first now x x2
-flown_then {b} {items} {first} {mid} {now} {x} {x2} kept faults few r = record {
+    → HasRun b items mid now x x2 → x2.in_use.sequence ≤ x.in_use.sequence + 2 * x.in_use.block.k
+    → HasFlown b items first now x x2
+flown_then {b} {items} {first} {mid} {now} {x} {x2} kept faults few r saves = record {
   keeps = record {
     disk = record {
       no_turn_back = omega (arith, kept.no_turn_back, r.keeps.disk.no_turn_back);
@@ -297,6 +331,7 @@ flown_then {b} {items} {first} {mid} {now} {x} {x2} kept faults few r = record {
   later = r.later;
   lower = r.lower;
   few = r.few;
+  few_saves = saves;
   most = calls_wider first.turn now.turn now.turn x.moved x2.moved (2 + (piece_calls + 2)) (piece_calls + 4)
       (0 + (x2.in_use.sequence - x.in_use.sequence + 1)) (x2.in_use.sequence - x.in_use.sequence + 1)
       (fin.len x.table.now)

@@ -14,6 +14,7 @@ use Rattle.segment_layout.specs.Books.{Book, is_quiet, next_book, trigger, volum
 use Rattle.segment_layout.specs.Bounds.{Loose}
 use Rattle.segment_layout.specs.Shapes.{boundary_of}
 use Rattle.table_rules.specs.Opening.{Opens}
+use Rattle.table_rules.specs.Sequences.{HasSequenceUpTo}
 use Rattle.flush_run.specs.Calls.{CallsSoFar, piece_calls}
 use Rattle.flush_run.specs.Parts.{size_in}
 use Rattle.flush_start.specs.Sized.{IsSizedBy}
@@ -49,15 +50,16 @@ size_after s c name = cond (same_name name c.name) (option_map length c.object) 
 abbrev pub flush_boundary : Kept → Change → ℕ
 flush_boundary s c = boundary_of (charges_of s c).grid (trigger (charges_of s c))
 
--- An image opens to the last checkpoint or to what stands after the change, and its data part is within
--- bounds for the maps before and after.
+-- An image opens to the last checkpoint or to what stands after the change, with a sequence at most 2k + 1
+-- greater, and its data part is within bounds for the maps before and after.
 pub record IsFlushImage (classes : ℕ) (s : Kept) (c : Change) (file image : List ℕ) : Type 0 where
   pub opens : Opens classes SIZE_MAX image (kept_map s file) s.kept_book
       ⊎ Opens classes SIZE_MAX image (map_after s c file) (book_after s c file)
+  pub sequence : HasSequenceUpTo (s.in_use.sequence + 2 * s.in_use.block.k + 1) image
   pub loose : Loose s.in_use.block.k (length image - base_of s) (now_map s file) (map_after s c file)
 
 -- The store after a flush: each name has an object of the size that the change leaves it, what stands now is
--- the checkpoint, the sequence rose by 1 to 2k, and the bytes of the change were asked for.
+-- the checkpoint, the sequence rose, and the bytes of the change were asked for.
 pub record ChangesByFlush (c : Change) (old new : Kept) : Type 0 where
   pub same_block : new.in_use.block ≡ old.in_use.block
   pub sizes : (name : List ℕ) → size_in new.now name ≡ size_after old c name
@@ -65,11 +67,11 @@ pub record ChangesByFlush (c : Change) (old new : Kept) : Type 0 where
   pub kept_book : new.kept_book ≡ new.book
   pub asked : new.asked ≡ asked_after old c
   pub saved : old.in_use.sequence + 1 ≤ new.in_use.sequence
-  pub few_saves : new.in_use.sequence ≤ old.in_use.sequence + 2 * old.in_use.block.k
 
 -- What a change does that isn't quiet, whether the disk fails or not. The content opens to the last
 -- checkpoint or to what stands after the change, and so does all that a crash may leave meanwhile, where the
--- disk rested on its table. Once it is done, the new content is all that a crash may leave. The calls are at
+-- disk rested on its table. Once it is done, the new content is all that a crash may leave. At most 2k saves are
+-- made. The calls are at
 -- most 4, those of the bytes moved, and those of the saves, each of as many records as there are names after
 -- the change; where the disk failed those of one move more, and of one save. No byte of a class below the boundary is
 -- moved, and of each other class at most twice the bytes of the map after; on a disk that tells nothing, of
@@ -85,6 +87,7 @@ pub record IsFlush (classes : ℕ) (c : Change) (old new : Kept) (before now : d
       → Leaves before now (IsFlushImage classes old c before.file)
   pub rests : IsTrue before.tells → OnOk result (Rests now)
   pub on_table : IsTrue before.tells → OnOk result (RestsOnTable (base_of new) new.kept now)
+  pub few_saves : new.in_use.sequence ≤ old.in_use.sequence + 2 * old.in_use.block.k
   pub calls : OnOk result (CallsSoFar before.turn now.turn old.moved new.moved 4
       (new.in_use.sequence - old.in_use.sequence) (names_after old c))
   pub most : CallsSoFar before.turn now.turn old.moved new.moved (piece_calls + 4)

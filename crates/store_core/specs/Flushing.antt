@@ -185,7 +185,8 @@ pub record CanFly (classes : ℕ) (x0 : Parts) (c : Change) (g : Setting) (x : P
 
 -- What a flush has made, whether or not it failed: of its parts only the slot in use, the table, the layout,
 -- the guard's spans and the bytes moved change; each name has an object of the same size; no byte of a class
--- below b was moved, and of each other class at most twice the bytes of its items; and the calls are those of
+-- below b was moved, and of each other class at most twice the bytes of its items; at most 2k saves were made; and
+-- the calls are those of
 -- the bytes moved and of the saves, one of which may have failed, and at most four more than one move makes.
 pub record HasFlown (b : ℕ) (items : List Item) (first now : disk.State) (x x2 : Parts) : Type 0 where
   pub keeps : KeepsSettling first now x x2
@@ -193,5 +194,6 @@ pub record HasFlown (b : ℕ) (items : List Item) (first now : disk.State) (x x2
   pub later : x.in_use.sequence ≤ x2.in_use.sequence
   pub lower : (c : ℕ) → c < b → slice_index x2.moved c ≡ slice_index x.moved c
   pub few : (c : ℕ) → slice_index x2.moved c ≤ slice_index x.moved c + 2 * class_total items c
+  pub few_saves : x2.in_use.sequence ≤ x.in_use.sequence + 2 * x.in_use.block.k
   pub most : CallsSoFar first.turn now.turn x.moved x2.moved (piece_calls + 4)
       (x2.in_use.sequence - x.in_use.sequence + 1) (fin.len x.table.now)

@@ -82,8 +82,8 @@ pub(crate) fn fly<D: Disk, const C: usize>(
     ensures left { (x0 : Parts) (c : Change) (g : Setting) → CanFly C x0 c g (parts_of hands.old)
         (phase_now begun.entry.phase.course hands.old.table) begun.entry.place bytes.now (D.state disk.old)
         → IsTrue (D.state disk.old).tells
-        → LeavesOldOrNew (flight_of C x0 c begun.entry.phase.course.numbers.reach g) (D.state disk.old)
-        (D.state disk.new) }
+        → LeavesOldOrNew (flight_of C x0 c begun.entry.phase.course.numbers.reach g)
+        (hands.new.slots.sequence + 1) (D.state disk.old) (D.state disk.new) }
     ensures saves { OnOk result ((hands.old.slots.sequence + 1 ≤ hands.new.slots.sequence)
         × (hands.new.slots.sequence ≤ hands.old.slots.sequence + 2 * hands.old.slots.block.k)) }
     ensures calls { OnOk result (CallsSoFar (D.state disk.old).turn (D.state disk.new).turn

@@ -1,4 +1,4 @@
-use Rattle.std.proofs.Common.{IsTrue, lit<, rules, subst, sym}
+use Rattle.std.proofs.Common.{IsTrue, arith, lit<, rules, subst, sym}
 use Rattle.flush_run.proofs.LeftLaws.{left_then}
 use Rattle.store_core.proofs.FlyLaws.{can_run, flown_then, grow_failed, write_within, written_flies, written_left}
 use Rattle.store_core.proofs.flush.fly.Goals as goal
@@ -62,23 +62,25 @@ returns-in-Ok-clause-left g c x0 c' g' can told =
     let mid = subst IsTrue (sym c.set_len.ensures.frame.stays.told) told in
     let last = subst IsTrue (sym c.write_new.ensures.writes.stays.told) mid in
     let is = c.in_ok-set_len.ensures.resized told in
-    left_then (written_left can told _ (search rules) c.set_len.ensures.frame is c.write_new.ensures.writes
+    left_then (omega (arith, c.run.ensures.made.later)) (written_left can told _ (search rules) c.set_len.ensures.frame is c.write_new.ensures.writes
     mid)
     (c.run.ensures.left _ (can_run can _ (λ again. written_flies can told _ (search rules)
     c.set_len.ensures.frame is c.write_new.ensures.writes mid (c.in_ok-write_new.ensures.written mid))) last)
 
 pub returns-in-Ok-clause-made : goal.returns-in-Ok-clause-made
 returns-in-Ok-clause-made g c = flown_then (search rules) (search rules) (search rules) c.run.ensures.made
+    c.run.ensures.saves
 
 pub returns-in-Err-clause-left : goal.returns-in-Err-clause-left
 returns-in-Err-clause-left g c x0 c' g' can told =
     let mid = subst IsTrue (sym c.set_len.ensures.frame.stays.told) told in
     let last = subst IsTrue (sym c.write_new.ensures.writes.stays.told) mid in
     let is = c.in_ok-set_len.ensures.resized told in
-    left_then (written_left can told _ (search rules) c.set_len.ensures.frame is c.write_new.ensures.writes
+    left_then (omega (arith, c.run.ensures.made.later)) (written_left can told _ (search rules) c.set_len.ensures.frame is c.write_new.ensures.writes
     mid)
     (c.run.ensures.left _ (can_run can _ (λ again. written_flies can told _ (search rules)
     c.set_len.ensures.frame is c.write_new.ensures.writes mid (c.in_ok-write_new.ensures.written mid))) last)
 
 pub returns-in-Err-clause-made : goal.returns-in-Err-clause-made
 returns-in-Err-clause-made g c = flown_then (search rules) (search rules) (search rules) c.run.ensures.made
+    c.run.ensures.saves
