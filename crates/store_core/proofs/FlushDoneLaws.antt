@@ -16,7 +16,6 @@ use Rattle.segment_layout.specs.Books.{is_quiet, trigger, volumes}
 use Rattle.segment_layout.specs.Shapes.{boundary_of}
 use Rattle.store_terms.specs.Maps.{Map}
 use Rattle.store_core.specs.Keeps.{now_map}
-use Rattle.table_rules.specs.Tables.{sizes}
 use Rattle.flush_start.specs.Sized.{IsSizedBy}
 use Rattle.std.proofs.lemmas.Bool.{cases_lt}
 use Rattle.std.specs.FinMap as fin

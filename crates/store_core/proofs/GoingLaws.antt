@@ -19,6 +19,8 @@ use Rattle.segment_layout.specs.Books.{Book}
 use Rattle.segment_layout.specs.Layouts.{caps_of, divisor_of, grid_of}
 use Rattle.table_rules.specs.Opening.{Opens, placed_table}
 use Rattle.table_rules.specs.Rules.{IsValid}
+use Rattle.table_rules.specs.Sequences.{HasSequenceUpTo}
+use Rattle.table_rules.proofs.SequenceLaws.{sequence_wider}
 use Rattle.table_rules.specs.Tables.{book_of}
 use Rattle.extent_table.specs.Extents.{Spots, records_of}
 use Rattle.spot_terms.specs.Laid.{laid}
@@ -30,7 +32,7 @@ use Rattle.flush_run.specs.Parts.{Parts}
 use Rattle.flush_run.specs.Runs.{CanResume}
 use Rattle.reopen.specs.declared.state.Loaded.{Loaded}
 use Rattle.reopen.specs.Loads.{IsLoadedFrom, KeepsLoaded, table_seen}
-use Rattle.store_core.specs.Opened.{IsFoundImage, LeavesRoom, RestsOnFound, RoomOf}
+use Rattle.store_core.specs.Opened.{IsFoundImage, LeavesRoom, RestsOnFound, RoomOf, most_by}
 use Rattle.store_core.specs.Resuming.{PacksAgain, StartsAgain}
 use Rattle.store_core.proofs.MovingLaws.{again, book_saved, hands_again, numbers, same_divisor, whole}
 use Rattle.store_core.proofs.OpeningLaws.{opens_alike}
@@ -172,15 +174,17 @@ module _ {C : ℕ} (x : Loaded C) (loads : KeepsLoaded x) (moving : x.header.kin
       can_told = can_resume n from.opens.valid fresh rests m first (λ told. flies) leaves
 
       -- what is old or new is what was found
-      pub found_again : (image : List ℕ) → IsOldOrNew flight image
-          → IsFoundImage C m b (length first.file) image
-      found_again image is = record {
+      pub found_again : (most : ℕ) → most ≤ x.header.sequence + (2 ^ 18 - 1) → (image : List ℕ)
+          → IsOldOrNew flight most image → IsFoundImage C t m b (length first.file) image
+      found_again most low image is = record {
         opens = elim is.either as (λ _. Opens C SIZE_MAX image m b) [
           | inl old ↦ subst (λ (z : Map). Opens C SIZE_MAX image z b) old.0
               (subst (λ (z : Book). Opens C SIZE_MAX image is.m z) old.1 is.opens)
           | inr new ↦ subst (λ (z : Map). Opens C SIZE_MAX image z b) new.0
               (subst (λ (z : Book). Opens C SIZE_MAX image is.m z) new.1 is.opens)
         ];
+        sequence = subst (λ z. HasSequenceUpTo (most_by z x.header.sequence) image) (sym moving)
+            (sequence_wider most (x.header.sequence + (2 ^ 18 - 1)) image low is.sequence);
         no_longer = omega (arith, is.longest, begins_within, same_base);
       }
 
@@ -203,21 +207,22 @@ module _ {C : ℕ} (x : Loaded C) (loads : KeepsLoaded x) (moving : x.header.kin
 
   -- ---- what it left
 
-  module _ (first last : disk.State) (left : (f : Flight) → CanResume C f y p first → IsTrue first.tells
-      → LeavesOldOrNew f first last) (told : IsTrue first.tells) (from : IsLoadedFrom first.file x) where
+  module _ (first last : disk.State) (most : ℕ) (few_most : most ≤ x.header.sequence + (2 ^ 18 - 1))
+      (left : (f : Flight) → CanResume C f y p first → IsTrue first.tells
+      → LeavesOldOrNew f most first last) (told : IsTrue first.tells) (from : IsLoadedFrom first.file x) where
     room_is : LeavesRoom (table_seen x) → x.header.sequence + 2 ^ 19 ≤ 2 ^ 62
     room_is leaves = subst (λ z. RoomOf z x.header.sequence) moving leaves
 
     pub content_again : LeavesRoom (table_seen x)
-        → IsFoundImage C (m first from) (b first from) (length first.file) last.file
+        → IsFoundImage C (table_seen x) (m first from) (b first from) (length first.file) last.file
     content_again leaves =
         let given : IsTrue false → RestsOnFound (table_seen x) first =
         λ e. absurd (let z : false ≡ true = e in cc) in
-        found_again first from true false given (λ _. room_is leaves) last.file
+        found_again first from true false given (λ _. room_is leaves) most few_most last.file
         (left _ (can_told first from true false given (λ _. room_is leaves)) told refl).1
 
     pub left_again : LeavesRoom (table_seen x) → RestsOnFound (table_seen x) first
-        → Leaves first last (IsFoundImage C (m first from) (b first from) (length first.file))
-    left_again leaves rests = Leaves-weaken (IsFoundImage C (m first from) (b first from) (length first.file))
-        (found_again first from true true (λ _. rests) (λ _. room_is leaves))
+        → Leaves first last (IsFoundImage C (table_seen x) (m first from) (b first from) (length first.file))
+    left_again leaves rests = Leaves-weaken (IsFoundImage C (table_seen x) (m first from) (b first from) (length first.file))
+        (found_again first from true true (λ _. rests) (λ _. room_is leaves) most few_most)
         ((left _ (can_told first from true true (λ _. rests) (λ _. room_is leaves)) told refl).0 refl)

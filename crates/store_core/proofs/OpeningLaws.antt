@@ -1,5 +1,5 @@
 -- What opening finds in a file, and that each image that is alike on its table opens to the same.
-use Rattle.std.specs.Prelude.{◌≡◌, ℕ, ◌+◌, ◌-◌, ◌<◌, List, length, slice_index_or, Ok, Err, IfOk, IfErr, IsTrue, Result, refl}
+use Rattle.std.specs.Prelude.{◌≡◌, ℕ, ◌+◌, ◌-◌, ◌≤◌, ◌<◌, List, length, slice_index_or, Ok, Err, IfOk, IfErr, IsTrue, Result, refl}
 use Rattle.std.proofs.Common.{arith, ap, sym, ◌∙◌, subst}
 use Rattle.byte_ranges.specs.Ranges.{SameBelow, SameWithin}
 use Rattle.disk_face.specs.States as disk
@@ -10,7 +10,10 @@ use Rattle.disk_face.proofs.MomentLaws.{Leaves-none, Leaves-trans, Leaves-weaken
 use Rattle.size_class.specs.declared.TheConstants.{SIZE_MAX}
 use Rattle.slot_codec.specs.Choice as choice
 use Rattle.slot_codec.specs.Spelling.{head_len}
+use Rattle.slot_codec.specs.declared.codec.Kind.{Kind}
+use Rattle.slot_codec.specs.declared.codec.Kind.TheVariants as kind
 use Rattle.slot_codec.specs.declared.codec.Record.{Record}
+use Rattle.table_rules.proofs.SequenceLaws.{sequence_of_table}
 use Rattle.slot_pair.specs.Finding.{HasDiskCause}
 use Rattle.slot_pair.specs.declared.find.SlotFault.TheVariants as slot
 use Rattle.store_terms.specs.Maps.{Map}
@@ -27,7 +30,7 @@ use Rattle.reopen.specs.Refusals.{RefusesToOpen}
 use Rattle.reopen.specs.declared.fault.OpenFault.{OpenFault}
 use Rattle.reopen.specs.declared.fault.OpenFault.TheVariants as fault
 use Rattle.store_core.specs.Connection.{IsOver, Kept, SameOnTable, base_of, state_of}
-use Rattle.store_core.specs.Opened.{HasOpenCalls, IsFoundImage, IsOpened, IsOpening, OpensFound, RefusesUnchanged, RestsOnFound, SameOnFound, found_base, state_at}
+use Rattle.store_core.specs.Opened.{HasOpenCalls, IsFoundImage, IsOpened, IsOpening, OpensFound, RefusesUnchanged, RestsOnFound, SameOnFound, found_base, most_by, most_found, state_at}
 use Rattle.store_core.specs.Stores.{IsStore}
 use Rattle.store_core.proofs.OverLaws.{by_index, head_is}
 
@@ -65,15 +68,28 @@ module _ (classes : ℕ) (t : choice.Table) (file : List ℕ) (m : Map) (b : Boo
       (by_index (found_base t) t.records file image same.same_length (λ i low.
       (record_within classes SIZE_MAX t file m b o i low, same.objects i low)))
 
+  -- what was found has a sequence that an opening may leave
+  pub found_low : t.chosen.header.sequence ≤ most_found t
+  found_low = by t.chosen.header.kind t.chosen.header.sequence
+    where
+      by : (k : Kind) (found : ℕ) → found ≤ most_by k found
+      by kind.Settled found = omega arith
+      by kind.Moving found = omega arith
+
   pub found_image : (image : List ℕ) → SameOnFound t file image
-      → IsFoundImage classes m b (length file) image
+      → IsFoundImage classes t m b (length file) image
   found_image image same = record {
     opens = record { table = t; opens = opens_alike image same };
+    sequence = sequence_of_table image t (most_found t) (opens_alike image same).read found_low;
     no_longer = omega (arith, same.same_length);
   }
 
-  pub found_itself : IsFoundImage classes m b (length file) file
-  found_itself = record { opens = record { table = t; opens = o }; no_longer = omega arith }
+  pub found_itself : IsFoundImage classes t m b (length file) file
+  found_itself = record {
+    opens = record { table = t; opens = o };
+    sequence = sequence_of_table file t (most_found t) o.read found_low;
+    no_longer = omega arith;
+  }
 
 -- what is alike on a table is so on its spots
 pub found_spots : (t : choice.Table) (kept : Spots) (base : ℕ) (file image : List ℕ)
@@ -101,8 +117,8 @@ module _ {classes : ℕ} {t : choice.Table} {m : Map} {b : Book} {before mid : d
   file_stays : mid.file ≡ before.file
   file_stays = same.same_file told
 
-  pub left_same : RestsOnFound t before → Leaves before mid (IsFoundImage classes m b (length before.file))
-  left_same rests = Leaves-weaken (IsFoundImage classes m b (length before.file))
+  pub left_same : RestsOnFound t before → Leaves before mid (IsFoundImage classes t m b (length before.file))
+  left_same rests = Leaves-weaken (IsFoundImage classes t m b (length before.file))
       (λ image left. found_image classes t before.file m b o image (rests image left)) same.since
 
   pub still_rests : RestsOnFound t before → RestsOnFound t mid
@@ -112,7 +128,7 @@ module _ {classes : ℕ} {t : choice.Table} {m : Map} {b : Book} {before mid : d
   -- opening stops before anything was changed
   pub stops_unchanged : (fault : OpenFault) → OpensFound classes t m b before mid (Err fault)
   stops_unchanged fault = record {
-    content = λ room. subst (IsFoundImage classes m b (length before.file)) (sym file_stays)
+    content = λ room. subst (IsFoundImage classes t m b (length before.file)) (sym file_stays)
         (found_itself classes t before.file m b o);
     left = λ room rests. left_same rests;
     rests = λ rests. tt;
@@ -123,10 +139,10 @@ module _ {classes : ℕ} {t : choice.Table} {m : Map} {b : Book} {before mid : d
   pub opens_then : {now : disk.State} {result : Result Kept OpenFault}
       → OpensFound classes t m b mid now result → OpensFound classes t m b before now result
   opens_then {now} {result} next = record {
-    content = λ room. subst (λ n. IsFoundImage classes m b (length n) now.file) file_stays
+    content = λ room. subst (λ n. IsFoundImage classes t m b (length n) now.file) file_stays
         (next.content room);
     left = λ room rests. Leaves-trans (left_same rests)
-        (subst (λ n. Leaves mid now (IsFoundImage classes m b (length n))) file_stays
+        (subst (λ n. Leaves mid now (IsFoundImage classes t m b (length n))) file_stays
         (next.left room (still_rests rests)));
     rests = λ rests. next.rests (still_rests rests);
     calls = subst (λ n. IfOk result (HasOpenCalls t m b before.file n now.turn)) same.same_turn
@@ -216,10 +232,10 @@ module _ {classes : ℕ} {a m d : disk.State} (same : Unchanged a m) (calm : m.f
 -- ---- opening again
 
 -- what an opening left opens to the same state
-pub opened_again : (classes : ℕ) (m : Map) (b : Book) (longest : ℕ) (image now : List ℕ) (s : Kept)
-    → IsFoundImage classes m b longest image → IsOpened classes image now s
+pub opened_again : (classes : ℕ) (t : choice.Table) (m : Map) (b : Book) (longest : ℕ)
+    (image now : List ℕ) (s : Kept) → IsFoundImage classes t m b longest image → IsOpened classes image now s
     → state_of s now ≡ state_at m b s.in_use.sequence
-opened_again classes m b longest image now s left opened =
+opened_again classes t m b longest image now s left opened =
     let one = found_one classes opened.table left.opens.table image opened.m m opened.b b opened.found
     left.opens.opens in
     opened.state ∙ (λ i. state_at (one.same_map i) (one.same_book i) s.in_use.sequence)

@@ -52,8 +52,18 @@ module _ {C : ℕ} (x : Loaded C) (loads : KeepsLoaded x) (moving : x.header.kin
     (packs : PacksAgain x p) (first last : disk.State)
     (from : IsTrue first.tells → IsLoadedFrom first.file x)
     (hands : Hands C) (left : (f : Flight) → CanResume C f y p first → IsTrue first.tells
-    → LeavesOldOrNew f first last) (made : HasRun p.numbers.boundary p.items first last y (parts_of hands))
+    → LeavesOldOrNew f (hands.slots.sequence + 1) first last)
+    (made : HasRun p.numbers.boundary p.items first last y (parts_of hands))
+    (few_saves : hands.slots.sequence + 1 < y.in_use.sequence + 2 ^ 18)
   where
+    few_most : hands.slots.sequence + 1 ≤ x.header.sequence + (2 ^ 18 - 1)
+    few_most = omega (
+      arith,
+      few_saves,
+      ap (λ (u : choice.InUse). u.sequence) starts.in_use,
+      loads.sequence,
+    )
+
     -- the disk failed
     pub again_failed : {T E : Type 0} (fault : E) → HasCause {T = T} first.faults last.faults (Err fault)
         → IsOpening C first last (Err (fault_of.Slot slot.Disk))
@@ -64,9 +74,11 @@ module _ {C : ℕ} (x : Loaded C) (loads : KeepsLoaded x) (moving : x.header.kin
       refused = λ told. tt;
       found = λ told t m b o.
           found_by (found_one C (table_seen x) t first.file _ m _ b (from told).opens o) (record {
-            content = content_again x loads moving few wide y starts p packs first last left told
+            content = content_again x loads moving few wide y starts p packs first last (hands.slots.sequence + 1) few_most
+                left told
                 (from told);
-            left = left_again x loads moving few wide y starts p packs first last left told (from told);
+            left = left_again x loads moving few wide y starts p packs first last (hands.slots.sequence + 1) few_most
+                left told (from told);
             rests = λ rests. tt;
             calls = tt;
           });
@@ -78,8 +90,7 @@ module _ {C : ℕ} (x : Loaded C) (loads : KeepsLoaded x) (moving : x.header.kin
     -- ---- it was done
 
     module _ (ends : (f : Flight) → CanResume C f y p first → FlushEnds C f (parts_of hands) last)
-        (later : y.in_use.sequence + 1 ≤ hands.slots.sequence)
-        (few_saves : hands.slots.sequence < y.in_use.sequence + 2 ^ 18) where
+        (later : y.in_use.sequence + 1 ≤ hands.slots.sequence) where
       ends_for : (f : Flight) → CanResume C f y p first
           → FlushEnds C (record f { classes = C; size_max = SIZE_MAX }) (parts_of hands) last
       ends_for f can = subst (λ z. FlushEnds C z (parts_of hands) last)
@@ -241,9 +252,11 @@ module _ {C : ℕ} (x : Loaded C) (loads : KeepsLoaded x) (moving : x.header.kin
 
           again_found : OpensFound C (table_seen x) f.new_map f.new_book first last (Ok s)
           again_found = record {
-            content = content_again x loads moving few wide y starts p packs first last left told
+            content = content_again x loads moving few wide y starts p packs first last (hands.slots.sequence + 1) few_most
+                left told
                 (from told);
-            left = left_again x loads moving few wide y starts p packs first last left told (from told);
+            left = left_again x loads moving few wide y starts p packs first last (hands.slots.sequence + 1) few_most
+                left told (from told);
             rests = λ rests. ended_rests hands f last told_ends names_now block_now s is_flushed base_now
                 still_told;
             calls = subst (λ z. OpenCallsOf z (table_seen x) f.new_map f.new_book file first.turn last.turn s)

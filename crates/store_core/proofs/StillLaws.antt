@@ -26,8 +26,9 @@ use Rattle.reopen.specs.declared.fault.OpenFault.TheVariants as fault_of
 use Rattle.reopen.specs.declared.state.Loaded.{Loaded}
 use Rattle.reopen.specs.Loads.{IsLoadedFrom, KeepsLoaded, table_seen}
 use Rattle.store_core.specs.Connection.{Kept, RestsOnTable, SameOnTable, base_of, opened_store}
-use Rattle.store_core.specs.Opened.{ContinuesFrom, IsCut, IsFoundImage, IsOpened, IsOpening, OpenCallsOf, OpensFound, RestsOnFound, found_base, turn_after_cut}
-use Rattle.store_core.proofs.OpeningLaws.{found_by, found_itself, found_one, found_spots, left_same, still_rests}
+use Rattle.store_core.specs.Opened.{ContinuesFrom, IsCut, IsFoundImage, IsOpened, IsOpening, OpenCallsOf, OpensFound, RestsOnFound, found_base, most_found, turn_after_cut}
+use Rattle.table_rules.proofs.SequenceLaws.{sequence_of_table}
+use Rattle.store_core.proofs.OpeningLaws.{found_by, found_itself, found_low, found_one, found_spots, left_same, still_rests}
 use Rattle.store_core.proofs.OverLaws.{same_itself}
 use Rattle.store_core.proofs.StillStoreLaws.{same_base, book_is, book_ends, still_over, still_state, len_low, resized_image, cut_len, cut_opens, cut_slot, still_fresh}
 
@@ -76,7 +77,7 @@ module _ {C : ℕ} (x : Loaded C) (loads : KeepsLoaded x) (still : x.header.kind
         found_book = book_of (placed_table C SIZE_MAX first.file u)
 
         abbrev IsLeft : List ℕ → Type 0
-        IsLeft = IsFoundImage C found_map found_book (length first.file)
+        IsLeft = IsFoundImage C u found_map found_book (length first.file)
 
         still_left : RestsOnFound u first → Leaves first last IsLeft
         still_left rests = elim (cases_lt len (length first.file)) as (λ _. Leaves first last IsLeft) [
@@ -96,6 +97,9 @@ module _ {C : ℕ} (x : Loaded C) (loads : KeepsLoaded x) (still : x.header.kind
                 opens = cut_opens x loads still few wide first.file
                     (from told) last.file is;
               };
+              sequence = sequence_of_table last.file u (most_found u)
+                  (cut_opens x loads still few wide first.file (from told) last.file is).read
+                  (found_low C u first.file found_map found_book (from told).opens);
               no_longer = omega (
                 arith,
                 cut_len x loads still few wide first.file (from told) last.file is,

@@ -15,7 +15,6 @@ use Rattle.slot_codec.specs.declared.codec.Header.{Header}
 use Rattle.slot_codec.specs.declared.codec.Kind.TheVariants as kind
 use Rattle.slot_codec.specs.declared.codec.SuperBlock.{SuperBlock}
 use Rattle.slot_codec.proofs.ChoiceLaws.{same_in_use}
-use Rattle.slot_pair.specs.declared.find.SlotFault.TheVariants as slot
 use Rattle.store_terms.specs.Maps.{Map}
 use Rattle.segment_layout.specs.Books.{Book, book_end}
 use Rattle.segment_layout.specs.Layouts.{caps_of, grid_of}
@@ -39,9 +38,10 @@ use Rattle.spot_terms.proofs.ShownLaws.{book_shown}
 use Rattle.reopen.specs.declared.state.Loaded.{Loaded}
 use Rattle.reopen.specs.Loads.{IsLoadedFrom, KeepsLoaded, table_seen}
 use Rattle.store_core.specs.Connection.{IsOver, Kept, base_of, kept_map, opened_store, state_of}
-use Rattle.store_core.specs.Opened.{IsFoundImage, IsFresh, SameOnFound, state_at}
+use Rattle.store_core.specs.Opened.{IsFoundImage, IsFresh, SameOnFound, most_found, state_at}
 use Rattle.store_core.specs.Stores.{IsStore}
-use Rattle.store_core.proofs.OpeningLaws.{opens_alike}
+use Rattle.table_rules.proofs.SequenceLaws.{sequence_of_table}
+use Rattle.store_core.proofs.OpeningLaws.{found_low, opens_alike}
 
 -- what a settled table keeps of its classes isn't seen in the other numbers of its header
 below_still : (classes size_max k len : ℕ) (h : Header) (spots : Spots)
@@ -203,18 +203,18 @@ module _ {C : ℕ} (x : Loaded C) (loads : KeepsLoaded x) (still : x.header.kind
 
     -- an image that is alike on the table, once its length is set, or is being set
     pub resized_image : (old image : List ℕ) → SameOnFound t file old → ResizedImage len old image
-        → IsFoundImage C m b (length file) image
-    resized_image old image same step = record {
-      opens = record {
-        table = t;
-        opens = opens_resized C SIZE_MAX t old image m b len (opens_alike C t file m b from.opens old same)
-            step (omega arith) (room (length old - base));
-      };
-      no_longer = elim step.either as (λ _. length image ≤ length file) [
-        | inl e ↦ omega (arith, e, same.same_length)
-        | inr e ↦ omega (arith, e, len_low)
-      ];
-    }
+        → IsFoundImage C t m b (length file) image
+    resized_image old image same step =
+        let opens = opens_resized C SIZE_MAX t old image m b len (opens_alike C t file m b from.opens old same)
+        step (omega arith) (room (length old - base)) in
+        record {
+          opens = record { table = t; opens = opens };
+          sequence = sequence_of_table image t (most_found t) opens.read (found_low C t file m b from.opens);
+          no_longer = elim step.either as (λ _. length image ≤ length file) [
+            | inl e ↦ omega (arith, e, same.same_length)
+            | inr e ↦ omega (arith, e, len_low)
+          ];
+        }
 
     same_found : SameOnFound t file file
     same_found = record { same_length = refl; below = λ i low. refl; objects = λ i low j above below. refl }

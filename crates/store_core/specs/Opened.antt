@@ -15,6 +15,7 @@ use Rattle.slot_codec.specs.declared.codec.Kind.TheVariants as kind
 use Rattle.store_terms.specs.Maps.{Map}
 use Rattle.segment_layout.specs.Books.{Book, book_end, volumes}
 use Rattle.table_rules.specs.Opening.{Opens, OpensBy}
+use Rattle.table_rules.specs.Sequences.{HasSequenceUpTo}
 use Rattle.table_rules.specs.Tables.{no_record}
 use Rattle.flush_run.specs.Calls.{CallsSoFar}
 use Rattle.reopen.specs.Refusals.{RefusesToOpen}
@@ -56,9 +57,19 @@ LeavesRoom t = RoomOf t.chosen.header.kind t.chosen.header.sequence
 
 -- ---- what is left
 
--- an image opens to what was found, and is no longer than the file was
-pub record IsFoundImage (classes : ℕ) (m : Map) (b : Book) (longest : ℕ) (image : List ℕ) : Type 0 where
+-- the greatest sequence that an opening leaves: the one found, or of a moving table fewer than 2^18 more
+abbrev pub most_by : Kind → ℕ → ℕ
+most_by kind.Settled found = found
+most_by kind.Moving found = found + (2 ^ 18 - 1)
+
+abbrev pub most_found : choice.Table → ℕ
+most_found t = most_by t.chosen.header.kind t.chosen.header.sequence
+
+-- an image opens to what was found by a table, with at most such a sequence, and is no longer than the file was
+pub record IsFoundImage (classes : ℕ) (t : choice.Table) (m : Map) (b : Book) (longest : ℕ)
+    (image : List ℕ) : Type 0 where
   pub opens : Opens classes SIZE_MAX image m b
+  pub sequence : HasSequenceUpTo (most_found t) image
   pub no_longer : length image ≤ longest
 
 -- the map and the book of a state are these, and so are those of its checkpoint
@@ -122,9 +133,9 @@ HasOpenCalls t m b file first now s = OpenCallsOf t.chosen.header.kind t m b fil
 -- meanwhile; then the disk rests on the table of the store.
 pub record OpensFound (classes : ℕ) (t : choice.Table) (m : Map) (b : Book) (before now : disk.State)
     (result : Result Kept OpenFault) : Type 0 where
-  pub content : LeavesRoom t → IsFoundImage classes m b (length before.file) now.file
+  pub content : LeavesRoom t → IsFoundImage classes t m b (length before.file) now.file
   pub left : LeavesRoom t → RestsOnFound t before → Leaves before now
-      (IsFoundImage classes m b (length before.file))
+      (IsFoundImage classes t m b (length before.file))
   pub rests : RestsOnFound t before → IfOk result (λ s. RestsOnTable (base_of s) s.kept now)
   pub calls : IfOk result (HasOpenCalls t m b before.file before.turn now.turn)
 

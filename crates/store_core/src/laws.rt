@@ -69,8 +69,8 @@ pub fn a_store_is_tight()
 /// table, so a disk that a crash leaves alone rests on the table that is found; and what is alike on the
 /// table of a store is so on the one that is found.
 pub fn a_stopped_opening_is_made_again()
-    ensures state { (classes : ℕ) (m : Map) (b : Book) (longest : ℕ) (image now : List ℕ) (s : Kept)
-        → IsFoundImage classes m b longest image → IsOpened classes image now s
+    ensures state { (classes : ℕ) (t : FoundTable) (m : Map) (b : Book) (longest : ℕ) (image now : List ℕ)
+        (s : Kept) → IsFoundImage classes t m b longest image → IsOpened classes image now s
         → state_of s now ≡ state_at m b s.in_use.sequence }
     ensures alone { (t : FoundTable) (file : List ℕ) → SameOnFound t file file }
     ensures store { (classes : ℕ) (s : Kept) (file image : List ℕ) → IsStore classes s

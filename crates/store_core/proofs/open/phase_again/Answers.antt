@@ -1,5 +1,5 @@
 use Rattle.std.proofs.Common.{ap, lit<, refl, subst, sym, ◌∙◌}
-use Rattle.std.specs.Prelude.{ℕ, ◌<◌, ◌^◌, IsPermutation}
+use Rattle.std.specs.Prelude.{ℕ, ◌<◌, IsPermutation}
 use Rattle.std.proofs.lemmas.List.Sorted.{IsPermutation-refl}
 use Rattle.segment_layout.specs.Layouts.{caps_of, divisor_of}
 use Rattle.plan_terms.specs.Phases.{phase_of}
