@@ -43,10 +43,14 @@ pub quiet_effects : {classes : ℕ} (c : Change) (s new : Kept) (a d : disk.Stat
     → OnOk result (ChangesQuietly classes c s new) → IsQuietChange classes c s new a d result
 quiet_effects {classes} c s new a d result base place n h at over apart within calls value =
     let writes = subst (λ (b : ℕ). WritesWithin (b + place) n a d) at within in
+    let image : IsTrue a.tells → IsKeptImage classes s a.file d.file = λ told.
+    kept_image s h a.file (over told) d.file
+    (same_written (base_of s) place n s.kept a.file d.file (writes.others told) apart) in
     record {
       value = value;
-      content = λ told. (kept_image s h a.file (over told) d.file
-          (same_written (base_of s) place n s.kept a.file d.file (writes.others told) apart)).opens;
+      content = λ told. (image told).opens;
+      length = λ told. (image told).same.same_length;
+      sequence = λ told. (image told).sequence;
       rests = λ told rests. rests_again s h a.file (over told) place n refl apart writes told rests;
       left = λ told rests. left_kept s h a.file (over told) place n refl apart writes rests;
       calls = calls;
@@ -66,6 +70,9 @@ pub no_effects : {classes : ℕ} (c : Change) (s new : Kept) (a : disk.State) (a
 no_effects {classes} c s new a answer h over ready fits none value = record {
   value = value;
   content = λ told. (kept_image s h a.file (over told) a.file (same_itself (base_of s) s.kept a.file)).opens;
+  length = λ told. refl;
+  sequence = λ told.
+      (kept_image s h a.file (over told) a.file (same_itself (base_of s) s.kept a.file)).sequence;
   rests = λ told rests. rests;
   left = λ told rests. Leaves-none a (IsKeptImage classes s a.file);
   calls = record {

@@ -1,5 +1,5 @@
 -- What a keep does to the disk and to what a crash may leave, and the fields of the store after it.
-use Rattle.std.specs.Prelude.{◌≡◌, ℕ, ◌+◌, ◌<◌, ◌^◌, true, false, List, [], length, Result, Ok, Err, IsTrue, vec_len, refl}
+use Rattle.std.specs.Prelude.{◌≡◌, ℕ, ◌+◌, ◌<◌, ◌≤◌, ◌^◌, true, false, List, [], length, Result, Ok, Err, IsTrue, vec_len, refl}
 use Rattle.std.proofs.Common.{arith, ap, sym, ◌∙◌, subst, inl, inr}
 use Rattle.std.specs.FinMap as fin
 use Rattle.std.specs.Global.{Vec}
@@ -14,11 +14,13 @@ use Rattle.slot_codec.specs.Choice as choice
 use Rattle.slot_codec.specs.Reading.{worn_from}
 use Rattle.slot_codec.specs.Spelling.{head_len}
 use Rattle.slot_codec.specs.declared.codec.Header.{Header}
-use Rattle.slot_codec.proofs.ChoiceLaws.{table_chosen}
+use Rattle.slot_codec.proofs.ChoiceLaws.{chosen_sequence, table_chosen}
+use Rattle.slot_codec.proofs.StepLaws.{from_ok}
 use Rattle.slot_pair.specs.Saves.{IsSaved, LeavesEither, SaveLeaves, next_chosen, next_in_use, save_calls}
 use Rattle.store_terms.specs.Requests as ask
 use Rattle.segment_layout.specs.Layouts.{caps_of, grid_of}
 use Rattle.extent_table.specs.Extents.{Extents, IsTable, records_of}
+use Rattle.table_rules.specs.Sequences.{HasSequenceUpTo}
 use Rattle.spot_terms.specs.Held.{IsFreed}
 use Rattle.spot_terms.specs.LaidOut.{shown_book}
 use Rattle.spot_terms.proofs.GuardLaws.{freed_nothing}
@@ -36,6 +38,13 @@ use Rattle.store_core.proofs.OverLaws.{same_itself}
 
 -- ---- what a save leaves
 
+-- the table of a file has the sequence of its chosen header
+sequence_of_chosen : (file : List ℕ) (c : choice.Chosen) (most : ℕ) → choice.chosen file ≡ Ok c
+    → c.header.sequence ≤ most → HasSequenceUpTo most file
+sequence_of_chosen file c most is low t read =
+    let same : c ≡ t.chosen = from_ok c t.chosen (sym is ∙ (table_chosen file t read).0) in
+    omega (arith, low, ap (λ (x : choice.Chosen). x.header.sequence) same)
+
 module _ {classes : ℕ} (s : Kept) (h : IsStore classes s) (fresh : s.in_use.sequence < 2 ^ 61) where
   abbrev base : ℕ
   base = base_of s
@@ -44,6 +53,17 @@ module _ {classes : ℕ} (s : Kept) (h : IsStore classes s) (fresh : s.in_use.se
       (left : SaveLeaves s.in_use (header_now s) (records_of s.now) a d) where
     chosen : choice.chosen a.file ≡ Ok over.table.chosen
     chosen = (table_chosen a.file over.table over.checkpoint.opens.read).0
+
+    -- the sequence of the last checkpoint, and of what a save leaves, is below the next but one
+    old_sequence : (image : List ℕ) → choice.chosen image ≡ Ok over.table.chosen
+        → HasSequenceUpTo (s.in_use.sequence + 1) image
+    old_sequence image is = sequence_of_chosen image over.table.chosen (s.in_use.sequence + 1) is
+        (omega (arith, chosen_sequence a.file s.in_use over.table.chosen over.checkpoint.slot chosen))
+
+    new_sequence : (image : List ℕ) → choice.chosen image ≡ Ok (table_now s).chosen
+        → HasSequenceUpTo (s.in_use.sequence + 1) image
+    new_sequence image is =
+        sequence_of_chosen image (table_now s).chosen (s.in_use.sequence + 1) is (omega arith)
 
     -- each image that a save may leave is of the last checkpoint, or of now
     either_image : RestsOnTable base s.kept a → (image : List ℕ)
@@ -55,6 +75,7 @@ module _ {classes : ℕ} (s : Kept) (h : IsStore classes s) (fresh : s.in_use.se
         table = table_now s;
         opens = now_opens s h a.file over image new.table new.data_part;
       });
+      sequence = new_sequence image new.table.slot;
     }
     either_image rests image (inl old) = record {
       same_length = sym old.data_part.same_length ∙ was.same_length;
@@ -62,6 +83,7 @@ module _ {classes : ℕ} (s : Kept) (h : IsStore classes s) (fresh : s.in_use.se
         table = over.table;
         opens = kept_opens s h a.file over old.before image was old.table old.data_part;
       });
+      sequence = old_sequence image old.table.same_slot;
     }
       where
         was : SameOnTable base s.kept a.file old.before
@@ -90,6 +112,10 @@ module _ {classes : ℕ} (s : Kept) (h : IsStore classes s) (fresh : s.in_use.se
           table = table_now s;
           opens = now_opens s h a.file over d.file saved left.data_part;
         })
+      ];
+      sequence = elim (left.old_or_new over.table.chosen chosen (omega (arith, fresh))) [
+        | inl keeps ↦ old_sequence d.file keeps.same_slot
+        | inr saved ↦ new_sequence d.file saved.slot
       ];
     }
 

@@ -18,6 +18,7 @@ use Rattle.table_rules.specs.Objects.{HasRoomFor, SameObjects}
 use Rattle.table_rules.specs.Opening.{OpensBy, placed_table}
 use Rattle.table_rules.specs.Tables.{end_of_record, map_of, no_record}
 use Rattle.table_rules.proofs.OpeningLaws.{carries_on}
+use Rattle.table_rules.proofs.SequenceLaws.{sequence_of_slot}
 use Rattle.extent_table.specs.Extents.{Spots, records_of}
 use Rattle.spot_terms.specs.Reads.{AllLieApart, AreNamed, EndWithin}
 use Rattle.spot_terms.proofs.ReadLaws.{spot_of_record}
@@ -139,7 +140,11 @@ module _ {classes : ℕ} (s : Kept) (h : IsStore classes s) (file : List ℕ) (o
     }
 
     pub kept_image : IsKeptImage classes s file b
-    kept_image = record { same = same; opens = record { table = t; opens = opens_again } }
+    kept_image = record {
+      same = same;
+      opens = record { table = t; opens = opens_again };
+      sequence = sequence_of_slot b s.in_use s.in_use.sequence checkpoint_again.slot (omega arith);
+    }
 
     pub kept_map_again : kept_map s b ≡ kept_map s file
     kept_map_again = sym same_map_there

@@ -8,6 +8,7 @@ use Rattle.disk_face.specs.Writes.{KeepsDisk}
 use Rattle.size_class.specs.declared.TheConstants.{SIZE_MAX}
 use Rattle.store_terms.specs.Requests.{Change}
 use Rattle.table_rules.specs.Opening.{Opens}
+use Rattle.table_rules.specs.Sequences.{HasSequenceUpTo}
 use Rattle.spot_terms.specs.LaidOut.{shown_book}
 use Rattle.store_core.specs.declared.answers.Refusal.{Refusal}
 use Rattle.store_core.specs.declared.answers.Done.{Done}
@@ -40,12 +41,15 @@ pub record ChangesQuietly (classes : ℕ) (c : Change) (old new : Kept) : Type 0
     asked = asked_after old c;
   }
 
--- What a quiet change does, whether the disk fails or not. The content opens to the last checkpoint, and so
--- does all that a crash may leave, where the disk rested on its table; it rests there still.
+-- What a quiet change does, whether the disk fails or not. The content keeps its length and opens to the last
+-- checkpoint, by a table with no greater sequence, and so does all that a crash may leave, where the disk
+-- rested on its table; it rests there still.
 pub record IsQuietChange (classes : ℕ) (c : Change) (old new : Kept) (before now : disk.State)
     (result : Result Done Refusal) : Type 0 where
   pub value : OnOk result (ChangesQuietly classes c old new)
   pub content : IsTrue before.tells → Opens classes SIZE_MAX now.file (kept_map old before.file) old.kept_book
+  pub length : IsTrue before.tells → length now.file ≡ length before.file
+  pub sequence : IsTrue before.tells → HasSequenceUpTo old.in_use.sequence now.file
   pub rests : IsTrue before.tells → RestsOnTable (base_of old) old.kept before
       → RestsOnTable (base_of old) old.kept now
   pub left : IsTrue before.tells → RestsOnTable (base_of old) old.kept before

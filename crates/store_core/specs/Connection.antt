@@ -10,6 +10,7 @@ use Rattle.slot_codec.specs.Choice as choice
 use Rattle.store_terms.specs.Maps.{Map}
 use Rattle.segment_layout.specs.Books.{Book, book_end}
 use Rattle.table_rules.specs.Opening.{Opens, OpensBy}
+use Rattle.table_rules.specs.Sequences.{HasSequenceUpTo}
 use Rattle.extent_table.specs.declared.spot.Spot.{Spot}
 use Rattle.extent_table.specs.Extents.{Spots, records_of}
 use Rattle.spot_terms.specs.Laid.{book_at}
@@ -79,10 +80,12 @@ pub record SameOnTable (base : ℕ) (kept : Spots) (file image : List ℕ) : Typ
 abbrev pub RestsOnTable : ℕ → Spots → disk.State → Type 0
 RestsOnTable base kept d = (image : List ℕ) → d.may_leave image → SameOnTable base kept d.file image
 
--- an image that opens to the last checkpoint, and has the content's bytes where that checkpoint has its own
+-- an image that opens to the last checkpoint, by a table with no greater sequence, and has the content's
+-- bytes where that checkpoint has its own
 pub record IsKeptImage (classes : ℕ) (s : Kept) (file image : List ℕ) : Type 0 where
   pub same : SameOnTable (base_of s) s.kept file image
   pub opens : Opens classes SIZE_MAX image (kept_map s file) s.kept_book
+  pub sequence : HasSequenceUpTo s.in_use.sequence image
 
 -- A store as it is opened: nothing was moved or asked for, and both books are that of its table.
 abbrev pub opened_store : ℕ → choice.InUse → Spots → List ℕ → List (List ℕ) → Kept

@@ -1,5 +1,5 @@
 -- What a keep leaves: what stands now is the checkpoint.
-use Rattle.std.specs.Prelude.{◌≡◌, ◌⊎◌, ℕ, true, List, length, Option, Some, None, Result, Ok, Err, IsTrue, OnErr, OnOk}
+use Rattle.std.specs.Prelude.{◌≡◌, ◌⊎◌, ℕ, ◌+◌, true, List, length, Option, Some, None, Result, Ok, Err, IsTrue, OnErr, OnOk}
 use Rattle.std.specs.FinMap as fin
 use Rattle.disk_face.specs.States as disk
 use Rattle.disk_face.specs.Frames.{Calls}
@@ -9,6 +9,7 @@ use Rattle.size_class.specs.declared.TheConstants.{SIZE_MAX}
 use Rattle.slot_pair.specs.Saves.{next_in_use, save_calls}
 use Rattle.store_terms.specs.Maps.{Map}
 use Rattle.table_rules.specs.Opening.{Opens}
+use Rattle.table_rules.specs.Sequences.{HasSequenceUpTo}
 use Rattle.spot_terms.specs.Reads.{read_at}
 use Rattle.store_core.specs.declared.answers.Refusal.{Refusal}
 use Rattle.store_core.specs.declared.answers.Refusal.TheVariants as why
@@ -28,11 +29,13 @@ now_map s file = read_at (base_of s) file s.now
 abbrev pub kept_now : Kept → Kept
 kept_now s = record s { in_use = next_in_use s.in_use; kept = s.now; kept_book = s.book }
 
--- an image with the content's length, that opens to the last checkpoint or to what stands now
+-- an image with the content's length, that opens to the last checkpoint or to what stands now, by a table
+-- whose sequence is at most the next
 pub record IsEitherImage (classes : ℕ) (s : Kept) (file image : List ℕ) : Type 0 where
   pub same_length : length image ≡ length file
   pub opens : Opens classes SIZE_MAX image (kept_map s file) s.kept_book
       ⊎ Opens classes SIZE_MAX image (now_map s file) s.book
+  pub sequence : HasSequenceUpTo (s.in_use.sequence + 1) image
 
 -- What a keep does, whether the disk fails or not. The content opens to the last checkpoint or to what stands
 -- now, and so does all that a crash may leave meanwhile, where the disk rested on its table. Once it is done,
