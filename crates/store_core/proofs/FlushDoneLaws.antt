@@ -12,7 +12,7 @@ use Rattle.slot_codec.specs.Spelling.{head_len}
 use Rattle.slot_codec.specs.declared.codec.SuperBlock.{SuperBlock}
 use Rattle.store_terms.specs.Requests as ask
 use Rattle.store_terms.specs.Requests.{Change, changed}
-use Rattle.segment_layout.specs.Books.{is_quiet, trigger, volumes}
+use Rattle.segment_layout.specs.Books.{is_quiet, next_book, trigger, volumes}
 use Rattle.segment_layout.specs.Shapes.{boundary_of}
 use Rattle.store_terms.specs.Maps.{Map}
 use Rattle.store_core.specs.Keeps.{now_map}
@@ -216,6 +216,12 @@ module _ {C : ℕ} (s : Inside C) (c : Change) (hands1 : Hands C) (p : Phase) (p
           (kept_of done_inside)
       view = flushed_view s hands2 any_ends.kept
 
+      -- the flush began as it would for any map of these sizes, so the book is the next one of each
+      book_is : (m : Map) → IsSizedBy m ks.now
+          → (kept_of done_inside).book ≡ (next_book ks.in_use.block.k m ks.book c).book
+      book_is m sized = any_ends.book ∙ sym (w.begun.lifts any.0 any.1.sized).book
+          ∙ (w.begun.lifts (record any.0 { map = m }) sized).book
+
       names_now : hands2.table.names ≡ hands2.slots.block.names
       names_now = same_names ∙ w.whole.room ∙ ap (λ (b : SuperBlock). b.names) (sym same_block)
 
@@ -279,6 +285,7 @@ module _ {C : ℕ} (s : Inside C) (c : Change) (hands1 : Hands C) (p : Phase) (p
         value = record {
           same_block = same_block;
           sizes = sizes_are;
+          book = book_is;
           kept = any_ends.kept;
           kept_book = ap (λ m. shown_book C SIZE_MAX hands2.slots.block.k (caps_of hands2.layout)
               (grid_of hands2.layout) m) any_ends.kept;

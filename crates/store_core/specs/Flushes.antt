@@ -58,11 +58,14 @@ pub record IsFlushImage (classes : ℕ) (s : Kept) (c : Change) (file image : Li
   pub sequence : HasSequenceUpTo (s.in_use.sequence + 2 * s.in_use.block.k + 1) image
   pub loose : Loose s.in_use.block.k (length image - base_of s) (now_map s file) (map_after s c file)
 
--- The store after a flush: each name has an object of the size that the change leaves it, what stands now is
--- the checkpoint, the sequence rose, and the bytes of the change were asked for.
+-- The store after a flush: each name has an object of the size that the change leaves it, the book is the
+-- next one of any map whose objects had the sizes of what stood, what stands now is the checkpoint, the
+-- sequence rose, and the bytes of the change were asked for.
 pub record ChangesByFlush (c : Change) (old new : Kept) : Type 0 where
   pub same_block : new.in_use.block ≡ old.in_use.block
   pub sizes : (name : List ℕ) → size_in new.now name ≡ size_after old c name
+  pub book : (m : Map) → IsSizedBy m old.now
+      → new.book ≡ (next_book old.in_use.block.k m old.book c).book
   pub kept : new.kept ≡ new.now
   pub kept_book : new.kept_book ≡ new.book
   pub asked : new.asked ≡ asked_after old c
