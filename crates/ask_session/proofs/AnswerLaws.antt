@@ -1,5 +1,5 @@
 -- Requests whose reply is one line: what the answers of the store stand for.
-use Rattle.std.specs.Prelude.{◌≡◌, ◌⊎◌, ℕ, ◌<◌, nat_lt, Bool, true, false, not, ◌&&◌, ◌||◌, if◌then◌else◌, List, [], length, Option, Some, None, option_map, Result, Ok, Err, IfSome, IsNone, IsSome, IsTrue, OnErr, OnOk, refl}
+use Rattle.std.specs.Prelude.{◌≡◌, ◌⊎◌, ℕ, ◌+◌, ◌*◌, ◌<◌, nat_lt, Bool, true, false, not, ◌&&◌, ◌||◌, if◌then◌else◌, List, [], length, Option, Some, None, option_map, Result, Ok, Err, IfSome, IsNone, IsSome, IsTrue, OnErr, OnOk, refl}
 use Rattle.std.proofs.Common.{arith, rules, lt-ltb, ap, sym, ◌∙◌, subst, inl, inr}
 use Rattle.disk_face.specs.Counts.{HasCause, counted}
 use Rattle.disk_face.specs.States as disk
@@ -11,6 +11,7 @@ use Rattle.size_class.specs.declared.TheConstants.{SIZE_MAX}
 use Rattle.store_terms.specs.Requests as ask
 use Rattle.store_terms.specs.Requests.{Change, Refused, Reply, Request}
 use Rattle.segment_layout.specs.Books.{is_quiet, next_book}
+use Rattle.table_rules.proofs.SequenceLaws.{sequence_wider}
 use Rattle.slot_codec.specs.Names.{is_name}
 use Rattle.store_core.specs.declared.answers.Refusal.{Refusal}
 use Rattle.store_core.specs.declared.answers.Refusal.TheVariants as why
@@ -192,6 +193,7 @@ quiet_calls_are s file c found quiet = rw (found, quiet) refl
 
 record IsFlushed (s : Kept) (file : List ℕ) (c : Change) (x : Served) : Type 0 where
   pub least : x.saves.least ≡ 1
+  pub most : x.saves.most ≡ 2 * s.in_use.block.k + 1
   pub map : x.state.map ≡ ask.changed c (state_of s file).map
   pub book : x.state.book ≡ (next_book s.in_use.block.k (state_of s file).map s.book c).book
 
@@ -200,6 +202,7 @@ flushed_change : (s : Kept) (file : List ℕ) (c : Change)
     → IsFlushed s file c (served_change (limits_of s) (state_of s file) c)
 flushed_change s file c quiet = record {
   least = rw quiet refl;
+  most = rw quiet refl;
   map = rw quiet refl;
   book = rw quiet refl;
 }
@@ -264,6 +267,9 @@ module _ {classes : ℕ} (s new : Kept) (c : Change) (a d : disk.State) (result 
           ) now,
         )
       ];
+      sequence = sequence_wider (s.in_use.sequence + 2 * s.in_use.block.k + 1)
+          (s.in_use.sequence + (served_at s a.file (ask.change c)).saves.most) image
+          (omega (arith, (flushed told).most)) is.sequence;
       loose = rw (flushed told).map is.loose;
     }) (f.left told rests);
     rests = λ told rests. f.on_table told;
@@ -347,6 +353,9 @@ keep_made {classes} s new a d result h is answer step over broken k = record {
             (served_is told) now,
       )
     ];
+    sequence = sequence_wider (s.in_use.sequence + 1)
+        (s.in_use.sequence + (served_at s a.file ask.keep).saves.most) image
+        (omega (arith, ap (λ (x : Served). x.saves.most) (served_is told))) e.sequence;
     loose = same_length_loose s ask.keep a.file image h.sound (h.over told) e.same_length;
   }) (k.left told rests);
   rests = λ told rests. k.on_table told;

@@ -1,12 +1,16 @@
 -- What a request makes: a checkpoint of what stands then, or none.
-use Rattle.std.specs.Prelude.{◌≡◌, ◌⊎◌, Bool, true, false, Option, Some, None, refl}
-use Rattle.std.proofs.Common.{sym, subst, inl, inr}
+use Rattle.std.specs.Prelude.{◌≡◌, ◌⊎◌, ℕ, ◌+◌, ◌*◌, ◌^◌, ◌<◌, ◌≤◌, nat_le, Bool, true, false, not, List, [], ◌∷◌, ◌++◌, Option, Some, None, refl}
+use Rattle.std.proofs.Common.{arith, sym, subst, inl, inr}
+use Rattle.std.proofs.Math.Nat.{le-max_right}
+use Rattle.std.proofs.lemmas.Bool.{leb-false}
 use Rattle.store_terms.specs.Requests as ask
 use Rattle.store_terms.specs.Requests.{Change, Refused, Request}
 use Rattle.segment_layout.specs.Books.{next_book}
-use Rattle.store_core.specs.States.{Limits, Served, State, accepted, facts_of, refusal, served, served_change}
+use Rattle.slot_codec.specs.Names.{is_name}
+use Rattle.store_core.specs.States.{Facts, Limits, Served, State, accepted, facts_of, first_refusal, object_tests, refusal, served, served_change, worn_test}
 use Rattle.store_core.proofs.StepLaws.{served_by}
 use Rattle.ask_session.specs.Serving.{acknowledges}
+use Rattle.ask_session.specs.Runs.{most_sequence}
 
 -- ---- what a request makes
 
@@ -68,3 +72,67 @@ makes limits s r = by (refusal limits (facts_of s r) r) refl
     by (Some w) is = subst (λ (x : Served). MakesOne x ⊎ MakesNone s x) (sym (served_by limits s r
         (Some w) is))
         (inr (record { least = refl; acknowledged = refl; kept = refl; book = refl }))
+
+-- ---- how many checkpoints it may save
+
+first_passed : (test : Bool) (why : Refused) (tests : List (Bool × Refused))
+    → first_refusal ((test, why) ∷ tests) ≡ None → first_refusal tests ≡ None
+first_passed true why tests is = absurd (cc)
+first_passed false why tests is = is
+
+-- where no test refuses, the last doesn't: the sequence is below 2^61
+last_passed : (tests : List (Bool × Refused)) (f : Facts) → first_refusal (tests ++ worn_test f) ≡ None
+    → f.sequence < 2 ^ 61
+last_passed [] f is = by (nat_le (2 ^ 61) f.sequence) refl
+  where
+    by : (b : Bool) → nat_le (2 ^ 61) f.sequence ≡ b → f.sequence < 2 ^ 61
+    by false same = leb-false (2 ^ 61) f.sequence same
+    by true same = absurd (let e : ◌≡◌ {A = Option Refused} (Some ask.worn) None = rw same at is in cc)
+last_passed ((test, why) ∷ tests) f is = last_passed tests f (first_passed test why (tests ++ worn_test f) is)
+
+-- None, or at most 2k + 1 where the sequence is below 2^61.
+abbrev pub SavesFew : Limits → State → Served → Type 0
+SavesFew limits s x = (x.saves.most ≡ 0)
+    ⊎ ((s.sequence < 2 ^ 61) × (x.saves.most ≤ 2 * limits.k + 1))
+
+change_saves : (limits : Limits) (s : State) (c : Change) (q : Bool)
+    → (next_book limits.k s.map s.book c).quiet ≡ q → s.sequence < 2 ^ 61
+    → SavesFew limits s (served_change limits s c)
+change_saves limits s c true is low = inl (rw is refl)
+change_saves limits s c false is low =
+    inr (low, let n : (served_change limits s c).saves.most ≡ 2 * limits.k + 1 = rw is refl in omega (arith, n))
+
+accepted_saves : (limits : Limits) (s : State) (r : Request) → refusal limits (facts_of s r) r ≡ None
+    → SavesFew limits s (accepted limits s r)
+accepted_saves limits s (ask.change c) is =
+    let f = facts_of s (ask.change c) in
+    change_saves limits s c (next_book limits.k s.map s.book c).quiet refl
+    (last_passed (object_tests limits f c.object) f (first_passed (not_name c.name) ask.bad_name
+    (object_tests limits f c.object ++ worn_test f) is))
+  where
+    not_name : List ℕ → Bool
+    not_name name = not (is_name name)
+accepted_saves limits s (ask.get name) is = inl refl
+accepted_saves limits s (ask.old name) is = inl refl
+accepted_saves limits s ask.keep is = inr (last_passed [] (facts_of s ask.keep) is, omega arith)
+accepted_saves limits s ask.back is = inl refl
+accepted_saves limits s ask.list is = inl refl
+accepted_saves limits s ask.stat is = inl refl
+
+pub saves_few : (limits : Limits) (s : State) (r : Request) → SavesFew limits s (served limits s r)
+saves_few limits s r = by (refusal limits (facts_of s r) r) refl
+  where
+    by : (o : Option Refused) → refusal limits (facts_of s r) r ≡ o → SavesFew limits s (served limits s r)
+    by None is = subst (SavesFew limits s) (sym (served_by limits s r None is)) (accepted_saves limits s r is)
+    by (Some w) is = subst (SavesFew limits s) (sym (served_by limits s r (Some w) is)) (inl refl)
+
+-- a request leaves the bound of those before it
+pub saves_within : (limits : Limits) (s : State) (r : Request) (k found : ℕ) → limits.k ≡ k
+    → s.sequence ≤ most_sequence k found
+    → s.sequence + (served limits s r).saves.most ≤ most_sequence k found
+saves_within limits s r k found same low =
+    elim (saves_few limits s r)
+    as (λ _. s.sequence + (served limits s r).saves.most ≤ most_sequence k found) [
+      | inl none ↦ omega (arith, none, low)
+      | inr some ↦ omega (arith, some.0, some.1, same, le-max_right found (2 ^ 61 + 2 * k))
+    ]

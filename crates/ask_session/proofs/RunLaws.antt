@@ -1,12 +1,13 @@
 -- One more request of a run.
-use Rattle.std.specs.Prelude.{◌≡◌, ◌⊎◌, ℕ, ◌+◌, ◌-◌, ◌<◌, ◌≤◌, Bool, true, false, if◌then◌else◌, List, [], ◌∷◌, ◌++◌, length, flat_map, IsTrue, refl}
+use Rattle.std.specs.Prelude.{◌≡◌, ◌⊎◌, ℕ, ◌+◌, ◌-◌, ◌*◌, ◌^◌, ◌<◌, ◌≤◌, Bool, true, false, if◌then◌else◌, List, [], ◌∷◌, ◌++◌, length, flat_map, IsTrue, refl}
 use Rattle.std.proofs.Common.{arith, ap, sym, ◌∙◌, subst, inl, inr, append_assoc, append-nil, length-append}
+use Rattle.std.proofs.Math.Nat.{le-max_left}
 use Rattle.std.proofs.lemmas.Grind.{flat_map-append}
 use Rattle.disk_face.specs.Counts.{counted, last}
 use Rattle.disk_face.specs.States as disk
 use Rattle.disk_face.specs.States.{IsLawful}
 use Rattle.disk_face.specs.Streams.{SinkState, SourceState}
-use Rattle.disk_face.specs.Moments.{LeftOnly}
+use Rattle.disk_face.specs.Moments.{Leaves, LeftOnly}
 use Rattle.disk_face.proofs.FrameLaws.{Stays-trans}
 use Rattle.disk_face.proofs.MomentLaws.{Leaves-none, Leaves-trans, Leaves-weaken, LeftOnly-after}
 use Rattle.size_class.specs.declared.TheConstants.{SIZE_MAX}
@@ -17,6 +18,8 @@ use Rattle.store_terms.specs.Maps.{Map}
 use Rattle.segment_layout.specs.Books.{Book}
 use Rattle.segment_layout.specs.Bounds.{Loose}
 use Rattle.table_rules.specs.Opening.{Opens}
+use Rattle.table_rules.specs.Sequences.{HasSequenceUpTo}
+use Rattle.table_rules.proofs.SequenceLaws.{sequence_wider}
 use Rattle.store_core.specs.Connection.{IsConnected, RestsOnTable, base_of, limits_of, state_of}
 use Rattle.store_core.specs.States.{Limits, State, Step}
 use Rattle.store_core.specs.Stores.{IsStore}
@@ -29,9 +32,9 @@ use Rattle.ask_session.specs.Turns.{IsAnswered, IsTurn}
 use Rattle.ask_session.specs.declared.ends.End.{End}
 use Rattle.ask_session.specs.declared.ends.End.TheVariants as ends
 use Rattle.ask_session.specs.declared.ends.Turn.TheVariants as turn
-use Rattle.ask_session.specs.Runs.{HasRun, IsLastTurn, IsRunImage, IsStepImage, OpensToKept, calls_since, is_budget, last_kept}
+use Rattle.ask_session.specs.Runs.{HasRun, IsLastTurn, IsRunImage, IsStepImage, OpensToKept, calls_since, is_budget, last_kept, most_sequence}
 use Rattle.ask_session.proofs.GrowingLaws.{and_none, last_more, texts_more, chain_more, some_more, some_last, kept_more, calls_more, chain_long}
-use Rattle.ask_session.proofs.MakesLaws.{MakesOne, MakesNone, makes}
+use Rattle.ask_session.proofs.MakesLaws.{MakesOne, MakesNone, makes, saves_within}
 
 -- ---- one more request
 
@@ -131,6 +134,28 @@ module _ {classes : ℕ} (old : Sitting) (a : disk.State) (old_in : SourceState)
     | inl one ↦ absurd (let e : true ≡ false = sym one.acknowledged ∙ plain in cc)
     | inr none ↦ opens_with image (new_kept told ∙ none.kept) (new_kept_book told ∙ none.book) is
   ]
+
+  -- the sequence of the state after it, and of what was left meanwhile
+  abbrev most : ℕ
+  most = most_sequence old.store.in_use.block.k old.store.in_use.sequence
+
+  saves_low : IsTrue a.tells → s.sequence + (served_at mid.store b.file r).saves.most ≤ most
+  saves_low told = saves_within (limits_of mid.store) s r old.store.in_use.block.k old.store.in_use.sequence
+      (ap (λ (u : SuperBlock). u.k) ran.block) (ran.reach told)
+
+  reach_now : IsTrue a.tells → new.store.in_use.sequence ≤ most
+  reach_now told = omega (
+    arith,
+    saves_low told,
+    (x.served.replies.serves.step (told_b told) refl).high,
+  )
+
+  numbered_now : IsTrue a.tells → RestsOnTable (base_of old.store) old.store.kept a
+      → Leaves b d (HasSequenceUpTo most)
+  numbered_now told rests = Leaves-weaken (HasSequenceUpTo most)
+      (λ image is. sequence_wider (s.sequence + (served_at mid.store b.file r).saves.most) most image
+      (saves_low told) is.sequence)
+      (x.served.replies.serves.left (told_b told) (ran.rests told rests))
 
   unbroken : new.store.is_broken ≡ false
   unbroken = x.served.replies.serves.broken ∙ and_none (is_changing r)
@@ -263,6 +288,8 @@ module _ {classes : ℕ} (old : Sitting) (a : disk.State) (old_in : SourceState)
         (ran.newest told)
         (step_image told image is)))
         (x.served.replies.serves.left (told_b told) (ran.rests told rests)));
+    reach = reach_now;
+    numbered = λ told rests. Leaves-trans (ran.numbered told rests) (numbered_now told rests);
     since = λ told rests below low was. subst (λ (n : ℕ). LeftOnly d n (OpensToKept classes t))
         (sym x.kept_turn)
         (since_now x.kept told rests below low was (kept_is told));
@@ -312,6 +339,9 @@ has_run_none {classes} s a i o whole over ready fits = record {
   rests = λ told rests. rests;
   left = λ told rests. Leaves-none a (IsRunImage classes s.store.in_use.block.k (base_of s.store)
       (state_of s.store a.file) []);
+  reach = λ told. le-max_left s.store.in_use.sequence (2 ^ 61 + 2 * s.store.in_use.block.k);
+  numbered = λ told rests. Leaves-none a (HasSequenceUpTo (most_sequence s.store.in_use.block.k
+      s.store.in_use.sequence));
   since = λ told rests below low was. was;
   kept_turn = λ low. low;
   turn_rises = λ low. omega arith;

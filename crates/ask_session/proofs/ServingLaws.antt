@@ -1,5 +1,5 @@
 -- What serving a request does, by what the calls of the store do.
-use Rattle.std.specs.Prelude.{◌≡◌, ℕ, ◌-◌, ◌≤◌, false, ◌&&◌, List, length, Some, Result, IsTrue, refl}
+use Rattle.std.specs.Prelude.{◌≡◌, ℕ, ◌+◌, ◌-◌, ◌≤◌, false, ◌&&◌, List, length, Some, Result, IsTrue, refl}
 use Rattle.std.proofs.Common.{arith, ap, sym, ◌∙◌, subst, inl}
 use Rattle.disk_face.specs.Counts.{last}
 use Rattle.disk_face.specs.States as disk
@@ -10,6 +10,7 @@ use Rattle.store_terms.specs.Requests.{Refused, Reply, Request}
 use Rattle.segment_layout.specs.Books.{book_end}
 use Rattle.segment_layout.specs.Bounds.{Loose, Tight}
 use Rattle.segment_layout.proofs.TightLaws.{tight_is_loose}
+use Rattle.table_rules.proofs.SequenceLaws.{sequence_wider}
 use Rattle.store_core.specs.Connection.{IsKeptImage, IsOver, Kept, SameOnTable, base_of, limits_of, state_of}
 use Rattle.store_core.specs.Stores.{IsStore}
 use Rattle.store_core.specs.States.{Facts, Served, Step, facts_of, refusal, unchanged}
@@ -45,6 +46,8 @@ pub kept_is_serving : {classes : ℕ} (s : Kept) (r : Request) (file image : Lis
     → IsOver classes s file → IsKeptImage classes s file image → IsServingImage classes s r file image
 kept_is_serving s r file image h over is = record {
   opens = inl is.opens;
+  sequence = sequence_wider s.in_use.sequence (s.in_use.sequence + (served_at s file r).saves.most) image
+      (omega arith) is.sequence;
   loose = same_length_loose s r file image h over is.same.same_length;
 }
 

@@ -1,5 +1,5 @@
 -- A run of a session: requests that are answered one after another.
-use Rattle.std.specs.Prelude.{◌≡◌, ◌⊎◌, ℕ, ◌+◌, ◌-◌, ◌<◌, ◌≤◌, Bool, true, false, if◌then◌else◌, List, [], ◌∷◌, ◌++◌, length, flat_map, Err, IsTrue}
+use Rattle.std.specs.Prelude.{◌≡◌, ◌⊎◌, ℕ, ◌+◌, ◌-◌, ◌*◌, ◌^◌, ◌<◌, ◌≤◌, max, Bool, true, false, if◌then◌else◌, List, [], ◌∷◌, ◌++◌, length, flat_map, Err, IsTrue}
 use Rattle.std.specs.List.{AllByRecursion}
 use Rattle.disk_face.specs.Counts.{counted, last}
 use Rattle.disk_face.specs.States as disk
@@ -10,6 +10,7 @@ use Rattle.size_class.specs.declared.TheConstants.{SIZE_MAX}
 use Rattle.store_terms.specs.Requests.{Reply, Request}
 use Rattle.segment_layout.specs.Bounds.{Loose}
 use Rattle.table_rules.specs.Opening.{Opens}
+use Rattle.table_rules.specs.Sequences.{HasSequenceUpTo}
 use Rattle.store_core.specs.Connection.{IsConnected, RestsOnTable, base_of, limits_of, state_of}
 use Rattle.store_core.specs.Stores.{IsStore}
 use Rattle.store_core.specs.States.{Chain, Limits, State}
@@ -26,6 +27,11 @@ use Rattle.ask_session.specs.Inputs.{HasSourceCause}
 -- how many requests one run answers at most
 abbrev pub budget : ℕ
 budget = 4294967296
+
+-- the greatest sequence that requests leave, where the first found this one: from 2^61 on none saves a
+-- checkpoint, and below it one saves at most 2k + 1
+abbrev pub most_sequence : ℕ → ℕ → ℕ
+most_sequence k found = max found (2 ^ 61 + 2 * k)
 
 -- ---- states one after another
 
@@ -74,7 +80,8 @@ IsRunImage classes k base s states image = SomeStep (IsStepImage classes k base 
 
 -- So many requests were answered one after another. Their texts stood in front of the unread input, each
 -- reply was put whole, and the states after them are a chain of steps. What a crash may leave meanwhile was
--- left in one of them, where the disk rested on the checkpoint's table; it does so again. Since the last
+-- left in one of them, where the disk rested on the checkpoint's table; it does so again; and its sequence is at
+-- most the greatest that requests leave. Since the last
 -- acknowledged checkpoint a crash leaves what opens to that alone, and the calls of the requests after it
 -- were made. The turn that is told never falls, and stays while no checkpoint was acknowledged.
 pub record HasRun (classes : ℕ) (old new : Sitting) (before now : disk.State) (from rest : SourceState)
@@ -100,6 +107,11 @@ pub record HasRun (classes : ℕ) (old new : Sitting) (before now : disk.State) 
   pub left : IsTrue before.tells → RestsOnTable (base_of old.store) old.store.kept before
       → Leaves before now (IsRunImage classes old.store.in_use.block.k (base_of old.store)
       (state_of old.store before.file) states)
+  pub reach : IsTrue before.tells → new.store.in_use.sequence
+      ≤ most_sequence old.store.in_use.block.k old.store.in_use.sequence
+  pub numbered : IsTrue before.tells → RestsOnTable (base_of old.store) old.store.kept before
+      → Leaves before now (HasSequenceUpTo (most_sequence old.store.in_use.block.k
+      old.store.in_use.sequence))
   pub since : IsTrue before.tells → RestsOnTable (base_of old.store) old.store.kept before → now.turn < last
       → old.kept_turn ≤ before.turn
       → LeftOnly before old.kept_turn (OpensToKept classes (state_of old.store before.file))

@@ -1,5 +1,5 @@
 -- What serving one request does: to the store and its disk, and to the sink.
-use Rattle.std.specs.Prelude.{◌≡◌, ◌⊎◌, ℕ, ◌-◌, ◌<◌, ◌≤◌, Bool, true, false, ◌&&◌, if◌then◌else◌, List, [], ◌++◌, length, Option, Some, None, Result, Ok, Err, IfErr, IfOk, IsTrue, OnOk}
+use Rattle.std.specs.Prelude.{◌≡◌, ◌⊎◌, ℕ, ◌+◌, ◌-◌, ◌<◌, ◌≤◌, Bool, true, false, ◌&&◌, if◌then◌else◌, List, [], ◌++◌, length, Option, Some, None, Result, Ok, Err, IfErr, IfOk, IsTrue, OnOk}
 use Rattle.disk_face.specs.Counts.{Rose, counted}
 use Rattle.disk_face.specs.States as disk
 use Rattle.disk_face.specs.Streams.{SinkState}
@@ -11,6 +11,7 @@ use Rattle.store_terms.specs.Requests.{Reply, Request}
 use Rattle.segment_layout.specs.Books.{next_book}
 use Rattle.segment_layout.specs.Bounds.{Loose}
 use Rattle.table_rules.specs.Opening.{Opens}
+use Rattle.table_rules.specs.Sequences.{HasSequenceUpTo}
 use Rattle.store_core.specs.Connection.{IsConnected, Kept, RestsOnTable, base_of, kept_map, limits_of, state_of}
 use Rattle.store_core.specs.Quiet.{quiet_calls}
 use Rattle.store_core.specs.States.{Limits, Served, State, Step, facts_of, refusal, served}
@@ -89,12 +90,13 @@ calls_of limits s ask.stat = 0
 -- ---- the store and its disk
 
 -- An image that is left while a store over a file serves a request: it opens to the last checkpoint or,
--- where the request makes one, to what stands after it; and its data part is within bounds for the maps
--- before and after.
+-- where the request makes one, to what stands after it; its sequence is at most as much greater as the request
+-- may save checkpoints; and its data part is within bounds for the maps before and after.
 pub record IsServingImage (classes : ℕ) (s : Kept) (r : Request) (file image : List ℕ) : Type 0 where
   pub opens : Opens classes SIZE_MAX image (kept_map s file) s.kept_book
       ⊎ ((0 < (served_at s file r).saves.least)
       × Opens classes SIZE_MAX image (served_at s file r).state.map (served_at s file r).state.book)
+  pub sequence : HasSequenceUpTo (s.in_use.sequence + (served_at s file r).saves.most) image
   pub loose : Loose s.in_use.block.k (length image - base_of s) (state_of s file).map
       (served_at s file r).state.map
 

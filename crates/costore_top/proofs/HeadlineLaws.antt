@@ -73,7 +73,7 @@ module _ {D I O : Type 0} (disk_of : D → State) (source_of : I → SourceState
       (sink_of out) after
 
   left_before : old.turn < last → RestsOnFound t old
-      → LeftOnly old old.turn (IsFoundImage CLASSES m b (length old.file))
+      → LeftOnly old old.turn (IsFoundImage CLASSES t m b (length old.file))
   left_before below rests image since =
       found_image CLASSES t old.file m b o image (rests image ((lawful before).only_now image below since))
 
@@ -122,7 +122,7 @@ module _ {D I O : Type 0} (disk_of : D → State) (source_of : I → SourceState
 
     -- the disk failed before a session began
     failed_before : (k : ℕ) → old.turn ≤ z.turn
-        → (LeavesRoom t → RestsOnFound t old → Leaves old z (IsFoundImage CLASSES m b (length old.file)))
+        → (LeavesRoom t → RestsOnFound t old → Leaves old z (IsFoundImage CLASSES t m b (length old.file)))
         → Rose old.faults z.faults → (HasMounted z → k ≡ z.turn) → PutsEnd (Err stop.Disk)
         → Runs (outcome_of (unserved stop.Disk k))
     failed_before k later left rose since line =
@@ -193,7 +193,7 @@ module _ {D I O : Type 0} (disk_of : D → State) (source_of : I → SourceState
           (Leaves-weaken old.may_leave mount.images same.since) in
           unserved_runs t.chosen.block found_start found_starts (lawful now) left_before
           (omega (arith, same.same_turn, mount.same_turn))
-          (λ room rests. Leaves-weaken (IsFoundImage CLASSES m b (length old.file))
+          (λ room rests. Leaves-weaken (IsFoundImage CLASSES t m b (length old.file))
           (λ image may. found_image CLASSES t old.file m b o image (rests image may)) (still rests))
           (λ rests below calm settled opened. settled_still
           (same.same_turn ∙ mount.same_turn) still rests below

@@ -1,6 +1,7 @@
 -- What mounting and opening a file leave that opens by a table.
-use Rattle.std.specs.Prelude.{◌≡◌, ℕ, ◌+◌, ◌<◌, ◌≤◌, false, List, length, Result, Ok, IsTrue}
+use Rattle.std.specs.Prelude.{◌≡◌, ℕ, ◌+◌, ◌*◌, ◌^◌, ◌<◌, ◌≤◌, false, List, length, Result, Ok, IsTrue}
 use Rattle.std.proofs.Common.{arith, ap, sym, ◌∙◌, subst}
+use Rattle.std.proofs.Math.Nat.{le-max_left, le-max_right, max-le}
 use Rattle.disk_face.specs.Counts.{last}
 use Rattle.disk_face.specs.States.{IsLawful, State}
 use Rattle.disk_face.specs.Frames.{AfterMount}
@@ -13,22 +14,38 @@ use Rattle.slot_codec.specs.declared.codec.Kind.TheVariants as kind
 use Rattle.store_terms.specs.Maps.{Map}
 use Rattle.segment_layout.specs.Books.{Book, book_end}
 use Rattle.table_rules.specs.Opening.{OpensBy}
+use Rattle.table_rules.specs.Sequences.{HasSequenceUpTo}
+use Rattle.table_rules.proofs.SequenceLaws.{sequence_wider}
 use Rattle.store_core.specs.Connection.{IsOver, Kept, RestsOnTable, base_of, state_of}
 use Rattle.store_core.specs.Stores.{IsStore}
-use Rattle.store_core.specs.Opened.{ContinuesFrom, IsFoundImage, IsOpened, IsOpening, LeavesRoom, OpenCallsOf, OpensFound, RestsOnFound, SameOnFound, found_base, state_at, turn_after_cut}
+use Rattle.store_core.specs.Opened.{ContinuesFrom, IsFoundImage, IsOpened, IsOpening, LeavesRoom, OpenCallsOf, OpensFound, RestsOnFound, SameOnFound, found_base, most_by, most_found, state_at, turn_after_cut}
 use Rattle.store_core.proofs.OpeningLaws.{FoundSame, found_image, found_one}
 use Rattle.reopen.specs.declared.fault.OpenFault.{OpenFault}
-use Rattle.costore_top.specs.Headline.{BeginsFrom, turn_opened}
+use Rattle.ask_session.specs.Runs.{most_sequence}
+use Rattle.costore_top.specs.Headline.{BeginsFrom, most_left, turn_opened}
+
+-- an image that an opening left has a sequence that a call may leave
+pub found_numbered : (t : choice.Table) (m : Map) (b : Book) (longest k : ℕ) (image : List ℕ)
+    → IsFoundImage CLASSES t m b longest image → HasSequenceUpTo (most_left k t) image
+found_numbered t m b longest k image is =
+    sequence_wider (most_found t) (most_left k t) image (le-max_left (most_found t) (2 ^ 61 + 2 * k)) is.sequence
+
+-- and so do those that requests leave after it
+pub requests_low : (t : choice.Table) (k q : ℕ) → q ≤ most_found t → most_sequence k q ≤ most_left k t
+requests_low t k q low =
+    let first : q ≤ most_left k t = omega (arith, low, le-max_left (most_found t) (2 ^ 61 + 2 * k)) in
+    max-le first (le-max_right (most_found t) (2 ^ 61 + 2 * k))
 
 -- A store was opened over the file that a call began with.
 pub record Opened (t : choice.Table) (m : Map) (b : Book) (old a : State) (s : Kept) : Type 0 where
   pub state : state_of s a.file ≡ state_at m b s.in_use.sequence
   pub block : s.in_use.block ≡ t.chosen.block
   pub sequence : BeginsFrom t.chosen.header.kind t.chosen.header.sequence s.in_use.sequence
+  pub most : s.in_use.sequence ≤ most_found t
   pub over : IsOver CLASSES s a.file
   pub sound : IsStore CLASSES s
   pub unbroken : s.is_broken ≡ false
-  pub left : LeavesRoom t → RestsOnFound t old → Leaves old a (IsFoundImage CLASSES m b (length old.file))
+  pub left : LeavesRoom t → RestsOnFound t old → Leaves old a (IsFoundImage CLASSES t m b (length old.file))
   pub rests : RestsOnFound t old → RestsOnTable (base_of s) s.kept a
   pub turn : t.chosen.header.kind ≡ kind.Settled → a.turn ≡ turn_opened t b old
   pub told : IsTrue a.tells
@@ -38,6 +55,10 @@ pub record Opened (t : choice.Table) (m : Map) (b : Book) (old a : State) (s : K
 begins_of : (k : Kind) (found q : ℕ) → ContinuesFrom k found q → BeginsFrom k found q
 begins_of kind.Settled found q is = is
 begins_of kind.Moving found q is = (omega (arith, is.0), omega (arith, is.1))
+
+most_of : (k : Kind) (found q : ℕ) → ContinuesFrom k found q → q ≤ most_by k found
+most_of kind.Settled found q is = omega (arith, is)
+most_of kind.Moving found q is = omega (arith, is.1)
 
 turn_of : (k : Kind) (t : choice.Table) (m : Map) (b : Book) (file : List ℕ) (first now : ℕ) (s : Kept)
     → OpenCallsOf k t m b file first now s → k ≡ kind.Settled
@@ -60,13 +81,13 @@ module _ (t : choice.Table) (m : Map) (b : Book) (old first : State) (mount : Af
   rests_first rests image left = subst (λ (f : List ℕ). SameOnFound t f image) (sym file_first)
       (rests image (mount.images image left))
 
-  pub left_first : RestsOnFound t old → Leaves old first (IsFoundImage CLASSES m b (length old.file))
-  left_first rests = Leaves-call (IsFoundImage CLASSES m b (length old.file)) mount.time
+  pub left_first : RestsOnFound t old → Leaves old first (IsFoundImage CLASSES t m b (length old.file))
+  left_first rests = Leaves-call (IsFoundImage CLASSES t m b (length old.file)) mount.time
       (λ image left. found_image CLASSES t old.file m b o image (rests image (mount.images image left)))
 
   -- each image that was left as the call began
   pub left_old : IsLawful old → old.turn < last → RestsOnFound t old
-      → LeftOnly old old.turn (IsFoundImage CLASSES m b (length old.file))
+      → LeftOnly old old.turn (IsFoundImage CLASSES t m b (length old.file))
   left_old lawful below rests image since =
       found_image CLASSES t old.file m b o image (rests image (lawful.only_now image below since))
 
@@ -74,9 +95,9 @@ module _ (t : choice.Table) (m : Map) (b : Book) (old first : State) (mount : Af
     -- what an opening leaves meanwhile, whether it fails or not
     pub left_opening : (result : Result Kept OpenFault) → IsOpening CLASSES first a result
         → LeavesRoom t → RestsOnFound t old
-        → Leaves old a (IsFoundImage CLASSES m b (length old.file))
+        → Leaves old a (IsFoundImage CLASSES t m b (length old.file))
     left_opening result opening room rests = Leaves-trans (left_first rests)
-        (subst (λ (f : List ℕ). Leaves first a (IsFoundImage CLASSES m b (length f))) file_first
+        (subst (λ (f : List ℕ). Leaves first a (IsFoundImage CLASSES t m b (length f))) file_first
         ((opening.found told_first t m b opens_first).left room (rests_first rests)))
 
     pub opened_by : (s : Kept) → first.faults ≡ old.faults → IsOpening CLASSES first a (Ok s)
@@ -89,6 +110,9 @@ module _ (t : choice.Table) (m : Map) (b : Book) (old first : State) (mount : Af
         record {
           state = is.state ∙ (λ i. state_at (one.same_map i) (one.same_book i) s.in_use.sequence);
           block = is.block ∙ ap (λ (x : choice.Table). x.chosen.block) one.same_table;
+          most = most_of t.chosen.header.kind t.chosen.header.sequence s.in_use.sequence
+              (subst (λ (x : choice.Table). ContinuesFrom x.chosen.header.kind x.chosen.header.sequence
+              s.in_use.sequence) one.same_table is.continues);
           sequence = begins_of t.chosen.header.kind t.chosen.header.sequence s.in_use.sequence
               (subst (λ (x : choice.Table). ContinuesFrom x.chosen.header.kind x.chosen.header.sequence
               s.in_use.sequence) one.same_table is.continues);

@@ -18,6 +18,8 @@ use Rattle.store_terms.specs.Requests.{Request}
 use Rattle.segment_layout.specs.Books.{Book, book_end}
 use Rattle.segment_layout.specs.Bounds.{Loose, Tight}
 use Rattle.table_rules.specs.Opening.{Opens, OpensBy}
+use Rattle.table_rules.specs.Sequences.{HasSequenceUpTo}
+use Rattle.table_rules.proofs.SequenceLaws.{sequence_wider}
 use Rattle.store_core.specs.Connection.{IsOver, Kept, RestsOnTable, base_of, limits_of, state_of}
 use Rattle.store_core.specs.Stores.{IsStore}
 use Rattle.store_core.specs.States as store
@@ -32,17 +34,17 @@ use Rattle.ask_session.specs.Serving.{IsFront, IsServingImage, is_changing, is_d
 use Rattle.ask_session.specs.Sittings.{Sitting, new_sitting, unread}
 use Rattle.ask_session.specs.Turns.{IsStopped}
 use Rattle.ask_session.specs.Runs as run
-use Rattle.ask_session.specs.Runs.{HasRun, IsRunImage, IsStepImage, SomeStep, budget, calls_since, last_kept, last_state}
+use Rattle.ask_session.specs.Runs.{HasRun, IsRunImage, IsStepImage, SomeStep, budget, calls_since, last_kept, last_state, most_sequence}
 use Rattle.ask_session.specs.declared.ends.End.{End}
 use Rattle.ask_session.proofs.GrowingLaws.{and_none, last_more, some_last, some_more}
-use Rattle.ask_session.proofs.MakesLaws.{makes}
+use Rattle.ask_session.proofs.MakesLaws.{makes, saves_within}
 use Rattle.ask_session.proofs.RunLaws.{opens_with}
-use Rattle.costore_top.specs.Headline.{EndsTight, HasReplied, HowFar, IsLong, IsNextStart, IsPartial, IsTold, IsWithinBounds, NumbersLine, OpensTo, OpensToBeing, OpensToKept, OpensToNext, Ran, RunsAs, Starts, has_failed, limits_with, next_reply, next_saves, next_states, served_states, state_after, turn_opened}
+use Rattle.costore_top.specs.Headline.{EndsTight, HasReplied, HowFar, IsLong, IsNextStart, IsPartial, IsTold, IsWithinBounds, NumbersLine, OpensTo, OpensToBeing, OpensToKept, OpensToNext, Ran, RunsAs, Starts, has_failed, limits_with, most_left, next_reply, next_saves, next_states, served_states, state_after, turn_opened}
 use Rattle.costore_top.specs.Outcomes.{PutsLast, line_at, status_at}
 use Rattle.costore_top.specs.declared.stop.Stop.{Stop}
 use Rattle.costore_top.specs.declared.top.Outcome.{Outcome}
 use Rattle.costore_top.proofs.RunLists.{IsNext, LastIs, Splits, begins_none, first_kept, last_is, next_is, none_next, some_weaker, splits}
-use Rattle.costore_top.proofs.OpeningLemmas.{Opened}
+use Rattle.costore_top.proofs.OpeningLemmas.{Opened, found_numbered, requests_low}
 
 -- ---- a store over a file
 
@@ -87,7 +89,7 @@ module _ {t : choice.Table} {m : Map} {b : Book} {requests : List Request} {end 
     {s : Kept} (op : Opened t m b old a s) (lawful_old : IsLawful old) (lawful_a : IsLawful a)
     (o : OpensBy CLASSES SIZE_MAX t old.file m b)
     (left_before : old.turn < last → RestsOnFound t old
-    → LeftOnly old old.turn (IsFoundImage CLASSES m b (length old.file)))
+    → LeftOnly old old.turn (IsFoundImage CLASSES t m b (length old.file)))
     {from i1 : SourceState} {out o1 : SinkState} {s1 : Sitting} {c : State} {n : ℕ}
     (asks : Asks from.left requests end) (told_source : IsTrue from.tells)
     (ran : HasRun CLASSES (new_sitting s a.turn) s1 a c from i1 out o1 n) (few : n ≤ budget) where
@@ -192,6 +194,18 @@ module _ {t : choice.Table} {m : Map} {b : Book} {requests : List Request} {end 
       since).opens))
       (Leaves-weaken P (λ image is. inl (found_start image is.opens)) (op.left room rests)))
       (Leaves-weaken P run_shows (ran.left op.told (op.rests rests)))
+
+  pub numbered_c : LeavesRoom t → RestsOnFound t old → c.turn < last
+      → LeftOnly c old.turn (HasSequenceUpTo (most_left u.k t))
+  numbered_c room rests below =
+      let P = HasSequenceUpTo (most_left u.k t) in
+      LeftOnly-after old.turn P op.later
+      (LeftOnly-after old.turn P (omega arith)
+      (λ image since. found_numbered t m b (length old.file) u.k image
+      (left_before (omega (arith, below, turn_c, op.later)) rests image since))
+      (Leaves-weaken P (found_numbered t m b (length old.file) u.k) (op.left room rests)))
+      (Leaves-weaken P (λ image. sequence_wider (most_sequence u.k s.in_use.sequence) (most_left u.k t) image
+      (requests_low t u.k s.in_use.sequence op.most)) (ran.numbered op.told (op.rests rests)))
 
   pub rests_a : RestsOnFound t old → (image : List ℕ) → a.may_leave image
       → run.OpensToKept CLASSES start image
@@ -306,6 +320,7 @@ module _ {t : choice.Table} {m : Map} {b : Book} {requests : List Request} {end 
         since = λ mounted image since. inl (since_c rests below image since);
         safe = λ is. absurd (nine is);
       };
+      numbered = numbered_c;
       acknowledged = record { number = number; turns = λ _. calls_c };
       next_start = λ calm.
           let q = last_one.sequence
@@ -447,6 +462,21 @@ module _ {t : choice.Table} {m : Map} {b : Book} {requests : List Request} {end 
         (subst (λ (v : SuperBlock). Loose v.k (length image - head_len v.names) (state_of s1.store c.file).map
         (served_at s1.store c.file r).state.map) ran.block is.loose))
 
+    numbered_z : LeavesRoom t → RestsOnFound t old → z.turn < last
+        → LeftOnly z old.turn (HasSequenceUpTo (most_left u.k t))
+    numbered_z room rests below =
+        let P = HasSequenceUpTo (most_left u.k t) in
+        let q = s1.store.in_use.sequence + (served_at s1.store c.file r).saves.most in
+        let low : q ≤ most_left u.k t = omega (
+          arith,
+          saves_within (limits_of s1.store) (state_of s1.store c.file) r u.k s.in_use.sequence
+              (ap (λ (v : SuperBlock). v.k) ran.block) (ran.reach op.told),
+          requests_low t u.k s.in_use.sequence op.most,
+        ) in
+        LeftOnly-after old.turn P (omega (arith, op.later, turn_c))
+        (numbered_c room rests (omega (arith, below, turn_z)))
+        (Leaves-weaken P (λ image is. sequence_wider q (most_left u.k t) image low is.sequence) (left_z rests))
+
     module _ (status : ℕ) (failed : IsTrue (has_failed status)) where
       crash_z : LeavesRoom t → RestsOnFound t old → z.turn < last → LeftOnly z old.turn
           (λ image. OpensToKept start ran.replies states image
@@ -580,6 +610,7 @@ module _ {t : choice.Table} {m : Map} {b : Book} {requests : List Request} {end 
               since = λ mounted. since_z 7 refl rests below;
               safe = λ is. absurd (omega (arith, is));
             };
+            numbered = numbered_z;
             acknowledged = record {
               number = number_z;
               turns = λ is. let e : false ≡ true = is in absurd (cc);
@@ -723,6 +754,7 @@ module _ {t : choice.Table} {m : Map} {b : Book} {requests : List Request} {end 
               since = λ mounted. since_z 9 refl rests below;
               safe = λ is. safe_z rests;
             };
+            numbered = numbered_z;
             acknowledged = record {
               number = number_z;
               turns = λ is. let e : false ≡ true = is in absurd (cc);

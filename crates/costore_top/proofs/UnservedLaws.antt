@@ -21,15 +21,16 @@ use Rattle.ask_session.specs.Runs.{last_state}
 use Rattle.ask_session.proofs.RunLaws.{opens_with}
 use Rattle.costore_top.specs.Headline.{HasMounted, HowFar, IsLong, IsNextStart, NumbersLine, OpensTo, RunsAs, Starts, has_opened, is_whole, limits_with, next_reply, next_saves, next_states, served_states, turn_opened}
 use Rattle.costore_top.specs.Outcomes.{PutsLast, line_at, status_at}
+use Rattle.costore_top.proofs.OpeningLemmas.{found_numbered}
 use Rattle.costore_top.specs.declared.stop.Stop.{Stop}
 use Rattle.costore_top.specs.declared.top.Outcome.{Outcome}
 
 module _ {t : choice.Table} {m : Map} {b : Book} {old z : State}
     (u : SuperBlock) (start : store.State) (starts : Starts t m b start) (lawful : IsLawful z)
     (left_before : old.turn < last → RestsOnFound t old
-    → LeftOnly old old.turn (IsFoundImage CLASSES m b (length old.file)))
+    → LeftOnly old old.turn (IsFoundImage CLASSES t m b (length old.file)))
     (later : old.turn ≤ z.turn)
-    (left : LeavesRoom t → RestsOnFound t old → Leaves old z (IsFoundImage CLASSES m b (length old.file)))
+    (left : LeavesRoom t → RestsOnFound t old → Leaves old z (IsFoundImage CLASSES t m b (length old.file)))
     (settled_long : RestsOnFound t old → z.turn < last → IsCalm old.faults z.faults
     → t.chosen.header.kind ≡ kind.Settled → turn_opened t b old ≤ z.turn → LeftOnly z (turn_opened t b old)
     (λ image. length image ≡ head_len u.names + book_end u.k start.book)) where
@@ -38,8 +39,8 @@ module _ {t : choice.Table} {m : Map} {b : Book} {old z : State}
       (ap (λ (y : store.State). y.book) starts.state) is
 
   left_found : LeavesRoom t → RestsOnFound t old → z.turn < last
-      → LeftOnly z old.turn (IsFoundImage CLASSES m b (length old.file))
-  left_found room rests below = LeftOnly-after old.turn (IsFoundImage CLASSES m b (length old.file))
+      → LeftOnly z old.turn (IsFoundImage CLASSES t m b (length old.file))
+  left_found room rests below = LeftOnly-after old.turn (IsFoundImage CLASSES t m b (length old.file))
       (omega arith)
       (left_before (omega (arith, later, below)) rests) (left room rests)
 
@@ -108,6 +109,8 @@ module _ {t : choice.Table} {m : Map} {b : Book} {old z : State}
             is)))).opens);
         safe = λ is. absurd (nine is);
       };
+      numbered = λ room rests below image is.
+          found_numbered t m b (length old.file) u.k image (left_found room rests below image is);
       acknowledged = record {
         number = refl;
         turns = λ whole. absurd (let e : true ≡ false = sym whole ∙ not_whole in cc);

@@ -15,24 +15,26 @@ use Rattle.store_terms.specs.Maps.{Map}
 use Rattle.store_terms.specs.Requests.{Reply, Request}
 use Rattle.segment_layout.specs.Books.{Book, book_end}
 use Rattle.table_rules.specs.Opening.{Opens, OpensBy}
+use Rattle.table_rules.specs.Sequences.{HasSequenceUpTo}
+use Rattle.table_rules.proofs.SequenceLaws.{sequence_wider}
 use Rattle.store_core.specs.Connection.{IsOver, Kept, base_of, limits_of, state_of}
 use Rattle.store_core.specs.States as store
 use Rattle.store_core.specs.States.{Chain}
 use Rattle.store_core.specs.Opened.{IsFoundImage, LeavesRoom, RestsOnFound, found_base}
 use Rattle.store_core.proofs.OpeningLaws.{found_image}
 use Rattle.ask_session.specs.Runs as run
-use Rattle.ask_session.specs.Runs.{IsRunImage, IsStepImage, last_state}
+use Rattle.ask_session.specs.Runs.{IsRunImage, IsStepImage, last_state, most_sequence}
 use Rattle.ask_session.proofs.RunLaws.{opens_with}
 use Rattle.work_maker.specs.Jobs.{jobs}
 use Rattle.work_maker.proofs.ListLaws.{how_many}
 use Rattle.work_session.specs.Works.{ArePaidLines, HasDone, HasStopped, IsJobImage}
 use Rattle.work_session.specs.declared.summary.Summary.{Summary}
 use Rattle.costore_top.specs.Doing.{jobs_of}
-use Rattle.costore_top.specs.Headline.{EndsTight, IsNextStart, OpensTo, OpensToBeing, OpensToKept, Starts, limits_with, turn_opened}
+use Rattle.costore_top.specs.Headline.{EndsTight, IsNextStart, OpensTo, OpensToBeing, OpensToKept, Starts, limits_with, most_left, turn_opened}
 use Rattle.costore_top.specs.Outcomes.{PutsLast}
 use Rattle.costore_top.specs.Summaries.{summary_text}
 use Rattle.costore_top.specs.Working.{WorksAs, has_worked, is_working}
-use Rattle.costore_top.proofs.OpeningLemmas.{Opened}
+use Rattle.costore_top.proofs.OpeningLemmas.{Opened, found_numbered, requests_low}
 use Rattle.costore_top.proofs.RunLaws.{next_over, tight_over}
 use Rattle.costore_top.proofs.RunLists.{Shows, first_kept, last_shown, some_weaker}
 
@@ -55,7 +57,7 @@ module _ (t : choice.Table) (m : Map) (b : Book) (old : State) (lawful : IsLawfu
     (o : OpensBy CLASSES SIZE_MAX t old.file m b) (number count : ℕ) (out after : SinkState) where
   -- each image that was left as the call began
   left_before : old.turn < last → RestsOnFound t old
-      → LeftOnly old old.turn (IsFoundImage CLASSES m b (length old.file))
+      → LeftOnly old old.turn (IsFoundImage CLASSES t m b (length old.file))
   left_before below rests image since =
       found_image CLASSES t old.file m b o image (rests image (lawful.only_now image below since))
 
@@ -64,14 +66,20 @@ module _ (t : choice.Table) (m : Map) (b : Book) (old : State) (lawful : IsLawfu
   module _ (u : SuperBlock) (start : store.State) (starts : Starts t m b start) {z : State}
       (later : old.turn ≤ z.turn)
       (left : LeavesRoom t → RestsOnFound t old
-      → Leaves old z (IsFoundImage CLASSES m b (length old.file))) where
+      → Leaves old z (IsFoundImage CLASSES t m b (length old.file))) where
     found_start : (image : List ℕ) → Opens CLASSES SIZE_MAX image m b → OpensTo start image
     found_start image is = opens_with image (ap (λ (y : store.State). y.map) starts.state)
         (ap (λ (y : store.State). y.book) starts.state) is
 
+    pub numbered_start : (k : ℕ) → LeavesRoom t → RestsOnFound t old → z.turn < last
+        → LeftOnly z old.turn (HasSequenceUpTo (most_left k t))
+    numbered_start k room rests below image since = found_numbered t m b (length old.file) k image
+        (LeftOnly-after old.turn (IsFoundImage CLASSES t m b (length old.file)) (omega arith)
+        (left_before (omega (arith, later, below)) rests) (left room rests) image since)
+
     pub left_start : LeavesRoom t → RestsOnFound t old → z.turn < last → LeftOnly z old.turn (OpensTo start)
     left_start room rests below image since = found_start image
-        (LeftOnly-after old.turn (IsFoundImage CLASSES m b (length old.file)) (omega arith)
+        (LeftOnly-after old.turn (IsFoundImage CLASSES t m b (length old.file)) (omega arith)
         (left_before (omega (arith, later, below)) rests) (left room rests) image since).opens
 
     pub none_begun : (status : ℕ) → is_working status ≡ true → has_worked status ≡ false
@@ -98,6 +106,7 @@ module _ (t : choice.Table) (m : Map) (b : Book) (old : State) (lawful : IsLawfu
       };
       done = λ is. absurd (let e : true ≡ false = sym is ∙ none in cc);
       crash = λ room rests below image since. inl (inl (left_start room rests below image since));
+      numbered = numbered_start u.k;
       unbegun = λ is room rests below. left_start room rests below;
       next_start = next;
     }
@@ -155,6 +164,17 @@ module _ (t : choice.Table) (m : Map) (b : Book) (old : State) (lawful : IsLawfu
           ]
 
     module _ {z : State} where
+      -- the sequence of what was left until the last job
+      numbered_after : LeavesRoom t → RestsOnFound t old → z.turn < last → mid.turn ≤ z.turn
+          → Leaves mid z (HasSequenceUpTo (most_sequence u.k s.in_use.sequence))
+          → LeftOnly z old.turn (HasSequenceUpTo (most_left u.k t))
+      numbered_after room rests below later left =
+          let P = HasSequenceUpTo (most_left u.k t) in
+          LeftOnly-after old.turn P op.later
+          (numbered_start u start starts op.later op.left u.k room rests (omega (arith, below, later)))
+          (Leaves-weaken P (λ image. sequence_wider (most_sequence u.k s.in_use.sequence) (most_left u.k t)
+          image (requests_low t u.k s.in_use.sequence op.most)) left)
+
       -- the disk failed in a job
       pub in_a_job : HasStopped CLASSES s (jobs_of number count s) mid z → WorksAs u t m b number count 7 old
           z out after
@@ -188,6 +208,8 @@ module _ (t : choice.Table) (m : Map) (b : Book) (old : State) (lawful : IsLawfu
               | inl ran ↦ inl (run_shows x.done x.replies x.states (x.chain op.told) image ran)
               | inr job ↦ job_shows x.done x.replies x.states (x.chain op.told) x.next x.others image job
             ]) (x.left op.told (op.rests rests)));
+        numbered = λ room rests below. numbered_after room rests below x.frame.no_turn_back
+            (x.numbered op.told (op.rests rests));
         unbegun = λ is. absurd (omega (arith, is));
         next_start = λ calm. absurd (omega (arith, calm.same, calm.below, op.faults, x.rose));
       }
@@ -265,6 +287,8 @@ module _ (t : choice.Table) (m : Map) (b : Book) (old : State) (lawful : IsLawfu
               image since)))
               (Leaves-weaken P (λ image is. inl (run_shows requests d.replies d.states chain_d image is))
               (d.ran.left op.told (op.rests rests)));
+          numbered = λ room rests below. numbered_after room rests below d.ran.frame.no_turn_back
+              (d.ran.numbered op.told (op.rests rests));
           unbegun = λ is. absurd (begun is);
           next_start = λ calm. subst (λ (y : store.State). IsNextStart t y y.sequence old z) newest
               (next_over t d.new old z d.new.in_use.sequence d.ran.sound over_z (d.ran.block ∙ op.block)

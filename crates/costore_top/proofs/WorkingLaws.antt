@@ -69,7 +69,7 @@ module _ (t : choice.Table) (m : Map) (b : Book) (old : State) (lawful : IsLawfu
   }
 
   failed_before : old.turn ≤ z.turn
-      → (LeavesRoom t → RestsOnFound t old → Leaves old z (IsFoundImage CLASSES m b (length old.file)))
+      → (LeavesRoom t → RestsOnFound t old → Leaves old z (IsFoundImage CLASSES t m b (length old.file)))
       → Rose old.faults z.faults → Works 7
   failed_before later left rose = none_begun t m b old lawful o number count out after t.chosen.block
       found_start

@@ -17,12 +17,13 @@ use Rattle.store_terms.specs.Requests.{Reply, Request}
 use Rattle.segment_layout.specs.Books.{Book, book_end}
 use Rattle.segment_layout.specs.Bounds.{Loose, Tight}
 use Rattle.table_rules.specs.Opening.{Opens, OpensBy}
+use Rattle.table_rules.specs.Sequences.{HasSequenceUpTo}
 use Rattle.store_core.specs.States.{Chain, Limits, State, served}
-use Rattle.store_core.specs.Opened.{LeavesRoom, RestsOnFound, found_base, state_at, turn_after_cut}
+use Rattle.store_core.specs.Opened.{LeavesRoom, RestsOnFound, found_base, most_found, state_at, turn_after_cut}
 use Rattle.ask_text.specs.Inputs.{Asks}
 use Rattle.ask_text.specs.Replies.{reply_text}
 use Rattle.ask_session.specs.Serving.{acknowledges, is_changing}
-use Rattle.ask_session.specs.Runs.{SomeStep, budget, calls_since, last_kept, last_state}
+use Rattle.ask_session.specs.Runs.{SomeStep, budget, calls_since, last_kept, last_state, most_sequence}
 use Rattle.costore_top.specs.Outcomes.{PutsLast, line_at, status_at}
 use Rattle.costore_top.specs.declared.stop.Stop.{Stop}
 use Rattle.costore_top.specs.declared.stop.Stop.TheVariants as stop
@@ -223,6 +224,11 @@ pub record IsCrashSafe (limits : Limits) (start s : State) (replies : List Reply
       ⊎ OpensToBeing o.status limits s others image)
   pub safe : o.status ≡ 9 → NextIsSafe limits s others new.may_leave
 
+-- the greatest sequence that a call leaves over a file with a table: what an opening raises its sequence to, or
+-- what requests may
+abbrev pub most_left : ℕ → choice.Table → ℕ
+most_left k t = most_sequence k (most_found t)
+
 -- ---- what is acknowledged
 
 -- Which turn is told, whatever the devices tell: 0 where the call ended before opening. Else it lies within
@@ -291,6 +297,8 @@ pub record RunsAs (u : SuperBlock) (t : choice.Table) (m : Map) (b : Book) (requ
   pub crash : LeavesRoom t → RestsOnFound t old → new.turn < last
       → IsCrashSafe (limits_with u) start (last_state start ran.states)
       ran.replies ran.states ran.others o (HasMounted new) old new
+  pub numbered : LeavesRoom t → RestsOnFound t old → new.turn < last
+      → LeftOnly new old.turn (HasSequenceUpTo (most_left u.k t))
   -- what is acknowledged
   pub acknowledged : IsAcknowledged (limits_with u) start ran.answered ran.replies ran.states o new.turn
   -- where the disk didn't fail, the next call may begin

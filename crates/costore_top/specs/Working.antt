@@ -14,6 +14,7 @@ use Rattle.store_terms.specs.Maps.{Map}
 use Rattle.store_terms.specs.Requests.{Reply, Request}
 use Rattle.segment_layout.specs.Books.{Book, book_end}
 use Rattle.table_rules.specs.Opening.{OpensBy}
+use Rattle.table_rules.specs.Sequences.{HasSequenceUpTo}
 use Rattle.store_core.specs.States.{State}
 use Rattle.store_core.specs.Opened.{LeavesRoom, RestsOnFound, found_base}
 use Rattle.ask_session.specs.Runs as run
@@ -22,7 +23,7 @@ use Rattle.work_maker.specs.Jobs.{jobs}
 use Rattle.work_session.specs.Counts.{asked_in, calls_in}
 use Rattle.work_session.specs.Works.{ArePaidLines, CountsOf, LinesOf}
 use Rattle.work_session.specs.declared.summary.Summary.{Summary}
-use Rattle.costore_top.specs.Headline.{EndsTight, IsNextStart, OpensTo, OpensToBeing, OpensToKept, Ran, Starts, limits_with}
+use Rattle.costore_top.specs.Headline.{EndsTight, IsNextStart, OpensTo, OpensToBeing, OpensToKept, Ran, Starts, limits_with, most_left}
 use Rattle.costore_top.specs.Outcomes.{PutsLast, PutsLine}
 use Rattle.costore_top.specs.Sessions.{NeverOpens}
 use Rattle.costore_top.specs.Summaries.{summary_text}
@@ -102,6 +103,8 @@ pub record WorksAs (u : SuperBlock) (t : choice.Table) (m : Map) (b : Book) (num
   pub crash : LeavesRoom t → RestsOnFound t old → new.turn < last → LeftOnly new old.turn
       (λ image. OpensToKept start ran.replies ran.states image
       ⊎ OpensToBeing status (limits_with u) (last_state start ran.states) ran.others image)
+  pub numbered : LeavesRoom t → RestsOnFound t old → new.turn < last
+      → LeftOnly new old.turn (HasSequenceUpTo (most_left u.k t))
   pub unbegun : (status ≡ 3) ⊎ (status ≡ 10) → LeavesRoom t → RestsOnFound t old → new.turn < last
       → LeftOnly new old.turn (OpensTo start)
   pub next_start : IsCalm old.faults new.faults

@@ -1,6 +1,7 @@
 -- One more job of a work.
-use Rattle.std.specs.Prelude.{◌≡◌, ◌⊎◌, ℕ, ◌-◌, ◌≤◌, true, false, List, [], ◌∷◌, ◌++◌, length, Result, Ok, IsTrue, refl}
+use Rattle.std.specs.Prelude.{◌≡◌, ◌⊎◌, ℕ, ◌+◌, ◌-◌, ◌*◌, ◌^◌, ◌≤◌, true, false, List, [], ◌∷◌, ◌++◌, length, Result, Ok, IsTrue, refl}
 use Rattle.std.proofs.Common.{arith, ap, sym, ◌∙◌, subst, inl, inr}
+use Rattle.std.proofs.Math.Nat.{le-max_left}
 use Rattle.disk_face.specs.States as disk
 use Rattle.disk_face.proofs.FrameLaws.{Stays-trans}
 use Rattle.disk_face.proofs.MomentLaws.{Leaves-none, Leaves-trans, Leaves-weaken}
@@ -10,14 +11,16 @@ use Rattle.slot_codec.specs.Spelling.{head_len}
 use Rattle.store_terms.specs.Maps.{Map}
 use Rattle.store_terms.specs.Requests.{Reply, Request}
 use Rattle.segment_layout.specs.Bounds.{Loose}
+use Rattle.table_rules.specs.Sequences.{HasSequenceUpTo}
+use Rattle.table_rules.proofs.SequenceLaws.{sequence_wider}
 use Rattle.store_core.specs.Connection.{IsConnected, Kept, base_of, limits_of, state_of}
 use Rattle.store_core.specs.States.{Limits, State, Step}
 use Rattle.store_core.specs.Stores.{IsStore}
 use Rattle.ask_session.specs.declared.ends.End.{End}
 use Rattle.ask_session.specs.Serving.{HasDiskCause, IsServingImage, Serves, is_changing, is_disk_fault, reply_at, served_at}
-use Rattle.ask_session.specs.Runs.{IsRunImage, IsStepImage, OpensToKept, last_state}
+use Rattle.ask_session.specs.Runs.{IsRunImage, IsStepImage, OpensToKept, last_state, most_sequence}
 use Rattle.ask_session.proofs.GrowingLaws.{and_none, chain_more, last_more, some_last, some_more}
-use Rattle.ask_session.proofs.MakesLaws.{makes}
+use Rattle.ask_session.proofs.MakesLaws.{makes, saves_within}
 use Rattle.ask_session.proofs.RunLaws.{opens_with}
 use Rattle.work_session.specs.Works.{HasStopped, HasWorked, IsJobImage}
 
@@ -33,6 +36,8 @@ worked_none {classes} s a whole sound over ready = record {
   over = over;
   rests = λ told rests. rests;
   left = λ told rests. Leaves-none a (IsRunImage classes s.in_use.block.k (base_of s) (state_of s a.file) []);
+  reach = λ told. le-max_left s.in_use.sequence (2 ^ 61 + 2 * s.in_use.block.k);
+  numbered = λ told rests. Leaves-none a (HasSequenceUpTo (most_sequence s.in_use.block.k s.in_use.sequence));
   later = omega arith;
   frame = record {
     no_turn_back = omega arith;
@@ -67,6 +72,19 @@ module _ {classes : ℕ} (old mid : Kept) (a b : disk.State) (jobs : List Reques
 
   same_limits : limits_of mid ≡ limits_of old
   same_limits = ap (λ (u : SuperBlock). record { k = u.k; names = u.names; size_max = SIZE_MAX }) ran.block
+
+  -- the greatest sequence that jobs leave
+  abbrev most : ℕ
+  most = most_sequence k old.in_use.sequence
+
+  saves_low : IsTrue a.tells → s.sequence + (served_at mid b.file r).saves.most ≤ most
+  saves_low told = saves_within (limits_of mid) s r k old.in_use.sequence
+      (ap (λ (u : SuperBlock). u.k) ran.block) (ran.reach told)
+
+  numbered_low : IsTrue a.tells → (image : List ℕ) → IsServingImage classes mid r b.file image
+      → HasSequenceUpTo most image
+  numbered_low told image is =
+      sequence_wider (s.sequence + (served_at mid b.file r).saves.most) most image (saves_low told) is.sequence
 
   -- ---- a job that was done
 
@@ -120,6 +138,10 @@ module _ {classes : ℕ} (old mid : Kept) (a b : disk.State) (jobs : List Reques
           (subst (λ (y : State). IsStepImage classes k base image y t) (ran.newest told)
           (step_image told image is)))
           (serves.left (told_b told) (ran.rests told rests)));
+      reach = λ told. omega (arith, saves_low told, (serves.step (told_b told) refl).high);
+      numbered = λ told rests. Leaves-trans (ran.numbered told rests)
+          (Leaves-weaken (HasSequenceUpTo most) (numbered_low told)
+          (serves.left (told_b told) (ran.rests told rests)));
       later = omega (arith, ran.later, cause);
       frame = record {
         no_turn_back = omega (arith, ran.frame.no_turn_back, serves.frame.no_turn_back);
@@ -153,6 +175,9 @@ module _ {classes : ℕ} (old mid : Kept) (a b : disk.State) (jobs : List Reques
           (limits_of old) (last_state start states) r image) (λ image is. inl is) (ran.left told rests))
           (Leaves-weaken (λ image. IsRunImage classes k base start states image ⊎ IsJobImage classes base
           (limits_of old) (last_state start states) r image) (λ image is. inr (job_image told image is))
+          (serves.left (told_b told) (ran.rests told rests)));
+      numbered = λ told rests. Leaves-trans (ran.numbered told rests)
+          (Leaves-weaken (HasSequenceUpTo most) (numbered_low told)
           (serves.left (told_b told) (ran.rests told rests)));
       rose = omega (arith, ran.later, cause.rose failed);
       later = omega (arith, ran.later, cause.later);

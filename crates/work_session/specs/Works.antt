@@ -13,11 +13,12 @@ use Rattle.segment_layout.specs.Books.{book_end}
 use Rattle.extent_table.specs.Extents.{volume_of}
 use Rattle.segment_layout.specs.Bounds.{Loose}
 use Rattle.table_rules.specs.Opening.{Opens}
+use Rattle.table_rules.specs.Sequences.{HasSequenceUpTo}
 use Rattle.move_cost.specs.Costs.{factor, flat, linear, potential, seek, weigh}
 use Rattle.store_core.specs.Connection.{IsConnected, Kept, RestsOnTable, base_of, limits_of, state_of}
 use Rattle.store_core.specs.States.{Chain, Limits, State, served}
 use Rattle.store_core.specs.Stores.{IsStore}
-use Rattle.ask_session.specs.Runs.{IsRunImage, OpensToKept, last_state}
+use Rattle.ask_session.specs.Runs.{IsRunImage, OpensToKept, last_state, most_sequence}
 use Rattle.work_session.specs.declared.summary.Cost.{Cost}
 use Rattle.work_session.specs.declared.summary.Summary.{Summary}
 use Rattle.work_session.specs.Counts.{asked_in, calls_in, kept_of, ok_of, read_of, refused_of}
@@ -26,7 +27,7 @@ use Rattle.work_session.specs.Counts.{asked_in, calls_in, kept_of, ok_of, read_o
 
 -- Jobs were done one after another by a store, which is another then: the states after them are a chain of
 -- steps. What a crash may leave meanwhile was left in one of them, where the disk rested on the checkpoint's
--- table; it does so again.
+-- table; it does so again; and its sequence is at most the greatest that requests leave.
 pub record HasWorked (classes : ℕ) (old new : Kept) (jobs : List Request) (replies : List Reply)
     (states : List State) (before now : disk.State) : Type 0 where
   pub chain : IsTrue before.tells
@@ -41,6 +42,10 @@ pub record HasWorked (classes : ℕ) (old new : Kept) (jobs : List Request) (rep
   pub left : IsTrue before.tells → RestsOnTable (base_of old) old.kept before
       → Leaves before now (IsRunImage classes old.in_use.block.k (base_of old) (state_of old before.file)
       states)
+  pub reach : IsTrue before.tells
+      → new.in_use.sequence ≤ most_sequence old.in_use.block.k old.in_use.sequence
+  pub numbered : IsTrue before.tells → RestsOnTable (base_of old) old.kept before
+      → Leaves before now (HasSequenceUpTo (most_sequence old.in_use.block.k old.in_use.sequence))
   pub later : before.faults ≤ now.faults
   pub frame : KeepsDisk before now
 
@@ -123,7 +128,7 @@ pub record HasDone (classes : ℕ) (old : Kept) (jobs : List Request) (before no
         → now.may_leave image → OpensToKept classes (last_state (state_of old before.file) states) image
 
 -- The disk failed in a job, and those before it were done. What a crash may leave was left in a step of
--- those, or in the job that failed.
+-- those, or in the job that failed; and its sequence is at most the greatest that requests leave.
 pub record HasStopped (classes : ℕ) (old : Kept) (jobs : List Request)
     (before now : disk.State) : Type 0 where
   pub done : List Request
@@ -138,6 +143,8 @@ pub record HasStopped (classes : ℕ) (old : Kept) (jobs : List Request)
       → Leaves before now (λ image. IsRunImage classes old.in_use.block.k (base_of old)
       (state_of old before.file) states image ⊎ IsJobImage classes (base_of old) (limits_of old)
       (last_state (state_of old before.file) states) next image)
+  pub numbered : IsTrue before.tells → RestsOnTable (base_of old) old.kept before
+      → Leaves before now (HasSequenceUpTo (most_sequence old.in_use.block.k old.in_use.sequence))
   pub rose : Rose before.faults now.faults
   pub later : before.faults ≤ now.faults
   pub frame : KeepsDisk before now
