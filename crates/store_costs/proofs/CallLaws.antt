@@ -1,28 +1,25 @@
 -- The calls of a store are paid for, by what their contracts say.
-use Rattle.std.specs.Prelude.{◌≡◌, ◌↔◌, ℕ, Bool, true, false, Result, Ok, Err, IsErr, IsTrue, OnErr, OnOk, refl}
+use Rattle.std.specs.Prelude.{◌≡◌, ◌↔◌, ℕ, Bool, true, false, Result, Ok, Err, IsErr, OnErr, OnOk, refl}
 use Rattle.std.proofs.Common.{sym, subst}
 use Rattle.disk_face.specs.States as disk
 use Rattle.store_terms.specs.Requests.{Change}
 use Rattle.move_cost.specs.Costs.{IsCost}
 use Rattle.store_core.specs.declared.answers.Refusal.{Refusal}
 use Rattle.store_core.specs.declared.answers.Done.{Done}
-use Rattle.store_core.specs.Connection.{IsConnected, Kept}
+use Rattle.store_core.specs.Connection.{Kept}
 use Rattle.store_costs.specs.Calls.{GoesBack, IsCounted, IsSound, gone_back}
 use Rattle.store_costs.specs.Paid.{HasPaid, Pays}
 use Rattle.store_costs.proofs.ChangeLaws.{change_has_paid, change_pays, nothing_has_paid, nothing_pays, same_moves_nothing}
 use Rattle.store_costs.proofs.OtherLaws.{back_has_paid, back_pays}
 
 module _ {C : ℕ} {c : Change} {old new : Kept} {before now : disk.State} {result : Result Done Refusal}
-    (x : IsCounted C c old new before now result) (over : IsConnected C old before)
-    (told : IsTrue before.tells) (cost : ℕ → ℕ) where
+    (x : IsCounted C c old new before now result) (cost : ℕ → ℕ) where
   pub counted_pays : IsCost C cost → Pays C cost old new
-  counted_pays is =
-      change_pays c old new before now result x.call x.fine x.sound x.full x.counts cost is over told
+  counted_pays is = change_pays c old new before now result x.call x.fine x.sound x.full x.counts cost is
 
   pub counted_has_paid : (first : ℕ) → IsCost C cost → HasPaid C cost first old → HasPaid C cost first new
   counted_has_paid first is paid =
-      change_has_paid c old new before now result x.call x.fine x.sound x.full x.counts cost is over told
-      first paid
+      change_has_paid c old new before now result x.call x.fine x.sound x.full x.counts cost is first paid
 
 -- ---- going back, done or refused
 

@@ -1,5 +1,5 @@
 -- A put or a removal that doesn't answer that the disk failed is paid for.
-use Rattle.std.specs.Prelude.{◌≡◌, ℕ, ◌+◌, ◌*◌, ◌≤◌, ◌⊎◌, Bool, true, false, not, ◌||◌, ◌-◌, List, length, Option, Some, None, option_map, Result, Ok, IsNone, IsSome, IsTrue, OnOk, slice_index, refl}
+use Rattle.std.specs.Prelude.{◌≡◌, ℕ, ◌*◌, ◌⊎◌, true, false, not, ◌-◌, List, length, Option, Some, None, option_map, Result, Ok, IsNone, IsSome, OnOk, slice_index, refl}
 use Rattle.std.proofs.Common.{arith, sym, ◌∙◌, ap, subst, inl, inr}
 use Rattle.std.proofs.lemmas.Bool.{cases_Bool, cases_lt}
 use Rattle.std.proofs.lemmas.List.{get_or_past}
@@ -9,28 +9,25 @@ use Rattle.size_class.specs.Classes.{width}
 use Rattle.store_terms.specs.Requests as ask
 use Rattle.store_terms.specs.Requests.{Change}
 use Rattle.segment_layout.specs.Books.{Book, is_quiet}
-use Rattle.slot_codec.specs.declared.codec.SuperBlock.{SuperBlock}
-use Rattle.spot_terms.specs.Reads.{EndWithin}
+use Rattle.spot_terms.specs.Reads.{read_at}
 use Rattle.cost_laws.specs.Paid.{IsPaid}
 use Rattle.segment_layout.proofs.SumLaws.{sum_below_zero}
-use Rattle.move_cost.specs.Costs.{IsCost, factor, potential, rate, weigh}
+use Rattle.move_cost.specs.Costs.{IsCost, potential, rate, weigh}
 use Rattle.cost_laws.specs.Moves.{next_grid, rise}
 use Rattle.cost_laws.proofs.MoveLaws.{rise-index}
 use Rattle.store_core.specs.declared.answers.Refusal.{Refusal}
 use Rattle.store_core.specs.declared.answers.Done.{Done}
 use Rattle.store_core.specs.Answers.{AnswersChange, facts_at, is_disk_fault, refusal_for, refused_by}
 use Rattle.store_core.specs.Changes.{ChangesQuietly}
-use Rattle.store_core.specs.Connection.{IsConnected, IsOver, Kept, base_of, limits_of}
-use Rattle.store_core.specs.Flushes.{ChangesByFlush}
-use Rattle.store_core.specs.Keeps.{now_map}
+use Rattle.store_core.specs.Connection.{Kept, limits_of}
+use Rattle.store_core.specs.Flushes.{ChangesByFlush, IsFlush}
 use Rattle.store_core.specs.Quiet.{charges_of}
 use Rattle.store_core.specs.States.{refusal}
 use Rattle.store_core.specs.Stores.{IsStore}
 use Rattle.store_core.proofs.ReadingLaws.{whole_if_served}
-use Rattle.store_core.proofs.StoreLaws.{now_lies}
 use Rattle.store_costs.specs.Calls.{IsChange, IsSound}
 use Rattle.store_costs.specs.Paid.{HasOpenLedger, HasPaid, MovesNothing, Pays}
-use Rattle.store_costs.proofs.MadeLaws.{IsNext, flush_grid, flush_next, next_has_paid, next_paid, next_pays, quiet_divisor, quiet_grid, quiet_next}
+use Rattle.store_costs.proofs.MadeLaws.{IsNext, flush_divisor, flush_grid, flush_next, next_has_paid, next_pays, quiet_divisor, quiet_grid, quiet_next}
 use Rattle.store_costs.proofs.WeighedLaws.{in_zeros, zeros}
 
 -- ---- where nothing is moved
@@ -115,12 +112,9 @@ module _ {C : ℕ} (c : Change) (old new : Kept) (before now : disk.State) (resu
   quiet_value : is_quiet (charges_of old c) ≡ true → IsServed c old result → ChangesQuietly C c old new
   quiet_value quiet s = at_ok result s.done s.is_ok (call.quiet s.served quiet).value
 
-  flush_value : is_quiet (charges_of old c) ≡ false → IsServed c old result → ChangesByFlush c old new
-  flush_value loud s = at_ok result s.done s.is_ok (call.flush s.served loud).value
-
   module _ (sound : IsSound C old) (full : length old.asked ≡ width) (low : HasOpenLedger new) (cost : ℕ → ℕ)
       (is : IsCost C cost) where
-    -- ---- a quiet change, on any disk
+    -- ---- a quiet change
 
     quiet_served : is_quiet (charges_of old c) ≡ true → IsServed c old result → Pays C cost old new
     quiet_served quiet s =
@@ -130,15 +124,9 @@ module _ {C : ℕ} (c : Change) (old new : Kept) (before now : disk.State) (resu
         (quiet_next old h 0 (zeros old h) (in_zeros old h) c new quiet v full low) cost is
         (quiet_grid old h 0 (zeros old h) (in_zeros old h) c new quiet v)
 
-    pub quiet_pays : is_quiet (charges_of old c) ≡ true → Pays C cost old new
-    quiet_pays quiet = elim refused_or_served [
-      | inl same ↦ nothing_pays C cost old new (same_moves_nothing old new same)
-      | inr s ↦ quiet_served quiet s
-    ]
-
-    quiet_session : is_quiet (charges_of old c) ≡ true → (first : ℕ) → HasPaid C cost first old
-        → IsServed c old result → HasPaid C cost first new
-    quiet_session quiet first paid s =
+    quiet_session : is_quiet (charges_of old c) ≡ true → IsServed c old result → (first : ℕ)
+        → HasPaid C cost first old → HasPaid C cost first new
+    quiet_session quiet s first paid =
         let h = sound s.whole in
         let v = quiet_value quiet s in
         next_has_paid old h 0 (zeros old h) (in_zeros old h) c new
@@ -146,83 +134,48 @@ module _ {C : ℕ} (c : Change) (old new : Kept) (before now : disk.State) (resu
         (quiet_grid old h 0 (zeros old h) (in_zeros old h) c new quiet v)
         (quiet_divisor old h 0 (zeros old h) (in_zeros old h) c new quiet v) paid
 
-    pub quiet_has_paid : is_quiet (charges_of old c) ≡ true → (first : ℕ) → HasPaid C cost first old
-        → HasPaid C cost first new
-    quiet_has_paid quiet first paid = elim refused_or_served [
-      | inl same ↦ nothing_has_paid C cost first old new (same_moves_nothing old new same) paid
-      | inr s ↦ quiet_session quiet first paid s
-    ]
+    -- ---- a flush, by the map that a file of zeros gives where the objects stand
 
-    -- ---- a flush, on any disk: what it moves is paid for by what is asked and by the potential before
-
-    abbrev MovesPay : Type 0
-    MovesPay = weigh C cost (rise old.moved new.moved)
-        ≤ factor old.in_use.block.k * weigh C cost (rise old.asked new.asked)
-        + potential C cost old.in_use.block.k old.book.grid
-
-    flush_served : is_quiet (charges_of old c) ≡ false → IsServed c old result → MovesPay
-    flush_served loud s =
-        let h = sound s.whole in
-        let v = flush_value loud s in
-        let n = flush_next old h 0 (zeros old h) (in_zeros old h) c new loud before now result
-        (call.flush s.served loud) v full low in
-        omega (arith, next_paid old h 0 (zeros old h) (in_zeros old h) c new n cost is)
-
-    pub any_pays : MovesPay
-    any_pays = elim (cases_Bool (is_quiet (charges_of old c))) as (λ _. MovesPay) [
-      | inl quiet ↦ omega (arith, quiet_pays quiet)
-      | inr loud ↦ elim refused_or_served as (λ _. MovesPay) [
-        | inl same ↦ omega (arith, nothing_pays C cost old new (same_moves_nothing old new same))
-        | inr s ↦ flush_served loud s
-      ]
-    ]
-
-    -- ---- a flush, on a disk that tells
-
-    module _ (over : IsConnected C old before) (told : IsTrue before.tells)
-        (loud : is_quiet (charges_of old c) ≡ false) (s : IsServed c old result) where
+    module _ (loud : is_quiet (charges_of old c) ≡ false) (s : IsServed c old result) where
       abbrev h : IsStore C old
       h = sound s.whole
 
-      within : EndWithin (base_of old) before.file old.now
-      within = now_lies old before.file h (over s.whole told)
+      f : IsFlush C c old new before now result
+      f = call.flush s.served loud
 
-      n : IsNext (now_map old before.file) c old new
-      n = flush_next old h (base_of old) before.file within c new loud before now result
-          (call.flush s.served loud) (flush_value loud s) full low
+      v : ChangesByFlush c old new
+      v = at_ok result s.done s.is_ok f.value
 
-      now_over : IsOver C new now.file
-      now_over = call.over (call.broken ∙ (λ i. s.whole i || fine i))
-          (subst (λ (b : Bool). IsTrue b) (sym (call.flush s.served loud).frame.stays.told) told)
+      n : IsNext (read_at 0 (zeros old h) old.now) c old new
+      n = flush_next old h 0 (zeros old h) (in_zeros old h) c new loud before now result f v full low
 
-      grid : new.book.grid ≡ next_grid old.in_use.block.k (now_map old before.file) old.book c
-      grid = flush_grid old new c before now (flush_value loud s)
-          (at_ok result s.done s.is_ok ((call.flush s.served loud).opened told)) now_over
+      grid : new.book.grid ≡ next_grid old.in_use.block.k (read_at 0 (zeros old h) old.now) old.book c
+      grid = flush_grid old h 0 (zeros old h) (in_zeros old h) c new loud before now result f v
 
-      told_pays : Pays C cost old new
-      told_pays = next_pays old h (base_of old) before.file within c new n cost is grid
+      flush_served : Pays C cost old new
+      flush_served = next_pays old h 0 (zeros old h) (in_zeros old h) c new n cost is grid
 
-      told_session : (first : ℕ) → HasPaid C cost first old → HasPaid C cost first new
-      told_session first paid =
-          next_has_paid old h (base_of old) before.file within c new n cost is first grid
-          (ap (λ (b : SuperBlock). b.k) (flush_value loud s).same_block) paid
+      flush_session : (first : ℕ) → HasPaid C cost first old → HasPaid C cost first new
+      flush_session first paid =
+          next_has_paid old h 0 (zeros old h) (in_zeros old h) c new n cost is first grid
+          (flush_divisor old h 0 (zeros old h) (in_zeros old h) c new loud before now result f v) paid
 
-    pub change_pays : IsConnected C old before → IsTrue before.tells → Pays C cost old new
-    change_pays over told = elim (cases_Bool (is_quiet (charges_of old c))) as (λ _. Pays C cost old new) [
-      | inl quiet ↦ quiet_pays quiet
-      | inr loud ↦ elim refused_or_served as (λ _. Pays C cost old new) [
-        | inl same ↦ nothing_pays C cost old new (same_moves_nothing old new same)
-        | inr s ↦ told_pays over told loud s
+    -- ---- each change
+
+    pub change_pays : Pays C cost old new
+    change_pays = elim refused_or_served as (λ _. Pays C cost old new) [
+      | inl same ↦ nothing_pays C cost old new (same_moves_nothing old new same)
+      | inr s ↦ elim (cases_Bool (is_quiet (charges_of old c))) as (λ _. Pays C cost old new) [
+        | inl quiet ↦ quiet_served quiet s
+        | inr loud ↦ flush_served loud s
       ]
     ]
 
-    pub change_has_paid : IsConnected C old before → IsTrue before.tells → (first : ℕ)
-        → HasPaid C cost first old → HasPaid C cost first new
-    change_has_paid over told first paid =
-        elim (cases_Bool (is_quiet (charges_of old c))) as (λ _. HasPaid C cost first new) [
-          | inl quiet ↦ quiet_has_paid quiet first paid
-          | inr loud ↦ elim refused_or_served as (λ _. HasPaid C cost first new) [
-            | inl same ↦ nothing_has_paid C cost first old new (same_moves_nothing old new same) paid
-            | inr s ↦ told_session over told loud s first paid
-          ]
-        ]
+    pub change_has_paid : (first : ℕ) → HasPaid C cost first old → HasPaid C cost first new
+    change_has_paid first paid = elim refused_or_served as (λ _. HasPaid C cost first new) [
+      | inl same ↦ nothing_has_paid C cost first old new (same_moves_nothing old new same) paid
+      | inr s ↦ elim (cases_Bool (is_quiet (charges_of old c))) as (λ _. HasPaid C cost first new) [
+        | inl quiet ↦ quiet_session quiet s first paid
+        | inr loud ↦ flush_session loud s first paid
+      ]
+    ]

@@ -1,12 +1,11 @@
--- What a change that was made moves is paid for: a quiet one on any disk, and a flush by the book that it
--- leads to.
+-- What a change that was made moves is paid for, on any disk, by the book that it leads to.
 use Rattle.std.specs.Prelude.{◌≡◌, ℕ, true, false, List, ◌++◌, length, Result, Ok, slice_index}
 use Rattle.std.proofs.Common.{arith, sym, ◌∙◌, ap, subst}
 use Rattle.std.specs.FinMap as fin
 use Rattle.disk_face.specs.States as disk
 use Rattle.size_class.specs.Classes.{width}
-use Rattle.size_class.specs.declared.TheConstants.{SIZE_MAX}
 use Rattle.slot_codec.specs.Choice as choice
+use Rattle.slot_codec.specs.declared.codec.SuperBlock.{SuperBlock}
 use Rattle.store_terms.specs.Maps.{Map}
 use Rattle.store_terms.specs.Requests.{Change, changed}
 use Rattle.segment_layout.specs.Books.{Book, Charged, is_quiet, new_item, next_book, trigger}
@@ -23,9 +22,8 @@ use Rattle.flush_run.specs.Calls.{IsOpenRow}
 use Rattle.store_core.specs.declared.answers.Refusal.{Refusal}
 use Rattle.store_core.specs.declared.answers.Done.{Done}
 use Rattle.store_core.specs.Changes.{ChangesQuietly}
-use Rattle.store_core.specs.Connection.{IsOver, Kept, kept_map}
-use Rattle.store_core.specs.Flushes.{ChangesByFlush, IsFlush, book_after, map_after}
-use Rattle.store_core.specs.Keeps.{now_map}
+use Rattle.store_core.specs.Connection.{Kept}
+use Rattle.store_core.specs.Flushes.{ChangesByFlush, IsFlush}
 use Rattle.store_core.specs.Quiet.{asked_after, charges_of, sizes_at}
 use Rattle.store_core.specs.Stores.{IsStore}
 use Rattle.store_costs.specs.Paid.{HasOpenLedger, HasPaid, Pays}
@@ -115,6 +113,12 @@ module _ {C : ℕ} (old : Kept) (h : IsStore C old) (base : ℕ) (file : List �
           full = as_long new v.asked;
         }
 
+    pub flush_grid : new.book.grid ≡ next_grid k m old.book c
+    flush_grid = ap (λ (b : Book). b.grid) (v.book m (sized_now old h base file within))
+
+    pub flush_divisor : new.in_use.block.k ≡ k
+    flush_divisor = ap (λ (b : SuperBlock). b.k) v.same_block
+
   -- ---- what is paid for
 
   module _ (new : Kept) (n : IsNext m c old new) (cost : ℕ → ℕ) (is : IsCost C cost) where
@@ -141,14 +145,3 @@ module _ {C : ℕ} (old : Kept) (h : IsStore C old) (base : ℕ) (file : List �
           subst (λ (n : ℕ). IsPaid C n cost first new.moved new.asked new.book.grid) (sym divisor)
           (subst (IsPaid C k cost first new.moved new.asked) (sym grid) next);
     }
-
--- ---- the book after a flush on a disk that tells
-
-pub flush_grid : {C : ℕ} (old new : Kept) (c : Change) (before now : disk.State) → ChangesByFlush c old new
-    → Opens C SIZE_MAX now.file (map_after old c before.file) (book_after old c before.file)
-    → IsOver C new now.file
-    → new.book.grid ≡ next_grid old.in_use.block.k (now_map old before.file) old.book c
-flush_grid {C} old new c before now v opens over =
-    let saved : Opens C SIZE_MAX now.file (kept_map new now.file) new.kept_book =
-    record { table = over.table; opens = over.checkpoint.opens } in
-    ap (λ (b : Book). b.grid) (sym v.kept_book ∙ one_book saved opens)

@@ -92,7 +92,7 @@ module _ {D : Type 0} (state : D → disk.State) (C : ℕ) (cost : ℕ → ℕ) 
       → HasPaid C cost first new
   call_has_paid first old new call paid = elim call as (λ _. HasPaid C cost first new) [
     | inl x ↦ change_has_paid x.c old new (state x.before) (state x.now) x.result x.counted.call
-        x.counted.fine x.counted.sound x.counted.full x.counted.counts cost is x.over x.told first paid
+        x.counted.fine x.counted.sound x.counted.full x.counted.counts cost is first paid
     | inr others ↦ elim others as (λ _. HasPaid C cost first new) [
       | inl x ↦ nothing_has_paid C cost first old new
           (keep_moves_nothing old new (state x.before) (state x.now) x.result x.call) paid

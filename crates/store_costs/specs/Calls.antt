@@ -1,5 +1,5 @@
 -- What the contracts of the calls that change a store say of it and of the disk, before and after.
-use Rattle.std.specs.Prelude.{◌≡◌, ◌⊎◌, ℕ, true, false, ◌||◌, List, [], ◌∷◌, length, Result, IsNone, IsSome, IsTrue}
+use Rattle.std.specs.Prelude.{◌≡◌, ◌⊎◌, ℕ, true, false, ◌||◌, List, [], ◌∷◌, length, Result, IsNone, IsSome}
 use Rattle.disk_face.specs.States as disk
 use Rattle.size_class.specs.Classes.{width}
 use Rattle.store_terms.specs.Requests as ask
@@ -55,15 +55,13 @@ gone_back s = record s { now = s.kept; book = s.kept_book }
 
 -- ---- sessions, of a store with disks that each have a state
 
--- a put or a removal, over a file that the disk tells
+-- a put or a removal, on any disk
 pub record Changes {D : Type 0} (state : D → disk.State) (classes : ℕ) (old new : Kept) : Type 0 where
   pub c : Change
   pub before : D
   pub now : D
   pub result : Result Done Refusal
   pub counted : IsCounted classes c old new (state before) (state now) result
-  pub over : IsConnected classes old (state before)
-  pub told : IsTrue (state before).tells
 
 -- a keep
 pub record Keeps {D : Type 0} (state : D → disk.State) (classes : ℕ) (old new : Kept) : Type 0 where

@@ -26,10 +26,10 @@ pub fn paid_put<const C: usize, D: Disk>(
         → IsCounted C (put_of name.now bytes.now) store.old store.new (D.state disk.old)
         (D.state disk.new) result }
     ensures paid { is_disk_fault result ≡ false → HasOpenLedger store.new
-        → IsTrue (D.state disk.old).tells → (cost : ℕ → ℕ) → IsCost C cost
+        → (cost : ℕ → ℕ) → IsCost C cost
         → Pays C cost store.old store.new }
     ensures session { is_disk_fault result ≡ false → HasOpenLedger store.new
-        → IsTrue (D.state disk.old).tells → (cost : ℕ → ℕ) (first : ℕ) → IsCost C cost
+        → (cost : ℕ → ℕ) (first : ℕ) → IsCost C cost
         → HasPaid C cost first store.old → HasPaid C cost first store.new }
 {
     is_known(store);
@@ -49,10 +49,10 @@ pub fn paid_del<const C: usize, D: Disk>(
     ensures counted { is_disk_fault result ≡ false → HasOpenLedger store.new
         → IsCounted C (del_of name.now) store.old store.new (D.state disk.old) (D.state disk.new) result }
     ensures paid { is_disk_fault result ≡ false → HasOpenLedger store.new
-        → IsTrue (D.state disk.old).tells → (cost : ℕ → ℕ) → IsCost C cost
+        → (cost : ℕ → ℕ) → IsCost C cost
         → Pays C cost store.old store.new }
     ensures session { is_disk_fault result ≡ false → HasOpenLedger store.new
-        → IsTrue (D.state disk.old).tells → (cost : ℕ → ℕ) (first : ℕ) → IsCost C cost
+        → (cost : ℕ → ℕ) (first : ℕ) → IsCost C cost
         → HasPaid C cost first store.old → HasPaid C cost first store.new }
 {
     is_known(store);

@@ -1,21 +1,18 @@
 //! What the calls of a store move is paid for, as contracts of functions that do nothing.
-ghost use Rattle.std.specs.Prelude.{◌≡◌, ℕ, ◌+◌, ◌*◌, ◌^◌, ◌≤◌, true, List, Result, IsSome, IsTrue};
+ghost use Rattle.std.specs.Prelude.{◌≡◌, ℕ, ◌+◌, ◌*◌, ◌^◌, ◌≤◌, List, Result, IsSome};
 ghost use Rattle.store_terms.specs.Requests as ask;
 ghost use Rattle.store_terms.specs.Requests.{Change};
-ghost use Rattle.segment_layout.specs.Books.{is_quiet};
 ghost use Rattle.slot_pair.specs.Formats.{HasFirstTable};
 ghost use Rattle.move_cost.specs.Costs.{IsCost, factor, potential, weigh};
 ghost use Rattle.cost_laws.specs.Cells.{NoCellFalls};
-ghost use Rattle.cost_laws.specs.Moves.{rise};
 ghost use Rattle.cost_laws.specs.Paid.{IsWeighed};
 ghost use Rattle.cost_laws.specs.Sessions.{IsPaidFor};
 ghost use Rattle.store_core.specs.declared.answers.Refusal.{Refusal};
 ghost use Rattle.store_core.specs.declared.answers.Done.{Done};
 ghost use Rattle.store_core.specs.Answers.{refused_by};
-ghost use Rattle.store_core.specs.Connection.{IsConnected, IsOver, Kept, kept_map};
+ghost use Rattle.store_core.specs.Connection.{IsOver, Kept, kept_map};
 ghost use Rattle.store_core.specs.Keeps.{now_map};
 ghost use Rattle.store_core.specs.Opened.{IsFresh, IsOpened};
-ghost use Rattle.store_core.specs.Quiet.{charges_of};
 ghost use Rattle.store_core.specs.Stores.{IsStore};
 ghost use Rattle.store_costs.specs.Calls.{IsCall, IsChange, IsCounted, IsKeep, Session, gone_back};
 ghost use Rattle.store_costs.specs.Paid.{HasPaid, MovesNothing, Pays};
@@ -32,23 +29,12 @@ pub fn a_store_is_weighed()
     ensures rises { (C : ℕ) (s : Kept) → IsStore C s → NoCellFalls s.kept_book.grid s.book.grid }
 {}
 
-/// What a put or a removal moves is paid for by what it asks for and by what the potential falls, unless
-/// it answers that the disk failed: a quiet one on any disk, and each on a disk that tells its content.
-/// On any disk what it moves is paid for by what it asks for and by the potential before.
+/// What a put or a removal moves is paid for by what it asks for and by what the potential falls, on any
+/// disk, unless it answers that the disk failed.
 pub fn a_put_is_paid_for<D: Disk>()
-    ensures told { (C : ℕ) (cost : ℕ → ℕ) (c : Change) (old new : Kept) (before now : D)
+    ensures paid { (C : ℕ) (cost : ℕ → ℕ) (c : Change) (old new : Kept) (before now : D)
         (result : Result Done Refusal) → IsCost C cost
-        → IsCounted C c old new (D.state before) (D.state now) result
-        → IsConnected C old (D.state before) → IsTrue (D.state before).tells → Pays C cost old new }
-    ensures quiet { (C : ℕ) (cost : ℕ → ℕ) (c : Change) (old new : Kept) (before now : D)
-        (result : Result Done Refusal) → IsCost C cost
-        → IsCounted C c old new (D.state before) (D.state now) result
-        → is_quiet (charges_of old c) ≡ true → Pays C cost old new }
-    ensures any { (C : ℕ) (cost : ℕ → ℕ) (c : Change) (old new : Kept) (before now : D)
-        (result : Result Done Refusal) → IsCost C cost
-        → IsCounted C c old new (D.state before) (D.state now) result
-        → weigh C cost (rise old.moved new.moved) ≤ factor old.in_use.block.k
-        * weigh C cost (rise old.asked new.asked) + potential C cost old.in_use.block.k old.book.grid }
+        → IsCounted C c old new (D.state before) (D.state now) result → Pays C cost old new }
 {}
 
 /// A keep moves nothing and asks for nothing, and the book stays, whether the disk fails or not; so it is
@@ -77,10 +63,6 @@ pub fn a_session_of_a_store_is_paid_for<D: Disk>()
         → HasFirstTable k names file → IsFresh C s → IsOpened C file now s → HasPaid C cost 0 s }
     ensures call { (C : ℕ) (cost : ℕ → ℕ) (first : ℕ) (old new : Kept) → IsCost C cost
         → IsCall D.state C old new → HasPaid C cost first old → HasPaid C cost first new }
-    ensures quiet { (C : ℕ) (cost : ℕ → ℕ) (first : ℕ) (c : Change) (old new : Kept) (before now : D)
-        (result : Result Done Refusal) → IsCost C cost
-        → IsCounted C c old new (D.state before) (D.state now) result
-        → is_quiet (charges_of old c) ≡ true → HasPaid C cost first old → HasPaid C cost first new }
     ensures session { (C : ℕ) (cost : ℕ → ℕ) (s : Kept) (between : List Kept) (t : Kept) → IsCost C cost
         → IsFresh C s → Session D.state C s between t
         → HasPaid C cost (potential C cost s.in_use.block.k s.book.grid) t }

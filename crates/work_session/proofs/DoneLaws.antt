@@ -228,9 +228,8 @@ module _ {classes : ℕ} (s new : Kept) (c : Change) (a d : disk.State) (done : 
 
   paid : HasOpenLedger new → (cost : ℕ → ℕ) (first : ℕ) → IsCost classes cost → HasPaid classes cost first s
       → HasPaid classes cost first new
-  paid low cost first is was = change_has_paid c s new a d (Ok done) x refl
-      (λ whole. h.sound) full low cost is
-      (λ whole told. h.over told) told first was
+  paid low cost first is was =
+      change_has_paid c s new a d (Ok done) x refl (λ whole. h.sound) full low cost is first was
 
   quiet_charges : is_quiet (charges_of s c) ≡ true → Charges classes (ask.change c) s new a d
   quiet_charges quiet =

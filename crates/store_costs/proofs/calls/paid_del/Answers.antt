@@ -21,9 +21,8 @@ returns-clause-counted g c fine low = record {
 }
 
 pub returns-clause-paid : goal.returns-clause-paid
-returns-clause-paid g c fine low told cost is =
-    counted_pays (returns-clause-counted g c fine low) c.requires.over told cost is
+returns-clause-paid g c fine low cost is = counted_pays (returns-clause-counted g c fine low) cost is
 
 pub returns-clause-session : goal.returns-clause-session
-returns-clause-session g c fine low told cost first is paid =
-    counted_has_paid (returns-clause-counted g c fine low) c.requires.over told cost first is paid
+returns-clause-session g c fine low cost first is paid =
+    counted_has_paid (returns-clause-counted g c fine low) cost first is paid

@@ -1,4 +1,3 @@
-use Rattle.store_costs.proofs.ChangeLaws.{quiet_has_paid}
 use Rattle.store_costs.proofs.SessionLaws.{both_books_paid, call_has_paid, formatted_has_paid, formatted_pays, in_all, opened_again, opened_has_paid, session_pays, sessions_add}
 use Rattle.store_costs.proofs.laws.a_session_of_a_store_is_paid_for.Goals as goal
 
@@ -10,11 +9,6 @@ returns-clause-new g c = formatted_has_paid
 
 pub returns-clause-call : goal.returns-clause-call
 returns-clause-call g c C cost first old new is = call_has_paid g.D.Disk.state C cost is first old new
-
-pub returns-clause-quiet : goal.returns-clause-quiet
-returns-clause-quiet g c C cost first change old new before now result is x quiet =
-    quiet_has_paid change old new (g.D.Disk.state before) (g.D.Disk.state now) result x.call x.fine
-    x.sound x.full x.counts cost is quiet first
 
 pub returns-clause-session : goal.returns-clause-session
 returns-clause-session g c C cost s between t is = session_pays g.D.Disk.state C cost is s between t
