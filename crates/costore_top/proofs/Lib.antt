@@ -27,3 +27,4 @@ mod WorkLaws
 mod DoingLemmas
 mod DidLaws
 mod WorkingLaws
+mod FollowingLaws

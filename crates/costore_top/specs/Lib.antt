@@ -7,6 +7,7 @@ pub mod Faults
 pub mod Outcomes
 pub mod Layers
 pub mod Commands
+pub mod Following
 pub mod Headline
 pub mod Sessions
 pub mod Working

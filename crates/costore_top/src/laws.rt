@@ -1,7 +1,8 @@
 //! What holds of the answers, as contracts of functions that do nothing.
-ghost use Rattle.std.specs.Prelude.{◌≡◌, ◌⊎◌, ◌++◌, ◌<◌, [], List, ℕ, Ok, Option, Result, codes, length};
+ghost use Rattle.std.specs.Prelude.{◌≡◌, ◌⊎◌, ◌+◌, ◌++◌, ◌<◌, ◌^◌, [], List, ℕ, Ok, Option, Result, codes, length, max};
 ghost use Rattle.std.specs.FinMap as fin;
-ghost use Rattle.disk_face.specs.Counts.{IsCalm};
+ghost use Rattle.disk_face.specs.Counts.{IsCalm, last};
+ghost use Rattle.disk_face.specs.Moments.{LeftOnly, Only};
 ghost use Rattle.disk_face.specs.Streams.{SinkState};
 ghost use Rattle.disk_face.specs.declared.bay.Mounted.TheVariants.{There};
 ghost use Rattle.slot_codec.specs.Choice as choice;
@@ -11,11 +12,13 @@ ghost use Rattle.store_terms.specs.Maps.{Map, volume};
 ghost use Rattle.store_terms.specs.Requests.{Request};
 ghost use Rattle.table_rules.specs.Opening.{Opens, OpensBy};
 ghost use Rattle.table_rules.specs.Tables.{size_sum};
+ghost use Rattle.store_core.specs.Opened.{RestsOnFound, most_found};
 ghost use Rattle.ask_text.specs.Inputs.{Asks};
 ghost use Rattle.ask_session.specs.Runs.{budget};
 ghost use Rattle.costore_top.specs.Commands.{IsMounted};
 ghost use Rattle.costore_top.specs.Getting.{or_missing};
-ghost use Rattle.costore_top.specs.Headline.{RunsFrom};
+ghost use Rattle.costore_top.specs.Following.{LeavesRoomTwice, MayBegin};
+ghost use Rattle.costore_top.specs.Headline.{RunsFrom, most_left};
 ghost use Rattle.costore_top.specs.Outcomes.{Ends, IsAnswer, mounted, status_at};
 ghost use Rattle.costore_top.specs.Sessions.{ServesSo};
 ghost use Rattle.costore_top.specs.Summaries.{eleven_jobs, summary_text};
@@ -115,4 +118,26 @@ pub fn requests_are_served<B: Bay, I: Source, O: Sink>()
         → IsCalm (I.state from).faults (I.state rest).faults
         → IsCalm (O.state out).faults (O.state after).faults
         → ((o.status ≡ 0) × (o.done ≡ length requests)) ⊎ ((o.status ≡ 10) × (o.done ≡ 0)) }
+{}
+
+/// What a crash leaves at any moment of `run` or `work` may be the start of another call: it opens, by a table
+/// whose sequence leaves room for the saves of an opening, and a disk that has it and is left alone rests on
+/// that table. The sequence is below the limit that requests keep, or an opening raised it by fewer than 2^18.
+/// So a call may follow each crash while the sequence found leaves room twice.
+pub fn a_crash_may_be_followed_by_a_call<B: Bay, I: Source, O: Sink>()
+    ensures run { (t : choice.Table) (m : Map) (b : Book) (requests : List Request) (end : List ℕ) (o : Outcome)
+        (old new : B) (from rest : I) (out after : O) → OpensBy CLASSES SIZE_MAX t (B.state old).file m b
+        → Asks (I.state from).left requests end
+        → RunsFrom o (B.state old) (B.state new) (I.state from) (I.state rest) (O.state out) (O.state after)
+        → LeavesRoomTwice t → RestsOnFound t (B.state old) → (B.state new).turn < last
+        → LeftOnly (B.state new) (B.state old).turn (MayBegin (most_left t.chosen.block.k t)) }
+    ensures work { (t : choice.Table) (m : Map) (b : Book) (number count status : ℕ) (old new : B)
+        (out after : O) → OpensBy CLASSES SIZE_MAX t (B.state old).file m b
+        → WorksFrom number count status (B.state old) (B.state new) (O.state out) (O.state after)
+        → LeavesRoomTwice t → RestsOnFound t (B.state old) → (B.state new).turn < last
+        → LeftOnly (B.state new) (B.state old).turn (MayBegin (most_left t.chosen.block.k t)) }
+    ensures low { (t : choice.Table) (file : List ℕ) (m : Map) (b : Book) → OpensBy CLASSES SIZE_MAX t file m b
+        → most_left t.chosen.block.k t < max (most_found t + 1) (2 ^ 61 + 130) }
+    ensures rests { (t : choice.Table) (d : B) → Only (B.state d).file (B.state d).may_leave
+        → RestsOnFound t (B.state d) }
 {}

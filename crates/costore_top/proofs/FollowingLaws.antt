@@ -1,0 +1,138 @@
+-- Each image that a call leaves may be the start of another call.
+use Rattle.std.specs.Prelude.{◌≡◌, ◌⊎◌, ℕ, ◌+◌, ◌-◌, ◌*◌, ◌^◌, ◌<◌, ◌≤◌, max, List, [], ◌∷◌, Ok}
+use Rattle.std.proofs.Common.{arith, ap, sym, subst, inl, inr}
+use Rattle.std.proofs.Math.Nat.{le-max_left, le-max_right, max-le}
+use Rattle.byte_ranges.specs.Ranges.{bytes_at}
+use Rattle.disk_face.specs.Counts.{last}
+use Rattle.disk_face.specs.Moments.{LeftOnly, Only}
+use Rattle.disk_face.specs.States.{State}
+use Rattle.disk_face.specs.Streams.{SinkState, SourceState}
+use Rattle.size_class.specs.declared.TheConstants.{CLASSES, SIZE_MAX}
+use Rattle.slot_codec.specs.Choice as choice
+use Rattle.slot_codec.specs.Spelling.{superblock_len}
+use Rattle.slot_codec.specs.declared.codec.Kind.{Kind}
+use Rattle.slot_codec.specs.declared.codec.Kind.TheVariants as kind
+use Rattle.slot_codec.specs.declared.codec.SuperBlock.{SuperBlock}
+use Rattle.slot_codec.proofs.ChoiceLaws.{chosen_parts, table_chosen}
+use Rattle.slot_codec.proofs.PickLaws.{in_use_parts}
+use Rattle.slot_codec.proofs.SuperBlockLaws.{superblock_parts}
+use Rattle.store_terms.specs.Maps.{Map}
+use Rattle.store_terms.specs.Requests.{Reply, Request}
+use Rattle.segment_layout.specs.Books.{Book}
+use Rattle.table_rules.specs.Opening.{Opens, OpensBy}
+use Rattle.table_rules.specs.Sequences.{HasSequenceUpTo}
+use Rattle.store_core.specs.Opened.{LeavesRoom, RestsOnFound, RoomOf, SameOnFound, most_by, most_found}
+use Rattle.store_core.specs.States as store
+use Rattle.store_core.proofs.OpeningLaws.{alike_itself}
+use Rattle.costore_top.specs.declared.top.Outcome.{Outcome}
+use Rattle.costore_top.specs.Following.{LeavesRoomTwice, MayBegin}
+use Rattle.costore_top.specs.Headline.{OpensToBeing, OpensToKept, RunsAs, most_left}
+use Rattle.costore_top.specs.Working.{WorksAs}
+
+-- ---- numbers
+
+-- a superblock that is read has a divisor of at most 64
+block_high : (file : List ℕ) (t : choice.Table) → choice.table_of file ≡ Ok t → t.chosen.block.k ≤ 64
+block_high file t read =
+    let p = chosen_parts file t.chosen (table_chosen file t read).0 in
+    let q = in_use_parts file p.in_use p.slot_read in
+    omega (
+      arith,
+      (superblock_parts (bytes_at file 0 superblock_len) p.in_use.block q.block).fits.divisor_high,
+      ap (λ (u : SuperBlock). u.k) p.same_block,
+    )
+
+room_by : (k : Kind) (q : ℕ) → q + 2 ^ 19 ≤ 2 ^ 62 → RoomOf k q
+room_by kind.Settled q low = tt
+room_by kind.Moving q low = low
+
+found_by : (k : Kind) (q : ℕ) → q ≤ most_by k q
+found_by kind.Settled q = omega arith
+found_by kind.Moving q = omega arith
+
+-- what leaves room twice leaves room
+room_once : (t : choice.Table) → LeavesRoomTwice t → LeavesRoom t
+room_once t twice = room_by t.chosen.header.kind t.chosen.header.sequence
+    (omega (arith, twice, found_by t.chosen.header.kind t.chosen.header.sequence))
+
+most_low : (t : choice.Table) → t.chosen.block.k ≤ 64 → LeavesRoomTwice t
+    → most_left t.chosen.block.k t ≤ 2 ^ 62 - 2 ^ 19
+most_low t high twice = max-le (omega (arith, twice)) (omega (arith, high))
+
+pub below_the_limit : (t : choice.Table) (file : List ℕ) (m : Map) (b : Book)
+    → OpensBy CLASSES SIZE_MAX t file m b
+    → most_left t.chosen.block.k t < max (most_found t + 1) (2 ^ 61 + 130)
+below_the_limit t file m b o =
+    let top = max (most_found t + 1) (2 ^ 61 + 130) in
+    let first : most_found t + 1 ≤ top = le-max_left (most_found t + 1) (2 ^ 61 + 130) in
+    let second : 2 ^ 61 + 130 ≤ top = le-max_right (most_found t + 1) (2 ^ 61 + 130) in
+    let k = t.chosen.block.k in
+    let high = block_high file t o.read in
+    let within : most_left k t ≤ top - 1 = max-le (omega (arith, first)) (omega (arith, second, high)) in
+    omega (arith, within, second)
+
+-- ---- images
+
+-- a disk that a crash leaves alone rests on each table
+pub rests_alone : (t : choice.Table) (d : State) → Only d.file d.may_leave → RestsOnFound t d
+rests_alone t d only image left = subst (SameOnFound t d.file) (sym (only image left)) (alike_itself t d.file)
+
+-- an image opens, to some map and some book
+abbrev IsOpen : List ℕ → Type 0
+IsOpen image = (m : Map) × (b : Book) × Opens CLASSES SIZE_MAX image m b
+
+kept_opens : (start : store.State) (replies : List Reply) (states : List store.State) (image : List ℕ)
+    → OpensToKept start replies states image → IsOpen image
+kept_opens start replies states image (inl is) = (_, _, is)
+kept_opens start replies states image (inr is) = (_, _, is.2)
+
+being_opens : (status : ℕ) (limits : store.Limits) (s : store.State) (others : List Request) (image : List ℕ)
+    → OpensToBeing status limits s others image → IsOpen image
+being_opens status limits s [] image is = absurd (is.1)
+being_opens status limits s (r ∷ others) image is = (_, _, is.1.1)
+
+begins : (t : choice.Table) → t.chosen.block.k ≤ 64 → LeavesRoomTwice t → (image : List ℕ)
+    → HasSequenceUpTo (most_left t.chosen.block.k t) image → IsOpen image
+    → MayBegin (most_left t.chosen.block.k t) image
+begins t high twice image up is =
+    let x = is.2 in
+    let low = up x.table x.opens.read in
+    record {
+      table = x.table;
+      m = is.0;
+      b = is.1;
+      opens = x.opens;
+      low = low;
+      room = room_by x.table.chosen.header.kind x.table.chosen.header.sequence
+          (omega (arith, low, most_low t high twice));
+    }
+
+-- ---- calls
+
+module _ {t : choice.Table} {m : Map} {b : Book} {old z : State} {out after : SinkState}
+    (o : OpensBy CLASSES SIZE_MAX t old.file m b) (twice : LeavesRoomTwice t) (rests : RestsOnFound t old)
+    (below : z.turn < last) where
+  high : t.chosen.block.k ≤ 64
+  high = block_high old.file t o.read
+
+  pub run_followed : {requests : List Request} {end : List ℕ} {x : Outcome} {from rest : SourceState}
+      → RunsAs t.chosen.block t m b requests end x old z from rest out after
+      → LeftOnly z old.turn (MayBegin (most_left t.chosen.block.k t))
+  run_followed r image since =
+      let room = room_once t twice in
+      begins t high twice image (r.numbered room rests below image since)
+      (elim ((r.crash room rests below).crash image since) as (λ _. IsOpen image) [
+        | inl kept ↦ kept_opens _ _ _ image kept
+        | inr being ↦ being_opens _ _ _ _ image being
+      ])
+
+  pub work_followed : {number count status : ℕ}
+      → WorksAs t.chosen.block t m b number count status old z out after
+      → LeftOnly z old.turn (MayBegin (most_left t.chosen.block.k t))
+  work_followed w image since =
+      let room = room_once t twice in
+      begins t high twice image (w.numbered room rests below image since)
+      (elim (w.crash room rests below image since) as (λ _. IsOpen image) [
+        | inl kept ↦ kept_opens _ _ _ image kept
+        | inr being ↦ being_opens _ _ _ _ image being
+      ])

@@ -1,0 +1,16 @@
+use Rattle.costore_top.proofs.FollowingLaws.{below_the_limit, rests_alone, run_followed, work_followed}
+use Rattle.costore_top.proofs.laws.a_crash_may_be_followed_by_a_call.Goals as goal
+
+pub returns-clause-run : goal.returns-clause-run
+returns-clause-run g c t m b requests end o old new from rest out after opens asks runs twice rests below =
+    run_followed opens twice rests below (runs t m b requests end opens asks)
+
+pub returns-clause-work : goal.returns-clause-work
+returns-clause-work g c t m b number count status old new out after opens works twice rests below =
+    work_followed opens twice rests below (works t m b opens)
+
+pub returns-clause-low : goal.returns-clause-low
+returns-clause-low g c = below_the_limit
+
+pub returns-clause-rests : goal.returns-clause-rests
+returns-clause-rests g c t d only = rests_alone t (g.B.Disk.state d) only
