@@ -24,9 +24,10 @@ use Rattle.table_rules.specs.Sequences.{HasSequenceUpTo}
 use Rattle.store_core.specs.Opened.{LeavesRoom, RestsOnFound, RoomOf, SameOnFound, most_by, most_found}
 use Rattle.store_core.specs.States as store
 use Rattle.store_core.proofs.OpeningLaws.{alike_itself}
+use Rattle.ask_session.specs.Runs.{last_state}
 use Rattle.costore_top.specs.declared.top.Outcome.{Outcome}
 use Rattle.costore_top.specs.Following.{LeavesRoomTwice, MayBegin}
-use Rattle.costore_top.specs.Headline.{OpensToBeing, OpensToKept, RunsAs, most_left}
+use Rattle.costore_top.specs.Headline.{OpensToBeing, OpensToKept, RunsAs, limits_with, most_left}
 use Rattle.costore_top.specs.Working.{WorksAs}
 
 -- ---- numbers
@@ -112,27 +113,26 @@ begins t high twice image up is =
 module _ {t : choice.Table} {m : Map} {b : Book} {old z : State} {out after : SinkState}
     (o : OpensBy CLASSES SIZE_MAX t old.file m b) (twice : LeavesRoomTwice t) (rests : RestsOnFound t old)
     (below : z.turn < last) where
-  high : t.chosen.block.k ≤ 64
-  high = block_high old.file t o.read
-
   pub run_followed : {requests : List Request} {end : List ℕ} {x : Outcome} {from rest : SourceState}
       → RunsAs t.chosen.block t m b requests end x old z from rest out after
       → LeftOnly z old.turn (MayBegin (most_left t.chosen.block.k t))
-  run_followed r image since =
+  run_followed {x = x} r image since =
       let room = room_once t twice in
-      begins t high twice image (r.numbered room rests below image since)
+      begins t (block_high old.file t o.read) twice image (r.numbered room rests below image since)
       (elim ((r.crash room rests below).crash image since) as (λ _. IsOpen image) [
         | inl kept ↦ kept_opens _ _ _ image kept
-        | inr being ↦ being_opens _ _ _ _ image being
+        | inr being ↦ being_opens x.status (limits_with t.chosen.block) (last_state r.start r.ran.states)
+            r.ran.others image being
       ])
 
   pub work_followed : {number count status : ℕ}
       → WorksAs t.chosen.block t m b number count status old z out after
       → LeftOnly z old.turn (MayBegin (most_left t.chosen.block.k t))
-  work_followed w image since =
+  work_followed {status = status} w image since =
       let room = room_once t twice in
-      begins t high twice image (w.numbered room rests below image since)
+      begins t (block_high old.file t o.read) twice image (w.numbered room rests below image since)
       (elim (w.crash room rests below image since) as (λ _. IsOpen image) [
         | inl kept ↦ kept_opens _ _ _ image kept
-        | inr being ↦ being_opens _ _ _ _ image being
+        | inr being ↦ being_opens status (limits_with t.chosen.block) (last_state w.start w.ran.states)
+            w.ran.others image being
       ])
