@@ -120,6 +120,7 @@ is_made s new r a d (Ok x) m = record {
     block = λ calm. m.block;
     calls = λ told calm least. m.calls told least;
     reads = λ asks fault. absurd (cc);
+    still = λ asks. absurd (let e : true ≡ false = sym m.changing ∙ asks in cc);
     over = m.over;
     broken = m.broken ∙ sym (and_false (is_changing r));
     left = m.left;
@@ -147,6 +148,7 @@ is_made {classes} s new r a d (Err refused) m = elim m.either as (λ _. Answers 
         block = λ calm. absurd (cc);
         calls = λ told calm least. absurd (cc);
         reads = λ asks fault. absurd (let e : true ≡ false = sym m.changing ∙ asks in cc);
+        still = λ asks. absurd (let e : true ≡ false = sym m.changing ∙ asks in cc);
         over = m.over;
         broken = broken ∙ sym (and_true (is_changing r) true m.changing);
         left = m.left;

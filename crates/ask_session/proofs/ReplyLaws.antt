@@ -1,5 +1,5 @@
 -- Replies to requests, by what was answered and put.
-use Rattle.std.specs.Prelude.{◌≡◌, ◌⊎◌, ℕ, ◌+◌, ◌≤◌, Bool, true, false, not, ◌&&◌, is_some, List, [], ◌∷◌, ◌++◌, length, Option, Some, None, Result, Ok, Err, IfErr, IfOk, IsTrue, OnErr, refl}
+use Rattle.std.specs.Prelude.{◌≡◌, ◌⊎◌, ℕ, ◌+◌, ◌≤◌, Bool, true, false, not, ◌&&◌, is_some, List, [], ◌∷◌, ◌++◌, codes, length, Option, Some, None, Result, Ok, Err, IfErr, IfOk, IsTrue, OnErr, refl}
 use Rattle.std.proofs.Common.{arith, ap, sym, ◌∙◌, subst, inl, inr, append-nil}
 use Rattle.std.specs.FinMap as fin
 use Rattle.disk_face.specs.Counts.{Rose}
@@ -21,6 +21,7 @@ use Rattle.store_core.specs.States.{first_refusal, object_in}
 use Rattle.store_core.proofs.ReadingLaws.{object_there}
 use Rattle.ask_text.specs.Replies.{first_line, head_of, reply_text}
 use Rattle.ask_text.specs.declared.reply.Reply as text
+use Rattle.ask_text.specs.declared.reply.Reply.TheVariants as head
 use Rattle.ask_session.specs.declared.ends.End.{End}
 use Rattle.ask_session.specs.declared.ends.End.TheVariants as ends
 use Rattle.ask_session.specs.Heads.{Answers, fault_of, is_kept}
@@ -37,6 +38,7 @@ serves_as r s new a d x y same h = record {
   block = λ calm. h.block (same ∙ calm);
   calls = λ told calm least. h.calls told (same ∙ calm) least;
   reads = λ asks fault. h.reads asks (same ∙ fault);
+  still = h.still;
   over = h.over;
   broken = h.broken ∙ ap (λ (b : Bool). is_changing r && b) same;
   left = h.left;
@@ -51,6 +53,27 @@ kept_head (ask.found object) = refl
 kept_head (ask.refused why) = refl
 kept_head (ask.listed entries) = refl
 kept_head (ask.counts names bytes kept_names kept_bytes) = refl
+
+-- where a head acknowledges a checkpoint and is put whole, that is the line
+kept_line : (x : text.Reply) → is_kept x ≡ true → first_line x ≡ codes "ok kept\n"
+kept_line head.Kept is = refl
+kept_line head.Ok is = absurd (cc)
+kept_line (head.Data size) is = absurd (cc)
+kept_line (head.Refused why) is = absurd (cc)
+kept_line (head.List count) is = absurd (cc)
+kept_line (head.Stat names bytes kept_names kept_bytes) is = absurd (cc)
+
+said_of : (x : text.Reply) (result : Result Bool End) (before after : List ℕ) → result ≡ Ok true
+    → IfOk result (λ kept. kept ≡ is_kept x) → PutsText (first_line x) before after result
+    → after ≡ before ++ codes "ok kept\n"
+said_of x (Err end) before after is kept puts = absurd (cc)
+said_of x (Ok answer) before after is kept puts =
+    let true_is : answer ≡ true = (cc) in
+    puts.all ∙ ap (λ (xs : List ℕ). before ++ xs) (kept_line x (sym kept ∙ true_is))
+
+unsaid : (result : Result Bool End) → IfOk result (λ kept. kept ≡ false) → result ≡ Ok true → ⊥
+unsaid (Err end) kept is = absurd (cc)
+unsaid (Ok answer) kept is = absurd (let e : Ok false ≡ Ok true = ap (λ (b : Bool). Ok b) (sym kept) ∙ is in cc)
 
 -- What is put of an answer.
 pub record PutsAnswer (out after : SinkState) (answer : Result text.Reply End)
@@ -90,6 +113,7 @@ answers_replies r s new a d out after (Ok x) result h p = record {
       (ap first_line (h.replied told) ∙ sym (append-nil (first_line (head_of (reply_at s a.file r))))
       ∙ ap (λ (xs : List ℕ). first_line (head_of (reply_at s a.file r))
       ++ xs) (sym (h.line told))) (p.put sink);
+  said = λ sink is. said_of x result out.given after.given is p.kept (p.put sink);
   nothing = λ sink changing fault. absurd (let e : true ≡ false = sym fault ∙ calm in cc);
   only = sink_serving result p.only;
   disk_cause = record {
@@ -107,6 +131,7 @@ answers_replies {classes} r s new a d out after (Err end) result h p =
       serves = serves_as r s new a d (Err end) (Err end) refl h.serves;
       kept = λ told. tt;
       puts = λ told sink. puts_none (reply_text (reply_at s a.file r)) out.given after.given end p.same;
+      said = λ sink is. absurd (cc);
       nothing = λ sink changing fault. p.same;
       only = subst IsServingFault (sym h.only) tt;
       disk_cause = record { rose = λ fault. h.disk_cause.rose fault; later = h.disk_cause.later };
@@ -136,6 +161,7 @@ reads_replies r s a d out after result h asks same stays plain kept puts only di
   serves = serves_same s r a d result h same stays (ap (λ (b : Bool). b && is_disk_fault result) asks);
   kept = λ told. if_ok_with result (λ x is. is ∙ sym (plain told)) kept;
   puts = puts;
+  said = λ sink is. absurd (unsaid result kept is);
   nothing = λ sink changing fault. absurd (let e : true ≡ false = sym changing ∙ asks in cc);
   only = only;
   disk_cause = disk_cause;

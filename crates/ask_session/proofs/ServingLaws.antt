@@ -88,6 +88,7 @@ serves_same {T} {classes} s r a d result h same stays calm = record {
   block = λ calm. refl;
   calls = λ told calm least. omega (arith, same.same_turn, (stays told).none, h.fits);
   reads = λ asks fault. refl;
+  still = λ asks. same;
   over = λ whole told.
       let told_before : IsTrue a.tells = subst IsTrue same.stays.told told in
       subst (IsOver classes s) (sym (same.same_file told_before)) (h.over told_before);

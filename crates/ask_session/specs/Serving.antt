@@ -1,6 +1,7 @@
 -- What serving one request does: to the store and its disk, and to the sink.
-use Rattle.std.specs.Prelude.{◌≡◌, ◌⊎◌, ℕ, ◌+◌, ◌-◌, ◌<◌, ◌≤◌, Bool, true, false, ◌&&◌, if◌then◌else◌, List, [], ◌++◌, length, Option, Some, None, Result, Ok, Err, IfErr, IfOk, IsTrue, OnOk}
+use Rattle.std.specs.Prelude.{◌≡◌, ◌⊎◌, ℕ, ◌+◌, ◌-◌, ◌<◌, ◌≤◌, Bool, true, false, ◌&&◌, if◌then◌else◌, List, [], ◌++◌, codes, length, Option, Some, None, Result, Ok, Err, IfErr, IfOk, IsTrue, OnOk}
 use Rattle.disk_face.specs.Counts.{Rose, counted}
+use Rattle.disk_face.specs.Frames.{Unchanged}
 use Rattle.disk_face.specs.States as disk
 use Rattle.disk_face.specs.Streams.{SinkState}
 use Rattle.disk_face.specs.Moments.{Leaves}
@@ -101,8 +102,8 @@ pub record IsServingImage (classes : ℕ) (s : Kept) (r : Request) (file image :
       (served_at s file r).state.map
 
 -- A request was served, but where the disk failed: it is a step, and the calls of one that makes no
--- checkpoint are counted. Where the disk failed in a change the store is broken; where it failed in a read
--- the store is what it was. A store that isn't broken is over its file. What a crash may leave meanwhile
+-- checkpoint are counted. A request that may not change the map and saves nothing leaves the disk as it was.
+-- Where the disk failed in a change the store is broken; where it failed in a read the store is what it was. A store that isn't broken is over its file. What a crash may leave meanwhile
 -- are images of serving, where the disk rested on the last checkpoint's table; it does so again.
 pub record Serves {T : Type 0} (classes : ℕ) (r : Request) (old new : Kept) (before now : disk.State)
     (result : Result T End) : Type 0 where
@@ -113,6 +114,7 @@ pub record Serves {T : Type 0} (classes : ℕ) (r : Request) (old new : Kept) (b
       → (served_at old before.file r).saves.least ≡ 0
       → now.turn ≡ counted before.turn (calls_of (limits_of old) (state_of old before.file) r)
   pub reads : is_changing r ≡ false → is_disk_fault result ≡ true → new ≡ old
+  pub still : is_changing r ≡ false → Unchanged before now
   pub over : IsConnected classes new now
   pub broken : new.is_broken ≡ (is_changing r && is_disk_fault result)
   pub left : IsTrue before.tells → RestsOnTable (base_of old) old.kept before
@@ -158,7 +160,8 @@ IsServingFault ends.Source = ⊥
 IsServingFault ends.Budget = ⊥
 
 -- A request was served and its reply put, or a front of it where a device failed: nothing where the disk
--- failed in a change. The answer is whether the reply acknowledges a checkpoint.
+-- failed in a change. The answer is whether the reply acknowledges a checkpoint; whatever the disk tells, it says so
+-- only where `ok kept` was put.
 pub record Replies (classes : ℕ) (r : Request) (old new : Kept) (before now : disk.State)
     (out after : SinkState)
     (result : Result Bool End) : Type 0 where
@@ -166,6 +169,7 @@ pub record Replies (classes : ℕ) (r : Request) (old new : Kept) (before now : 
   pub kept : IsTrue before.tells → IfOk result (λ kept. kept ≡ acknowledges (reply_at old before.file r))
   pub puts : IsTrue before.tells → IsTrue out.tells
       → PutsText (reply_text (reply_at old before.file r)) out.given after.given result
+  pub said : IsTrue out.tells → result ≡ Ok true → after.given ≡ out.given ++ codes "ok kept\n"
   pub nothing : IsTrue out.tells → is_changing r ≡ true → is_disk_fault result ≡ true
       → after.given ≡ out.given
   pub only : IfErr result IsServingFault
