@@ -7,7 +7,9 @@ use Rattle.disk_face.specs.Frames.{Unchanged}
 use Rattle.disk_face.specs.Moments.{Leaves}
 use Rattle.disk_face.proofs.FrameLaws.{Stays-trans, Unchanged-trans}
 use Rattle.disk_face.proofs.MomentLaws.{Leaves-none, Leaves-trans, Leaves-weaken}
+use Rattle.size_class.specs.Classes.{zero_row}
 use Rattle.size_class.specs.declared.TheConstants.{SIZE_MAX}
+use Rattle.size_class.proofs.ClassLaws.{zero_row-index}
 use Rattle.slot_codec.specs.Choice as choice
 use Rattle.slot_codec.specs.Spelling.{head_len}
 use Rattle.slot_codec.specs.declared.codec.Kind.{Kind}
@@ -19,18 +21,20 @@ use Rattle.slot_pair.specs.declared.find.SlotFault.TheVariants as slot
 use Rattle.store_terms.specs.Maps.{Map}
 use Rattle.segment_layout.specs.Books.{Book}
 use Rattle.table_rules.specs.Objects.{HasRoomFor}
-use Rattle.table_rules.specs.Opening.{OpensBy, placed_table}
+use Rattle.table_rules.specs.Opening.{Opens, OpensBy, placed_table}
 use Rattle.table_rules.specs.Tables.{book_of, map_of, no_record}
 use Rattle.table_rules.proofs.OpeningLaws.{carries_on}
 use Rattle.extent_table.specs.Extents.{Spots, record_of, records_of}
 use Rattle.spot_terms.specs.Reads.{AreNamed}
 use Rattle.spot_terms.proofs.OpenedLaws.{opens_long, record_within}
 use Rattle.spot_terms.proofs.ReadLaws.{record_at, spot_of_record}
+use Rattle.flush_run.specs.Calls.{piece_calls}
+use Rattle.flush_run.proofs.CallLaws.{calls_none, calls_wider}
 use Rattle.reopen.specs.Refusals.{RefusesToOpen}
 use Rattle.reopen.specs.declared.fault.OpenFault.{OpenFault}
 use Rattle.reopen.specs.declared.fault.OpenFault.TheVariants as fault
 use Rattle.store_core.specs.Connection.{IsOver, Kept, SameOnTable, base_of, state_of}
-use Rattle.store_core.specs.Opened.{HasOpenCalls, IsFoundImage, IsOpened, IsOpening, OpensFound, RefusesUnchanged, RestsOnFound, SameOnFound, found_base, most_by, most_found, state_at}
+use Rattle.store_core.specs.Opened.{HasOpenCalls, IsFoundImage, IsOpened, IsOpening, OpensFound, RefusesUnchanged, RestsOnFound, SameOnFound, found_base, MostCallsOf, most_by, most_found, state_at}
 use Rattle.store_core.specs.Stores.{IsStore}
 use Rattle.store_core.proofs.OverLaws.{by_index, head_is}
 
@@ -111,6 +115,18 @@ found_spots t kept base file image records named at same = record {
 
 -- ---- a step that changed nothing
 
+-- no call was made
+no_calls : (k : Kind) (t : choice.Table) (m : Map) (first : ℕ) → MostCallsOf k t m first first
+no_calls kind.Settled t m first = omega arith
+no_calls kind.Moving t m first = record {
+  moved = zero_row;
+  saves = 0;
+  few = λ c. omega (arith, zero_row-index c);
+  few_saves = omega arith;
+  calls = calls_wider first first first zero_row zero_row 0 (piece_calls + 2) 0 1 t.chosen.header.count
+      (calls_none first zero_row t.chosen.header.count) (omega arith) (omega arith);
+}
+
 module _ {classes : ℕ} {t : choice.Table} {m : Map} {b : Book} {before mid : disk.State}
     (same : Unchanged before mid) (told : IsTrue before.tells)
     (o : OpensBy classes SIZE_MAX t before.file m b) where
@@ -133,6 +149,9 @@ module _ {classes : ℕ} {t : choice.Table} {m : Map} {b : Book} {before mid : d
     left = λ room rests. left_same rests;
     rests = λ rests. tt;
     calls = tt;
+    most = subst (λ n. MostCallsOf t.chosen.header.kind t m before.turn n) (sym same.same_turn)
+        (no_calls t.chosen.header.kind t m before.turn);
+    alone = λ settled low. same;
   }
 
   -- an opening goes on
@@ -147,6 +166,8 @@ module _ {classes : ℕ} {t : choice.Table} {m : Map} {b : Book} {before mid : d
     rests = λ rests. next.rests (still_rests rests);
     calls = subst (λ n. IfOk result (HasOpenCalls t m b before.file n now.turn)) same.same_turn
         (subst (λ n. IfOk result (HasOpenCalls t m b n mid.turn now.turn)) file_stays next.calls);
+    most = subst (λ n. MostCallsOf t.chosen.header.kind t m n now.turn) same.same_turn next.most;
+    alone = λ settled low. Unchanged-trans same (next.alone settled (omega (arith, low, ap length file_stays)));
   }
 
 -- ---- what was found, by other words
@@ -182,9 +203,42 @@ no_memory classes a ready =
       refused = λ told. tt;
       found = λ told t m b o. stops_unchanged same told o fault.NoMemory;
       unchanged = same;
+      closed = λ told none. same;
       frame = record { no_turn_back = omega arith; stays = same.stays };
       cause = record { later = omega arith; rose = λ is. absurd (cc); calm = λ other. refl };
     }
+
+-- a refusal that changed nothing
+refuses_same : (a m : disk.State) (why : OpenFault) → Unchanged a m → RefusesUnchanged a m why
+refuses_same a m (fault.Slot slot.Disk) same = tt
+refuses_same a m (fault.Slot slot.Short) same = same
+refuses_same a m (fault.Slot slot.Unformatted) same = same
+refuses_same a m (fault.Slot slot.NoGate) same = same
+refuses_same a m (fault.Slot slot.SameSequence) same = same
+refuses_same a m (fault.Slot (slot.Codec f at)) same = same
+refuses_same a m (fault.Table broken) same = same
+refuses_same a m fault.NoMemory same = same
+
+pub refused_reading : {T : Type 0} (classes : ℕ) (a m : disk.State) (why : OpenFault) → Unchanged a m
+    → (IsTrue a.tells → RefusesToOpen classes a.file why)
+    → HasDiskCause {T = T} (fault.Slot slot.Disk) a.faults m.faults (Err why)
+    → IsOpening classes a m (Err why)
+refused_reading classes a m why same refused cause = record {
+  opened = λ told. tt;
+  over = λ told. tt;
+  fresh = tt;
+  refused = refused;
+  found = λ told t n b o. stops_unchanged same told o why;
+  unchanged = refuses_same a m why same;
+  closed = λ told none. same;
+  frame = record { no_turn_back = omega (arith, same.same_turn); stays = same.stays };
+  cause = record {
+    later = cause.later;
+    rose = λ is. cause.rose (let e : why ≡ fault.Slot slot.Disk = (cc) in ap (λ (x : OpenFault). Err x) e);
+    calm = λ other. cause.calm (λ is. other (let e : why ≡ fault.Slot slot.Disk = (cc) in
+        ap (λ (x : OpenFault). Err x) e));
+  };
+}
 
 -- ---- opening after reading
 
@@ -219,6 +273,8 @@ module _ {classes : ℕ} {a m d : disk.State} (same : Unchanged a m) (calm : m.f
     found = λ told t n b o. opens_then same told o (next.found (still_tells told) t n b
         (subst (λ f. OpensBy classes SIZE_MAX t f n b) (sym (same.same_file told)) o));
     unchanged = after_reading a m d same result next.unchanged;
+    closed = λ told none. Unchanged-trans same (next.closed (still_tells told)
+        (λ n b is. none n b (subst (λ f. Opens classes SIZE_MAX f n b) (same.same_file told) is)));
     frame = record {
       no_turn_back = omega (arith, same.same_turn, next.frame.no_turn_back);
       stays = Stays-trans same.stays next.frame.stays;

@@ -1,6 +1,6 @@
 -- The store of a moving table whose flush went on to its end.
 use Rattle.std.specs.FinMap as fin
-use Rattle.std.specs.Prelude.{◌≡◌, ℕ, ◌+◌, ◌-◌, ◌*◌, ◌<◌, ◌≤◌, ◌^◌, false, true, List, [], slice_index, Err, Ok, IsTrue, refl}
+use Rattle.std.specs.Prelude.{◌≡◌, ℕ, ◌+◌, ◌-◌, ◌*◌, ◌<◌, ◌≤◌, ◌^◌, false, true, List, [], length, slice_index, Err, Ok, IsTrue, refl}
 use Rattle.std.proofs.Common.{arith, ap, sym, ◌∙◌, subst, inl, inr}
 use Rattle.std.proofs.lemmas.Bool.{cases_lt}
 use Rattle.std.proofs.lemmas.List.Sorted.{IsPermutation-sym}
@@ -24,10 +24,11 @@ use Rattle.extent_table.specs.Extents.{Extents, records_of}
 use Rattle.spot_terms.specs.Reads.{EndWithin}
 use Rattle.spot_terms.proofs.BookLaws.{volumes_of_records}
 use Rattle.spot_terms.proofs.ShownLaws.{book_shown}
-use Rattle.plan_terms.specs.Phases.{Phase}
+use Rattle.plan_terms.specs.Phases.{Phase, to_pack}
 use Rattle.plan_terms.specs.Plans.{class_total}
 use Rattle.flush_run.specs.declared.hands.Hands.{Hands}
-use Rattle.flush_run.specs.Calls.{CallsSoFar}
+use Rattle.flush_run.specs.Calls.{CallsSoFar, piece_calls}
+use Rattle.flush_run.proofs.BeginLaws.{items_low, to_pack_few}
 use Rattle.flush_run.specs.Flights.{Flight, LeavesOldOrNew}
 use Rattle.flush_run.specs.Parts.{Parts, parts_of}
 use Rattle.flush_run.specs.Runs.{CanResume, HasRun}
@@ -39,7 +40,7 @@ use Rattle.reopen.specs.declared.state.Loaded.{Loaded}
 use Rattle.reopen.specs.Loads.{IsLoadedFrom, KeepsLoaded, table_seen}
 use Rattle.store_core.specs.Connection.{Kept, opened_store}
 use Rattle.store_core.specs.Flushed.{IsFlushed}
-use Rattle.store_core.specs.Opened.{ContinuesFrom, IsFresh, IsOpened, IsOpening, MovesOn, OpenCallsOf, OpensFound}
+use Rattle.store_core.specs.Opened.{ContinuesFrom, IsFresh, IsOpened, IsOpening, LeavesAlone, MostCallsOf, MovesOn, OpenCallsOf, OpensFound}
 use Rattle.store_core.specs.Resuming.{MakesStore, PacksAgain, StartsAgain}
 use Rattle.flush_start.proofs.EndLaws.{names_differ_all, records_lie}
 use Rattle.store_core.proofs.FlushedLaws.{ended_over, ended_rests, ended_state, ended_store}
@@ -55,6 +56,7 @@ module _ {C : ℕ} (x : Loaded C) (loads : KeepsLoaded x) (moving : x.header.kin
     → LeavesOldOrNew f (hands.slots.sequence + 1) first last)
     (made : HasRun p.numbers.boundary p.items first last y (parts_of hands))
     (few_saves : hands.slots.sequence + 1 < y.in_use.sequence + 2 ^ 18)
+    (one_a_move : hands.slots.sequence ≤ y.in_use.sequence + to_pack p + length p.items + 1)
   where
     few_most : hands.slots.sequence + 1 ≤ x.header.sequence + (2 ^ 18 - 1)
     few_most = omega (
@@ -63,6 +65,100 @@ module _ {C : ℕ} (x : Loaded C) (loads : KeepsLoaded x) (moving : x.header.kin
       ap (λ (u : choice.InUse). u.sequence) starts.in_use,
       loads.sequence,
     )
+
+    -- ---- what it called
+
+    module _ (told : IsTrue first.tells) where
+      abbrev file : List ℕ
+      file = first.file
+
+      abbrev base : ℕ
+      base = head_len x.block.names
+
+      never : {A : Type 0} → IsTrue false → A
+      never e = absurd (let z : false ≡ true = e in cc)
+
+      abbrev f : Flight
+      f = flight x loads moving few wide y starts p packs first (from told) false false never never
+
+      can : CanResume C f y p first
+      can = can_told x loads moving few wide y starts p packs first (from told) false false never never
+
+      hand : IsHandsFor f x.slots x.table (caps_of x.layout) (grid_of x.layout) []
+          (phase x loads moving few wide y starts p packs)
+      hand = hands_again x loads moving few wide _ (from told).opens.valid false false f.new_map f.new_book
+          _ (same_divisor x loads moving few wide) p.items
+          (IsPermutation-sym _ p.items packs.items)
+
+      boundary_is : p.numbers.boundary ≡ x.header.boundary
+      boundary_is = ap (λ (q : Phase). q.numbers.boundary) packs.value
+
+      lies : EndWithin base file x.table.now
+      lies name z there = omega (
+        arith,
+        hand.lower name z there,
+        begins_within x loads moving few wide y starts p packs first (from told),
+      )
+
+      totals : (c : ℕ) → x.header.boundary ≤ c → class_total p.items c ≡ slice_index (volumes f.new_map) c
+      totals c high =
+          let live = volumes_of_sizes (sizes (records_of x.table.now)) in
+          sym (new_cap f x.slots x.table (caps_of x.layout) (grid_of x.layout) []
+          (phase x loads moving few wide y starts p packs) hand c high)
+          ∙ caps-settled_above x.header.boundary c (caps_of x.layout) live hand.caps_full.full
+          (omega (arith, hand.boundary, few)) high
+          ∙ ap (λ (xs : List ℕ). slice_index xs c)
+          (sym (volumes_of_records base file (records_of x.table.now)
+          (names_differ_all x.table.now loads.is_table.now_named)
+          (records_lie base file x.table.now loads.is_table.now_named lies)))
+
+      zero_before : (c : ℕ) → slice_index y.moved c ≡ 0
+      zero_before c = ap (λ (xs : List ℕ). slice_index xs c) starts.moved ∙ zero_row-index c
+
+      moved_few : (c : ℕ) → slice_index (cells_of hands.ledger.moved) c
+          ≤ 2 * slice_index (volumes f.new_map) c
+      moved_few c = elim (cases_lt c x.header.boundary)
+          as (λ _. slice_index (cells_of hands.ledger.moved) c ≤ 2 * slice_index (volumes f.new_map) c) [
+            | inl low ↦ omega (arith, made.lower c (omega (arith, low, boundary_is)), zero_before c)
+            | inr high ↦ omega (arith, made.few c, zero_before c, totals c (omega (arith, high)))
+          ]
+
+      saves_are : hands.slots.sequence - x.header.sequence ≤ 2 * x.header.count + 1
+      saves_are = omega (
+        arith,
+        one_a_move,
+        to_pack_few p,
+        items_low can.goes,
+        ap (λ (e : Extents). fin.len e.now) starts.table,
+        loads.count,
+        ap (λ (u : choice.InUse). u.sequence) starts.in_use,
+        loads.sequence,
+      )
+
+      calls_are : (more saves : ℕ) → CallsSoFar first.turn last.turn y.moved (cells_of hands.ledger.moved) more
+          (hands.slots.sequence - y.in_use.sequence + saves) (fin.len y.table.now)
+          → CallsSoFar first.turn last.turn zero_row (cells_of hands.ledger.moved) more
+          (hands.slots.sequence - x.header.sequence + saves) x.header.count
+      calls_are more saves calls = subst (λ z. CallsSoFar first.turn last.turn zero_row
+          (cells_of hands.ledger.moved) more (hands.slots.sequence - x.header.sequence + saves) z)
+          (ap (λ (e : Extents). fin.len e.now) starts.table ∙ loads.count)
+          (subst (λ z. CallsSoFar first.turn last.turn zero_row (cells_of hands.ledger.moved) more
+          (hands.slots.sequence - z + saves) (fin.len y.table.now))
+          (ap (λ (u : choice.InUse). u.sequence) starts.in_use ∙ loads.sequence)
+          (subst (λ z. CallsSoFar first.turn last.turn z (cells_of hands.ledger.moved) more
+          (hands.slots.sequence - y.in_use.sequence + saves) (fin.len y.table.now)) starts.moved calls))
+
+      again_most : MostCallsOf x.header.kind (table_seen x) f.new_map first.turn last.turn
+      again_most = subst (λ z. MostCallsOf z (table_seen x) f.new_map first.turn last.turn) (sym moving) (record {
+        moved = cells_of hands.ledger.moved;
+        saves = hands.slots.sequence - x.header.sequence;
+        few = moved_few;
+        few_saves = saves_are;
+        calls = calls_are (piece_calls + 2) 1 made.most;
+      })
+
+      again_alone : LeavesAlone (table_seen x) f.new_book first last
+      again_alone settled low = absurd (let e : kind.Moving ≡ kind.Settled = sym moving ∙ settled in cc)
 
     -- the disk failed
     pub again_failed : {T E : Type 0} (fault : E) → HasCause {T = T} first.faults last.faults (Err fault)
@@ -81,8 +177,11 @@ module _ {C : ℕ} (x : Loaded C) (loads : KeepsLoaded x) (moving : x.header.kin
                 left told (from told);
             rests = λ rests. tt;
             calls = tt;
+            most = again_most told;
+            alone = again_alone told;
           });
       unchanged = tt;
+      closed = λ told none. absurd (none _ _ (record { table = table_seen x; opens = (from told).opens }));
       frame = made.keeps.disk;
       cause = record { later = cause.later; rose = λ is. cause.rose; calm = λ other. absurd (other refl) };
     }
@@ -154,23 +253,11 @@ module _ {C : ℕ} (x : Loaded C) (loads : KeepsLoaded x) (moving : x.header.kin
       }
 
       module _ (told : IsTrue first.tells) where
-        abbrev file : List ℕ
-        file = first.file
+        abbrev here : Flight
+        here = f told
 
-        abbrev base : ℕ
-        base = head_len x.block.names
-
-        never : {A : Type 0} → IsTrue false → A
-        never e = absurd (let z : false ≡ true = e in cc)
-
-        abbrev f : Flight
-        f = flight x loads moving few wide y starts p packs first (from told) false false never never
-
-        can : CanResume C f y p first
-        can = can_told x loads moving few wide y starts p packs first (from told) false false never never
-
-        told_ends : FlushEnds C f (parts_of hands) last
-        told_ends = ends f can
+        told_ends : FlushEnds C here (parts_of hands) last
+        told_ends = ends here (can told)
 
         still_told : IsTrue last.tells
         still_told = made.keeps.disk.stays.told ∙ told
@@ -178,14 +265,14 @@ module _ {C : ℕ} (x : Loaded C) (loads : KeepsLoaded x) (moving : x.header.kin
         base_now : head_len hands.slots.block.names ≡ head_len x.slots.block.names
         base_now = ap (λ (z : SuperBlock). head_len z.names) block_is
 
-        again_opened : IsOpened C file last.file s
+        again_opened : IsOpened C first.file last.file s
         again_opened = record {
           table = table_seen x;
-          m = f.new_map;
-          b = f.new_book;
+          m = here.new_map;
+          b = here.new_book;
           found = (from told).opens;
           block = block_found;
-          state = ended_state hands f last told_ends names_now block_now s is_flushed base_now still_told;
+          state = ended_state hands here last told_ends names_now block_now s is_flushed base_now still_told;
           continues = subst (λ z. ContinuesFrom z x.header.sequence hands.slots.sequence) (sym moving) (
             omega (arith, later, ap (λ (u : choice.InUse). u.sequence) starts.in_use, loads.sequence),
             omega (arith, few_saves, ap (λ (u : choice.InUse). u.sequence) starts.in_use, loads.sequence),
@@ -194,73 +281,33 @@ module _ {C : ℕ} (x : Loaded C) (loads : KeepsLoaded x) (moving : x.header.kin
 
         -- ---- the calls
 
-        hand : IsHandsFor f x.slots x.table (caps_of x.layout) (grid_of x.layout) []
-            (phase x loads moving few wide y starts p packs)
-        hand = hands_again x loads moving few wide _ (from told).opens.valid false false f.new_map f.new_book
-            _ (same_divisor x loads moving few wide) p.items
-            (IsPermutation-sym _ p.items packs.items)
-
-        boundary_is : p.numbers.boundary ≡ x.header.boundary
-        boundary_is = ap (λ (q : Phase). q.numbers.boundary) packs.value
-
-        lies : EndWithin base file x.table.now
-        lies name z there = omega (
-          arith,
-          hand.lower name z there,
-          begins_within x loads moving few wide y starts p packs first (from told),
-        )
-
-        totals : (c : ℕ) → x.header.boundary ≤ c → class_total p.items c ≡ slice_index (volumes f.new_map) c
-        totals c high =
-            let live = volumes_of_sizes (sizes (records_of x.table.now)) in
-            sym (new_cap f x.slots x.table (caps_of x.layout) (grid_of x.layout) []
-            (phase x loads moving few wide y starts p packs) hand c high)
-            ∙ caps-settled_above x.header.boundary c (caps_of x.layout) live hand.caps_full.full
-            (omega (arith, hand.boundary, few)) high
-            ∙ ap (λ (xs : List ℕ). slice_index xs c)
-            (sym (volumes_of_records base file (records_of x.table.now)
-            (names_differ_all x.table.now loads.is_table.now_named)
-            (records_lie base file x.table.now loads.is_table.now_named lies)))
-
-        zero_before : (c : ℕ) → slice_index y.moved c ≡ 0
-        zero_before c = ap (λ (xs : List ℕ). slice_index xs c) starts.moved ∙ zero_row-index c
-
-        moved_few : (c : ℕ) → slice_index (cells_of hands.ledger.moved) c
-            ≤ 2 * slice_index (volumes f.new_map) c
-        moved_few c = elim (cases_lt c x.header.boundary)
-            as (λ _. slice_index (cells_of hands.ledger.moved) c ≤ 2 * slice_index (volumes f.new_map) c) [
-              | inl low ↦ omega (arith, made.lower c (omega (arith, low, boundary_is)), zero_before c)
-              | inr high ↦ omega (arith, made.few c, zero_before c, totals c (omega (arith, high)))
-            ]
-
         module _ (calls : CallsSoFar first.turn last.turn y.moved (cells_of hands.ledger.moved) 2
             (hands.slots.sequence - y.in_use.sequence) (fin.len y.table.now)) where
-          moves_on : MovesOn f.new_map x.header.count first.turn last.turn
+          moves_on : MovesOn here.new_map x.header.count first.turn last.turn
               (hands.slots.sequence - x.header.sequence)
           moves_on = record {
             moved = cells_of hands.ledger.moved;
-            few = moved_few;
-            calls = subst (λ z. CallsSoFar first.turn last.turn zero_row (cells_of hands.ledger.moved) 2
-                (hands.slots.sequence - x.header.sequence) z)
-                (ap (λ (e : Extents). fin.len e.now) starts.table ∙ loads.count)
-                (subst (λ z. CallsSoFar first.turn last.turn zero_row (cells_of hands.ledger.moved) 2
-                (hands.slots.sequence - z) (fin.len y.table.now))
-                (ap (λ (u : choice.InUse). u.sequence) starts.in_use ∙ loads.sequence)
-                (subst (λ z. CallsSoFar first.turn last.turn z (cells_of hands.ledger.moved) 2
-                (hands.slots.sequence - y.in_use.sequence) (fin.len y.table.now)) starts.moved calls));
+            few = moved_few told;
+            few_saves = saves_are told;
+            calls = subst (λ n. CallsSoFar first.turn last.turn zero_row (cells_of hands.ledger.moved) 2 n
+                x.header.count) (omega arith)
+                (calls_are told 2 0 (subst (λ n. CallsSoFar first.turn last.turn y.moved
+                (cells_of hands.ledger.moved) 2 n (fin.len y.table.now)) (omega arith) calls));
           }
 
-          again_found : OpensFound C (table_seen x) f.new_map f.new_book first last (Ok s)
+          again_found : OpensFound C (table_seen x) here.new_map here.new_book first last (Ok s)
           again_found = record {
             content = content_again x loads moving few wide y starts p packs first last (hands.slots.sequence + 1) few_most
                 left told
                 (from told);
             left = left_again x loads moving few wide y starts p packs first last (hands.slots.sequence + 1) few_most
                 left told (from told);
-            rests = λ rests. ended_rests hands f last told_ends names_now block_now s is_flushed base_now
+            rests = λ rests. ended_rests hands here last told_ends names_now block_now s is_flushed base_now
                 still_told;
-            calls = subst (λ z. OpenCallsOf z (table_seen x) f.new_map f.new_book file first.turn last.turn s)
+            calls = subst (λ z. OpenCallsOf z (table_seen x) here.new_map here.new_book first.file first.turn last.turn s)
                 (sym moving) moves_on;
+            most = again_most told;
+            alone = again_alone told;
           }
 
       pub again_done : {T E : Type 0} (z : T) → CallsSoFar first.turn last.turn y.moved
@@ -275,6 +322,7 @@ module _ {C : ℕ} (x : Loaded C) (loads : KeepsLoaded x) (moving : x.header.kin
         found = λ told t m b o. found_by (found_one C (table_seen x) t first.file _ m _ b (from told).opens o)
             (again_found told calls);
         unchanged = tt;
+        closed = λ told none. absurd (none _ _ (record { table = table_seen x; opens = (from told).opens }));
         frame = made.keeps.disk;
         cause = record { later = cause.later; rose = λ is. absurd (cc); calm = λ other. cause.calm };
       }

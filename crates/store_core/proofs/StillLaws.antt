@@ -26,7 +26,7 @@ use Rattle.reopen.specs.declared.fault.OpenFault.TheVariants as fault_of
 use Rattle.reopen.specs.declared.state.Loaded.{Loaded}
 use Rattle.reopen.specs.Loads.{IsLoadedFrom, KeepsLoaded, table_seen}
 use Rattle.store_core.specs.Connection.{Kept, RestsOnTable, SameOnTable, base_of, opened_store}
-use Rattle.store_core.specs.Opened.{ContinuesFrom, IsCut, IsFoundImage, IsOpened, IsOpening, OpenCallsOf, OpensFound, RestsOnFound, found_base, most_found, turn_after_cut}
+use Rattle.store_core.specs.Opened.{ContinuesFrom, IsCut, IsFoundImage, IsOpened, IsOpening, OpenCallsOf, OpensFound, LeavesAlone, MostCallsOf, RestsOnFound, found_base, most_found, turn_after_cut}
 use Rattle.table_rules.proofs.SequenceLaws.{sequence_of_table}
 use Rattle.store_core.proofs.OpeningLaws.{found_by, found_itself, found_low, found_one, found_spots, left_same, still_rests}
 use Rattle.store_core.proofs.OverLaws.{same_itself}
@@ -64,6 +64,16 @@ module _ {C : ℕ} (x : Loaded C) (loads : KeepsLoaded x) (still : x.header.kind
       (short : IsTrue first.tells → length first.file ≤ len → Unchanged first last)
       (frame : KeepsDisk first last)
     where
+      -- the layout ends there by the book found
+      found_end : found_base (table_seen x) + book_end x.block.k (book_of (placed_table C SIZE_MAX first.file
+          (table_seen x))) ≡ len
+      found_end = omega (
+        arith,
+        ap (λ (b : Book). book_end x.block.k b) (book_is x loads still few wide (length first.file - base)),
+        ap (λ (b : SuperBlock). book_end b.k s.book) (sym loads.same_block),
+        book_ends x loads still few wide,
+      )
+
       -- what a crash may leave meanwhile
       module _ {T E : Type 0} {result : Result T E} (told : IsTrue first.tells)
           (cut : IsTrue first.tells → len < length first.file → IsCut len first last result) where
@@ -111,6 +121,16 @@ module _ {C : ℕ} (x : Loaded C) (loads : KeepsLoaded x) (still : x.header.kind
               (found_itself C u first.file found_map found_book (from told).opens)
         ]
 
+        still_most : MostCallsOf x.header.kind u found_map first.turn last.turn
+        still_most = subst (λ y. MostCallsOf y u found_map first.turn last.turn) (sym still)
+            (elim (cases_lt len (length first.file)) as (λ _. last.turn ≤ first.turn + 2) [
+              | inl longer ↦ (cut told longer).most
+              | inr not ↦ omega (arith, (short told not).same_turn)
+            ])
+
+        still_alone : LeavesAlone u found_book first last
+        still_alone settled low = short told (omega (arith, low, found_end))
+
       -- the disk failed
       failed : {T E : Type 0} (fault : E)
           → (IsTrue first.tells → len < length first.file → IsCut {T = T} len first last (Err fault))
@@ -127,8 +147,11 @@ module _ {C : ℕ} (x : Loaded C) (loads : KeepsLoaded x) (still : x.header.kind
               left = λ room rests. still_left told cut rests;
               rests = λ rests. tt;
               calls = tt;
+              most = still_most told cut;
+              alone = still_alone told cut;
             });
         unchanged = tt;
+        closed = λ told none. absurd (none _ _ (record { table = table_seen x; opens = (from told).opens }));
         frame = frame;
         cause = record { later = cause.later; rose = λ is. cause.rose; calm = λ other. absurd (other refl) };
       }
@@ -182,12 +205,7 @@ module _ {C : ℕ} (x : Loaded C) (loads : KeepsLoaded x) (still : x.header.kind
             ]
 
         done_end : found_base (table_seen x) + book_end x.block.k done_book ≡ len
-        done_end = omega (
-          arith,
-          ap (λ (b : Book). book_end x.block.k b) (book_is x loads still few wide (length first.file - base)),
-          ap (λ (b : SuperBlock). book_end b.k s.book) (sym loads.same_block),
-          book_ends x loads still few wide,
-        )
+        done_end = found_end
 
         done_turn : last.turn
             ≡ turn_after_cut (found_base (table_seen x) + book_end x.block.k done_book) first.file first.turn
@@ -210,6 +228,8 @@ module _ {C : ℕ} (x : Loaded C) (loads : KeepsLoaded x) (still : x.header.kind
           rests = done_rests;
           calls = subst (λ y. OpenCallsOf y (table_seen x) done_map done_book first.file first.turn last.turn
               s) (sym still) done_turn;
+          most = still_most told cut;
+          alone = still_alone told cut;
         }
 
         done_opened : IsOpened C first.file last.file s
@@ -239,6 +259,7 @@ module _ {C : ℕ} (x : Loaded C) (loads : KeepsLoaded x) (still : x.header.kind
             found_by (found_one C (table_seen x) t first.file _ m _ b (from told).opens o)
             (done_found y cut told);
         unchanged = tt;
+        closed = λ told none. absurd (none _ _ (record { table = table_seen x; opens = (from told).opens }));
         frame = frame;
         cause = record { later = cause.later; rose = λ is. absurd (cc); calm = λ other. cause.calm };
       }

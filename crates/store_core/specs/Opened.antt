@@ -17,7 +17,7 @@ use Rattle.segment_layout.specs.Books.{Book, book_end, volumes}
 use Rattle.table_rules.specs.Opening.{Opens, OpensBy}
 use Rattle.table_rules.specs.Sequences.{HasSequenceUpTo}
 use Rattle.table_rules.specs.Tables.{no_record}
-use Rattle.flush_run.specs.Calls.{CallsSoFar}
+use Rattle.flush_run.specs.Calls.{CallsSoFar, piece_calls}
 use Rattle.reopen.specs.Refusals.{RefusesToOpen}
 use Rattle.reopen.specs.declared.fault.OpenFault.{OpenFault}
 use Rattle.reopen.specs.declared.fault.OpenFault.TheVariants as fault
@@ -109,10 +109,12 @@ abbrev pub turn_after_cut : ℕ → List ℕ → ℕ → ℕ
 turn_after_cut len file turn = if nat_lt len (length file) then counted turn 2 else turn
 
 -- The calls of a flush that went on: those of the bytes that it moved, of each class at most twice those of
--- the map, and those of its saves, each of as many records as there are names.
+-- the map, and those of its saves, each of as many records as there are names: at most one before each move, and
+-- each name's object is moved twice at most, and one more.
 pub record MovesOn (m : Map) (names first now saves : ℕ) : Type 0 where
   pub moved : List ℕ
   pub few : (c : ℕ) → slice_index moved c ≤ 2 * slice_index (volumes m) c
+  pub few_saves : saves ≤ 2 * names + 1
   pub calls : CallsSoFar first now zero_row moved 2 saves names
 
 -- The changing calls of an opening, by the kind of the table and by how many had ended before and have now.
@@ -123,6 +125,24 @@ OpenCallsOf kind.Settled t m b file first now s = now
 OpenCallsOf kind.Moving t m b file first now s = MovesOn m t.chosen.header.count first now
     (s.in_use.sequence - t.chosen.header.sequence)
 
+-- So many calls an opening makes at most, whether it fails or not: of a settled table two, and of a moving one
+-- those of a flush that goes on, of one move more, and of one save that failed.
+pub record MovesAtMost (m : Map) (names first now : ℕ) : Type 0 where
+  pub moved : List ℕ
+  pub saves : ℕ
+  pub few : (c : ℕ) → slice_index moved c ≤ 2 * slice_index (volumes m) c
+  pub few_saves : saves ≤ 2 * names + 1
+  pub calls : CallsSoFar first now zero_row moved (piece_calls + 2) (saves + 1) names
+
+abbrev pub MostCallsOf : Kind → choice.Table → Map → ℕ → ℕ → Type 0
+MostCallsOf kind.Settled t m first now = now ≤ first + 2
+MostCallsOf kind.Moving t m first now = MovesAtMost m t.chosen.header.count first now
+
+-- a settled file that isn't longer than its layout is left alone
+abbrev pub LeavesAlone : choice.Table → Book → disk.State → disk.State → Type 0
+LeavesAlone t b before now = t.chosen.header.kind ≡ kind.Settled
+    → length before.file ≤ found_base t + book_end t.chosen.block.k b → Unchanged before now
+
 abbrev pub HasOpenCalls : choice.Table → Map → Book → List ℕ → ℕ → ℕ → Kept → Type 0
 HasOpenCalls t m b file first now s = OpenCallsOf t.chosen.header.kind t m b file first now s
 
@@ -130,7 +150,8 @@ HasOpenCalls t m b file first now s = OpenCallsOf t.chosen.header.kind t m b fil
 
 -- What opening does to a disk whose content opens by a table to a map and a book, whether it fails or not.
 -- The content opens to them still, and where the disk rested on the table so does all that a crash may leave
--- meanwhile; then the disk rests on the table of the store.
+-- meanwhile; then the disk rests on the table of the store. How many calls it makes is bounded, also where it
+-- fails.
 pub record OpensFound (classes : ℕ) (t : choice.Table) (m : Map) (b : Book) (before now : disk.State)
     (result : Result Kept OpenFault) : Type 0 where
   pub content : LeavesRoom t → IsFoundImage classes t m b (length before.file) now.file
@@ -138,6 +159,8 @@ pub record OpensFound (classes : ℕ) (t : choice.Table) (m : Map) (b : Book) (b
       (IsFoundImage classes t m b (length before.file))
   pub rests : RestsOnFound t before → IfOk result (λ s. RestsOnTable (base_of s) s.kept now)
   pub calls : IfOk result (HasOpenCalls t m b before.file before.turn now.turn)
+  pub most : MostCallsOf t.chosen.header.kind t m before.turn now.turn
+  pub alone : LeavesAlone t b before now
 
 -- nothing changed where the refusal isn't that the disk failed
 abbrev pub RefusesUnchanged : disk.State → disk.State → OpenFault → Type 0
@@ -146,7 +169,7 @@ RefusesUnchanged before now _ = Unchanged before now
 
 -- What opening answers and what it does. At Ok the store is over the file, and has what was found there. A
 -- refusal is the first that applies, and changes nothing, unless the disk or memory failed; want of memory
--- changes nothing either.
+-- changes nothing either, and a file that opens to nothing is left alone also where the disk failed.
 pub record IsOpening (classes : ℕ) (before now : disk.State) (result : Result Kept OpenFault) : Type 0 where
   pub opened : IsTrue before.tells → IfOk result (IsOpened classes before.file now.file)
   pub over : IsTrue before.tells → IfOk result (λ s. IsOver classes s now.file)
@@ -155,6 +178,8 @@ pub record IsOpening (classes : ℕ) (before now : disk.State) (result : Result 
   pub found : IsTrue before.tells → (t : choice.Table) (m : Map) (b : Book)
       → OpensBy classes SIZE_MAX t before.file m b → OpensFound classes t m b before now result
   pub unchanged : IfErr result (RefusesUnchanged before now)
+  pub closed : IsTrue before.tells → ((m : Map) (b : Book) → Opens classes SIZE_MAX before.file m b → ⊥)
+      → Unchanged before now
   pub frame : KeepsDisk before now
   pub cause : HasDiskCause (fault.Slot slot.Disk) before.faults now.faults result
 
@@ -167,3 +192,4 @@ pub record IsCut {T E : Type 0} (len : ℕ) (before now : disk.State) (result : 
   pub left : Leaves before now (λ image. (old : List ℕ) × before.may_leave old × ResizedImage len old image)
   pub only : OnOk result (Only now.file now.may_leave)
   pub all : OnOk result (now.turn ≡ counted before.turn 2)
+  pub most : now.turn ≤ before.turn + 2
