@@ -7,7 +7,7 @@ use Rattle.disk_face.specs.Counts.{HasCause, IsCalm, Rose}
 use Rattle.disk_face.specs.States.{State}
 use Rattle.disk_face.specs.Frames.{AfterMount, Untouched}
 use Rattle.disk_face.specs.Mounts.{is_mounted}
-use Rattle.disk_face.specs.Streams.{SinkState}
+use Rattle.disk_face.specs.Streams.{Puts, SinkState}
 use Rattle.disk_face.specs.Writes.{KeepsDisk}
 use Rattle.disk_face.specs.declared.bay.Mounted.TheVariants.{Absent, There}
 use Rattle.disk_face.proofs.FrameLaws.{Untouched-then}
@@ -19,16 +19,19 @@ use Rattle.store_core.specs.Connection.{Kept}
 use Rattle.store_core.specs.Opened.{IsOpening}
 use Rattle.reopen.specs.Refusals.{RefusesToOpen}
 use Rattle.reopen.specs.declared.fault.OpenFault.{OpenFault}
+use Rattle.work_maker.proofs.ListLaws.{how_many}
 use Rattle.costore_top.specs.Commands.{IsMounted}
 use Rattle.costore_top.specs.Doing.{Did, DidFrom, IsAllDone, IsNotBegun, IsRefusal, IsStopped}
 use Rattle.costore_top.specs.Faults.{line_of}
 use Rattle.costore_top.specs.Getting.{IsRefused, stop_of}
-use Rattle.costore_top.specs.Outcomes.{Ends, EndsBy, PutsLast, PutsLine, line_at, mounted, status_at, status_of}
+use Rattle.costore_top.specs.Outcomes.{Ends, EndsBy, IsFront, PutsLast, PutsLine, line_at, mounted, status_at, status_of}
+use Rattle.costore_top.specs.Summaries.{summary_text}
 use Rattle.costore_top.specs.Words.{Command, work}
-use Rattle.costore_top.specs.Working.{KeepsWork, has_worked, is_working}
+use Rattle.costore_top.specs.Working.{KeepsWork, PutsSummary, has_worked, is_working}
 use Rattle.costore_top.specs.declared.stop.Stop.{Stop}
 use Rattle.costore_top.specs.declared.stop.Stop.TheVariants as stop
 use Rattle.costore_top.proofs.EndLaws.{calm_by}
+use Rattle.costore_top.proofs.Statuses.{Puts-front}
 use Rattle.costore_top.proofs.WentLaws.{disk_by, mount_untouched, not_status, refused_unchanged, refuses, status_unopened}
 
 not_both : {A : Type 0} → false ≡ true → A
@@ -286,6 +289,79 @@ no_line put after failed line = line.front.2
     (nil_from_length (take line.front.0 [])
     (omega (arith, length-take-le {A = ℕ} line.front.0 [] line.front.1, line.front.1)))
     ∙ append-nil put.given
+
+-- a front of a text was put, and no line after it
+text_put : (out put after : SinkState) (text : List ℕ) (e : Result (Unit {0}) Stop) (failed : Type 0)
+    → Puts out.given put.given text e → after.given ≡ put.given
+    → (after.given ≡ out.given ++ text) ⊎ failed → PutsLast out.given after.given text failed
+text_put out put after text e failed puts same whole = record {
+  front = subst (λ (xs : List ℕ). IsFront out.given xs text) (sym same)
+      (Puts-front out.given put.given text e puts);
+  whole = whole;
+}
+
+module _ {D : Type 0} (disk_of : D → State) (number count : ℕ) (z : State) (out put after : SinkState)
+    (end : Result (Unit {0}) Stop) (line : IsTrue put.tells
+    → PutsLast put.given after.given (line_at end) (Rose put.faults after.faults)) where
+  -- where all jobs were done a summary is put, or a front of it
+  pub summary_put : {first : State} (x : IsAllDone disk_of number count first z out put end)
+      → IsTrue out.tells → PutsLast out.given after.given (summary_text x.summary) (status_at end ≡ 9)
+  summary_put x told = by end x.only (x.puts told) (line (x.told ∙ told))
+    where
+      text : List ℕ
+      text = summary_text x.summary
+
+      by : (e : Result (Unit {0}) Stop) → OnErr e (e ≡ Err stop.Sink) → Puts out.given put.given text e
+          → PutsLast put.given after.given (line_at e) (Rose put.faults after.faults)
+          → PutsLast out.given after.given text (status_at e ≡ 9)
+      by (Ok y) only puts ends =
+          let same = no_line put after (Rose put.faults after.faults) ends in
+          text_put out put after text (Ok y) (0 ≡ 9) puts same (inl (same ∙ puts.all))
+      by (Err why) only puts ends =
+          let none = subst (λ (e : Result (Unit {0}) Stop).
+          PutsLast put.given after.given (line_at e) (Rose put.faults after.faults)) only ends in
+          text_put out put after text (Err why) (status_of why ≡ 9) puts
+          (no_line put after (Rose put.faults after.faults) none)
+          (inr (ap (λ (e : Result (Unit {0}) Stop). status_at e) only))
+
+  -- the jobs of a command that ends so weren't all done
+  unworked : {A : Type 0} (e : Result (Unit {0}) Stop) → end ≡ e → has_worked (status_at e) ≡ false
+      → IsTrue (has_worked (status_at end)) → A
+  unworked e is none worked =
+      not_both (sym none ∙ ap (λ (x : Result (Unit {0}) Stop). has_worked (status_at x)) (sym is) ∙ worked)
+
+  unworked_refusal : (n : ℕ) → (n ≡ 4) ⊎ (n ≡ 7) ⊎ (n ≡ 10) → has_worked n ≡ false
+  unworked_refusal n (inl four) = ap has_worked four
+  unworked_refusal n (inr (inl seven)) = ap has_worked seven
+  unworked_refusal n (inr (inr ten)) = ap has_worked ten
+
+  -- what the summary says on any disk
+  pub summary_of : {c : Command} {old : State} → DidFrom disk_of c number count old z out put end
+      → IsTrue (has_worked (status_at end)) → PutsSummary count (status_at end) out after
+  summary_of (inl (is, same)) worked = elim is.which as (λ _. PutsSummary count (status_at end) out after) [
+    | inl failed ↦ unworked (Err stop.Disk) failed.0 refl worked
+    | inr gone ↦ unworked (Err stop.NoFile) gone.0 refl worked
+  ]
+  summary_of (inr x) worked = by x.did
+    where
+      by : Did disk_of number count (disk_of x.first) z out put end
+          → PutsSummary count (status_at end) out after
+      by (inl (inl is, same)) = unworked (Err (stop_of is.fault)) is.ended
+          (unworked_refusal (status_of (stop_of is.fault)) (status_unopened is.fault)) worked
+      by (inl (inr (inl is), same)) = unworked (Err stop.NoMemory) is.ended refl worked
+      by (inl (inr (inr is), same)) = unworked (Err stop.Disk) is.ended refl worked
+      by (inr is) = record {
+        summary = is.summary;
+        sums = record {
+          requests = is.done.requests ∙ how_many is.store.in_use.block.names 1 count _;
+          few = is.done.few;
+          moved_row = is.done.new.moved;
+          asked_row = is.done.new.asked;
+          lines = is.done.lines;
+          same = is.done.same;
+        };
+        puts = summary_put is;
+      }
 
 -- a line is put, and nothing else
 pub line_only : (out put after : SinkState) (end : Result (Unit {0}) Stop)

@@ -1,11 +1,11 @@
 -- The headline of `work` in each way that the command may go.
-use Rattle.std.specs.Prelude.{◌≡◌, ◌⊎◌, ℕ, ◌≤◌, List, ◌++◌, length, Ok, Err, Result, OnErr, IsTrue, refl}
+use Rattle.std.specs.Prelude.{◌≡◌, ℕ, ◌≤◌, List, length, Ok, Err, Result, OnErr, IsTrue, refl}
 use Rattle.std.proofs.Common.{arith, sym, ◌∙◌, subst, inl, inr}
 use Rattle.disk_face.specs.Counts.{Rose}
 use Rattle.disk_face.specs.States.{IsLawful, State}
 use Rattle.disk_face.specs.Frames.{AfterMount, Unchanged}
 use Rattle.disk_face.specs.Moments.{Leaves}
-use Rattle.disk_face.specs.Streams.{Puts, SinkState}
+use Rattle.disk_face.specs.Streams.{SinkState}
 use Rattle.size_class.specs.declared.TheConstants.{CLASSES, SIZE_MAX}
 use Rattle.slot_codec.specs.Choice as choice
 use Rattle.slot_codec.specs.declared.codec.SuperBlock.{SuperBlock}
@@ -18,21 +18,19 @@ use Rattle.store_core.specs.States as store
 use Rattle.store_core.specs.Opened.{IsFoundImage, IsOpening, LeavesRoom, RestsOnFound, SameOnFound, state_at}
 use Rattle.reopen.specs.declared.fault.OpenFault.{OpenFault}
 use Rattle.reopen.specs.declared.fault.OpenFault.TheVariants as opening
-use Rattle.work_session.specs.declared.summary.Summary.{Summary}
 use Rattle.costore_top.specs.Doing.{Did, DidFrom, IsAllDone, IsNotBegun, IsRefusal, IsStopped}
 use Rattle.costore_top.specs.Getting.{stop_of}
 use Rattle.costore_top.specs.Headline.{IsNextStart, Starts}
-use Rattle.costore_top.specs.Outcomes.{IsFront, PutsLast, line_at, status_at, status_of}
+use Rattle.costore_top.specs.Outcomes.{PutsLast, line_at, status_at, status_of}
 use Rattle.costore_top.specs.Summaries.{summary_text}
 use Rattle.costore_top.specs.Words.{Command}
 use Rattle.costore_top.specs.Working.{WorksAs}
 use Rattle.costore_top.specs.declared.stop.Stop.{Stop}
 use Rattle.costore_top.specs.declared.stop.Stop.TheVariants as stop
-use Rattle.costore_top.proofs.DidLaws.{no_line}
+use Rattle.costore_top.proofs.DidLaws.{summary_put}
 use Rattle.costore_top.proofs.UnopenedLaws.{WhyUnopened, begins_itself, why_unopened}
 use Rattle.costore_top.proofs.UnopenedLaws.WhyUnopened.{disk, memory}
 use Rattle.costore_top.proofs.OpeningLemmas.{Opened, left_first, left_opening, opened_by, opens_first, rests_first, told_first}
-use Rattle.costore_top.proofs.Statuses.{Puts-front}
 use Rattle.costore_top.proofs.WorkLaws.{all_done, in_a_job, none_begun, none_done}
 
 module _ (t : choice.Table) (m : Map) (b : Book) (old : State) (lawful : IsLawful old)
@@ -136,39 +134,25 @@ module _ (t : choice.Table) (m : Map) (b : Book) (old : State) (lawful : IsLawfu
 
       -- ---- all jobs were done
 
-      -- a front of the summary
-      text_put : (x : Summary) (e : Result (Unit {0}) Stop) (failed : Type 0)
-          → Puts out.given put.given (summary_text x) e → after.given ≡ put.given
-          → (after.given ≡ out.given ++ summary_text x) ⊎ failed
-          → PutsLast out.given after.given (summary_text x) failed
-      text_put x e failed puts same whole = record {
-        front = subst (λ (xs : List ℕ). IsFront out.given xs (summary_text x)) (sym same)
-            (Puts-front out.given put.given (summary_text x) e puts);
-        whole = whole;
-      }
-
       summed : IsAllDone disk_of number count first z out put end → PutsEnd end → Works (status_at end)
-      summed x line = by end refl x.only x.puts line
+      summed x line = by end refl x.only
         where
           op : Opened t m b old (disk_of x.mid) x.store
           op = opened_by t m b old first mount told o (disk_of x.mid) x.store calm_mount x.opening
 
-          by : (e : Result (Unit {0}) Stop) → end ≡ e → OnErr e (e ≡ Err stop.Sink)
-              → (IsTrue out.tells → Puts out.given put.given (summary_text x.summary) e) → PutsEnd e
-              → Works (status_at end)
-          by (Ok y) is only puts ends = carried (Ok y) is (over_block 0 op
+          puts : (e : Result (Unit {0}) Stop) → end ≡ e → IsTrue out.tells
+              → PutsLast out.given after.given (summary_text x.summary) (status_at e ≡ 9)
+          puts e is = subst (λ (e : Result (Unit {0}) Stop). IsTrue out.tells
+              → PutsLast out.given after.given (summary_text x.summary) (status_at e ≡ 9)) is
+              (summary_put disk_of number count z out put after end line x)
+
+          by : (e : Result (Unit {0}) Stop) → end ≡ e → OnErr e (e ≡ Err stop.Sink) → Works (status_at end)
+          by (Ok y) is only = carried (Ok y) is (over_block 0 op
               (all_done t m b old lawful o number count out after op x.summary x.done 0 refl refl
-              (λ n. omega (arith, n)) (λ n. omega (arith, n))
-              (λ sink_told.
-              let same = no_line put after (Rose put.faults after.faults) (ends (x.told ∙ sink_told)) in
-              text_put x.summary (Ok y) (0 ≡ 9) (puts sink_told) same (inl (same ∙ (puts sink_told).all)))))
-          by (Err why) is only puts ends = carried (Err stop.Sink) (is ∙ only) (over_block 9 op
+              (λ n. omega (arith, n)) (λ n. omega (arith, n)) (puts (Ok y) is)))
+          by (Err why) is only = carried (Err stop.Sink) (is ∙ only) (over_block 9 op
               (all_done t m b old lawful o number count out after op x.summary x.done 9 refl refl
-              (λ n. omega (arith, n)) (λ n. omega (arith, n))
-              (λ sink_told. text_put x.summary (Err why) (9 ≡ 9) (puts sink_told)
-              (no_line put after (Rose put.faults after.faults)
-              (subst PutsEnd only ends (x.told ∙ sink_told)))
-              (inr refl))))
+              (λ n. omega (arith, n)) (λ n. omega (arith, n)) (puts (Err stop.Sink) (is ∙ only))))
 
   -- ---- all of them
 

@@ -131,12 +131,29 @@ pub record KeepsWork (old new : disk.State) (out after : SinkState) (status : �
   pub sink_calm : status ≡ 0 → after.faults ≡ out.faults
   pub sink_told : after.tells ≡ out.tells
 
--- What `work` does whatever the file and the devices tell. Where the jobs weren't all done the fault line is
--- all that is put; where the file isn't there or is refused, it stays as it was. One that opens isn't
--- refused.
-pub record WorksSo (status : ℕ) (old new : disk.State) (out after : SinkState) : Type 0 where
+-- What a summary says whatever the disk tells: how many jobs there were, of which no more were counted, and
+-- costs that are those of two rows of bytes by class, of the bytes moved and of those asked for.
+pub record SumsUpJobs (count : ℕ) (x : Summary) : Type 0 where
+  pub requests : x.requests ≡ count + 1
+  pub few : x.ok + x.kept + x.refused ≤ x.requests
+  pub moved_row : List ℕ
+  pub asked_row : List ℕ
+  pub lines : LinesOf CLASSES moved_row asked_row x
+  pub same : x.moved * 2 ^ (CLASSES - 1) ≡ x.linear.moved
+
+-- The summary of a list of jobs was put, or where the sink failed a front of it.
+pub record PutsSummary (count status : ℕ) (out after : SinkState) : Type 0 where
+  pub summary : Summary
+  pub sums : SumsUpJobs count summary
+  pub puts : IsTrue out.tells → PutsLast out.given after.given (summary_text summary) (status ≡ 9)
+
+-- What `work` does whatever the file and the devices tell. Where all jobs were done their summary is put, and
+-- else the fault line alone; where the file isn't there or is refused, it stays as it was. One that opens
+-- isn't refused.
+pub record WorksSo (count status : ℕ) (old new : disk.State) (out after : SinkState) : Type 0 where
   pub known : (is_working status ≡ true) ⊎ (status ≡ 4)
   pub keeps : KeepsWork old new out after status
   pub untouched : (status ≡ 3) ⊎ (status ≡ 4) → Untouched old new
   pub refused : IsTrue old.tells → status ≡ 4 → NeverOpens old.file
+  pub summed : IsTrue (has_worked status) → PutsSummary count status out after
   pub line_alone : IsTrue out.tells → has_worked status ≡ false → PutsLine status out after

@@ -94,7 +94,7 @@ pub fn jobs_are_done<B: Bay, O: Sink>()
     ensures { (t : choice.Table) (m : Map) (b : Book) (file : List ℕ) (number count status : ℕ) (old new : B)
         (out after : O) → OpensBy CLASSES SIZE_MAX t (B.state old).file m b
         → WorksFrom number count status (B.state old) (B.state new) (O.state out) (O.state after)
-        → WorksSo status (B.state old) (B.state new) (O.state out) (O.state after)
+        → WorksSo count status (B.state old) (B.state new) (O.state out) (O.state after)
         → IsMounted (work file number count) (B.state new).last_mount (status ≡ 7) (status ≡ 3)
         → (B.state new).last_mount ≡ mounted (work file number count) There
         → IsCalm (B.state old).faults (B.state new).faults

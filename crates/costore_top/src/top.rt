@@ -114,7 +114,7 @@ pub fn costore<B: Bay, I: Source, O: Sink>(
         → IsTrue (B.state bay.old).tells → WorksFrom number count result.status (B.state bay.old)
         (B.state bay.new) (O.state output.old) (O.state output.new) }
     ensures keeps_working { (file : List ℕ) (number count : ℕ)
-        → Means (texts words.now) (work file number count) → WorksSo result.status (B.state bay.old)
+        → Means (texts words.now) (work file number count) → WorksSo count result.status (B.state bay.old)
         (B.state bay.new) (O.state output.old) (O.state output.new) }
 {
     match read_serving(words) {

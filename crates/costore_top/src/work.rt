@@ -40,7 +40,7 @@ pub fn work_file<B: Bay, O: Sink>(
         → Ends (IsRefused (B.state bay.old).file) result.status (O.state output.old) (O.state output.new) }
     ensures mounted { IsMounted (work file.now number count) (B.state bay.new).last_mount (result.status ≡ 7)
         (result.status ≡ 3) }
-    ensures keeps { WorksSo result.status (B.state bay.old) (B.state bay.new) (O.state output.old)
+    ensures keeps { WorksSo count result.status (B.state bay.old) (B.state bay.new) (O.state output.old)
         (O.state output.new) }
     ensures numbers { (result.done ≡ 0) × (result.kept_done ≡ 0) × (result.kept_turn ≡ 0) }
 {

@@ -6,7 +6,7 @@ use Rattle.costore_top.specs.Outcomes.{status_at}
 use Rattle.costore_top.specs.Words.{work}
 use Rattle.costore_top.specs.Working.{WorksAs, WorksSo}
 use Rattle.costore_top.specs.declared.top.Outcome.{Outcome}
-use Rattle.costore_top.proofs.DidLaws.{ends_by_line, keeps_line, line_only, refused_did, whole}
+use Rattle.costore_top.proofs.DidLaws.{ends_by_line, keeps_line, line_only, refused_did, summary_of, whole}
 use Rattle.costore_top.proofs.RefusalLaws.{never_did}
 use Rattle.costore_top.proofs.WorkingLaws.{works}
 use Rattle.costore_top.proofs.work.work_file.Goals as goal
@@ -67,12 +67,14 @@ returns-clause-keeps g c =
     c.finish.ensures.status in
     let w = whole g.B.Disk.state c.args.file.now c.args.number c.args.count old new out put end
     c.work_over-end.ensures in
-    subst (λ n. WorksSo n old new out after) (sym status) (record {
+    subst (λ n. WorksSo c.args.count n old new out after) (sym status) (record {
       known = w.known;
       keeps = keeps_line old new out put after end w.keeps c.finish.ensures.later c.finish.ensures.calm
           c.finish.ensures.told;
       untouched = w.untouched;
       refused = λ told four. never_did g.B.Disk.state c.args.file.now c.args.number c.args.count old new out
           put end told four c.work_over-end.ensures;
+      summed = summary_of g.B.Disk.state c.args.number c.args.count new out put after end
+          c.finish.ensures.line c.work_over-end.ensures;
       line_alone = λ told none. line_only out put after end none (w.nothing none) told c.finish.ensures.line;
     })
