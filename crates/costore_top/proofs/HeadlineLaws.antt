@@ -96,6 +96,7 @@ module _ {D I O : Type 0} (disk_of : D → State) (source_of : I → SourceState
     opens = subst (λ (f : List ℕ). OpensBy CLASSES SIZE_MAX t f m b) (sym same) o;
     block = refl;
     not_worn = omega arith;
+    exact = λ same. refl;
     rests = rests;
   }
 

@@ -41,6 +41,7 @@ pub record Opened (t : choice.Table) (m : Map) (b : Book) (old a : State) (s : K
   pub state : state_of s a.file ≡ state_at m b s.in_use.sequence
   pub block : s.in_use.block ≡ t.chosen.block
   pub sequence : BeginsFrom t.chosen.header.kind t.chosen.header.sequence s.in_use.sequence
+  pub continues : ContinuesFrom t.chosen.header.kind t.chosen.header.sequence s.in_use.sequence
   pub most : s.in_use.sequence ≤ most_found t
   pub over : IsOver CLASSES s a.file
   pub sound : IsStore CLASSES s
@@ -107,15 +108,14 @@ module _ (t : choice.Table) (m : Map) (b : Book) (old first : State) (mount : Af
         let is : IsOpened CLASSES first.file a.file s = opening.opened told_first in
         let one : FoundSame is.table t is.m m is.b b =
         found_one CLASSES is.table t first.file is.m m is.b b is.found opens_first in
+        let continues = subst (λ (x : choice.Table). ContinuesFrom x.chosen.header.kind
+        x.chosen.header.sequence s.in_use.sequence) one.same_table is.continues in
         record {
           state = is.state ∙ (λ i. state_at (one.same_map i) (one.same_book i) s.in_use.sequence);
           block = is.block ∙ ap (λ (x : choice.Table). x.chosen.block) one.same_table;
-          most = most_of t.chosen.header.kind t.chosen.header.sequence s.in_use.sequence
-              (subst (λ (x : choice.Table). ContinuesFrom x.chosen.header.kind x.chosen.header.sequence
-              s.in_use.sequence) one.same_table is.continues);
-          sequence = begins_of t.chosen.header.kind t.chosen.header.sequence s.in_use.sequence
-              (subst (λ (x : choice.Table). ContinuesFrom x.chosen.header.kind x.chosen.header.sequence
-              s.in_use.sequence) one.same_table is.continues);
+          continues = continues;
+          most = most_of t.chosen.header.kind t.chosen.header.sequence s.in_use.sequence continues;
+          sequence = begins_of t.chosen.header.kind t.chosen.header.sequence s.in_use.sequence continues;
           over = opening.over told_first;
           sound = opening.fresh.store;
           unbroken = opening.fresh.whole;

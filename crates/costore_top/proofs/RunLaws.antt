@@ -1,5 +1,6 @@
 -- The headline of a session, from how the session went.
 use Rattle.std.specs.Prelude.{◌≡◌, ◌≢◌, ◌⊎◌, ℕ, ◌+◌, ◌-◌, ◌<◌, ◌≤◌, ◌==◌, Bool, true, false, ◌&&◌, if◌then◌else◌, List, [], ◌∷◌, ◌++◌, length, flat_map, Result, IsTrue, refl}
+use Rattle.std.proofs.lemmas.Bool.{cases_Bool}
 use Rattle.std.proofs.Common.{arith, ap, sym, ◌∙◌, subst, inl, inr, append-nil}
 use Rattle.std.proofs.lemmas.List.{append_cancel_left}
 use Rattle.disk_face.specs.Counts.{IsCalm, Rose, counted, last}
@@ -39,11 +40,11 @@ use Rattle.ask_session.specs.declared.ends.End.{End}
 use Rattle.ask_session.proofs.GrowingLaws.{and_none, last_more, some_last, some_more}
 use Rattle.ask_session.proofs.MakesLaws.{makes, saves_within}
 use Rattle.ask_session.proofs.RunLaws.{opens_with}
-use Rattle.costore_top.specs.Headline.{EndsTight, HasReplied, HowFar, IsLong, IsNextStart, IsPartial, IsTold, IsWithinBounds, NumbersLine, OpensTo, OpensToBeing, OpensToKept, OpensToNext, Ran, RunsAs, Starts, has_failed, limits_with, most_left, next_reply, next_saves, next_states, served_states, state_after, turn_opened}
+use Rattle.costore_top.specs.Headline.{EndsTight, HasReplied, HowFar, IsLong, IsNextStart, IsPartial, IsTold, IsWithinBounds, NumbersLine, OpensTo, OpensToBeing, OpensToKept, OpensToNext, Ran, RunsAs, Starts, has_failed, limits_with, most_left, next_is_changing, next_reply, next_saves, next_states, served_states, state_after, turn_opened}
 use Rattle.costore_top.specs.Outcomes.{PutsLast, line_at, status_at}
 use Rattle.costore_top.specs.declared.stop.Stop.{Stop}
 use Rattle.costore_top.specs.declared.top.Outcome.{Outcome}
-use Rattle.costore_top.proofs.RunLists.{IsNext, LastIs, Splits, begins_none, first_kept, last_is, next_is, none_next, some_weaker, splits}
+use Rattle.costore_top.proofs.RunLists.{IsNext, LastIs, Splits, begins_none, first_kept, last_is, next_is, none_next, served_sequence, some_weaker, splits}
 use Rattle.costore_top.proofs.OpeningLemmas.{Opened, found_numbered, requests_low}
 
 -- ---- a store over a file
@@ -80,6 +81,8 @@ next_over t s old z q h over block low rests = record {
     chosen_sequence z.file s.in_use over.table.chosen over.checkpoint.slot
         (table_chosen z.file over.table over.checkpoint.opens.read).0,
   );
+  exact = λ same. chosen_sequence z.file s.in_use over.table.chosen over.checkpoint.slot
+      (table_chosen z.file over.table over.checkpoint.opens.read).0 ∙ sym same;
   rests = λ was image left. alike_found CLASSES s z.file image h over (rests was image left);
 }
 
@@ -291,6 +294,7 @@ module _ {t : choice.Table} {m : Map} {b : Book} {requests : List Request} {end 
     between_requests = record {
       start = start;
       starts = starts;
+      continues = λ is. op.continues;
       ran = ran_of s1.done split.others refl refl;
       far = far;
       replies = λ told. record {
@@ -322,6 +326,7 @@ module _ {t : choice.Table} {m : Map} {b : Book} {requests : List Request} {end 
       };
       numbered = numbered_c;
       acknowledged = record { number = number; turns = λ _. calls_c };
+      failed = λ is. absurd (seven is);
       next_start = λ calm.
           let q = last_one.sequence
           + (if status == 9 then next_saves limits last_one split.others else 0) in
@@ -568,6 +573,20 @@ module _ {t : choice.Table} {m : Map} {b : Book} {requests : List Request} {end 
         next_some : others ≡ [] → ⊥
         next_some is = absurd (cc)
 
+        -- where the request only reads, the calls are those before it
+        still_z : (next_is_changing others ≡ true)
+            ⊎ (z.turn ≡ counted new.kept_turn (calls_since limits 0 start states ran.requests ran.replies))
+        still_z = elim (cases_Bool (is_changing r)) as (λ _. (next_is_changing others ≡ true)
+            ⊎ (z.turn ≡ counted new.kept_turn (calls_since limits 0 start states ran.requests ran.replies))) [
+              | inl changes ↦ inl changes
+              | inr reads ↦ inr (omega (
+                arith,
+                (x.served.replies.serves.still reads).same_turn,
+                calls_c,
+                x.counts.kept_turn,
+              ))
+            ]
+
         number_z : new.kept_done ≡ last_kept 0 0 ran.replies
         number_z = x.counts.kept_done ∙ number
 
@@ -586,6 +605,10 @@ module _ {t : choice.Table} {m : Map} {b : Book} {requests : List Request} {end 
           disk_failed = record {
             start = start;
             starts = starts;
+            continues = λ is. absurd (elim is as (λ _. ⊥) [
+              | inl whole ↦ (let e : false ≡ true = whole in absurd (cc))
+              | inr nine ↦ omega (arith, nine)
+            ]);
             ran = ran_of new.done others next.is x.counts.done;
             far = record {
               known = refl;
@@ -615,6 +638,7 @@ module _ {t : choice.Table} {m : Map} {b : Book} {requests : List Request} {end 
               number = number_z;
               turns = λ is. let e : false ≡ true = is in absurd (cc);
             };
+            failed = λ seven mounted. still_z;
             next_start = λ calm. never calm;
           }
 
@@ -719,6 +743,15 @@ module _ {t : choice.Table} {m : Map} {b : Book} {requests : List Request} {end 
                 opens = e.opens;
                 block = e.block;
                 not_worn = e.not_worn;
+                exact = λ same. e.exact (omega (
+                  arith,
+                  same,
+                  served_sequence limits last_one r,
+                  step.low,
+                  step.high,
+                  ap (λ (y : store.State). y.sequence) newest,
+                  ap (λ (y : Served). y.saves.most) served_is,
+                ));
                 rests = e.rests;
               }
 
@@ -726,6 +759,7 @@ module _ {t : choice.Table} {m : Map} {b : Book} {requests : List Request} {end 
           sink_failed = record {
             start = start;
             starts = starts;
+            continues = λ is. op.continues;
             ran = ran_of new.done others next.is x.counts.done;
             far = record {
               known = refl;
@@ -759,6 +793,7 @@ module _ {t : choice.Table} {m : Map} {b : Book} {requests : List Request} {end 
               number = number_z;
               turns = λ is. let e : false ≡ true = is in absurd (cc);
             };
+            failed = λ is. absurd (omega (arith, is));
             next_start = λ calm. subst (λ (y : store.State). IsNextStart t y
                 (last_one.sequence + next_one.saves.most) old z) (sym last_served) next_z;
           }

@@ -1,10 +1,13 @@
 -- Lists of a run: which requests of an input were answered, and which state each checkpoint has.
-use Rattle.std.specs.Prelude.{◌≡◌, ◌⊎◌, ℕ, zero, suc, ◌+◌, ◌≤◌, Bool, true, false, if◌then◌else◌, List, [], ◌∷◌, ◌++◌, length, flat_map, refl, codes}
+use Rattle.std.specs.Prelude.{◌≡◌, ◌⊎◌, ℕ, zero, suc, ◌+◌, ◌≤◌, Bool, true, false, if◌then◌else◌, List, [], ◌∷◌, ◌++◌, length, flat_map, Option, Some, None, refl, codes}
 use Rattle.std.specs.List.{AllByRecursion}
 use Rattle.std.proofs.Common.{arith, ap, sym, ◌∙◌, subst, inl, inr, append_assoc, append-nil, length-append}
 use Rattle.disk_face.specs.Counts.{counted, last}
-use Rattle.store_terms.specs.Requests.{Reply, Request}
-use Rattle.store_core.specs.States.{Chain, Limits, State, Step, served}
+use Rattle.store_terms.specs.Requests as ask
+use Rattle.store_terms.specs.Requests.{Change, Refused, Reply, Request}
+use Rattle.segment_layout.specs.Books.{next_book}
+use Rattle.store_core.specs.States.{Chain, Limits, Served, State, Step, accepted, facts_of, refusal, served, served_change}
+use Rattle.store_core.proofs.StepLaws.{served_by}
 use Rattle.ask_text.specs.Asks.{ask_of, line_of}
 use Rattle.ask_text.specs.Inputs.{Asks, BeginsNone, HasText, body_of, request_text}
 use Rattle.ask_text.proofs.InputLaws.{text_one}
@@ -15,6 +18,35 @@ use Rattle.ask_session.proofs.MakesLaws.{makes}
 use Rattle.ask_session.proofs.RunLaws.{opens_with}
 use Rattle.size_class.specs.declared.TheConstants.{CLASSES}
 use Rattle.costore_top.specs.Headline.{IsKept, OpensTo, state_after}
+
+-- ---- what a request leaves
+
+change_sequence : (limits : Limits) (s : State) (c : Change) (q : Bool)
+    → (next_book limits.k s.map s.book c).quiet ≡ q → (served_change limits s c).state.sequence ≡ s.sequence
+change_sequence limits s c true is = rw is refl
+change_sequence limits s c false is = rw is refl
+
+accepted_sequence : (limits : Limits) (s : State) (r : Request)
+    → (accepted limits s r).state.sequence ≡ s.sequence
+accepted_sequence limits s (ask.change c) = change_sequence limits s c
+    (next_book limits.k s.map s.book c).quiet refl
+accepted_sequence limits s (ask.get name) = refl
+accepted_sequence limits s (ask.old name) = refl
+accepted_sequence limits s ask.keep = refl
+accepted_sequence limits s ask.back = refl
+accepted_sequence limits s ask.list = refl
+accepted_sequence limits s ask.stat = refl
+
+-- the state that is served has the sequence of before, which a step then raises
+pub served_sequence : (limits : Limits) (s : State) (r : Request)
+    → (served limits s r).state.sequence ≡ s.sequence
+served_sequence limits s r = by (refusal limits (facts_of s r) r) refl
+  where
+    by : (o : Option Refused) → refusal limits (facts_of s r) r ≡ o
+        → (served limits s r).state.sequence ≡ s.sequence
+    by None is = ap (λ (x : Served). x.state.sequence) (served_by limits s r None is)
+        ∙ accepted_sequence limits s r
+    by (Some w) is = ap (λ (x : Served). x.state.sequence) (served_by limits s r (Some w) is)
 
 -- ---- requests
 

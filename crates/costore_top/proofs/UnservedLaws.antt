@@ -66,6 +66,10 @@ module _ {t : choice.Table} {m : Map} {b : Book} {old z : State}
     unserved_runs = record {
       start = start;
       starts = starts;
+      continues = λ is. absurd (elim is as (λ _. ⊥) [
+        | inl whole ↦ (let e : true ≡ false = sym whole ∙ not_whole in absurd (cc))
+        | inr is_nine ↦ nine is_nine
+      ]);
       ran = record {
         answered = [];
         others = requests;
@@ -115,6 +119,7 @@ module _ {t : choice.Table} {m : Map} {b : Book} {old z : State}
         number = refl;
         turns = λ whole. absurd (let e : true ≡ false = sym whole ∙ not_whole in cc);
       };
+      failed = λ seven mounted. inr (omega (arith, since mounted, lawful.turn_fits));
       next_start = λ calm.
           let q = start.sequence + (if status == 9 then next_saves (limits_with u) start requests else 0) in
           let is : start.sequence ≡ q = sym (ap (λ (x : Bool). start.sequence

@@ -88,6 +88,7 @@ module _ (t : choice.Table) (m : Map) (b : Book) (old : State) (lawful : IsLawfu
     none_begun status known none next = record {
       start = start;
       starts = starts;
+      continues = λ is. absurd (let e : true ≡ false = sym is ∙ none in cc);
       n = 0;
       ran = record {
         answered = [];
@@ -181,6 +182,7 @@ module _ (t : choice.Table) (m : Map) (b : Book) (old : State) (lawful : IsLawfu
       in_a_job x = record {
         start = start;
         starts = starts;
+        continues = λ is. absurd (let e : false ≡ true = is in cc);
         n = length x.done;
         ran = record {
           answered = x.done;
@@ -235,6 +237,7 @@ module _ (t : choice.Table) (m : Map) (b : Book) (old : State) (lawful : IsLawfu
         all_done status known worked seven begun puts = record {
           start = start;
           starts = starts;
+          continues = λ is. op.continues;
           n = length requests;
           ran = record {
             answered = requests;

@@ -63,6 +63,7 @@ module _ (t : choice.Table) (m : Map) (b : Book) (old : State) (lawful : IsLawfu
     opens = subst (λ (f : List ℕ). OpensBy CLASSES SIZE_MAX t f m b) (sym same) o;
     block = refl;
     not_worn = omega arith;
+    exact = λ same. refl;
     rests = rests;
   }
 

@@ -19,7 +19,7 @@ use Rattle.segment_layout.specs.Bounds.{Loose, Tight}
 use Rattle.table_rules.specs.Opening.{Opens, OpensBy}
 use Rattle.table_rules.specs.Sequences.{HasSequenceUpTo}
 use Rattle.store_core.specs.States.{Chain, Limits, State, served}
-use Rattle.store_core.specs.Opened.{LeavesRoom, RestsOnFound, found_base, most_found, state_at, turn_after_cut}
+use Rattle.store_core.specs.Opened.{ContinuesFrom, LeavesRoom, RestsOnFound, found_base, most_found, state_at, turn_after_cut}
 use Rattle.ask_text.specs.Inputs.{Asks}
 use Rattle.ask_text.specs.Replies.{reply_text}
 use Rattle.ask_session.specs.Serving.{acknowledges, is_changing}
@@ -38,7 +38,7 @@ limits_with u = record { k = u.k; names = u.names; size_max = SIZE_MAX }
 -- the sequence at the start: the one found, or for a moving table one that its flush rose to
 abbrev pub BeginsFrom : Kind → ℕ → ℕ → Type 0
 BeginsFrom kind.Settled found sequence = sequence ≡ found
-BeginsFrom kind.Moving found sequence = (found ≤ sequence) × (sequence ≤ found + 2 ^ 18)
+BeginsFrom kind.Moving found sequence = (found ≤ sequence) × (sequence < found + 2 ^ 18)
 
 -- the state in which a session begins over a file that opens by a table to a map and a book
 pub record Starts (t : choice.Table) (m : Map) (b : Book) (s : State) : Type 0 where
@@ -250,12 +250,14 @@ pub record IsAcknowledged (limits : Limits) (start : State) (answered : List Req
 -- ---- the next call
 
 -- The next call may begin here: the content opens to the checkpoint of a state, by the same superblock and
--- with a sequence that is no greater, and where the disk rested on its table it rests on this one.
+-- with a sequence that is no greater, and just this where it is the state's own; and where the disk rested on its
+-- table it rests on this one.
 pub record IsNextStart (found : choice.Table) (s : State) (sequence : ℕ) (old new : disk.State) : Type 0 where
   pub table : choice.Table
   pub opens : OpensBy CLASSES SIZE_MAX table new.file s.kept s.kept_book
   pub block : table.chosen.block ≡ found.chosen.block
   pub not_worn : table.chosen.header.sequence ≤ sequence
+  pub exact : sequence ≡ s.sequence → table.chosen.header.sequence ≡ sequence
   pub rests : RestsOnFound found old → RestsOnFound table new
 
 -- ---- the whole
@@ -277,6 +279,8 @@ pub record RunsAs (u : SuperBlock) (t : choice.Table) (m : Map) (b : Book) (requ
     (o : Outcome) (old new : disk.State) (from rest : SourceState) (out after : SinkState) : Type 0 where
   pub start : State
   pub starts : Starts t m b start
+  pub continues : IsTrue (is_whole o.status) ⊎ (o.status ≡ 9)
+      → ContinuesFrom t.chosen.header.kind t.chosen.header.sequence start.sequence
   pub ran : Ran (limits_with u) start requests o.done
   -- the replies are the map's
   pub far : HowFar o.status o.done ran.others end from rest
@@ -299,8 +303,12 @@ pub record RunsAs (u : SuperBlock) (t : choice.Table) (m : Map) (b : Book) (requ
       ran.replies ran.states ran.others o (HasMounted new) old new
   pub numbered : LeavesRoom t → RestsOnFound t old → new.turn < last
       → LeftOnly new old.turn (HasSequenceUpTo (most_left u.k t))
-  -- what is acknowledged
+  -- what is acknowledged, and the turns since where the disk failed in a request that only reads, or before the
+  -- first
   pub acknowledged : IsAcknowledged (limits_with u) start ran.answered ran.replies ran.states o new.turn
+  pub failed : o.status ≡ 7 → HasMounted new → (next_is_changing ran.others ≡ true)
+      ⊎ (new.turn ≡ counted o.kept_turn (calls_since (limits_with u) 0 start ran.states ran.answered
+      ran.replies))
   -- where the disk didn't fail, the next call may begin
   pub next_start : IsCalm old.faults new.faults → IsNextStart t
       (last_state start (served_states o.status (limits_with u) start ran.states ran.others))

@@ -16,7 +16,7 @@ use Rattle.segment_layout.specs.Books.{Book, book_end}
 use Rattle.table_rules.specs.Opening.{OpensBy}
 use Rattle.table_rules.specs.Sequences.{HasSequenceUpTo}
 use Rattle.store_core.specs.States.{State}
-use Rattle.store_core.specs.Opened.{LeavesRoom, RestsOnFound, found_base}
+use Rattle.store_core.specs.Opened.{ContinuesFrom, LeavesRoom, RestsOnFound, found_base}
 use Rattle.ask_session.specs.Runs as run
 use Rattle.ask_session.specs.Runs.{last_state}
 use Rattle.work_maker.specs.Jobs.{jobs}
@@ -95,6 +95,8 @@ pub record WorksAs (u : SuperBlock) (t : choice.Table) (m : Map) (b : Book) (num
     (old new : disk.State) (out after : SinkState) : Type 0 where
   pub start : State
   pub starts : Starts t m b start
+  pub continues : IsTrue (has_worked status)
+      → ContinuesFrom t.chosen.header.kind t.chosen.header.sequence start.sequence
   pub n : ℕ
   pub ran : Ran (limits_with u) start (jobs number count u.names) n
   pub far : HowManyJobs status n ran.others
