@@ -265,7 +265,7 @@ module _ (t : choice.Table) (m : Map) (b : Book) (old : State) (lawful : IsLawfu
               same = d.same;
               asked = d.asked op.told;
               paid = subst (λ (g : List (List ℕ)). ArePaidLines CLASSES u.k g x)
-                  (ap (λ (y : store.State). y.book.grid) op.state) (d.paid op.told);
+                  (ap (λ (y : store.State). y.book.grid) op.state) d.paid;
             };
             puts = puts;
             saved = record {

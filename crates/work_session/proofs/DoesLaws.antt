@@ -56,20 +56,19 @@ refused_charges {classes} r s new a d x h is same none =
     nothing_charged r s new a d (same_moves_nothing s new same.same_store)
     (λ e. ap (λ (y : Reply). asked_by (state_of s a.file) r y e) reply
     ∙ refused_asks (state_of s a.file) r w.0 e)
-    (omega (arith, same.same_disk.same_turn))
+    (λ told. omega (arith, same.same_disk.same_turn))
 
 -- ---- changes
 
 change_result : {classes : ℕ} (s new : Kept) (c : Change) (a d : disk.State) (result : Result Done Refusal)
     → IsSound classes s a → IsShortChange c → IsChange classes c s new a d result
-    → IfSome (reply_of done_reply result) (λ reply. Step (limits_of s) (state_of s a.file)
-    (ask.change c) reply
-    (state_of new d.file))
-    → OnOk (answer_change result) (IsStore classes new) → IsTrue a.tells → length s.asked ≡ width
+    → (IsTrue a.tells → IfSome (reply_of done_reply result) (λ reply. Step (limits_of s) (state_of s a.file)
+    (ask.change c) reply (state_of new d.file)))
+    → OnOk (answer_change result) (IsStore classes new) → length s.asked ≡ width
     → OnOk (answer_change result) (Charges classes (ask.change c) s new a d)
-change_result s new c a d (Ok done) h short x step sound told full =
-    change_charges s new c a d done h told full short x step sound
-change_result {classes} s new c a d (Err w) h short x step sound told full =
+change_result s new c a d (Ok done) h short x step sound full =
+    change_charges s new c a d done h full short x step sound
+change_result {classes} s new c a d (Err w) h short x step sound full =
     by (refused_by s (ask.change c)) refl x.answer
   where
     by : (o : Option Refusal) → refused_by s (ask.change c) ≡ o
@@ -94,7 +93,7 @@ change_does {classes} s new c a d result h short x step sound = record {
   sound = now_sound;
   replied = y.replied;
   small = small_change result;
-  charges = λ told full. change_result s new c a d result h short x (step h.whole told) now_sound told full;
+  charges = change_result s new c a d result h short x (step h.whole) now_sound;
   only = y.only;
   cause = y.disk_cause;
 }
@@ -112,8 +111,9 @@ at_ok {P} r done is p = subst (λ (y : Result Done Refusal). OnOk y P) is p
 
 module _ {classes : ℕ} (s new : Kept) (a d : disk.State) (h : IsSound classes s a) where
   keep_result : (result : Result Done Refusal) → IsKeep classes s new a d result
-      → IfSome (reply_of done_reply result) (λ reply. Step (limits_of s) (state_of s a.file) ask.keep reply
-      (state_of new d.file)) → OnOk (answer_change result) (Charges classes ask.keep s new a d)
+      → (IsTrue a.tells → IfSome (reply_of done_reply result) (λ reply. Step (limits_of s)
+      (state_of s a.file) ask.keep reply (state_of new d.file)))
+      → OnOk (answer_change result) (Charges classes ask.keep s new a d)
   keep_result result x step = by result refl (refused_by s ask.keep) refl x.answer
     where
       kept : (done : Done) → result ≡ Ok done → refused_by s ask.keep ≡ None → done ≡ record { kept = true }
@@ -125,16 +125,18 @@ module _ {classes : ℕ} (s new : Kept) (a d : disk.State) (h : IsSound classes 
           let same : fin.len (state_of new d.file).map ≡ fin.len s.now =
           ap (λ (y : Kept). fin.len (state_of y d.file).map) value
           ∙ len-read_at (base_of s) d.file s.now h.sound.now.named in
-          let is_step = subst (λ (y : Result Done Refusal). IfSome (reply_of done_reply y) (λ reply. Step
-          (limits_of s) (state_of s a.file) ask.keep reply (state_of new d.file))) is step in
-          let reply : reply_at s a.file ask.keep ≡ ask.kept =
-          sym is_step.replied ∙ ap (λ (y : Done). done_reply y) answered in
+          let is_step : IsTrue a.tells → Step (limits_of s) (state_of s a.file) ask.keep (done_reply done)
+          (state_of new d.file) = λ told. subst (λ (y : Result Done Refusal). IfSome (reply_of done_reply y)
+          (λ reply. Step (limits_of s) (state_of s a.file) ask.keep reply (state_of new d.file))) is
+          (step told) in
+          let reply : IsTrue a.tells → reply_at s a.file ask.keep ≡ ask.kept =
+          λ told. sym (is_step told).replied ∙ ap (λ (y : Done). done_reply y) answered in
           nothing_charged ask.keep s new a d (keep_moves_nothing s new a d result x) (λ e. refl)
-          (omega (
+          (λ told. omega (
             arith,
             calls,
             ap save_calls same,
-            ap (λ (y : Reply). calls_by (state_of s a.file) (state_of new d.file) ask.keep y) reply,
+            ap (λ (y : Reply). calls_by (state_of s a.file) (state_of new d.file) ask.keep y) (reply told),
           ))
 
       by : (r : Result Done Refusal) → result ≡ r → (o : Option Refusal) → refused_by s ask.keep ≡ o
@@ -167,7 +169,7 @@ module _ {classes : ℕ} (s new : Kept) (a d : disk.State) (h : IsSound classes 
         sound = sound_if ask.keep new (answer_change result) y.serves.broken sound;
         replied = y.replied;
         small = small_change result;
-        charges = λ told full. keep_result result x (step h.whole told);
+        charges = λ full. keep_result result x (step h.whole);
         only = y.only;
         cause = y.disk_cause;
       }
@@ -200,8 +202,8 @@ module _ {classes : ℕ} (s : Kept) (a d : disk.State) (name : List ℕ) (h : Is
   n = size_at (fin.get s.now name)
 
   none_charged : Charges classes r s s a d
-  none_charged = nothing_charged r s s a d (same_moves_nothing s s refl) (λ e. refl) (omega
-      (arith, same.same_turn))
+  none_charged = nothing_charged r s s a d (same_moves_nothing s s refl) (λ e. refl)
+      (λ told. omega (arith, same.same_turn))
 
   pub get_gives : (size : ℕ) → AnswersRead (refused_by s r) n (Ok size)
       → Does classes r s s a d (Ok (head.Data size))
@@ -223,7 +225,7 @@ module _ {classes : ℕ} (s : Kept) (a d : disk.State) (name : List ℕ) (h : Is
           there_short (fin.get s.now name)
               (small_if_there s h.sound name (fin.get s.now name) refl),
         );
-        charges = λ told full. none_charged;
+        charges = λ full. none_charged;
         only = tt;
         cause = record { rose = λ fault. absurd (cc); later = same.later };
       }
@@ -239,7 +241,7 @@ module _ {classes : ℕ} (s : Kept) (a d : disk.State) (name : List ℕ) (h : Is
         sound = h.sound;
         replied = y.replied;
         small = omega arith;
-        charges = λ told full. none_charged;
+        charges = λ full. none_charged;
         only = tt;
         cause = y.disk_cause;
       })
@@ -251,7 +253,7 @@ module _ {classes : ℕ} (s : Kept) (a d : disk.State) (name : List ℕ) (h : Is
     sound = tt;
     replied = λ told. tt;
     small = tt;
-    charges = λ told full. tt;
+    charges = λ full. tt;
     only = refl;
     cause = record { rose = λ fault. cause.rose refl; later = same.later };
   }

@@ -19,7 +19,7 @@ use Rattle.segment_layout.specs.Books.{is_quiet, new_item, some_size}
 use Rattle.extent_table.specs.declared.spot.Spot.{Spot}
 use Rattle.extent_table.specs.Extents.{Spots}
 use Rattle.spot_terms.proofs.EntryLaws.{get-remove_here, insert-remove}
-use Rattle.spot_terms.specs.Reads.{EndWithin}
+use Rattle.spot_terms.specs.Reads.{EndWithin, read_at}
 use Rattle.flush_run.specs.Parts.{size_in}
 use Rattle.flush_start.specs.Sized.{IsSizedBy}
 use Rattle.flush_start.proofs.SizedLaws.{sized_entries, sized_gone, sized_volume}
@@ -40,7 +40,7 @@ use Rattle.store_costs.specs.Calls.{IsChange}
 use Rattle.store_costs.specs.Paid.{HasOpenLedger, HasPaid, MovesNothing}
 use Rattle.store_costs.proofs.ChangeLaws.{change_has_paid, nothing_has_paid}
 use Rattle.store_costs.proofs.MadeLaws.{flush_next, quiet_next}
-use Rattle.store_costs.proofs.WeighedLaws.{sized_now}
+use Rattle.store_costs.proofs.WeighedLaws.{in_zeros, sized_now, zeros}
 use Rattle.ask_text.specs.declared.reply.Reply as text
 use Rattle.ask_session.specs.declared.ends.End.{End}
 use Rattle.ask_session.specs.Heads.{answer_change, answer_of, done_head}
@@ -84,15 +84,16 @@ small_change (Err x) = small_refused x
 
 pub nothing_charged : {classes : ℕ} (r : Request) (s new : Kept) (a d : disk.State) → MovesNothing s new
     → ((e : ℕ) → asked_by (state_of s a.file) r (reply_at s a.file r) e ≡ 0)
-    → d.turn ≤ a.turn + calls_by (state_of s a.file) (state_of new d.file) r (reply_at s a.file r)
+    → (IsTrue a.tells
+    → d.turn ≤ a.turn + calls_by (state_of s a.file) (state_of new d.file) r (reply_at s a.file r))
     → Charges classes r s new a d
 nothing_charged {classes} r s new a d n none calls = record {
   moved_few = λ e. omega (arith, ap (λ (row : List ℕ). slice_index row e) n.moved);
   asked_few = λ e. omega (arith, ap (λ (row : List ℕ). slice_index row e) n.asked);
   later = λ low e. omega (arith, ap (λ (row : List ℕ). slice_index row e) n.moved);
-  asked = λ low e. omega (arith, ap (λ (row : List ℕ). slice_index row e) n.asked, none e);
+  asked = λ told low e. omega (arith, ap (λ (row : List ℕ). slice_index row e) n.asked, none e);
   paid = λ low cost first is paid. nothing_has_paid classes cost first s new n paid;
-  calls = λ low. omega (arith, calls);
+  calls = λ told low. omega (arith, calls told);
 }
 
 -- what no refusal asks for
@@ -179,9 +180,9 @@ old_short s h name = by (fin.get s.now name) (small_if_there s h name (fin.get s
     by (Some x) small = omega (arith, small, sum_some x.size)
 
 module _ {classes : ℕ} (s new : Kept) (c : Change) (a d : disk.State) (done : Done) (h : IsSound classes s a)
-    (told : IsTrue a.tells) (full : length s.asked ≡ width) (short : IsShortChange c)
-    (x : IsChange classes c s new a d (Ok done)) (step : Step (limits_of s) (state_of s a.file)
-    (ask.change c) (done_reply done) (state_of new d.file)) (sound : IsStore classes new) where
+    (full : length s.asked ≡ width) (short : IsShortChange c) (x : IsChange classes c s new a d (Ok done))
+    (step : IsTrue a.tells → Step (limits_of s) (state_of s a.file) (ask.change c) (done_reply done)
+    (state_of new d.file)) (sound : IsStore classes new) where
   record Accepted : Type 0 where
     none : IsNone (refused_by s (ask.change c))
     kept : done.kept ≡ not (is_quiet (charges_of s c))
@@ -199,21 +200,29 @@ module _ {classes : ℕ} (s new : Kept) (c : Change) (a d : disk.State) (done : 
             ap (λ (y : Done). y.kept) same;
       }
 
-  within : EndWithin (base_of s) a.file s.now
-  within = now_lies s a.file h.sound (h.over told)
+  within : IsTrue a.tells → EndWithin (base_of s) a.file s.now
+  within told = now_lies s a.file h.sound (h.over told)
 
   abbrev m : Map
   m = now_map s a.file
 
-  sized : IsSizedBy m s.now
-  sized = sized_now s h.sound (base_of s) a.file within
+  sized : IsTrue a.tells → IsSizedBy m s.now
+  sized told = sized_now s h.sound (base_of s) a.file (within told)
+
+  -- a map that has the sizes, whatever the disk tells
+  abbrev blank : Map
+  blank = read_at 0 (zeros s h.sound) s.now
+
+  sized_blank : IsSizedBy blank s.now
+  sized_blank = sized_now s h.sound 0 (zeros s h.sound) (in_zeros s h.sound)
 
   unbroken : new.is_broken ≡ false
   unbroken = x.broken ∙ ap (λ (b : Bool). b || false) h.whole
 
   -- the reply
-  replied : (b : Bool) → done.kept ≡ b → reply_at s a.file (ask.change c) ≡ (if b then ask.kept else ask.done)
-  replied b is = sym step.replied ∙ ap (λ (k : Bool). if k then ask.kept else ask.done) is
+  replied : IsTrue a.tells → (b : Bool) → done.kept ≡ b
+      → reply_at s a.file (ask.change c) ≡ (if b then ask.kept else ask.done)
+  replied told b is = sym (step told).replied ∙ ap (λ (k : Bool). if k then ask.kept else ask.done) is
 
   asked_few : new.asked ≡ asked_after s c → (e : ℕ)
       → slice_index new.asked e ≤ slice_index s.asked e + most_rise
@@ -235,22 +244,23 @@ module _ {classes : ℕ} (s new : Kept) (c : Change) (a d : disk.State) (done : 
   quiet_charges quiet =
       let q = x.quiet accepted.none quiet in
       let v : ChangesQuietly classes c s new = q.value in
-      let plain : reply_at s a.file (ask.change c) ≡ ask.done =
-      replied false (accepted.kept ∙ ap not quiet) in
+      let plain : IsTrue a.tells → reply_at s a.file (ask.change c) ≡ ask.done =
+      λ told. replied told false (accepted.kept ∙ ap not quiet) in
       record {
         moved_few = λ e. omega (arith, ap (λ (y : Kept). slice_index y.moved e) v.rest);
         asked_few = asked_few (ap (λ (y : Kept). y.asked) v.rest);
         later = λ low e. omega (arith, ap (λ (y : Kept). slice_index y.moved e) v.rest);
-        asked = λ low e. omega (
+        asked = λ told low e. omega (
           arith,
-          (quiet_next s h.sound (base_of s) a.file within c new quiet v full low).asks e,
-          ap (λ (y : Reply). asked_by (state_of s a.file) (ask.change c) y e) plain,
+          (quiet_next s h.sound (base_of s) a.file (within told) c new quiet v full low).asks e,
+          ap (λ (y : Reply). asked_by (state_of s a.file) (ask.change c) y e) (plain told),
         );
         paid = paid;
-        calls = λ low. omega (
+        calls = λ told low. omega (
           arith,
           q.calls.all,
-          ap (λ (y : Reply). calls_by (state_of s a.file) (state_of new d.file) (ask.change c) y) plain,
+          ap (λ (y : Reply). calls_by (state_of s a.file) (state_of new d.file) (ask.change c) y)
+              (plain told),
         );
       }
 
@@ -262,48 +272,49 @@ module _ {classes : ℕ} (s new : Kept) (c : Change) (a d : disk.State) (done : 
     v : ChangesByFlush c s new
     v = f.value
 
-    over_new : IsOver classes new d.file
-    over_new = x.over unbroken (subst IsTrue (sym f.frame.stays.told) told)
+    over_new : IsTrue a.tells → IsOver classes new d.file
+    over_new told = x.over unbroken (subst IsTrue (sym f.frame.stays.told) told)
 
-    -- the map after has the sizes of the new places
-    sized_after : IsSizedBy (changed c m) new.now
-    sized_after q = after_sizes s c m sized q ∙ sym (v.sizes q)
+    -- a map after has the sizes of the new places
+    sized_after : (map : Map) → IsSizedBy map s.now → IsSizedBy (changed c map) new.now
+    sized_after map is q = after_sizes s c map is q ∙ sym (v.sizes q)
 
-    names : fin.len (state_of new d.file).map ≡ names_after s c
-    names = same_len (now_map new d.file) new.now
-        (sized_now new sound (base_of new) d.file (now_lies new d.file sound over_new))
-        ∙ sym (same_len (changed c m) new.now sized_after) ∙ len_changed s c m sized
+    names : IsTrue a.tells → fin.len (state_of new d.file).map ≡ names_after s c
+    names told = same_len (now_map new d.file) new.now
+        (sized_now new sound (base_of new) d.file (now_lies new d.file sound (over_new told)))
+        ∙ sym (same_len (changed c m) new.now (sized_after m (sized told))) ∙ len_changed s c m (sized told)
 
     moved_few : (e : ℕ) → slice_index new.moved e ≤ slice_index s.moved e + most_rise
     moved_few e = omega (
       arith,
-      f.few told e,
-      class_few (changed c m) e,
-      sized_volume (changed c m) new.now sized_after,
+      f.few_by_size blank sized_blank e,
+      class_few (changed c blank) e,
+      sized_volume (changed c blank) new.now (sized_after blank sized_blank),
       few_bytes new sound,
       mul-le-mul_right SIZE_MAX sound.block.names_high,
     )
 
     loud_charges : Charges classes (ask.change c) s new a d
     loud_charges =
-        let kept : reply_at s a.file (ask.change c) ≡ ask.kept =
-        replied true (accepted.kept ∙ ap not loud) in
+        let kept : IsTrue a.tells → reply_at s a.file (ask.change c) ≡ ask.kept =
+        λ told. replied told true (accepted.kept ∙ ap not loud) in
         let t = state_of new d.file in
         record {
           moved_few = moved_few;
           asked_few = asked_few v.asked;
           later = λ low e. f.calls.later low.moved e;
-          asked = λ low e. omega (
+          asked = λ told low e. omega (
             arith,
-            (flush_next s h.sound (base_of s) a.file within c new loud a d (Ok done) f v full low).asks e,
-            ap (λ (y : Reply). asked_by (state_of s a.file) (ask.change c) y e) kept,
+            (flush_next s h.sound (base_of s) a.file (within told) c new loud a d (Ok done) f v full
+                low).asks e,
+            ap (λ (y : Reply). asked_by (state_of s a.file) (ask.change c) y e) (kept told),
           );
           paid = paid;
-          calls = λ low. omega (
+          calls = λ told low. omega (
             arith,
             f.calls.most low.moved,
-            ap (λ (n : ℕ). (new.in_use.sequence - s.in_use.sequence) * save_calls n) names,
-            ap (λ (y : Reply). calls_by (state_of s a.file) t (ask.change c) y) kept,
+            ap (λ (n : ℕ). (new.in_use.sequence - s.in_use.sequence) * save_calls n) (names told),
+            ap (λ (y : Reply). calls_by (state_of s a.file) t (ask.change c) y) (kept told),
           );
         }
 

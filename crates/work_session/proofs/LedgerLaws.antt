@@ -1,5 +1,5 @@
 -- The ledger, the counts and the calls after one more job.
-use Rattle.std.specs.Prelude.{◌≡◌, ℕ, ◌+◌, ◌≤◌, List, [], ◌∷◌, ◌++◌, length, slice_index, refl}
+use Rattle.std.specs.Prelude.{◌≡◌, ℕ, ◌+◌, ◌≤◌, List, [], ◌∷◌, ◌++◌, length, slice_index, IsTrue, refl}
 use Rattle.std.proofs.Common.{arith, ap, sym, ◌∙◌, subst, length-append}
 use Rattle.std.proofs.lemmas.List.Sums.{sum_by_push}
 use Rattle.byte_ranges.proofs.ListLaws.{zeros_at}
@@ -61,15 +61,16 @@ pub ledger_none : {classes : ℕ} (s : Kept) (a : disk.State) → IsFresh classe
 ledger_none {classes} s a fresh = record {
   moved_few = λ d. omega (arith, ap (λ (row : List ℕ). slice_index row d) fresh.moved, nothing d);
   asked_few = λ d. omega (arith, ap (λ (row : List ℕ). slice_index row d) fresh.asked, nothing d);
-  asked = λ d. ap (λ (row : List ℕ). slice_index row d) fresh.asked ∙ nothing d;
+  asked = λ told d. ap (λ (row : List ℕ). slice_index row d) fresh.asked ∙ nothing d;
   paid = λ cost is. opened_has_paid classes cost s fresh;
-  calls = omega arith;
+  calls = λ told. omega arith;
 }
 
 module _ {classes : ℕ} (old mid new : Kept) (a b d : disk.State) (jobs : List Request) (replies : List Reply)
     (states : List State) (ledger : HasLedger classes old mid jobs replies states a b)
-    (chain : Chain (limits_of old) (state_of old a.file) jobs replies states)
-    (newest : state_of mid b.file ≡ last_state (state_of old a.file) states)
+    (told_b : IsTrue a.tells → IsTrue b.tells)
+    (chain : IsTrue a.tells → Chain (limits_of old) (state_of old a.file) jobs replies states)
+    (newest : IsTrue a.tells → state_of mid b.file ≡ last_state (state_of old a.file) states)
     (r : Request) (x : Charges classes r mid new b d) (few : length jobs ≤ 1000001) where
   abbrev reply : Reply
   reply = reply_at mid b.file r
@@ -88,24 +89,24 @@ module _ {classes : ℕ} (old mid new : Kept) (a b d : disk.State) (jobs : List 
   ledger_more = record {
     moved_few = λ c. omega (arith, x.moved_few c, ledger.moved_few c, one_more);
     asked_few = λ c. omega (arith, x.asked_few c, ledger.asked_few c, one_more);
-    asked = λ c. omega (
+    asked = λ told c. omega (
       arith,
-      x.asked open_ledger c,
-      ledger.asked c,
+      x.asked (told_b told) open_ledger c,
+      ledger.asked told c,
       asked_more (limits_of old) (state_of old a.file)
-          (state_of new d.file) jobs replies states r reply c chain,
-      ap (λ (s : State). asked_by s r reply c) newest,
+          (state_of new d.file) jobs replies states r reply c (chain told),
+      ap (λ (s : State). asked_by s r reply c) (newest told),
     );
     paid = λ cost is. x.paid open_ledger cost (potential classes cost old.in_use.block.k old.book.grid) is
         (ledger.paid cost is);
-    calls = omega (
+    calls = λ told. omega (
       arith,
-      x.calls open_ledger,
-      ledger.calls,
+      x.calls (told_b told) open_ledger,
+      ledger.calls told,
       calls_add mid.moved new.moved (x.later open_ledger),
       calls_more (limits_of old) (state_of old a.file)
-          (state_of new d.file) jobs replies states r reply chain,
-      ap (λ (s : State). calls_by s (state_of new d.file) r reply) newest,
+          (state_of new d.file) jobs replies states r reply (chain told),
+      ap (λ (s : State). calls_by s (state_of new d.file) r reply) (newest told),
     );
   }
 

@@ -80,23 +80,22 @@ module _ {classes : ℕ} (old new : Kept) (jobs : List Request) (a d : disk.Stat
         }
 
     paid_line : (cost : ℕ → ℕ) → IsCost classes cost → (line : Cost)
-        → IsLine classes cost new.moved new.asked line
-        → IsTrue a.tells → IsPaidLine classes cost k old.book.grid line
-    paid_line cost is line h told =
+        → IsLine classes cost new.moved new.asked line → IsPaidLine classes cost k old.book.grid line
+    paid_line cost is line h =
         subst (λ (n : ℕ). line.moved
         ≤ factor n * line.asked + potential classes cost k old.book.grid) same_divisor
         (omega (
           arith,
-          in_all classes cost (potential classes cost k old.book.grid) new ((w.ledger told).paid cost is),
+          in_all classes cost (potential classes cost k old.book.grid) new (w.ledger.paid cost is),
           h.moved,
           ap (λ (n : ℕ). factor new.in_use.block.k * n) h.asked,
         ))
 
-    paid : IsTrue a.tells → ArePaidLines classes k old.book.grid x
-    paid told = record {
-      by_linear = paid_line linear (linear_is classes) x.linear lines.by_linear told;
-      by_flat = paid_line flat (flat_is classes) x.flat lines.by_flat told;
-      by_seek = paid_line seek (seek_is classes) x.seek lines.by_seek told;
+    paid : ArePaidLines classes k old.book.grid x
+    paid = record {
+      by_linear = paid_line linear (linear_is classes) x.linear lines.by_linear;
+      by_flat = paid_line flat (flat_is classes) x.flat lines.by_flat;
+      by_seek = paid_line seek (seek_is classes) x.seek lines.by_seek;
     }
 
     pub has_done : HasDone classes old jobs a d x
@@ -113,12 +112,12 @@ module _ {classes : ℕ} (old new : Kept) (jobs : List Request) (a d : disk.Stat
       lines = lines;
       same = ap (λ (n : ℕ). n * 2 ^ (classes - 1)) lines.all
           ∙ linear_weighs classes w.ran.sound.now.few new.moved ∙ sym lines.by_linear.moved;
-      asked = λ told e. (w.ledger told).asked e
+      asked = λ told e. w.ledger.asked told e
           ∙ ap (λ (rs : List Request). asked_in start rs w.replies w.states e) (sym all_jobs);
       paid = paid;
       calls = λ told. omega (
         arith,
-        (w.ledger told).calls,
+        w.ledger.calls told,
         calls_by_weight classes w.ran.sound.now.few new.moved zeros,
         ap (λ (n : ℕ). n / 2 ^ (classes - 1)) lines.by_flat.moved,
         ap (λ (n : ℕ). n / 65536) lines.all,

@@ -25,7 +25,7 @@ working_none {classes} s all a fresh over ready = record {
   counts = λ told. record { ok = refl; kept = refl; read = refl; refused = refl };
   few = omega arith;
   read_few = omega arith;
-  ledger = λ told. ledger_none s a fresh;
+  ledger = ledger_none s a fresh;
 }
 
 module _ {classes : ℕ} (old mid new : Kept) (all left : List Request) (r : Request) (a b d : disk.State)
@@ -51,11 +51,8 @@ module _ {classes : ℕ} (old mid new : Kept) (all left : List Request) (r : Req
           (does.replied (told_b told));
       few = omega (arith, tally_few t head, x.few, length-append x.jobs (r ∷ []));
       read_few = omega (arith, tally_read t head, x.read_few, does.small, length-append x.jobs (r ∷ []));
-      ledger = λ told.
-          let so_far = x.ledger told in
-          ledger_more old mid new a b d x.jobs x.replies x.states so_far (x.ran.chain told)
-          (x.ran.newest told) r
-          (does.charges (told_b told) (full_row old mid a b x.jobs x.replies x.states so_far))
+      ledger = ledger_more old mid new a b d x.jobs x.replies x.states x.ledger told_b x.ran.chain
+          x.ran.newest r (does.charges (full_row old mid a b x.jobs x.replies x.states x.ledger))
           (omega (arith, few_jobs, few));
     }
 

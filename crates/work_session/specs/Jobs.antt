@@ -54,16 +54,17 @@ abbrev pub read_head : Reply → ℕ
 read_head (head.Data size) = size
 read_head _ = 0
 
--- What a job that was done adds to the ledger, and the calls that it makes.
+-- What a job that was done adds to the ledger, on any disk; and on one that tells its content what it asks
+-- for, and the calls that it makes.
 pub record Charges (classes : ℕ) (r : Request) (old new : Kept) (before now : disk.State) : Type 0 where
   pub moved_few : (d : ℕ) → slice_index new.moved d ≤ slice_index old.moved d + most_rise
   pub asked_few : (d : ℕ) → slice_index new.asked d ≤ slice_index old.asked d + most_rise
   pub later : HasOpenLedger new → (d : ℕ) → slice_index old.moved d ≤ slice_index new.moved d
-  pub asked : HasOpenLedger new → (d : ℕ) → slice_index new.asked d ≡ slice_index old.asked d
-      + asked_by (state_of old before.file) r (reply_at old before.file r) d
+  pub asked : IsTrue before.tells → HasOpenLedger new → (d : ℕ) → slice_index new.asked d
+      ≡ slice_index old.asked d + asked_by (state_of old before.file) r (reply_at old before.file r) d
   pub paid : HasOpenLedger new → (cost : ℕ → ℕ) (first : ℕ) → IsCost classes cost
       → HasPaid classes cost first old → HasPaid classes cost first new
-  pub calls : HasOpenLedger new → now.turn ≤ before.turn
+  pub calls : IsTrue before.tells → HasOpenLedger new → now.turn ≤ before.turn
       + calls_by (state_of old before.file) (state_of new now.file) r (reply_at old before.file r)
       + move_calls (risen old.moved new.moved)
 
@@ -74,8 +75,7 @@ pub record Does (classes : ℕ) (r : Request) (old new : Kept) (before now : dis
   pub sound : OnOk result (IsStore classes new)
   pub replied : IsTrue before.tells → IfOk result (λ reply. reply ≡ head_of (reply_at old before.file r))
   pub small : IfOk result (λ reply. read_head reply ≤ most_read)
-  pub charges : IsTrue before.tells → length old.asked ≡ width
-      → OnOk result (Charges classes r old new before now)
+  pub charges : length old.asked ≡ width → OnOk result (Charges classes r old new before now)
   pub only : IfErr result (λ end. end ≡ ends.Disk)
   pub cause : HasDiskCause before.faults now.faults result
 
@@ -109,16 +109,18 @@ pub record HasTally (t : Tally) (requests : ℕ) (x : Summary) : Type 0 where
 
 -- ---- between two jobs
 
--- The ledger after so many jobs of a store that was opened, on a disk that tells its content.
+-- The ledger after so many jobs of a store that was opened. What they asked for and how many calls they made
+-- is said of a disk that tells its content.
 pub record HasLedger (classes : ℕ) (old new : Kept) (jobs : List Request) (replies : List ask.Reply)
     (states : List State) (before now : disk.State) : Type 0 where
   pub moved_few : (d : ℕ) → slice_index new.moved d ≤ length jobs * most_rise
   pub asked_few : (d : ℕ) → slice_index new.asked d ≤ length jobs * most_rise
-  pub asked : (d : ℕ) → slice_index new.asked d ≡ asked_in (state_of old before.file) jobs replies states d
+  pub asked : IsTrue before.tells → (d : ℕ)
+      → slice_index new.asked d ≡ asked_in (state_of old before.file) jobs replies states d
   pub paid : (cost : ℕ → ℕ) → IsCost classes cost
       → HasPaid classes cost (potential classes cost old.in_use.block.k old.book.grid) new
-  pub calls : now.turn ≤ before.turn + calls_in (state_of old before.file) jobs replies states
-      + move_calls new.moved
+  pub calls : IsTrue before.tells → now.turn
+      ≤ before.turn + calls_in (state_of old before.file) jobs replies states + move_calls new.moved
 
 -- Of a list of jobs the first were done, and counted.
 pub record IsWorking (classes : ℕ) (old new : Kept) (all left : List Request) (before now : disk.State)
@@ -131,4 +133,4 @@ pub record IsWorking (classes : ℕ) (old new : Kept) (all left : List Request) 
   pub counts : IsTrue before.tells → TallyOf replies t
   pub few : t.ok + t.kept + t.refused ≤ length jobs
   pub read_few : t.read ≤ length jobs * most_read
-  pub ledger : IsTrue before.tells → HasLedger classes old new jobs replies states before now
+  pub ledger : HasLedger classes old new jobs replies states before now

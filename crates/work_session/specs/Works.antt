@@ -97,11 +97,12 @@ pub record ArePaidLines (classes k : ℕ) (grid : List (List ℕ)) (x : Summary)
   pub by_flat : IsPaidLine classes flat k grid x.flat
   pub by_seek : IsPaidLine classes seek k grid x.seek
 
--- All jobs were done, and were summed up with the bytes that the store's ledger has. On a disk that tells its
--- content the counts are those of the replies, and the bytes asked for those of the changes that were done.
--- The content opens to the last checkpoint, and so does what a crash leaves. Each byte moved weighs the same
--- by the first cost. The changing calls are at most those of the jobs, and of the bytes that were moved: one
--- for each least size of an object of its class, and one for each 65,536 bytes.
+-- All jobs were done, and were summed up with the bytes that the store's ledger has. What was moved is paid
+-- for, and each byte of it weighs the same by the first cost. On a disk that tells its content the counts are
+-- those of the replies, and the bytes asked for those of the changes that were done. The content opens to the
+-- last checkpoint, and so does what a crash leaves. The changing calls are at most those of the jobs, and of
+-- the bytes that were moved: one for each least size of an object of its class, and one for each 65,536
+-- bytes.
 pub record HasDone (classes : ℕ) (old : Kept) (jobs : List Request) (before now : disk.State)
     (x : Summary) : Type 0
   where
@@ -118,7 +119,7 @@ pub record HasDone (classes : ℕ) (old : Kept) (jobs : List Request) (before no
     pub same : x.moved * 2 ^ (classes - 1) ≡ x.linear.moved
     pub asked : IsTrue before.tells → (d : ℕ)
         → slice_index new.asked d ≡ asked_in (state_of old before.file) jobs replies states d
-    pub paid : IsTrue before.tells → ArePaidLines classes old.in_use.block.k old.book.grid x
+    pub paid : ArePaidLines classes old.in_use.block.k old.book.grid x
     pub calls : IsTrue before.tells → now.turn
         ≤ before.turn + calls_in (state_of old before.file) jobs replies states
         + x.flat.moved / 2 ^ (classes - 1) + x.moved / 65536
