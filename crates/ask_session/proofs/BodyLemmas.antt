@@ -1,40 +1,22 @@
 -- An object that is read in pieces.
-use Rattle.std.proofs.Common.{◌≡◌, ℕ, ◌+◌, ◌-◌, append-nil, ◌≤◌, ◌<◌, List, [], ◌∷◌, ◌++◌, length, length-append, length-drop, take, drop, append_assoc, ap, sym, ◌∙◌, arith}
-use Rattle.std.proofs.Math.Seq.{take-append-add}
-use Rattle.std.proofs.lemmas.List.{length-take-le, take-append-drop, take_all}
-use Rattle.std.proofs.lemmas.Slice.{take-put_mid}
-use borrow.Rule.Slice.PartMut.{put_mid, same_len_mid}
+use Rattle.std.proofs.Common.{◌≡◌, ℕ, ◌+◌, ◌-◌, append-nil, ◌≤◌, ◌<◌, List, [], ◌∷◌, ◌++◌, length, length-append, take, drop, append_assoc, ap, sym, ◌∙◌, arith}
+use Rattle.std.proofs.Math.Seq.{take-add}
+use Rattle.std.proofs.lemmas.List.{take-append-drop}
 use Rattle.std.specs.Prelude.{replicate}
 use Rattle.byte_ranges.specs.Ranges.{resized}
 use Rattle.byte_ranges.proofs.RangeLaws.{length-resized}
 use Rattle.size_class.specs.declared.TheConstants.{SIZE_MAX}
 use Rattle.ask_session.specs.Inputs.{HoldsObject, LacksObject}
 
-pub length_mid : (a k : ℕ) (xs : List ℕ) → a + k ≡ length xs → length (take k (drop a xs)) ≡ k
-length_mid a k xs whole = length-take-le k (drop a xs) (omega (arith, whole, length-drop a xs))
-
--- the rest of a slice, written anew
-put_rest : (a k : ℕ) (xs ys : List ℕ) → a + k ≡ length xs → length ys ≡ k
-    → put_mid a k xs ys ≡ take a xs ++ ys
-put_rest a k xs ys whole long =
-    let same : length (put_mid a k xs ys) ≡ length xs = same_len_mid a k xs ys (long
-    ∙ sym (length_mid a k xs whole)) in
-    sym (take_all (a + k) (put_mid a k xs ys) (omega (arith, same, whole)))
-    ∙ take-put_mid a k xs ys (a + k) (omega (arith, long)) (omega (arith, whole))
-
--- some more bytes were taken into what is still to be filled
-pub fill_more : (start out piece now rest : List ℕ) (done k n : ℕ) → done + k ≡ length out → length piece ≡ k
-    → n ≤ k → start ≡ take done out ++ now → now ≡ take n piece ++ rest
-    → start ≡ take (done + n) (put_mid done k out piece) ++ rest
-fill_more start out piece now rest done k n whole long within so_far is =
-    let front : length (take done out) ≡ done = length-take-le done out (omega (arith, whole)) in
-    let more : take (done + n) (take done out ++ piece) ≡ take done out ++ take n piece =
-    ap (λ (m : ℕ). take (m + n) (take done out ++ piece)) (sym front)
-    ∙ take-append-add (take done out) piece n in
-    so_far ∙ ap (λ (xs : List ℕ). take done out ++ xs) is
-    ∙ sym (append_assoc (take done out) (take n piece) rest)
-    ∙ ap (λ (xs : List ℕ). xs ++ rest) (sym more)
-    ∙ ap (λ (xs : List ℕ). take (done + n) xs ++ rest) (sym (put_rest done k out piece whole long))
+-- some more bytes were taken behind the first
+pub fill_more : (start old new now rest : List ℕ) (done n : ℕ) → take done new ≡ take done old
+    → start ≡ take done old ++ now → now ≡ take n (drop done new) ++ rest
+    → start ≡ take (done + n) new ++ rest
+fill_more start old new now rest done n same so_far is =
+    so_far ∙ ap (λ (xs : List ℕ). xs ++ now) (sym same)
+    ∙ ap (λ (xs : List ℕ). take done new ++ xs) is
+    ∙ sym (append_assoc (take done new) (take n (drop done new)) rest)
+    ∙ ap (λ (xs : List ℕ). xs ++ rest) (sym (take-add done n new))
 
 -- the newline is missing behind the bytes of an object
 pub no_newline : (object mid : List ℕ) (size : ℕ) (input : List ℕ) → length object ≡ size

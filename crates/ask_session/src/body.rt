@@ -1,5 +1,5 @@
 //! Reading the object of a put, and its newline.
-ghost use Rattle.std.specs.Prelude.{◌≡◌, ◌≤◌, ◌<◌, ◌++◌, ◌∷◌, ℕ, List, false, true, length, drop, IfOk, IfErr, IsTrue, Err, Ok, OnOk, vec_capacity, vec_len};
+ghost use Rattle.std.specs.Prelude.{◌≡◌, ◌≤◌, ◌<◌, ◌+◌, ◌++◌, ◌∷◌, [], ℕ, List, false, true, length, drop, take, IfOk, IfErr, IsTrue, Err, Ok, OnOk, vec_capacity, vec_len};
 ghost use Rattle.disk_face.specs.Counts.{HasCause};
 ghost use Rattle.ask_session.specs.Inputs.{HasSourceCause, HoldsObject, IsInputFault, LacksObject};
 
@@ -7,6 +7,9 @@ use crate::End;
 use crate::ahead::Ahead;
 use disk_face::{Source, SourceFault};
 use size_class::SIZE_MAX;
+
+/// How many bytes a body is made longer by before a read, at most; a pipe holds as many.
+const PIECE: usize = 65_536;
 
 /// Reads an object of so many bytes, and the newline behind it, into the front of `body`. One that is
 /// longer than the longest object is read and dropped.
@@ -57,34 +60,75 @@ fn take_body<I: Source>(
     if size > SIZE_MAX {
         return drop_body(ahead, input, size);
     }
+    let answer = fill_front(ahead, input, size as usize, body);
     lengthen(body, size as usize);
-    fill_front(ahead, input, size, body)
+    answer
 }
 
-/// Fills the first bytes of `body`, so many; false where the input ends before.
+/// Fills the first bytes of `body`, so many, and makes it longer as they come, where it isn't so long;
+/// false where the input ends before.
 fn fill_front<I: Source>(
     ahead: &mut Ahead,
     input: &mut I,
-    size: u64,
-    body: &mut [u8],
+    size: usize,
+    body: &mut Vec<u8>,
 ) -> Result<bool, SourceFault>
-    requires room { size ≤ length body.old }
+    requires room { size ≤ vec_capacity body.old }
     ensures object { result ≡ Ok true → HoldsObject (IsTrue (I.state input.old).tells)
-        (ahead.old ++ (I.state input.old).left) (ahead.new ++ (I.state input.new).left) size body.new }
+        (ahead.old ++ (I.state input.old).left) (ahead.new ++ (I.state input.new).left) size body.new.items }
+    ensures long { result ≡ Ok true → size ≤ vec_len body.new }
+    ensures same_room { vec_capacity body.old ≤ vec_capacity body.new }
     ensures ended { IsTrue (I.state input.old).tells → result ≡ Ok false
         → length (ahead.old ++ (I.state input.old).left) < size }
     ensures told { (I.state input.new).tells ≡ (I.state input.old).tells }
     ensures cause { HasCause (I.state input.old).faults (I.state input.new).faults result }
 {
-    fill_body(ahead, input, &mut body[..size as usize])
+    let mut done = 0;
+    'pieces: while done < size {
+        let n = take_piece(ahead, input, done, size, body)?;
+        if n == 0 {
+            return Ok(false);
+        }
+        done += n;
+    }
+    Ok(true)
 }
 
-/// Makes `body` at least so long, within its room. So memory is touched once, and only as far as the
-/// longest object so far needs it.
+/// Takes the next of `size` bytes to behind the first `done` of `body`, and answers how many. It makes
+/// `body` longer by one piece at most, so that the cache still has its memory when it is read into.
+fn take_piece<I: Source>(
+    ahead: &mut Ahead,
+    input: &mut I,
+    done: usize,
+    size: usize,
+    body: &mut Vec<u8>,
+) -> Result<usize, SourceFault>
+    requires within { done < size }
+    requires there { done ≤ vec_len body.old }
+    requires room { size ≤ vec_capacity body.old }
+    ensures bound { IfOk result (λ n. done + n ≤ size) }
+    ensures long { IfOk result (λ n. done + n ≤ vec_len body.new) }
+    ensures same_room { vec_capacity body.old ≤ vec_capacity body.new }
+    ensures front { take done body.new.items ≡ take done body.old.items }
+    ensures taken { IsTrue (I.state input.old).tells → IfOk result (λ n. ahead.old ++ (I.state input.old).left
+        ≡ take n (drop done body.new.items) ++ (ahead.new ++ (I.state input.new).left)) }
+    ensures ended { IsTrue (I.state input.old).tells → result ≡ Ok 0
+        → ahead.old ++ (I.state input.old).left ≡ [] }
+    ensures told { (I.state input.new).tells ≡ (I.state input.old).tells }
+    ensures cause { HasCause (I.state input.old).faults (I.state input.new).faults result }
+{
+    let end = done + (size - done).min(PIECE);
+    lengthen(body, end);
+    ahead.take(input, &mut body[done..end])
+}
+
+/// Makes `body` at least so long, within its room.
 fn lengthen(body: &mut Vec<u8>, size: usize)
     requires room { size ≤ vec_capacity body.old }
     ensures long { size ≤ vec_len body.new }
     ensures same_room { vec_capacity body.old ≤ vec_capacity body.new }
+    ensures longer { vec_len body.old ≤ vec_len body.new }
+    ensures front { take (vec_len body.old) body.new.items ≡ body.old.items }
 {
     if body.len() < size {
         body.resize(size, 0).unwrap();
@@ -107,30 +151,6 @@ fn read_newline<I: Source>(ahead: &mut Ahead, input: &mut I) -> Result<(), End>
         Ok(_) => Err(End::Line),
         Err(SourceFault) => Err(End::Source),
     }
-}
-
-/// Fills `out`; false where the input ends before.
-fn fill_body<I: Source>(
-    ahead: &mut Ahead,
-    input: &mut I,
-    out: &mut [u8],
-) -> Result<bool, SourceFault>
-    ensures filled { IsTrue (I.state input.old).tells → result ≡ Ok true
-        → ahead.old ++ (I.state input.old).left ≡ out.new ++ (ahead.new ++ (I.state input.new).left) }
-    ensures ended { IsTrue (I.state input.old).tells → result ≡ Ok false
-        → length (ahead.old ++ (I.state input.old).left) < length out.old }
-    ensures told { (I.state input.new).tells ≡ (I.state input.old).tells }
-    ensures cause { HasCause (I.state input.old).faults (I.state input.new).faults result }
-{
-    let mut done = 0;
-    'pieces: while done < out.len() {
-        let n = ahead.take(input, &mut out[done..])?;
-        if n == 0 {
-            return Ok(false);
-        }
-        done += n;
-    }
-    Ok(true)
 }
 
 /// Drops so many bytes; false where the input ends before.
