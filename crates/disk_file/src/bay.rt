@@ -1,5 +1,5 @@
 //! A bay of real files.
-ghost use Rattle.std.specs.Prelude.{◌≡◌, ◌≤◌, ◌+◌, ◌<◌, ◌⊎◌, ◌↔◌, None, Some, Ok, refl, [], length, is_some, IfOk, IsErr, IsOk, OnErr, OnOk, IsTrue, IsFalse};
+ghost use Rattle.std.specs.Prelude.{◌≡◌, ◌≤◌, ◌+◌, ◌<◌, ◌⊎◌, ◌↔◌, None, Some, Ok, refl, [], length, is_ok, is_some, if◌then◌else◌, IfOk, IsErr, IsOk, OnErr, OnOk, IsTrue, IsFalse};
 ghost use Rattle.byte_ranges.specs.Ranges.{bytes_at, overwritten, resized};
 ghost use Rattle.disk_face.specs.Counts.{HasCause, counted, last};
 ghost use Rattle.disk_face.specs.Frames.{AfterLength, AfterMount, AfterRead, AfterSync, AfterWrite};
@@ -126,6 +126,8 @@ impl<H: Host> Disk for FileBay<H> {
             → IfOk result (λ n. n ≡ length (bay_state self.old).file) }
         ensures frame { AfterRead (bay_state self.old) (bay_state self.new) }
         ensures cause { HasCause (bay_state self.old).faults (bay_state self.new).faults result }
+        ensures faults { (bay_state self.new).faults ≡ (if is_ok result then (bay_state self.old).faults
+            else counted (bay_state self.old).faults 1) }
         ensures serves { IsFalse (marks_of self.old).may_fail → IsOk result }
         ensures told { OnErr result (IsTrue (is_some (cause_of self.new))) }
         ensures bay { SameBay self.old self.new }
@@ -144,6 +146,8 @@ impl<H: Host> Disk for FileBay<H> {
             → OnOk result (out.new ≡ bytes_at (bay_state self.old).file pos (length out.old)) }
         ensures frame { AfterRead (bay_state self.old) (bay_state self.new) }
         ensures cause { HasCause (bay_state self.old).faults (bay_state self.new).faults result }
+        ensures faults { (bay_state self.new).faults ≡ (if is_ok result then (bay_state self.old).faults
+            else counted (bay_state self.old).faults 1) }
         ensures serves { IsFalse (marks_of self.old).may_fail → IsTrue (bay_state self.old).tells
             → pos + length out.old ≤ last → IsOk result }
         ensures told { OnErr result (IsTrue (is_some (cause_of self.new))) }
@@ -163,6 +167,8 @@ impl<H: Host> Disk for FileBay<H> {
             → OnOk result ((bay_state self.new).file ≡ overwritten (bay_state self.old).file pos bytes.now) }
         ensures frame { AfterWrite pos (length bytes.now) (bay_state self.old) (bay_state self.new) }
         ensures cause { HasCause (bay_state self.old).faults (bay_state self.new).faults result }
+        ensures faults { (bay_state self.new).faults ≡ (if is_ok result then (bay_state self.old).faults
+            else counted (bay_state self.old).faults 1) }
         ensures serves { IsFalse (marks_of self.old).may_fail → IsTrue (bay_state self.old).tells
             → pos + length bytes.now ≤ last → IsOk result }
         ensures told { OnErr result (IsTrue (is_some (cause_of self.new))) }
@@ -183,6 +189,8 @@ impl<H: Host> Disk for FileBay<H> {
             ⊎ ((bay_state self.new).file ≡ resized (bay_state self.old).file n)) }
         ensures frame { AfterLength n (bay_state self.old) (bay_state self.new) }
         ensures cause { HasCause (bay_state self.old).faults (bay_state self.new).faults result }
+        ensures faults { (bay_state self.new).faults ≡ (if is_ok result then (bay_state self.old).faults
+            else counted (bay_state self.old).faults 1) }
         ensures serves { IsFalse (marks_of self.old).may_fail → n ≤ (marks_of self.old).room → IsOk result }
         ensures told { OnErr result (IsTrue (is_some (cause_of self.new))) }
         ensures bay { SameBay self.old self.new }
@@ -200,6 +208,8 @@ impl<H: Host> Disk for FileBay<H> {
         ensures rests { OnOk result (Only (bay_state self.old).file (bay_state self.new).may_leave) }
         ensures frame { AfterSync (bay_state self.old) (bay_state self.new) }
         ensures cause { HasCause (bay_state self.old).faults (bay_state self.new).faults result }
+        ensures faults { (bay_state self.new).faults ≡ (if is_ok result then (bay_state self.old).faults
+            else counted (bay_state self.old).faults 1) }
         ensures lost { IsTrue (has_lost self.old) → IsErr result }
         ensures loses { IsErr result ↔ IsTrue (has_lost self.new) }
         ensures serves { IsFalse (marks_of self.old).may_fail → IsFalse (has_lost self.old) → IsOk result }
@@ -223,7 +233,7 @@ impl<H: Host> Disk for FileBay<H> {
 
 impl<H: Host> Bay for FileBay<H> {
     ghost use Rattle.disk_file.specs.Hosts.{names_of};
-    ghost use Rattle.disk_file.specs.Bays.{bay_state, cause_of, marks_of, use_of};
+    ghost use Rattle.disk_file.specs.Bays.{bay_state, cause_of, has_lost, marks_of, use_of};
 
     ghost names = { λ bay. names_of (marks_of bay) };
 
@@ -243,6 +253,8 @@ impl<H: Host> Bay for FileBay<H> {
         ensures absent { result ≡ Ok Mounted.Absent → IsFalse make }
         ensures frame { AfterMount (bay_state self.old) (bay_state self.new) }
         ensures cause { HasCause (bay_state self.old).faults (bay_state self.new).faults result }
+        ensures faults { (bay_state self.new).faults ≡ (if is_ok result then (bay_state self.old).faults
+            else counted (bay_state self.old).faults 1) }
         ensures names_told { (names_of (marks_of self.new)).tells ≡ (names_of (marks_of self.old)).tells }
         ensures held { IsTrue (marks_of self.old).tells → IfOk result (λ answer.
             IsHeld (use_of self.old) answer (marks_of self.new)) }
@@ -253,6 +265,7 @@ impl<H: Host> Bay for FileBay<H> {
             → CanMount (use_of self.old) make name.now (marks_of self.old) → IsOk result }
         ensures told { OnErr result (IsTrue (is_some (cause_of self.new))) }
         ensures usage { use_of self.new ≡ use_of self.old }
+        ensures lost { has_lost self.new ≡ has_lost self.old }
     {
         if name.is_empty() {
             return Err(self.fail(Cause::NoName));
