@@ -27,13 +27,13 @@ use Rattle.store_core.proofs.OpeningLaws.{alike_itself}
 use Rattle.ask_session.specs.Runs.{last_state}
 use Rattle.costore_top.specs.declared.top.Outcome.{Outcome}
 use Rattle.costore_top.specs.Following.{LeavesRoomTwice, MayBegin}
-use Rattle.costore_top.specs.Headline.{OpensToBeing, OpensToKept, RunsAs, limits_with, most_left}
+use Rattle.costore_top.specs.Headline.{IsNextStart, OpensToBeing, OpensToKept, RunsAs, limits_with, most_left}
 use Rattle.costore_top.specs.Working.{WorksAs}
 
 -- ---- numbers
 
 -- a superblock that is read has a divisor of at most 64
-block_high : (file : List ℕ) (t : choice.Table) → choice.table_of file ≡ Ok t → t.chosen.block.k ≤ 64
+pub block_high : (file : List ℕ) (t : choice.Table) → choice.table_of file ≡ Ok t → t.chosen.block.k ≤ 64
 block_high file t read =
     let p = chosen_parts file t.chosen (table_chosen file t read).0 in
     let q = in_use_parts file p.in_use p.slot_read in
@@ -109,6 +109,24 @@ begins t high twice image up is =
     }
 
 -- ---- calls
+
+-- where no call of the disk failed the file is the start
+pub calm_begins : {t : choice.Table} {s : store.State} {q : ℕ} {old z : State} → t.chosen.block.k ≤ 64
+    → LeavesRoomTwice t → IsNextStart t s q old z → q ≤ most_left t.chosen.block.k t
+    → MayBegin (most_left t.chosen.block.k t) z.file
+calm_begins {t} {s} {q} {old} {z} high twice next low =
+    let within : next.table.chosen.header.sequence ≤ most_left t.chosen.block.k t =
+    omega (arith, next.not_worn, low)
+    in
+    record {
+      table = next.table;
+      m = s.kept;
+      b = s.kept_book;
+      opens = next.opens;
+      low = within;
+      room = room_by next.table.chosen.header.kind next.table.chosen.header.sequence
+          (omega (arith, within, most_low t high twice));
+    }
 
 module _ {t : choice.Table} {m : Map} {b : Book} {old z : State} {out after : SinkState}
     (o : OpensBy CLASSES SIZE_MAX t old.file m b) (twice : LeavesRoomTwice t) (rests : RestsOnFound t old)

@@ -36,6 +36,19 @@ requests_low t k q low =
     let first : q ≤ most_left k t = omega (arith, low, le-max_left (most_found t) (2 ^ 61 + 2 * k)) in
     max-le first (le-max_right (most_found t) (2 ^ 61 + 2 * k))
 
+-- what a state begins with is as low
+begins_low : (k : Kind) (found q : ℕ) → BeginsFrom k found q → q ≤ most_by k found
+begins_low kind.Settled found q is = omega (arith, is)
+begins_low kind.Moving found q is = omega (arith, is.1)
+
+pub start_low : (t : choice.Table) (k q : ℕ) → BeginsFrom t.chosen.header.kind t.chosen.header.sequence q
+    → q ≤ most_left k t
+start_low t k q is = omega (
+  arith,
+  begins_low t.chosen.header.kind t.chosen.header.sequence q is,
+  le-max_left (most_found t) (2 ^ 61 + 2 * k),
+)
+
 -- A store was opened over the file that a call began with.
 pub record Opened (t : choice.Table) (m : Map) (b : Book) (old a : State) (s : Kept) : Type 0 where
   pub state : state_of s a.file ≡ state_at m b s.in_use.sequence

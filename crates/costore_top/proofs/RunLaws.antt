@@ -210,6 +210,15 @@ module _ {t : choice.Table} {m : Map} {b : Book} {requests : List Request} {end 
       (Leaves-weaken P (λ image. sequence_wider (most_sequence u.k s.in_use.sequence) (most_left u.k t) image
       (requests_low t u.k s.in_use.sequence op.most)) (ran.numbered op.told (op.rests rests)))
 
+  -- the last state's sequence is as low
+  pub reach_c : last_one.sequence ≤ most_left u.k t
+  reach_c = omega (
+    arith,
+    ran.reach op.told,
+    ap (λ (y : store.State). y.sequence) newest,
+    requests_low t u.k s.in_use.sequence op.most,
+  )
+
   pub rests_a : RestsOnFound t old → (image : List ℕ) → a.may_leave image
       → run.OpensToKept CLASSES start image
   rests_a rests image left = (kept_image s op.sound a.file op.over image (op.rests rests image left)).opens
@@ -335,6 +344,11 @@ module _ {t : choice.Table} {m : Map} {b : Book} {requests : List Request} {end 
           (next_over t s1.store old c q sound over_c (ran.block ∙ op.block)
           (omega (arith, ap (λ (y : store.State). y.sequence) newest))
           (λ was. ran.rests op.told (op.rests was))));
+      reach = omega (
+        arith,
+        reach_c,
+        ap (λ (x : Bool). if x then next_saves limits last_one split.others else 0) not_nine,
+      );
     }
 
   module _ (after : SinkState) (rest : SourceState) (sound : IsStore CLASSES s1.store)
@@ -466,6 +480,16 @@ module _ {t : choice.Table} {m : Map} {b : Book} {requests : List Request} {end 
         (served_at s1.store c.file r).state.map) newest
         (subst (λ (v : SuperBlock). Loose v.k (length image - head_len v.names) (state_of s1.store c.file).map
         (served_at s1.store c.file r).state.map) ran.block is.loose))
+
+    low_z : last_one.sequence + next_one.saves.most ≤ most_left u.k t
+    low_z = omega (
+      arith,
+      saves_within (limits_of s1.store) (state_of s1.store c.file) r u.k s.in_use.sequence
+          (ap (λ (v : SuperBlock). v.k) ran.block) (ran.reach op.told),
+      requests_low t u.k s.in_use.sequence op.most,
+      ap (λ (y : store.State). y.sequence) newest,
+      ap (λ (y : Served). y.saves.most) served_is,
+    )
 
     numbered_z : LeavesRoom t → RestsOnFound t old → z.turn < last
         → LeftOnly z old.turn (HasSequenceUpTo (most_left u.k t))
@@ -640,6 +664,7 @@ module _ {t : choice.Table} {m : Map} {b : Book} {requests : List Request} {end 
             };
             failed = λ seven mounted. still_z;
             next_start = λ calm. never calm;
+            reach = omega (arith, reach_c);
           }
 
         module _ (quiet : is_disk bad ≡ false) (status_is : 9 ≡ status_at ending)
@@ -796,4 +821,5 @@ module _ {t : choice.Table} {m : Map} {b : Book} {requests : List Request} {end 
             failed = λ is. absurd (omega (arith, is));
             next_start = λ calm. subst (λ (y : store.State). IsNextStart t y
                 (last_one.sequence + next_one.saves.most) old z) (sym last_served) next_z;
+            reach = low_z;
           }

@@ -21,7 +21,7 @@ use Rattle.ask_session.specs.Runs.{last_state}
 use Rattle.ask_session.proofs.RunLaws.{opens_with}
 use Rattle.costore_top.specs.Headline.{HasMounted, HowFar, IsLong, IsNextStart, NumbersLine, OpensTo, RunsAs, Starts, has_opened, is_whole, limits_with, next_reply, next_saves, next_states, served_states, turn_opened}
 use Rattle.costore_top.specs.Outcomes.{PutsLast, line_at, status_at}
-use Rattle.costore_top.proofs.OpeningLemmas.{found_numbered}
+use Rattle.costore_top.proofs.OpeningLemmas.{found_numbered, start_low}
 use Rattle.costore_top.specs.declared.stop.Stop.{Stop}
 use Rattle.costore_top.specs.declared.top.Outcome.{Outcome}
 
@@ -126,4 +126,9 @@ module _ {t : choice.Table} {m : Map} {b : Book} {old z : State}
           + (if x then next_saves (limits_with u) start requests else 0)) not_nine ∙ omega arith) in
           subst (λ (xs : List store.State). IsNextStart t (last_state start xs) q old z) (sym same_states)
           (subst (λ (k : ℕ). IsNextStart t start k old z) is (next calm));
+      reach = omega (
+        arith,
+        start_low t u.k start.sequence starts.sequence,
+        ap (λ (x : Bool). if x then next_saves (limits_with u) start requests else 0) not_nine,
+      );
     }

@@ -34,7 +34,7 @@ use Rattle.costore_top.specs.Headline.{EndsTight, IsNextStart, OpensTo, OpensToB
 use Rattle.costore_top.specs.Outcomes.{PutsLast}
 use Rattle.costore_top.specs.Summaries.{summary_text}
 use Rattle.costore_top.specs.Working.{WorksAs, has_worked, is_working}
-use Rattle.costore_top.proofs.OpeningLemmas.{Opened, found_numbered, requests_low}
+use Rattle.costore_top.proofs.OpeningLemmas.{Opened, found_numbered, requests_low, start_low}
 use Rattle.costore_top.proofs.RunLaws.{next_over, tight_over}
 use Rattle.costore_top.proofs.RunLists.{Shows, first_kept, last_shown, some_weaker}
 
@@ -110,6 +110,7 @@ module _ (t : choice.Table) (m : Map) (b : Book) (old : State) (lawful : IsLawfu
       numbered = numbered_start u.k;
       unbegun = λ is room rests below. left_start room rests below;
       next_start = next;
+      reach = start_low t u.k start.sequence starts.sequence;
     }
 
   -- ---- the file was opened
@@ -214,6 +215,7 @@ module _ (t : choice.Table) (m : Map) (b : Book) (old : State) (lawful : IsLawfu
             (x.numbered op.told (op.rests rests));
         unbegun = λ is. absurd (omega (arith, is));
         next_start = λ calm. absurd (omega (arith, calm.same, calm.below, op.faults, x.rose));
+        reach = omega (arith, x.reach op.told, requests_low t u.k s.in_use.sequence op.most);
       }
 
       -- all jobs were done
@@ -296,4 +298,10 @@ module _ (t : choice.Table) (m : Map) (b : Book) (old : State) (lawful : IsLawfu
           next_start = λ calm. subst (λ (y : store.State). IsNextStart t y y.sequence old z) newest
               (next_over t d.new old z d.new.in_use.sequence d.ran.sound over_z (d.ran.block ∙ op.block)
               (omega arith) (λ was. d.ran.rests op.told (op.rests was)));
+          reach = omega (
+            arith,
+            d.ran.reach op.told,
+            ap (λ (y : store.State). y.sequence) newest,
+            requests_low t u.k s.in_use.sequence op.most,
+          );
         }

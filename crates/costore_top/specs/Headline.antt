@@ -315,6 +315,9 @@ pub record RunsAs (u : SuperBlock) (t : choice.Table) (m : Map) (b : Book) (requ
       ((last_state start ran.states).sequence
       + (if o.status == 9 then next_saves (limits_with u) (last_state start ran.states) ran.others else 0))
       old new
+  pub reach : (last_state start ran.states).sequence
+      + (if o.status == 9 then next_saves (limits_with u) (last_state start ran.states) ran.others else 0)
+      ≤ most_left u.k t
 
 -- The headline: so it is of every file that opens, and of every input.
 abbrev pub RunsFrom : Outcome → disk.State → disk.State → SourceState → SourceState → SinkState → SinkState

@@ -111,6 +111,7 @@ pub record WorksAs (u : SuperBlock) (t : choice.Table) (m : Map) (b : Book) (num
       → LeftOnly new old.turn (OpensTo start)
   pub next_start : IsCalm old.faults new.faults
       → IsNextStart t (last_state start ran.states) (last_state start ran.states).sequence old new
+  pub reach : (last_state start ran.states).sequence ≤ most_left u.k t
 
 -- So it is of every file that opens.
 abbrev pub WorksFrom : ℕ → ℕ → ℕ → disk.State → disk.State → SinkState → SinkState → Type 0

@@ -122,7 +122,7 @@ pub fn requests_are_served<B: Bay, I: Source, O: Sink>()
 
 /// What a crash leaves at any moment of `run` or `work` may be the start of another call: it opens, by a table
 /// whose sequence leaves room for the saves of an opening, and a disk that has it and is left alone rests on
-/// that table. The sequence is below the limit that requests keep, or an opening raised it by fewer than 2^18.
+/// that table. So is the file where no call of the disk failed. The sequence is below the limit that requests keep, or an opening raised it by fewer than 2^18.
 /// So a call may follow each crash while the sequence found leaves room twice.
 pub fn a_crash_may_be_followed_by_a_call<B: Bay, I: Source, O: Sink>()
     ensures run { (t : choice.Table) (m : Map) (b : Book) (requests : List Request) (end : List ℕ) (o : Outcome)
@@ -136,6 +136,17 @@ pub fn a_crash_may_be_followed_by_a_call<B: Bay, I: Source, O: Sink>()
         → WorksFrom number count status (B.state old) (B.state new) (O.state out) (O.state after)
         → LeavesRoomTwice t → RestsOnFound t (B.state old) → (B.state new).turn < last
         → LeftOnly (B.state new) (B.state old).turn (MayBegin (most_left t.chosen.block.k t)) }
+    ensures calm { (t : choice.Table) (m : Map) (b : Book) (requests : List Request) (end : List ℕ) (o : Outcome)
+        (old new : B) (from rest : I) (out after : O) → OpensBy CLASSES SIZE_MAX t (B.state old).file m b
+        → Asks (I.state from).left requests end
+        → RunsFrom o (B.state old) (B.state new) (I.state from) (I.state rest) (O.state out) (O.state after)
+        → LeavesRoomTwice t → IsCalm (B.state old).faults (B.state new).faults
+        → MayBegin (most_left t.chosen.block.k t) (B.state new).file }
+    ensures calm_work { (t : choice.Table) (m : Map) (b : Book) (number count status : ℕ) (old new : B)
+        (out after : O) → OpensBy CLASSES SIZE_MAX t (B.state old).file m b
+        → WorksFrom number count status (B.state old) (B.state new) (O.state out) (O.state after)
+        → LeavesRoomTwice t → IsCalm (B.state old).faults (B.state new).faults
+        → MayBegin (most_left t.chosen.block.k t) (B.state new).file }
     ensures low { (t : choice.Table) (file : List ℕ) (m : Map) (b : Book) → OpensBy CLASSES SIZE_MAX t file m b
         → most_left t.chosen.block.k t < max (most_found t + 1) (2 ^ 61 + 130) }
     ensures rests { (t : choice.Table) (d : B) → Only (B.state d).file (B.state d).may_leave

@@ -179,6 +179,7 @@ module _ {classes : ℕ} (old mid : Kept) (a b : disk.State) (jobs : List Reques
       numbered = λ told rests. Leaves-trans (ran.numbered told rests)
           (Leaves-weaken (HasSequenceUpTo most) (numbered_low told)
           (serves.left (told_b told) (ran.rests told rests)));
+      reach = λ told. omega (arith, ran.reach told, ap (λ (y : State). y.sequence) (ran.newest told));
       rose = omega (arith, ran.later, cause.rose failed);
       later = omega (arith, ran.later, cause.later);
       frame = record {

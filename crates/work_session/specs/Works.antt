@@ -146,6 +146,8 @@ pub record HasStopped (classes : ℕ) (old : Kept) (jobs : List Request)
       (last_state (state_of old before.file) states) next image)
   pub numbered : IsTrue before.tells → RestsOnTable (base_of old) old.kept before
       → Leaves before now (HasSequenceUpTo (most_sequence old.in_use.block.k old.in_use.sequence))
+  pub reach : IsTrue before.tells → (last_state (state_of old before.file) states).sequence
+      ≤ most_sequence old.in_use.block.k old.in_use.sequence
   pub rose : Rose before.faults now.faults
   pub later : before.faults ≤ now.faults
   pub frame : KeepsDisk before now

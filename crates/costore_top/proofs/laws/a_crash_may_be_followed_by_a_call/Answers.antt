@@ -1,4 +1,4 @@
-use Rattle.costore_top.proofs.FollowingLaws.{below_the_limit, rests_alone, run_followed, work_followed}
+use Rattle.costore_top.proofs.FollowingLaws.{below_the_limit, block_high, calm_begins, rests_alone, run_followed, work_followed}
 use Rattle.costore_top.proofs.laws.a_crash_may_be_followed_by_a_call.Goals as goal
 
 pub returns-clause-run : goal.returns-clause-run
@@ -8,6 +8,16 @@ returns-clause-run g c t m b requests end o old new from rest out after opens as
 pub returns-clause-work : goal.returns-clause-work
 returns-clause-work g c t m b number count status old new out after opens works twice rests below =
     work_followed opens twice rests below (works t m b opens)
+
+pub returns-clause-calm : goal.returns-clause-calm
+returns-clause-calm g c t m b requests end o old new from rest out after opens asks runs twice calm =
+    let r = runs t m b requests end opens asks in
+    calm_begins (block_high (g.B.Disk.state old).file t opens.read) twice (r.next_start calm) r.reach
+
+pub returns-clause-calm_work : goal.returns-clause-calm_work
+returns-clause-calm_work g c t m b number count status old new out after opens works twice calm =
+    let w = works t m b opens in
+    calm_begins (block_high (g.B.Disk.state old).file t opens.read) twice (w.next_start calm) w.reach
 
 pub returns-clause-low : goal.returns-clause-low
 returns-clause-low g c = below_the_limit
