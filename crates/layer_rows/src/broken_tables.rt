@@ -1,13 +1,13 @@
 //! Tables that break a rule, and the place that is named, worked by hand: as a table is checked when a file
 //! is opened, and as the plain definitions name it.
-ghost use Rattle.std.specs.Prelude.{◌≡◌};
-ghost use Rattle.std.specs.List.{list_all};
-ghost use Rattle.slot_codec.specs.Reading.{all_in_range, is_in_range};
+ghost use Rattle.std.specs.Prelude.{IfSome, IsTrue};
+ghost use Rattle.slot_codec.specs.Reading.{all_in_range};
 
+use crate::rows::try_holds;
 use crate::table_words::{FEWER, LIMITS, Limits, Number, TableWords, header_of, plain_table};
 use extent_table::{Spot, Table};
 use size_class::{CLASSES, SIZE_MAX};
-use slot_codec::{Header, Kind, Name, NoMemory};
+use slot_codec::{HEADER_LEN, Header, Kind, Name, NoMemory, read_header, write_header};
 use std::alloc::Global;
 use std::process::Abort;
 use table_check::{check_moving, check_settled};
@@ -126,28 +126,13 @@ const MOVING_OF_FEWER: &[Tried] = moving!(
     "no class to move": Moving 21, 239, 112, 139 => Some((4, 0))
 );
 
-/// Whether a header's numbers are below 2^48.
-fn is_in_range(header: &Header) -> bool
-    ensures { result ≡ all_in_range header.now }
+/// A header as it is read back once it is written, which has its numbers in range.
+fn read_back(header: &Header) -> Option<Header>
+    ensures { IfSome result (λ read. IsTrue (all_in_range read)) }
 {
-    header.wall < 1 << 48
-        && header.slack < 1 << 48
-        && are_in_range(&header.caps)
-        && are_rows_in_range(&header.used)
-}
-
-/// Whether each number of a row is below 2^48.
-fn are_in_range(numbers: &[u64]) -> bool
-    ensures { result ≡ list_all is_in_range numbers.now }
-{
-    numbers.iter().all(|number| *number < 1 << 48)
-}
-
-/// Whether each number of each row is.
-fn are_rows_in_range(rows: &[[u64; 32]; 32]) -> bool
-    ensures { result ≡ list_all (list_all is_in_range) rows.now }
-{
-    rows.iter().all(|numbers| are_in_range(numbers))
+    let mut bytes = [0u8; HEADER_LEN];
+    write_header(header, &mut bytes);
+    read_header(&bytes, 16).ok()
 }
 
 /// The table of objects by name, place and size.
@@ -170,11 +155,13 @@ fn table_of(alloc: Global, objects: &[(u8, u64, u64)]) -> Result<Table, NoMemory
 /// The rule and the place that the check of a table names, for the divisor 9, or none.
 fn checked(alloc: Global, words: &TableWords) -> Result<Option<(u8, u64)>, NoMemory> {
     let table = table_of(alloc, words.objects)?;
-    let header = header_of(words);
     let Ok(mut order) = Vec::with_capacity(alloc, 16) else {
         return Err(NoMemory);
     };
-    if !is_in_range(&header) || table.count() > 16 {
+    let Some(header) = read_back(&header_of(words)) else {
+        return Ok(Some((0, 0)));
+    };
+    if table.count() > 16 {
         return Ok(Some((0, 0)));
     }
     let checked = match words.kind {
@@ -189,7 +176,7 @@ fn checked(alloc: Global, words: &TableWords) -> Result<Option<(u8, u64)>, NoMem
 
 /// Tries the rule and the place that were named.
 fn try_first(rt: &impl Abort, by: &str, found: Option<(u8, u64)>, tried: &Tried) {
-    assert_eq!(rt; found, tried.first, "{}, {by}", tried.what);
+    try_holds(rt, found == tried.first, &(tried.what, by, found));
 }
 
 /// Tries what the check of a table names.

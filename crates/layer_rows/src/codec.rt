@@ -2,6 +2,7 @@
 //! 5 bytes.
 ghost use Rattle.std.specs.Prelude.{◌≡◌, length};
 
+use crate::rows::try_holds;
 use slot_codec::{
     CodecFault, HEADER_LEN, Header, Kind, RECORD_LEN, Record, SUPERBLOCK_LEN, SuperBlock,
     read_header, read_record, read_superblock, write_header, write_record, write_superblock,
@@ -10,7 +11,7 @@ use slot_codec::{
 /// A position, the byte that is put there, and the fault of what is then read; none where it is read whole.
 type Row = (usize, u8, Option<CodecFault>);
 
-const SUPERBLOCKS: [Row; 5] = [
+const SUPERBLOCKS: &[Row] = &[
     (0, b'C', None),
     (7, b'2', Some(CodecFault::Magic)),
     (8, 65, Some(CodecFault::Params)),
@@ -18,7 +19,7 @@ const SUPERBLOCKS: [Row; 5] = [
     (63, 1, Some(CodecFault::Zeros)),
 ];
 
-const HEADERS: [Row; 7] = [
+const HEADERS: &[Row] = &[
     (0, 1, None),
     (0, 2, Some(CodecFault::Version)),
     (1, 2, Some(CodecFault::Kind)),
@@ -28,7 +29,7 @@ const HEADERS: [Row; 7] = [
     (8486, 1, Some(CodecFault::Range)),
 ];
 
-const RECORDS: [Row; 5] = [
+const RECORDS: &[Row] = &[
     (1, b'a', None),
     (0, 0, Some(CodecFault::NameBytes)),
     (1, 0x20, Some(CodecFault::NameBytes)),
@@ -78,7 +79,7 @@ fn is_superblock(at: usize, byte: u8, fault: Option<CodecFault>) -> bool {
 #[test]
 fn a_superblock_is_read_or_its_first_fault(rt: HostRuntime) {
     for (at, byte, fault) in SUPERBLOCKS {
-        assert!(rt; is_superblock(at, byte, fault), "with {byte} at {at}");
+        try_holds(&rt, is_superblock(*at, *byte, *fault), &(at, byte));
     }
 }
 
@@ -130,7 +131,7 @@ fn is_header(at: usize, byte: u8, fault: Option<CodecFault>) -> bool {
 #[test]
 fn a_header_is_read_or_its_first_fault(rt: HostRuntime) {
     for (at, byte, fault) in HEADERS {
-        assert!(rt; is_header(at, byte, fault), "with {byte} at {at}");
+        try_holds(&rt, is_header(*at, *byte, *fault), &(at, byte));
     }
 }
 
@@ -168,6 +169,6 @@ fn is_record(at: usize, byte: u8, fault: Option<CodecFault>) -> bool {
 #[test]
 fn a_record_is_read_or_its_first_fault(rt: HostRuntime) {
     for (at, byte, fault) in RECORDS {
-        assert!(rt; is_record(at, byte, fault), "with {byte} at {at}");
+        try_holds(&rt, is_record(*at, *byte, *fault), &(at, byte));
     }
 }

@@ -1,18 +1,18 @@
 //! The devices in memory: the images of each turn of a disk, a file in a bay, and pieces of a stream.
-ghost use Rattle.std.specs.Prelude.{IsTrue, IfOk};
+ghost use Rattle.std.specs.Prelude.{IsTrue};
 ghost use Rattle.disk_mem.specs.Bays.{bay_state};
 
+use crate::rows::try_holds;
 use disk_face::{Bay, Disk, Mounted, Sink, Source};
 use disk_mem::{Choice, MemBay, MemDisk, MemSink, MemSource, PlainDisk};
 use slot_codec::NoMemory;
 use std::alloc::Global;
 use std::process::Abort;
-use std::test::Fail;
 
 /// A turn, which of its images is built, and its bytes.
 type Image = (u64, Choice, &'static [u8]);
 
-const IMAGES: [Image; 18] = [
+const IMAGES: &[Image] = &[
     (0, Choice::Durable, b"abcd"),
     (0, Choice::Newest, b"abcd"),
     (0, Choice::Torn(b'?'), b"a??d"),
@@ -34,27 +34,26 @@ const IMAGES: [Image; 18] = [
 ];
 
 /// What each call on a source of `hello` takes in pieces of 3 bytes, the second one failing.
-const TAKES: [Option<usize>; 4] = [Some(3), None, Some(2), Some(0)];
+const TAKES: &[Option<usize>] = &[Some(3), None, Some(2), Some(0)];
 
 /// What is put, and whether a sink of 4 bytes takes it, the first call failing.
-const PUTS: [(&[u8], bool); 4] = [(b"ab", false), (b"cde", true), (b"fg", false), (b"h", true)];
+const PUTS: &[(&[u8], bool)] = &[(b"ab", false), (b"cde", true), (b"fg", false), (b"h", true)];
 
 /// A disk of 6 bytes after three changing calls, the last of them a sync.
-fn synced_disk(rt: &impl Abort, alloc: Global) -> Result<MemDisk, Fail> {
-    let mut disk = MemDisk::from_bytes(alloc, b"abcd")?;
-    assert!(rt; disk.len()? == 4);
-    disk.write_at(1, b"XY")?;
-    disk.set_len(6)?;
-    disk.sync()?;
-    Ok(disk)
+fn synced_disk(rt: &impl Abort, alloc: Global) -> MemDisk {
+    let mut disk = MemDisk::from_bytes(alloc, b"abcd").expect(rt, "memory");
+    assert!(rt; disk.len().expect(rt, "a call") == 4);
+    disk.write_at(1, b"XY").expect(rt, "a call");
+    disk.set_len(6).expect(rt, "a call");
+    disk.sync().expect(rt, "a call");
+    disk
 }
 
 /// Cuts a disk, and writes on it.
-fn cut(rt: &impl Abort, disk: &mut MemDisk) -> Result<(), Fail> {
-    disk.set_len(3)?;
-    assert!(rt; disk.len()? == 3);
-    disk.write_at(0, b"Z")?;
-    Ok(())
+fn cut(rt: &impl Abort, disk: &mut MemDisk) {
+    disk.set_len(3).expect(rt, "a call");
+    assert!(rt; disk.len().expect(rt, "a call") == 3);
+    disk.write_at(0, b"Z").expect(rt, "a call");
 }
 
 /// Whether this is an image of a turn.
@@ -69,113 +68,107 @@ fn is_image(disk: &MemDisk, turn: u64, choice: Choice, wanted: &[u8]) -> bool {
 }
 
 #[test]
-fn builds_the_images_of_each_turn(rt: HostRuntime) -> Result<(), Fail> {
-    let mut disk = synced_disk(&rt, rt.alloc())?;
-    cut(&rt, &mut disk)?;
+fn builds_the_images_of_each_turn(rt: HostRuntime) {
+    let mut disk = synced_disk(&rt, rt.alloc());
+    cut(&rt, &mut disk);
     for (turn, choice, wanted) in IMAGES {
-        assert!(rt;
-            is_image(&disk, turn, choice, wanted),
-            "{choice:?} at {turn}"
+        try_holds(
+            &rt,
+            is_image(&disk, *turn, *choice, wanted),
+            &(turn, choice),
         );
     }
-    Ok(())
 }
 
 /// A bay whose file `f` was made, with room for 8 bytes.
-fn made_bay(rt: &impl Abort, alloc: Global) -> Result<MemBay<PlainDisk>, Fail>
-    ensures { IfOk result (λ bay. IsTrue (bay_state bay).is_ready) }
+fn made_bay(rt: &impl Abort, alloc: Global) -> MemBay<PlainDisk>
+    ensures { IsTrue (bay_state result).is_ready }
 {
-    let disk = PlainDisk::with_room(alloc, 8)?;
-    let name = String::from_str(alloc, "f")?;
+    let disk = PlainDisk::with_room(alloc, 8).expect(rt, "memory");
+    let name = String::from_str(alloc, "f").expect(rt, "memory");
     let mut bay = MemBay::new(alloc, name, false, disk);
-    assert!(rt; bay.mount("f", true)? == Mounted::Made);
-    Ok(bay)
+    assert!(rt; bay.mount("f", true).expect(rt, "a call") == Mounted::Made);
+    bay
 }
 
 /// Grows the file, which fails above the room.
-fn grow(rt: &impl Abort, bay: &mut MemBay<PlainDisk>) -> Result<(), Fail>
+fn grow(rt: &impl Abort, bay: &mut MemBay<PlainDisk>)
     requires { IsTrue (bay_state bay.old).is_ready }
     ensures { IsTrue (bay_state bay.new).is_ready }
 {
     assert!(rt; bay.set_len(9).is_err());
-    bay.set_len(2)?;
-    Ok(())
+    bay.set_len(2).expect(rt, "a call");
 }
 
 /// Writes the file.
-fn fill(rt: &impl Abort, bay: &mut MemBay<PlainDisk>) -> Result<(), Fail>
+fn fill(rt: &impl Abort, bay: &mut MemBay<PlainDisk>)
     requires { IsTrue (bay_state bay.old).is_ready }
 {
-    assert!(rt; bay.len()? == 2);
-    bay.write_at(0, b"ok")?;
-    bay.sync()?;
-    Ok(())
+    assert!(rt; bay.len().expect(rt, "a call") == 2);
+    bay.write_at(0, b"ok").expect(rt, "a call");
+    bay.sync().expect(rt, "a call");
 }
 
 /// The disk of a bay that was written.
-fn written_disk(rt: &impl Abort, alloc: Global) -> Result<PlainDisk, Fail> {
-    let mut bay = made_bay(rt, alloc)?;
-    grow(rt, &mut bay)?;
-    fill(rt, &mut bay)?;
+fn written_disk(rt: &impl Abort, alloc: Global) -> PlainDisk {
+    let mut bay = made_bay(rt, alloc);
+    grow(rt, &mut bay);
+    fill(rt, &mut bay);
     assert!(rt; bay.turns() == 4);
-    Ok(bay.into_disk())
+    bay.into_disk()
 }
 
 #[test]
-fn keeps_a_file_in_a_bay(rt: HostRuntime) -> Result<(), Fail> {
-    let mut disk = written_disk(&rt, rt.alloc())?;
+fn keeps_a_file_in_a_bay(rt: HostRuntime) {
+    let mut disk = written_disk(&rt, rt.alloc());
     let mut out = [0u8; 2];
-    assert!(rt; disk.len()? == 2);
-    disk.read_at(0, &mut out)?;
+    assert!(rt; disk.len().expect(&rt, "a call") == 2);
+    disk.read_at(0, &mut out).expect(&rt, "a call");
     assert!(rt; out.as_slice() == b"ok".as_slice());
-    Ok(())
 }
 
 /// A bay whose file `f` was written before, once a file `g` was looked for.
-fn searched_bay(rt: &impl Abort, alloc: Global) -> Result<MemBay<PlainDisk>, Fail> {
-    let name = String::from_str(alloc, "f")?;
-    let mut bay = MemBay::new(alloc, name, true, written_disk(rt, alloc)?);
-    assert!(rt; bay.mount("g", false)? == Mounted::Absent);
-    Ok(bay)
+fn searched_bay(rt: &impl Abort, alloc: Global) -> MemBay<PlainDisk> {
+    let name = String::from_str(alloc, "f").expect(rt, "memory");
+    let mut bay = MemBay::new(alloc, name, true, written_disk(rt, alloc));
+    assert!(rt; bay.mount("g", false).expect(rt, "a call") == Mounted::Absent);
+    bay
 }
 
 #[test]
-fn finds_no_file_of_another_name(rt: HostRuntime) -> Result<(), Fail> {
-    let bay = searched_bay(&rt, rt.alloc())?;
+fn finds_no_file_of_another_name(rt: HostRuntime) {
+    let bay = searched_bay(&rt, rt.alloc());
     assert!(rt; bay.disk().turns() == 4);
-    Ok(())
 }
 
 /// A source of five bytes, whose second call fails.
-fn hello(alloc: Global) -> Result<MemSource, Fail> {
-    let bytes = Vec::from_slice(alloc, b"hello")?;
-    let fails = Vec::from_slice(alloc, &[2u64])?;
-    Ok(MemSource::new(bytes, 3, fails))
+fn hello(rt: &impl Abort, alloc: Global) -> MemSource {
+    let bytes = Vec::from_slice(alloc, b"hello").expect(rt, "memory");
+    let fails = Vec::from_slice(alloc, &[2u64]).expect(rt, "memory");
+    MemSource::new(bytes, 3, fails)
 }
 
 #[test]
-fn takes_in_pieces(rt: HostRuntime) -> Result<(), Fail> {
-    let mut source = hello(rt.alloc())?;
+fn takes_in_pieces(rt: HostRuntime) {
+    let mut source = hello(&rt, rt.alloc());
     let mut out = [0u8; 8];
     for taken in TAKES {
-        assert!(rt; source.take(&mut out).ok() == taken);
+        assert!(rt; source.take(&mut out).ok() == *taken);
     }
     assert!(rt; &out[..3] == b"lol".as_slice());
-    Ok(())
 }
 
 /// A sink of four bytes, whose first call fails.
-fn small_sink(alloc: Global) -> Result<MemSink, Fail> {
-    let fails = Vec::from_slice(alloc, &[1u64])?;
-    Ok(MemSink::with_room(alloc, 4, fails)?)
+fn small_sink(rt: &impl Abort, alloc: Global) -> MemSink {
+    let fails = Vec::from_slice(alloc, &[1u64]).expect(rt, "memory");
+    MemSink::with_room(alloc, 4, fails).expect(rt, "memory")
 }
 
 #[test]
-fn puts_in_pieces(rt: HostRuntime) -> Result<(), Fail> {
-    let mut sink = small_sink(rt.alloc())?;
+fn puts_in_pieces(rt: HostRuntime) {
+    let mut sink = small_sink(&rt, rt.alloc());
     for (bytes, is_put) in PUTS {
-        assert!(rt; sink.put(bytes).is_ok() == is_put);
+        assert!(rt; sink.put(bytes).is_ok() == *is_put);
     }
     assert!(rt; sink.bytes() == b"cdeh".as_slice());
-    Ok(())
 }

@@ -4,15 +4,15 @@ ghost use Rattle.segment_layout.specs.Layouts.{divisor_of};
 ghost use Rattle.layer_rows.specs.Listed.{LaysList, LiftsList};
 
 use crate::flush_begins::{Begun, PENDING, flush_of, layout_of};
-use crate::flush_phases::{lay_all, lay_some, lift_all, pack_all};
+use crate::flush_phases::{got, lay_all, lay_some, lift_all, pack_all};
 use crate::flush_resumes::found_laid;
 use crate::list_shelf::ListShelf;
 use crate::plain_flush::{slow_lay, slow_lift, slow_numbers, slow_pack};
+use crate::rows::try_holds;
 use flush_plan::{Item, Laying, Lifting, Move, Numbers};
 use segment_layout::Layout;
 use std::alloc::{AllocError, Global};
 use std::process::Abort;
-use std::test::Fail;
 
 /// The next number below a limit.
 fn drawn(seed: &mut u64, limit: u64) -> u64
@@ -129,8 +129,8 @@ fn draw_pending(seed: &mut u64, b: u8) -> u64
 }
 
 /// Begins a flush that was drawn.
-fn begin(flush: DrawnFlush) -> Result<(Layout<6>, Begun<6>), Fail>
-    ensures { IfOk result (λ both. LiftsList 6 (divisor_of both.0) both.1.lifting both.1.shelf.items.items) }
+fn begin(rt: &impl Abort, flush: DrawnFlush) -> (Layout<6>, Begun<6>)
+    ensures { LiftsList 6 (divisor_of result.0) result.1.lifting result.1.shelf.items.items }
 {
     let DrawnFlush {
         layout,
@@ -138,22 +138,23 @@ fn begin(flush: DrawnFlush) -> Result<(Layout<6>, Begun<6>), Fail>
         items,
         pending,
     } = flush;
-    let begun = flush_of(&layout, b, items, pending).ok_or("no flush")?;
-    Ok((layout, begun))
+    let begun = flush_of(&layout, b, items, pending).expect(rt, "no flush");
+    (layout, begun)
 }
 
 /// Makes the moves of Lift and Pack, and notes them.
 fn lift_and_pack(
+    rt: &impl Abort,
     layout: &Layout<6>,
     lifting: Lifting<6>,
     shelf: &mut ListShelf,
     made: &mut Vec<Move>,
-) -> Result<Laying<6>, Fail>
+) -> Laying<6>
     requires { LiftsList 6 (divisor_of layout.now) lifting shelf.old.items.items }
-    ensures { IfOk result (λ laying. LaysList 6 (divisor_of layout.now) laying shelf.new.items.items) }
+    ensures { LaysList 6 (divisor_of layout.now) result shelf.new.items.items }
 {
-    let packing = lift_all(layout, lifting, shelf, made)?;
-    pack_all(layout, packing, shelf, made)
+    let packing = got(rt, lift_all(layout, lifting, shelf, made));
+    got(rt, pack_all(layout, packing, shelf, made))
 }
 
 /// What a plain plan makes of a flush: its numbers, the items where it leaves them, by key, and its moves.
@@ -211,19 +212,14 @@ fn plan_moves(
     Ok(moves)
 }
 
-/// Tries the numbers of a flush.
-fn try_numbers(rt: &impl Abort, found: Numbers, wanted: Numbers, number: u64) {
-    assert_eq!(rt; found, wanted, "numbers of {number}");
-}
-
 /// Tries a flush that is drawn by a number against a plain plan.
-fn try_drawn(rt: &impl Abort, alloc: Global, number: u64) -> Result<(), Fail> {
-    let drawn = draw(alloc, number)?;
-    let plain = plan(alloc, &drawn)?;
-    let (layout, begun) = begin(drawn)?;
-    try_numbers(rt, begun.lifting.numbers(), plain.numbers, number);
-    try_moves(rt, alloc, number, &layout, begun, &plain)?;
-    try_found_laid(rt, alloc, number, plain.places.as_slice())
+fn try_drawn(rt: &impl Abort, alloc: Global, number: u64) {
+    let drawn = draw(alloc, number).expect(rt, "memory");
+    let plain = plan(alloc, &drawn).expect(rt, "memory");
+    let (layout, begun) = begin(rt, drawn);
+    try_holds(rt, begun.lifting.numbers() == plain.numbers, &number);
+    try_moves(rt, alloc, number, &layout, begun, &plain);
+    try_found_laid(rt, alloc, number, plain.places.as_slice());
 }
 
 /// Tries the moves of a flush, and where its objects stand at the end, told by key.
@@ -234,53 +230,43 @@ fn try_moves(
     layout: &Layout<6>,
     begun: Begun<6>,
     plain: &PlainFlush,
-) -> Result<(), Fail>
+)
     requires { LiftsList 6 (divisor_of layout.now) begun.lifting begun.shelf.items.items }
 {
     let Begun { lifting, shelf } = begun;
     let mut shelf = shelf;
     let mut made = Vec::new(alloc);
-    let laying = lift_and_pack(layout, lifting, &mut shelf, &mut made)?;
-    lay_all(layout, laying, &mut shelf, &mut made)?;
-    assert!(rt;
-        made.as_slice() == plain.moves.as_slice(),
-        "moves of {number}"
-    );
+    let laying = lift_and_pack(rt, layout, lifting, &mut shelf, &mut made);
+    got(rt, lay_all(layout, laying, &mut shelf, &mut made));
+    try_holds(rt, made.as_slice() == plain.moves.as_slice(), &number);
     try_places(rt, shelf, plain.places.as_slice(), number);
-    Ok(())
 }
 
 /// Tries the same flush, interrupted behind some moves of Lay: it ends at the same places, told by key.
-fn try_found_laid(
-    rt: &impl Abort,
-    alloc: Global,
-    number: u64,
-    places: &[Item],
-) -> Result<(), Fail> {
-    let (layout, begun) = begin(draw(alloc, number)?)?;
+fn try_found_laid(rt: &impl Abort, alloc: Global, number: u64, places: &[Item]) {
+    let (layout, begun) = begin(rt, draw(alloc, number).expect(rt, "memory"));
     let Begun { lifting, shelf } = begun;
     let mut shelf = shelf;
     let mut made = Vec::new(alloc);
-    let laying = lift_and_pack(&layout, lifting, &mut shelf, &mut made)?;
+    let laying = lift_and_pack(rt, &layout, lifting, &mut shelf, &mut made);
     let within = lay_some(&layout, laying, &mut shelf, number % 24);
-    lay_again(&layout, within, &mut shelf, &mut made)?;
+    lay_again(rt, &layout, within, &mut shelf, &mut made);
     try_places(rt, shelf, places, number);
-    Ok(())
 }
 
 /// Goes on with a flush that was interrupted within Lay.
 fn lay_again(
+    rt: &impl Abort,
     layout: &Layout<6>,
     laying: Laying<6>,
     shelf: &mut ListShelf,
     made: &mut Vec<Move>,
-) -> Result<(), Fail>
+)
     requires { LaysList 6 (divisor_of layout.now) laying shelf.old.items.items }
 {
-    let again = found_laid(layout, laying, &*shelf).ok_or("not found")?;
-    let packed = pack_all(layout, again, shelf, made)?;
-    lay_all(layout, packed, shelf, made)?;
-    Ok(())
+    let again = found_laid(layout, laying, &*shelf).expect(rt, "not found");
+    let packed = got(rt, pack_all(layout, again, shelf, made));
+    got(rt, lay_all(layout, packed, shelf, made));
 }
 
 /// Tries where the objects of a shelf stand, by key.
@@ -288,13 +274,12 @@ fn try_places(rt: &impl Abort, shelf: ListShelf, places: &[Item], number: u64) {
     let ListShelf { items: last } = shelf;
     let mut last = last;
     last.sort_unstable_by_key(|item| item.key);
-    assert!(rt; last.as_slice() == places, "places of {number}");
+    try_holds(rt, last.as_slice() == places, &number);
 }
 
 #[test]
-fn drawn_flushes(rt: HostRuntime) -> Result<(), Fail> {
+fn drawn_flushes(rt: HostRuntime) {
     for number in 0..300 {
-        try_drawn(&rt, rt.alloc(), number)?;
+        try_drawn(&rt, rt.alloc(), number);
     }
-    Ok(())
 }

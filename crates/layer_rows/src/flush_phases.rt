@@ -1,12 +1,23 @@
 //! The moves of a phase, made on a shelf that is a list. The layout is the one that the flush began with.
-ghost use Rattle.std.specs.Prelude.{IfOk, IfSome};
+ghost use Rattle.std.specs.Prelude.{◌≡◌, Ok, IfOk, IfSome};
 ghost use Rattle.segment_layout.specs.Layouts.{divisor_of};
 ghost use Rattle.layer_rows.specs.Listed.{LaysList, LiftsList, PacksList};
 
 use crate::list_shelf::ListShelf;
 use flush_plan::{Laying, Lifting, Move, Packing, Settled};
 use segment_layout::Layout;
+use std::process::Abort;
 use std::test::Fail;
+
+/// What a phase gave, which may not fail.
+pub(crate) fn got<T>(rt: &impl Abort, given: Result<T, Fail>) -> T
+    ensures { given ≡ Ok result }
+{
+    match given {
+        Ok(value) => value,
+        Err(_) => panic!(rt; "a phase that failed"),
+    }
+}
 
 /// Makes all moves of Lift, and notes them. It fails where they don't end.
 pub(crate) fn lift_all<const C: usize>(

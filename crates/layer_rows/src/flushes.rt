@@ -1,18 +1,17 @@
 //! Worked flushes over a shelf that is a list, also as they are found again.
-ghost use Rattle.std.specs.Prelude.{IfOk};
 ghost use Rattle.segment_layout.specs.Layouts.{divisor_of};
 ghost use Rattle.layer_rows.specs.Listed.{LaysList, LiftsList, PacksList};
 
 use crate::flush_begins::{Begun, PENDING, flush_of, layout_of};
-use crate::flush_phases::{lay_all, lift_all, pack_all, pack_once};
+use crate::flush_phases::{got, lay_all, lift_all, pack_all, pack_once};
 use crate::flush_resumes::found_again;
 use crate::list_shelf::ListShelf;
+use crate::rows::try_holds;
 use flush_plan::{Item, Laying, Lifting, Move, Numbers, Packing, Settled};
 use segment_layout::Layout;
 use size_class::CLASSES;
 use std::alloc::{AllocError, Global};
 use std::process::Abort;
-use std::test::Fail;
 
 /// A worked flush: the volumes of its layout by class, its objects by key, class, place and size, the bytes
 /// of the pending one, its numbers, and its moves by key, place before and place after.
@@ -90,70 +89,56 @@ fn items_of(alloc: Global, objects: &[(u32, u8, u64, u64)]) -> Result<Vec<Item>,
 }
 
 /// Begins a worked flush.
-fn begin(alloc: Global, layout: &Layout<CLASSES>, worked: &Worked) -> Result<Begun<CLASSES>, Fail>
-    ensures { IfOk result (λ begun.
-        LiftsList CLASSES (divisor_of layout.now) begun.lifting begun.shelf.items.items) }
+fn begin(
+    rt: &impl Abort,
+    alloc: Global,
+    layout: &Layout<CLASSES>,
+    worked: &Worked,
+) -> Begun<CLASSES>
+    ensures { LiftsList CLASSES (divisor_of layout.now) result.lifting result.shelf.items.items }
 {
-    let items = items_of(alloc, worked.objects)?;
-    let begun = flush_of(layout, worked.numbers.boundary, items, worked.pending).ok_or("no flush")?;
-    Ok(begun)
+    let items = items_of(alloc, worked.objects).expect(rt, "memory");
+    flush_of(layout, worked.numbers.boundary, items, worked.pending).expect(rt, "no flush")
 }
 
 /// Tries the numbers of a flush.
 fn try_numbers(rt: &impl Abort, found: Numbers, wanted: Numbers) {
-    assert_eq!(rt; found, wanted);
-}
-
-/// Tries a move, by key, place before and place after.
-fn try_move(rt: &impl Abort, mv: &Move, wanted: (u32, u64, u64)) {
-    assert_eq!(rt; (mv.key, mv.from, mv.to), wanted);
+    try_holds(rt, found == wanted, &found);
 }
 
 /// Tries the moves that were made.
 fn try_moves(rt: &impl Abort, made: &[Move], wanted: &[(u32, u64, u64)]) {
-    assert_eq!(rt; made.len(), wanted.len());
+    try_holds(rt, made.len() == wanted.len(), &made.len());
     'moves: for (mv, to) in made.iter().zip(wanted) {
-        try_move(rt, mv, *to);
+        try_holds(rt, (mv.key, mv.from, mv.to) == *to, to);
     }
 }
 
 /// Tries one worked flush: its numbers, and its moves.
-fn try_flush(
-    rt: &impl Abort,
-    alloc: Global,
-    layout: &Layout<CLASSES>,
-    worked: &Worked,
-) -> Result<(), Fail> {
-    let Begun { lifting, shelf } = begin(alloc, layout, worked)?;
+fn try_flush(rt: &impl Abort, alloc: Global, layout: &Layout<CLASSES>, worked: &Worked) {
+    let Begun { lifting, shelf } = begin(rt, alloc, layout, worked);
     let mut shelf = shelf;
     let mut made = Vec::new(alloc);
     try_numbers(rt, lifting.numbers(), worked.numbers);
-    let packing = lift_all(layout, lifting, &mut shelf, &mut made)?;
-    try_packed(rt, layout, packing, shelf, &mut made, worked.numbers)?;
+    let packing = got(rt, lift_all(layout, lifting, &mut shelf, &mut made));
+    try_packed(rt, layout, packing, shelf, &mut made, worked.numbers);
     try_moves(rt, made.as_slice(), worked.moves);
-    Ok(())
 }
 
 /// Tries one worked flush that is interrupted behind Lift. Its numbers are found again from where its objects
 /// stand, but for the reach, which is now the wall, and it goes on with the same moves.
-fn try_found_flush(
-    rt: &impl Abort,
-    alloc: Global,
-    layout: &Layout<CLASSES>,
-    worked: &Worked,
-) -> Result<(), Fail> {
-    let Begun { lifting, shelf } = begin(alloc, layout, worked)?;
+fn try_found_flush(rt: &impl Abort, alloc: Global, layout: &Layout<CLASSES>, worked: &Worked) {
+    let Begun { lifting, shelf } = begin(rt, alloc, layout, worked);
     let mut shelf = shelf;
     let mut made = Vec::new(alloc);
-    let lifted = lift_all(layout, lifting, &mut shelf, &mut made)?;
-    let packing = found_again(layout, lifted, &shelf).ok_or("not found")?;
+    let lifted = got(rt, lift_all(layout, lifting, &mut shelf, &mut made));
+    let packing = found_again(layout, lifted, &shelf).expect(rt, "not found");
     let found = Numbers {
         reach: worked.numbers.wall,
         ..worked.numbers
     };
-    try_packed(rt, layout, packing, shelf, &mut made, found)?;
+    try_packed(rt, layout, packing, shelf, &mut made, found);
     try_moves(rt, made.as_slice(), worked.moves);
-    Ok(())
 }
 
 /// Tries the numbers of a flush from Pack on, and notes its moves.
@@ -164,13 +149,13 @@ fn try_packed(
     shelf: ListShelf,
     made: &mut Vec<Move>,
     numbers: Numbers,
-) -> Result<(), Fail>
+)
     requires { PacksList CLASSES (divisor_of layout.now) packing shelf.items.items }
 {
     let mut shelf = shelf;
     try_numbers(rt, packing.numbers(), numbers);
-    let laying = pack_all(layout, packing, &mut shelf, made)?;
-    try_laid(rt, layout, laying, shelf, made, numbers)
+    let laying = got(rt, pack_all(layout, packing, &mut shelf, made));
+    try_laid(rt, layout, laying, shelf, made, numbers);
 }
 
 /// Tries the numbers of a flush from Lay on, and notes its moves.
@@ -181,57 +166,49 @@ fn try_laid(
     shelf: ListShelf,
     made: &mut Vec<Move>,
     numbers: Numbers,
-) -> Result<(), Fail>
+)
     requires { LaysList CLASSES (divisor_of layout.now) laying shelf.items.items }
 {
     let mut shelf = shelf;
     try_numbers(rt, laying.numbers(), numbers);
-    let settled = lay_all(layout, laying, &mut shelf, made)?;
+    let settled = got(rt, lay_all(layout, laying, &mut shelf, made));
     try_numbers(rt, settled.numbers(), numbers);
-    Ok(())
 }
 
 #[test]
-fn worked_flushes(rt: HostRuntime) -> Result<(), Fail> {
+fn worked_flushes(rt: HostRuntime) {
     for worked in FLUSHES {
         let layout = layout_of(9, worked.volumes);
-        try_flush(&rt, rt.alloc(), &layout, worked)?;
-        try_found_flush(&rt, rt.alloc(), &layout, worked)?;
+        try_flush(&rt, rt.alloc(), &layout, worked);
+        try_found_flush(&rt, rt.alloc(), &layout, worked);
     }
-    Ok(())
 }
 
 /// Tries a flush that is interrupted once its last object is packed.
-fn try_found_packed(
-    rt: &impl Abort,
-    alloc: Global,
-    layout: &Layout<CLASSES>,
-    worked: &Worked,
-) -> Result<(), Fail> {
-    let Begun { lifting, shelf } = begin(alloc, layout, worked)?;
+fn try_found_packed(rt: &impl Abort, alloc: Global, layout: &Layout<CLASSES>, worked: &Worked) {
+    let Begun { lifting, shelf } = begin(rt, alloc, layout, worked);
     let mut shelf = shelf;
     let mut made = Vec::new(alloc);
-    let again = lift_and_find(layout, lifting, &mut shelf, &mut made)?;
-    let settled = pack_and_lay(rt, layout, again, shelf, &mut made)?;
+    let again = lift_and_find(rt, layout, lifting, &mut shelf, &mut made);
+    let settled = pack_and_lay(rt, layout, again, shelf, &mut made);
     try_volumes(rt, &settled);
     try_moves(rt, made.as_slice(), worked.moves);
-    Ok(())
 }
 
 /// Makes the moves of Lift, and notes them, then one of Pack, and finds the flush again.
 fn lift_and_find(
+    rt: &impl Abort,
     layout: &Layout<CLASSES>,
     lifting: Lifting<CLASSES>,
     shelf: &mut ListShelf,
     made: &mut Vec<Move>,
-) -> Result<Packing<CLASSES>, Fail>
+) -> Packing<CLASSES>
     requires { LiftsList CLASSES (divisor_of layout.now) lifting shelf.old.items.items }
-    ensures { IfOk result (λ again. PacksList CLASSES (divisor_of layout.now) again shelf.new.items.items) }
+    ensures { PacksList CLASSES (divisor_of layout.now) result shelf.new.items.items }
 {
-    let lifted = lift_all(layout, lifting, shelf, made)?;
-    let packing = pack_once(layout, lifted, shelf).ok_or("nothing to pack")?;
-    let again = found_again(layout, packing, &*shelf).ok_or("not found")?;
-    Ok(again)
+    let lifted = got(rt, lift_all(layout, lifting, shelf, made));
+    let packing = pack_once(layout, lifted, shelf).expect(rt, "nothing to pack");
+    found_again(layout, packing, &*shelf).expect(rt, "not found")
 }
 
 /// Goes on to the end. One move was noted before, and Pack has none left.
@@ -241,29 +218,25 @@ fn pack_and_lay(
     packing: Packing<CLASSES>,
     shelf: ListShelf,
     made: &mut Vec<Move>,
-) -> Result<Settled<CLASSES>, Fail>
+) -> Settled<CLASSES>
     requires { PacksList CLASSES (divisor_of layout.now) packing shelf.items.items }
 {
     let mut shelf = shelf;
-    let laying = pack_all(layout, packing, &mut shelf, made)?;
-    assert_eq!(rt; made.len(), 1);
-    lay_all(layout, laying, &mut shelf, made)
+    let laying = got(rt, pack_all(layout, packing, &mut shelf, made));
+    assert!(rt; made.len() == 1);
+    got(rt, lay_all(layout, laying, &mut shelf, made))
 }
 
 /// Tries the bytes of three classes at the end.
 fn try_volumes(rt: &impl Abort, settled: &Settled<CLASSES>) {
     let volumes = settled.volumes();
-    assert_eq!(rt;
-        (volumes.get(2), volumes.get(3), volumes.get(6)),
-        (5, 10, 100)
-    );
+    assert!(rt; (volumes.get(2), volumes.get(3), volumes.get(6)) == (5, 10, 100));
 }
 
 #[test]
-fn a_flush_that_is_found_packed(rt: HostRuntime) -> Result<(), Fail> {
+fn a_flush_that_is_found_packed(rt: HostRuntime) {
     for worked in FOUND_PACKED {
         let layout = layout_of(9, worked.volumes);
-        try_found_packed(&rt, rt.alloc(), &layout, worked)?;
+        try_found_packed(&rt, rt.alloc(), &layout, worked);
     }
-    Ok(())
 }

@@ -1,5 +1,5 @@
 //! Disks that fail when they are told to, call by call.
-ghost use Rattle.std.specs.Prelude.{◌≡◌, ◌∷◌, [], length, IfOk, OnOk};
+ghost use Rattle.std.specs.Prelude.{◌≡◌, ◌∷◌, [], length};
 ghost use Rattle.disk_mem.specs.Histories.{file_of};
 ghost use Rattle.disk_mem.specs.Calls.{AfterChanges, ListedCalls, none_made};
 ghost use Rattle.disk_mem.specs.Fuses.{calls_of, disk_of};
@@ -8,73 +8,69 @@ use disk_face::Disk;
 use disk_mem::{Fuse, MemDisk};
 use std::alloc::Global;
 use std::process::Abort;
-use std::test::Fail;
 
 /// A disk of four bytes that fails its second changing call, and its first and third other call.
-fn listed(alloc: Global) -> Result<Fuse<MemDisk>, Fail>
-    ensures calls { IfOk result (λ fuse. calls_of fuse ≡ none_made (ListedCalls (2 ∷ []) (1 ∷ 3 ∷ []))) }
-    ensures file { IfOk result (λ fuse. length (file_of (disk_of fuse)) ≡ 4) }
+fn listed(rt: &impl Abort, alloc: Global) -> Fuse<MemDisk>
+    ensures calls { calls_of result ≡ none_made (ListedCalls (2 ∷ []) (1 ∷ 3 ∷ [])) }
+    ensures file { length (file_of (disk_of result)) ≡ 4 }
 {
-    let changes = Vec::from_slice(alloc, &[2u64])?;
-    let reads = Vec::from_slice(alloc, &[1u64, 3])?;
-    let disk = MemDisk::from_bytes(alloc, b"abcd")?;
-    Ok(Fuse::listed(disk, changes, reads))
+    let changes = Vec::from_slice(alloc, &[2u64]).expect(rt, "memory");
+    let reads = Vec::from_slice(alloc, &[1u64, 3]).expect(rt, "memory");
+    let disk = MemDisk::from_bytes(alloc, b"abcd").expect(rt, "memory");
+    Fuse::listed(disk, changes, reads)
 }
 
 /// The first four calls, of which the first and the last fail.
-fn begin(rt: &impl Abort, fuse: &mut Fuse<MemDisk>) -> Result<(), Fail>
+fn begin(rt: &impl Abort, fuse: &mut Fuse<MemDisk>)
     requires calls { calls_of fuse.old ≡ none_made (ListedCalls (2 ∷ []) (1 ∷ 3 ∷ [])) }
     requires file { length (file_of (disk_of fuse.old)) ≡ 4 }
-    ensures file { OnOk result (length (file_of (disk_of fuse.new)) ≡ 4) }
+    ensures file { length (file_of (disk_of fuse.new)) ≡ 4 }
 {
     assert!(rt; fuse.len().is_err());
-    fuse.write_at(1, b"XY")?;
-    assert!(rt; fuse.len()? == 4);
+    fuse.write_at(1, b"XY").expect(rt, "a call");
+    assert!(rt; fuse.len().expect(rt, "a call") == 4);
     assert!(rt; fuse.sync().is_err());
-    Ok(())
 }
 
 /// The last three, of which the first fails.
-fn end(rt: &impl Abort, fuse: &mut Fuse<MemDisk>) -> Result<(), Fail>
+fn end(rt: &impl Abort, fuse: &mut Fuse<MemDisk>)
     requires { length (file_of (disk_of fuse.old)) ≡ 4 }
 {
     let mut out = [0u8; 4];
     assert!(rt; fuse.read_at(0, &mut out).is_err());
-    fuse.read_at(0, &mut out)?;
+    fuse.read_at(0, &mut out).expect(rt, "a call");
     assert!(rt; out.as_slice() == b"aXYd".as_slice());
-    fuse.sync()?;
-    Ok(())
+    fuse.sync().expect(rt, "a call");
 }
 
 #[test]
-fn fails_the_listed_calls(rt: HostRuntime) -> Result<(), Fail> {
-    let mut fuse = listed(rt.alloc())?;
-    begin(&rt, &mut fuse)?;
-    end(&rt, &mut fuse)?;
+fn fails_the_listed_calls(rt: HostRuntime) {
+    let mut fuse = listed(&rt, rt.alloc());
+    begin(&rt, &mut fuse);
+    end(&rt, &mut fuse);
     assert!(rt; fuse.turns() == 3);
     assert!(rt; fuse.into_inner().turns() == 2);
-    Ok(())
 }
 
 /// A disk of four bytes that stops after its first changing call, which was made.
-fn stopped(alloc: Global) -> Result<Fuse<MemDisk>, Fail>
-    ensures { IfOk result (λ fuse. length (file_of (disk_of fuse)) ≡ 4) }
+fn stopped(rt: &impl Abort, alloc: Global) -> Fuse<MemDisk>
+    ensures { length (file_of (disk_of result)) ≡ 4 }
 {
-    let mut fuse = Fuse::stop_after(MemDisk::from_bytes(alloc, b"abcd")?, 1);
+    let mut fuse = Fuse::stop_after(MemDisk::from_bytes(alloc, b"abcd").expect(rt, "memory"), 1);
     let mut out = [0u8; 1];
-    fuse.read_at(3, &mut out)?;
-    fuse.write_at(3, b"Z")?;
-    Ok(fuse)
+    fuse.read_at(3, &mut out).expect(rt, "a call");
+    fuse.write_at(3, b"Z").expect(rt, "a call");
+    fuse
 }
 
 /// The last byte of a disk of four.
-fn last_byte(disk: &mut MemDisk) -> Result<Option<u8>, Fail> {
+fn last_byte(rt: &impl Abort, disk: &mut MemDisk) -> Option<u8> {
     let mut out = [0u8; 1];
-    if disk.len()? != 4 {
-        return Ok(None);
+    if disk.len().expect(rt, "a call") != 4 {
+        return None;
     }
-    disk.read_at(3, &mut out)?;
-    Ok(Some(out[0]))
+    disk.read_at(3, &mut out).expect(rt, "a call");
+    Some(out[0])
 }
 
 /// Whether a call of each kind fails.
@@ -88,10 +84,9 @@ fn fails(fuse: &mut Fuse<MemDisk>) -> bool
 }
 
 #[test]
-fn stops_after_a_change(rt: HostRuntime) -> Result<(), Fail> {
-    let mut fuse = stopped(rt.alloc())?;
+fn stops_after_a_change(rt: HostRuntime) {
+    let mut fuse = stopped(&rt, rt.alloc());
     assert!(rt; fails(&mut fuse));
     assert!(rt; fuse.turns() == 2);
-    assert!(rt; last_byte(&mut fuse.into_inner())? == Some(b'Z'));
-    Ok(())
+    assert!(rt; last_byte(&rt, &mut fuse.into_inner()) == Some(b'Z'));
 }

@@ -2,6 +2,7 @@
 ghost use Rattle.std.specs.Prelude.{◌<◌, ◌≤◌, ◌^◌, ℕ, slice_index};
 ghost use Rattle.size_class.specs.Rows.{cells_of};
 
+use crate::rows::try_holds;
 use segment_layout::{Charge, Layout};
 use size_class::{CLASSES, Row, SIZE_MAX, class_of};
 
@@ -9,7 +10,7 @@ use size_class::{CLASSES, Row, SIZE_MAX, class_of};
 type Charging = (u8, u64, Option<Charge>);
 
 /// What is charged beside an object of 100 bytes.
-const BESIDE: [Charging; 2] = [
+const BESIDE: &[Charging] = &[
     (
         3,
         10,
@@ -22,10 +23,10 @@ const BESIDE: [Charging; 2] = [
 ];
 
 /// A class, and the boundary from it down.
-const BOUNDARIES: [(u8, u8); 3] = [(2, 2), (3, 3), (6, 3)];
+const BOUNDARIES: &[(u8, u8)] = &[(2, 2), (3, 3), (6, 3)];
 
 /// What is charged where there is one class.
-const ALONE: [Charging; 3] = [
+const ALONE: &[Charging] = &[
     (
         0,
         1,
@@ -46,10 +47,10 @@ const ALONE: [Charging; 3] = [
 ];
 
 /// A class, and where its segment and its buffer begin.
-const SEGMENTS: [(u8, u64, u64); 3] = [(2, 0, 10), (3, 12, 21), (CLASSES as u8 - 1, 23, 23)];
+const SEGMENTS: &[(u8, u64, u64)] = &[(2, 0, 10), (3, 12, 21), (CLASSES as u8 - 1, 23, 23)];
 
 /// A place, and whether it lies in the payload segment of class 3.
-const PLACES: [(u64, bool); 4] = [(11, false), (12, true), (20, true), (21, false)];
+const PLACES: &[(u64, bool)] = &[(11, false), (12, true), (20, true), (21, false)];
 
 /// The volumes of two classes, below 2^48 bytes, and 0 for every other class.
 fn volumes<const C: usize>(first: u8, small: u64, second: u8, large: u64) -> Row<C>
@@ -106,9 +107,9 @@ fn a_small_object_beside_a_large_one(rt: HostRuntime) {
     assert!(rt; is_charged(&mut layout, &(6, 100, None)));
     settle(&mut layout, &volumes(0, 0, 6, 100));
     assert!(rt; layout.end() == 111);
-    assert!(rt; are_charged(&mut layout, &BESIDE));
+    assert!(rt; are_charged(&mut layout, BESIDE));
     for (class, boundary) in BOUNDARIES {
-        assert!(rt; (class as usize) < CLASSES && layout.boundary(class) == boundary);
+        assert!(rt; (*class as usize) < CLASSES && layout.boundary(*class) == *boundary);
     }
 }
 
@@ -117,7 +118,7 @@ fn one_class_alone(rt: HostRuntime) {
     let mut layout = Layout::<1>::empty(2);
     settle(&mut layout, &volumes(0, 0, 0, 4));
     assert!(rt; layout.end() == 6);
-    assert!(rt; are_charged(&mut layout, &ALONE));
+    assert!(rt; are_charged(&mut layout, ALONE));
 }
 
 /// The layout of 10 bytes of class 2 and 9 of class 3.
@@ -138,7 +139,7 @@ fn is_segment(layout: &Layout<CLASSES>, class: u8, start: u64, buffer: u64) -> b
 fn segments_of_a_layout(rt: HostRuntime) {
     let layout = two_classes();
     for (class, start, buffer) in SEGMENTS {
-        assert!(rt; is_segment(&layout, class, start, buffer), "class {class}");
+        try_holds(&rt, is_segment(&layout, *class, *start, *buffer), class);
     }
 }
 
@@ -146,7 +147,7 @@ fn segments_of_a_layout(rt: HostRuntime) {
 fn places_of_a_payload(rt: HostRuntime) {
     let layout = two_classes();
     for (place, is_in) in PLACES {
-        assert!(rt; layout.in_payload(3, place) == is_in, "place {place}");
+        try_holds(&rt, layout.in_payload(3, *place) == *is_in, place);
     }
 }
 

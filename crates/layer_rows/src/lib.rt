@@ -40,6 +40,8 @@ mod plain_flush;
 #[cfg(test)]
 mod plain_numbers;
 #[cfg(test)]
+mod rows;
+#[cfg(test)]
 mod sizes;
 #[cfg(test)]
 mod spans;

@@ -1,6 +1,7 @@
 //! Worked changes of a book, and the books of worked tables, as the plain definitions have them.
 ghost use Rattle.std.specs.Prelude.{◌≡◌, ◌<◌, ◌^◌, sum};
 
+use crate::rows::try_holds;
 use crate::table_words::{LIMITS, Number, TableWords, header_of, plain_table};
 use plain_layout::{Book, items_of};
 use slot_codec::Kind;
@@ -176,24 +177,18 @@ fn sum_of(sizes: &[u64]) -> u128
     all
 }
 
-/// Tries a book.
-fn try_book(rt: &impl Abort, what: &str, found: Book, wanted: Book) {
-    assert_eq!(rt; found, wanted, "{what}");
-}
-
-/// Tries whether a change is quiet, its boundary, and where the layout ends.
-fn try_end(rt: &impl Abort, what: &str, found: (bool, u8, u128), wanted: (bool, u8, u128)) {
-    assert_eq!(rt; found, wanted, "{what}");
-}
-
 /// Tries what comes of a change of a book.
 fn try_change(rt: &impl Abort, changed: &Changed) {
     assert!(rt; 1 <= changed.k && sum_of(changed.sizes) < 1 << 64);
     let next = book(changed.k, changed.numbers).next(changed.items, changed.sizes);
     let found = (next.quiet, next.boundary, next.book.end());
     let wanted = (changed.quiet, changed.boundary, changed.end);
-    try_end(rt, changed.what, found, wanted);
-    try_book(rt, changed.what, next.book, book(changed.k, changed.after));
+    try_holds(rt, found == wanted, &(changed.what, found));
+    try_holds(
+        rt,
+        next.book == book(changed.k, changed.after),
+        &changed.what,
+    );
 }
 
 /// Tries whether a name stands in a buffer after a change.
@@ -201,7 +196,7 @@ fn try_name(rt: &impl Abort, named: &Named) {
     assert!(rt; sum_of(named.sizes) < 1 << 64);
     let next = book(9, named.numbers).next(&[named.item], named.sizes);
     let stands = next.is_buffered(named.was, named.is_changed, named.after);
-    assert_eq!(rt; stands, named.stands, "{}", named.what);
+    try_holds(rt, stands == named.stands, &named.what);
 }
 
 /// Tries the book of a table, and which of its first two names stand in buffers.
@@ -209,8 +204,12 @@ fn try_table(rt: &impl Abort, alloc: Global, booked: &Booked) {
     let (words, numbers, stand) = *booked;
     let table = plain_table(alloc, LIMITS, &words).expect(rt, "memory");
     assert!(rt; table.table_boundary() <= 32 && table.bytes() < 1 << 64);
-    try_book(rt, "of a table", table.book(), book(9, numbers));
-    assert_eq!(rt; (table.is_buffered(0), table.is_buffered(1)), stand);
+    try_holds(rt, table.book() == book(9, numbers), &"of a table");
+    try_holds(
+        rt,
+        (table.is_buffered(0), table.is_buffered(1)) == stand,
+        &stand,
+    );
 }
 
 #[test]
@@ -231,7 +230,7 @@ fn names_in_buffers_after_changes(rt: HostRuntime) {
 fn items_of_changes(rt: HostRuntime) {
     for (old, is_buffered, new, wanted) in ITEMS {
         let items = items_of(rt.alloc(), *old, *is_buffered, *new).expect(&rt, "memory");
-        assert_eq!(rt; items.as_slice(), *wanted);
+        try_holds(&rt, items.as_slice() == *wanted, wanted);
     }
 }
 

@@ -1,4 +1,5 @@
 //! Worked lengths within the bounds, and worked classes, as the plain definitions have them.
+use crate::rows::try_holds;
 use plain_layout::{Sizes, class_of, is_loose, is_tight};
 use std::process::Abort;
 
@@ -30,16 +31,11 @@ const CLASSES: &[(u64, u8)] = &[
     (4_294_967_296, 31),
 ];
 
-/// Tries that a length is within a bound, and that one byte more is not.
-fn try_within(rt: &impl Abort, k: u64, bytes: u64, most: bool, more: bool) {
-    assert!(rt; most && !more, "k = {k}, {bytes} bytes");
-}
-
 /// Tries the bound between requests, and one byte more.
 fn try_tight(rt: &impl Abort, k: u64, bytes: u64, most: u64) {
     assert!(rt; 1 <= k && k <= 64 && most < u64::MAX);
     let is_within = is_tight(k, most, bytes);
-    try_within(rt, k, bytes, is_within, is_tight(k, most + 1, bytes));
+    try_holds(rt, is_within && !is_tight(k, most + 1, bytes), &(k, bytes));
 }
 
 /// Tries the bound within a request that puts the one object or removes it, and one byte more.
@@ -54,7 +50,11 @@ fn try_loose(rt: &impl Abort, k: u64, bytes: u64, most: u64) {
         largest: bytes,
     };
     let is_within = is_loose(k, most, none, one) && is_loose(k, most, one, none);
-    try_within(rt, k, bytes, is_within, is_loose(k, most + 1, none, one));
+    try_holds(
+        rt,
+        is_within && !is_loose(k, most + 1, none, one),
+        &(k, bytes),
+    );
 }
 
 #[test]
@@ -70,6 +70,6 @@ fn lengths_within_bounds(rt: HostRuntime) {
 #[test]
 fn classes_of_sizes(rt: HostRuntime) {
     for (size, class) in CLASSES {
-        assert_eq!(rt; class_of(*size), *class, "size {size}");
+        try_holds(&rt, class_of(*size) == *class, size);
     }
 }

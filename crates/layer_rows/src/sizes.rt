@@ -1,4 +1,5 @@
 //! Classes and tables at known values.
+use crate::rows::try_holds;
 use size_class::{CLASSES, Grid, Row, SIZE_MAX, class_of, lg_up};
 
 /// The last class.
@@ -20,7 +21,7 @@ const SIZES: &[(u64, u8)] = &[
 ];
 
 /// A number from 2 to 64, and the power of two from it on.
-const POWERS: [(u64, u64); 5] = [(2, 1), (3, 2), (4, 2), (9, 4), (64, 6)];
+const POWERS: &[(u64, u64)] = &[(2, 1), (3, 2), (4, 2), (9, 4), (64, 6)];
 
 /// Whether this is the class of a size, from 1 to 2^31.
 fn is_class(size: u64, class: u8) -> bool {
@@ -35,14 +36,14 @@ fn is_power(k: u64, n: u64) -> bool {
 #[test]
 fn classes_of_sizes(rt: HostRuntime) {
     for (size, class) in SIZES {
-        assert!(rt; is_class(*size, *class), "size {size}");
+        try_holds(&rt, is_class(*size, *class), size);
     }
 }
 
 #[test]
 fn powers_from_numbers_on(rt: HostRuntime) {
     for (k, n) in POWERS {
-        assert!(rt; is_power(k, n), "k = {k}");
+        try_holds(&rt, is_power(*k, *n), k);
     }
 }
 
