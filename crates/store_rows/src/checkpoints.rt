@@ -1,5 +1,5 @@
 //! A checkpoint as it stands in a file: saving it, and telling whether a file opens to it.
-ghost use Rattle.std.specs.Prelude.{◌≡◌, ◌≤◌, IsTrue, OnOk, length};
+ghost use Rattle.std.specs.Prelude.{◌≡◌, ◌≤◌, IsTrue, length};
 ghost use Rattle.slot_codec.specs.Reading.{all_in_range};
 
 use disk_face::{Disk, length_of};
@@ -10,7 +10,7 @@ use size_class::{CLASSES, SIZE_MAX};
 use slot_codec::{Header, Name, SuperBlock};
 use slot_pair::SlotPair;
 use std::alloc::Global;
-use std::test::Fail;
+use std::process::Abort;
 
 /// The divisor and the number of names of each file here.
 pub const BLOCK: SuperBlock = SuperBlock { k: 9, names: 16 };
@@ -41,123 +41,115 @@ pub struct Checkpoint {
 /// Formats a file, and saves a checkpoint in it once, beside a data part of `data_len` bytes. A save gives
 /// its own sequence, which is 2, and its own count.
 pub fn save_on<D: Disk>(
+    rt: &impl Abort,
     alloc: Global,
     disk: &mut D,
     data_len: u64,
     checkpoint: &Checkpoint,
-) -> Result<(), Fail>
+)
     requires ready { IsTrue (D.state disk.old).is_ready }
     requires tells { IsTrue (D.state disk.old).tells }
     requires empty { length (D.state disk.old).file ≡ 0 }
     requires ranges { IsTrue (all_in_range checkpoint.now.header) }
-    ensures ready { OnOk result (IsTrue (D.state disk.new).is_ready) }
-    ensures tells { OnOk result (IsTrue (D.state disk.new).tells) }
+    ensures ready { IsTrue (D.state disk.new).is_ready }
+    ensures tells { IsTrue (D.state disk.new).tells }
 {
-    make_file(disk, data_len)?;
-    let table = write_all(alloc, disk, checkpoint.objects)?;
-    save_table(alloc, disk, &checkpoint.header, &table)
+    make_file(rt, disk, data_len);
+    let table = write_all(rt, alloc, disk, checkpoint.objects);
+    save_table(rt, alloc, disk, &checkpoint.header, &table);
 }
 
 /// Formats a file, and gives it a data part of so many bytes.
-fn make_file<D: Disk>(disk: &mut D, data_len: u64) -> Result<(), Fail>
+fn make_file<D: Disk>(rt: &impl Abort, disk: &mut D, data_len: u64)
     requires ready { IsTrue (D.state disk.old).is_ready }
     requires tells { IsTrue (D.state disk.old).tells }
     requires empty { length (D.state disk.old).file ≡ 0 }
-    ensures ready { OnOk result (IsTrue (D.state disk.new).is_ready) }
-    ensures tells { OnOk result (IsTrue (D.state disk.new).tells) }
+    ensures ready { IsTrue (D.state disk.new).is_ready }
+    ensures tells { IsTrue (D.state disk.new).tells }
 {
-    SlotPair::format(disk, BLOCK.k, BLOCK.names)?;
-    if data_len > 1 << 48 {
-        return Err("a shorter data part")?;
-    }
-    disk.set_len(BASE as u64 + data_len)?;
-    Ok(())
+    SlotPair::format(disk, BLOCK.k, BLOCK.names).expect(rt, "a format");
+    assert!(rt; data_len <= 1 << 48);
+    disk.set_len(BASE as u64 + data_len)
+        .expect(rt, "a data part");
 }
 
 /// Writes objects, and answers the table in which they stand.
-fn write_all<D: Disk>(alloc: Global, disk: &mut D, objects: &[Object]) -> Result<Table, Fail>
+fn write_all<D: Disk>(rt: &impl Abort, alloc: Global, disk: &mut D, objects: &[Object]) -> Table
     requires ready { IsTrue (D.state disk.old).is_ready }
     requires tells { IsTrue (D.state disk.old).tells }
     ensures ready { IsTrue (D.state disk.new).is_ready }
     ensures tells { IsTrue (D.state disk.new).tells }
 {
-    let mut table = Table::with_room(alloc, BLOCK.names)?;
+    let mut table = Table::with_room(alloc, BLOCK.names).expect(rt, "memory");
     'objects: for object in objects {
-        write_on(disk, object)?;
-        add(&mut table, object)?;
+        write_on(rt, disk, object);
+        add(rt, &mut table, object);
     }
-    Ok(table)
+    table
 }
 
 /// Writes an object.
-fn write_on<D: Disk>(disk: &mut D, object: &Object) -> Result<(), Fail>
+fn write_on<D: Disk>(rt: &impl Abort, disk: &mut D, object: &Object)
     requires ready { IsTrue (D.state disk.old).is_ready }
     requires tells { IsTrue (D.state disk.old).tells }
     ensures ready { IsTrue (D.state disk.new).is_ready }
     ensures tells { IsTrue (D.state disk.new).tells }
 {
     let (base, size) = (BASE as u64, object.bytes.len() as u64);
-    let length = length_of(disk)?;
-    if length < base || length - base < object.place || length - base - object.place < size {
-        return Err("an object within the data part")?;
-    }
-    disk.write_at(base + object.place, object.bytes)?;
-    Ok(())
+    let length = length_of(disk).expect(rt, "a length");
+    assert!(rt; base <= length && object.place <= length - base);
+    assert!(rt; size <= length - base - object.place);
+    disk.write_at(base + object.place, object.bytes)
+        .expect(rt, "an object");
 }
 
 /// Sets where an object stands.
-fn add(table: &mut Table, object: &Object) -> Result<(), Fail> {
-    let name = Name::new(object.name.as_bytes()).ok_or("a name")?;
+fn add(rt: &impl Abort, table: &mut Table, object: &Object) {
+    let name = Name::new(object.name.as_bytes()).expect(rt, "a name");
     let (place, size) = (object.place, object.bytes.len() as u64);
-    if !table.room() || place >= 1 << 48 || size >= 1 << 48 {
-        return Err("a name and an object more")?;
-    }
+    assert!(rt; table.room() && place < 1 << 48 && size < 1 << 48);
     table.set(&name, Spot { place, size });
-    Ok(())
 }
 
 /// Saves a table in a file that is a store.
-fn save_table<D: Disk>(
-    alloc: Global,
-    disk: &mut D,
-    header: &Header,
-    table: &Table,
-) -> Result<(), Fail>
+fn save_table<D: Disk>(rt: &impl Abort, alloc: Global, disk: &mut D, header: &Header, table: &Table)
     requires ready { IsTrue (D.state disk.old).is_ready }
     requires tells { IsTrue (D.state disk.old).tells }
     requires ranges { IsTrue (all_in_range header.now) }
-    ensures ready { OnOk result (IsTrue (D.state disk.new).is_ready) }
-    ensures tells { OnOk result (IsTrue (D.state disk.new).tells) }
+    ensures ready { IsTrue (D.state disk.new).is_ready }
+    ensures tells { IsTrue (D.state disk.new).tells }
 {
-    let found = SlotPair::find(disk)?;
+    let found = SlotPair::find(disk).expect(rt, "a store");
     let mut pair = SlotPair::of(&found);
-    let mut buf = vec![in alloc; 0u8; 40_960]?;
+    let mut buf = vec![in alloc; 0u8; 40_960].expect(rt, "memory");
     a_table_can_be_saved();
-    if table.count() > found.block.names || pair.sequence() >= 1 << 61 {
-        return Err("a table that can be saved")?;
-    }
-    pair.save(disk, header, table, &mut buf)?;
-    Ok(())
+    assert!(rt; table.count() <= found.block.names);
+    assert!(rt; pair.sequence() < 1 << 61);
+    pair.save(disk, header, table, &mut buf)
+        .expect(rt, "a save");
 }
 
 /// Whether a file opens to a checkpoint: to its places, its book, its sequence, and its objects' bytes. It
 /// may be longer than the checkpoint's layout.
-pub fn opens_to(alloc: Global, file: &[u8], checkpoint: &Checkpoint) -> Result<bool, Fail> {
-    opens_as(alloc, file, BLOCK.k, checkpoint)
+pub fn opens_to(rt: &impl Abort, alloc: Global, file: &[u8], checkpoint: &Checkpoint) -> bool {
+    opens_as(rt, alloc, file, BLOCK.k, checkpoint)
 }
 
 /// The same for a file of another divisor.
-pub fn opens_as(alloc: Global, file: &[u8], k: u64, checkpoint: &Checkpoint) -> Result<bool, Fail> {
-    let mut disk = MemDisk::from_bytes(alloc, file)?;
+pub fn opens_as(
+    rt: &impl Abort,
+    alloc: Global,
+    file: &[u8],
+    k: u64,
+    checkpoint: &Checkpoint,
+) -> bool {
+    let mut disk = MemDisk::from_bytes(alloc, file).expect(rt, "memory");
     let Ok(opened) = open(alloc, &mut disk, CLASSES as u8, SIZE_MAX) else {
-        return Ok(false);
+        return false;
     };
-    let same_header = opened.table.header == checkpoint.header;
-    Ok(
-        opened.found.block == (SuperBlock { k, ..BLOCK })
-            && same_header
-            && has_objects(&opened.table, file, checkpoint.objects),
-    )
+    opened.found.block == (SuperBlock { k, ..BLOCK })
+        && opened.table.header == checkpoint.header
+        && has_objects(&opened.table, file, checkpoint.objects)
 }
 
 /// Whether a table has these objects and no others, and a file their bytes.

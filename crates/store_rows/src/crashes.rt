@@ -1,21 +1,20 @@
 //! What a crash may leave at each moment of a flush: the last checkpoint, or what stands after the
 //! request.
 use crate::checkpoints::{BASE, Object, opens_to};
-use crate::flushed::fresh_on;
+use crate::flushed::fresh;
 use crate::flushes::{FIVE, ONE_LAID, TEN, THREE_LAID, row};
 use crate::maps::{Which, opened_map};
 use crate::replaced::TEN_LAID;
-use crate::requests::{Ask, KEPT, QUIET, Row, rows, try_rows};
+use crate::requests::{Ask, KEPT, QUIET, Row, rows, try_holds, try_rows};
 use crate::trials::Trial;
-use crate::worked::{HUNDRED, ONE};
+use crate::worked::{HUNDRED, ONE_KEPT};
 use disk_mem::{Choice, MemDisk};
 use std::alloc::Global;
 use std::process::Abort;
-use std::test::Fail;
 
 /// The images of a turn that are tried: what the last sync left, what reads gave, and the written bytes
 /// and those of the write that is next as other ones.
-const CHOICES: [Choice; 5] = [
+const CHOICES: &[Choice] = &[
     Choice::Durable,
     Choice::Newest,
     Choice::Torn(0),
@@ -37,25 +36,15 @@ struct Moments {
 }
 
 /// An image of one turn of a request.
-fn try_image(
-    rt: &impl Abort,
-    alloc: Global,
-    image: &[u8],
-    at: (u64, Choice),
-    moments: &Moments,
-) -> Result<(), Fail> {
-    let data = (image.len() as u64).checked_sub(BASE as u64);
-    let within = match data {
-        Some(data) => data <= moments.reach,
-        None => false,
-    };
-    let opens = match opened_map(alloc, image, moments.before, moments.after)? {
+fn try_image(rt: &impl Abort, alloc: Global, image: &[u8], at: (u64, Choice), moments: &Moments) {
+    let data = (image.len() as u64).saturating_sub(BASE as u64);
+    try_holds(rt, BASE <= image.len() && data <= moments.reach, &at);
+    let opens = match opened_map(rt, alloc, image, moments.before, moments.after) {
         Which::Before => at.0 < moments.last,
         Which::After => moments.first <= at.0,
         Which::Neither => false,
     };
-    assert_eq!(rt; (within, opens), (true, true), "{at:?}");
-    Ok(())
+    try_holds(rt, opens, &at);
 }
 
 /// The images of one turn of a request that began at another.
@@ -66,27 +55,20 @@ fn try_turn(
     began: u64,
     turn: u64,
     moments: &Moments,
-) -> Result<(), Fail> {
+) {
     for choice in CHOICES {
-        let image = trial.image(began.saturating_add(turn), choice)?;
-        try_image(rt, alloc, &image, (turn, choice), moments)?;
+        let image = trial.image(rt, began.saturating_add(turn), *choice);
+        try_image(rt, alloc, &image, (turn, *choice), moments);
     }
-    Ok(())
 }
 
 /// Makes a request, and tries the images of each of its turns.
-fn try_moments(
-    rt: &impl Abort,
-    alloc: Global,
-    trial: &mut Trial<MemDisk>,
-    moments: &Moments,
-) -> Result<(), Fail> {
+fn try_moments(rt: &impl Abort, alloc: Global, trial: &mut Trial<MemDisk>, moments: &Moments) {
     let began = trial.turns();
-    try_rows(rt, alloc, trial, &[moments.row])?;
+    try_rows(rt, alloc, trial, &[moments.row]);
     for turn in 0..moments.row.calls.saturating_add(1) {
-        try_turn(rt, alloc, trial, began, turn, moments)?;
+        try_turn(rt, alloc, trial, began, turn, moments);
     }
-    Ok(())
 }
 
 /// A put of 100 bytes, which grows an empty store.
@@ -139,15 +121,16 @@ const REPLACED: Moments = Moments {
     after: TEN_LAID,
 };
 
-/// The put of 5 bytes, and the image of its third turn: the object of the checkpoint stands, and what
-/// was written is torn.
-fn try_third(rt: &impl Abort, alloc: Global, trial: &mut Trial<MemDisk>) -> Result<(), Fail> {
-    let began = trial.turns();
-    try_moments(rt, alloc, trial, &THIRD)?;
-    let image = trial.image(began.saturating_add(3), Choice::Torn(0x5A))?;
-    let opens = opens_to(alloc, &image, &ONE)?;
-    assert_eq!(rt; (image.len(), opens), (19_857, true));
-    Ok(())
+/// Requests, and then one of which each turn is tried.
+type Part = (&'static [Row], &'static Moments);
+
+/// Makes the requests of each part in turn, on a store that begins empty.
+fn try_parts(rt: &impl Abort, alloc: Global, parts: &[Part]) {
+    let mut trial = fresh(rt, alloc);
+    for (rows, moments) in parts {
+        try_rows(rt, alloc, &mut trial, rows);
+        try_moments(rt, alloc, &mut trial, moments);
+    }
 }
 
 /// A put that no checkpoint has.
@@ -155,12 +138,29 @@ const QUIET_ROWS: &[Row] = rows! {
     Ask::Put("b", TEN) => QUIET, b"", 1;
 };
 
+/// The first put, and the one of 5 bytes.
+const PUTS: &[Part] = &[(&[], &FIRST), (QUIET_ROWS, &THIRD)];
+
 #[test]
-fn a_put_leaves_one_of_two_maps(rt: HostRuntime) -> Result<(), Fail> {
-    let mut trial = fresh_on(rt.alloc(), MemDisk::new(rt.alloc()), 9)?;
-    try_moments(&rt, rt.alloc(), &mut trial, &FIRST)?;
-    try_rows(&rt, rt.alloc(), &mut trial, QUIET_ROWS)?;
-    try_third(&rt, rt.alloc(), &mut trial)
+fn a_put_leaves_one_of_two_maps(rt: HostRuntime) {
+    try_parts(&rt, rt.alloc(), PUTS);
+}
+
+/// What comes before the image of a turn.
+const PUT_ROWS: &[Row] = rows! {
+    Ask::Put("a", HUNDRED) => KEPT, b"", 12;
+    Ask::Put("b", TEN) => QUIET, b"", 1;
+    Ask::Put("c", FIVE) => KEPT, b"", 23;
+};
+
+/// The image of the third turn of the put of 5 bytes, which began after 23 calls: the object of the
+/// checkpoint stands, and what was written is torn.
+#[test]
+fn a_put_leaves_the_object_of_the_checkpoint(rt: HostRuntime) {
+    let mut trial = fresh(&rt, rt.alloc());
+    try_rows(&rt, rt.alloc(), &mut trial, PUT_ROWS);
+    let image = trial.image(&rt, 26, Choice::Torn(0x5A));
+    assert!(rt; image.len() == 19_857 && opens_to(&rt, rt.alloc(), &image, ONE_KEPT));
 }
 
 /// What comes before the removals.
@@ -171,12 +171,12 @@ const THREE_ROWS: &[Row] = rows! {
     Ask::Del("b") => QUIET, b"", 0;
 };
 
+/// The removals of the object of 5 bytes and of the last one.
+const REMOVALS: &[Part] = &[(THREE_ROWS, &FOURTH), (&[], &LAST)];
+
 #[test]
-fn a_removal_leaves_one_of_two_maps(rt: HostRuntime) -> Result<(), Fail> {
-    let mut trial = fresh_on(rt.alloc(), MemDisk::new(rt.alloc()), 9)?;
-    try_rows(&rt, rt.alloc(), &mut trial, THREE_ROWS)?;
-    try_moments(&rt, rt.alloc(), &mut trial, &FOURTH)?;
-    try_moments(&rt, rt.alloc(), &mut trial, &LAST)
+fn a_removal_leaves_one_of_two_maps(rt: HostRuntime) {
+    try_parts(&rt, rt.alloc(), REMOVALS);
 }
 
 /// What comes before the replacement.
@@ -184,9 +184,10 @@ const ONE_ROWS: &[Row] = rows! {
     Ask::Put("a", HUNDRED) => KEPT, b"", 12;
 };
 
+/// The put in place of an object.
+const REPLACEMENT: &[Part] = &[(ONE_ROWS, &REPLACED)];
+
 #[test]
-fn a_replacement_leaves_one_of_two_maps(rt: HostRuntime) -> Result<(), Fail> {
-    let mut trial = fresh_on(rt.alloc(), MemDisk::new(rt.alloc()), 9)?;
-    try_rows(&rt, rt.alloc(), &mut trial, ONE_ROWS)?;
-    try_moments(&rt, rt.alloc(), &mut trial, &REPLACED)
+fn a_replacement_leaves_one_of_two_maps(rt: HostRuntime) {
+    try_parts(&rt, rt.alloc(), REPLACEMENT);
 }

@@ -6,14 +6,13 @@ use crate::flushes::{FIVE, TEN};
 use crate::requests::{
     Ask, KEPT, Looks, ONE_TOO_MANY, QUIET, Reply, Row, refused, rows, try_looks, try_rows,
 };
-use crate::trials::{Trial, store_on};
-use crate::worked::{self, HUNDRED, UNCHANGED, at_one, try_checkpoint};
+use crate::trials::{Trial, on_file, opened};
+use crate::worked::{self, AS_BEFORE, HUNDRED, ONE_KEPT, UNCHANGED, one_recorded, try_checkpoint};
 use disk_face::Disk;
 use disk_mem::{Fuse, MemDisk};
 use slot_codec::Header;
 use std::alloc::Global;
 use std::process::Abort;
-use std::test::Fail;
 use store_core::{Gauge, Refusal, Stat};
 
 /// One name of 100 bytes, now and at the checkpoint.
@@ -25,14 +24,12 @@ const ONE: Reply = Reply::Stat(Stat {
 });
 
 /// The store whose last sequence is this one, by eight bytes of the header in slot 1.
-fn at_sequence(alloc: Global, sequence: u64) -> Result<Trial<MemDisk>, Fail> {
-    let mut trial = at_one(alloc, MemDisk::new(alloc))?;
-    let mut bytes = trial.file(alloc)?;
-    if bytes.len() < 9_849 {
-        return Err("a file")?;
-    }
+fn at_sequence(rt: &impl Abort, alloc: Global, sequence: u64) -> Trial<MemDisk> {
+    let mut trial = one_recorded(rt, alloc);
+    let mut bytes = trial.file(rt, alloc);
+    assert!(rt; 9_849 <= bytes.len());
     bytes[9_841..9_849].copy_from_slice(&sequence.to_le_bytes());
-    store_on(alloc, MemDisk::from_bytes(alloc, &bytes)?)
+    on_file(rt, alloc, &bytes)
 }
 
 /// Changes of a worn file, and what is still served.
@@ -50,10 +47,10 @@ const WORN_ROWS: &[Row] = rows! {
 };
 
 /// Changes of a file whose sequence is 2^61, and what is still served.
-fn try_worn(rt: &impl Abort, alloc: Global, trial: &mut Trial<MemDisk>) -> Result<(), Fail> {
-    try_rows(rt, alloc, trial, WORN_ROWS)?;
-    try_looks(rt, trial, &WORN)?;
-    try_checkpoint(rt, alloc, trial, &worn_kept())
+fn try_worn(rt: &impl Abort, alloc: Global, trial: &mut Trial<MemDisk>) {
+    try_rows(rt, alloc, trial, WORN_ROWS);
+    try_looks(rt, trial, WORN);
+    try_checkpoint(rt, alloc, trial, &worn_kept());
 }
 
 /// The checkpoint of the worn file.
@@ -68,7 +65,7 @@ fn worn_kept() -> Checkpoint {
 }
 
 /// What the worn store says of itself.
-const WORN: Looks = Looks {
+const WORN: &Looks = &Looks {
     turns: 0,
     gauge: Gauge {
         length: 111,
@@ -78,9 +75,9 @@ const WORN: Looks = Looks {
 };
 
 #[test]
-fn refuses_changes_of_a_worn_file(rt: HostRuntime) -> Result<(), Fail> {
-    let mut worn = at_sequence(rt.alloc(), 1 << 61)?;
-    try_worn(&rt, rt.alloc(), &mut worn)
+fn refuses_changes_of_a_worn_file(rt: HostRuntime) {
+    let mut worn = at_sequence(&rt, rt.alloc(), 1 << 61);
+    try_worn(&rt, rt.alloc(), &mut worn);
 }
 
 /// Changes of which one saves the last sequence.
@@ -94,13 +91,13 @@ const UP_TO_THERE: &[Row] = rows! {
 };
 
 #[test]
-fn serves_changes_up_to_there(rt: HostRuntime) -> Result<(), Fail> {
-    let mut trial = at_sequence(rt.alloc(), (1 << 61) - 1)?;
-    try_rows(&rt, rt.alloc(), &mut trial, UP_TO_THERE)
+fn serves_changes_up_to_there(rt: HostRuntime) {
+    let mut trial = at_sequence(&rt, rt.alloc(), (1 << 61) - 1);
+    try_rows(&rt, rt.alloc(), &mut trial, UP_TO_THERE);
 }
 
 /// What the store says of itself after a flush of two saves, the first of which saves the sequence 2^61.
-const PAST: Looks = Looks {
+const PAST: &Looks = &Looks {
     turns: 24,
     gauge: Gauge {
         length: 127,
@@ -125,10 +122,10 @@ const PAST_ROWS: &[Row] = rows! {
 };
 
 #[test]
-fn ends_a_flush_that_begins_before_there(rt: HostRuntime) -> Result<(), Fail> {
-    let mut trial = at_sequence(rt.alloc(), (1 << 61) - 1)?;
-    try_rows(&rt, rt.alloc(), &mut trial, PAST_ROWS)?;
-    try_looks(&rt, &trial, &PAST)
+fn ends_a_flush_that_begins_before_there(rt: HostRuntime) {
+    let mut trial = at_sequence(&rt, rt.alloc(), (1 << 61) - 1);
+    try_rows(&rt, rt.alloc(), &mut trial, PAST_ROWS);
+    try_looks(&rt, &trial, PAST);
 }
 
 /// A put at which the disk fails, and what the broken store answers to it and to all others.
@@ -148,7 +145,7 @@ const BROKEN_ROWS: &[Row] = rows! {
 };
 
 /// What the broken store says of itself.
-const BROKEN: Looks = Looks {
+const BROKEN: &Looks = &Looks {
     turns: 20,
     is_broken: true,
     ..UNCHANGED
@@ -163,15 +160,11 @@ const FAILING_ROWS: &[Row] = rows! {
 };
 
 /// A store whose disk fails the first read of an object, which breaks nothing, and the first write.
-fn try_failing(
-    rt: &impl Abort,
-    alloc: Global,
-    trial: &mut Trial<Fuse<MemDisk>>,
-) -> Result<(), Fail> {
-    try_rows(rt, alloc, trial, FAILING_ROWS)?;
-    try_looks(rt, trial, &UNCHANGED)?;
-    try_rows(rt, alloc, trial, BROKEN_ROWS)?;
-    try_looks(rt, trial, &BROKEN)
+fn try_failing(rt: &impl Abort, alloc: Global, trial: &mut Trial<Fuse<MemDisk>>) {
+    try_rows(rt, alloc, trial, FAILING_ROWS);
+    try_looks(rt, trial, AS_BEFORE);
+    try_rows(rt, alloc, trial, BROKEN_ROWS);
+    try_looks(rt, trial, BROKEN);
 }
 
 /// What the store answers once its file is opened again.
@@ -182,25 +175,26 @@ const AGAIN_ROWS: &[Row] = rows! {
 };
 
 /// Opening the file again leads on.
-fn try_again<D: Disk + Drop>(rt: &impl Abort, alloc: Global, disk: D) -> Result<(), Fail>
+fn try_again<D: Disk + Drop>(rt: &impl Abort, alloc: Global, disk: D)
     requires ready { IsTrue (D.state disk).is_ready }
     requires tells { IsTrue (D.state disk).tells }
 {
-    let mut trial = store_on(alloc, disk)?;
-    try_checkpoint(rt, alloc, &mut trial, &worked::ONE)?;
-    try_rows(rt, alloc, &mut trial, AGAIN_ROWS)
+    let mut trial = opened(rt, alloc, disk);
+    try_checkpoint(rt, alloc, &mut trial, ONE_KEPT);
+    try_rows(rt, alloc, &mut trial, AGAIN_ROWS);
 }
 
 /// The store of one object, whose disk fails the first read and the first change from here on.
-fn failing_once(alloc: Global) -> Result<Trial<Fuse<MemDisk>>, Fail> {
-    let trial = at_one(alloc, MemDisk::new(alloc))?;
-    let (changes, reads) = (vec![in alloc; 1]?, vec![in alloc; 1]?);
-    Ok(trial.failing(changes, reads))
+fn failing_once(rt: &impl Abort, alloc: Global) -> Trial<Fuse<MemDisk>> {
+    let trial = one_recorded(rt, alloc);
+    let changes = vec![in alloc; 1].expect(rt, "memory");
+    let reads = vec![in alloc; 1].expect(rt, "memory");
+    trial.failing(changes, reads)
 }
 
 #[test]
-fn is_broken_by_a_failed_write_alone(rt: HostRuntime) -> Result<(), Fail> {
-    let mut trial = failing_once(rt.alloc())?;
-    try_failing(&rt, rt.alloc(), &mut trial)?;
-    try_again(&rt, rt.alloc(), trial.into_disk())
+fn is_broken_by_a_failed_write_alone(rt: HostRuntime) {
+    let mut trial = failing_once(&rt, rt.alloc());
+    try_failing(&rt, rt.alloc(), &mut trial);
+    try_again(&rt, rt.alloc(), trial.into_disk());
 }

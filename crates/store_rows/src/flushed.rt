@@ -2,14 +2,14 @@
 ghost use Rattle.std.specs.Prelude.{◌≡◌, ◌≤◌, IsTrue, length};
 
 use crate::checkpoints::{BASE, BLOCK, Checkpoint, Object, opens_as};
-use crate::requests::{Looks, Row, try_looks, try_rows};
-use crate::trials::{Trial, store_on};
+use crate::requests::{Looks, Row, try_holds, try_looks, try_rows};
+use crate::trials::{Trial, opened};
 use disk_face::Disk;
+use disk_mem::MemDisk;
 use slot_codec::{Header, Kind};
 use slot_pair::SlotPair;
 use std::alloc::Global;
 use std::process::Abort;
-use std::test::Fail;
 use store_core::Gauge;
 
 /// A request, and what stands after it. Numbers by class are 0 where none is listed.
@@ -30,7 +30,7 @@ pub struct Step {
 }
 
 /// The store of a file that is formatted, after 10 changing calls.
-pub fn fresh_on<D: Disk + Drop>(alloc: Global, disk: D, k: u64) -> Result<Trial<D>, Fail>
+pub fn fresh_on<D: Disk + Drop>(rt: &impl Abort, alloc: Global, disk: D, k: u64) -> Trial<D>
     requires ready { IsTrue (D.state disk).is_ready }
     requires tells { IsTrue (D.state disk).tells }
     requires empty { length (D.state disk).file ≡ 0 }
@@ -38,8 +38,13 @@ pub fn fresh_on<D: Disk + Drop>(alloc: Global, disk: D, k: u64) -> Result<Trial<
     requires high { k ≤ 64 }
 {
     let mut disk = disk;
-    SlotPair::format(&mut disk, k, BLOCK.names)?;
-    store_on(alloc, disk)
+    SlotPair::format(&mut disk, k, BLOCK.names).expect(rt, "a format");
+    opened(rt, alloc, disk)
+}
+
+/// The same of the divisor 9, on a disk in memory.
+pub fn fresh(rt: &impl Abort, alloc: Global) -> Trial<MemDisk> {
+    fresh_on(rt, alloc, MemDisk::new(alloc), 9)
 }
 
 /// Makes each request in turn, and looks at the store and its file after each.
@@ -49,39 +54,26 @@ pub fn try_steps<D: Disk>(
     trial: &mut Trial<D>,
     k: u64,
     steps: &[Step],
-) -> Result<(), Fail> {
+) {
     for step in steps {
-        try_step(rt, alloc, trial, k, step)?;
+        try_step(rt, alloc, trial, k, step);
     }
-    Ok(())
 }
 
 /// Makes a request, and looks at the store and its file.
-fn try_step<D: Disk>(
-    rt: &impl Abort,
-    alloc: Global,
-    trial: &mut Trial<D>,
-    k: u64,
-    step: &Step,
-) -> Result<(), Fail> {
-    try_rows(rt, alloc, trial, &[step.row])?;
-    let looks = looks_after(step, trial.turns());
-    try_looks(rt, trial, &looks)?;
-    let file = trial.file(alloc)?;
-    try_file(rt, alloc, &file, k, step)
+fn try_step<D: Disk>(rt: &impl Abort, alloc: Global, trial: &mut Trial<D>, k: u64, step: &Step) {
+    try_rows(rt, alloc, trial, &[step.row]);
+    try_looks(rt, trial, &looks_after(step, trial.turns()));
+    let file = trial.file(rt, alloc);
+    try_file(rt, alloc, &file, k, step);
 }
 
 /// The file after a step: its length, and what it opens to.
-fn try_file(rt: &impl Abort, alloc: Global, file: &[u8], k: u64, step: &Step) -> Result<(), Fail> {
+fn try_file(rt: &impl Abort, alloc: Global, file: &[u8], k: u64, step: &Step) {
     let data = (file.len() as u64).checked_sub(BASE as u64);
-    let opens = opens_as(alloc, file, k, &checkpoint_after(step))?;
-    assert_eq!(rt;
-        (data, opens),
-        (Some(step.length), true),
-        "{:?}",
-        step.row.ask
-    );
-    Ok(())
+    try_holds(rt, data == Some(step.length), &step.row.ask);
+    let opens = opens_as(rt, alloc, file, k, &checkpoint_after(step));
+    try_holds(rt, opens, &step.row.ask);
 }
 
 /// What the store says of itself after a step.

@@ -1,14 +1,9 @@
 //! Puts and removals on a fresh store, most of which make a flush.
+use crate::acts::{Act, try_plain, try_recorded};
 use crate::checkpoints::Object;
-use crate::flushed::{Step, by_class, fresh_on, try_steps};
-use crate::requests::{Ask, KEPT, Looks, QUIET, Reply, Row, refused, rows, try_looks, try_rows};
-use crate::trials::Trial;
+use crate::flushed::Step;
+use crate::requests::{Ask, KEPT, Looks, QUIET, Reply, Row, refused, rows};
 use crate::worked::HUNDRED;
-use disk_face::Disk;
-use disk_mem::{MemDisk, PlainDisk};
-use std::alloc::Global;
-use std::process::Abort;
-use std::test::Fail;
 use store_core::{Gauge, Refusal, Stat};
 
 /// A request that puts no bytes.
@@ -122,23 +117,17 @@ const READS: &[Row] = rows! {
     Ask::Stat => Reply::Stat(Stat { names: 3, bytes: 115, kept_names: 3, kept_bytes: 115 }), b"", 0;
 };
 
-/// The puts, and the removals.
-fn try_flushes<D: Disk>(rt: &impl Abort, alloc: Global, trial: &mut Trial<D>) -> Result<(), Fail> {
-    try_steps(rt, alloc, trial, 9, PUTS)?;
-    try_rows(rt, alloc, trial, READS)?;
-    try_steps(rt, alloc, trial, 9, REMOVALS)
+/// The puts, what is read then, and the removals.
+const FLUSHES: &[Act] = &[Act::Steps(PUTS), Act::Rows(READS), Act::Steps(REMOVALS)];
+
+#[test]
+fn flushes_where_a_change_finds_no_room(rt: HostRuntime) {
+    try_recorded(&rt, rt.alloc(), 9, FLUSHES);
 }
 
 #[test]
-fn flushes_where_a_change_finds_no_room(rt: HostRuntime) -> Result<(), Fail> {
-    let mut recorded = fresh_on(rt.alloc(), MemDisk::new(rt.alloc()), 9)?;
-    try_flushes(&rt, rt.alloc(), &mut recorded)
-}
-
-#[test]
-fn flushes_on_a_plain_disk(rt: HostRuntime) -> Result<(), Fail> {
-    let mut plain = fresh_on(rt.alloc(), PlainDisk::with_room(rt.alloc(), 19_915)?, 9)?;
-    try_flushes(&rt, rt.alloc(), &mut plain)
+fn flushes_on_a_plain_disk(rt: HostRuntime) {
+    try_plain(&rt, rt.alloc(), 19_915, FLUSHES);
 }
 
 /// An object that is moved in 16 pieces, and its removal.
@@ -148,11 +137,12 @@ const LARGE_ROWS: &[Row] = rows! {
     Ask::Del("q") => KEPT, b"", 9;
 };
 
+/// The put, and the removal.
+const LARGE: &[Act] = &[Act::Rows(LARGE_ROWS)];
+
 #[test]
-fn flushes_for_a_large_object(rt: HostRuntime) -> Result<(), Fail> {
-    let disk = PlainDisk::with_room(rt.alloc(), 3_281_840)?;
-    let mut trial = fresh_on(rt.alloc(), disk, 9)?;
-    try_rows(&rt, rt.alloc(), &mut trial, LARGE_ROWS)
+fn flushes_for_a_large_object(rt: HostRuntime) {
+    try_plain(&rt, rt.alloc(), 3_281_840, LARGE);
 }
 
 /// How far a fresh file reaches while the largest object is put: 19,603 bytes of the head, a wall of
@@ -164,19 +154,23 @@ const LARGEST_ROWS: &[Row] = rows! {
     Ask::PutZeros("h", 67_108_864) => KEPT, b"", 1035;
 };
 
+/// The bytes of the largest object, by class.
+const LARGEST: [u64; 32] = [
+    0, 0, 0, 0, 0, 0, 0, 0, 0, 0, 0, 0, 0, 0, 0, 0, 0, 0, 0, 0, 0, 0, 0, 0, 0, 0, 67_108_864, 0, 0,
+    0, 0, 0,
+];
+
 /// What the store says of itself then: the object has a buffer of 7,456,540 bytes.
-fn largest_looks() -> Looks {
-    Looks {
-        turns: 1_045,
-        gauge: Gauge {
-            length: 74_565_404,
-            sequence: 2,
-        },
-        is_broken: false,
-        asked: by_class(&[(26, 67_108_864)]),
-        moved: by_class(&[(26, 67_108_864)]),
-    }
-}
+const LARGEST_LOOKS: Looks = Looks {
+    turns: 1_045,
+    gauge: Gauge {
+        length: 74_565_404,
+        sequence: 2,
+    },
+    is_broken: false,
+    asked: LARGEST,
+    moved: LARGEST,
+};
 
 /// Its size, and its removal.
 const LARGEST_GONE: &[Row] = rows! {
@@ -184,18 +178,16 @@ const LARGEST_GONE: &[Row] = rows! {
     Ask::Del("h") => KEPT, b"", 9;
 };
 
-/// The put, and the removal.
-fn try_largest<D: Disk>(rt: &impl Abort, alloc: Global, trial: &mut Trial<D>) -> Result<(), Fail> {
-    try_rows(rt, alloc, trial, LARGEST_ROWS)?;
-    try_looks(rt, trial, &largest_looks())?;
-    try_rows(rt, alloc, trial, LARGEST_GONE)
-}
+/// The put, what the store says of itself, and the removal.
+const LARGEST_ACTS: &[Act] = &[
+    Act::Rows(LARGEST_ROWS),
+    Act::Looks(&LARGEST_LOOKS),
+    Act::Rows(LARGEST_GONE),
+];
 
 #[test]
-fn flushes_for_the_largest_object(rt: HostRuntime) -> Result<(), Fail> {
-    let disk = PlainDisk::with_room(rt.alloc(), LARGEST_REACH)?;
-    let mut trial = fresh_on(rt.alloc(), disk, 9)?;
-    try_largest(&rt, rt.alloc(), &mut trial)
+fn flushes_for_the_largest_object(rt: HostRuntime) {
+    try_plain(&rt, rt.alloc(), LARGEST_REACH, LARGEST_ACTS);
 }
 
 /// The same put where the disk has room for one byte less: its first call fails.
@@ -204,9 +196,10 @@ const LARGEST_REFUSED: &[Row] = rows! {
     Ask::Stat => refused!(Broken), b"", 0;
 };
 
+/// That put.
+const REFUSED: &[Act] = &[Act::Rows(LARGEST_REFUSED)];
+
 #[test]
-fn fails_where_the_largest_object_has_no_room(rt: HostRuntime) -> Result<(), Fail> {
-    let disk = PlainDisk::with_room(rt.alloc(), LARGEST_REACH - 1)?;
-    let mut trial = fresh_on(rt.alloc(), disk, 9)?;
-    try_rows(&rt, rt.alloc(), &mut trial, LARGEST_REFUSED)
+fn fails_where_the_largest_object_has_no_room(rt: HostRuntime) {
+    try_plain(&rt, rt.alloc(), LARGEST_REACH - 1, REFUSED);
 }

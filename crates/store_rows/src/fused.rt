@@ -1,14 +1,13 @@
 //! A flush whose disk fails at one of its calls.
-use crate::flushed::fresh_on;
+use crate::flushed::fresh;
 use crate::flushes::{FIVE, ONE_LAID, TEN, THREE_LAID, row};
 use crate::maps::{Which, opened_map};
-use crate::requests::{Ask, KEPT, QUIET, Reply, Row, refused, rows, try_rows};
+use crate::requests::{Ask, KEPT, QUIET, Reply, Row, refused, rows, try_holds, try_rows};
 use crate::trials::Trial;
 use crate::worked::HUNDRED;
 use disk_mem::{Fuse, MemDisk};
 use std::alloc::Global;
 use std::process::Abort;
-use std::test::Fail;
 use store_core::Refusal;
 
 /// A put that is kept, and one that is not.
@@ -19,10 +18,11 @@ const KEPT_ROWS: &[Row] = rows! {
 
 /// A store of 100 bytes that are kept and 10 that aren't, whose disk fails one of the changing calls
 /// from here on.
-fn failing_at(rt: &impl Abort, alloc: Global, call: u64) -> Result<Trial<Fuse<MemDisk>>, Fail> {
-    let mut trial = fresh_on(alloc, MemDisk::new(alloc), 9)?;
-    try_rows(rt, alloc, &mut trial, KEPT_ROWS)?;
-    Ok(trial.failing(vec![in alloc; call]?, Vec::new(alloc)))
+fn failing_at(rt: &impl Abort, alloc: Global, call: u64) -> Trial<Fuse<MemDisk>> {
+    let mut trial = fresh(rt, alloc);
+    try_rows(rt, alloc, &mut trial, KEPT_ROWS);
+    let changes = vec![in alloc; call].expect(rt, "memory");
+    trial.failing(changes, Vec::new(alloc))
 }
 
 /// What a store is asked once a flush failed.
@@ -33,39 +33,33 @@ const BROKEN_ROWS: &[Row] = rows! {
 };
 
 /// A put whose flush fails at a call.
-fn try_refused(
-    rt: &impl Abort,
-    alloc: Global,
-    trial: &mut Trial<Fuse<MemDisk>>,
-    call: u64,
-) -> Result<(), Fail> {
+fn try_refused(rt: &impl Abort, alloc: Global, trial: &mut Trial<Fuse<MemDisk>>, call: u64) {
     let failed = Row {
         calls: call,
         ..row!(Ask::Put("c", FIVE) => refused!(Disk), 0)
     };
-    try_rows(rt, alloc, trial, &[failed])?;
-    try_rows(rt, alloc, trial, BROKEN_ROWS)
+    try_rows(rt, alloc, trial, &[failed]);
+    try_rows(rt, alloc, trial, BROKEN_ROWS);
 }
 
 /// Such a put, and what the file opens to from there.
-fn try_call(rt: &impl Abort, alloc: Global, call: u64) -> Result<(), Fail> {
-    let mut trial = failing_at(rt, alloc, call)?;
-    try_refused(rt, alloc, &mut trial, call)?;
-    let opens = opened_map(alloc, &trial.file(alloc)?, ONE_LAID, THREE_LAID)?;
+fn try_call(rt: &impl Abort, alloc: Global, call: u64) {
+    let mut trial = failing_at(rt, alloc, call);
+    try_refused(rt, alloc, &mut trial, call);
+    let file = trial.file(rt, alloc);
+    let opens = opened_map(rt, alloc, &file, ONE_LAID, THREE_LAID);
     // The tenth call opens the gate of the first checkpoint with all three.
     let expected = if call <= 10 {
         Which::Before
     } else {
         Which::After
     };
-    assert_eq!(rt; opens, expected, "call {call}");
-    Ok(())
+    try_holds(rt, opens == expected, &call);
 }
 
 #[test]
-fn is_broken_by_each_failed_call_of_a_flush(rt: HostRuntime) -> Result<(), Fail> {
+fn is_broken_by_each_failed_call_of_a_flush(rt: HostRuntime) {
     for call in 1..24 {
-        try_call(&rt, rt.alloc(), call)?;
+        try_call(&rt, rt.alloc(), call);
     }
-    Ok(())
 }

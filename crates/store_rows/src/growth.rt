@@ -1,10 +1,9 @@
 //! Eleven puts of 100 bytes, and the saves of the last one's flush.
+use crate::acts::{Act, try_recorded};
 use crate::checkpoints::Object;
-use crate::flushed::{Step, fresh_on, try_steps};
+use crate::flushed::Step;
 use crate::flushes::{laid, row};
-use crate::requests::{Ask, KEPT, QUIET, Row, rows, try_rows};
-use disk_mem::MemDisk;
-use std::test::Fail;
+use crate::requests::{Ask, KEPT, QUIET, Row, rows};
 
 /// The objects once eleven are put.
 const ELEVEN_LAID: &[Object] = &[
@@ -79,9 +78,10 @@ const EIGHT_ROWS: &[Row] = rows! {
     Ask::Put("o8", &[8; 100]) => KEPT, b"", 61;
 };
 
+/// All of them.
+const ELEVEN: &[Act] = &[Act::Rows(EIGHT_ROWS), Act::Steps(LATER)];
+
 #[test]
-fn saves_while_it_packs_and_lays(rt: HostRuntime) -> Result<(), Fail> {
-    let mut trial = fresh_on(rt.alloc(), MemDisk::new(rt.alloc()), 9)?;
-    try_rows(&rt, rt.alloc(), &mut trial, EIGHT_ROWS)?;
-    try_steps(&rt, rt.alloc(), &mut trial, 9, LATER)
+fn saves_while_it_packs_and_lays(rt: HostRuntime) {
+    try_recorded(&rt, rt.alloc(), 9, ELEVEN);
 }

@@ -1,13 +1,13 @@
 //! The names of a file and their bytes, wherever they stand.
 use crate::checkpoints::{Object, has_bytes};
 use disk_mem::MemDisk;
-use plain_layout::open;
+use plain_layout::{Table, open};
 use size_class::{CLASSES, SIZE_MAX};
 use std::alloc::Global;
-use std::test::Fail;
+use std::process::Abort;
 
 /// To which of two maps a file opens.
-#[derive(Clone, Copy, Debug, PartialEq, Eq)]
+#[derive(Clone, Copy, PartialEq, Eq)]
 pub enum Which {
     Before,
     After,
@@ -17,26 +17,32 @@ pub enum Which {
 /// To which map a file opens, by names and bytes; the places of the objects don't count. A file that
 /// doesn't open has neither.
 pub fn opened_map(
+    rt: &impl Abort,
     alloc: Global,
     file: &[u8],
     before: &[Object],
     after: &[Object],
-) -> Result<Which, Fail> {
-    let mut disk = MemDisk::from_bytes(alloc, file)?;
-    let Ok(opened) = open(alloc, &mut disk, CLASSES as u8, SIZE_MAX) else {
-        return Ok(Which::Neither);
-    };
-    if has_map(&opened.table, file, before) {
-        return Ok(Which::Before);
+) -> Which {
+    let mut disk = MemDisk::from_bytes(alloc, file).expect(rt, "memory");
+    match open(alloc, &mut disk, CLASSES as u8, SIZE_MAX) {
+        Ok(opened) => map_of(&opened.table, file, before, after),
+        Err(_) => Which::Neither,
     }
-    if has_map(&opened.table, file, after) {
-        return Ok(Which::After);
+}
+
+/// Which of two maps a table has.
+fn map_of(table: &Table, file: &[u8], before: &[Object], after: &[Object]) -> Which {
+    if has_map(table, file, before) {
+        Which::Before
+    } else if has_map(table, file, after) {
+        Which::After
+    } else {
+        Which::Neither
     }
-    Ok(Which::Neither)
 }
 
 /// Whether a table has the names of these objects and no others, and a file their bytes.
-fn has_map(table: &plain_layout::Table, file: &[u8], objects: &[Object]) -> bool {
+fn has_map(table: &Table, file: &[u8], objects: &[Object]) -> bool {
     if table.records.len() != objects.len() {
         return false;
     }

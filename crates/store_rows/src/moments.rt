@@ -1,17 +1,16 @@
 //! What a crash may leave at each moment of a quiet put: the last checkpoint alone.
 use crate::checkpoints::{Checkpoint, opens_to};
-use crate::requests::{Ask, KEPT, QUIET, Reply, Row, refused, rows, try_rows};
+use crate::requests::{Ask, KEPT, QUIET, Reply, Row, refused, rows, try_holds, try_rows};
 use crate::trials::Trial;
-use crate::worked::{ONE, TWO, at_one, at_two};
+use crate::worked::{ONE_KEPT, TWO_KEPT, one_recorded, two_recorded};
 use disk_mem::{Choice, MemDisk};
 use std::alloc::Global;
 use std::process::Abort;
-use std::test::Fail;
 use store_core::Refusal;
 
 /// The images of a turn that are tried: what the last sync left, what reads gave, and the written bytes
 /// and those of the write that is next as other ones.
-const CHOICES: [Choice; 6] = [
+const CHOICES: &[Choice] = &[
     Choice::Durable,
     Choice::Newest,
     Choice::Torn(0),
@@ -27,11 +26,10 @@ fn try_image(
     trial: &Trial<MemDisk>,
     at: (u64, Choice),
     checkpoint: &Checkpoint,
-) -> Result<(), Fail> {
-    let image = trial.image(at.0, at.1)?;
-    let opens = opens_to(alloc, &image, checkpoint)?;
-    assert_eq!(rt; (image.len(), opens), (19_714, true), "{at:?}");
-    Ok(())
+) {
+    let image = trial.image(rt, at.0, at.1);
+    try_holds(rt, image.len() == 19_714, &at);
+    try_holds(rt, opens_to(rt, alloc, &image, checkpoint), &at);
 }
 
 /// Each image of the turns from one on up to the last opens to a checkpoint.
@@ -41,25 +39,23 @@ fn try_images(
     trial: &Trial<MemDisk>,
     from: u64,
     checkpoint: &Checkpoint,
-) -> Result<(), Fail> {
+) {
     for turn in from..trial.turns().saturating_add(1) {
         for choice in CHOICES {
-            try_image(rt, alloc, trial, (turn, choice), checkpoint)?;
+            try_image(rt, alloc, trial, (turn, *choice), checkpoint);
         }
     }
-    Ok(())
 }
 
 /// A turn, a choice, and the bytes with which their image ends.
 type End = (u64, Choice, &'static [u8]);
 
 /// The bytes with which images of these turns end.
-fn try_ends(rt: &impl Abort, trial: &Trial<MemDisk>, ends: &[End]) -> Result<(), Fail> {
+fn try_ends(rt: &impl Abort, trial: &Trial<MemDisk>, ends: &[End]) {
     for (turn, choice, end) in ends {
-        let image = trial.image(*turn, *choice)?;
-        assert!(rt; image.ends_with(end), "turn {turn}, {choice:?}");
+        let image = trial.image(rt, *turn, *choice);
+        try_holds(rt, image.ends_with(end), &(turn, choice));
     }
-    Ok(())
 }
 
 /// How these images end. Within the first put its 10 bytes may be any, and no others; after it they are
@@ -80,10 +76,10 @@ const ONE_ROWS: &[Row] = rows! {
 };
 
 /// Two quiet puts and a removal, where the checkpoint has one object.
-fn try_one(rt: &impl Abort, alloc: Global, trial: &mut Trial<MemDisk>) -> Result<(), Fail> {
-    try_rows(rt, alloc, trial, ONE_ROWS)?;
-    try_images(rt, alloc, trial, 19, &ONE)?;
-    try_ends(rt, trial, ONE_ENDS)
+fn try_one(rt: &impl Abort, alloc: Global, trial: &mut Trial<MemDisk>) {
+    try_rows(rt, alloc, trial, ONE_ROWS);
+    try_images(rt, alloc, trial, 19, ONE_KEPT);
+    try_ends(rt, trial, ONE_ENDS);
 }
 
 /// How an image ends once they are put.
@@ -116,21 +112,21 @@ const BACK_ROWS: &[Row] = rows! {
 };
 
 /// A removal and puts, where the checkpoint has an object in a buffer.
-fn try_two(rt: &impl Abort, alloc: Global, trial: &mut Trial<MemDisk>) -> Result<(), Fail> {
-    try_rows(rt, alloc, trial, TWO_ROWS)?;
-    try_images(rt, alloc, trial, 20, &TWO)?;
-    try_ends(rt, trial, TWO_ENDS)?;
-    try_rows(rt, alloc, trial, BACK_ROWS)
+fn try_two(rt: &impl Abort, alloc: Global, trial: &mut Trial<MemDisk>) {
+    try_rows(rt, alloc, trial, TWO_ROWS);
+    try_images(rt, alloc, trial, 20, TWO_KEPT);
+    try_ends(rt, trial, TWO_ENDS);
+    try_rows(rt, alloc, trial, BACK_ROWS);
 }
 
 #[test]
-fn leaves_the_checkpoint_alone(rt: HostRuntime) -> Result<(), Fail> {
-    let mut trial = at_one(rt.alloc(), MemDisk::new(rt.alloc()))?;
-    try_one(&rt, rt.alloc(), &mut trial)
+fn leaves_the_checkpoint_alone(rt: HostRuntime) {
+    let mut trial = one_recorded(&rt, rt.alloc());
+    try_one(&rt, rt.alloc(), &mut trial);
 }
 
 #[test]
-fn keeps_what_the_checkpoint_holds(rt: HostRuntime) -> Result<(), Fail> {
-    let mut trial = at_two(rt.alloc(), MemDisk::new(rt.alloc()))?;
-    try_two(&rt, rt.alloc(), &mut trial)
+fn keeps_what_the_checkpoint_holds(rt: HostRuntime) {
+    let mut trial = two_recorded(&rt, rt.alloc());
+    try_two(&rt, rt.alloc(), &mut trial);
 }

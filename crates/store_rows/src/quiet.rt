@@ -3,12 +3,11 @@ use crate::requests::{
     Ask, Looks, ONE_TOO_MANY, QUIET, Reply, Row, refused, rows, try_looks, try_rows, try_rows_to,
 };
 use crate::trials::Trial;
-use crate::worked::{HUNDRED, UNCHANGED, at_one};
+use crate::worked::{AS_BEFORE, HUNDRED, UNCHANGED, at_one, one_recorded};
 use disk_face::Disk;
-use disk_mem::{MemDisk, MemSink, PlainDisk};
+use disk_mem::{MemSink, PlainDisk};
 use std::alloc::Global;
 use std::process::Abort;
-use std::test::Fail;
 use store_core::{Refusal, Stat};
 
 /// 10 bytes.
@@ -130,19 +129,16 @@ const SINKS: &[Row] = rows! {
 };
 
 /// Such a sink.
-fn try_sinks<D: Disk>(rt: &impl Abort, alloc: Global, trial: &mut Trial<D>) -> Result<(), Fail> {
-    let mut sink = MemSink::with_room(alloc, 4096, vec![in alloc; 1, 3]?)?;
-    try_rows_to(rt, alloc, trial, SINKS, &mut sink)
+fn try_sinks<D: Disk>(rt: &impl Abort, alloc: Global, trial: &mut Trial<D>) {
+    let fails = vec![in alloc; 1, 3].expect(rt, "memory");
+    let mut sink = MemSink::with_room(alloc, 4096, fails).expect(rt, "memory");
+    try_rows_to(rt, alloc, trial, SINKS, &mut sink);
 }
 
 /// A file that ends with these bytes, and is else as before.
-fn try_end(rt: &impl Abort, before: &[u8], after: &[u8], end: &[u8]) -> Result<(), Fail> {
-    let same = is_same_before(before, after, end.len());
-    assert_eq!(rt;
-        (after.len(), same, after.ends_with(end)),
-        (19_714, true, true)
-    );
-    Ok(())
+fn try_end(rt: &impl Abort, before: &[u8], after: &[u8], end: &[u8]) {
+    assert!(rt; after.len() == 19_714 && after.ends_with(end));
+    assert!(rt; is_same_before(before, after, end.len()));
 }
 
 /// Whether two files are of one length and have the same bytes before the last ones.
@@ -156,7 +152,7 @@ fn is_same_before(a: &[u8], b: &[u8], last: usize) -> bool {
 
 /// What the store says of itself after these changes. Of class 3 ten bytes came twice and went twice; of
 /// class 0 one byte came twice.
-const CHANGED: Looks = Looks {
+const CHANGED: &Looks = &Looks {
     turns: 23,
     asked: [
         2, 0, 0, 40, 0, 0, 0, 0, 0, 0, 0, 0, 0, 0, 0, 0, 0, 0, 0, 0, 0, 0, 0, 0, 0, 0, 0, 0, 0, 0,
@@ -167,37 +163,38 @@ const CHANGED: Looks = Looks {
 
 /// The changes, and what they leave of the file: `b` was put at 100 of the data part, and then its 1 byte
 /// at 110.
-fn try_file<D: Disk>(rt: &impl Abort, alloc: Global, trial: &mut Trial<D>) -> Result<(), Fail> {
-    let before = trial.file(alloc)?;
-    try_rows(rt, alloc, trial, CHANGES)?;
-    let after = trial.file(alloc)?;
-    try_end(rt, &before, &after, b"abcdefghijx")
+fn try_file<D: Disk>(rt: &impl Abort, alloc: Global, trial: &mut Trial<D>) {
+    let before = trial.file(rt, alloc);
+    try_rows(rt, alloc, trial, CHANGES);
+    let after = trial.file(rt, alloc);
+    try_end(rt, &before, &after, b"abcdefghijx");
 }
 
 /// Refusals of each kind, which leave what the changes left.
-fn try_others<D: Disk>(rt: &impl Abort, alloc: Global, trial: &mut Trial<D>) -> Result<(), Fail> {
-    try_rows(rt, alloc, trial, REFUSALS)?;
-    try_rows(rt, alloc, trial, FULL)?;
-    try_sinks(rt, alloc, trial)?;
-    try_looks(rt, trial, &CHANGED)
+fn try_others<D: Disk>(rt: &impl Abort, alloc: Global, trial: &mut Trial<D>) {
+    try_rows(rt, alloc, trial, REFUSALS);
+    try_rows(rt, alloc, trial, FULL);
+    try_sinks(rt, alloc, trial);
+    try_looks(rt, trial, CHANGED);
 }
 
 /// All of these, and what the store says of itself.
-fn try_store<D: Disk>(rt: &impl Abort, alloc: Global, trial: &mut Trial<D>) -> Result<(), Fail> {
-    try_looks(rt, trial, &UNCHANGED)?;
-    try_file(rt, alloc, trial)?;
-    try_looks(rt, trial, &CHANGED)?;
-    try_others(rt, alloc, trial)
+fn try_store<D: Disk>(rt: &impl Abort, alloc: Global, trial: &mut Trial<D>) {
+    try_looks(rt, trial, AS_BEFORE);
+    try_file(rt, alloc, trial);
+    try_looks(rt, trial, CHANGED);
+    try_others(rt, alloc, trial);
 }
 
 #[test]
-fn serves_quiet_requests(rt: HostRuntime) -> Result<(), Fail> {
-    let mut plain = at_one(rt.alloc(), PlainDisk::with_room(rt.alloc(), 19_714)?)?;
-    try_store(&rt, rt.alloc(), &mut plain)
+fn serves_quiet_requests(rt: HostRuntime) {
+    let disk = PlainDisk::with_room(rt.alloc(), 19_714).expect(&rt, "memory");
+    let mut plain = at_one(&rt, rt.alloc(), disk);
+    try_store(&rt, rt.alloc(), &mut plain);
 }
 
 #[test]
-fn serves_them_on_a_recorded_disk(rt: HostRuntime) -> Result<(), Fail> {
-    let mut recorded = at_one(rt.alloc(), MemDisk::new(rt.alloc()))?;
-    try_store(&rt, rt.alloc(), &mut recorded)
+fn serves_them_on_a_recorded_disk(rt: HostRuntime) {
+    let mut recorded = one_recorded(&rt, rt.alloc());
+    try_store(&rt, rt.alloc(), &mut recorded);
 }

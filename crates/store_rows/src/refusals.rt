@@ -1,4 +1,5 @@
 //! Files by hand, which are opened or refused without a change.
+use crate::requests::try_holds;
 use disk_face::Disk;
 use disk_mem::MemDisk;
 use reopen::OpenFault;
@@ -6,7 +7,7 @@ use size_class::CLASSES;
 use slot_codec::CodecFault;
 use slot_pair::SlotFault;
 use std::alloc::Global;
-use std::test::Fail;
+use std::process::Abort;
 use store_core::Store;
 use table_check::TableFault;
 
@@ -14,7 +15,7 @@ use table_check::TableFault;
 type Change = (usize, u8);
 
 /// The mark, k = 9, 16 names, and a settled table of sequence 1 with the one object `a` = `hello`.
-const HELLO: [Change; 24] = [
+const HELLO: &[Change] = &[
     (0, b'C'),
     (1, b'O'),
     (2, b'S'),
@@ -42,7 +43,7 @@ const HELLO: [Change; 24] = [
 ];
 
 /// The changes to records `a` and `b` of 100 bytes each, at 0 and at 50, of which some are of both.
-const SHARED: [Change; 8] = [
+const SHARED: &[Change] = &[
     (80, 2),
     (120, 0),
     (152, 200),
@@ -56,22 +57,26 @@ const SHARED: [Change; 8] = [
 /// Why a file of a length with these changes isn't opened, if it isn't, and how many changing calls
 /// were made.
 fn opening(
+    rt: &impl Abort,
     alloc: Global,
     length: usize,
     changes: &[Change],
-) -> Result<(Option<OpenFault>, u64), Fail> {
-    let mut bytes = vec![in alloc; 0u8; length]?;
-    for (at, byte) in HELLO.iter().chain(changes.iter()) {
+) -> (Option<OpenFault>, u64) {
+    let mut bytes = vec![in alloc; 0u8; length].expect(rt, "memory");
+    put(&mut bytes, HELLO);
+    put(&mut bytes, changes);
+    let mut disk = MemDisk::from_bytes(alloc, &bytes).expect(rt, "memory");
+    let refusal = Store::<CLASSES>::open(alloc, &mut disk).err();
+    (refusal, disk.turns())
+}
+
+/// Puts the bytes of a list, those that the file has.
+fn put(bytes: &mut [u8], changes: &[Change]) {
+    for (at, byte) in changes {
         if *at < bytes.len() {
             bytes[*at] = *byte;
         }
     }
-    let mut disk = MemDisk::from_bytes(alloc, &bytes)?;
-    let refusal = match Store::<CLASSES>::open(alloc, &mut disk) {
-        Ok(_) => None,
-        Err(fault) => Some(fault),
-    };
-    Ok((refusal, disk.turns()))
 }
 
 /// A refusal by a rule at a place.
@@ -102,7 +107,7 @@ const ROWS: &[Row] = &[
         &[(72, 0), (79, 0x40)],
         slot!(SlotFault::Codec(CodecFault::Worn, 64)),
     ),
-    (19_825, &SHARED, rule!(8, 1)),
+    (19_825, SHARED, rule!(8, 1)),
     (19_608, &[(8616, 1)], rule!(3, 0)),
     (19_608, &[(888, 1)], rule!(6, 2)),
     (19_607, &[], rule!(3, 0)),
@@ -116,10 +121,9 @@ const ROWS: &[Row] = &[
 ];
 
 #[test]
-fn opens_or_refuses_without_a_change(rt: HostRuntime) -> Result<(), Fail> {
+fn opens_or_refuses_without_a_change(rt: HostRuntime) {
     for (length, changes, refusal) in ROWS {
-        let found = opening(rt.alloc(), *length, changes)?;
-        assert_eq!(rt; found, (*refusal, 0), "{length} bytes, {changes:?}");
+        let found = opening(&rt, rt.alloc(), *length, changes);
+        try_holds(&rt, found == (*refusal, 0), &(length, changes));
     }
-    Ok(())
 }

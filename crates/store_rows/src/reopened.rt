@@ -1,14 +1,14 @@
 //! Openings of what crashes leave of a flush, and of an opening that goes on with it.
 use crate::checkpoints::BASE;
-use crate::flushed::fresh_on;
+use crate::flushed::fresh;
 use crate::flushes::{FIVE, TEN};
-use crate::trials::{Trial, store_on};
+use crate::requests::{self, Ask, rows, try_holds, try_rows};
+use crate::trials::{Trial, on_file};
 use crate::worked::HUNDRED;
 use disk_mem::{Choice, MemDisk, MemSink};
 use std::alloc::Global;
 use std::process::Abort;
-use std::test::Fail;
-use store_core::{Done, Gauge};
+use store_core::Gauge;
 
 /// The names of a store, all that it tells of them, and how long its data part is.
 #[derive(Clone, Copy)]
@@ -41,13 +41,18 @@ const BEGAN: u64 = 23;
 
 /// A store of 100 bytes that are kept and 10 that aren't, and then the put of 5 bytes, which makes a flush
 /// of 23 calls. Its first save has the calls 5 to 11, of which the tenth opens the gate.
-fn flushed(alloc: Global) -> Result<Trial<MemDisk>, Fail> {
-    let mut trial = fresh_on(alloc, MemDisk::new(alloc), 9)?;
-    trial.put("a", HUNDRED)?;
-    trial.put("b", TEN)?;
-    trial.put("c", FIVE)?;
-    Ok(trial)
+fn flushed(rt: &impl Abort, alloc: Global) -> Trial<MemDisk> {
+    let mut trial = fresh(rt, alloc);
+    try_rows(rt, alloc, &mut trial, PUTS);
+    trial
 }
+
+/// These puts.
+const PUTS: &[requests::Row] = rows! {
+    Ask::Put("a", HUNDRED) => requests::KEPT, b"", 12;
+    Ask::Put("b", TEN) => requests::QUIET, b"", 1;
+    Ask::Put("c", FIVE) => requests::KEPT, b"", 23;
+};
 
 /// What opening leaves.
 #[derive(Clone, Copy)]
@@ -68,56 +73,40 @@ fn try_opening(
     at: At,
     image: &[u8],
     left: &Left,
-) -> Result<Trial<MemDisk>, Fail> {
-    let mut trial = store_on(alloc, MemDisk::from_bytes(alloc, image)?)?;
-    try_left(rt, &trial, at, left)?;
-    try_map(rt, alloc, &mut trial, &left.map)?;
-    Ok(trial)
+) -> Trial<MemDisk> {
+    let mut trial = on_file(rt, alloc, image);
+    try_left(rt, &trial, at, left);
+    try_map(rt, alloc, &mut trial, &left.map);
+    trial
 }
 
 /// What the opening left: the gauge, how many changing calls it made, and how long the file is.
-fn try_left(rt: &impl Abort, trial: &Trial<MemDisk>, at: At, left: &Left) -> Result<(), Fail> {
+fn try_left(rt: &impl Abort, trial: &Trial<MemDisk>, at: At, left: &Left) {
     let gauge = Gauge {
         length: left.map.data,
         sequence: left.sequence,
     };
-    let file = trial.image(left.calls, Choice::Durable)?;
+    let file = trial.image(rt, left.calls, Choice::Durable);
     let data = (file.len() as u64).checked_sub(BASE as u64);
-    assert_eq!(rt;
-        (trial.store().gauge(), trial.turns(), data),
-        (gauge, left.calls, Some(left.map.data)),
-        "{at:?}"
-    );
-    Ok(())
+    try_holds(rt, data == Some(left.map.data), &at);
+    try_holds(rt, trial.store().gauge() == gauge, &at);
+    try_holds(rt, trial.turns() == left.calls, &at);
 }
 
 /// The names of a store, and their bytes.
-fn try_map(
-    rt: &impl Abort,
-    alloc: Global,
-    trial: &mut Trial<MemDisk>,
-    map: &Map,
-) -> Result<(), Fail> {
-    let mut sink = MemSink::with_room(alloc, 1 << 10, Vec::new(alloc))?;
-    trial.store().list(&mut sink)?;
+fn try_map(rt: &impl Abort, alloc: Global, trial: &mut Trial<MemDisk>, map: &Map) {
+    let mut sink = MemSink::with_room(alloc, 1 << 10, Vec::new(alloc)).expect(rt, "memory");
+    trial.store().list(&mut sink).expect(rt, "a list");
     for name in map.names {
-        trial.get(name, &mut sink)?;
+        trial.get(name, &mut sink).expect(rt, "an object");
     }
-    assert_eq!(rt; sink.bytes(), map.told);
-    Ok(())
+    assert!(rt; sink.bytes() == map.told);
 }
 
 /// Opens an image of a store.
-fn try_image(
-    rt: &impl Abort,
-    alloc: Global,
-    trial: &Trial<MemDisk>,
-    at: At,
-    left: &Left,
-) -> Result<(), Fail> {
-    let image = trial.image(at.0, at.1)?;
-    try_opening(rt, alloc, at, &image, left)?;
-    Ok(())
+fn try_image(rt: &impl Abort, alloc: Global, trial: &Trial<MemDisk>, at: At, left: &Left) {
+    let image = trial.image(rt, at.0, at.1);
+    try_opening(rt, alloc, at, &image, left);
 }
 
 /// An image of a turn of the flush, how long it is, and what opening it leaves.
@@ -160,21 +149,19 @@ const ROWS: &[Row] = &[
 ];
 
 /// Opens an image of the flush.
-fn try_row(rt: &impl Abort, alloc: Global, trial: &Trial<MemDisk>, row: &Row) -> Result<(), Fail> {
+fn try_row(rt: &impl Abort, alloc: Global, trial: &Trial<MemDisk>, row: &Row) {
     let at = (row.turn.saturating_add(BEGAN), row.choice);
-    let image = trial.image(at.0, at.1)?;
-    assert_eq!(rt; image.len(), row.length, "{at:?}");
-    try_opening(rt, alloc, at, &image, &row.left)?;
-    Ok(())
+    let image = trial.image(rt, at.0, at.1);
+    try_holds(rt, image.len() == row.length, &at);
+    try_opening(rt, alloc, at, &image, &row.left);
 }
 
 #[test]
-fn opens_what_a_flush_leaves(rt: HostRuntime) -> Result<(), Fail> {
-    let trial = flushed(rt.alloc())?;
+fn opens_what_a_flush_leaves(rt: HostRuntime) {
+    let trial = flushed(&rt, rt.alloc());
     for row in ROWS {
-        try_row(&rt, rt.alloc(), &trial, row)?;
+        try_row(&rt, rt.alloc(), &trial, row);
     }
-    Ok(())
 }
 
 /// How many calls an opening makes on what another left that went on with the flush and was stopped after
@@ -190,24 +177,23 @@ fn calls_after(turn: u64) -> u64 {
 }
 
 /// A store that was opened over the image of the flush's eleventh turn, and went on with the flush.
-fn gone_on(alloc: Global) -> Result<Trial<MemDisk>, Fail> {
-    let image = flushed(alloc)?.image(BEGAN + 11, Choice::Durable)?;
-    store_on(alloc, MemDisk::from_bytes(alloc, &image)?)
+fn gone_on(rt: &impl Abort, alloc: Global) -> Trial<MemDisk> {
+    let image = flushed(rt, alloc).image(rt, BEGAN + 11, Choice::Durable);
+    on_file(rt, alloc, &image)
 }
 
 #[test]
-fn opens_what_an_opening_leaves(rt: HostRuntime) -> Result<(), Fail> {
-    let trial = gone_on(rt.alloc())?;
-    assert_eq!(rt; trial.turns(), 12);
+fn opens_what_an_opening_leaves(rt: HostRuntime) {
+    let trial = gone_on(&rt, rt.alloc());
+    assert!(rt; trial.turns() == 12);
     for turn in 0..13 {
         let left = Left {
             map: THREE,
             sequence: 4,
             calls: calls_after(turn),
         };
-        try_image(&rt, rt.alloc(), &trial, (turn, Choice::Durable), &left)?;
+        try_image(&rt, rt.alloc(), &trial, (turn, Choice::Durable), &left);
     }
-    Ok(())
 }
 
 /// What the opening leaves of a save that was stopped.
@@ -217,38 +203,43 @@ const STOPPED: Left = Left {
     calls: 2,
 };
 
+const STOPPED_LEFT: &Left = &STOPPED;
+
 /// The same before the next checkpoint is saved, in a file that isn't longer than its layout.
 const BEFORE: Left = Left {
     calls: 0,
     ..STOPPED
 };
 
+const BEFORE_LEFT: &Left = &BEFORE;
+
 /// The same once it is saved.
-const KEPT: Left = Left {
+const KEPT_LEFT: &Left = &Left {
     sequence: 3,
     ..BEFORE
 };
 
 /// The slot that isn't in use has the header of the flush's first save, of sequence 3, behind a closed gate.
-fn try_stopped(rt: &impl Abort, alloc: Global) -> Result<Trial<MemDisk>, Fail> {
+fn try_stopped(rt: &impl Abort, alloc: Global) -> Trial<MemDisk> {
     let at = (BEGAN + 9, Choice::Durable);
-    let image = flushed(alloc)?.image(at.0, at.1)?;
-    let (sequence, gate) = (image.get(72), image.get(9_832));
-    assert_eq!(rt; (sequence, gate), (Some(&3), Some(&0)));
-    try_opening(rt, alloc, at, &image, &STOPPED)
+    let image = flushed(rt, alloc).image(rt, at.0, at.1);
+    assert!(rt; image.get(72) == Some(&3) && image.get(9_832) == Some(&0));
+    try_opening(rt, alloc, at, &image, STOPPED_LEFT)
 }
 
 /// Saves a checkpoint of a store, whose disk had two changing calls.
-fn try_keep(rt: &impl Abort, trial: &mut Trial<MemDisk>) -> Result<(), Fail> {
-    let done = trial.keep();
-    assert_eq!(rt; (done, trial.turns()), (Ok(Done { kept: true }), 9));
-    Ok(())
-}
+const KEEP: &[requests::Row] = rows! { Ask::Keep => requests::KEPT, b"", 7; };
 
 #[test]
-fn keeps_over_a_save_that_was_stopped(rt: HostRuntime) -> Result<(), Fail> {
-    let mut trial = try_stopped(&rt, rt.alloc())?;
-    try_keep(&rt, &mut trial)?;
-    try_image(&rt, rt.alloc(), &trial, (2, Choice::Torn(0xA5)), &BEFORE)?;
-    try_image(&rt, rt.alloc(), &trial, (9, Choice::Durable), &KEPT)
+fn keeps_over_a_save_that_was_stopped(rt: HostRuntime) {
+    let mut trial = try_stopped(&rt, rt.alloc());
+    try_rows(&rt, rt.alloc(), &mut trial, KEEP);
+    try_image(
+        &rt,
+        rt.alloc(),
+        &trial,
+        (2, Choice::Torn(0xA5)),
+        BEFORE_LEFT,
+    );
+    try_image(&rt, rt.alloc(), &trial, (9, Choice::Durable), KEPT_LEFT);
 }

@@ -1,13 +1,12 @@
 //! A flush for a put in place of an object, checkpoints that are asked for, and flushes at the least
 //! divisor.
+use crate::acts::{Act, try_recorded};
 use crate::checkpoints::{Checkpoint, Object};
-use crate::flushed::{Step, fresh_on, try_steps};
+use crate::flushed::{Step, fresh};
 use crate::flushes::{FIRST, TEN, laid, row};
 use crate::requests::{Ask, KEPT, QUIET, Reply, Row, refused, rows, try_rows};
 use crate::worked::{HUNDRED, TWO, try_checkpoint};
-use disk_mem::MemDisk;
 use slot_codec::Header;
-use std::test::Fail;
 use store_core::Refusal;
 
 /// The object of 10 bytes, laid.
@@ -33,11 +32,12 @@ const READS: &[Row] = rows! {
     Ask::Old("a") => Reply::Number(10), TEN, 0;
 };
 
+/// Both puts, and what is read then.
+const REPLACING: &[Act] = &[Act::Steps(REPLACEMENT), Act::Rows(READS)];
+
 #[test]
-fn flushes_for_a_put_that_finds_room(rt: HostRuntime) -> Result<(), Fail> {
-    let mut trial = fresh_on(rt.alloc(), MemDisk::new(rt.alloc()), 9)?;
-    try_steps(&rt, rt.alloc(), &mut trial, 9, REPLACEMENT)?;
-    try_rows(&rt, rt.alloc(), &mut trial, READS)
+fn flushes_for_a_put_that_finds_room(rt: HostRuntime) {
+    try_recorded(&rt, rt.alloc(), 9, REPLACING);
 }
 
 /// The second checkpoint of a store with an object in a buffer.
@@ -65,10 +65,10 @@ const KEPT_ROWS: &[Row] = rows! {
 };
 
 #[test]
-fn keeps_what_stands_in_a_buffer(rt: HostRuntime) -> Result<(), Fail> {
-    let mut trial = fresh_on(rt.alloc(), MemDisk::new(rt.alloc()), 9)?;
-    try_rows(&rt, rt.alloc(), &mut trial, KEPT_ROWS)?;
-    try_checkpoint(&rt, rt.alloc(), &mut trial, &two_kept())
+fn keeps_what_stands_in_a_buffer(rt: HostRuntime) {
+    let mut trial = fresh(&rt, rt.alloc());
+    try_rows(&rt, rt.alloc(), &mut trial, KEPT_ROWS);
+    try_checkpoint(&rt, rt.alloc(), &mut trial, &two_kept());
 }
 
 /// A byte that comes and goes twice, at the divisor 2.
@@ -111,8 +111,10 @@ const PAIRS: &[Step] = &[
     },
 ];
 
+/// All four requests.
+const LEAST_DIVISOR: &[Act] = &[Act::Pairs(PAIRS)];
+
 #[test]
-fn flushes_at_the_least_divisor(rt: HostRuntime) -> Result<(), Fail> {
-    let mut trial = fresh_on(rt.alloc(), MemDisk::new(rt.alloc()), 2)?;
-    try_steps(&rt, rt.alloc(), &mut trial, 2, PAIRS)
+fn flushes_at_the_least_divisor(rt: HostRuntime) {
+    try_recorded(&rt, rt.alloc(), 2, LEAST_DIVISOR);
 }

@@ -4,14 +4,14 @@ use disk_face::Disk;
 use disk_mem::MemSink;
 use size_class::{CLASSES, SIZE_MAX};
 use std::alloc::{AllocError, Global};
+use std::fmt::Debug;
 use std::process::Abort;
-use std::test::Fail;
 use store_core::{Done, Gauge, Refusal, Stat, Store};
 
 /// Requests, with their answers, the bytes that they put and their changing calls.
 macro_rules! rows {
     ($($ask:expr => $reply:expr, $puts:expr, $calls:literal;)*) => {
-        &[$(Row { ask: $ask, reply: $reply, puts: $puts, calls: $calls }),*]
+        &[$($crate::requests::Row { ask: $ask, reply: $reply, puts: $puts, calls: $calls }),*]
     };
 }
 
@@ -46,7 +46,7 @@ pub enum Ask {
 }
 
 /// What a request is answered, beside the bytes that it puts.
-#[derive(Clone, Copy, Debug, PartialEq, Eq)]
+#[derive(Clone, Copy, PartialEq, Eq)]
 pub enum Reply {
     Done(Done),
     Number(u64),
@@ -71,22 +71,26 @@ pub const QUIET: Reply = Reply::Done(Done { kept: false });
 pub const KEPT: Reply = Reply::Done(Done { kept: true });
 
 /// What a store answers to a request, whose bytes go to the sink.
-pub fn answer<D: Disk>(
+fn answer<D: Disk>(
+    rt: &impl Abort,
     alloc: Global,
     trial: &mut Trial<D>,
     ask: Ask,
     sink: &mut MemSink,
-) -> Result<Reply, Fail> {
-    Ok(match ask {
+) -> Reply {
+    match ask {
         Ask::Put(name, bytes) => done(trial.put(name, bytes)),
-        Ask::PutZeros(name, size) => done(trial.put(name, &zeros(alloc, size)?)),
+        Ask::PutZeros(name, size) => {
+            let bytes = zeros(alloc, size).expect(rt, "memory");
+            done(trial.put(name, &bytes))
+        }
         Ask::Del(name) => done(trial.del(name)),
         Ask::Keep => done(trial.keep()),
         Ask::Back => nothing(trial.back()),
         Ask::Get(name) => number(trial.get(name, sink)),
         Ask::Old(name) => number(trial.old(name, sink)),
         Ask::Size(_) | Ask::OldSize(_) | Ask::List | Ask::Stat => tell(trial.store(), ask, sink),
-    })
+    }
 }
 
 /// So many zeros, taken by pieces, which is faster where bytes are checked one by one.
@@ -142,14 +146,9 @@ fn nothing(answer: Result<(), Refusal>) -> Reply {
 }
 
 /// Makes each request in turn.
-pub fn try_rows<D: Disk>(
-    rt: &impl Abort,
-    alloc: Global,
-    trial: &mut Trial<D>,
-    rows: &[Row],
-) -> Result<(), Fail> {
-    let mut sink = MemSink::with_room(alloc, 1 << 16, Vec::new(alloc))?;
-    try_rows_to(rt, alloc, trial, rows, &mut sink)
+pub fn try_rows<D: Disk>(rt: &impl Abort, alloc: Global, trial: &mut Trial<D>, rows: &[Row]) {
+    let mut sink = MemSink::with_room(alloc, 1 << 16, Vec::new(alloc)).expect(rt, "memory");
+    try_rows_to(rt, alloc, trial, rows, &mut sink);
 }
 
 /// Makes each request in turn, with one sink for all.
@@ -159,11 +158,10 @@ pub fn try_rows_to<D: Disk>(
     trial: &mut Trial<D>,
     rows: &[Row],
     sink: &mut MemSink,
-) -> Result<(), Fail> {
+) {
     for row in rows {
-        try_row(rt, alloc, trial, row, sink)?;
+        try_row(rt, alloc, trial, row, sink);
     }
-    Ok(())
 }
 
 /// Makes a request.
@@ -173,21 +171,25 @@ fn try_row<D: Disk>(
     trial: &mut Trial<D>,
     row: &Row,
     sink: &mut MemSink,
-) -> Result<(), Fail> {
+) {
     let (put, turns) = (sink.bytes().len(), trial.turns());
-    let reply = answer(alloc, trial, row.ask, sink)?;
-    let after = turns.saturating_add(row.calls);
-    assert_eq!(rt;
-        (reply, sink.bytes().get(put..), trial.turns()),
-        (row.reply, Some(row.puts), after),
-        "{:?}",
-        row.ask
+    let reply = answer(rt, alloc, trial, row.ask, sink);
+    try_holds(rt, reply == row.reply, &row.ask);
+    try_holds(rt, sink.bytes().get(put..) == Some(row.puts), &row.ask);
+    try_holds(
+        rt,
+        trial.turns() == turns.saturating_add(row.calls),
+        &row.ask,
     );
-    Ok(())
+}
+
+/// What holds of a row.
+pub fn try_holds(rt: &impl Abort, holds: bool, row: &impl Debug) {
+    assert!(rt; holds, "{row:?}");
 }
 
 /// What a store and its disk say of themselves, without a request.
-#[derive(Clone, Copy, Debug, PartialEq, Eq)]
+#[derive(Clone, Copy, PartialEq, Eq)]
 pub struct Looks {
     /// How many changing calls of the disk have ended.
     pub turns: u64,
@@ -200,7 +202,7 @@ pub struct Looks {
 }
 
 /// Looks at a store.
-pub fn try_looks<D: Disk>(rt: &impl Abort, trial: &Trial<D>, expected: &Looks) -> Result<(), Fail> {
+pub fn try_looks<D: Disk>(rt: &impl Abort, trial: &Trial<D>, expected: &Looks) {
     let store = trial.store();
     let ledger = store.ledger();
     let looks = Looks {
@@ -210,6 +212,5 @@ pub fn try_looks<D: Disk>(rt: &impl Abort, trial: &Trial<D>, expected: &Looks) -
         asked: ledger.asked.cells(),
         moved: ledger.moved.cells(),
     };
-    assert_eq!(rt; looks, *expected);
-    Ok(())
+    assert!(rt; looks == *expected);
 }

@@ -7,6 +7,7 @@ use disk_mem::{Choice, Fuse, MemDisk};
 use size_class::CLASSES;
 use std::alloc::Global;
 use std::marker::Model;
+use std::process::Abort;
 use std::test::Fail;
 use store_core::{Done, Gauge, Refusal, Stat, Store};
 
@@ -37,6 +38,25 @@ pub fn store_on<D: Disk + Drop>(alloc: Global, disk: D) -> Result<Trial<D>, Fail
     let mut disk = disk;
     let store = Store::open(alloc, &mut disk)?;
     Ok(Trial { disk, store })
+}
+
+/// The same, where the file has to open.
+#[cfg(test)]
+pub(crate) fn opened<D: Disk + Drop>(rt: &impl Abort, alloc: Global, disk: D) -> Trial<D>
+    requires ready { IsTrue (D.state disk).is_ready }
+    requires tells { IsTrue (D.state disk).tells }
+{
+    match store_on(alloc, disk) {
+        Ok(trial) => trial,
+        Err(_) => panic!(rt; "a store"),
+    }
+}
+
+/// The same for a file of these bytes.
+#[cfg(test)]
+pub(crate) fn on_file(rt: &impl Abort, alloc: Global, bytes: &[u8]) -> Trial<MemDisk> {
+    let disk = MemDisk::from_bytes(alloc, bytes).expect(rt, "memory");
+    opened(rt, alloc, disk)
 }
 
 impl<D: Disk> Trial<D> {
@@ -81,15 +101,11 @@ impl<D: Disk> Trial<D> {
     }
 
     /// All bytes of the file.
-    pub fn file(&mut self, alloc: Global) -> Result<Vec<u8>, Fail> {
-        let Ok(length) = length_of(&mut self.disk) else {
-            return Err("a length")?;
-        };
-        let mut bytes = vec![in alloc; 0u8; length as usize]?;
-        if read(&mut self.disk, 0, &mut bytes).is_err() {
-            return Err("a file")?;
-        }
-        Ok(bytes)
+    pub fn file(&mut self, rt: &impl Abort, alloc: Global) -> Vec<u8> {
+        let length = length_of(&mut self.disk).expect(rt, "a length");
+        let mut bytes = vec![in alloc; 0u8; length as usize].expect(rt, "memory");
+        read(&mut self.disk, 0, &mut bytes).expect(rt, "a file");
+        bytes
     }
 
     /// The store over a disk that fails the changing calls and the others of these numbers, counted
@@ -114,10 +130,8 @@ impl<D: Disk> Trial<D> {
 
 impl Trial<MemDisk> {
     /// An image of a turn.
-    pub fn image(&self, turn: u64, choice: Choice) -> Result<Vec<u8>, Fail> {
-        if turn > self.disk.turns() {
-            return Err("a turn that has ended")?;
-        }
-        Ok(self.disk.image(turn, choice)?)
+    pub fn image(&self, rt: &impl Abort, turn: u64, choice: Choice) -> Vec<u8> {
+        assert!(rt; turn <= self.disk.turns());
+        self.disk.image(turn, choice).expect(rt, "memory")
     }
 }

@@ -3,12 +3,12 @@ ghost use Rattle.std.specs.Prelude.{◌≡◌, IsTrue, length};
 
 use crate::checkpoints::{Checkpoint, Object, opens_to, save_on};
 use crate::requests::Looks;
-use crate::trials::{Trial, store_on};
+use crate::trials::{Trial, opened};
 use disk_face::Disk;
+use disk_mem::MemDisk;
 use slot_codec::{Header, Kind};
 use std::alloc::Global;
 use std::process::Abort;
-use std::test::Fail;
 use store_core::Gauge;
 
 /// 100 bytes.
@@ -37,6 +37,9 @@ pub const ONE: Checkpoint = Checkpoint {
         is_buffered: false,
     }],
 };
+
+/// That checkpoint, to be looked at.
+pub const ONE_KEPT: &Checkpoint = &ONE;
 
 /// The same object, and one of 4 bytes that stands in its buffer.
 pub const TWO: Checkpoint = Checkpoint {
@@ -73,6 +76,9 @@ pub const TWO: Checkpoint = Checkpoint {
     ],
 };
 
+/// That checkpoint, to be looked at.
+pub const TWO_KEPT: &Checkpoint = &TWO;
+
 /// A buffer of which nothing is taken, and one of which 4 bytes of class 2 are.
 const NONE: [u64; 32] = [0; 32];
 
@@ -93,27 +99,31 @@ pub const UNCHANGED: Looks = Looks {
     moved: NONE,
 };
 
+/// The same, to be looked at.
+pub const AS_BEFORE: &Looks = &UNCHANGED;
+
 /// The store of a file that is formatted and saved once, with one object. The file had 19 changing calls:
 /// 10 to format it, its length, the object, and 7 to save.
-pub fn at_one<D: Disk + Drop>(alloc: Global, disk: D) -> Result<Trial<D>, Fail>
+pub fn at_one<D: Disk + Drop>(rt: &impl Abort, alloc: Global, disk: D) -> Trial<D>
     requires ready { IsTrue (D.state disk).is_ready }
     requires tells { IsTrue (D.state disk).tells }
     requires empty { length (D.state disk).file ≡ 0 }
 {
     let mut disk = disk;
-    save_on(alloc, &mut disk, 111, &ONE)?;
-    store_on(alloc, disk)
+    save_on(rt, alloc, &mut disk, 111, ONE_KEPT);
+    opened(rt, alloc, disk)
+}
+
+/// The same on a disk in memory.
+pub fn one_recorded(rt: &impl Abort, alloc: Global) -> Trial<MemDisk> {
+    at_one(rt, alloc, MemDisk::new(alloc))
 }
 
 /// The same with two objects, after 20 changing calls.
-pub fn at_two<D: Disk + Drop>(alloc: Global, disk: D) -> Result<Trial<D>, Fail>
-    requires ready { IsTrue (D.state disk).is_ready }
-    requires tells { IsTrue (D.state disk).tells }
-    requires empty { length (D.state disk).file ≡ 0 }
-{
-    let mut disk = disk;
-    save_on(alloc, &mut disk, 111, &TWO)?;
-    store_on(alloc, disk)
+pub fn two_recorded(rt: &impl Abort, alloc: Global) -> Trial<MemDisk> {
+    let mut disk = MemDisk::new(alloc);
+    save_on(rt, alloc, &mut disk, 111, TWO_KEPT);
+    opened(rt, alloc, disk)
 }
 
 /// The file of a store is as long as these, and opens to a checkpoint.
@@ -122,9 +132,8 @@ pub fn try_checkpoint<D: Disk>(
     alloc: Global,
     trial: &mut Trial<D>,
     checkpoint: &Checkpoint,
-) -> Result<(), Fail> {
-    let file = trial.file(alloc)?;
-    let opens = opens_to(alloc, &file, checkpoint)?;
-    assert_eq!(rt; (file.len(), opens), (19_714, true));
-    Ok(())
+) {
+    let file = trial.file(rt, alloc);
+    assert!(rt; file.len() == 19_714);
+    assert!(rt; opens_to(rt, alloc, &file, checkpoint));
 }

@@ -5,26 +5,21 @@ use disk_mem::PlainDisk;
 use size_class::CLASSES;
 use slot_pair::SlotPair;
 use std::alloc::Global;
-use std::test::Fail;
+use std::process::Abort;
 use store_core::Store;
 use work_session::{Cost, Summary, do_work};
 
 /// The summary of the work of a number over a new file with room for 16 names.
-fn work_on_new(alloc: Global, k: u64, number: u64, count: u64) -> Result<Summary, Fail>
+fn work_on_new(rt: &impl Abort, alloc: Global, k: u64, number: u64, count: u64) -> Summary
     requires low { 2 ≤ k }
     requires high { k ≤ 64 }
     requires least { 1 ≤ count }
     requires most { count ≤ 1000000 }
 {
-    let mut disk = PlainDisk::with_room(alloc, 1 << 20)?;
-    SlotPair::format(&mut disk, k, 16)?;
-    let Ok(store) = Store::<CLASSES>::open(alloc, &mut disk) else {
-        return Err("a store")?;
-    };
-    let Ok(summary) = do_work(alloc, store, &mut disk, number, count) else {
-        return Err("a summary")?;
-    };
-    Ok(summary)
+    let mut disk = PlainDisk::with_room(alloc, 1 << 20).expect(rt, "memory");
+    SlotPair::format(&mut disk, k, 16).expect(rt, "a format");
+    let store = Store::<CLASSES>::open(alloc, &mut disk).expect(rt, "a store");
+    do_work(alloc, store, &mut disk, number, count).expect(rt, "a summary")
 }
 
 /// Two weights, of moved and of asked bytes.
@@ -54,9 +49,8 @@ const SHORT: Summary = Summary {
 };
 
 #[test]
-fn a_short_work(rt: HostRuntime) -> Result<(), Fail> {
-    assert_eq!(rt; work_on_new(rt.alloc(), 2, 1, 8)?, SHORT);
-    Ok(())
+fn a_short_work(rt: HostRuntime) {
+    assert!(rt; work_on_new(&rt, rt.alloc(), 2, 1, 8) == SHORT);
 }
 
 /// What a work that reads and replaces comes to.
@@ -76,9 +70,8 @@ const READING: Summary = Summary {
 };
 
 #[test]
-fn a_work_that_reads_and_replaces(rt: HostRuntime) -> Result<(), Fail> {
-    assert_eq!(rt; work_on_new(rt.alloc(), 2, 1, 24)?, READING);
-    Ok(())
+fn a_work_that_reads_and_replaces(rt: HostRuntime) {
+    assert!(rt; work_on_new(&rt, rt.alloc(), 2, 1, 24) == READING);
 }
 
 /// What the work of the greatest number comes to.
@@ -98,7 +91,6 @@ const GREATEST: Summary = Summary {
 };
 
 #[test]
-fn the_work_of_the_greatest_number(rt: HostRuntime) -> Result<(), Fail> {
-    assert_eq!(rt; work_on_new(rt.alloc(), 9, u64::MAX, 30)?, GREATEST);
-    Ok(())
+fn the_work_of_the_greatest_number(rt: HostRuntime) {
+    assert!(rt; work_on_new(&rt, rt.alloc(), 9, u64::MAX, 30) == GREATEST);
 }
