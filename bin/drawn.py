@@ -1,4 +1,4 @@
-"""The words that a number draws (PCG XSH RR 64/32, stream 1), as crates/drawn_words draws them. The scripts that predict
+"""The words that a number draws (PCG XSH RR 64/32, stream 1), as crates/hostile_inputs draws them. The scripts that predict
 what drawn tries print use it."""
 
 M64 = (1 << 64) - 1

@@ -23,6 +23,7 @@ pub fn serve<D: Disk>(
     costore(alloc, words, bay, input, output)
 }
 
+pub mod alike;
 #[cfg(test)]
 mod answers;
 #[cfg(test)]

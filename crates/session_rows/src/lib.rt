@@ -1,5 +1,6 @@
 //! Worked sessions of the program, as tables: what is put, and what is left of the file, also where a disk
-//! fails at each call, and of what a crash leaves at each turn of a format, a save and a session.
+//! fails at each call, and of what a crash leaves at each turn of a format, a save and a session. And worked
+//! files: what each opens to, by both ways of opening one.
 #![tactic(auto)]
 
 #[cfg(test)]
@@ -25,9 +26,13 @@ mod images;
 #[cfg(test)]
 mod moments;
 #[cfg(test)]
+mod moving;
+#[cfg(test)]
 mod older_files;
 #[cfg(test)]
 mod opened_maps;
+#[cfg(test)]
+mod openings;
 #[cfg(test)]
 mod replaced;
 #[cfg(test)]
@@ -39,8 +44,12 @@ mod sessions;
 #[cfg(test)]
 mod sizes;
 #[cfg(test)]
+mod spoiled;
+#[cfg(test)]
 mod stopped_flushes;
 #[cfg(test)]
 mod stops;
+#[cfg(test)]
+mod texts;
 #[cfg(test)]
 mod works;

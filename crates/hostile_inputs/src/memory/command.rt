@@ -1,7 +1,7 @@
 //! One command of the program between growths of memory, and the session that is asked after it.
 ghost use Rattle.std.specs.Prelude.{◌≡◌, None};
 
-use crate::growths::grown;
+use crate::memory::growths::grown;
 use costore_top::costore;
 use disk_face::Bay;
 use disk_file::StdSource;

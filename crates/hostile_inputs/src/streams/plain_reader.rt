@@ -2,7 +2,7 @@
 ghost use Rattle.std.specs.Prelude.{◌<◌, IfSome, length};
 
 /// A request, by the bytes of its words and of its object.
-#[derive(Clone, Copy, Debug)]
+#[derive(Clone, Copy)]
 pub enum Asked<'a> {
     Put { name: &'a [u8], object: &'a [u8] },
     Del(&'a [u8]),
@@ -15,7 +15,7 @@ pub enum Asked<'a> {
 }
 
 /// A request, and the bytes behind it.
-#[derive(Clone, Copy, Debug)]
+#[derive(Clone, Copy)]
 pub struct First<'a> {
     pub asked: Asked<'a>,
     pub rest: &'a [u8],

@@ -1,9 +1,9 @@
 //! A worked file, its changes, and what each opens to, by `plain_layout` and by `read_state` alike.
 ghost use Rattle.std.specs.Prelude.{◌≤◌, IfOk};
 
-use crate::alike::{Parting, Seen, opened_by_both};
 use disk_mem::MemDisk;
 use plain_layout::{Opened, Refusal, open};
+use row_vectors::alike::{Parting, Seen, opened_by_both};
 use row_vectors::images::{Change, disk};
 use size_class::{CLASSES, SIZE_MAX};
 use slot_codec::{CodecFault, Name};

@@ -1,9 +1,7 @@
-//! Tries a command of the program where one growth of memory is refused: `hostile_memory COUNT IMAGE COMMAND
+//! Tries a command of the program where one growth of memory is refused: `hostile_inputs COUNT IMAGE COMMAND
 //! FILE ..` makes COUNT growths, and then does the command as the program does. So of the growths of the
 //! command another one is refused with another COUNT, where `rt try --fail-alloc` refuses always the one of
 //! the same number. One line tells how the command ended, and what a session then finds in the file.
-#![tactic(auto)]
-
 ghost use Rattle.std.specs.Prelude.{◌≡◌, None, IfOk};
 ghost use Rattle.disk_mem.specs.Bays.{last_mount_of};
 
@@ -12,12 +10,11 @@ mod growths;
 
 use command::{Attempt, attempted, reopened};
 use costore_top::may_change;
-use disk_face::Disk;
+use disk_face::{Bay, Disk};
 use disk_file::FileBay;
 use disk_mem::{MemBay, MemDisk, MemSink};
 use row_vectors::images::{MOVING, disk};
 use std::alloc::Global;
-use std::env;
 use std::str::from_utf8;
 use std::test::Fail;
 
@@ -27,18 +24,14 @@ const NAME: &str = "f";
 /// Room for what a command or a session puts.
 const ROOM: u64 = 4096;
 
-fn main(rt: HostRuntime) -> Result<(), Fail> {
-    let words: Vec<String> = env::args(&rt)?.skip(1).collect(rt.alloc())?;
-    let texts: Vec<&str> = words.iter().map(|word| word.as_str()).collect(rt.alloc())?;
-    let [count, image, command @ ..] = texts.as_slice() else {
-        return Err("COUNT IMAGE COMMAND FILE ..")?;
-    };
+/// Does a command after so many growths of memory, on a file of one of the images.
+pub fn try_one(rt: &HostRuntime, count: &str, image: &str, command: &[&str]) -> Result<(), Fail> {
     let count = count.parse::<usize>()?;
-    match *image {
-        "file" => on_file(&rt, count, command),
-        "none" => in_memory(&rt, count, MemDisk::new(rt.alloc())),
-        "hello" => in_memory(&rt, count, disk(rt.alloc(), 19_608, &[], &[])?),
-        "moving" => in_memory(&rt, count, disk(rt.alloc(), 19_857, &MOVING, &[])?),
+    match image {
+        "file" => on_file(rt, count, command),
+        "none" => in_memory(rt, count, MemDisk::new(rt.alloc())),
+        "hello" => in_memory(rt, count, disk(rt.alloc(), 19_608, &[], &[])?),
+        "moving" => in_memory(rt, count, disk(rt.alloc(), 19_857, &MOVING, &[])?),
         _ => Err("an image of none, hello, moving and file")?,
     }
 }
@@ -47,15 +40,12 @@ fn main(rt: HostRuntime) -> Result<(), Fail> {
 fn in_memory(rt: &HostRuntime, count: usize, disk: MemDisk) -> Result<(), Fail> {
     let mut bay = bay_of(rt.alloc(), disk)?;
     let mut output = sink(rt.alloc())?;
-    let first = attempted(rt, count, &mut bay, &mut output);
-    let Ok(ended) = first else {
+    let Ok(ended) = attempted(rt, count, &mut bay, &mut output) else {
         println!(rt; "before")?;
         return Ok(());
     };
     let mut bay = bay_of(rt.alloc(), bay.into_disk())?;
-    let mut later = sink(rt.alloc())?;
-    let status = reopened(rt.alloc(), &mut bay, NAME, &mut later)?;
-    tell(rt, ended, &output, status, &later)
+    tell(rt, ended, &output, &mut bay, NAME)
 }
 
 /// A bay of the file `f`, which is there where the disk isn't empty.
@@ -87,22 +77,23 @@ fn on_file(rt: &HostRuntime, count: usize, command: &[&str]) -> Result<(), Fail>
         println!(rt; "before")?;
         return Ok(());
     };
-    let mut bay = FileBay::new(rt);
-    let mut later = sink(rt.alloc())?;
     let file = command.get(1).copied().unwrap_or("");
-    let status = reopened(rt.alloc(), &mut bay, file, &mut later)?;
-    tell(rt, ended, &output, status, &later)
+    tell(rt, ended, &output, &mut FileBay::new(rt), file)
 }
 
 /// Prints whether a growth was refused only after the command, how it ended and what it put, and then how
-/// the session ended and what it put.
-fn tell(
+/// a session on its file ends and what that puts.
+fn tell<B: Bay>(
     rt: &HostRuntime,
     ended: Attempt,
     output: &MemSink,
-    status: u8,
-    later: &MemSink,
-) -> Result<(), Fail> {
+    bay: &mut B,
+    file: &str,
+) -> Result<(), Fail>
+    requires { (B.state bay.old).last_mount ≡ None }
+{
+    let mut later = sink(rt.alloc())?;
+    let status = reopened(rt.alloc(), bay, file, &mut later)?;
     let when = if ended.refused_after {
         "after"
     } else {

@@ -1,5 +1,5 @@
 //! A list of requests, as words draw it.
-use drawn_words::Drawn;
+use crate::drawn::Drawn;
 use std::alloc::{AllocError, Global};
 
 /// Requests, one behind another, and where each begins.

@@ -1,16 +1,16 @@
 //! One list of requests, given to the program and to the plain map.
-use crate::lists::drawn_list;
-use crate::plain_map::{Object, PlainMap, bytes_of};
-use crate::spoils::spoil;
+use crate::drawn::Drawn;
+use crate::streams::lists::{List, drawn_list};
+use crate::streams::plain_map::{Object, PlainMap, bytes_of};
+use crate::streams::spoils::spoil;
 use disk_face::Disk;
 use disk_mem::{Choice, MemDisk};
-use drawn_words::Drawn;
 use plain_layout::open;
 use row_vectors::Outcome;
 use row_vectors::runs::{Ran, formatted, session};
 use size_class::{CLASSES, SIZE_MAX};
 use slot_codec::Record;
-use std::alloc::Global;
+use std::alloc::{AllocError, Global};
 use std::test::Fail;
 
 /// Where the data part of a file with room for 16 names begins.
@@ -26,25 +26,35 @@ pub struct Trial {
     pub agrees: bool,
 }
 
-/// The trial of a number: its list, with none to two spoilt bytes, in a session on a new file with k = 9
-/// and room for 16 names.
+/// The trial of a number: its list in a session on a new file with k = 9 and room for 16 names.
 pub fn tried(alloc: Global, number: u64) -> Result<Trial, Fail> {
     let mut words = Drawn::new(number);
-    let mut list = drawn_list(alloc, &mut words)?;
+    let list = spoilt_list(alloc, &mut words)?;
+    let piece = 1 + words.below(300) as usize;
+    let ran = session(alloc, formatted(alloc, "9")?, &list.bytes, piece)?;
+    judged(alloc, &list.bytes, &ran)
+}
+
+/// A list, with none to two spoilt bytes.
+fn spoilt_list(alloc: Global, words: &mut Drawn) -> Result<List, AllocError> {
+    let mut list = drawn_list(alloc, words)?;
     let spoils = words.below(3);
     for _ in 0..spoils {
-        spoil(&mut list, &mut words)?;
+        spoil(&mut list, words)?;
     }
-    let piece = 1 + words.below(300) as usize;
-    let Ran { outcome, put, disk } = session(alloc, formatted(alloc, "9")?, &list.bytes, piece)?;
+    Ok(list)
+}
+
+/// How a session with an input ended, beside what the plain map says.
+fn judged(alloc: Global, input: &[u8], ran: &Ran<MemDisk>) -> Result<Trial, Fail> {
     let mut map = PlainMap::new(alloc);
-    let is_whole = map.serve_all(&list.bytes, &put)?;
+    let is_whole = map.serve_all(input, &ran.put)?;
     let status = if is_whole { 0 } else { 2 };
-    let is_answered = put.as_slice() == map.replies.as_slice();
-    let is_counted = are_numbers(&outcome, status, map.done, map.kept_done);
-    let is_held = holds(alloc, &disk, &map.kept)?;
+    let is_answered = ran.put.as_slice() == map.replies.as_slice();
+    let is_counted = are_numbers(&ran.outcome, status, map.done, map.kept_done);
+    let is_held = holds(alloc, &ran.disk, &map.kept)?;
     Ok(Trial {
-        outcome,
+        outcome: ran.outcome,
         names: map.kept.len(),
         bytes: bytes_of(&map.kept),
         agrees: is_answered && is_counted && is_held,

@@ -1,5 +1,5 @@
 //! The files that are spoilt. Each keeps all rules; k is 9, and there is room for 16 names.
-use drawn_words::Drawn;
+use crate::drawn::Drawn;
 use row_vectors::images::{Change, MOVING};
 
 /// A file, by its length and two lists of changes of the hand-made file.

@@ -1,6 +1,6 @@
 //! Cutting and spoiling a list of requests, as words draw it.
-use crate::lists::List;
-use drawn_words::Drawn;
+use crate::drawn::Drawn;
+use crate::streams::lists::List;
 use std::alloc::AllocError;
 
 /// Bytes that a reader of requests may stumble over.

@@ -1,8 +1,8 @@
 //! Counts of what files were found to be.
 ghost use Rattle.std.specs.Prelude.{◌<◌};
 
-use crate::alike::{Parting, Seen};
 use plain_layout::Refusal;
+use row_vectors::alike::{Parting, Seen};
 use slot_codec::CodecFault;
 use slot_pair::SlotFault;
 use std::io;

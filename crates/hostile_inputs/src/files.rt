@@ -1,25 +1,14 @@
-//! Tries the opening of files with tables that were spoilt: a thousand, each with one, two or three
+//! Tries the opening of files with tables that were spoilt: two thousand, each with one, two or three
 //! parts that its number draws, are opened by `read_state` and by `plain_layout`. It prints how many
 //! are still opened, how many are refused for each reason, and on how many the two differ.
-#![tactic(auto)]
-
-mod alike;
 mod bases;
-#[cfg(test)]
-mod moving;
-#[cfg(test)]
-mod openings;
-#[cfg(test)]
-mod spoiled;
 mod spoils;
 mod tally;
-#[cfg(test)]
-mod texts;
 
-use alike::opened_by_both;
+use crate::drawn::Drawn;
 use bases::drawn_base;
 use disk_mem::MemDisk;
-use drawn_words::Drawn;
+use row_vectors::alike::opened_by_both;
 use row_vectors::images::image;
 use spoils::spoil;
 use std::alloc::Global;
@@ -29,14 +18,15 @@ use tally::Tally;
 /// How many files are tried: those of the numbers from 0 on.
 const FILES: u64 = 2_000;
 
-fn main(rt: HostRuntime) -> Result<(), Fail> {
+/// Tries them all.
+pub fn try_all(rt: &HostRuntime) -> Result<(), Fail> {
     let mut tally = Tally::new();
     for number in 0..FILES {
         let mut file = drawn_file(rt.alloc(), number)?;
         tally.add(opened_by_both(rt.alloc(), &mut file));
     }
-    println!(&rt; "files {FILES}")?;
-    tally.show(&rt)?;
+    println!(rt; "files {FILES}")?;
+    tally.show(rt)?;
     Ok(())
 }
 

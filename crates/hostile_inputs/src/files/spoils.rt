@@ -1,12 +1,12 @@
 //! Spoiling a part of a file, as words draw it.
 ghost use Rattle.std.specs.Prelude.{◌<◌, ◌≤◌, ◌+◌, length};
 
-use drawn_words::Drawn;
+use crate::drawn::Drawn;
 use size_class::{CLASSES, SIZE_MAX};
 use std::alloc::AllocError;
 
 /// A part of a file. Those of tables are parts of slot 0.
-#[derive(Clone, Copy, Debug, PartialEq, Eq)]
+#[derive(Clone, Copy, PartialEq, Eq)]
 enum Part {
     /// A byte of the superblock's mark, or of its zeros.
     Mark,

@@ -3,8 +3,6 @@
 //! the requests in front of the first bytes that are none, and a plain map answers them. It prints of
 //! each list how its session ended and what the file holds then, and how many sessions differed from
 //! what the plain map says.
-#![tactic(auto)]
-
 mod lists;
 mod plain_map;
 mod plain_reader;
@@ -17,7 +15,8 @@ use trials::{Trial, tried};
 /// How many lists are tried: those of the numbers from 0 on.
 const LISTS: u64 = 200;
 
-fn main(rt: HostRuntime) -> Result<(), Fail> {
+/// Tries them all.
+pub fn try_all(rt: &HostRuntime) -> Result<(), Fail> {
     let mut differ = 0u64;
     for number in 0..LISTS {
         let Trial {
@@ -26,7 +25,7 @@ fn main(rt: HostRuntime) -> Result<(), Fail> {
             bytes,
             agrees,
         } = tried(rt.alloc(), number)?;
-        println!(&rt;
+        println!(rt;
             "list {number} status {} done {} kept {} names {names} bytes {bytes}",
             outcome.status, outcome.done, outcome.kept_done
         )?;
@@ -34,6 +33,6 @@ fn main(rt: HostRuntime) -> Result<(), Fail> {
             differ = differ.saturating_add(1);
         }
     }
-    println!(&rt; "differ {differ}")?;
+    println!(rt; "differ {differ}")?;
     Ok(())
 }

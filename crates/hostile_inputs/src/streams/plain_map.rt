@@ -1,12 +1,12 @@
 //! A plain map of objects, and its replies to requests.
 ghost use Rattle.std.specs.Prelude.{◌<◌, IfSome, length};
 
-use crate::plain_reader::{Asked, first_request};
+use crate::streams::plain_reader::{Asked, first_request};
 use size_class::SIZE_MAX;
 use std::alloc::{AllocError, Global};
 
 /// An object, by the bytes of the input that it came with.
-#[derive(Clone, Copy, Debug)]
+#[derive(Clone, Copy)]
 pub struct Object<'a> {
     pub name: &'a [u8],
     pub bytes: &'a [u8],
