@@ -1,5 +1,5 @@
 //! What a run put, how it ended and what it left, beside what its row expects.
-ghost use Rattle.std.specs.Prelude.{IfOk, IsTrue};
+ghost use Rattle.std.specs.Prelude.{◌≡◌, Ok, IsTrue};
 
 use disk_face::Disk;
 use row_vectors::Outcome;
@@ -13,6 +13,16 @@ use std::test::Fail;
 pub const CHECK: &[&str] = &["check", "f"];
 
 pub const MAP: &[&str] = &["map", "f"];
+
+/// What a call gave, which may not fail.
+pub fn got<T>(rt: &impl Abort, given: Result<T, Fail>) -> T
+    ensures { given ≡ Ok result }
+{
+    match given {
+        Ok(value) => value,
+        Err(_) => panic!(rt; "a call that failed"),
+    }
+}
 
 /// The bytes of a row are the expected ones.
 pub fn try_bytes(rt: &impl Abort, bytes: &[u8], expected: &[u8], row: &impl Debug) {
@@ -35,16 +45,9 @@ pub fn try_holds(rt: &impl Abort, holds: bool, row: &impl Debug) {
 }
 
 /// What was put, by its parts.
-pub fn try_puts(
-    rt: &impl Abort,
-    alloc: Global,
-    put: &[u8],
-    puts: &[&str],
-    row: &impl Debug,
-) -> Result<(), Fail> {
-    let expected = joined(alloc, puts)?;
+pub fn try_puts(rt: &impl Abort, alloc: Global, put: &[u8], puts: &[&str], row: &impl Debug) {
+    let expected = got(rt, joined(alloc, puts));
     try_bytes(rt, put, &expected, row);
-    Ok(())
 }
 
 /// What a run put, by its parts, and its numbers.
@@ -55,9 +58,9 @@ pub fn try_ran<D: Disk>(
     puts: &[&str],
     outcome: Outcome,
     row: &impl Debug,
-) -> Result<(), Fail> {
+) {
     try_outcome(rt, ran.outcome, outcome, row);
-    try_puts(rt, alloc, &ran.put, puts, row)
+    try_puts(rt, alloc, &ran.put, puts, row);
 }
 
 /// What `check` or `map` puts of a file, which is a store. The disk is given back.
@@ -68,25 +71,26 @@ pub fn try_told<D: Disk + Drop>(
     words: &[&str],
     text: &str,
     row: &impl Debug,
-) -> Result<D, Fail>
+) -> D
     requires ready { IsTrue (D.state disk).is_ready }
-    ensures { IfOk result (λ told. IsTrue (D.state told).is_ready) }
+    ensures { IsTrue (D.state result).is_ready }
 {
-    let ran = run_on(alloc, words, true, disk, Vec::new(alloc))?;
+    let ran = got(rt, run_on(alloc, words, true, disk, Vec::new(alloc)));
     try_bytes(rt, &ran.put, text.as_bytes(), row);
     try_outcome(rt, ran.outcome, ended(0), row);
-    Ok(ran.disk)
+    ran.disk
 }
 
 /// Serves an input, by its parts, in pieces of at most so many bytes.
 pub fn serve_parts<D: Disk + Drop>(
+    rt: &impl Abort,
     alloc: Global,
     disk: D,
     parts: &[&str],
     piece: usize,
-) -> Result<Ran<D>, Fail>
+) -> Ran<D>
     requires ready { IsTrue (D.state disk).is_ready }
 {
-    let input = joined(alloc, parts)?;
-    session(alloc, disk, &input, piece)
+    let input = got(rt, joined(alloc, parts));
+    got(rt, session(alloc, disk, &input, piece))
 }

@@ -1,14 +1,13 @@
 //! Sessions as tables: what each puts, and what it leaves of its file.
 ghost use Rattle.std.specs.Prelude.{IfOk, IsTrue};
 
-use crate::answers::{CHECK, serve_parts, try_number, try_ran, try_told};
+use crate::answers::{CHECK, got, serve_parts, try_number, try_ran, try_told};
 use disk_face::Disk;
 use disk_mem::MemDisk;
 use row_vectors::Outcome;
 use row_vectors::runs::formatted;
 use std::alloc::Global;
 use std::process::Abort;
-use std::test::Fail;
 
 /// A session: its input and what it puts, each in parts, and what else it comes to.
 #[derive(Clone, Copy)]
@@ -61,56 +60,47 @@ pub fn try_case(
     disk: MemDisk,
     case: &Case,
     piece: usize,
-) -> Result<MemDisk, Fail> {
+) -> MemDisk {
     let ended = disk.turns().saturating_add(case.left.calls);
-    let ran = serve_parts(alloc, disk, case.input, piece)?;
+    let ran = serve_parts(rt, alloc, disk, case.input, piece);
     try_number(rt, ran.disk.turns(), ended, &case.input);
-    try_ran(rt, alloc, &ran, case.puts, case.outcome, &case.input)?;
+    try_ran(rt, alloc, &ran, case.puts, case.outcome, &case.input);
     try_file(rt, alloc, ran.disk, &case.left)
 }
 
 /// How long a file is, and what `check` puts of it.
-pub fn try_file<D: Disk + Drop>(
-    rt: &impl Abort,
-    alloc: Global,
-    disk: D,
-    left: &Left,
-) -> Result<D, Fail>
+pub fn try_file<D: Disk + Drop>(rt: &impl Abort, alloc: Global, disk: D, left: &Left) -> D
     requires ready { IsTrue (D.state disk).is_ready }
-    ensures { IfOk result (λ file. IsTrue (D.state file).is_ready) }
+    ensures { IsTrue (D.state result).is_ready }
 {
     let mut disk = disk;
-    try_number(rt, disk.len()?, left.length, &left.check);
+    try_number(
+        rt,
+        disk.len().expect(rt, "a length"),
+        left.length,
+        &left.check,
+    );
     try_told(rt, alloc, disk, CHECK, left.check, &left.length)
 }
 
 /// Serves a session on a fresh file of a divisor and 16 names.
-fn try_fresh(
-    rt: &impl Abort,
-    alloc: Global,
-    k: &str,
-    case: &Case,
-    piece: usize,
-) -> Result<(), Fail> {
-    let disk = formatted(alloc, k)?;
-    try_case(rt, alloc, disk, case, piece)?;
-    Ok(())
+fn try_fresh(rt: &impl Abort, alloc: Global, k: &str, case: &Case, piece: usize) {
+    let disk = got(rt, formatted(alloc, k));
+    try_case(rt, alloc, disk, case, piece);
 }
 
 /// Serves a session in each size of pieces.
-fn try_pieces(rt: &impl Abort, alloc: Global, k: &str, case: &Case) -> Result<(), Fail> {
+fn try_pieces(rt: &impl Abort, alloc: Global, k: &str, case: &Case) {
     for piece in PIECES {
-        try_fresh(rt, alloc, k, case, *piece)?;
+        try_fresh(rt, alloc, k, case, *piece);
     }
-    Ok(())
 }
 
 /// Serves each session on a fresh file of a divisor and 16 names.
-pub fn try_each(rt: &impl Abort, alloc: Global, k: &str, cases: &[Case]) -> Result<(), Fail> {
+pub fn try_each(rt: &impl Abort, alloc: Global, k: &str, cases: &[Case]) {
     for case in cases {
-        try_pieces(rt, alloc, k, case)?;
+        try_pieces(rt, alloc, k, case);
     }
-    Ok(())
 }
 
 /// Serves the sessions one after another on one fresh file, in pieces of a size, and gives the disk back.
@@ -120,18 +110,17 @@ pub fn serve_chain(
     k: &str,
     cases: &[Case],
     piece: usize,
-) -> Result<MemDisk, Fail> {
-    let mut disk = formatted(alloc, k)?;
+) -> MemDisk {
+    let mut disk = got(rt, formatted(alloc, k));
     for case in cases {
-        disk = try_case(rt, alloc, disk, case, piece)?;
+        disk = try_case(rt, alloc, disk, case, piece);
     }
-    Ok(disk)
+    disk
 }
 
 /// Serves the sessions one after another on one fresh file, in each size of pieces.
-pub fn try_chain(rt: &impl Abort, alloc: Global, k: &str, cases: &[Case]) -> Result<(), Fail> {
+pub fn try_chain(rt: &impl Abort, alloc: Global, k: &str, cases: &[Case]) {
     for piece in PIECES {
-        serve_chain(rt, alloc, k, cases, *piece)?;
+        serve_chain(rt, alloc, k, cases, *piece);
     }
-    Ok(())
 }

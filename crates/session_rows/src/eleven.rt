@@ -4,7 +4,6 @@ use crate::cases::{Case, Left, cases, serve_chain, try_chain};
 use crate::hundreds::{data_hundred, put_hundred};
 use row_vectors::Outcome;
 use row_vectors::inputs::{KEPT, OK};
-use std::test::Fail;
 
 const O1: &str = put_hundred!("o1", "1111111111");
 
@@ -41,8 +40,8 @@ const CHECKPOINTS: &[Case] = &cases! {
 };
 
 #[test]
-fn saves_five_checkpoints_in_one_flush(rt: HostRuntime) -> Result<(), Fail> {
-    try_chain(&rt, rt.alloc(), "9", CHECKPOINTS)
+fn saves_five_checkpoints_in_one_flush(rt: HostRuntime) {
+    try_chain(&rt, rt.alloc(), "9", CHECKPOINTS);
 }
 
 /// The eleven puts in two sessions.
@@ -60,8 +59,7 @@ const ELEVEN_MAP: &str =
     object o7 600 100\nobject o8 700 100\nobject o9 800 100\n";
 
 #[test]
-fn lays_the_eleven_one_behind_the_other(rt: HostRuntime) -> Result<(), Fail> {
-    let disk = serve_chain(&rt, rt.alloc(), "9", ELEVEN, 7)?;
-    try_told(&rt, rt.alloc(), disk, MAP, ELEVEN_MAP, &"map")?;
-    Ok(())
+fn lays_the_eleven_one_behind_the_other(rt: HostRuntime) {
+    let disk = serve_chain(&rt, rt.alloc(), "9", ELEVEN, 7);
+    try_told(&rt, rt.alloc(), disk, MAP, ELEVEN_MAP, &"map");
 }

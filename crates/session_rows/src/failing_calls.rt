@@ -1,5 +1,5 @@
 //! A put that flushes, of whose 23 changing calls one fails, and what its file then opens to.
-use crate::answers::{CHECK, serve_parts, try_number, try_ran, try_told};
+use crate::answers::{CHECK, got, serve_parts, try_number, try_ran, try_told};
 use crate::opened_maps::{Map, ONE, THREE, try_map};
 use disk_face::Disk;
 use disk_mem::{Fuse, MemDisk};
@@ -8,7 +8,6 @@ use row_vectors::inputs::{KEPT, OK, PUT_A, PUT_B, PUT_C};
 use row_vectors::runs::formatted;
 use std::alloc::Global;
 use std::process::Abort;
-use std::test::Fail;
 
 /// The failing calls of some numbers, both bounds included: what `check` puts of the file, how many changing
 /// calls an opening makes, what `check` puts then, and the map that the file has.
@@ -50,28 +49,28 @@ const OUTCOME: Outcome = Outcome {
 };
 
 /// A fresh file in a fuse that fails the call of a number of the flush. The puts before make 13 calls.
-fn fused(alloc: Global, number: u64) -> Result<Fuse<MemDisk>, Fail> {
-    let fails = vec![in alloc; number.saturating_add(13)]?;
-    let disk = formatted(alloc, "9")?;
-    Ok(Fuse::listed(disk, fails, Vec::new(alloc)))
+fn fused(rt: &impl Abort, alloc: Global, number: u64) -> Fuse<MemDisk> {
+    let fails = vec![in alloc; number.saturating_add(13)].expect(rt, "memory");
+    let disk = got(rt, formatted(alloc, "9"));
+    Fuse::listed(disk, fails, Vec::new(alloc))
 }
 
 /// Serves the session, whose call of a number fails. The disk inside is given back.
-fn failed(rt: &impl Abort, alloc: Global, number: u64) -> Result<MemDisk, Fail> {
-    let fuse = fused(alloc, number)?;
-    let ran = serve_parts(alloc, fuse, INPUT, 7)?;
-    try_ran(rt, alloc, &ran, PUTS, OUTCOME, &number)?;
-    Ok(ran.disk.into_inner())
+fn failed(rt: &impl Abort, alloc: Global, number: u64) -> MemDisk {
+    let fuse = fused(rt, alloc, number);
+    let ran = serve_parts(rt, alloc, fuse, INPUT, 7);
+    try_ran(rt, alloc, &ran, PUTS, OUTCOME, &number);
+    ran.disk.into_inner()
 }
 
 /// What is left where the call of a number fails.
-fn try_call(rt: &impl Abort, alloc: Global, number: u64, row: &Row) -> Result<(), Fail> {
-    let disk = failed(rt, alloc, number)?;
+fn try_call(rt: &impl Abort, alloc: Global, number: u64, row: &Row) {
+    let disk = failed(rt, alloc, number);
     // No call follows the failed one, which the disk inside doesn't see: 10 of the format, 13, and those
     // before it.
     let made = number.saturating_add(22);
     try_number(rt, disk.turns(), made, &number);
-    let disk = try_told(rt, alloc, disk, CHECK, row.stopped, &number)?;
+    let disk = try_told(rt, alloc, disk, CHECK, row.stopped, &number);
     try_opened(
         rt,
         alloc,
@@ -79,38 +78,28 @@ fn try_call(rt: &impl Abort, alloc: Global, number: u64, row: &Row) -> Result<()
         made.saturating_add(row.opening),
         number,
         row,
-    )
+    );
 }
 
 /// What the file then opens to, once so many calls were made.
-fn try_opened(
-    rt: &impl Abort,
-    alloc: Global,
-    disk: MemDisk,
-    made: u64,
-    number: u64,
-    row: &Row,
-) -> Result<(), Fail> {
-    let disk = try_map(rt, alloc, disk, &row.map, &number)?;
+fn try_opened(rt: &impl Abort, alloc: Global, disk: MemDisk, made: u64, number: u64, row: &Row) {
+    let disk = try_map(rt, alloc, disk, &row.map, &number);
     try_number(rt, disk.turns(), made, &number);
-    try_told(rt, alloc, disk, CHECK, row.opened, &number)?;
-    Ok(())
+    try_told(rt, alloc, disk, CHECK, row.opened, &number);
 }
 
 /// The failing calls of a row.
-fn try_row(rt: &impl Abort, alloc: Global, row: &Row) -> Result<(), Fail> {
+fn try_row(rt: &impl Abort, alloc: Global, row: &Row) {
     for number in row.first..=row.last {
-        try_call(rt, alloc, number, row)?;
+        try_call(rt, alloc, number, row);
     }
-    Ok(())
 }
 
 /// The rows of a table.
-fn try_rows(rt: &impl Abort, alloc: Global, rows: &[Row]) -> Result<(), Fail> {
+fn try_rows(rt: &impl Abort, alloc: Global, rows: &[Row]) {
     for row in rows {
-        try_row(rt, alloc, row)?;
+        try_row(rt, alloc, row);
     }
-    Ok(())
 }
 
 /// The first call lengthens the file, and the tenth opens the gate of the first save.
@@ -120,8 +109,8 @@ const BEFORE: &[Row] = &rows! {
 };
 
 #[test]
-fn has_the_map_before_where_a_call_up_to_the_gate_fails(rt: HostRuntime) -> Result<(), Fail> {
-    try_rows(&rt, rt.alloc(), BEFORE)
+fn has_the_map_before_where_a_call_up_to_the_gate_fails(rt: HostRuntime) {
+    try_rows(&rt, rt.alloc(), BEFORE);
 }
 
 /// The twentieth call opens the gate of the second save, which the next one syncs. Then the file is cut, and
@@ -133,6 +122,6 @@ const AFTER: &[Row] = &rows! {
 };
 
 #[test]
-fn has_the_new_map_where_a_later_call_fails(rt: HostRuntime) -> Result<(), Fail> {
-    try_rows(&rt, rt.alloc(), AFTER)
+fn has_the_new_map_where_a_later_call_fails(rt: HostRuntime) {
+    try_rows(&rt, rt.alloc(), AFTER);
 }

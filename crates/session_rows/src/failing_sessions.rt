@@ -1,5 +1,5 @@
 //! Sessions whose disk, input or output fails at one call.
-use crate::answers::{serve_parts, try_holds, try_number, try_ran};
+use crate::answers::{got, serve_parts, try_holds, try_number, try_ran};
 use crate::cases::{Case, Left, PIECES, try_case, try_file};
 use disk_face::Disk;
 use disk_mem::{Choice, Fuse, MemDisk, MemSource};
@@ -8,7 +8,6 @@ use row_vectors::inputs::{DATA_A, KEPT, OK, PUT_A, PUT_B, PUT_C};
 use row_vectors::runs::{Ran, formatted, run_with, session};
 use std::alloc::Global;
 use std::process::Abort;
-use std::test::Fail;
 
 /// The put of 5 bytes begins after 13 calls of the session; its fifth closes the gate of the slot that isn't
 /// in use. The failed one is no call of the disk inside, which so has made 17.
@@ -46,48 +45,50 @@ const OPENED: &Case = &Case {
 };
 
 /// Serves the session on a fresh file in a fuse, of which that call fails, and gives the disk inside back.
-fn try_failing(
-    rt: &impl Abort,
-    alloc: Global,
-    fuse: Fuse<MemDisk>,
-    piece: usize,
-) -> Result<MemDisk, Fail> {
-    let ran = serve_parts(alloc, fuse, FAILING.input, piece)?;
+fn try_failing(rt: &impl Abort, alloc: Global, fuse: Fuse<MemDisk>, piece: usize) -> MemDisk {
+    let ran = serve_parts(rt, alloc, fuse, FAILING.input, piece);
     let made = FAILING.left.calls.saturating_add(10);
     try_number(rt, ran.disk.turns(), made.saturating_add(1), &"fuse");
-    try_ran(rt, alloc, &ran, FAILING.puts, FAILING.outcome, &piece)?;
+    try_ran(rt, alloc, &ran, FAILING.puts, FAILING.outcome, &piece);
     let disk = ran.disk.into_inner();
     try_number(rt, disk.turns(), made, &"disk");
     try_file(rt, alloc, disk, &FAILING.left)
 }
 
 /// Both sessions.
-fn try_both(rt: &impl Abort, alloc: Global, piece: usize) -> Result<(), Fail> {
-    let disk = formatted(alloc, "9")?;
-    let fuse = Fuse::listed(disk, vec![in alloc; 18]?, Vec::new(alloc));
-    let disk = try_failing(rt, alloc, fuse, piece)?;
-    try_case(rt, alloc, disk, OPENED, piece)?;
-    Ok(())
+fn try_both(rt: &impl Abort, alloc: Global, piece: usize) {
+    let disk = got(rt, formatted(alloc, "9"));
+    let fuse = Fuse::listed(
+        disk,
+        vec![in alloc; 18].expect(rt, "memory"),
+        Vec::new(alloc),
+    );
+    let disk = try_failing(rt, alloc, fuse, piece);
+    try_case(rt, alloc, disk, OPENED, piece);
 }
 
 #[test]
-fn ends_at_a_failing_call_and_opens_again(rt: HostRuntime) -> Result<(), Fail> {
+fn ends_at_a_failing_call_and_opens_again(rt: HostRuntime) {
     for piece in PIECES {
-        try_both(&rt, rt.alloc(), *piece)?;
+        try_both(&rt, rt.alloc(), *piece);
     }
-    Ok(())
 }
 
 /// A session that reads the one object of a file, over a fuse that fails one read.
 fn read_failing(
+    rt: &impl Abort,
     alloc: Global,
     file: &[u8],
     number: u64,
     piece: usize,
-) -> Result<Ran<Fuse<MemDisk>>, Fail> {
-    let disk = MemDisk::from_bytes(alloc, file)?;
-    let fuse = Fuse::listed(disk, Vec::new(alloc), vec![in alloc; number]?);
-    session(alloc, fuse, b"get a\n", piece)
+) -> Ran<Fuse<MemDisk>> {
+    let disk = MemDisk::from_bytes(alloc, file).expect(rt, "memory");
+    let fuse = Fuse::listed(
+        disk,
+        Vec::new(alloc),
+        vec![in alloc; number].expect(rt, "memory"),
+    );
+    got(rt, session(alloc, fuse, b"get a\n", piece))
 }
 
 /// Whether bytes are a front of the reply and then the fault line.
@@ -116,67 +117,58 @@ fn try_read(rt: &impl Abort, ran: Ran<Fuse<MemDisk>>, number: u64) -> bool {
 
 /// A session of each number of the read that fails. Those of an opening and of the object fail, the others
 /// are none of the session.
-fn try_reads(rt: &impl Abort, alloc: Global, file: &[u8], piece: usize) -> Result<(), Fail> {
+fn try_reads(rt: &impl Abort, alloc: Global, file: &[u8], piece: usize) {
     let mut last = 0u64;
     for number in 1..40 {
-        let ran = read_failing(alloc, file, number, piece)?;
+        let ran = read_failing(rt, alloc, file, number, piece);
         if try_read(rt, ran, number) {
             try_number(rt, number, last.saturating_add(1), &"failed");
             last = number;
         }
     }
     try_holds(rt, 1 < last && last < 39, &last);
-    Ok(())
 }
 
 /// A file with one object.
-fn one_object(alloc: Global) -> Result<Vec<u8>, Fail> {
-    let disk = formatted(alloc, "9")?;
-    let put = session(alloc, disk, PUT_A.as_bytes(), 7)?;
+fn one_object(rt: &impl Abort, alloc: Global) -> Vec<u8> {
+    let disk = got(rt, formatted(alloc, "9"));
+    let put = got(rt, session(alloc, disk, PUT_A.as_bytes(), 7));
     let turn = put.disk.turns();
-    Ok(put.disk.image(turn, Choice::Newest)?)
+    put.disk.image(turn, Choice::Newest).expect(rt, "memory")
 }
 
 #[test]
-fn puts_a_front_of_a_reply_whose_read_fails(rt: HostRuntime) -> Result<(), Fail> {
-    let file = one_object(rt.alloc())?;
+fn puts_a_front_of_a_reply_whose_read_fails(rt: HostRuntime) {
+    let file = one_object(&rt, rt.alloc());
     for piece in PIECES {
-        try_reads(&rt, rt.alloc(), &file, *piece)?;
+        try_reads(&rt, rt.alloc(), &file, *piece);
     }
-    Ok(())
 }
 
 /// A session on a fresh file whose source or sink fails the listed calls.
 fn failing_streams(
+    rt: &impl Abort,
     alloc: Global,
     piece: usize,
     takes: Vec<u64>,
     puts: Vec<u64>,
-) -> Result<Ran<MemDisk>, Fail> {
-    let disk = formatted(alloc, "9")?;
-    if piece == 0 {
-        return Err("pieces of some bytes")?;
-    }
-    let input = b"put y 0\n\n".to_vec(alloc)?;
+) -> Ran<MemDisk> {
+    let disk = got(rt, formatted(alloc, "9"));
+    assert!(rt; piece > 0);
+    let input = b"put y 0\n\n".to_vec(alloc).expect(rt, "memory");
     let source = MemSource::new(input, piece, takes);
-    run_with(alloc, &["run", "f"], true, disk, source, puts)
+    got(rt, run_with(alloc, &["run", "f"], true, disk, source, puts))
 }
 
 /// The fresh file, as that session leaves it.
-const FRESH: Left = Left {
+const FRESH: &Left = &Left {
     calls: 0,
     length: 19_603,
     check: "store 9 16 0 0 0 1 still\n",
 };
 
 /// What such a session puts, its status, and that it changes nothing.
-fn try_streams(
-    rt: &impl Abort,
-    alloc: Global,
-    ran: Ran<MemDisk>,
-    status: u8,
-    puts: &[&str],
-) -> Result<(), Fail> {
+fn try_streams(rt: &impl Abort, alloc: Global, ran: Ran<MemDisk>, status: u8, puts: &[&str]) {
     let outcome = Outcome {
         status,
         done: 0,
@@ -184,38 +176,47 @@ fn try_streams(
         kept_turn: 10,
     };
     try_number(rt, ran.disk.turns(), 10, &status);
-    try_ran(rt, alloc, &ran, puts, outcome, &status)?;
-    try_file(rt, alloc, ran.disk, &FRESH)?;
-    Ok(())
+    try_ran(rt, alloc, &ran, puts, outcome, &status);
+    try_file(rt, alloc, ran.disk, FRESH);
 }
 
 /// What is put then.
 const SOURCE_FAULT: &[&str] = &["fault source\n"];
 
 /// The source fails.
-fn try_source(rt: &impl Abort, alloc: Global, piece: usize) -> Result<(), Fail> {
-    let ran = failing_streams(alloc, piece, vec![in alloc; 1]?, Vec::new(alloc))?;
-    try_streams(rt, alloc, ran, 8, SOURCE_FAULT)
+fn try_source(rt: &impl Abort, alloc: Global, piece: usize) {
+    let ran = failing_streams(
+        rt,
+        alloc,
+        piece,
+        vec![in alloc; 1].expect(rt, "memory"),
+        Vec::new(alloc),
+    );
+    try_streams(rt, alloc, ran, 8, SOURCE_FAULT);
 }
 
 #[test]
-fn says_that_the_input_failed(rt: HostRuntime) -> Result<(), Fail> {
+fn says_that_the_input_failed(rt: HostRuntime) {
     for piece in PIECES {
-        try_source(&rt, rt.alloc(), *piece)?;
+        try_source(&rt, rt.alloc(), *piece);
     }
-    Ok(())
 }
 
 /// The sink fails.
-fn try_sink(rt: &impl Abort, alloc: Global, piece: usize) -> Result<(), Fail> {
-    let ran = failing_streams(alloc, piece, Vec::new(alloc), vec![in alloc; 1]?)?;
-    try_streams(rt, alloc, ran, 9, &[])
+fn try_sink(rt: &impl Abort, alloc: Global, piece: usize) {
+    let ran = failing_streams(
+        rt,
+        alloc,
+        piece,
+        Vec::new(alloc),
+        vec![in alloc; 1].expect(rt, "memory"),
+    );
+    try_streams(rt, alloc, ran, 9, &[]);
 }
 
 #[test]
-fn says_that_the_output_failed(rt: HostRuntime) -> Result<(), Fail> {
+fn says_that_the_output_failed(rt: HostRuntime) {
     for piece in PIECES {
-        try_sink(&rt, rt.alloc(), *piece)?;
+        try_sink(&rt, rt.alloc(), *piece);
     }
-    Ok(())
 }

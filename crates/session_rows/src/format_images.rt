@@ -1,11 +1,10 @@
 //! A format: what a crash leaves of it at each turn.
-use crate::answers::{try_bytes, try_number};
+use crate::answers::{got, try_bytes, try_number};
 use crate::images::{image_at, try_check};
 use disk_mem::{Choice, MemDisk};
 use row_vectors::runs::{formatted, run};
 use std::alloc::Global;
 use std::process::Abort;
-use std::test::Fail;
 
 /// What `check` puts of the images of a turn: of what the last sync left, of what reads give, and of these
 /// torn with a byte that opens no gate, or with that of an open gate.
@@ -39,39 +38,26 @@ const UNFORMATTED: &str = "fault store slot 2\n";
 const STORE: &str = "store 9 16 0 0 0 1 still\n";
 
 /// `get` of a name puts of an image the same refusal as `check`, or that the store hasn't the name.
-fn try_get(
-    rt: &impl Abort,
-    alloc: Global,
-    image: &[u8],
-    puts: &str,
-    at: (u64, Choice),
-) -> Result<(), Fail> {
-    let (status, got) = if puts == STORE {
+fn try_get(rt: &impl Abort, alloc: Global, image: &[u8], puts: &str, at: (u64, Choice)) {
+    let (status, line) = if puts == STORE {
         (6, "fault missing\n")
     } else {
         (4, puts)
     };
-    let ran = run(alloc, GET, image)?;
-    try_bytes(rt, &ran.put, got.as_bytes(), &at);
+    let ran = got(rt, run(alloc, GET, image));
+    try_bytes(rt, &ran.put, line.as_bytes(), &at);
     try_number(rt, ran.outcome.status as u64, status, &at);
-    Ok(())
 }
 
 /// The words of that command.
 const GET: &[&str] = &["get", "f", "a"];
 
 /// `check` of an image puts this, and `get` what follows of it.
-fn try_image(
-    rt: &impl Abort,
-    alloc: Global,
-    disk: &MemDisk,
-    puts: &str,
-    at: (u64, Choice),
-) -> Result<(), Fail> {
+fn try_image(rt: &impl Abort, alloc: Global, disk: &MemDisk, puts: &str, at: (u64, Choice)) {
     let status = if puts == STORE { 0 } else { 4 };
-    let image = image_at(rt, disk, at.0, at.1)?;
-    try_check(rt, alloc, &image, status, puts, at)?;
-    try_get(rt, alloc, &image, puts, at)
+    let image = image_at(rt, disk, at.0, at.1);
+    try_check(rt, alloc, &image, status, puts, at);
+    try_get(rt, alloc, &image, puts, at);
 }
 
 /// What the last sync left, what reads give, and these torn.
@@ -95,12 +81,11 @@ fn puts_of(row: &Row, choice: Choice) -> &'static str {
 }
 
 /// The images of a turn.
-fn try_row(rt: &impl Abort, alloc: Global, disk: &MemDisk, row: &Row) -> Result<(), Fail> {
+fn try_row(rt: &impl Abort, alloc: Global, disk: &MemDisk, row: &Row) {
     for choice in CHOICES {
         let puts = puts_of(row, *choice);
-        try_image(rt, alloc, disk, puts, (row.turn, *choice))?;
+        try_image(rt, alloc, disk, puts, (row.turn, *choice));
     }
-    Ok(())
 }
 
 /// The turns of a format.
@@ -119,10 +104,9 @@ const ROWS: &[Row] = &rows! {
 };
 
 #[test]
-fn leaves_no_store_or_the_empty_one(rt: HostRuntime) -> Result<(), Fail> {
-    let disk = formatted(rt.alloc(), "9")?;
+fn leaves_no_store_or_the_empty_one(rt: HostRuntime) {
+    let disk = got(&rt, formatted(rt.alloc(), "9"));
     for row in ROWS {
-        try_row(&rt, rt.alloc(), &disk, row)?;
+        try_row(&rt, rt.alloc(), &disk, row);
     }
-    Ok(())
 }

@@ -1,5 +1,5 @@
 //! Sessions over the hand-made file, also where its sequence is worn.
-use crate::answers::{try_bytes, try_number, try_outcome};
+use crate::answers::{got, try_bytes, try_number, try_outcome};
 use crate::cases::PIECES;
 use disk_face::Disk;
 use row_vectors::Outcome;
@@ -7,7 +7,6 @@ use row_vectors::images::{Change, disk};
 use row_vectors::runs::session;
 use std::alloc::Global;
 use std::process::Abort;
-use std::test::Fail;
 
 /// Changes of the file, an input, what is put, and the status and how many requests are answered.
 #[derive(Clone, Copy)]
@@ -39,27 +38,24 @@ const ROWS: &[Row] = &rows! {
 };
 
 /// Serves a session, which changes nothing.
-fn try_row(rt: &impl Abort, alloc: Global, row: &Row, piece: usize) -> Result<(), Fail> {
-    let file = disk(alloc, 19_608, row.changes, &[])?;
-    let ran = session(alloc, file, row.input.as_bytes(), piece)?;
+fn try_row(rt: &impl Abort, alloc: Global, row: &Row, piece: usize) {
+    let file = got(rt, disk(alloc, 19_608, row.changes, &[]));
+    let ran = got(rt, session(alloc, file, row.input.as_bytes(), piece));
     try_bytes(rt, &ran.put, row.puts.as_bytes(), &row.puts);
     try_outcome(rt, ran.outcome, row.outcome, &row.puts);
     try_number(rt, ran.disk.turns(), 0, &row.puts);
-    Ok(())
 }
 
 /// Serves the sessions in pieces of a size.
-fn try_rows(rt: &impl Abort, alloc: Global, piece: usize) -> Result<(), Fail> {
+fn try_rows(rt: &impl Abort, alloc: Global, piece: usize) {
     for row in ROWS {
-        try_row(rt, alloc, row, piece)?;
+        try_row(rt, alloc, row, piece);
     }
-    Ok(())
 }
 
 #[test]
-fn refuses_changes_of_a_worn_file(rt: HostRuntime) -> Result<(), Fail> {
+fn refuses_changes_of_a_worn_file(rt: HostRuntime) {
     for piece in PIECES {
-        try_rows(&rt, rt.alloc(), *piece)?;
+        try_rows(&rt, rt.alloc(), *piece);
     }
-    Ok(())
 }

@@ -1,11 +1,10 @@
 //! Images of a disk, and what the program makes of each.
-use crate::answers::{CHECK, try_bytes, try_number};
+use crate::answers::{CHECK, got, try_bytes, try_number};
 use disk_face::Disk;
 use disk_mem::{Choice, MemDisk};
 use row_vectors::runs::run;
 use std::alloc::Global;
 use std::process::Abort;
-use std::test::Fail;
 
 /// What the last sync left, what reads give, and these with one value in each byte that isn't synced or
 /// that the next call writes.
@@ -18,14 +17,9 @@ pub const CHOICES: &[Choice] = &[
 ];
 
 /// The image of a turn.
-pub fn image_at(
-    rt: &impl Abort,
-    disk: &MemDisk,
-    turn: u64,
-    choice: Choice,
-) -> Result<Vec<u8>, Fail> {
+pub fn image_at(rt: &impl Abort, disk: &MemDisk, turn: u64, choice: Choice) -> Vec<u8> {
     assert!(rt; turn <= disk.turns());
-    Ok(disk.image(turn, choice)?)
+    disk.image(turn, choice).expect(rt, "memory")
 }
 
 /// What `check f` puts of a file, by its status. It changes nothing.
@@ -36,10 +30,9 @@ pub fn try_check(
     status: u8,
     puts: &str,
     at: (u64, Choice),
-) -> Result<(), Fail> {
-    let ran = run(alloc, CHECK, file)?;
+) {
+    let ran = got(rt, run(alloc, CHECK, file));
     try_bytes(rt, &ran.put, puts.as_bytes(), &at);
     try_number(rt, ran.outcome.status as u64, status as u64, &at);
     try_number(rt, ran.disk.turns(), 0, &at);
-    Ok(())
 }

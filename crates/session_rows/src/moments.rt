@@ -1,5 +1,5 @@
 //! What a crash leaves at each turn of a session: what `check` puts, and a session that goes on from it.
-use crate::answers::{try_number, try_ran};
+use crate::answers::{got, try_number, try_ran};
 use crate::further_puts::FURTHER;
 use crate::images::{CHOICES, image_at, try_check};
 use disk_face::Disk;
@@ -8,7 +8,6 @@ use row_vectors::Outcome;
 use row_vectors::runs::{Ran, session};
 use std::alloc::Global;
 use std::process::Abort;
-use std::test::Fail;
 
 /// A checkpoint that a file stands for, from a turn on.
 #[derive(Clone, Copy)]
@@ -50,14 +49,14 @@ fn seen_at(turn: u64, choice: Choice) -> u64 {
 }
 
 /// The last checkpoint up to a turn.
-fn stage_at(story: &Story, seen: u64) -> Result<Stage, Fail> {
+fn stage_at(rt: &impl Abort, story: &Story, seen: u64) -> Stage {
     let mut last = None;
     for stage in story.stages {
         if stage.from <= seen {
             last = Some(*stage);
         }
     }
-    Ok(last.ok_or("a turn at which there is a store")?)
+    last.expect(rt, "a turn at which there is a store")
 }
 
 /// The last number of a list of which the turn has come.
@@ -80,42 +79,29 @@ fn data_of(story: &Story, turn: u64, choice: Choice) -> u64 {
 }
 
 /// An image of a turn.
-fn try_moment(
-    rt: &impl Abort,
-    alloc: Global,
-    disk: &MemDisk,
-    story: &Story,
-    at: (u64, Choice),
-) -> Result<(), Fail> {
-    let stage = stage_at(story, seen_at(at.0, at.1))?;
+fn try_moment(rt: &impl Abort, alloc: Global, disk: &MemDisk, story: &Story, at: (u64, Choice)) {
+    let stage = stage_at(rt, story, seen_at(at.0, at.1));
     let data = data_of(story, at.0, at.1);
-    let image = image_at(rt, disk, at.0, at.1)?;
-    try_image(rt, alloc, &image, &stage, data, at)
+    let image = image_at(rt, disk, at.0, at.1);
+    try_image(rt, alloc, &image, &stage, data, at);
 }
 
 /// The images of a turn.
-fn try_turn(
-    rt: &impl Abort,
-    alloc: Global,
-    disk: &MemDisk,
-    story: &Story,
-    turn: u64,
-) -> Result<(), Fail> {
+fn try_turn(rt: &impl Abort, alloc: Global, disk: &MemDisk, story: &Story, turn: u64) {
     for choice in CHOICES {
-        try_moment(rt, alloc, disk, story, (turn, *choice))?;
+        try_moment(rt, alloc, disk, story, (turn, *choice));
     }
-    Ok(())
 }
 
 /// What `check` puts of a checkpoint in a data part of some length.
-fn line_of(alloc: Global, stage: &Stage, data: u64) -> Result<String, Fail> {
+fn line_of(rt: &impl Abort, alloc: Global, stage: &Stage, data: u64) -> String {
     let Stage {
         counts,
         sequence,
         kind,
         ..
     } = *stage;
-    Ok(format!(in alloc; "store 9 16 {counts} {data} {sequence} {kind}\n")?)
+    format!(in alloc; "store 9 16 {counts} {data} {sequence} {kind}\n").expect(rt, "memory")
 }
 
 /// One image, whose data part is so long.
@@ -126,11 +112,11 @@ fn try_image(
     stage: &Stage,
     data: u64,
     at: (u64, Choice),
-) -> Result<(), Fail> {
-    let line = line_of(alloc, stage, data)?;
-    try_check(rt, alloc, image, 0, &line, at)?;
+) {
+    let line = line_of(rt, alloc, stage, data);
+    try_check(rt, alloc, image, 0, &line, at);
     let turn = calls_to_open(stage, data).saturating_add(stage.calls);
-    try_further(rt, alloc, image, stage, turn, at)
+    try_further(rt, alloc, image, stage, turn, at);
 }
 
 /// How many changing calls an opening makes. A file that is longer than its layout is cut in 2.
@@ -143,9 +129,9 @@ fn calls_to_open(stage: &Stage, data: u64) -> u64 {
 }
 
 /// The session that goes on from an image.
-fn further(alloc: Global, image: &[u8]) -> Result<Ran<MemDisk>, Fail> {
-    let disk = MemDisk::from_bytes(alloc, image)?;
-    session(alloc, disk, FURTHER.as_bytes(), 7)
+fn further(rt: &impl Abort, alloc: Global, image: &[u8]) -> Ran<MemDisk> {
+    let disk = MemDisk::from_bytes(alloc, image).expect(rt, "memory");
+    got(rt, session(alloc, disk, FURTHER.as_bytes(), 7))
 }
 
 /// What that session puts, that its last call was the checkpoint's, at a turn, and what the file durably is
@@ -157,8 +143,8 @@ fn try_further(
     stage: &Stage,
     turn: u64,
     at: (u64, Choice),
-) -> Result<(), Fail> {
-    let ran = further(alloc, image)?;
+) {
+    let ran = further(rt, alloc, image);
     let outcome = Outcome {
         status: 0,
         done: 8,
@@ -166,8 +152,8 @@ fn try_further(
         kept_turn: turn,
     };
     try_number(rt, ran.disk.turns(), turn, &at);
-    try_ran(rt, alloc, &ran, stage.puts, outcome, &at)?;
-    try_kept(rt, alloc, &ran.disk, turn, stage.after, at)
+    try_ran(rt, alloc, &ran, stage.puts, outcome, &at);
+    try_kept(rt, alloc, &ran.disk, turn, stage.after, at);
 }
 
 /// What `check` puts of what a disk durably is at a turn.
@@ -178,21 +164,14 @@ pub fn try_kept(
     turn: u64,
     puts: &str,
     at: (u64, Choice),
-) -> Result<(), Fail> {
-    let kept = image_at(rt, disk, turn, Choice::Durable)?;
-    try_check(rt, alloc, &kept, 0, puts, at)
+) {
+    let kept = image_at(rt, disk, turn, Choice::Durable);
+    try_check(rt, alloc, &kept, 0, puts, at);
 }
 
 /// The images of the turns of a session from one to before another.
-pub fn try_turns(
-    rt: &impl Abort,
-    alloc: Global,
-    disk: &MemDisk,
-    story: &Story,
-    turns: (u64, u64),
-) -> Result<(), Fail> {
+pub fn try_turns(rt: &impl Abort, alloc: Global, disk: &MemDisk, story: &Story, turns: (u64, u64)) {
     for turn in turns.0..turns.1 {
-        try_turn(rt, alloc, disk, story, turn)?;
+        try_turn(rt, alloc, disk, story, turn);
     }
-    Ok(())
 }

@@ -1,5 +1,5 @@
 //! The maps that a file may open to, by what the program puts of each.
-use crate::answers::{MAP, try_ran, try_told};
+use crate::answers::{MAP, got, try_ran, try_told};
 use disk_face::Disk;
 use disk_mem::MemDisk;
 use row_vectors::Outcome;
@@ -8,7 +8,6 @@ use row_vectors::runs::session;
 use std::alloc::Global;
 use std::fmt::Debug;
 use std::process::Abort;
-use std::test::Fail;
 
 /// A further session of four requests, which reads all and changes nothing.
 const LOOK: &[u8] = b"list\nget a\nget b\nget c\n";
@@ -48,8 +47,8 @@ pub fn try_map(
     disk: MemDisk,
     map: &Map,
     row: &impl Debug,
-) -> Result<MemDisk, Fail> {
-    let ran = session(alloc, disk, LOOK, 7)?;
+) -> MemDisk {
+    let ran = got(rt, session(alloc, disk, LOOK, 7));
     // All calls were those of the opening.
     let outcome = Outcome {
         status: 0,
@@ -57,6 +56,6 @@ pub fn try_map(
         kept_done: 0,
         kept_turn: ran.disk.turns(),
     };
-    try_ran(rt, alloc, &ran, map.puts, outcome, row)?;
+    try_ran(rt, alloc, &ran, map.puts, outcome, row);
     try_told(rt, alloc, ran.disk, MAP, map.map, row)
 }

@@ -1,5 +1,5 @@
 //! A put of 10 bytes in place of 100: each image opens to the one or to the other.
-use crate::answers::{serve_parts, try_number, try_puts};
+use crate::answers::{got, serve_parts, try_number, try_puts};
 use crate::further_puts::{NONE, ONE, TEN};
 use crate::moments::{Stage, Story, try_turns};
 use disk_face::Disk;
@@ -8,7 +8,6 @@ use row_vectors::inputs::{KEPT, PUT_A};
 use row_vectors::runs::formatted;
 use std::alloc::Global;
 use std::process::Abort;
-use std::test::Fail;
 
 /// After a format of 10 calls, `a` of 100 bytes is put in 12, and `a` of 10 bytes in 20.
 const SESSION: &Story = &Story {
@@ -63,12 +62,12 @@ const SESSION: &Story = &Story {
 };
 
 /// The disk of that session.
-fn served(rt: &impl Abort, alloc: Global) -> Result<MemDisk, Fail> {
-    let disk = formatted(alloc, "9")?;
-    let ran = serve_parts(alloc, disk, REQUESTS, 7)?;
-    try_puts(rt, alloc, &ran.put, REPLIES, &"replies")?;
+fn served(rt: &impl Abort, alloc: Global) -> MemDisk {
+    let disk = got(rt, formatted(alloc, "9"));
+    let ran = serve_parts(rt, alloc, disk, REQUESTS, 7);
+    try_puts(rt, alloc, &ran.put, REPLIES, &"replies");
     try_number(rt, ran.disk.turns(), 42, &"turns");
-    Ok(ran.disk)
+    ran.disk
 }
 
 /// Its requests.
@@ -78,7 +77,7 @@ const REQUESTS: &[&str] = &[PUT_A, "put a 10\nabcdefghij\n"];
 const REPLIES: &[&str] = &[KEPT, KEPT];
 
 #[test]
-fn goes_on_from_each_turn_of_a_replacement(rt: HostRuntime) -> Result<(), Fail> {
-    let disk = served(&rt, rt.alloc())?;
-    try_turns(&rt, rt.alloc(), &disk, SESSION, (22, 43))
+fn goes_on_from_each_turn_of_a_replacement(rt: HostRuntime) {
+    let disk = served(&rt, rt.alloc());
+    try_turns(&rt, rt.alloc(), &disk, SESSION, (22, 43));
 }

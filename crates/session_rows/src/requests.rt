@@ -1,5 +1,5 @@
 //! A session of three puts and three removals, of which four flush: what a crash leaves at each turn.
-use crate::answers::{serve_parts, try_number, try_puts};
+use crate::answers::{got, serve_parts, try_number, try_puts};
 use crate::further_puts::{NONE, ONE, THREE};
 use crate::moments::{Stage, Story, try_turns};
 use disk_face::Disk;
@@ -8,7 +8,6 @@ use row_vectors::inputs::{KEPT, OK, PUT_A, PUT_B, PUT_C};
 use row_vectors::runs::formatted;
 use std::alloc::Global;
 use std::process::Abort;
-use std::test::Fail;
 
 /// After a format of 10 calls, `a` is put in 12, `b` in 1, `c` in 23, `b` is removed in none, `c` in 19 and
 /// `a` in 9.
@@ -123,41 +122,41 @@ const REQUESTS: &[&str] = &[PUT_A, PUT_B, PUT_C, "del b\n", "del c\n", "del a\n"
 const REPLIES: &[&str] = &[KEPT, OK, KEPT, OK, KEPT, KEPT];
 
 /// The disk of that session.
-pub fn served(rt: &impl Abort, alloc: Global) -> Result<MemDisk, Fail> {
-    let disk = formatted(alloc, "9")?;
-    let ran = serve_parts(alloc, disk, REQUESTS, 7)?;
-    try_puts(rt, alloc, &ran.put, REPLIES, &"replies")?;
+pub fn served(rt: &impl Abort, alloc: Global) -> MemDisk {
+    let disk = got(rt, formatted(alloc, "9"));
+    let ran = serve_parts(rt, alloc, disk, REQUESTS, 7);
+    try_puts(rt, alloc, &ran.put, REPLIES, &"replies");
     try_number(rt, ran.disk.turns(), 74, &"turns");
-    Ok(ran.disk)
+    ran.disk
 }
 
 /// The images of its turns from one to before another.
-fn try_session(rt: &impl Abort, alloc: Global, turns: (u64, u64)) -> Result<(), Fail> {
-    let disk = served(rt, alloc)?;
-    try_turns(rt, alloc, &disk, SESSION, turns)
+fn try_session(rt: &impl Abort, alloc: Global, turns: (u64, u64)) {
+    let disk = served(rt, alloc);
+    try_turns(rt, alloc, &disk, SESSION, turns);
 }
 
 #[test]
-fn goes_on_from_each_turn_of_a_first_put(rt: HostRuntime) -> Result<(), Fail> {
-    try_session(&rt, rt.alloc(), (10, 23))
+fn goes_on_from_each_turn_of_a_first_put(rt: HostRuntime) {
+    try_session(&rt, rt.alloc(), (10, 23));
 }
 
 #[test]
-fn goes_on_from_each_turn_of_a_put_in_a_buffer_and_of_a_flush(rt: HostRuntime) -> Result<(), Fail> {
-    try_session(&rt, rt.alloc(), (23, 36))
+fn goes_on_from_each_turn_of_a_put_in_a_buffer_and_of_a_flush(rt: HostRuntime) {
+    try_session(&rt, rt.alloc(), (23, 36));
 }
 
 #[test]
-fn goes_on_from_each_turn_of_the_rest_of_that_flush(rt: HostRuntime) -> Result<(), Fail> {
-    try_session(&rt, rt.alloc(), (36, 47))
+fn goes_on_from_each_turn_of_the_rest_of_that_flush(rt: HostRuntime) {
+    try_session(&rt, rt.alloc(), (36, 47));
 }
 
 #[test]
-fn goes_on_from_each_turn_of_removals(rt: HostRuntime) -> Result<(), Fail> {
-    try_session(&rt, rt.alloc(), (47, 65))
+fn goes_on_from_each_turn_of_removals(rt: HostRuntime) {
+    try_session(&rt, rt.alloc(), (47, 65));
 }
 
 #[test]
-fn goes_on_from_each_turn_of_a_last_removal(rt: HostRuntime) -> Result<(), Fail> {
-    try_session(&rt, rt.alloc(), (65, 75))
+fn goes_on_from_each_turn_of_a_last_removal(rt: HostRuntime) {
+    try_session(&rt, rt.alloc(), (65, 75));
 }

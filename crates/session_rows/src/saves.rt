@@ -1,5 +1,5 @@
 //! Saving a table of names, and every image that a crash may leave of it.
-use crate::answers::{try_bytes, try_holds, try_number};
+use crate::answers::{got, try_bytes, try_holds, try_number};
 use crate::images::{CHOICES, image_at};
 use disk_face::Disk;
 use disk_mem::{Choice, MemDisk};
@@ -9,7 +9,6 @@ use slot_codec::{HEADER_LEN, Header, Kind, Name, RECORD_LEN, read_header, read_r
 use slot_pair::SlotPair;
 use std::alloc::Global;
 use std::process::Abort;
-use std::test::Fail;
 
 /// The settled header of a table whose class 2 has a capacity of 5.
 const HEADER: &Header = &Header {
@@ -27,56 +26,49 @@ const HEADER: &Header = &Header {
 };
 
 /// Sets the spot of an object.
-fn set(rt: &impl Abort, table: &mut Table, name: &str, place: u64, size: u64) -> Result<(), Fail> {
-    let name = Name::new(name.as_bytes()).ok_or("a name")?;
+fn set(rt: &impl Abort, table: &mut Table, name: &str, place: u64, size: u64) {
+    let name = Name::new(name.as_bytes()).expect(rt, "a name");
     assert!(rt; table.room());
     assert!(rt; place < 1 << 48 && size < 1 << 48);
     table.set(&name, Spot { place, size });
-    Ok(())
 }
 
 /// A name of an object, its place and its size.
 type Object = (&'static str, u64, u64);
 
 /// A table with these objects, in a file with room for 16 names.
-fn table_of(rt: &impl Abort, alloc: Global, objects: &[Object]) -> Result<Table, Fail> {
-    let mut table = Table::with_room(alloc, 16)?;
+fn table_of(rt: &impl Abort, alloc: Global, objects: &[Object]) -> Table {
+    let mut table = Table::with_room(alloc, 16).expect(rt, "memory");
     for (name, place, size) in objects {
-        set(rt, &mut table, *name, *place, *size)?;
+        set(rt, &mut table, *name, *place, *size);
     }
-    Ok(table)
+    table
 }
 
 /// Saves a table on a disk that is a store, and answers the sequence.
-fn save(rt: &impl Abort, alloc: Global, disk: &mut MemDisk, table: &Table) -> Result<u64, Fail> {
-    let found = SlotPair::find(disk)?;
+fn save(rt: &impl Abort, alloc: Global, disk: &mut MemDisk, table: &Table) -> u64 {
+    let found = SlotPair::find(disk).expect(rt, "a store");
     let mut pair = SlotPair::of(&found);
-    let mut buf = vec![in alloc; 0u8; 40_960]?;
+    let mut buf = vec![in alloc; 0u8; 40_960].expect(rt, "memory");
     a_table_can_be_saved();
     assert!(rt; table.count() <= found.block.names);
     assert!(rt; pair.sequence() < 1 << 61);
-    Ok(pair.save(disk, HEADER, table, &mut buf)?)
+    pair.save(disk, HEADER, table, &mut buf)
+        .expect(rt, "a save")
 }
 
 /// Saves a table, with a sequence, and so many changing calls have ended then.
-fn try_save(
-    rt: &impl Abort,
-    alloc: Global,
-    disk: &mut MemDisk,
-    table: &Table,
-    left: (u64, u64),
-) -> Result<(), Fail> {
-    let sequence = save(rt, alloc, disk, table)?;
+fn try_save(rt: &impl Abort, alloc: Global, disk: &mut MemDisk, table: &Table, left: (u64, u64)) {
+    let sequence = save(rt, alloc, disk, table);
     try_number(rt, sequence, left.0, &"sequence");
     try_number(rt, disk.turns(), left.1, &"turns");
-    Ok(())
 }
 
 /// A store with room for 16 names.
-fn store(alloc: Global) -> Result<MemDisk, Fail> {
+fn store(rt: &impl Abort, alloc: Global) -> MemDisk {
     let mut disk = MemDisk::new(alloc);
-    SlotPair::format(&mut disk, 9, 16)?;
-    Ok(disk)
+    SlotPair::format(&mut disk, 9, 16).expect(rt, "a format");
+    disk
 }
 
 /// Saves a table of these objects.
@@ -86,64 +78,58 @@ fn try_objects(
     disk: &mut MemDisk,
     objects: &[Object],
     left: (u64, u64),
-) -> Result<(), Fail> {
-    let table = table_of(rt, alloc, objects)?;
-    try_save(rt, alloc, disk, &table, left)
+) {
+    let table = table_of(rt, alloc, objects);
+    try_save(rt, alloc, disk, &table, left);
 }
 
 /// `a` of 5 bytes.
 const ONE: &[Object] = &[("a", 0, 5)];
 
 #[test]
-fn saves_in_a_fixed_number_of_calls(rt: HostRuntime) -> Result<(), Fail> {
-    let mut disk = store(rt.alloc())?;
-    try_objects(&rt, rt.alloc(), &mut disk, &[], (2, 16))?;
-    try_objects(&rt, rt.alloc(), &mut disk, ONE, (3, 23))
+fn saves_in_a_fixed_number_of_calls(rt: HostRuntime) {
+    let mut disk = store(&rt, rt.alloc());
+    try_objects(&rt, rt.alloc(), &mut disk, &[], (2, 16));
+    try_objects(&rt, rt.alloc(), &mut disk, ONE, (3, 23));
 }
 
 /// Sets the object of a number.
-fn set_numbered(
-    rt: &impl Abort,
-    alloc: Global,
-    table: &mut Table,
-    number: u64,
-) -> Result<(), Fail> {
-    let name = format!(in alloc; "n{number}")?;
-    set(rt, table, &name, 0, 0)
+fn set_numbered(rt: &impl Abort, alloc: Global, table: &mut Table, number: u64) {
+    let name = format!(in alloc; "n{number}").expect(rt, "memory");
+    set(rt, table, &name, 0, 0);
 }
 
 /// A table with 513 objects, in a file with room for 1,024 names.
-fn many(rt: &impl Abort, alloc: Global) -> Result<Table, Fail> {
-    let mut table = Table::with_room(alloc, 1024)?;
+fn many(rt: &impl Abort, alloc: Global) -> Table {
+    let mut table = Table::with_room(alloc, 1024).expect(rt, "memory");
     for number in 0..513 {
-        set_numbered(rt, alloc, &mut table, number)?;
+        set_numbered(rt, alloc, &mut table, number);
     }
-    Ok(table)
+    table
 }
 
 #[test]
-fn saves_more_records_in_one_call_more(rt: HostRuntime) -> Result<(), Fail> {
+fn saves_more_records_in_one_call_more(rt: HostRuntime) {
     let mut disk = MemDisk::new(rt.alloc());
-    SlotPair::format(&mut disk, 9, 1024)?;
-    let table = many(&rt, rt.alloc())?;
-    try_save(&rt, rt.alloc(), &mut disk, &table, (2, 18))
+    SlotPair::format(&mut disk, 9, 1024).expect(&rt, "a format");
+    let table = many(&rt, rt.alloc());
+    try_save(&rt, rt.alloc(), &mut disk, &table, (2, 18));
 }
 
 /// Writes the object `a` = `hello` into the data part.
-fn write_hello(rt: &impl Abort, disk: &mut MemDisk) -> Result<(), Fail> {
-    disk.set_len(19608)?;
-    assert!(rt; disk.len()? == 19608);
-    disk.write_at(19603, b"hello")?;
-    Ok(())
+fn write_hello(rt: &impl Abort, disk: &mut MemDisk) {
+    disk.set_len(19608).expect(rt, "a length");
+    assert!(rt; disk.len().expect(rt, "a length") == 19608);
+    disk.write_at(19603, b"hello").expect(rt, "a write");
 }
 
 /// A store with that object, saved once; the save began after 12 calls.
-fn with_hello(rt: &impl Abort, alloc: Global) -> Result<MemDisk, Fail> {
-    let mut disk = store(alloc)?;
-    write_hello(rt, &mut disk)?;
-    let table = table_of(rt, alloc, ONE)?;
-    save(rt, alloc, &mut disk, &table)?;
-    Ok(disk)
+fn with_hello(rt: &impl Abort, alloc: Global) -> MemDisk {
+    let mut disk = store(rt, alloc);
+    write_hello(rt, &mut disk);
+    let table = table_of(rt, alloc, ONE);
+    save(rt, alloc, &mut disk, &table);
+    disk
 }
 
 /// Whether the status of a turn is right: 0 from the turn on at which the gate is open, and 6 up to its sync.
@@ -159,15 +145,9 @@ fn is_status_of(status: u8, turn: u64) -> bool {
 const GET: &[&str] = &["get", "f", "a"];
 
 /// `get` of an image of a turn of that save puts the object, or finds none.
-fn try_image(
-    rt: &impl Abort,
-    alloc: Global,
-    disk: &MemDisk,
-    turn: u64,
-    choice: Choice,
-) -> Result<(), Fail> {
-    let image = image_at(rt, disk, turn, choice)?;
-    let ran = run(alloc, GET, &image)?;
+fn try_image(rt: &impl Abort, alloc: Global, disk: &MemDisk, turn: u64, choice: Choice) {
+    let image = image_at(rt, disk, turn, choice);
+    let ran = got(rt, run(alloc, GET, &image));
     let status = ran.outcome.status;
     let puts = if status == 0 {
         "hello"
@@ -176,63 +156,53 @@ fn try_image(
     };
     try_bytes(rt, &ran.put, puts.as_bytes(), &turn);
     try_holds(rt, is_status_of(status, turn), &turn);
-    Ok(())
 }
 
 /// The images of a turn.
-fn try_turn(rt: &impl Abort, alloc: Global, disk: &MemDisk, turn: u64) -> Result<(), Fail> {
+fn try_turn(rt: &impl Abort, alloc: Global, disk: &MemDisk, turn: u64) {
     for choice in CHOICES {
-        try_image(rt, alloc, disk, turn, *choice)?;
+        try_image(rt, alloc, disk, turn, *choice);
     }
-    Ok(())
 }
 
 #[test]
-fn leaves_the_old_table_or_the_new_one(rt: HostRuntime) -> Result<(), Fail> {
-    let disk = with_hello(&rt, rt.alloc())?;
+fn leaves_the_old_table_or_the_new_one(rt: HostRuntime) {
+    let disk = with_hello(&rt, rt.alloc());
     try_number(&rt, disk.turns(), 19, &"turns");
     for turn in 12..20 {
-        try_turn(&rt, rt.alloc(), &disk, turn)?;
+        try_turn(&rt, rt.alloc(), &disk, turn);
     }
-    Ok(())
 }
 
 /// A record of a file of 19,603 bytes.
-fn try_record(
-    rt: &impl Abort,
-    disk: &mut MemDisk,
-    at: u64,
-    (name, place, size): Object,
-) -> Result<(), Fail> {
+fn try_record(rt: &impl Abort, disk: &mut MemDisk, at: u64, (name, place, size): Object) {
     let mut bytes = [0u8; RECORD_LEN];
-    assert!(rt; disk.len()? == 19603 && at < 19_000);
-    disk.read_at(at, &mut bytes)?;
-    let record = read_record(&bytes)?;
+    assert!(rt; disk.len().expect(rt, "a length") == 19603 && at < 19_000);
+    disk.read_at(at, &mut bytes).expect(rt, "a read");
+    let record = read_record(&bytes).expect(rt, "a record");
     try_bytes(rt, record.name.as_bytes(), name.as_bytes(), &at);
     try_number(rt, record.place, place, &name);
     try_number(rt, record.size, size, &name);
-    Ok(())
 }
 
 /// The header of the second slot of that file.
-fn try_header(rt: &impl Abort, disk: &mut MemDisk) -> Result<(), Fail> {
+fn try_header(rt: &impl Abort, disk: &mut MemDisk) {
     let mut bytes = [0u8; HEADER_LEN];
-    assert!(rt; disk.len()? == 19603);
-    disk.read_at(9833, &mut bytes)?;
-    let header = read_header(&bytes, 16)?;
+    assert!(rt; disk.len().expect(rt, "a length") == 19603);
+    disk.read_at(9833, &mut bytes).expect(rt, "a read");
+    let header = read_header(&bytes, 16).expect(rt, "a header");
     try_number(rt, header.sequence, 2, &"sequence");
     try_number(rt, header.count, 2, &"count");
-    Ok(())
 }
 
 /// `b` of 1 byte, and `a` of 10.
 const TWO: &[Object] = &[("b", 20, 1), ("a", 5, 10)];
 
 #[test]
-fn finds_the_records_of_a_table_again(rt: HostRuntime) -> Result<(), Fail> {
-    let mut disk = store(rt.alloc())?;
-    try_objects(&rt, rt.alloc(), &mut disk, TWO, (2, 17))?;
-    try_header(&rt, &mut disk)?;
-    try_record(&rt, &mut disk, 18321, ("a", 5, 10))?;
-    try_record(&rt, &mut disk, 18401, ("b", 20, 1))
+fn finds_the_records_of_a_table_again(rt: HostRuntime) {
+    let mut disk = store(&rt, rt.alloc());
+    try_objects(&rt, rt.alloc(), &mut disk, TWO, (2, 17));
+    try_header(&rt, &mut disk);
+    try_record(&rt, &mut disk, 18321, ("a", 5, 10));
+    try_record(&rt, &mut disk, 18401, ("b", 20, 1));
 }

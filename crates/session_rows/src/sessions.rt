@@ -3,7 +3,6 @@ use crate::cases::{Case, Left, cases, try_chain, try_each};
 use crate::hundreds::{data_hundred, put_hundred};
 use row_vectors::Outcome;
 use row_vectors::inputs::{DATA_A, DATA_B, KEPT, MISSING, OK, PUT_A, PUT_B, PUT_C};
-use std::test::Fail;
 
 /// Sessions on a fresh file, longer by a request from row to row.
 const GROWING: &[Case] = &cases! {
@@ -23,8 +22,8 @@ const GROWING: &[Case] = &cases! {
 };
 
 #[test]
-fn puts_and_removes_with_and_without_a_flush(rt: HostRuntime) -> Result<(), Fail> {
-    try_each(&rt, rt.alloc(), "9", GROWING)
+fn puts_and_removes_with_and_without_a_flush(rt: HostRuntime) {
+    try_each(&rt, rt.alloc(), "9", GROWING);
 }
 
 /// Sessions one after another on one file.
@@ -43,8 +42,8 @@ const OPENED_AGAIN: &[Case] = &cases! {
 };
 
 #[test]
-fn goes_on_from_the_last_checkpoint_when_it_is_opened_again(rt: HostRuntime) -> Result<(), Fail> {
-    try_chain(&rt, rt.alloc(), "9", OPENED_AGAIN)
+fn goes_on_from_the_last_checkpoint_when_it_is_opened_again(rt: HostRuntime) {
+    try_chain(&rt, rt.alloc(), "9", OPENED_AGAIN);
 }
 
 /// Sessions that put an object in place of another.
@@ -57,8 +56,8 @@ const REPLACING: &[Case] = &cases! {
 };
 
 #[test]
-fn replaces_an_object_with_a_flush(rt: HostRuntime) -> Result<(), Fail> {
-    try_each(&rt, rt.alloc(), "9", REPLACING)
+fn replaces_an_object_with_a_flush(rt: HostRuntime) {
+    try_each(&rt, rt.alloc(), "9", REPLACING);
 }
 
 /// Another put of 100 bytes.
@@ -75,8 +74,8 @@ const GOING_BACK: &[Case] = &cases! {
 };
 
 #[test]
-fn goes_back_to_what_was_kept(rt: HostRuntime) -> Result<(), Fail> {
-    try_each(&rt, rt.alloc(), "9", GOING_BACK)
+fn goes_back_to_what_was_kept(rt: HostRuntime) {
+    try_each(&rt, rt.alloc(), "9", GOING_BACK);
 }
 
 /// As many puts as there may be names, and their replies.
@@ -97,8 +96,8 @@ const WITHOUT_BYTES: &[Case] = &cases! {
 };
 
 #[test]
-fn serves_what_needs_no_space_without_a_call(rt: HostRuntime) -> Result<(), Fail> {
-    try_each(&rt, rt.alloc(), "9", WITHOUT_BYTES)
+fn serves_what_needs_no_space_without_a_call(rt: HostRuntime) {
+    try_each(&rt, rt.alloc(), "9", WITHOUT_BYTES);
 }
 
 /// Sessions one after another on one file with k = 2.
@@ -114,8 +113,8 @@ const LEAST_DIVISOR: &[Case] = &cases! {
 };
 
 #[test]
-fn flushes_at_the_least_divisor(rt: HostRuntime) -> Result<(), Fail> {
-    try_chain(&rt, rt.alloc(), "2", LEAST_DIVISOR)
+fn flushes_at_the_least_divisor(rt: HostRuntime) {
+    try_chain(&rt, rt.alloc(), "2", LEAST_DIVISOR);
 }
 
 /// Sessions that end at what is no request.
@@ -129,6 +128,6 @@ const NO_REQUESTS: &[Case] = &cases! {
 };
 
 #[test]
-fn ends_at_what_is_no_request(rt: HostRuntime) -> Result<(), Fail> {
-    try_each(&rt, rt.alloc(), "9", NO_REQUESTS)
+fn ends_at_what_is_no_request(rt: HostRuntime) {
+    try_each(&rt, rt.alloc(), "9", NO_REQUESTS);
 }

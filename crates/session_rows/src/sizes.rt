@@ -1,7 +1,7 @@
 //! Objects of sizes at the bounds of a class, and one that is too large, by sessions.
 ghost use Rattle.std.specs.Prelude.{◌<◌, IsTrue};
 
-use crate::answers::{MAP, try_bytes, try_number, try_outcome, try_told};
+use crate::answers::{MAP, got, try_bytes, try_number, try_outcome, try_told};
 use crate::cases::{Left, PIECES, try_file};
 use disk_face::Disk;
 use disk_mem::{MemSource, PlainDisk};
@@ -10,7 +10,6 @@ use row_vectors::runs::{Ran, formatted, run_on, run_with, session};
 use size_class::SIZE_MAX;
 use std::alloc::{AllocError, Global};
 use std::process::Abort;
-use std::test::Fail;
 
 /// A put of an object `x` of so many bytes.
 fn put_of(alloc: Global, size: usize) -> Result<Vec<u8>, AllocError> {
@@ -69,47 +68,36 @@ fn try_put<D: Disk>(rt: &impl Abort, ran: &Ran<D>, row: &Row) {
 }
 
 /// The answer to the put, what it leaves, and what `map` puts.
-fn try_left<D: Disk + Drop>(
-    rt: &impl Abort,
-    alloc: Global,
-    ran: Ran<D>,
-    row: &Row,
-) -> Result<(), Fail>
+fn try_left<D: Disk + Drop>(rt: &impl Abort, alloc: Global, ran: Ran<D>, row: &Row)
     requires ready { IsTrue (D.state ran.disk).is_ready }
 {
     try_put(rt, &ran, row);
-    let disk = try_file(rt, alloc, ran.disk, &row.left)?;
-    try_told(rt, alloc, disk, MAP, row.map, &row.size)?;
-    Ok(())
+    let disk = try_file(rt, alloc, ran.disk, &row.left);
+    try_told(rt, alloc, disk, MAP, row.map, &row.size);
 }
 
 /// Puts an object on a fresh file in pieces of a size.
-fn try_row(
-    rt: &impl Abort,
-    alloc: Global,
-    input: &[u8],
-    row: &Row,
-    piece: usize,
-) -> Result<(), Fail> {
-    let ran = session(alloc, formatted(alloc, "9")?, input, piece)?;
-    try_left(rt, alloc, ran, row)
+fn try_row(rt: &impl Abort, alloc: Global, input: &[u8], row: &Row, piece: usize) {
+    let ran = got(
+        rt,
+        session(alloc, got(rt, formatted(alloc, "9")), input, piece),
+    );
+    try_left(rt, alloc, ran, row);
 }
 
 /// Puts an object in each size of pieces.
-fn try_pieces(rt: &impl Abort, alloc: Global, row: &Row) -> Result<(), Fail> {
-    let input = put_of(alloc, row.size)?;
+fn try_pieces(rt: &impl Abort, alloc: Global, row: &Row) {
+    let input = put_of(alloc, row.size).expect(rt, "memory");
     for piece in PIECES {
-        try_row(rt, alloc, &input, row, *piece)?;
+        try_row(rt, alloc, &input, row, *piece);
     }
-    Ok(())
 }
 
 /// Puts an object of each size on a fresh file.
-fn try_rows(rt: &impl Abort, alloc: Global, rows: &[Row]) -> Result<(), Fail> {
+fn try_rows(rt: &impl Abort, alloc: Global, rows: &[Row]) {
     for row in rows {
-        try_pieces(rt, alloc, row)?;
+        try_pieces(rt, alloc, row);
     }
-    Ok(())
 }
 
 /// The smallest sizes.
@@ -121,8 +109,8 @@ const SMALLEST: &[Row] = &rows! {
 };
 
 #[test]
-fn sets_each_size_in_its_class(rt: HostRuntime) -> Result<(), Fail> {
-    try_rows(&rt, rt.alloc(), SMALLEST)
+fn sets_each_size_in_its_class(rt: HostRuntime) {
+    try_rows(&rt, rt.alloc(), SMALLEST);
 }
 
 /// Large sizes. Each object is moved in 16 pieces of 65,536 bytes or less.
@@ -134,8 +122,8 @@ const LARGE: &[Row] = &rows! {
 };
 
 #[test]
-fn sets_large_sizes_in_their_classes(rt: HostRuntime) -> Result<(), Fail> {
-    try_rows(&rt, rt.alloc(), LARGE)
+fn sets_large_sizes_in_their_classes(rt: HostRuntime) {
+    try_rows(&rt, rt.alloc(), LARGE);
 }
 
 /// The largest sizes. Each object is moved in 1,024 pieces, and has a buffer of 7,456,540 bytes.
@@ -158,22 +146,28 @@ const RUN: &[&str] = &["run", "f"];
 const LONG_PIECES: &[usize] = &[4_095, 65_536];
 
 /// Puts an object on a fresh file of a disk that keeps no record.
-fn put_plainly(alloc: Global, size: usize, piece: usize) -> Result<Ran<PlainDisk>, Fail>
+fn put_plainly(rt: &impl Abort, alloc: Global, size: usize, piece: usize) -> Ran<PlainDisk>
     requires { 0 < piece }
 {
-    let new = PlainDisk::with_room(alloc, LARGEST_REACH)?;
-    let made = run_on(alloc, FORMAT, false, new, Vec::new(alloc))?;
-    let source = MemSource::new(put_of(alloc, size)?, piece, Vec::new(alloc));
-    run_with(alloc, RUN, true, made.disk, source, Vec::new(alloc))
+    let new = PlainDisk::with_room(alloc, LARGEST_REACH).expect(rt, "memory");
+    let made = got(rt, run_on(alloc, FORMAT, false, new, Vec::new(alloc)));
+    let source = MemSource::new(
+        put_of(alloc, size).expect(rt, "memory"),
+        piece,
+        Vec::new(alloc),
+    );
+    got(
+        rt,
+        run_with(alloc, RUN, true, made.disk, source, Vec::new(alloc)),
+    )
 }
 
 #[test]
-fn sets_the_largest_sizes_in_their_classes(rt: HostRuntime) -> Result<(), Fail> {
+fn sets_the_largest_sizes_in_their_classes(rt: HostRuntime) {
     for row in LARGEST {
-        let ran = put_plainly(rt.alloc(), row.size, 65_536)?;
-        try_left(&rt, rt.alloc(), ran, row)?;
+        let ran = put_plainly(&rt, rt.alloc(), row.size, 65_536);
+        try_left(&rt, rt.alloc(), ran, row);
     }
-    Ok(())
 }
 
 /// What is put where the object is too large.
@@ -188,20 +182,23 @@ const REFUSED: Outcome = Outcome {
 };
 
 /// Serves a put that is too large, and two requests behind it.
-fn try_too_large(rt: &impl Abort, alloc: Global, input: &[u8], piece: usize) -> Result<(), Fail> {
-    let ran = session(alloc, formatted(alloc, "9")?, input, piece)?;
+fn try_too_large(rt: &impl Abort, alloc: Global, input: &[u8], piece: usize) {
+    let ran = got(
+        rt,
+        session(alloc, got(rt, formatted(alloc, "9")), input, piece),
+    );
     try_bytes(rt, &ran.put, TOO_LARGE, &piece);
     try_outcome(rt, ran.outcome, REFUSED, &piece);
     try_number(rt, ran.disk.turns(), 10, &piece);
-    Ok(())
 }
 
 #[test]
-fn reads_an_object_that_is_too_large_to_its_end(rt: HostRuntime) -> Result<(), Fail> {
-    let mut input = put_of(rt.alloc(), SIZE_MAX as usize + 1)?;
-    input.extend_from_slice(b"get x\nstat\n")?;
+fn reads_an_object_that_is_too_large_to_its_end(rt: HostRuntime) {
+    let mut input = put_of(rt.alloc(), SIZE_MAX as usize + 1).expect(&rt, "memory");
+    input
+        .extend_from_slice(b"get x\nstat\n")
+        .expect(&rt, "memory");
     for piece in LONG_PIECES {
-        try_too_large(&rt, rt.alloc(), &input, *piece)?;
+        try_too_large(&rt, rt.alloc(), &input, *piece);
     }
-    Ok(())
 }

@@ -1,5 +1,5 @@
 //! A flush that stopped within or behind its first save, and an empty session that goes on with it.
-use crate::answers::{try_bytes, try_number, try_outcome};
+use crate::answers::{got, try_bytes, try_number, try_outcome};
 use crate::images::{image_at, try_check};
 use crate::moments::try_kept;
 use crate::requests::served;
@@ -8,7 +8,6 @@ use row_vectors::Outcome;
 use row_vectors::runs::session;
 use std::alloc::Global;
 use std::process::Abort;
-use std::test::Fail;
 
 /// An image of a turn of the put of 5 bytes, and what `check` puts of it and of what an opening leaves.
 #[derive(Clone, Copy)]
@@ -43,23 +42,17 @@ fn stopped(
     disk: &MemDisk,
     row: &Row,
     at: (u64, Choice),
-) -> Result<Vec<u8>, Fail> {
-    let image = image_at(rt, disk, at.0, at.1)?;
+) -> Vec<u8> {
+    let image = image_at(rt, disk, at.0, at.1);
     try_number(rt, image.len() as u64, 19_857, &at);
-    try_check(rt, alloc, &image, 0, row.stopped, at)?;
-    Ok(image)
+    try_check(rt, alloc, &image, 0, row.stopped, at);
+    image
 }
 
 /// Opens an image by a session without a request. The disk is given back.
-fn opened(
-    rt: &impl Abort,
-    alloc: Global,
-    image: &[u8],
-    row: &Row,
-    at: (u64, Choice),
-) -> Result<MemDisk, Fail> {
-    let disk = MemDisk::from_bytes(alloc, image)?;
-    let ran = session(alloc, disk, b"", 1)?;
+fn opened(rt: &impl Abort, alloc: Global, image: &[u8], row: &Row, at: (u64, Choice)) -> MemDisk {
+    let disk = MemDisk::from_bytes(alloc, image).expect(rt, "memory");
+    let ran = got(rt, session(alloc, disk, b"", 1));
     let outcome = Outcome {
         status: 0,
         done: 0,
@@ -68,16 +61,16 @@ fn opened(
     };
     try_bytes(rt, &ran.put, b"", &at);
     try_outcome(rt, ran.outcome, outcome, &at);
-    Ok(ran.disk)
+    ran.disk
 }
 
 /// The image of a row, and what the file durably is once it was opened.
-fn try_row(rt: &impl Abort, alloc: Global, disk: &MemDisk, row: &Row) -> Result<(), Fail> {
+fn try_row(rt: &impl Abort, alloc: Global, disk: &MemDisk, row: &Row) {
     // The put begins at the 23rd turn.
     let at = (row.turn.saturating_add(23), row.choice);
-    let image = stopped(rt, alloc, disk, row, at)?;
-    let opened = opened(rt, alloc, &image, row, at)?;
-    try_kept(rt, alloc, &opened, row.calls, row.opened, at)
+    let image = stopped(rt, alloc, disk, row, at);
+    let opened = opened(rt, alloc, &image, row, at);
+    try_kept(rt, alloc, &opened, row.calls, row.opened, at);
 }
 
 /// The images. The fourth call packs, the fifth to the eleventh save: the tenth opens the gate.
@@ -95,10 +88,9 @@ const ROWS: &[Row] = &rows! {
 };
 
 #[test]
-fn goes_on_with_a_flush_that_stopped(rt: HostRuntime) -> Result<(), Fail> {
-    let disk = served(&rt, rt.alloc())?;
+fn goes_on_with_a_flush_that_stopped(rt: HostRuntime) {
+    let disk = served(&rt, rt.alloc());
     for row in ROWS {
-        try_row(&rt, rt.alloc(), &disk, row)?;
+        try_row(&rt, rt.alloc(), &disk, row);
     }
-    Ok(())
 }

@@ -1,5 +1,5 @@
 //! A session of three puts and three removals, over a disk that stops after each number of changing calls.
-use crate::answers::{serve_parts, try_holds, try_number, try_ran};
+use crate::answers::{got, serve_parts, try_holds, try_number, try_ran};
 use crate::opened_maps::{Map, NONE, ONE, THREE, try_map};
 use disk_face::Disk;
 use disk_mem::{Choice, Fuse, MemDisk};
@@ -8,7 +8,6 @@ use row_vectors::inputs::{KEPT, OK, PUT_A, PUT_B, PUT_C};
 use row_vectors::runs::formatted;
 use std::alloc::Global;
 use std::process::Abort;
-use std::test::Fail;
 
 /// The requests make 12, 1, 23, 0, 0, 0, 19 and 9 changing calls.
 const REQUESTS: &[&str] = &[
@@ -57,14 +56,14 @@ const REACHES: &[Reach] = &reaches! {
 };
 
 /// How far the session comes at a stop.
-fn reach_of(calls: u64) -> Result<Reach, Fail> {
+fn reach_of(rt: &impl Abort, calls: u64) -> Reach {
     let mut last = None;
     for reach in REACHES {
         if reach.from <= calls {
             last = Some(*reach);
         }
     }
-    Ok(last.ok_or("a stop")?)
+    last.expect(rt, "a stop")
 }
 
 /// The map after so many requests, from the call on that opened the gate of its checkpoint. The next call
@@ -100,30 +99,30 @@ fn seen_at(calls: u64, choice: Choice) -> u64 {
 }
 
 /// The last checkpoint up to a call.
-fn checkpoint_of(seen: u64) -> Result<Checkpoint, Fail> {
+fn checkpoint_of(rt: &impl Abort, seen: u64) -> Checkpoint {
     let mut last = None;
     for checkpoint in CHECKPOINTS {
         if checkpoint.gate <= seen {
             last = Some(*checkpoint);
         }
     }
-    Ok(last.ok_or("a checkpoint")?)
+    last.expect(rt, "a checkpoint")
 }
 
 /// A fresh file in a fuse that stops after so many calls.
-fn fused(alloc: Global, calls: u64) -> Result<Fuse<MemDisk>, Fail> {
-    Ok(Fuse::stop_after(formatted(alloc, "9")?, calls))
+fn fused(rt: &impl Abort, alloc: Global, calls: u64) -> Fuse<MemDisk> {
+    Fuse::stop_after(got(rt, formatted(alloc, "9")), calls)
 }
 
 /// Serves the session up to a stop, on a fresh file, and gives the disk inside back.
-fn stopped(rt: &impl Abort, alloc: Global, calls: u64, reach: &Reach) -> Result<MemDisk, Fail> {
-    let fuse = fused(alloc, calls)?;
-    let ran = serve_parts(alloc, fuse, REQUESTS, 7)?;
-    try_ran(rt, alloc, &ran, reach.puts, reach.outcome, &calls)?;
+fn stopped(rt: &impl Abort, alloc: Global, calls: u64, reach: &Reach) -> MemDisk {
+    let fuse = fused(rt, alloc, calls);
+    let ran = serve_parts(rt, alloc, fuse, REQUESTS, 7);
+    try_ran(rt, alloc, &ran, reach.puts, reach.outcome, &calls);
     let disk = ran.disk.into_inner();
     // The format made 10.
     try_number(rt, disk.turns(), calls.saturating_add(10), &calls);
-    Ok(disk)
+    disk
 }
 
 /// Whether a checkpoint is the last acknowledged one, or, where the session stopped, the one after the
@@ -135,74 +134,65 @@ fn is_left(checkpoint: &Checkpoint, outcome: &Outcome) -> bool {
 }
 
 /// An image of the last turn. It has the map at one of these.
-fn try_image(
-    rt: &impl Abort,
-    alloc: Global,
-    disk: &MemDisk,
-    outcome: &Outcome,
-    at: (u64, Choice),
-) -> Result<(), Fail> {
-    let checkpoint = checkpoint_of(seen_at(at.0, at.1))?;
+fn try_image(rt: &impl Abort, alloc: Global, disk: &MemDisk, outcome: &Outcome, at: (u64, Choice)) {
+    let checkpoint = checkpoint_of(rt, seen_at(at.0, at.1));
     try_holds(rt, is_left(&checkpoint, outcome), &at);
-    let opened = last_image(alloc, disk, at.1)?;
-    try_map(rt, alloc, opened, &checkpoint.map, &at)?;
-    Ok(())
+    let opened = last_image(rt, alloc, disk, at.1);
+    try_map(rt, alloc, opened, &checkpoint.map, &at);
 }
 
 /// A disk that holds an image of the last turn.
-fn last_image(alloc: Global, disk: &MemDisk, choice: Choice) -> Result<MemDisk, Fail> {
+fn last_image(rt: &impl Abort, alloc: Global, disk: &MemDisk, choice: Choice) -> MemDisk {
     let turn = disk.turns();
-    let image = disk.image(turn, choice)?;
-    Ok(MemDisk::from_bytes(alloc, &image)?)
+    let image = disk.image(turn, choice).expect(rt, "memory");
+    MemDisk::from_bytes(alloc, &image).expect(rt, "memory")
 }
 
 /// What the last sync left, what reads give, and this with one value in each byte that isn't synced.
 const CHOICES: &[Choice] = &[Choice::Durable, Choice::Newest, Choice::Torn(90)];
 
 /// What a crash leaves of a session that stopped.
-fn try_stop(rt: &impl Abort, alloc: Global, calls: u64) -> Result<(), Fail> {
-    let reach = reach_of(calls)?;
-    let disk = stopped(rt, alloc, calls, &reach)?;
+fn try_stop(rt: &impl Abort, alloc: Global, calls: u64) {
+    let reach = reach_of(rt, calls);
+    let disk = stopped(rt, alloc, calls, &reach);
     for choice in CHOICES {
-        try_image(rt, alloc, &disk, &reach.outcome, (calls, *choice))?;
+        try_image(rt, alloc, &disk, &reach.outcome, (calls, *choice));
     }
-    Ok(())
 }
 
 /// The stops after so many calls, from one number to before another.
-fn try_stops(rt: &impl Abort, alloc: Global, from: u64, to: u64) -> Result<(), Fail> {
+fn try_stops(rt: &impl Abort, alloc: Global, from: u64, to: u64) {
     for calls in from..to {
-        try_stop(rt, alloc, calls)?;
+        try_stop(rt, alloc, calls);
     }
-    Ok(())
 }
 
 #[test]
-fn opens_where_the_first_puts_stop(rt: HostRuntime) -> Result<(), Fail> {
-    try_stops(&rt, rt.alloc(), 0, 14)
+fn opens_where_the_first_puts_stop(rt: HostRuntime) {
+    try_stops(&rt, rt.alloc(), 0, 14);
 }
 
 #[test]
-fn opens_where_a_put_stops_up_to_its_first_save(rt: HostRuntime) -> Result<(), Fail> {
-    try_stops(&rt, rt.alloc(), 14, 25)
+fn opens_where_a_put_stops_up_to_its_first_save(rt: HostRuntime) {
+    try_stops(&rt, rt.alloc(), 14, 25);
 }
 
 #[test]
-fn opens_where_a_put_stops_after_its_first_save(rt: HostRuntime) -> Result<(), Fail> {
-    try_stops(&rt, rt.alloc(), 25, 37)
+fn opens_where_a_put_stops_after_its_first_save(rt: HostRuntime) {
+    try_stops(&rt, rt.alloc(), 25, 37);
 }
 
 #[test]
-fn opens_where_a_removal_stops_up_to_its_first_save(rt: HostRuntime) -> Result<(), Fail> {
-    try_stops(&rt, rt.alloc(), 37, 46)
+fn opens_where_a_removal_stops_up_to_its_first_save(rt: HostRuntime) {
+    try_stops(&rt, rt.alloc(), 37, 46);
 }
 
 #[test]
-fn opens_where_a_removal_stops_after_its_first_save(rt: HostRuntime) -> Result<(), Fail> {
-    try_stops(&rt, rt.alloc(), 46, 56)
+fn opens_where_a_removal_stops_after_its_first_save(rt: HostRuntime) {
+    try_stops(&rt, rt.alloc(), 46, 56);
 }
 
 #[test]
-fn opens_where_the_last_removal_stops(rt: HostRuntime) -> Result<(), Fail> {
-    try_stops(&rt, rt.alloc(), 56, 65)
+fn opens_where_the_last_removal_stops(rt: HostRuntime) {
+    try_stops(&rt, rt.alloc(), 56, 65);
 }

@@ -1,11 +1,10 @@
 //! The command `work` over new files, and the summaries that a plain program in another language found of the
 //! same jobs.
-use crate::answers::{try_bytes, try_holds, try_outcome};
+use crate::answers::{got, try_bytes, try_holds, try_outcome};
 use disk_mem::PlainDisk;
 use row_vectors::runs::{ended, run_on};
 use std::alloc::Global;
 use std::process::Abort;
-use std::test::Fail;
 
 /// How many bytes the disk has room for.
 const ROOM: u64 = 1 << 25;
@@ -18,26 +17,20 @@ const FIVE_THOUSAND: &str = concat!(
 );
 
 /// A disk with a new store of a divisor and so many names.
-fn made(alloc: Global, k: &str, names: &str) -> Result<PlainDisk, Fail> {
-    let new = PlainDisk::with_room(alloc, ROOM)?;
+fn made(rt: &impl Abort, alloc: Global, k: &str, names: &str) -> PlainDisk {
+    let new = PlainDisk::with_room(alloc, ROOM).expect(rt, "memory");
     let words = ["format", "f", k, names];
-    let ran = run_on(alloc, &words, false, new, Vec::new(alloc))?;
-    Ok(ran.disk)
+    let ran = got(rt, run_on(alloc, &words, false, new, Vec::new(alloc)));
+    ran.disk
 }
 
 /// Tries the summary of jobs over a new file with this divisor and so many names.
-fn try_work(
-    rt: &impl Abort,
-    alloc: Global,
-    [k, names, number, count]: [&str; 4],
-    summary: &str,
-) -> Result<(), Fail> {
-    let disk = made(alloc, k, names)?;
+fn try_work(rt: &impl Abort, alloc: Global, [k, names, number, count]: [&str; 4], summary: &str) {
+    let disk = made(rt, alloc, k, names);
     let words = ["work", "f", number, count];
-    let ran = run_on(alloc, &words, true, disk, Vec::new(alloc))?;
+    let ran = got(rt, run_on(alloc, &words, true, disk, Vec::new(alloc)));
     try_bytes(rt, &ran.put, summary.as_bytes(), &summary);
     try_outcome(rt, ran.outcome, ended(0), &summary);
-    Ok(())
 }
 
 /// The summary of 2,000 jobs of number 1 at a divisor of 9 and with 4,096 names.
@@ -55,15 +48,15 @@ const SEVENTH: &str = concat!(
 );
 
 #[test]
-fn sums_up_two_thousand_jobs(rt: HostRuntime) -> Result<(), Fail> {
-    try_work(&rt, rt.alloc(), ["9", "4096", "1", "2000"], FIRST)?;
-    try_work(&rt, rt.alloc(), ["2", "64", "7", "2000"], SEVENTH)
+fn sums_up_two_thousand_jobs(rt: HostRuntime) {
+    try_work(&rt, rt.alloc(), ["9", "4096", "1", "2000"], FIRST);
+    try_work(&rt, rt.alloc(), ["2", "64", "7", "2000"], SEVENTH);
 }
 
 #[test]
-fn does_the_same_jobs_again_over_another_file(rt: HostRuntime) -> Result<(), Fail> {
-    try_work(&rt, rt.alloc(), ["9", "4096", "1", "5000"], FIVE_THOUSAND)?;
-    try_work(&rt, rt.alloc(), ["9", "4096", "1", "5000"], FIVE_THOUSAND)
+fn does_the_same_jobs_again_over_another_file(rt: HostRuntime) {
+    try_work(&rt, rt.alloc(), ["9", "4096", "1", "5000"], FIVE_THOUSAND);
+    try_work(&rt, rt.alloc(), ["9", "4096", "1", "5000"], FIVE_THOUSAND);
 }
 
 /// By each cost what was moved, and what was asked for.

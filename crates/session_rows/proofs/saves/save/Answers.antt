@@ -12,8 +12,8 @@ save-requires-clause-records g c = records_in_range c.args.table.now c.count.ens
 pub save-requires-clause-count : goal.save-requires-clause-count
 save-requires-clause-count g c =
     let few : fin.len c.args.table.now.now
-    ≤ c.in_ok-found.found.block.names = grind (arith, c.count.ensures.value) in
+    ≤ c.expect-found.result.block.names = grind (arith, c.count.ensures.value) in
     let same : c.of-pair.result.block.names
-    ≡ c.in_ok-found.found.block.names = ap (λ (u : InUse). u.block.names) c.of-pair.ensures in
+    ≡ c.expect-found.result.block.names = ap (λ (u : InUse). u.block.names) c.of-pair.ensures in
     let fits : fin.len c.args.table.now.now ≤ c.of-pair.result.block.names = omega (arith, few, same) in
     le_trans (records_of-few c.args.table.now.now) fits
