@@ -1,5 +1,5 @@
 //! What the tests of bays share: mounts that are answered or refused, and causes as words.
-ghost use Rattle.std.specs.Prelude.{◌≡◌, None, IsTrue, IsFalse, OnOk};
+ghost use Rattle.std.specs.Prelude.{◌≡◌, None, IsTrue, IsFalse};
 ghost use Rattle.disk_face.specs.Mounts.{has_file};
 ghost use Rattle.disk_file.specs.Bays.{bay_state};
 
@@ -7,7 +7,6 @@ use crate::host::Host;
 use crate::{Cause, FileBay};
 use disk_face::{Bay, Mounted};
 use std::process::Abort;
-use std::test::Fail;
 
 /// A cause as a word, which can be compared.
 pub fn word(cause: Option<Cause>) -> &'static str {
@@ -32,13 +31,12 @@ pub fn mounts<H: Host>(
     name: &str,
     make: bool,
     answer: Mounted,
-) -> Result<(), Fail>
+)
     requires { (bay_state bay.old).last_mount ≡ None }
-    ensures ready { OnOk result (IsTrue (has_file answer) → IsTrue (bay_state bay.new).is_ready) }
+    ensures ready { IsTrue (has_file answer) → IsTrue (bay_state bay.new).is_ready }
     ensures untold { IsFalse (bay_state bay.old).tells → IsFalse (bay_state bay.new).tells }
 {
-    assert_eq!(rt; bay.mount(name, make)?, answer);
-    Ok(())
+    assert_eq!(rt; bay.mount(name, make).expect(rt, "a mount"), answer);
 }
 
 /// Mounts a name, and is refused for a cause.

@@ -9,7 +9,6 @@ use disk_face::{Bay, Disk, DiskFault, Mounted};
 use std::alloc::{AllocError, Global};
 use std::fs::{self, File, Files};
 use std::process::Abort;
-use std::test::Fail;
 
 const FOLDER: &str = "scratch_of_disk_file";
 
@@ -23,7 +22,7 @@ const READ_NAME: &str = "scratch_read_of_disk_file";
 
 /// The bytes of a store of 16 names that has the object `a`, `hello`: where they stand, all but the
 /// zeros between them.
-const STORE: [(usize, &[u8]); 10] = [
+const STORE: &[(usize, &[u8])] = &[
     (0, b"COSTORE1\x09"),
     (16, b"\x10"),
     (64, b"\x01"),
@@ -41,7 +40,7 @@ fn store(alloc: Global) -> Result<Vec<u8>, AllocError> {
     let mut store = vec![in alloc; 0u8; 19608]?;
     for (at, bytes) in STORE {
         for (i, byte) in bytes.iter().enumerate() {
-            if let Some(place) = store.get_mut(i.saturating_add(at)) {
+            if let Some(place) = store.get_mut(i.saturating_add(*at)) {
                 *place = *byte;
             }
         }
@@ -50,37 +49,31 @@ fn store(alloc: Global) -> Result<Vec<u8>, AllocError> {
 }
 
 /// The file of that name has these bytes. It is removed.
-fn left(
-    rt: &(impl Abort + Alloc + Files<File = File>),
-    name: &str,
-    bytes: &[u8],
-) -> Result<(), Fail> {
-    let left = fs::read(rt, name)?;
-    fs::remove_file(rt, name)?;
+fn left(rt: &(impl Abort + Alloc + Files<File = File>), name: &str, bytes: &[u8]) {
+    let left = fs::read(rt, name).expect(rt, "a file");
+    fs::remove_file(rt, name).expect(rt, "a file");
     assert!(rt; left.as_slice() == bytes);
-    Ok(())
 }
 
 #[test]
-fn keeps_a_real_file(rt: HostRuntime) -> Result<(), Fail> {
+fn keeps_a_real_file(rt: HostRuntime) {
     // A run that was cut off may have left it.
     let _ = fs::remove_dir_all(&rt, FOLDER);
-    fs::create_dir(&rt, FOLDER)?;
-    keeps(&rt, &mut FileBay::new(&rt))?;
-    fs::remove_dir_all(&rt, FOLDER)?;
-    mounts(&rt, &mut FileBay::new(&rt), NAME, false, Mounted::Absent)
+    fs::create_dir(&rt, FOLDER).expect(&rt, "a file");
+    keeps(&rt, &mut FileBay::new(&rt));
+    fs::remove_dir_all(&rt, FOLDER).expect(&rt, "a file");
+    mounts(&rt, &mut FileBay::new(&rt), NAME, false, Mounted::Absent);
 }
 
 /// Makes the file, writes five of its ten bytes, and reads all of them.
-fn keeps<H: Host>(rt: &impl Abort, bay: &mut FileBay<H>) -> Result<(), Fail>
+fn keeps<H: Host>(rt: &impl Abort, bay: &mut FileBay<H>)
     requires none { (bay_state bay.old).last_mount ≡ None }
     requires untold { IsFalse (bay_state bay.old).tells }
 {
-    mounts(rt, bay, NAME, true, Mounted::Made)?;
-    writes(bay)?;
-    reads(rt, bay)?;
-    assert_eq!(rt; bay.turns(), 3);
-    Ok(())
+    mounts(rt, bay, NAME, true, Mounted::Made);
+    writes(bay).expect(rt, "three changes");
+    reads(rt, bay);
+    assert!(rt; bay.turns() == 3);
 }
 
 /// Makes three changes, the last of which is a sync.
@@ -96,107 +89,100 @@ fn writes<D: Disk>(disk: &mut D) -> Result<(), DiskFault>
 }
 
 /// Reads all, and then once more from position 1 on, past the end.
-fn reads<D: Disk>(rt: &impl Abort, disk: &mut D) -> Result<(), Fail>
+fn reads<D: Disk>(rt: &impl Abort, disk: &mut D)
     requires ready { IsTrue (D.state disk.old).is_ready }
     requires untold { IsFalse (D.state disk.old).tells }
 {
     let mut out = [0u8; 10];
-    disk.read_at(0, &mut out)?;
+    disk.read_at(0, &mut out).expect(rt, "a read");
     assert!(rt; out == *b"\0\0\0hello\0\0");
     assert!(rt; disk.read_at(1, &mut out).is_err());
-    Ok(())
 }
 
 /// A mount that may make the file leaves one that is there as it is.
 #[test]
-fn leaves_a_store_whole(rt: HostRuntime) -> Result<(), Fail> {
+fn leaves_a_store_whole(rt: HostRuntime) {
     let _ = fs::remove_file(&rt, STORE_NAME);
-    let written = store(rt.alloc())?;
-    fs::write(&rt, STORE_NAME, &written)?;
-    reads_object(&rt, &mut FileBay::new(&rt))?;
-    left(&rt, STORE_NAME, &written)
+    let written = store(rt.alloc()).expect(&rt, "memory");
+    fs::write(&rt, STORE_NAME, &written).expect(&rt, "a file");
+    reads_object(&rt, &mut FileBay::new(&rt));
+    left(&rt, STORE_NAME, &written);
 }
 
 /// Reads the length of the store and its object.
-fn reads_object<H: Host>(rt: &impl Abort, bay: &mut FileBay<H>) -> Result<(), Fail>
+fn reads_object<H: Host>(rt: &impl Abort, bay: &mut FileBay<H>)
     requires none { (bay_state bay.old).last_mount ≡ None }
     requires untold { IsFalse (bay_state bay.old).tells }
 {
-    mounts(rt, bay, STORE_NAME, true, Mounted::There)?;
+    mounts(rt, bay, STORE_NAME, true, Mounted::There);
     let mut object = [0u8; 5];
-    assert_eq!(rt; bay.len()?, 19608);
-    bay.read_at(19603, &mut object)?;
+    assert!(rt; bay.len() == Ok(19608));
+    bay.read_at(19603, &mut object).expect(rt, "a read");
     assert!(rt; object == *b"hello");
-    Ok(())
 }
 
 #[test]
-fn holds_the_numbers_of_the_streams(rt: HostRuntime) -> Result<(), Fail> {
-    let _held = hold_numbers(&rt)?;
-    Ok(())
+fn holds_the_numbers_of_the_streams(rt: HostRuntime) {
+    let _held = hold_numbers(&rt).expect(&rt, "the numbers");
 }
 
 /// What is no regular file is refused.
 #[test]
-fn refuses_what_is_no_file(rt: HostRuntime) -> Result<(), Fail> {
+fn refuses_what_is_no_file(rt: HostRuntime) {
     refuses(&rt, &mut FileBay::new(&rt), ".", true, "folder");
     let mut device = FileBay::reading(&rt);
     refuses(&rt, &mut device, "/dev/null", false, "special");
-    Ok(())
 }
 
 /// A file that another bay holds is refused. Bays that read share.
 #[test]
-fn refuses_what_is_held(rt: HostRuntime) -> Result<(), Fail> {
+fn refuses_what_is_held(rt: HostRuntime) {
     let _ = fs::remove_file(&rt, HELD_NAME);
-    fs::write(&rt, HELD_NAME, b"kept".as_slice())?;
-    shares(&rt)?;
-    holds(&rt)?;
-    left(&rt, HELD_NAME, b"kept")
+    fs::write(&rt, HELD_NAME, b"kept".as_slice()).expect(&rt, "a file");
+    shares(&rt);
+    holds(&rt);
+    left(&rt, HELD_NAME, b"kept");
 }
 
 /// Two bays that read, and beside them one that would change the file.
-fn shares(rt: &(impl Abort + Files<File = File>)) -> Result<(), Fail> {
+fn shares(rt: &(impl Abort + Files<File = File>)) {
     let mut first = FileBay::reading(rt);
-    mounts(rt, &mut first, HELD_NAME, false, Mounted::There)?;
-    shares_more(rt)
+    mounts(rt, &mut first, HELD_NAME, false, Mounted::There);
+    shares_more(rt);
 }
 
 /// A bay that reads beside another, and one that would change the file.
-fn shares_more(rt: &(impl Abort + Files<File = File>)) -> Result<(), Fail> {
+fn shares_more(rt: &(impl Abort + Files<File = File>)) {
     let mut second = FileBay::reading(rt);
-    mounts(rt, &mut second, HELD_NAME, false, Mounted::There)?;
+    mounts(rt, &mut second, HELD_NAME, false, Mounted::There);
     refuses(rt, &mut FileBay::new(rt), HELD_NAME, true, "in use");
-    Ok(())
 }
 
 /// A bay that may change the file, and beside it one that reads.
-fn holds(rt: &(impl Abort + Files<File = File>)) -> Result<(), Fail> {
+fn holds(rt: &(impl Abort + Files<File = File>)) {
     let mut only = FileBay::new(rt);
-    mounts(rt, &mut only, HELD_NAME, true, Mounted::There)?;
+    mounts(rt, &mut only, HELD_NAME, true, Mounted::There);
     refuses(rt, &mut FileBay::reading(rt), HELD_NAME, false, "in use");
-    Ok(())
 }
 
 /// A bay that reads makes no file, and can't change one.
 #[test]
-fn only_reads(rt: HostRuntime) -> Result<(), Fail> {
+fn only_reads(rt: HostRuntime) {
     let _ = fs::remove_file(&rt, READ_NAME);
     refuses(&rt, &mut FileBay::reading(&rt), READ_NAME, true, "system");
-    assert!(rt; !fs::exists(&rt, READ_NAME)?);
-    fs::write(&rt, READ_NAME, b"kept".as_slice())?;
-    changes_nothing(&rt, &mut FileBay::reading(&rt))?;
-    left(&rt, READ_NAME, b"kept")
+    assert!(rt; !fs::exists(&rt, READ_NAME).expect(&rt, "a file"));
+    fs::write(&rt, READ_NAME, b"kept".as_slice()).expect(&rt, "a file");
+    changes_nothing(&rt, &mut FileBay::reading(&rt));
+    left(&rt, READ_NAME, b"kept");
 }
 
 /// Mounts the file to read it, and is refused its changes.
-fn changes_nothing<H: Host>(rt: &impl Abort, bay: &mut FileBay<H>) -> Result<(), Fail>
+fn changes_nothing<H: Host>(rt: &impl Abort, bay: &mut FileBay<H>)
     requires none { (bay_state bay.old).last_mount ≡ None }
     requires untold { IsFalse (bay_state bay.old).tells }
 {
-    mounts(rt, bay, READ_NAME, false, Mounted::There)?;
-    assert_eq!(rt; bay.len()?, 4);
+    mounts(rt, bay, READ_NAME, false, Mounted::There);
+    assert!(rt; bay.len() == Ok(4));
     assert!(rt; bay.write_at(0, b"lost").is_err());
     assert!(rt; bay.set_len(0).is_err());
-    Ok(())
 }

@@ -5,7 +5,7 @@ use crate::FileBay;
 use crate::host::{Kind, Use};
 use disk_face::{Bay, Disk, Mounted};
 use std::alloc::{AllocError, Global};
-use std::test::Fail;
+use std::process::Abort;
 
 /// What stands under the name `f`, and its length; what the bay means to do, and whether the mount may
 /// make the file; the answer, and the calls in order: a digit of the log for each.
@@ -32,7 +32,7 @@ macro_rules! rows {
     };
 }
 
-const MOUNTS: [Row; 9] = rows! {
+const MOUNTS: &[Row] = &rows! {
     Some(Kind::File), 4, Changing, true => Some(Mounted::There), 0x12_3457;
     Some(Kind::File), 4, Changing, false => Some(Mounted::There), 0x12_3457;
     Some(Kind::File), 0, Changing, true => Some(Mounted::There), 0x123_4576;
@@ -45,18 +45,24 @@ const MOUNTS: [Row; 9] = rows! {
 };
 
 #[test]
-fn mounts_in_order(rt: HostRuntime) -> Result<(), Fail> {
-    for (number, row) in MOUNTS.iter().enumerate() {
-        let mut host = Faulty::new(row.kind, 0);
-        host.len = row.len;
-        let (answer, _, log, turns) = mounted(host, row.usage, row.make);
-        assert_eq!(rt;
-            (answer, log, turns),
-            (row.answer, row.log, 0),
-            "row {number}"
-        );
+fn mounts_in_order(rt: HostRuntime) {
+    for row in MOUNTS {
+        mounts_row(&rt, row);
     }
-    Ok(())
+}
+
+/// Mounts what a row says, and is answered so.
+fn mounts_row(rt: &impl Abort, row: &Row) {
+    let mut host = Faulty::new(row.kind, 0);
+    host.len = row.len;
+    let (answer, _, log, turns) = mounted(host, row.usage, row.make);
+    assert_eq!(rt; (answer, log, turns), (row.answer, row.log, 0));
+}
+
+/// Mounts `f` and fails, for a cause, and with these calls.
+fn fails(rt: &impl Abort, host: Faulty, usage: Use, make: bool, wanted: (&str, u64)) {
+    let (answer, cause, log, _) = mounted(host, usage, make);
+    assert_eq!(rt; (answer, cause, log), (None, wanted.0, wanted.1));
 }
 
 /// What a mount of `f` is answered, the word of the bay's cause, and the calls and the turns then.
@@ -66,47 +72,52 @@ fn mounted(host: Faulty, usage: Use, make: bool) -> (Option<Mounted>, &'static s
     (answer, word(bay.cause()), bay.host().log.get(), bay.turns())
 }
 
-/// The calls of a mount that makes a file, and then of one whose first, second, .. call fails.
-const LOGS: [u64; 6] = [0x1, 0x12, 0x123, 0x1234, 0x1_2345, 0x12_3456];
+/// Which call of a mount that makes a file fails, and the calls up to there.
+const LOGS: &[(u64, u64)] = &[
+    (1, 0x1),
+    (2, 0x12),
+    (3, 0x123),
+    (4, 0x1234),
+    (5, 0x1_2345),
+    (6, 0x12_3456),
+];
 
 /// Each call of a mount that makes a file fails in turn, and nothing is asked after that.
 #[test]
-fn fails_to_mount(rt: HostRuntime) -> Result<(), Fail> {
-    for (i, log) in LOGS.iter().enumerate() {
-        let host = Faulty::new(None, (i as u64).wrapping_add(1));
-        let (answer, cause, seen, _) = mounted(host, Use::Changing, true);
-        assert_eq!(rt; (answer, cause, seen), (None, "system", *log));
+fn fails_to_mount(rt: HostRuntime) {
+    for (call, log) in LOGS {
+        let host = Faulty::new(None, *call);
+        fails(&rt, host, Use::Changing, true, ("system", *log));
     }
-    Ok(())
 }
+
+/// What a bay may mean to do.
+const USES: &[Use] = &[Use::Reading, Use::Changing];
 
 /// A mount of a file that is held or that turns out to be a pipe fails, whatever the bay means to do, and
 /// nothing is asked after that.
 #[test]
-fn fails_to_mount_what_it_opened(rt: HostRuntime) -> Result<(), Fail> {
-    for usage in [Use::Reading, Use::Changing] {
+fn fails_to_mount_what_it_opened(rt: HostRuntime) {
+    for usage in USES {
         let mut held = Faulty::new(Some(Kind::File), 0);
         held.held = true;
-        let (answer, cause, log, _) = mounted(held, usage, false);
-        assert_eq!(rt; (answer, cause, log), (None, "in use", 0x1234));
+        fails(&rt, held, *usage, false, ("in use", 0x1234));
         let mut swapped = Faulty::new(Some(Kind::File), 0);
         swapped.opened = Kind::Other;
-        let (answer, cause, log, _) = mounted(swapped, usage, false);
-        assert_eq!(rt; (answer, cause, log), (None, "special", 0x123));
+        fails(&rt, swapped, *usage, false, ("special", 0x123));
     }
-    Ok(())
 }
 
 /// A name that is empty or too long is refused before the system is asked.
 #[test]
-fn refuses_names(rt: HostRuntime) -> Result<(), Fail> {
+fn refuses_names(rt: HostRuntime) {
     let mut bay = FileBay::over(Faulty::new(None, 0), Use::Changing);
     refuses(&rt, &mut bay, "", false, "no name");
-    let mut name = long_name(rt.alloc())?;
+    let mut name = long_name(rt.alloc()).expect(&rt, "memory");
     refuses(&rt, &mut bay, name.as_str(), false, "long name");
-    assert_eq!(rt; bay.host().log.get(), 0);
+    assert!(rt; bay.host().log.get() == 0);
     name.pop();
-    mounts(&rt, &mut bay, name.as_str(), false, Mounted::Absent)
+    mounts(&rt, &mut bay, name.as_str(), false, Mounted::Absent);
 }
 
 /// A name of 4,096 bytes.

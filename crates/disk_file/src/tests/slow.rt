@@ -2,7 +2,7 @@
 use std::io::{self, ErrorKind, Read, Write};
 
 /// How a call fails: by an error, or by passing on nothing.
-#[derive(Clone, Copy, Debug, PartialEq, Eq)]
+#[derive(Clone, Copy)]
 pub enum Failing {
     ByError,
     ByNothing,

@@ -4,10 +4,9 @@ use crate::{StdSink, StdSource};
 use disk_face::{Sink, Source};
 use std::alloc::{AllocError, Global};
 use std::process::Abort;
-use std::test::Fail;
 
 /// The call of a writer that fails; how many of two puts end well then, and what the writer has.
-const FRONTS: [(u64, u64, &str); 5] = [
+const FRONTS: &[(u64, u64, &str)] = &[
     (1, 0, ""),
     (2, 0, "012"),
     (3, 1, "01234"),
@@ -17,15 +16,14 @@ const FRONTS: [(u64, u64, &str); 5] = [
 
 /// An object that is put in two parts, until a put fails: what the writer has is a front of it.
 #[test]
-fn puts_an_object_until_the_writer_fails(rt: HostRuntime) -> Result<(), Fail> {
+fn puts_an_object_until_the_writer_fails(rt: HostRuntime) {
     puts_fronts(&rt, rt.alloc(), Failing::ByError);
     puts_fronts(&rt, rt.alloc(), Failing::ByNothing);
-    Ok(())
 }
 
 /// Puts the object to a writer of each row.
 fn puts_fronts(rt: &impl Abort, alloc: Global, how: Failing) {
-    for row in &FRONTS {
+    for row in FRONTS {
         puts_front(rt, alloc, how, row);
     }
 }
@@ -35,8 +33,7 @@ fn puts_front(rt: &impl Abort, alloc: Global, how: Failing, row: &(u64, u64, &st
     let (fails, puts, front) = *row;
     let mut slow = Slow::new(Vec::new(alloc), fails, how);
     let ended = put_both(&mut slow);
-    assert_eq!(rt; ended, puts);
-    assert_eq!(rt; slow.bytes.as_slice(), front.as_bytes(), "{how:?}, {fails}");
+    assert!(rt; ended == puts && slow.bytes.as_slice() == front.as_bytes());
 }
 
 /// Puts both parts, the second if the first ends well, and tells how many do.
@@ -53,20 +50,17 @@ fn put_both(slow: &mut Slow) -> u64 {
 
 /// A reader that fails once: each byte comes once, in order, and the failed call takes none.
 #[test]
-fn takes_what_the_reader_gives(rt: HostRuntime) -> Result<(), Fail> {
+fn takes_what_the_reader_gives(rt: HostRuntime) {
     for fails in 1..=5u64 {
-        takes_all(&rt, rt.alloc(), fails)?;
+        takes_all(&rt, rt.alloc(), fails);
     }
-    Ok(())
 }
 
 /// Takes five times of a reader, of whose calls one fails; and then there is nothing more.
-fn takes_all(rt: &impl Abort, alloc: Global, fails: u64) -> Result<(), Fail> {
+fn takes_all(rt: &impl Abort, alloc: Global, fails: u64) {
     let mut taken = Vec::new(alloc);
-    let failed = take_five(alloc, fails, &mut taken)?;
-    assert_eq!(rt; failed, fails);
-    assert_eq!(rt; taken.as_slice(), b"01234567".as_slice(), "{fails}");
-    Ok(())
+    let failed = take_five(alloc, fails, &mut taken).expect(rt, "memory");
+    assert!(rt; failed == fails && taken.as_slice() == b"01234567".as_slice());
 }
 
 /// Takes five times, and once more. It answers the number of the call that failed, with a digit for each
