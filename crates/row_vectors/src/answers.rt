@@ -38,6 +38,14 @@ pub const FORMAT: &[&str] = &["format", "f", "9", "16"];
 /// The changes to the moving table.
 pub const MOVED: &[Change] = &MOVING;
 
+/// What a call gave, which may not fail.
+pub fn got<T>(rt: &impl Abort, given: Result<T, Fail>) -> T {
+    match given {
+        Ok(value) => value,
+        Err(_) => panic!(rt; "a call that failed"),
+    }
+}
+
 /// The bytes of a row are the expected ones.
 pub fn try_bytes(rt: &impl Abort, bytes: &[u8], expected: &[u8], row: &impl Debug) {
     assert_eq!(rt; bytes, expected, "{row:?}");
@@ -72,10 +80,10 @@ pub fn try_command(
     words: &[&str],
     status: u8,
     puts: &str,
-) -> Result<MemDisk, Fail> {
-    let ran = run_on(alloc, words, true, file, Vec::new(alloc))?;
+) -> MemDisk {
+    let ran = got(rt, run_on(alloc, words, true, file, Vec::new(alloc)));
     try_answer(rt, &ran, status, puts);
-    Ok(ran.disk)
+    ran.disk
 }
 
 /// What a command puts of a file of some bytes, which it doesn't change.
@@ -86,29 +94,25 @@ pub fn try_unchanged(
     words: &[&str],
     status: u8,
     puts: &str,
-) -> Result<(), Fail> {
-    let ran = run(alloc, words, bytes)?;
+) {
+    let ran = got(rt, run(alloc, words, bytes));
     try_answer(rt, &ran, status, puts);
     try_number(rt, ran.disk.turns(), 0, &puts);
-    Ok(())
 }
 
 /// `get` of an object of so many bytes, of which the first is `<` and the last `>`. It changes nothing. The
 /// disk is given back.
-pub fn try_ends(
-    rt: &impl Abort,
-    alloc: Global,
-    name: &str,
-    file: MemDisk,
-    length: u64,
-) -> Result<MemDisk, Fail> {
+pub fn try_ends(rt: &impl Abort, alloc: Global, name: &str, file: MemDisk, length: u64) -> MemDisk {
     let turns = file.turns();
-    let ran = run_on(alloc, &["get", "f", name], true, file, Vec::new(alloc))?;
+    let ran = got(
+        rt,
+        run_on(alloc, &["get", "f", name], true, file, Vec::new(alloc)),
+    );
     try_outcome(rt, ran.outcome, ended(0), &name);
     try_number(rt, ran.disk.turns(), turns, &name);
     try_number(rt, ran.put.len() as u64, length, &name);
     try_holds(rt, has_ends(&ran.put), &name);
-    Ok(ran.disk)
+    ran.disk
 }
 
 /// Whether the first byte is `<` and the last `>`.

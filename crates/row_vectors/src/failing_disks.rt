@@ -1,39 +1,40 @@
 //! Runs over a disk that fails at one call.
 use crate::answers::{
-    FORMAT, GET, is_front_of_long, try_answer, try_command, try_holds, try_outcome,
+    FORMAT, GET, got, is_front_of_long, try_answer, try_command, try_holds, try_outcome,
 };
 use crate::images::{LONG, disk};
 use crate::runs::{Ran, ended, run_on};
 use disk_mem::{Fuse, MemDisk};
 use std::alloc::Global;
 use std::process::Abort;
-use std::test::Fail;
 
 /// `get f a` of a file over a fuse that fails the read of a number.
-fn get_failing(alloc: Global, file: MemDisk, number: u64) -> Result<Ran<Fuse<MemDisk>>, Fail> {
-    let fuse = Fuse::listed(file, Vec::new(alloc), vec![in alloc; number]?);
-    run_on(alloc, GET, true, fuse, Vec::new(alloc))
+fn get_failing(rt: &impl Abort, alloc: Global, file: MemDisk, number: u64) -> Ran<Fuse<MemDisk>> {
+    let fuse = Fuse::listed(
+        file,
+        Vec::new(alloc),
+        vec![in alloc; number].expect(rt, "memory"),
+    );
+    got(rt, run_on(alloc, GET, true, fuse, Vec::new(alloc)))
 }
 
 /// What that puts of the object of 5 bytes, which is read by the tenth call, in one piece.
-fn try_read(rt: &impl Abort, alloc: Global, number: u64) -> Result<(), Fail> {
-    let file = disk(alloc, 19608, &[], &[])?;
-    let ran = get_failing(alloc, file, number)?;
+fn try_read(rt: &impl Abort, alloc: Global, number: u64) {
+    let file = got(rt, disk(alloc, 19608, &[], &[]));
+    let ran = get_failing(rt, alloc, file, number);
     let (status, puts) = if number <= 10 {
         (7, "fault disk\n")
     } else {
         (0, "hello")
     };
     try_answer(rt, &ran, status, puts);
-    Ok(())
 }
 
 #[test]
-fn tells_each_failing_read(rt: HostRuntime) -> Result<(), Fail> {
+fn tells_each_failing_read(rt: HostRuntime) {
     for number in 1..12 {
-        try_read(&rt, rt.alloc(), number)?;
+        try_read(&rt, rt.alloc(), number);
     }
-    Ok(())
 }
 
 /// The number of a read that fails, the status, and how much is put of the object of 160,000 bytes.
@@ -45,20 +46,13 @@ const PIECES: &[(u64, u8, usize)] = &[
 ];
 
 /// What a read puts of the object of 160,000 bytes before the fault line.
-fn try_long(
-    rt: &impl Abort,
-    alloc: Global,
-    number: u64,
-    status: u8,
-    front: usize,
-) -> Result<(), Fail> {
-    let file = disk(alloc, 197_380, LONG, &[])?;
-    let ran = get_failing(alloc, file, number)?;
+fn try_long(rt: &impl Abort, alloc: Global, number: u64, status: u8, front: usize) {
+    let file = got(rt, disk(alloc, 197_380, LONG, &[]));
+    let ran = get_failing(rt, alloc, file, number);
     let line = if status == 7 { "fault disk\n" } else { "" };
     try_outcome(rt, ran.outcome, ended(status), &number);
     let is_front = is_front_and_line(&ran.put, front, line);
     try_holds(rt, is_front, &number);
-    Ok(())
 }
 
 /// Whether bytes are a front of that object, and then a line.
@@ -70,11 +64,10 @@ fn is_front_and_line(bytes: &[u8], front: usize, line: &str) -> bool {
 }
 
 #[test]
-fn puts_what_it_read_before_a_failing_read(rt: HostRuntime) -> Result<(), Fail> {
+fn puts_what_it_read_before_a_failing_read(rt: HostRuntime) {
     for (number, status, front) in PIECES {
-        try_long(&rt, rt.alloc(), *number, *status, *front)?;
+        try_long(&rt, rt.alloc(), *number, *status, *front);
     }
-    Ok(())
 }
 
 /// The number of the changing call of a format that failed, and what `get f a` then comes to. After the
@@ -93,26 +86,22 @@ const FORMATS: &[(u64, u8, &str)] = &[
 ];
 
 /// A format of which the changing call of a number failed, and what `get f a` then comes to.
-fn try_format(
-    rt: &impl Abort,
-    alloc: Global,
-    number: u64,
-    status: u8,
-    puts: &str,
-) -> Result<(), Fail> {
+fn try_format(rt: &impl Abort, alloc: Global, number: u64, status: u8, puts: &str) {
     let none = MemDisk::new(alloc);
-    let fuse = Fuse::listed(none, vec![in alloc; number]?, Vec::new(alloc));
-    let ran = run_on(alloc, FORMAT, false, fuse, Vec::new(alloc))?;
+    let fuse = Fuse::listed(
+        none,
+        vec![in alloc; number].expect(rt, "memory"),
+        Vec::new(alloc),
+    );
+    let ran = got(rt, run_on(alloc, FORMAT, false, fuse, Vec::new(alloc)));
     try_answer(rt, &ran, 7, "fault disk\n");
     let file = ran.disk.into_inner();
-    try_command(rt, alloc, file, GET, status, puts)?;
-    Ok(())
+    try_command(rt, alloc, file, GET, status, puts);
 }
 
 #[test]
-fn tells_no_format_whose_call_failed(rt: HostRuntime) -> Result<(), Fail> {
+fn tells_no_format_whose_call_failed(rt: HostRuntime) {
     for (number, status, puts) in FORMATS {
-        try_format(&rt, rt.alloc(), *number, *status, *puts)?;
+        try_format(&rt, rt.alloc(), *number, *status, *puts);
     }
-    Ok(())
 }

@@ -1,6 +1,6 @@
 //! Runs whose sink fails at one call.
 use crate::answers::{
-    FORMAT, GET, Told, is_front_of_long, told, try_answer, try_holds, try_number, try_outcome,
+    FORMAT, GET, Told, got, is_front_of_long, told, try_answer, try_holds, try_number, try_outcome,
 };
 use crate::images::{LONG, disk};
 use crate::runs::{ended, run_on};
@@ -8,41 +8,49 @@ use disk_face::Disk;
 use disk_mem::MemDisk;
 use std::alloc::Global;
 use std::process::Abort;
-use std::test::Fail;
 
 /// The number of a put that fails, the status, and how much is put of the object of 160,000 bytes.
 const PIECES: &[(u64, u8, usize)] = &[(1, 9, 0), (2, 9, 65_536), (3, 9, 131_072), (4, 0, 160_000)];
 
 /// What is put of the object of 160,000 bytes where the put of a number fails.
-fn try_long(
-    rt: &impl Abort,
-    alloc: Global,
-    fails: u64,
-    status: u8,
-    length: usize,
-) -> Result<(), Fail> {
-    let file = disk(alloc, 197_380, LONG, &[])?;
-    let ran = run_on(alloc, GET, true, file, vec![in alloc; fails]?)?;
+fn try_long(rt: &impl Abort, alloc: Global, fails: u64, status: u8, length: usize) {
+    let file = got(rt, disk(alloc, 197_380, LONG, &[]));
+    let ran = got(
+        rt,
+        run_on(
+            alloc,
+            GET,
+            true,
+            file,
+            vec![in alloc; fails].expect(rt, "memory"),
+        ),
+    );
     try_outcome(rt, ran.outcome, ended(status), &fails);
     try_holds(rt, is_front_of_long(&ran.put, length), &fails);
     try_number(rt, ran.disk.turns(), 0, &fails);
-    Ok(())
 }
 
 #[test]
-fn puts_a_front_of_the_object(rt: HostRuntime) -> Result<(), Fail> {
+fn puts_a_front_of_the_object(rt: HostRuntime) {
     for (fails, status, length) in PIECES {
-        try_long(&rt, rt.alloc(), *fails, *status, *length)?;
+        try_long(&rt, rt.alloc(), *fails, *status, *length);
     }
-    Ok(())
 }
 
 /// What a command comes to over the hand-made file where the first put fails.
-fn try_row(rt: &impl Abort, alloc: Global, row: &Told) -> Result<(), Fail> {
-    let file = disk(alloc, 19608, &[], &[])?;
-    let ran = run_on(alloc, row.words, true, file, vec![in alloc; 1]?)?;
+fn try_row(rt: &impl Abort, alloc: Global, row: &Told) {
+    let file = got(rt, disk(alloc, 19608, &[], &[]));
+    let ran = got(
+        rt,
+        run_on(
+            alloc,
+            row.words,
+            true,
+            file,
+            vec![in alloc; 1].expect(rt, "memory"),
+        ),
+    );
     try_answer(rt, &ran, row.status, row.puts);
-    Ok(())
 }
 
 /// Commands that are refused by a fault line.
@@ -55,11 +63,10 @@ const REFUSED: &[Told] = &told! {
 };
 
 #[test]
-fn keeps_the_status_where_the_fault_line_is_not_put(rt: HostRuntime) -> Result<(), Fail> {
+fn keeps_the_status_where_the_fault_line_is_not_put(rt: HostRuntime) {
     for row in REFUSED {
-        try_row(&rt, rt.alloc(), row)?;
+        try_row(&rt, rt.alloc(), row);
     }
-    Ok(())
 }
 
 /// Commands that are done.
@@ -73,18 +80,25 @@ const DONE: &[Told] = &told! {
 };
 
 #[test]
-fn says_that_the_sink_failed(rt: HostRuntime) -> Result<(), Fail> {
+fn says_that_the_sink_failed(rt: HostRuntime) {
     for row in DONE {
-        try_row(&rt, rt.alloc(), row)?;
+        try_row(&rt, rt.alloc(), row);
     }
-    Ok(())
 }
 
 #[test]
-fn formats_before_the_sink_fails_to_be_told(rt: HostRuntime) -> Result<(), Fail> {
+fn formats_before_the_sink_fails_to_be_told(rt: HostRuntime) {
     let none = MemDisk::new(rt.alloc());
-    let ran = run_on(rt.alloc(), FORMAT, false, none, vec![in rt.alloc(); 1]?)?;
+    let ran = got(
+        &rt,
+        run_on(
+            rt.alloc(),
+            FORMAT,
+            false,
+            none,
+            vec![in rt.alloc(); 1].expect(&rt, "memory"),
+        ),
+    );
     try_answer(&rt, &ran, 9, "");
     try_number(&rt, ran.disk.turns(), 10, &"format");
-    Ok(())
 }

@@ -1,12 +1,13 @@
 //! Formats, what they leave of a file, and formats that stop.
-use crate::answers::{FORMAT, GET, Told, told, try_answer, try_command, try_holds, try_number};
+use crate::answers::{
+    FORMAT, GET, Told, got, told, try_answer, try_command, try_holds, try_number,
+};
 use crate::images::image;
 use crate::runs::run_on;
 use disk_face::Disk;
 use disk_mem::{Choice, Fuse, MemDisk};
 use std::alloc::Global;
 use std::process::Abort;
-use std::test::Fail;
 
 /// What the commands put of a new store.
 const NEW: &[Told] = &told! {
@@ -16,30 +17,32 @@ const NEW: &[Told] = &told! {
 };
 
 /// A format of a file that isn't there, in ten changing calls. The disk is given back.
-fn try_format(rt: &impl Abort, alloc: Global) -> Result<MemDisk, Fail> {
-    let ran = run_on(alloc, FORMAT, false, MemDisk::new(alloc), Vec::new(alloc))?;
+fn try_format(rt: &impl Abort, alloc: Global) -> MemDisk {
+    let ran = got(
+        rt,
+        run_on(alloc, FORMAT, false, MemDisk::new(alloc), Vec::new(alloc)),
+    );
     try_answer(rt, &ran, 0, "formatted\n");
     let mut file = ran.disk;
     try_number(rt, file.turns(), 10, &"turns");
-    try_number(rt, file.len()?, 19_603, &"length");
-    Ok(file)
+    try_number(rt, file.len().expect(rt, "a length"), 19_603, &"length");
+    file
 }
 
 /// What the commands put of the new store. The disk is given back.
-fn try_new(rt: &impl Abort, alloc: Global, new: MemDisk) -> Result<MemDisk, Fail> {
+fn try_new(rt: &impl Abort, alloc: Global, new: MemDisk) -> MemDisk {
     let mut file = new;
     for row in NEW {
-        file = try_command(rt, alloc, file, row.words, row.status, row.puts)?;
+        file = try_command(rt, alloc, file, row.words, row.status, row.puts);
     }
-    Ok(file)
+    file
 }
 
 #[test]
-fn formats_a_file_that_is_not_there(rt: HostRuntime) -> Result<(), Fail> {
-    let new = try_format(&rt, rt.alloc())?;
-    let file = try_new(&rt, rt.alloc(), new)?;
+fn formats_a_file_that_is_not_there(rt: HostRuntime) {
+    let new = try_format(&rt, rt.alloc());
+    let file = try_new(&rt, rt.alloc(), new);
     try_number(&rt, file.turns(), 10, &"commands");
-    Ok(())
 }
 
 /// The lengths of files that aren't empty, and what a format puts of them.
@@ -50,28 +53,26 @@ const TAKEN: &[(usize, &str)] = &[
 ];
 
 /// A format of a file of some bytes, which leaves each of them.
-fn try_taken(rt: &impl Abort, alloc: Global, length: usize, puts: &str) -> Result<(), Fail> {
-    let bytes = image(alloc, length, &[], &[])?;
-    let before = MemDisk::from_bytes(alloc, &bytes)?;
-    let after = try_command(rt, alloc, before, FORMAT, 5, puts)?;
+fn try_taken(rt: &impl Abort, alloc: Global, length: usize, puts: &str) {
+    let bytes = got(rt, image(alloc, length, &[], &[]));
+    let before = MemDisk::from_bytes(alloc, &bytes).expect(rt, "memory");
+    let after = try_command(rt, alloc, before, FORMAT, 5, puts);
     try_holds(rt, bytes.len() == length, &puts);
-    try_kept(rt, &after, &bytes)
+    try_kept(rt, &after, &bytes);
 }
 
 /// A file that is as it was.
-fn try_kept(rt: &impl Abort, file: &MemDisk, bytes: &[u8]) -> Result<(), Fail> {
+fn try_kept(rt: &impl Abort, file: &MemDisk, bytes: &[u8]) {
     try_number(rt, file.turns(), 0, &"turns");
-    let kept = file.image(0, Choice::Newest)?;
+    let kept = file.image(0, Choice::Newest).expect(rt, "memory");
     try_holds(rt, kept.as_slice() == bytes, &"bytes");
-    Ok(())
 }
 
 #[test]
-fn leaves_a_file_that_is_not_empty(rt: HostRuntime) -> Result<(), Fail> {
+fn leaves_a_file_that_is_not_empty(rt: HostRuntime) {
     for (length, puts) in TAKEN {
-        try_taken(&rt, rt.alloc(), *length, *puts)?;
+        try_taken(&rt, rt.alloc(), *length, *puts);
     }
-    Ok(())
 }
 
 /// What a format over a disk that makes so many changing calls comes to, and then `get f a` of what is left.
@@ -104,20 +105,18 @@ const STOPS: &[Stop] = &stops! {
 };
 
 /// Formats over a disk that fails after so many changing calls.
-fn try_stop(rt: &impl Abort, alloc: Global, stop: &Stop) -> Result<(), Fail> {
+fn try_stop(rt: &impl Abort, alloc: Global, stop: &Stop) {
     let fuse = Fuse::stop_after(MemDisk::new(alloc), stop.calls);
-    let ran = run_on(alloc, FORMAT, false, fuse, Vec::new(alloc))?;
+    let ran = got(rt, run_on(alloc, FORMAT, false, fuse, Vec::new(alloc)));
     try_answer(rt, &ran, stop.formats.0, stop.formats.1);
     let file = ran.disk.into_inner();
     try_number(rt, file.turns(), stop.calls, &"turns");
-    try_command(rt, alloc, file, GET, stop.gets.0, stop.gets.1)?;
-    Ok(())
+    try_command(rt, alloc, file, GET, stop.gets.0, stop.gets.1);
 }
 
 #[test]
-fn is_no_store_where_a_format_stopped(rt: HostRuntime) -> Result<(), Fail> {
+fn is_no_store_where_a_format_stopped(rt: HostRuntime) {
     for stop in STOPS {
-        try_stop(&rt, rt.alloc(), stop)?;
+        try_stop(&rt, rt.alloc(), stop);
     }
-    Ok(())
 }

@@ -1,11 +1,10 @@
 //! An input of two requests that ends too early: each of its fronts.
 use crate::Outcome;
-use crate::answers::{try_bytes, try_number, try_outcome};
+use crate::answers::{got, try_bytes, try_number, try_outcome};
 use crate::runs::{formatted, session};
 use disk_face::Disk;
 use std::alloc::Global;
 use std::process::Abort;
-use std::test::Fail;
 
 /// The put ends after 12 bytes, the get after 18.
 const INPUT: &[u8] = b"put a 3\nxyz\nget a\n";
@@ -47,27 +46,24 @@ const ROWS: &[Row] = &rows! {
 };
 
 /// Serves a front on a fresh file. It comes in pieces of 7 bytes, the last of which may be shorter.
-fn try_front(rt: &impl Abort, alloc: Global, length: usize, row: &Row) -> Result<(), Fail> {
-    let front = INPUT.get(..length).ok_or("a front")?;
-    let ran = session(alloc, formatted(alloc, "9")?, front, 7)?;
+fn try_front(rt: &impl Abort, alloc: Global, length: usize, row: &Row) {
+    let front = INPUT.get(..length).expect(rt, "a front");
+    let ran = got(rt, session(alloc, got(rt, formatted(alloc, "9")), front, 7));
     try_bytes(rt, &ran.put, row.puts.as_bytes(), &length);
     try_outcome(rt, ran.outcome, row.outcome, &length);
     try_number(rt, ran.disk.turns(), row.outcome.kept_turn, &length);
-    Ok(())
 }
 
 /// The fronts of a row.
-fn try_row(rt: &impl Abort, alloc: Global, row: &Row) -> Result<(), Fail> {
+fn try_row(rt: &impl Abort, alloc: Global, row: &Row) {
     for length in row.shortest..=row.longest {
-        try_front(rt, alloc, length, row)?;
+        try_front(rt, alloc, length, row);
     }
-    Ok(())
 }
 
 #[test]
-fn serves_each_front_up_to_its_last_whole_request(rt: HostRuntime) -> Result<(), Fail> {
+fn serves_each_front_up_to_its_last_whole_request(rt: HostRuntime) {
     for row in ROWS {
-        try_row(&rt, rt.alloc(), row)?;
+        try_row(&rt, rt.alloc(), row);
     }
-    Ok(())
 }

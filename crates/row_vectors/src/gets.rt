@@ -1,9 +1,8 @@
 //! What `get` answers on changed images that are stores.
-use crate::answers::{GET, MOVED, try_ends, try_unchanged};
+use crate::answers::{GET, MOVED, got, try_ends, try_unchanged};
 use crate::images::{Change, disk, image};
 use std::alloc::Global;
 use std::process::Abort;
-use std::test::Fail;
 
 /// A change of the image, the status of `get f a` on it, and all that it puts.
 #[derive(Clone, Copy)]
@@ -21,9 +20,9 @@ macro_rules! rows {
 }
 
 /// Gets the object of a row's image.
-fn try_row(rt: &impl Abort, alloc: Global, row: &Row) -> Result<(), Fail> {
-    let bytes = image(alloc, row.length, row.changes, &[])?;
-    try_unchanged(rt, alloc, &bytes, GET, row.status, row.puts)
+fn try_row(rt: &impl Abort, alloc: Global, row: &Row) {
+    let bytes = got(rt, image(alloc, row.length, row.changes, &[]));
+    try_unchanged(rt, alloc, &bytes, GET, row.status, row.puts);
 }
 
 /// Changes of the hand-made file.
@@ -42,11 +41,10 @@ const ROWS: &[Row] = &rows! {
 };
 
 #[test]
-fn gets_what_the_table_says(rt: HostRuntime) -> Result<(), Fail> {
+fn gets_what_the_table_says(rt: HostRuntime) {
     for row in ROWS {
-        try_row(&rt, rt.alloc(), row)?;
+        try_row(&rt, rt.alloc(), row);
     }
-    Ok(())
 }
 
 /// An object of a file of 19,857 bytes, whose table has some changes: its name, its first and its last byte,
@@ -66,10 +64,9 @@ macro_rules! marked {
 }
 
 /// Gets such an object.
-fn try_marked(rt: &impl Abort, alloc: Global, row: &Marked) -> Result<(), Fail> {
-    let file = disk(alloc, 19_857, row.changes, row.bytes)?;
-    try_ends(rt, alloc, row.name, file, row.length)?;
-    Ok(())
+fn try_marked(rt: &impl Abort, alloc: Global, row: &Marked) {
+    let file = got(rt, disk(alloc, 19_857, row.changes, row.bytes));
+    try_ends(rt, alloc, row.name, file, row.length);
 }
 
 /// The objects of the moving file.
@@ -80,11 +77,10 @@ const OBJECTS: &[Marked] = &marked! {
 };
 
 #[test]
-fn gets_the_objects_of_a_moving_file_as_they_stand(rt: HostRuntime) -> Result<(), Fail> {
+fn gets_the_objects_of_a_moving_file_as_they_stand(rt: HostRuntime) {
     for row in OBJECTS {
-        try_marked(&rt, rt.alloc(), row)?;
+        try_marked(&rt, rt.alloc(), row);
     }
-    Ok(())
 }
 
 /// `a` of 100 bytes in class 6, whose layout ends at 111, in a file that had grown.
@@ -94,29 +90,27 @@ const GROWN: &[Marked] = &marked! {
 };
 
 #[test]
-fn gets_an_object_before_what_a_flush_left(rt: HostRuntime) -> Result<(), Fail> {
+fn gets_an_object_before_what_a_flush_left(rt: HostRuntime) {
     for row in GROWN {
-        try_marked(&rt, rt.alloc(), row)?;
+        try_marked(&rt, rt.alloc(), row);
     }
-    Ok(())
 }
 
 /// Changes of the moving file. The second has the sequence 2^61 + 1.
 const OTHERS: &[&[Change]] = &[&[], &[(79, 0x20)]];
 
 /// Finds no object `d` in a moving file.
-fn try_other(rt: &impl Abort, alloc: Global, changes: &[Change]) -> Result<(), Fail> {
-    let bytes = image(alloc, 19_857, MOVED, changes)?;
-    try_unchanged(rt, alloc, &bytes, OTHER, 6, "fault missing\n")
+fn try_other(rt: &impl Abort, alloc: Global, changes: &[Change]) {
+    let bytes = got(rt, image(alloc, 19_857, MOVED, changes));
+    try_unchanged(rt, alloc, &bytes, OTHER, 6, "fault missing\n");
 }
 
 /// The words of a command that asks for another name.
 const OTHER: &[&str] = &["get", "f", "d"];
 
 #[test]
-fn finds_no_other_name_in_a_moving_file(rt: HostRuntime) -> Result<(), Fail> {
+fn finds_no_other_name_in_a_moving_file(rt: HostRuntime) {
     for changes in OTHERS {
-        try_other(&rt, rt.alloc(), *changes)?;
+        try_other(&rt, rt.alloc(), *changes);
     }
-    Ok(())
 }

@@ -1,9 +1,8 @@
 //! Hostile files: images that are no store. Each command that opens a file refuses them alike.
-use crate::answers::try_unchanged;
+use crate::answers::{got, try_unchanged};
 use crate::images::{Change, MOVING, image};
 use std::alloc::Global;
 use std::process::Abort;
-use std::test::Fail;
 
 /// An image that is no store, by its base, its length and its changes, and the line that is put of it.
 #[derive(Clone, Copy)]
@@ -50,20 +49,18 @@ const COMMANDS: &[&[&str]] = &[
 const NO_STORE: u8 = 4;
 
 /// What each command puts of a row's image, and that it changes nothing.
-fn try_row(rt: &impl Abort, alloc: Global, row: &Row) -> Result<(), Fail> {
-    let bytes = image(alloc, row.length, row.base, row.changes)?;
+fn try_row(rt: &impl Abort, alloc: Global, row: &Row) {
+    let bytes = got(rt, image(alloc, row.length, row.base, row.changes));
     for words in COMMANDS {
-        try_unchanged(rt, alloc, &bytes, *words, NO_STORE, row.puts)?;
+        try_unchanged(rt, alloc, &bytes, *words, NO_STORE, row.puts);
     }
-    Ok(())
 }
 
 /// The rows of a table.
-fn try_rows(rt: &impl Abort, alloc: Global, rows: &[Row]) -> Result<(), Fail> {
+fn try_rows(rt: &impl Abort, alloc: Global, rows: &[Row]) {
     for row in rows {
-        try_row(rt, alloc, row)?;
+        try_row(rt, alloc, row);
     }
-    Ok(())
 }
 
 /// Faulty heads.
@@ -86,8 +83,8 @@ const HEADS: &[Row] = &rows! {
 };
 
 #[test]
-fn refuses_a_faulty_head(rt: HostRuntime) -> Result<(), Fail> {
-    try_rows(&rt, rt.alloc(), HEADS)
+fn refuses_a_faulty_head(rt: HostRuntime) {
+    try_rows(&rt, rt.alloc(), HEADS);
 }
 
 /// Faulty records.
@@ -102,8 +99,8 @@ const RECORDS: &[Row] = &rows! {
 };
 
 #[test]
-fn refuses_faulty_records(rt: HostRuntime) -> Result<(), Fail> {
-    try_rows(&rt, rt.alloc(), RECORDS)
+fn refuses_faulty_records(rt: HostRuntime) {
+    try_rows(&rt, rt.alloc(), RECORDS);
 }
 
 /// What breaks a rule.
@@ -154,8 +151,8 @@ const RULES: &[Row] = &rows! {
 };
 
 #[test]
-fn refuses_what_breaks_a_rule(rt: HostRuntime) -> Result<(), Fail> {
-    try_rows(&rt, rt.alloc(), RULES)
+fn refuses_what_breaks_a_rule(rt: HostRuntime) {
+    try_rows(&rt, rt.alloc(), RULES);
 }
 
 /// The hand-made file, cut.
@@ -169,6 +166,6 @@ const CUTS: &[Row] = &rows! {
 };
 
 #[test]
-fn refuses_what_was_cut(rt: HostRuntime) -> Result<(), Fail> {
-    try_rows(&rt, rt.alloc(), CUTS)
+fn refuses_what_was_cut(rt: HostRuntime) {
+    try_rows(&rt, rt.alloc(), CUTS);
 }

@@ -1,10 +1,9 @@
 //! What the words of the command line come to.
-use crate::answers::{Told, told, try_answer, try_bytes, try_outcome};
+use crate::answers::{Told, got, told, try_answer, try_bytes, try_outcome};
 use crate::images::image;
 use crate::runs::{ended, run};
 use std::alloc::Global;
 use std::process::Abort;
-use std::test::Fail;
 
 /// Commands over the hand-made file.
 const COMMANDS: &[Told] = &told! {
@@ -35,19 +34,17 @@ const COMMANDS: &[Told] = &told! {
 };
 
 /// What a command comes to over the hand-made file.
-fn try_row(rt: &impl Abort, alloc: Global, row: &Told) -> Result<(), Fail> {
-    let bytes = image(alloc, 19608, &[], &[])?;
-    let ran = run(alloc, row.words, &bytes)?;
+fn try_row(rt: &impl Abort, alloc: Global, row: &Told) {
+    let bytes = got(rt, image(alloc, 19608, &[], &[]));
+    let ran = got(rt, run(alloc, row.words, &bytes));
     try_answer(rt, &ran, row.status, row.puts);
-    Ok(())
 }
 
 #[test]
-fn ends_by_the_words(rt: HostRuntime) -> Result<(), Fail> {
+fn ends_by_the_words(rt: HostRuntime) {
     for row in COMMANDS {
-        try_row(&rt, rt.alloc(), row)?;
+        try_row(&rt, rt.alloc(), row);
     }
-    Ok(())
 }
 
 /// The page of `--help`, word for word.
@@ -92,20 +89,19 @@ const PAGE: &[&str] = &[
 ];
 
 /// The page as the program puts it.
-fn page(alloc: Global) -> Result<Vec<u8>, Fail> {
+fn page(rt: &impl Abort, alloc: Global) -> Vec<u8> {
     let mut page = Vec::new(alloc);
     for line in PAGE {
-        page.extend_from_slice(line.as_bytes())?;
-        page.push(b'\n')?;
+        page.extend_from_slice(line.as_bytes()).expect(rt, "memory");
+        page.push(b'\n').expect(rt, "memory");
     }
-    Ok(page)
+    page
 }
 
 #[test]
-fn puts_the_whole_page(rt: HostRuntime) -> Result<(), Fail> {
-    let page = page(rt.alloc())?;
-    let ran = run(rt.alloc(), &["--help"], &[])?;
+fn puts_the_whole_page(rt: HostRuntime) {
+    let page = page(&rt, rt.alloc());
+    let ran = got(&rt, run(rt.alloc(), &["--help"], &[]));
     try_outcome(&rt, ran.outcome, ended(0), &"page");
     try_bytes(&rt, &ran.put, &page, &"page");
-    Ok(())
 }
