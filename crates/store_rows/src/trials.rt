@@ -2,11 +2,16 @@
 ghost use Rattle.std.specs.Prelude.{◌≡◌, ◌≤◌, IsTrue, IfOk};
 
 use data_area::Ledger;
-use disk_face::{Disk, Sink, length_of, read};
-use disk_mem::{Choice, Fuse, MemDisk};
+use disk_face::{Disk, Sink};
+#[cfg(test)]
+use disk_face::{length_of, read};
+use disk_mem::Fuse;
+#[cfg(test)]
+use disk_mem::{Choice, MemDisk};
 use size_class::CLASSES;
 use std::alloc::Global;
 use std::marker::Model;
+#[cfg(test)]
 use std::process::Abort;
 use std::test::Fail;
 use store_core::{Done, Gauge, Refusal, Stat, Store};
@@ -101,7 +106,8 @@ impl<D: Disk> Trial<D> {
     }
 
     /// All bytes of the file.
-    pub fn file(&mut self, rt: &impl Abort, alloc: Global) -> Vec<u8> {
+    #[cfg(test)]
+    pub(crate) fn file(&mut self, rt: &impl Abort, alloc: Global) -> Vec<u8> {
         let length = length_of(&mut self.disk).expect(rt, "a length");
         let mut bytes = vec![in alloc; 0u8; length as usize].expect(rt, "memory");
         read(&mut self.disk, 0, &mut bytes).expect(rt, "a file");
@@ -128,9 +134,10 @@ impl<D: Disk> Trial<D> {
     }
 }
 
+#[cfg(test)]
 impl Trial<MemDisk> {
     /// An image of a turn.
-    pub fn image(&self, rt: &impl Abort, turn: u64, choice: Choice) -> Vec<u8> {
+    pub(crate) fn image(&self, rt: &impl Abort, turn: u64, choice: Choice) -> Vec<u8> {
         assert!(rt; turn <= self.disk.turns());
         self.disk.image(turn, choice).expect(rt, "memory")
     }
