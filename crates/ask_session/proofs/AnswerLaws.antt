@@ -8,8 +8,8 @@ use Rattle.disk_face.specs.Moments.{Leaves}
 use Rattle.disk_face.specs.Writes.{KeepsDisk}
 use Rattle.disk_face.proofs.MomentLaws.{Leaves-weaken}
 use Rattle.size_class.specs.declared.TheConstants.{SIZE_MAX}
-use Rattle.store_terms.specs.Requests as ask
-use Rattle.store_terms.specs.Requests.{Change, Refused, Reply, Request}
+use Rattle.map_model.specs.Requests as ask
+use Rattle.map_model.specs.Requests.{Change, Refused, Reply, Request}
 use Rattle.segment_layout.specs.Books.{is_quiet, next_book}
 use Rattle.table_rules.proofs.SequenceLaws.{sequence_wider}
 use Rattle.slot_codec.specs.Names.{is_name}
@@ -19,16 +19,16 @@ use Rattle.store_core.specs.declared.answers.Done.{Done}
 use Rattle.store_core.specs.Answers.{AnswersChange, done_reply, facts_at, refusal_for, refused_by, reply_of}
 use Rattle.store_core.specs.Answers as store
 use Rattle.store_core.specs.Changes.{IsQuietChange, NothingChanged}
-use Rattle.store_core.specs.Connection.{IsConnected, Kept, RestsOnTable, base_of, limits_of, state_of}
+use Rattle.store_core.specs.Connection.{IsConnected, StoreValue, RestsOnTable, base_of, limits_of, state_of}
 use Rattle.store_core.specs.Flushes.{IsFlush}
 use Rattle.store_core.specs.Keeps.{AnswersKeep, KeepsNow}
 use Rattle.store_core.specs.Quiet.{charges_of, put_of, quiet_calls}
 use Rattle.store_core.specs.States.{Served, Step, accepted, facts_of, refusal, served_change}
 use Rattle.store_core.proofs.QuietLaws.{quiet_by_book}
 use Rattle.store_core.proofs.StepLaws.{served_by}
-use Rattle.ask_text.specs.Replies.{head_of, rest_of, told_for}
+use Rattle.ask_text.specs.Replies.{reply_line_of, rest_of, told_for}
 use Rattle.ask_text.specs.declared.reply.Reply.TheVariants as head
-use Rattle.ask_session.specs.Heads.{Answers, answer_change, answer_of, done_head}
+use Rattle.ask_session.specs.ReplyLines.{Answers, answer_change, answer_of, done_reply_line}
 use Rattle.ask_session.specs.Serving.{IsServingImage, calls_of, is_changing, served_at}
 use Rattle.ask_session.proofs.ServingLaws.{IsSound, kept_is_serving, refusal_at, refused_stays, same_length_loose, serves_same}
 
@@ -51,26 +51,26 @@ refused_answer ask.full = refl
 refused_answer ask.worn = refl
 
 -- the head that is answered for a refusal
-pub refused_head : {classes : ℕ} (s : Kept) (r : Request) (w : Refused) (a d : disk.State)
+pub refused_head : {classes : ℕ} (s : StoreValue) (r : Request) (w : Refused) (a d : disk.State)
     → IsSound classes s a
     → refusal (limits_of s) (facts_at s r) r ≡ Some w → Unchanged a d
     → Answers classes r s s a d (Ok (head.Refused (told_for w)))
 refused_head s r w a d h is same = record {
   serves = serves_same s r a d (Ok (head.Refused (told_for w))) h same
       (λ told. (refused_stays s a.file r w h.sound is).0) (and_false (is_changing r));
-  replied = λ told. ap head_of (sym (refused_stays s a.file r w h.sound is).1);
+  replied = λ told. ap reply_line_of (sym (refused_stays s a.file r w h.sound is).1);
   line = λ told. ap rest_of (refused_stays s a.file r w h.sound is).1;
   only = tt;
   disk_cause = record { rose = λ e. absurd (cc); later = same.later };
 }
 
 -- a change that is refused
-refused_change : {classes : ℕ} (s new : Kept) (r : Request) (w : Refused) (a d : disk.State)
+refused_change : {classes : ℕ} (s new : StoreValue) (r : Request) (w : Refused) (a d : disk.State)
     (result : Result Done Refusal) → IsSound classes s a → refusal (limits_of s) (facts_at s r) r ≡ Some w
     → result ≡ Err (refusal_for w) → NothingChanged s new a d
     → Answers classes r s new a d (answer_change result)
 refused_change {classes} s new r w a d result h is answer same =
-    subst (λ (x : Kept). Answers classes r s x a d (answer_change result)) (sym same.same_store)
+    subst (λ (x : StoreValue). Answers classes r s x a d (answer_change result)) (sym same.same_store)
     (subst (λ (x : Result _ _). Answers classes r s s a d x) (sym (ap answer_change answer
     ∙ refused_answer w))
     (refused_head s r w a d h is same.same_disk))
@@ -78,7 +78,8 @@ refused_change {classes} s new r w a d result h is answer same =
 -- ---- served
 
 -- What a change leaves that isn't refused: it was done, or the disk failed.
-pub record IsMade (classes : ℕ) (r : Request) (s new : Kept) (a d : disk.State) (result : Result Done Refusal)
+pub record IsMade (classes : ℕ) (r : Request) (s new : StoreValue) (a d : disk.State)
+    (result : Result Done Refusal)
     : Type 0 where
   pub changing : is_changing r ≡ true
   pub either : (OnOk result (Unit {0}) × OnErr result ⊥) ⊎ (result ≡ Err why.Disk)
@@ -96,10 +97,10 @@ pub record IsMade (classes : ℕ) (r : Request) (s new : Kept) (a d : disk.State
   pub frame : KeepsDisk a d
   pub cause : HasCause a.faults d.faults result
 
-head_of_done : (x : Done) → head_of (done_reply x) ≡ done_head x
+head_of_done : (x : Done) → reply_line_of (done_reply x) ≡ done_reply_line x
 head_of_done x = by x.kept
   where
-    by : (b : Bool) → head_of (if b then ask.kept else ask.done) ≡ (if b then head.Kept else head.Ok)
+    by : (b : Bool) → reply_line_of (if b then ask.kept else ask.done) ≡ (if b then head.Kept else head.Ok)
     by true = refl
     by false = refl
 
@@ -110,7 +111,8 @@ rest_of_done x = by x.kept
     by true = refl
     by false = refl
 
-pub is_made : {classes : ℕ} (s new : Kept) (r : Request) (a d : disk.State) (result : Result Done Refusal)
+pub is_made : {classes : ℕ} (s new : StoreValue) (r : Request) (a d : disk.State)
+    (result : Result Done Refusal)
     → IsMade classes r s new a d result → Answers classes r s new a d (answer_change result)
 is_made s new r a d (Ok x) m = record {
   serves = record {
@@ -127,7 +129,7 @@ is_made s new r a d (Ok x) m = record {
     rests = λ told whole rests. m.rests told rests;
     frame = m.frame;
   };
-  replied = λ told. sym (head_of_done x) ∙ ap head_of (m.step told).replied;
+  replied = λ told. sym (head_of_done x) ∙ ap reply_line_of (m.step told).replied;
   line = λ told. ap rest_of (sym (m.step told).replied) ∙ rest_of_done x;
   only = tt;
   disk_cause = record { rose = λ e. absurd (cc); later = m.cause.later };
@@ -168,7 +170,7 @@ on_ok (Ok x) f p = f p
 on_ok (Err e) f p = tt
 
 -- what a store that isn't broken refuses by
-pub refused_is : (s : Kept) (r : Request) (o : Option Refused) → s.is_broken ≡ false
+pub refused_is : (s : StoreValue) (r : Request) (o : Option Refused) → s.is_broken ≡ false
     → refusal (limits_of s) (facts_at s r) r ≡ o → refused_by s r ≡ option_map refusal_for o
 refused_is s r o whole is =
     ap (λ (b : Bool). if b then Some why.Broken else option_map refusal_for (refusal (limits_of s)
@@ -187,19 +189,19 @@ either_answer (Err e) x (inl is) = absurd (cc)
 either_answer (Err e) x (inr is) = inr is
 
 -- a change that is accepted, by whether it is quiet
-quiet_calls_are : (s : Kept) (file : List ℕ) (c : Change)
+quiet_calls_are : (s : StoreValue) (file : List ℕ) (c : Change)
     → refusal (limits_of s) (facts_of (state_of s file) (ask.change c)) (ask.change c) ≡ None
     → (next_book s.in_use.block.k (state_of s file).map s.book c).quiet ≡ true
     → calls_of (limits_of s) (state_of s file) (ask.change c) ≡ quiet_calls c
 quiet_calls_are s file c found quiet = rw (found, quiet) refl
 
-record IsFlushed (s : Kept) (file : List ℕ) (c : Change) (x : Served) : Type 0 where
+record IsFlushed (s : StoreValue) (file : List ℕ) (c : Change) (x : Served) : Type 0 where
   pub least : x.saves.least ≡ 1
   pub most : x.saves.most ≡ 2 * s.in_use.block.k + 1
   pub map : x.state.map ≡ ask.changed c (state_of s file).map
   pub book : x.state.book ≡ (next_book s.in_use.block.k (state_of s file).map s.book c).book
 
-flushed_change : (s : Kept) (file : List ℕ) (c : Change)
+flushed_change : (s : StoreValue) (file : List ℕ) (c : Change)
     → (next_book s.in_use.block.k (state_of s file).map s.book c).quiet ≡ false
     → IsFlushed s file c (served_change (limits_of s) (state_of s file) c)
 flushed_change s file c quiet = record {
@@ -209,7 +211,7 @@ flushed_change s file c quiet = record {
   book = rw quiet refl;
 }
 
-flushed_at : (s : Kept) (file : List ℕ) (c : Change)
+flushed_at : (s : StoreValue) (file : List ℕ) (c : Change)
     → refusal (limits_of s) (facts_of (state_of s file) (ask.change c)) (ask.change c) ≡ None
     → (next_book s.in_use.block.k (state_of s file).map s.book c).quiet ≡ false
     → IsFlushed s file c (served_at s file (ask.change c))
@@ -217,7 +219,7 @@ flushed_at s file c found quiet = subst (IsFlushed s file c)
     (sym (served_by (limits_of s) (state_of s file) (ask.change c) None found))
     (flushed_change s file c quiet)
 
-module _ {classes : ℕ} (s new : Kept) (c : Change) (a d : disk.State) (result : Result Done Refusal)
+module _ {classes : ℕ} (s new : StoreValue) (c : Change) (a d : disk.State) (result : Result Done Refusal)
     (h : IsSound classes s a) (accepted : refusal (limits_of s) (facts_at s (ask.change c)) (ask.change c)
     ≡ None)
     (answer : (result ≡ Ok (record { kept = not (is_quiet (charges_of s c)) })) ⊎ (result ≡ Err why.Disk))
@@ -233,7 +235,7 @@ module _ {classes : ℕ} (s new : Kept) (c : Change) (a d : disk.State) (result 
     changing = refl;
     either = either_answer result _ answer;
     step = step;
-    block = on_ok result (λ v. ap (λ (x : Kept). x.in_use.block) v.rest) q.value;
+    block = on_ok result (λ v. ap (λ (x : StoreValue). x.in_use.block) v.rest) q.value;
     calls = λ told. on_ok result (λ turn least. turn ∙ ap (λ (n : ℕ). counted a.turn n)
         (sym (quiet_calls_are s a.file c found (quiet_by_book classes s a.file c h.sound (h.over told)
         ∙ quiet))))
@@ -243,7 +245,8 @@ module _ {classes : ℕ} (s new : Kept) (c : Change) (a d : disk.State) (result 
     left = λ told rests. Leaves-weaken (IsServingImage classes s (ask.change c) a.file) (λ image is.
         kept_is_serving s (ask.change c) a.file image h.sound (h.over told) is) (q.left told rests);
     rests = λ told rests. on_ok result (λ v.
-        subst (λ (x : Kept). RestsOnTable (base_of x) x.kept d) (sym v.rest) (q.rests told rests)) q.value;
+        subst (λ (x : StoreValue). RestsOnTable (base_of x) x.kept d) (sym v.rest)
+        (q.rests told rests)) q.value;
     frame = q.frame;
     cause = q.calls.cause;
   }
@@ -284,7 +287,7 @@ module _ {classes : ℕ} (s new : Kept) (c : Change) (a d : disk.State) (result 
           ∙ quiet)
 
 -- a put or a del
-pub change_answers : {classes : ℕ} (s new : Kept) (c : Change) (a d : disk.State)
+pub change_answers : {classes : ℕ} (s new : StoreValue) (c : Change) (a d : disk.State)
     (result : Result Done Refusal)
     → IsSound classes s a → AnswersChange (is_quiet (charges_of s c)) (refused_by s (ask.change c)) result
     → (IsSome (refused_by s (ask.change c)) → NothingChanged s new a d)
@@ -325,7 +328,7 @@ change_answers {classes} s new c a d result h answer refused quiet flush step ov
 
 -- ---- keep
 
-keep_made : {classes : ℕ} (s new : Kept) (a d : disk.State) (result : Result Done Refusal)
+keep_made : {classes : ℕ} (s new : StoreValue) (a d : disk.State) (result : Result Done Refusal)
     → IsSound classes s a → refusal (limits_of s) (facts_at s ask.keep) ask.keep ≡ None
     → (result ≡ Ok (record { kept = true })) ⊎ (result ≡ Err why.Disk)
     → (IsTrue a.tells → IfSome (reply_of done_reply result) (λ reply. Step (limits_of s)
@@ -336,7 +339,7 @@ keep_made {classes} s new a d result h is answer step over broken k = record {
   changing = refl;
   either = either_answer result _ answer;
   step = step;
-  block = on_ok result (λ v. ap (λ (x : Kept). x.in_use.block) v) k.value;
+  block = on_ok result (λ v. ap (λ (x : StoreValue). x.in_use.block) v) k.value;
   calls = λ told. on_ok result (λ v least. absurd (omega (
     arith,
     least,
@@ -370,7 +373,7 @@ keep_made {classes} s new a d result h is answer step over broken k = record {
     served_is told = served_by (limits_of s) (state_of s a.file) ask.keep None
         (refusal_at s a.file ask.keep h.sound ∙ is)
 
-pub keep_answers : {classes : ℕ} (s new : Kept) (a d : disk.State) (result : Result Done Refusal)
+pub keep_answers : {classes : ℕ} (s new : StoreValue) (a d : disk.State) (result : Result Done Refusal)
     → IsSound classes s a → AnswersKeep (refused_by s ask.keep) result
     → (IsSome (refused_by s ask.keep) → NothingChanged s new a d)
     → (IsNone (refused_by s ask.keep) → KeepsNow classes s new a d result)
@@ -395,12 +398,12 @@ keep_answers {classes} s new a d result h answer refused keeps step over broken 
 
 -- ---- too long
 
-pub name_is_refused : (s : Kept) (name object : List ℕ) → is_name name ≡ false
+pub name_is_refused : (s : StoreValue) (name object : List ℕ) → is_name name ≡ false
     → refusal (limits_of s) (facts_at s (ask.change (put_of name object))) (ask.change (put_of name object))
     ≡ Some ask.bad_name
 name_is_refused s name object is = rw is refl
 
-pub long_is_refused : (s : Kept) (name object : List ℕ) → is_name name ≡ true → SIZE_MAX < length object
+pub long_is_refused : (s : StoreValue) (name object : List ℕ) → is_name name ≡ true → SIZE_MAX < length object
     → refusal (limits_of s) (facts_at s (ask.change (put_of name object))) (ask.change (put_of name object))
     ≡ Some ask.too_long
 long_is_refused s name object is long =

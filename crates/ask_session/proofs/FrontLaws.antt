@@ -1,7 +1,7 @@
 -- The requests that a run answered are the first of those that its input asks for.
 use Rattle.std.proofs.Common.{◌≡◌, ℕ, List, [], ◌∷◌, ◌++◌, append_assoc, refl, sym, ◌∙◌}
 use Rattle.std.specs.List.{AllByRecursion, flat_map}
-use Rattle.store_terms.specs.Requests.{Request}
+use Rattle.map_model.specs.Requests.{Request}
 use Rattle.ask_text.specs.Inputs.{BeginsNone, HasText, request_text}
 use Rattle.ask_text.proofs.InputLaws.{text_one}
 

@@ -3,7 +3,7 @@ use Rattle.std.specs.Prelude.{◌≡◌, ℕ, ◌+◌, Bool, true, false, ◌&&�
 use Rattle.std.specs.List.{AllByRecursion}
 use Rattle.std.proofs.Common.{arith, ap, ◌∙◌, inl, inr}
 use Rattle.disk_face.specs.Counts.{counted}
-use Rattle.store_terms.specs.Requests.{Reply, Request}
+use Rattle.map_model.specs.Requests.{Reply, Request}
 use Rattle.store_core.specs.States.{Chain, Limits, State, Step}
 use Rattle.ask_text.specs.Inputs.{HasText}
 use Rattle.ask_session.specs.Serving.{acknowledges, calls_of}

@@ -1,8 +1,8 @@
 -- Which request a line and an object are.
 use Rattle.std.proofs.Common.{◌≡◌, ℕ, ◌≤◌, List, length, take, ap, sym, ◌∙◌, subst, refl, Option, Some, None}
 use Rattle.size_class.specs.declared.TheConstants.{SIZE_MAX}
-use Rattle.store_terms.specs.Requests.{Change, Request}
-use Rattle.store_terms.specs.Requests as request
+use Rattle.map_model.specs.Requests.{Change, Request}
+use Rattle.map_model.specs.Requests as request
 use Rattle.store_core.specs.Quiet.{del_of, put_of}
 use Rattle.ask_text.specs.Asks.{ask_of, change_ask}
 use Rattle.ask_text.specs.declared.ask.Ask.{Ask}

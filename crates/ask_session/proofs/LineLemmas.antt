@@ -1,7 +1,7 @@
 -- What begins with no request: no line is found in front of it, or one that asks for nothing.
 use Rattle.std.proofs.Common.{◌≡◌, ◌⊎◌, inl, inr, ℕ, ◌≤◌, ◌<◌, List, [], ◌∷◌, ◌++◌, length, length-append, append_assoc, refl, ap, sym, ◌∙◌, arith}
 use Rattle.std.specs.Prelude.{codes}
-use Rattle.store_terms.specs.Requests.{Request}
+use Rattle.map_model.specs.Requests.{Request}
 use Rattle.ask_text.specs.Asks.{AsksForNothing, ask_of, line_of}
 use Rattle.ask_text.specs.Inputs.{BeginsNone, body_of, request_text}
 use Rattle.ask_text.proofs.AskLaws.{lacks-line, line_short}

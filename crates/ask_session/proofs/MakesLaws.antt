@@ -3,8 +3,8 @@ use Rattle.std.specs.Prelude.{◌≡◌, ◌⊎◌, ℕ, ◌+◌, ◌*◌, ◌^�
 use Rattle.std.proofs.Common.{arith, sym, subst, inl, inr}
 use Rattle.std.proofs.Math.Nat.{le-max_right}
 use Rattle.std.proofs.lemmas.Bool.{leb-false}
-use Rattle.store_terms.specs.Requests as ask
-use Rattle.store_terms.specs.Requests.{Change, Refused, Request}
+use Rattle.map_model.specs.Requests as ask
+use Rattle.map_model.specs.Requests.{Change, Refused, Request}
 use Rattle.segment_layout.specs.Books.{next_book}
 use Rattle.slot_codec.specs.Names.{is_name}
 use Rattle.store_core.specs.States.{Facts, Limits, Served, State, accepted, facts_of, first_refusal, object_tests, refusal, served, served_change, worn_test}
@@ -100,7 +100,11 @@ change_saves : (limits : Limits) (s : State) (c : Change) (q : Bool)
     → SavesFew limits s (served_change limits s c)
 change_saves limits s c true is low = inl (rw is refl)
 change_saves limits s c false is low =
-    inr (low, let n : (served_change limits s c).saves.most ≡ 2 * limits.k + 1 = rw is refl in omega (arith, n))
+    inr (
+      low,
+      let n : (served_change limits s c).saves.most ≡ 2 * limits.k
+          + 1 = rw is refl in omega (arith, n),
+    )
 
 accepted_saves : (limits : Limits) (s : State) (r : Request) → refusal limits (facts_of s r) r ≡ None
     → SavesFew limits s (accepted limits s r)

@@ -5,13 +5,13 @@ use Rattle.std.specs.FinMap as fin
 use Rattle.disk_face.specs.States as disk
 use Rattle.disk_face.specs.Frames.{Unchanged}
 use Rattle.disk_face.specs.Streams.{SinkState}
-use Rattle.store_terms.specs.Requests as ask
-use Rattle.store_terms.specs.Requests.{Refused, Request}
+use Rattle.map_model.specs.Requests as ask
+use Rattle.map_model.specs.Requests.{Refused, Request}
 use Rattle.extent_table.specs.declared.spot.Spot.{Spot}
 use Rattle.store_core.specs.declared.answers.Refusal.{Refusal}
 use Rattle.store_core.specs.Answers.{AnswersNumber, facts_at, refusal_for, refused_by, size_at}
 use Rattle.slot_codec.specs.Names.{is_name}
-use Rattle.store_core.specs.Connection.{Kept, base_of, limits_of, state_of}
+use Rattle.store_core.specs.Connection.{StoreValue, base_of, limits_of, state_of}
 use Rattle.store_core.specs.States.{Served, accepted, object_in, refusal, unchanged}
 use Rattle.store_core.proofs.StoreLaws.{kept_lies, now_lies}
 use Rattle.store_core.proofs.StepLaws.{list_step, served_by}
@@ -22,7 +22,7 @@ use Rattle.ask_text.specs.declared.reply.Reply as text
 use Rattle.ask_text.specs.declared.reply.Reply.TheVariants as head
 use Rattle.ask_session.specs.declared.ends.End.{End}
 use Rattle.ask_session.specs.declared.ends.End.TheVariants as ends
-use Rattle.ask_session.specs.Heads.{Answers, answer_of}
+use Rattle.ask_session.specs.ReplyLines.{Answers, answer_of}
 use Rattle.ask_session.specs.Serving.{HasDiskCause, HasSinkCause, IsServingFault, PutsText, Replies, acknowledges, calls_of, is_changing, is_disk, is_disk_fault, reply_at, served_at}
 use Rattle.ask_session.proofs.AnswerLaws.{on_ok, refused_head, refused_is}
 use Rattle.ask_session.proofs.PutLaws.{not_empty_behind, puts_as, puts_cut, puts_then}
@@ -32,7 +32,8 @@ use Rattle.ask_session.proofs.ReplyLaws.{PutsAnswer, sink_calm, sink_serving, an
 -- ---- replies that are an object
 
 -- the first line and the object of a read that isn't refused
-module _ {classes : ℕ} (r : Request) (s : Kept) (a : disk.State) (h : IsSound classes s a) (object : List ℕ)
+module _ {classes : ℕ} (r : Request) (s : StoreValue) (a : disk.State) (h : IsSound classes s a)
+    (object : List ℕ)
     (size : ℕ) (asks : is_changing r ≡ false)
     (is : IsTrue a.tells → served_at s a.file r ≡ unchanged (state_of s a.file) (ask.found object))
     (none : IsTrue a.tells → calls_of (limits_of s) (state_of s a.file) r ≡ 0)
@@ -96,7 +97,7 @@ module _ {classes : ℕ} (r : Request) (s : Kept) (a : disk.State) (h : IsSound 
 -- ---- lists
 
 -- the first line and the lines of a list
-module _ {classes : ℕ} (s : Kept) (a : disk.State) (h : IsSound classes s a) (count : ℕ)
+module _ {classes : ℕ} (s : StoreValue) (a : disk.State) (h : IsSound classes s a) (count : ℕ)
     (is : count ≡ fin.len s.now) where
   list_stays : IsTrue a.tells → StaysAt s a.file ask.list
   list_stays told = record {
@@ -179,7 +180,7 @@ number_refused None n x is = absurd (cc)
 number_refused (Some y) n x is = let e : y ≡ x = (cc) in ap (λ (z : Refusal). Some z) e
 
 -- what a store that isn't broken serves isn't refused
-pub served_is : (s : Kept) (r : Request) → s.is_broken ≡ false → refused_by s r ≡ None
+pub served_is : (s : StoreValue) (r : Request) → s.is_broken ≡ false → refused_by s r ≡ None
     → refusal (limits_of s) (facts_at s r) r ≡ None
 served_is s r whole is = by (refusal (limits_of s) (facts_at s r) r) refl
   where
@@ -190,7 +191,8 @@ served_is s r whole is = by (refusal (limits_of s) (facts_at s r) r) refl
         ∙ is in cc)
 
 -- what it refuses has a reply
-pub refused_with : (s : Kept) (r : Request) (x : Refusal) → s.is_broken ≡ false → refused_by s r ≡ Some x
+pub refused_with : (s : StoreValue) (r : Request) (x : Refusal) → s.is_broken ≡ false
+    → refused_by s r ≡ Some x
     → (w : Refused) × (refusal (limits_of s) (facts_at s r) r ≡ Some w) × (x ≡ refusal_for w)
 refused_with s r x whole is = by (refusal (limits_of s) (facts_at s r) r) refl
   where
@@ -210,7 +212,7 @@ answer_is ask.full = refl
 answer_is ask.worn = refl
 
 -- a refusal that is put
-pub refused_replies : {classes : ℕ} (r : Request) (s : Kept) (a : disk.State) (out after : SinkState)
+pub refused_replies : {classes : ℕ} (r : Request) (s : StoreValue) (a : disk.State) (out after : SinkState)
     (x : Refusal)
     (answer : Result text.Reply End) (result : Result Bool End) → IsSound classes s a
     → refused_by s r ≡ Some x
@@ -224,14 +226,15 @@ refused_replies {classes} r s a out after x answer result h is same puts =
     (refused_head s r w.0 a a h w.1 (unchanged_itself a h.ready))) puts
 
 -- the object of a get
-pub get_served : {classes : ℕ} (s : Kept) (a : disk.State) (name : List ℕ) → IsSound classes s a
+pub get_served : {classes : ℕ} (s : StoreValue) (a : disk.State) (name : List ℕ) → IsSound classes s a
     → refused_by s (ask.get name) ≡ None → IsTrue a.tells
     → served_at s a.file (ask.get name)
     ≡ unchanged (state_of s a.file) (ask.found (object_in (state_of s a.file).map name))
 get_served s a name h is told = served_by (limits_of s) (state_of s a.file) (ask.get name) None
     (refusal_at s a.file (ask.get name) h.sound ∙ served_is s (ask.get name) h.whole is)
 
-pub get_long : {classes : ℕ} (s : Kept) (a : disk.State) (name : List ℕ) (size : ℕ) → IsSound classes s a
+pub get_long : {classes : ℕ} (s : StoreValue) (a : disk.State) (name : List ℕ) (size : ℕ)
+    → IsSound classes s a
     → AnswersNumber (refused_by s (ask.get name)) (size_at (fin.get s.now name)) (Ok size) → IsTrue a.tells
     → length (object_in (state_of s a.file).map name) ≡ size
 get_long s a name size h answer told =
@@ -240,14 +243,15 @@ get_long s a name size h answer told =
     (live_if (is_name name) (fin.contains_key s.now name) (served_is s (ask.get name) h.whole served.0))
     ∙ sym served.1
 
-pub old_served : {classes : ℕ} (s : Kept) (a : disk.State) (name : List ℕ) → IsSound classes s a
+pub old_served : {classes : ℕ} (s : StoreValue) (a : disk.State) (name : List ℕ) → IsSound classes s a
     → refused_by s (ask.old name) ≡ None → IsTrue a.tells
     → served_at s a.file (ask.old name)
     ≡ unchanged (state_of s a.file) (ask.found (object_in (state_of s a.file).kept name))
 old_served s a name h is told = served_by (limits_of s) (state_of s a.file) (ask.old name) None
     (refusal_at s a.file (ask.old name) h.sound ∙ served_is s (ask.old name) h.whole is)
 
-pub old_long : {classes : ℕ} (s : Kept) (a : disk.State) (name : List ℕ) (size : ℕ) → IsSound classes s a
+pub old_long : {classes : ℕ} (s : StoreValue) (a : disk.State) (name : List ℕ) (size : ℕ)
+    → IsSound classes s a
     → AnswersNumber (refused_by s (ask.old name)) (size_at (fin.get s.kept name)) (Ok size) → IsTrue a.tells
     → length (object_in (state_of s a.file).kept name) ≡ size
 old_long s a name size h answer told =

@@ -7,30 +7,30 @@ use Rattle.disk_face.specs.States as disk
 use Rattle.disk_face.specs.Frames.{Unchanged}
 use Rattle.disk_face.specs.Streams.{SinkState}
 use Rattle.byte_ranges.proofs.RangeLaws.{length-bytes_at}
-use Rattle.store_terms.specs.Requests as ask
-use Rattle.store_terms.specs.Requests.{Reply, Request}
+use Rattle.map_model.specs.Requests as ask
+use Rattle.map_model.specs.Requests.{Reply, Request}
 use Rattle.extent_table.specs.declared.spot.Spot.{Spot}
 use Rattle.extent_table.specs.Extents.{Spots}
-use Rattle.spot_terms.specs.Reads.{AreNamed, EndWithin, read_at}
+use Rattle.placement_model.specs.Reads.{AreNamed, EndWithin, read_at}
 use Rattle.store_core.specs.declared.answers.Refusal.{Refusal}
 use Rattle.store_core.specs.declared.answers.Refusal.TheVariants as why
 use Rattle.store_core.specs.Answers.{AnswersRead, size_at}
 use Rattle.store_core.specs.Reads as reads
-use Rattle.store_core.specs.Connection.{Kept}
+use Rattle.store_core.specs.Connection.{StoreValue}
 use Rattle.store_core.specs.States.{first_refusal, object_in}
 use Rattle.store_core.proofs.ReadingLaws.{object_there}
-use Rattle.ask_text.specs.Replies.{first_line, head_of, reply_text}
+use Rattle.ask_text.specs.Replies.{first_line, reply_line_of, reply_text}
 use Rattle.ask_text.specs.declared.reply.Reply as text
 use Rattle.ask_text.specs.declared.reply.Reply.TheVariants as head
 use Rattle.ask_session.specs.declared.ends.End.{End}
 use Rattle.ask_session.specs.declared.ends.End.TheVariants as ends
-use Rattle.ask_session.specs.Heads.{Answers, fault_of, is_kept}
+use Rattle.ask_session.specs.ReplyLines.{Answers, fault_of, is_kept}
 use Rattle.ask_session.specs.Serving.{HasDiskCause, HasSinkCause, IsServingFault, PutsText, Replies, Serves, acknowledges, is_changing, is_disk, is_disk_fault, is_sink, is_sink_fault, reply_at}
 use Rattle.ask_session.proofs.PutLaws.{puts_as, puts_none}
 use Rattle.ask_session.proofs.ServingLaws.{IsSound, StaysAt, serves_same}
 
 -- what is served depends on the disk's fault alone
-pub serves_as : {T U : Type 0} {classes : ℕ} (r : Request) (s new : Kept) (a d : disk.State)
+pub serves_as : {T U : Type 0} {classes : ℕ} (r : Request) (s new : StoreValue) (a d : disk.State)
     (x : Result T End) (y : Result U End) → is_disk_fault x ≡ is_disk_fault y → Serves classes r s new a d x
     → Serves classes r s new a d y
 serves_as r s new a d x y same h = record {
@@ -46,7 +46,7 @@ serves_as r s new a d x y same h = record {
   frame = h.frame;
 }
 
-kept_head : (reply : Reply) → is_kept (head_of reply) ≡ acknowledges reply
+kept_head : (reply : Reply) → is_kept (reply_line_of reply) ≡ acknowledges reply
 kept_head ask.done = refl
 kept_head ask.kept = refl
 kept_head (ask.found object) = refl
@@ -73,7 +73,8 @@ said_of x (Ok answer) before after is kept puts =
 
 unsaid : (result : Result Bool End) → IfOk result (λ kept. kept ≡ false) → result ≡ Ok true → ⊥
 unsaid (Err end) kept is = absurd (cc)
-unsaid (Ok answer) kept is = absurd (let e : Ok false ≡ Ok true = ap (λ (b : Bool). Ok b) (sym kept) ∙ is in cc)
+unsaid (Ok answer) kept is = absurd (let e : Ok false ≡ Ok true = ap (λ (b : Bool). Ok b) (sym kept)
+    ∙ is in cc)
 
 -- What is put of an answer.
 pub record PutsAnswer (out after : SinkState) (answer : Result text.Reply End)
@@ -102,7 +103,8 @@ if_ok_with : {A E : Type 0} {P Q : A → Type 0} (result : Result A E) → ((x :
 if_ok_with (Ok x) f p = f x p
 if_ok_with (Err e) f p = tt
 
-pub answers_replies : {classes : ℕ} (r : Request) (s new : Kept) (a d : disk.State) (out after : SinkState)
+pub answers_replies : {classes : ℕ} (r : Request) (s new : StoreValue) (a d : disk.State)
+    (out after : SinkState)
     (answer : Result text.Reply End) (result : Result Bool End) → Answers classes r s new a d answer
     → PutsAnswer out after answer result → Replies classes r s new a d out after result
 answers_replies r s new a d out after (Ok x) result h p = record {
@@ -110,8 +112,8 @@ answers_replies r s new a d out after (Ok x) result h p = record {
   kept = λ told. if_ok_with result (λ kept is. is ∙ ap is_kept (h.replied told)
       ∙ kept_head (reply_at s a.file r)) p.kept;
   puts = λ told sink. puts_as (first_line x) (reply_text (reply_at s a.file r)) out.given after.given result
-      (ap first_line (h.replied told) ∙ sym (append-nil (first_line (head_of (reply_at s a.file r))))
-      ∙ ap (λ (xs : List ℕ). first_line (head_of (reply_at s a.file r))
+      (ap first_line (h.replied told) ∙ sym (append-nil (first_line (reply_line_of (reply_at s a.file r))))
+      ∙ ap (λ (xs : List ℕ). first_line (reply_line_of (reply_at s a.file r))
       ++ xs) (sym (h.line told))) (p.put sink);
   said = λ sink is. said_of x result out.given after.given is p.kept (p.put sink);
   nothing = λ sink changing fault. absurd (let e : true ≡ false = sym fault ∙ calm in cc);
@@ -149,7 +151,7 @@ answers_replies {classes} r s new a d out after (Err end) result h p =
 
 -- ---- reads
 
-pub reads_replies : {classes : ℕ} (r : Request) (s : Kept) (a d : disk.State) (out after : SinkState)
+pub reads_replies : {classes : ℕ} (r : Request) (s : StoreValue) (a d : disk.State) (out after : SinkState)
     (result : Result Bool End) → IsSound classes s a → is_changing r ≡ false → Unchanged a d
     → (IsTrue a.tells → StaysAt s a.file r) → (IsTrue a.tells → acknowledges (reply_at s a.file r) ≡ false)
     → IfOk result (λ kept. kept ≡ false)

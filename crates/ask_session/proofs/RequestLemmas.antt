@@ -2,8 +2,8 @@
 use Rattle.std.proofs.Common.{◌≡◌, ℕ, ◌≤◌, List, [], ◌∷◌, ◌++◌, length, take, append_assoc, ap, sym, ◌∙◌, subst, refl, Option, Some, None}
 use Rattle.std.specs.Prelude.{codes}
 use Rattle.size_class.specs.declared.TheConstants.{SIZE_MAX}
-use Rattle.store_terms.specs.Requests.{Change, Request}
-use Rattle.store_terms.specs.Requests as request
+use Rattle.map_model.specs.Requests.{Change, Request}
+use Rattle.map_model.specs.Requests as request
 use Rattle.ask_text.specs.Asks.{IsAsk, ask_of, line_of}
 use Rattle.ask_text.specs.Inputs.{BeginsNone, HasText, body_of}
 use Rattle.ask_text.specs.declared.ask.Ask.{Ask}

@@ -1,7 +1,7 @@
 -- Runs by the number of a request: which step an image was left in, and whose map the last checkpoint has.
 use Rattle.std.specs.Prelude.{◌≡◌, ℕ, zero, suc, ◌<◌, Bool, true, false, if◌then◌else◌, List, [], ◌∷◌, length, slice_index_or, refl}
 use Rattle.std.proofs.Common.{arith, ap, sym, ◌∙◌, subst, inl, inr}
-use Rattle.store_terms.specs.Requests.{Reply, Request}
+use Rattle.map_model.specs.Requests.{Reply, Request}
 use Rattle.store_core.specs.States.{Chain, Limits, State, Step}
 use Rattle.ask_session.specs.Serving.{acknowledges}
 use Rattle.ask_session.specs.Runs.{SomeStep, last_state}

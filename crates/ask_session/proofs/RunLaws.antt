@@ -13,8 +13,8 @@ use Rattle.disk_face.proofs.MomentLaws.{Leaves-none, Leaves-trans, Leaves-weaken
 use Rattle.size_class.specs.declared.TheConstants.{SIZE_MAX}
 use Rattle.slot_codec.specs.declared.codec.SuperBlock.{SuperBlock}
 use Rattle.slot_codec.specs.Spelling.{head_len}
-use Rattle.store_terms.specs.Requests.{Reply, Request}
-use Rattle.store_terms.specs.Maps.{Map}
+use Rattle.map_model.specs.Requests.{Reply, Request}
+use Rattle.map_model.specs.Maps.{Map}
 use Rattle.segment_layout.specs.Books.{Book}
 use Rattle.segment_layout.specs.Bounds.{Loose}
 use Rattle.table_rules.specs.Opening.{Opens}

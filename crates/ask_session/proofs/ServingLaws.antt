@@ -5,13 +5,13 @@ use Rattle.disk_face.specs.Counts.{last}
 use Rattle.disk_face.specs.States as disk
 use Rattle.disk_face.specs.Frames.{Unchanged}
 use Rattle.disk_face.proofs.MomentLaws.{Leaves-none, Leaves-weaken}
-use Rattle.store_terms.specs.Requests as ask
-use Rattle.store_terms.specs.Requests.{Refused, Reply, Request}
+use Rattle.map_model.specs.Requests as ask
+use Rattle.map_model.specs.Requests.{Refused, Reply, Request}
 use Rattle.segment_layout.specs.Books.{book_end}
 use Rattle.segment_layout.specs.Bounds.{Loose, Tight}
 use Rattle.segment_layout.proofs.TightLaws.{tight_is_loose}
 use Rattle.table_rules.proofs.SequenceLaws.{sequence_wider}
-use Rattle.store_core.specs.Connection.{IsKeptImage, IsOver, Kept, SameOnTable, base_of, limits_of, state_of}
+use Rattle.store_core.specs.Connection.{IsKeptImage, IsOver, StoreValue, SameOnTable, base_of, limits_of, state_of}
 use Rattle.store_core.specs.Stores.{IsStore}
 use Rattle.store_core.specs.States.{Facts, Served, Step, facts_of, refusal, unchanged}
 use Rattle.store_core.specs.Answers.{facts_at}
@@ -22,7 +22,7 @@ use Rattle.ask_session.specs.declared.ends.End.{End}
 use Rattle.ask_session.specs.Serving.{IsServingImage, Serves, calls_of, is_changing, is_disk_fault, reply_at, served_at}
 
 -- A store that isn't broken, over a disk that is ready.
-pub record IsSound (classes : ℕ) (s : Kept) (a : disk.State) : Type 0 where
+pub record IsSound (classes : ℕ) (s : StoreValue) (a : disk.State) : Type 0 where
   pub whole : s.is_broken ≡ false
   pub sound : IsStore classes s
   pub over : IsTrue a.tells → IsOver classes s a.file
@@ -32,7 +32,7 @@ pub record IsSound (classes : ℕ) (s : Kept) (a : disk.State) : Type 0 where
 -- ---- images
 
 -- a data part as long as the file's is within bounds
-pub same_length_loose : {classes : ℕ} (s : Kept) (r : Request) (file image : List ℕ) → IsStore classes s
+pub same_length_loose : {classes : ℕ} (s : StoreValue) (r : Request) (file image : List ℕ) → IsStore classes s
     → IsOver classes s file → length image ≡ length file
     → Loose s.in_use.block.k (length image - base_of s) (state_of s file).map (served_at s file r).state.map
 same_length_loose s r file image h over same =
@@ -42,7 +42,7 @@ same_length_loose s r file image h over same =
     (served_at s file r).state.map
     (subst (λ (x : ℕ). Tight s.in_use.block.k x (state_of s file).map) (sym n) (tight_now s file h over))
 
-pub kept_is_serving : {classes : ℕ} (s : Kept) (r : Request) (file image : List ℕ) → IsStore classes s
+pub kept_is_serving : {classes : ℕ} (s : StoreValue) (r : Request) (file image : List ℕ) → IsStore classes s
     → IsOver classes s file → IsKeptImage classes s file image → IsServingImage classes s r file image
 kept_is_serving s r file image h over is = record {
   opens = inl is.opens;
@@ -64,12 +64,12 @@ unchanged_itself a ready = record {
 }
 
 -- the state stays, and no checkpoint is made
-pub record StaysAt (s : Kept) (file : List ℕ) (r : Request) : Type 0 where
+pub record StaysAt (s : StoreValue) (file : List ℕ) (r : Request) : Type 0 where
   pub reply : Reply
   pub is : served_at s file r ≡ unchanged (state_of s file) reply
   pub none : calls_of (limits_of s) (state_of s file) r ≡ 0
 
-same_step : (s : Kept) (file : List ℕ) (r : Request) → StaysAt s file r
+same_step : (s : StoreValue) (file : List ℕ) (r : Request) → StaysAt s file r
     → Step (limits_of s) (state_of s file) r (reply_at s file r) (state_of s file)
 same_step s file r stays = record {
   replied = refl;
@@ -78,7 +78,7 @@ same_step s file r stays = record {
   high = omega (arith, ap (λ (x : Served). x.saves.most) stays.is);
 }
 
-pub serves_same : {T : Type 0} {classes : ℕ} (s : Kept) (r : Request) (a d : disk.State)
+pub serves_same : {T : Type 0} {classes : ℕ} (s : StoreValue) (r : Request) (a d : disk.State)
     (result : Result T End)
     → IsSound classes s a → Unchanged a d → (IsTrue a.tells → StaysAt s a.file r)
     → (is_changing r && is_disk_fault result) ≡ false → Serves classes r s s a d result
@@ -104,13 +104,14 @@ serves_same {T} {classes} s r a d result h same stays calm = record {
 -- ---- refusals
 
 -- what a request is refused by, over a file
-pub refusal_at : {classes : ℕ} (s : Kept) (file : List ℕ) (r : Request) → IsStore classes s
+pub refusal_at : {classes : ℕ} (s : StoreValue) (file : List ℕ) (r : Request) → IsStore classes s
     → refusal (limits_of s) (facts_of (state_of s file) r) r ≡ refusal (limits_of s) (facts_at s r) r
 refusal_at s file r h = ap (λ (f : Facts). refusal (limits_of s) f r)
     (facts_same s file r h.now.named h.kept.named)
 
 -- a request that is refused
-pub refused_stays : {classes : ℕ} (s : Kept) (file : List ℕ) (r : Request) (w : Refused) → IsStore classes s
+pub refused_stays : {classes : ℕ} (s : StoreValue) (file : List ℕ) (r : Request) (w : Refused)
+    → IsStore classes s
     → refusal (limits_of s) (facts_at s r) r ≡ Some w
     → (StaysAt s file r) × (reply_at s file r ≡ ask.refused w)
 refused_stays s file r w h is =

@@ -2,8 +2,8 @@
 use Rattle.std.specs.Prelude.{◌≡◌, ℕ, ◌≤◌, ◌<◌, Bool, true, false, List, [], ◌∷◌, ◌++◌, length, take, drop, Option, Some, None, Result, Ok, Err, IfOk, IfSome, OnErr}
 use Rattle.std.specs.List.{AllByRecursion}
 use Rattle.disk_face.specs.Counts.{Rose}
-use Rattle.store_terms.specs.Requests.{Request}
-use Rattle.store_terms.specs.Requests as ask
+use Rattle.map_model.specs.Requests.{Request}
+use Rattle.map_model.specs.Requests as ask
 use Rattle.size_class.specs.declared.TheConstants.{SIZE_MAX}
 use Rattle.ask_text.specs.declared.ask.Ask.{Ask}
 use Rattle.ask_text.specs.declared.ask.Ask.TheVariants as line

@@ -1,6 +1,6 @@
 pub mod Inputs
 pub mod Serving
-pub mod Heads
+pub mod ReplyLines
 pub mod Sittings
 pub mod Inside
 pub mod Turns

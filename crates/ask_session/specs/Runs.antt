@@ -7,7 +7,7 @@ use Rattle.disk_face.specs.Streams.{SinkState, SourceState}
 use Rattle.disk_face.specs.Moments.{Leaves, LeftOnly}
 use Rattle.disk_face.specs.Writes.{KeepsDisk}
 use Rattle.size_class.specs.declared.TheConstants.{SIZE_MAX}
-use Rattle.store_terms.specs.Requests.{Reply, Request}
+use Rattle.map_model.specs.Requests.{Reply, Request}
 use Rattle.segment_layout.specs.Bounds.{Loose}
 use Rattle.table_rules.specs.Opening.{Opens}
 use Rattle.table_rules.specs.Sequences.{HasSequenceUpTo}
@@ -80,10 +80,10 @@ IsRunImage classes k base s states image = SomeStep (IsStepImage classes k base 
 
 -- So many requests were answered one after another. Their texts stood in front of the unread input, each
 -- reply was put whole, and the states after them are a chain of steps. What a crash may leave meanwhile was
--- left in one of them, where the disk rested on the checkpoint's table; it does so again; and its sequence is at
--- most the greatest that requests leave. Since the last
--- acknowledged checkpoint a crash leaves what opens to that alone, and the calls of the requests after it
--- were made. The turn that is told never falls, and stays while no checkpoint was acknowledged.
+-- left in one of them, where the disk rested on the checkpoint's table; it does so again; and its
+-- sequence is at most the greatest that requests leave. Since the last acknowledged checkpoint a crash
+-- leaves what opens to that alone, and the calls of the requests after it were made. The turn that is
+-- told never falls, and stays while no checkpoint was acknowledged.
 pub record HasRun (classes : ℕ) (old new : Sitting) (before now : disk.State) (from rest : SourceState)
     (out after : SinkState) (n : ℕ) : Type 0 where
   pub requests : List Request

@@ -7,13 +7,13 @@ use Rattle.disk_face.specs.Streams.{SinkState}
 use Rattle.disk_face.specs.Moments.{Leaves}
 use Rattle.disk_face.specs.Writes.{KeepsDisk}
 use Rattle.size_class.specs.declared.TheConstants.{SIZE_MAX}
-use Rattle.store_terms.specs.Requests as ask
-use Rattle.store_terms.specs.Requests.{Reply, Request}
+use Rattle.map_model.specs.Requests as ask
+use Rattle.map_model.specs.Requests.{Reply, Request}
 use Rattle.segment_layout.specs.Books.{next_book}
 use Rattle.segment_layout.specs.Bounds.{Loose}
 use Rattle.table_rules.specs.Opening.{Opens}
 use Rattle.table_rules.specs.Sequences.{HasSequenceUpTo}
-use Rattle.store_core.specs.Connection.{IsConnected, Kept, RestsOnTable, base_of, kept_map, limits_of, state_of}
+use Rattle.store_core.specs.Connection.{IsConnected, StoreValue, RestsOnTable, base_of, kept_map, limits_of, state_of}
 use Rattle.store_core.specs.Quiet.{quiet_calls}
 use Rattle.store_core.specs.States.{Limits, Served, State, Step, facts_of, refusal, served}
 use Rattle.ask_text.specs.Replies.{reply_text}
@@ -68,10 +68,10 @@ acknowledges (ask.listed entries) = false
 acknowledges (ask.counts names bytes kept_names kept_bytes) = false
 
 -- what a store over a file replies, and what it becomes but for its sequence
-abbrev pub served_at : Kept → List ℕ → Request → Served
+abbrev pub served_at : StoreValue → List ℕ → Request → Served
 served_at s file r = served (limits_of s) (state_of s file) r
 
-abbrev pub reply_at : Kept → List ℕ → Request → Reply
+abbrev pub reply_at : StoreValue → List ℕ → Request → Reply
 reply_at s file r = (served_at s file r).reply
 
 -- the changing calls of a request that makes no checkpoint: of one that is refused, none
@@ -91,9 +91,9 @@ calls_of limits s ask.stat = 0
 -- ---- the store and its disk
 
 -- An image that is left while a store over a file serves a request: it opens to the last checkpoint or,
--- where the request makes one, to what stands after it; its sequence is at most as much greater as the request
--- may save checkpoints; and its data part is within bounds for the maps before and after.
-pub record IsServingImage (classes : ℕ) (s : Kept) (r : Request) (file image : List ℕ) : Type 0 where
+-- where the request makes one, to what stands after it; its sequence is at most as much greater as the
+-- request may save checkpoints; and its data part is within bounds for the maps before and after.
+pub record IsServingImage (classes : ℕ) (s : StoreValue) (r : Request) (file image : List ℕ) : Type 0 where
   pub opens : Opens classes SIZE_MAX image (kept_map s file) s.kept_book
       ⊎ ((0 < (served_at s file r).saves.least)
       × Opens classes SIZE_MAX image (served_at s file r).state.map (served_at s file r).state.book)
@@ -103,9 +103,10 @@ pub record IsServingImage (classes : ℕ) (s : Kept) (r : Request) (file image :
 
 -- A request was served, but where the disk failed: it is a step, and the calls of one that makes no
 -- checkpoint are counted. A request that may not change the map and saves nothing leaves the disk as it was.
--- Where the disk failed in a change the store is broken; where it failed in a read the store is what it was. A store that isn't broken is over its file. What a crash may leave meanwhile
--- are images of serving, where the disk rested on the last checkpoint's table; it does so again.
-pub record Serves {T : Type 0} (classes : ℕ) (r : Request) (old new : Kept) (before now : disk.State)
+-- Where the disk failed in a change the store is broken; where it failed in a read the store is what it
+-- was. A store that isn't broken is over its file. What a crash may leave meanwhile are images of
+-- serving, where the disk rested on the last checkpoint's table; it does so again.
+pub record Serves {T : Type 0} (classes : ℕ) (r : Request) (old new : StoreValue) (before now : disk.State)
     (result : Result T End) : Type 0 where
   pub step : IsTrue before.tells → is_disk_fault result ≡ false → Step (limits_of old)
       (state_of old before.file) r (reply_at old before.file r) (state_of new now.file)
@@ -160,9 +161,9 @@ IsServingFault ends.Source = ⊥
 IsServingFault ends.Budget = ⊥
 
 -- A request was served and its reply put, or a front of it where a device failed: nothing where the disk
--- failed in a change. The answer is whether the reply acknowledges a checkpoint; whatever the disk tells, it says so
--- only where `ok kept` was put.
-pub record Replies (classes : ℕ) (r : Request) (old new : Kept) (before now : disk.State)
+-- failed in a change. The answer is whether the reply acknowledges a checkpoint; whatever the disk
+-- tells, it says so only where `ok kept` was put.
+pub record Replies (classes : ℕ) (r : Request) (old new : StoreValue) (before now : disk.State)
     (out after : SinkState)
     (result : Result Bool End) : Type 0 where
   pub serves : Serves classes r old new before now result

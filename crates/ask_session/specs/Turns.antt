@@ -3,7 +3,7 @@ use Rattle.std.specs.Prelude.{◌≡◌, ℕ, Bool, true, false, if◌then◌els
 use Rattle.disk_face.specs.Counts.{counted}
 use Rattle.disk_face.specs.States as disk
 use Rattle.disk_face.specs.Streams.{SinkState, SourceState}
-use Rattle.store_terms.specs.Requests.{Request}
+use Rattle.map_model.specs.Requests.{Request}
 use Rattle.ask_text.specs.Inputs.{BeginsNone, HasText, request_text}
 use Rattle.ask_session.specs.declared.ends.End.{End}
 use Rattle.ask_session.specs.declared.ends.End.TheVariants as ends

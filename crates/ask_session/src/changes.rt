@@ -2,14 +2,14 @@
 ghost use Rattle.std.specs.Prelude.{◌≡◌, ◌<◌, ◌≤◌, ℕ, List, false, length, Some, IsTrue};
 ghost use Rattle.size_class.specs.declared.TheConstants.{SIZE_MAX};
 ghost use Rattle.slot_codec.specs.Names.{is_name};
-ghost use Rattle.store_terms.specs.Requests as ask;
+ghost use Rattle.map_model.specs.Requests as ask;
 ghost use Rattle.store_core.specs.Connection.{IsConnected};
 ghost use Rattle.store_core.specs.Stores.{IsStore};
 ghost use Rattle.store_core.specs.Quiet.{del_of, put_of};
-ghost use Rattle.ask_session.specs.Heads.{Answers, answer_change};
+ghost use Rattle.ask_session.specs.ReplyLines.{Answers, answer_change};
 
 use crate::End;
-use crate::heads::{answer_of, done_head};
+use crate::heads::{answer_of, done_reply_line};
 use ask_text::{Reply, Word5};
 use disk_face::Disk;
 use slot_codec::Name;
@@ -137,7 +137,7 @@ fn answer_change(answer: Result<Done, Refusal>) -> Result<Reply, End>
     ensures { result ≡ answer_change answer }
 {
     match answer {
-        Ok(done) => Ok(done_head(done)),
+        Ok(done) => Ok(done_reply_line(done)),
         Err(why) => answer_of(why),
     }
 }

@@ -1,7 +1,7 @@
 //! The first lines of replies.
 ghost use Rattle.std.specs.Prelude.{◌≡◌, false, codes, IfErr, IfOk, IsTrue, OnErr, Ok, Err};
 ghost use Rattle.ask_text.specs.Replies.{first_line};
-ghost use Rattle.ask_session.specs.Heads.{answer_of, done_head, fault_of, is_kept};
+ghost use Rattle.ask_session.specs.ReplyLines.{answer_of, done_reply_line, fault_of, is_kept};
 ghost use Rattle.ask_session.specs.Serving.{HasSinkCause, PutsText};
 
 use crate::End;
@@ -92,8 +92,8 @@ fn is_kept(reply: &Reply) -> bool
 }
 
 /// What is replied to a change that was done.
-pub(crate) fn done_head(done: Done) -> Reply
-    ensures { result ≡ done_head done }
+pub(crate) fn done_reply_line(done: Done) -> Reply
+    ensures { result ≡ done_reply_line done }
 {
     if done.kept { Reply::Kept } else { Reply::Ok }
 }

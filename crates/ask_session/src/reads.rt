@@ -1,7 +1,7 @@
 //! Requests whose reply is an object or a list.
 ghost use Rattle.std.specs.Prelude.{◌≡◌, ◌++◌, false, codes, IfErr, IfOk, IsTrue, None};
 ghost use Rattle.disk_face.specs.Frames.{Unchanged};
-ghost use Rattle.store_terms.specs.Requests as ask;
+ghost use Rattle.map_model.specs.Requests as ask;
 ghost use Rattle.store_core.specs.Answers.{refused_by};
 ghost use Rattle.store_core.specs.Connection.{IsConnected, state_of};
 ghost use Rattle.store_core.specs.Lines.{lines_of, listing_of};

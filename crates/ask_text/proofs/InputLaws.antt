@@ -3,8 +3,8 @@ use Rattle.std.proofs.Common.{◌≡◌, ℕ, List, ◌∷◌, [], ◌++◌, len
 use Rattle.std.proofs.lemmas.List.{append_cancel_left}
 use Rattle.std.specs.List.{AllByRecursion, flat_map}
 use Rattle.std.specs.Prelude.{codes}
-use Rattle.store_terms.specs.Requests.{Change, Request}
-use Rattle.store_terms.specs.Requests as request
+use Rattle.map_model.specs.Requests.{Change, Request}
+use Rattle.map_model.specs.Requests as request
 use Rattle.ask_text.proofs.AskLaws.{lacks-line, line_one}
 use Rattle.ask_text.proofs.Cuts.{cut_once}
 use Rattle.ask_text.specs.Asks.{ask_of, change_ask, line_of}

@@ -1,8 +1,8 @@
 -- The lines that ask for something, and the texts of requests.
 use Rattle.std.specs.Prelude.{◌≡◌, ℕ, ◌<◌, List, ◌++◌, length, codes, Option, Some, None}
 use Rattle.std.specs.Fmt.{decimal}
-use Rattle.store_terms.specs.Requests.{Request, Change}
-use Rattle.store_terms.specs.Requests as request
+use Rattle.map_model.specs.Requests.{Request, Change}
+use Rattle.map_model.specs.Requests as request
 use Rattle.ask_text.specs.Words.{IsWord}
 use Rattle.ask_text.specs.declared.ask.Ask.{Ask}
 use Rattle.ask_text.specs.declared.ask.Ask.TheVariants as ask

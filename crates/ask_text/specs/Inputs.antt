@@ -1,8 +1,8 @@
 -- The texts of requests, and an input that is texts of requests one after another.
 use Rattle.std.specs.Prelude.{◌≡◌, ℕ, List, [], ◌++◌, flat_map, codes, Option, Some, None}
 use Rattle.std.specs.List.{AllByRecursion}
-use Rattle.store_terms.specs.Requests.{Request}
-use Rattle.store_terms.specs.Requests as request
+use Rattle.map_model.specs.Requests.{Request}
+use Rattle.map_model.specs.Requests as request
 use Rattle.ask_text.specs.Asks.{IsAsk, ask_of, line_of}
 
 -- the object of a put, and a newline; nothing of a del

@@ -1,8 +1,8 @@
 -- The texts of replies.
 use Rattle.std.specs.Prelude.{ℕ, ◌<◌, ◌^◌, List, [], ◌++◌, length, flat_map, codes}
 use Rattle.std.specs.Fmt.{decimal}
-use Rattle.store_terms.specs.Requests as reply
-use Rattle.store_terms.specs.Requests.{Refused}
+use Rattle.map_model.specs.Requests as reply
+use Rattle.map_model.specs.Requests.{Refused}
 use Rattle.ask_text.specs.declared.reply.Reply.{Reply}
 use Rattle.ask_text.specs.declared.reply.Reply.TheVariants as head
 use Rattle.ask_text.specs.declared.reply.Word5.{Word5}
@@ -43,13 +43,13 @@ told_for reply.full = word.Full
 told_for reply.worn = word.Worn
 
 -- what the first line of a reply tells
-abbrev pub head_of : reply.Reply → Reply
-head_of reply.done = head.Ok
-head_of reply.kept = head.Kept
-head_of (reply.found object) = head.Data (length object)
-head_of (reply.refused why) = head.Refused (told_for why)
-head_of (reply.listed entries) = head.List (length entries)
-head_of (reply.counts names bytes kept_names kept_bytes) = head.Stat names bytes kept_names kept_bytes
+abbrev pub reply_line_of : reply.Reply → Reply
+reply_line_of reply.done = head.Ok
+reply_line_of reply.kept = head.Kept
+reply_line_of (reply.found object) = head.Data (length object)
+reply_line_of (reply.refused why) = head.Refused (told_for why)
+reply_line_of (reply.listed entries) = head.List (length entries)
+reply_line_of (reply.counts names bytes kept_names kept_bytes) = head.Stat names bytes kept_names kept_bytes
 
 -- the line of a name and its object's size
 abbrev pub entry_text : List ℕ × ℕ → List ℕ
@@ -62,4 +62,4 @@ rest_of (reply.listed entries) = flat_map entry_text entries
 rest_of _ = []
 
 abbrev pub reply_text : reply.Reply → List ℕ
-reply_text r = first_line (head_of r) ++ rest_of r
+reply_text r = first_line (reply_line_of r) ++ rest_of r

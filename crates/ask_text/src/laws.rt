@@ -6,8 +6,8 @@ ghost use Rattle.ask_text.specs.Replies.{IsTold, first_line, reply_text};
 ghost use Rattle.ask_text.specs.declared.ask.Ask.{Ask};
 ghost use Rattle.ask_text.specs.declared.ask.Ask.TheVariants as ask;
 ghost use Rattle.ask_text.specs.declared.reply.Reply.{Reply};
-ghost use Rattle.store_terms.specs.Requests as request;
-ghost use Rattle.store_terms.specs.Requests.{Request};
+ghost use Rattle.map_model.specs.Requests as request;
+ghost use Rattle.map_model.specs.Requests.{Request};
 
 /// A line asks for one thing at most; it has 270 bytes at most.
 pub fn a_line_asks_once()

@@ -8,8 +8,8 @@ use Rattle.std.specs.FinSet as set
 use Rattle.byte_ranges.specs.Lists.{sum_below}
 use Rattle.size_class.specs.Classes.{width, class_of}
 use Rattle.size_class.proofs.ClassLaws.{class_below}
-use Rattle.store_terms.specs.Maps.{Map}
-use Rattle.store_terms.specs.Requests.{Change}
+use Rattle.map_model.specs.Maps.{Map}
+use Rattle.map_model.specs.Requests.{Change}
 use Rattle.segment_layout.specs.Books.{Book, volumes_of_sizes, item_of, old_item, new_item}
 use Rattle.segment_layout.proofs.SumLaws.{sum_below_agree, sum_below_add, sum_below_zero, sum_below_one}
 use Rattle.segment_layout.proofs.BalanceLaws.{bytes_in, bytes_in-same, bytes_in-other}

@@ -6,8 +6,8 @@ use Rattle.std.proofs.Math.Nat.{mul-le-mul_left, mul-le-mul_right}
 use Rattle.std.proofs.lemmas.Bool.{cases_eq}
 use Rattle.size_class.specs.Classes.{width, class_of, IsGrid, row, cell}
 use Rattle.size_class.proofs.ClassLaws.{class_below}
-use Rattle.store_terms.specs.Maps.{Map}
-use Rattle.store_terms.specs.Requests.{Change}
+use Rattle.map_model.specs.Maps.{Map}
+use Rattle.map_model.specs.Requests.{Change}
 use Rattle.segment_layout.specs.Shapes.{buffer_for, taken_in, with_entry}
 use Rattle.segment_layout.specs.Books.{Book, Charged, entered_at, charge_one, charge_change, next_book, old_item, new_item}
 use Rattle.segment_layout.proofs.SumLaws.{sum_below_le, sum_places}

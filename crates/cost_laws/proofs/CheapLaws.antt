@@ -6,8 +6,8 @@ use Rattle.std.proofs.Math.Nat.{mul-le-mul_left}
 use Rattle.std.proofs.lemmas.Bool.{cases_Bool}
 use Rattle.byte_ranges.specs.Lists.{sum_below}
 use Rattle.size_class.specs.Classes.{width}
-use Rattle.store_terms.specs.Maps.{Map}
-use Rattle.store_terms.specs.Requests.{Change, changed}
+use Rattle.map_model.specs.Maps.{Map}
+use Rattle.map_model.specs.Requests.{Change, changed}
 use Rattle.segment_layout.specs.Books.{Book, charge_change, is_quiet, next_book}
 use Rattle.segment_layout.proofs.SumLaws.{sum_below_agree, sum_below_zero}
 use Rattle.move_cost.specs.Costs.{factor, weigh, potential}

@@ -5,8 +5,8 @@ use Rattle.std.proofs.Common.{arith, ◌∙◌, ap, inl, inr}
 use Rattle.std.proofs.lemmas.Bool.{cases_Bool}
 use Rattle.size_class.specs.Classes.{width, zero_row, zero_grid, row}
 use Rattle.size_class.proofs.ClassLaws.{zero_row-index, zero_grid-cell}
-use Rattle.store_terms.specs.Maps.{Map}
-use Rattle.store_terms.specs.Requests.{Change, changed}
+use Rattle.map_model.specs.Maps.{Map}
+use Rattle.map_model.specs.Requests.{Change, changed}
 use Rattle.std.specs.FinMap as fin
 use Rattle.segment_layout.specs.Books.{Book, empty_book, next_book}
 use Rattle.segment_layout.proofs.TightLaws.{balanced_empty}

@@ -68,7 +68,8 @@ weigh_grid_le C cost grid fits =
       sum_below_less C width (row_weight r grid) fits,
     )
 
-pub weigh_grid_is : (C : ℕ) (cost : ℕ → ℕ) (grid : List (List ℕ)) → C ≤ width → HasNoneFrom C grid → weigh_grid C cost grid ≡ grid_weight (rate_below C cost) grid
+pub weigh_grid_is : (C : ℕ) (cost : ℕ → ℕ) (grid : List (List ℕ)) → C ≤ width → HasNoneFrom C grid
+    → weigh_grid C cost grid ≡ grid_weight (rate_below C cost) grid
 weigh_grid_is C cost grid fits none =
     let r = rate_below C cost in
     sum_below_agree C (λ j. weigh C cost (row grid j)) (row_weight r grid) (λ j h. weigh_is C cost

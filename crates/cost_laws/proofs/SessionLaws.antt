@@ -2,8 +2,8 @@
 use Rattle.std.specs.Prelude.{◌≡◌, ℕ, ◌+◌, ◌*◌, ◌≤◌, true, List}
 use Rattle.std.proofs.Common.{arith}
 use Rattle.size_class.specs.Classes.{zero_row}
-use Rattle.store_terms.specs.Maps.{Map}
-use Rattle.store_terms.specs.Requests.{Change, changed}
+use Rattle.map_model.specs.Maps.{Map}
+use Rattle.map_model.specs.Requests.{Change, changed}
 use Rattle.segment_layout.specs.Books.{Book, next_book}
 use Rattle.move_cost.specs.Costs.{factor, weigh, potential}
 use Rattle.cost_laws.specs.Moves.{next_grid, MovesNext}
@@ -49,7 +49,8 @@ module _ (C k : ℕ) (cost : ℕ → ℕ) where
 
     -- a quiet change leaves the checkpoint, and a flush makes one; the next book's buffers from C on stay
     -- empty
-    module _ (c : Change) (moved_then asked_then : List ℕ) (within : HasNoneFrom C (next_grid k m book c)) (moves : MovesNext (next_book k m book c)
+    module _ (c : Change) (moved_then asked_then : List ℕ) (within : HasNoneFrom C (next_grid k m book c))
+        (moves : MovesNext (next_book k m book c)
         (changed c m) moved moved_then) (asks : AsksNext m c asked asked_then) where
       pub session_changes : (next_book k m book c).quiet ≡ true
           → IsPaidFor C k cost first (changed c m) kept
@@ -63,7 +64,8 @@ module _ (C k : ℕ) (cost : ℕ → ℕ) where
               h.rises j d,
               quiet_rises k m book c h.weighed.balanced.grid_full quiet j d,
             );
-            paid = paid_next C k cost m book c h.weighed first moved moved_then asked asked_then moves asks h.paid;
+            paid = paid_next C k cost m book c h.weighed first moved moved_then asked asked_then moves asks
+                h.paid;
           }
 
       pub session_flushes : IsPaidFor C k cost first (changed c m) (changed c m) (next_book k m book c).book
@@ -75,7 +77,8 @@ module _ (C k : ℕ) (cost : ℕ → ℕ) where
             kept_weighed = w;
             rises = same_cells (next_grid k m book c);
             paid =
-                paid_next C k cost m book c h.weighed first moved moved_then asked asked_then moves asks h.paid;
+                paid_next C k cost m book c h.weighed first moved moved_then asked asked_then moves asks
+                h.paid;
           }
 
     -- so in all no more was moved than the factor times what was asked, and what was there at first

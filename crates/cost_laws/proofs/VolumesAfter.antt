@@ -9,10 +9,10 @@ use Rattle.std.specs.FinSet as set
 use Rattle.byte_ranges.specs.Lists.{sum_below}
 use Rattle.size_class.specs.Classes.{width, class_of}
 use Rattle.size_class.proofs.ClassLaws.{class_low}
-use Rattle.store_terms.specs.Maps.{Map}
-use Rattle.store_terms.specs.Requests.{Change, changed}
-use Rattle.store_terms.specs.Weights.{weights, weight}
-use Rattle.store_terms.proofs.MapLaws.{weights-remove}
+use Rattle.map_model.specs.Maps.{Map}
+use Rattle.map_model.specs.Requests.{Change, changed}
+use Rattle.map_model.specs.Weights.{weights, weight}
+use Rattle.map_model.proofs.MapLaws.{weights-remove}
 use Rattle.segment_layout.specs.Books.{Book, Charged, charge_one, charge_all, charge_change, item_of, old_item, new_item, found_room, is_new_buffered, buffered_after, volumes, Names}
 use Rattle.segment_layout.specs.Balance.{IsBalanced}
 use Rattle.segment_layout.proofs.SumLaws.{sum_below_zero, sum_below_agree}

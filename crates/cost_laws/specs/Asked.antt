@@ -1,8 +1,8 @@
 -- What a change asks: the bytes of the object that it removes and of the one that it inserts, by class.
 use Rattle.std.specs.Prelude.{ℕ, List, ◌++◌}
 use Rattle.std.specs.FinMap as fin
-use Rattle.store_terms.specs.Maps.{Map}
-use Rattle.store_terms.specs.Requests.{Change}
+use Rattle.map_model.specs.Maps.{Map}
+use Rattle.map_model.specs.Requests.{Change}
 use Rattle.segment_layout.specs.Books.{volumes_of_sizes, item_of, new_item}
 
 -- the sizes of the objects that a change removes and inserts

@@ -3,8 +3,8 @@
 use Rattle.std.specs.Prelude.{◌≡◌, ℕ, ◌+◌, ◌-◌, ◌*◌, ◌<◌, ◌≤◌, true, false, List, map, slice_index}
 use Rattle.byte_ranges.specs.Lists.{below}
 use Rattle.size_class.specs.Classes.{width}
-use Rattle.store_terms.specs.Maps.{Map}
-use Rattle.store_terms.specs.Requests.{Change}
+use Rattle.map_model.specs.Maps.{Map}
+use Rattle.map_model.specs.Requests.{Change}
 use Rattle.segment_layout.specs.Books.{Book, Next, next_book, volumes}
 
 -- the moved bytes by class before and after a flush from a boundary on, which leads to a map

@@ -1,8 +1,8 @@
 -- What it is that the moves of a change, and of a session, are paid for.
 use Rattle.std.specs.Prelude.{◌≡◌, ℕ, ◌+◌, ◌*◌, ◌≤◌, List, slice_index}
 use Rattle.size_class.specs.Classes.{width}
-use Rattle.store_terms.specs.Maps.{Map}
-use Rattle.store_terms.specs.Requests.{Change}
+use Rattle.map_model.specs.Maps.{Map}
+use Rattle.map_model.specs.Requests.{Change}
 use Rattle.segment_layout.specs.Books.{Book}
 use Rattle.segment_layout.specs.Balance.{IsBalanced}
 use Rattle.move_cost.specs.Costs.{IsCost, factor, weigh, potential}

@@ -1,6 +1,6 @@
 -- A store's two books and the bytes moved and asked, through the requests of a session.
 use Rattle.std.specs.Prelude.{ℕ, List}
-use Rattle.store_terms.specs.Maps.{Map}
+use Rattle.map_model.specs.Maps.{Map}
 use Rattle.segment_layout.specs.Books.{Book}
 use Rattle.cost_laws.specs.Paid.{IsWeighed, IsPaid}
 use Rattle.cost_laws.specs.Cells.{NoCellFalls}

@@ -2,8 +2,8 @@
 ghost use Rattle.std.specs.Prelude.{◌≡◌, ◌≤◌, ◌<◌, ◌+◌, ◌*◌, ℕ, List, true};
 ghost use Rattle.std.specs.FinMap as fin;
 ghost use Rattle.size_class.specs.Classes.{width, zero_row, zero_grid, IsGrid};
-ghost use Rattle.store_terms.specs.Maps.{Map};
-ghost use Rattle.store_terms.specs.Requests.{Change, changed};
+ghost use Rattle.map_model.specs.Maps.{Map};
+ghost use Rattle.map_model.specs.Requests.{Change, changed};
 ghost use Rattle.segment_layout.specs.Shapes.{boundary_of, taken_in};
 ghost use Rattle.segment_layout.specs.Books.{Book, empty_book, next_book};
 ghost use Rattle.segment_layout.specs.Balance.{IsFilled};

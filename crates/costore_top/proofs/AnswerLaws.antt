@@ -7,7 +7,7 @@ use Rattle.disk_face.specs.Streams.{Puts, SinkState}
 use Rattle.size_class.specs.declared.TheConstants.{CLASSES, SIZE_MAX}
 use Rattle.slot_codec.proofs.StepLaws.{from_ok}
 use Rattle.slot_codec.specs.Choice as choice
-use Rattle.store_terms.specs.Maps.{Map}
+use Rattle.map_model.specs.Maps.{Map}
 use Rattle.segment_layout.specs.Books.{Book}
 use Rattle.table_rules.specs.Opening.{Opens, OpensBy, placed_table}
 use Rattle.slot_codec.specs.Spelling.{head_len}
@@ -16,8 +16,8 @@ use Rattle.table_rules.specs.Rules.{FirstBroken}
 use Rattle.table_rules.proofs.FirstLaws.{first_is_one, valid_breaks_none}
 use Rattle.costore_top.specs.declared.stop.StoreFault.{StoreFault}
 use Rattle.costore_top.specs.declared.stop.StoreFault.TheVariants as store
-use Rattle.costore_top.specs.declared.stop.Stop.{Stop}
-use Rattle.costore_top.specs.declared.stop.Stop.TheVariants as stop
+use Rattle.costore_top.specs.declared.stop.StopReason.{StopReason}
+use Rattle.costore_top.specs.declared.stop.StopReason.TheVariants as stop
 use Rattle.costore_top.specs.Getting.{IsFirstRefusal, IsObject, IsRefused, StopsAs, fault_of, or_missing}
 use Rattle.costore_top.specs.Texts.{IsTold, check_text, map_text}
 use Rattle.costore_top.specs.Layers.{Answers}
@@ -25,7 +25,8 @@ use Rattle.costore_top.specs.Outcomes.{Ends, EndsBy, IsAnswer, status_at}
 use Rattle.costore_top.specs.Words.{Command, check, format, get, help, map_of, run, version, work}
 
 -- a layer stops as it is to, or for want of a device or of memory, before it puts any
-pub stopped : (answer : Result (List ℕ) Stop → Type 0) (old new : SinkState) (why : Stop) → new ≡ old
+pub stopped : (answer : Result (List ℕ) StopReason → Type 0) (old new : SinkState) (why : StopReason)
+    → new ≡ old
     → why ≢ stop.Sink → StopsAs answer why → Answers answer old new (Err why)
 stopped answer old new why same no_sink stops = record {
   bytes = [];
@@ -36,7 +37,7 @@ stopped answer old new why same no_sink stops = record {
   };
 }
   where
-    ends_of : (e : Stop) → e ≢ stop.Sink → StopsAs answer e → EndsBy answer [] (Err e)
+    ends_of : (e : StopReason) → e ≢ stop.Sink → StopsAs answer e → EndsBy answer [] (Err e)
     ends_of stop.Disk not_sink is = inr refl
     ends_of stop.Sink not_sink is = absurd (not_sink refl)
     ends_of stop.NoFile not_sink is = refl
@@ -50,8 +51,8 @@ stopped answer old new why same no_sink stops = record {
     ends_of stop.Budget not_sink is = (is, refl)
 
 -- a layer puts what it is to answer, unless the sink fails
-pub put_answer : (answer : Result (List ℕ) Stop → Type 0) (bytes : List ℕ) (old new : SinkState)
-    (end : Result (Unit {0}) Stop) → answer (Ok bytes) → OnErr end (end ≡ Err stop.Sink)
+pub put_answer : (answer : Result (List ℕ) StopReason → Type 0) (bytes : List ℕ) (old new : SinkState)
+    (end : Result (Unit {0}) StopReason) → answer (Ok bytes) → OnErr end (end ≡ Err stop.Sink)
     → (IsTrue old.tells → Puts old.given new.given bytes end) → Answers answer old new end
 put_answer answer bytes old new end is only puts = record {
   bytes = bytes;
@@ -59,13 +60,13 @@ put_answer answer bytes old new end is only puts = record {
   puts = puts;
 }
   where
-    ends_of : (e : Result (Unit {0}) Stop) → OnErr e (e ≡ Err stop.Sink) → EndsBy answer bytes e
+    ends_of : (e : Result (Unit {0}) StopReason) → OnErr e (e ≡ Err stop.Sink) → EndsBy answer bytes e
     ends_of (Ok x) sink = is
     ends_of (Err e) sink = subst (EndsBy answer bytes) (sym sink) is
 
 -- what stops one command as it is to stops another that answers more
-pub stops_more : (answer other : Result (List ℕ) Stop → Type 0)
-    → ((a : Result (List ℕ) Stop) → answer a → other a) → (why : Stop) → StopsAs answer why
+pub stops_more : (answer other : Result (List ℕ) StopReason → Type 0)
+    → ((a : Result (List ℕ) StopReason) → answer a → other a) → (why : StopReason) → StopsAs answer why
     → StopsAs other why
 stops_more answer other more stop.Disk is = tt
 stops_more answer other more stop.NoMemory is = tt
@@ -98,7 +99,7 @@ one_refusal file (store.Table x) (store.Table y) h k =
     λ i. store.Table (record { rule = rule i; at = at i })
 
 -- a file that is refused stops the command for one reason
-one_stop : (file : List ℕ) (a b : Result (List ℕ) Stop) → IsRefused file a → IsRefused file b → a ≡ b
+one_stop : (file : List ℕ) (a b : Result (List ℕ) StopReason) → IsRefused file a → IsRefused file b → a ≡ b
 one_stop file a b g h =
     g.same ∙ ap (λ f. Err (stop.NotStore f)) (one_refusal file g.fault h.fault g.first h.first) ∙ sym h.same
 
@@ -119,7 +120,7 @@ one_map file m n b c o p =
     ∙ ap (λ t. tables.map_of (head_len t.chosen.block.names) file t.records) same
     ∙ sym p.opens.same_map
 
-one_told : (text : choice.Table → ℕ → List ℕ) (file : List ℕ) (a b : Result (List ℕ) Stop)
+one_told : (text : choice.Table → ℕ → List ℕ) (file : List ℕ) (a b : Result (List ℕ) StopReason)
     → IsTold text file a → IsTold text file b → a ≡ b
 one_told text file a b (inl g) (inl h) =
     g.same
@@ -132,7 +133,8 @@ one_told text file a b (inr g) (inl h) =
     absurd (opens_or_not file h.map h.book g.fault (record { table = h.table; opens = h.opens }) g.first)
 one_told text file a b (inr g) (inr h) = one_stop file a b g h
 
-one_object : (name file : List ℕ) (a b : Result (List ℕ) Stop) → IsObject name file a → IsObject name file b
+one_object : (name file : List ℕ) (a b : Result (List ℕ) StopReason) → IsObject name file a
+    → IsObject name file b
     → a ≡ b
 one_object name file a b (inl g) (inl h) =
     g.same ∙ ap (λ m. or_missing (fin.get m name)) (one_map file g.map h.map g.book h.book g.opens h.opens)
@@ -141,7 +143,7 @@ one_object name file a b (inl g) (inr h) = absurd (opens_or_not file g.map g.boo
 one_object name file a b (inr g) (inl h) = absurd (opens_or_not file h.map h.book g.fault h.opens g.first)
 one_object name file a b (inr g) (inr h) = one_stop file a b g h
 
-pub one_answer : (c : Command) (file : List ℕ) (a b : Result (List ℕ) Stop) → IsAnswer c file a
+pub one_answer : (c : Command) (file : List ℕ) (a b : Result (List ℕ) StopReason) → IsAnswer c file a
     → IsAnswer c file b → a ≡ b
 unfolding IsAnswer
 one_answer (format name k names) file a b g h = g ∙ sym h
@@ -178,8 +180,8 @@ mapped_answer at file t m b opens =
 abbrev IsFree : ℕ → Type 0
 IsFree status = (status ≡ 3) ⊎ (status ≡ 7) ⊎ (status ≡ 9) ⊎ (status ≡ 10)
 
-status_by : (answer : Result (List ℕ) Stop) (bytes : List ℕ) (is : Result (List ℕ) Stop → Type 0)
-    (end : Result (Unit {0}) Stop) → ((other : Result (List ℕ) Stop) → is other → answer ≡ other)
+status_by : (answer : Result (List ℕ) StopReason) (bytes : List ℕ) (is : Result (List ℕ) StopReason → Type 0)
+    (end : Result (Unit {0}) StopReason) → ((other : Result (List ℕ) StopReason) → is other → answer ≡ other)
     → EndsBy is bytes end → (status_at end ≡ status_at answer) ⊎ IsFree (status_at end)
 status_by answer bytes is (Ok x) one by = inl (ap status_at (sym (one (Ok bytes) by)))
 status_by answer bytes is (Err stop.NoFile) one by = inr (inl refl)
@@ -197,7 +199,7 @@ status_by answer bytes is (Err (stop.Line n)) one by =
 status_by answer bytes is (Err stop.Source) one by = inl (ap status_at (sym (one (Err stop.Source) by.0)))
 status_by answer bytes is (Err stop.Budget) one by = inl (ap status_at (sym (one (Err stop.Budget) by.0)))
 
-pub ends_by_the_answer : (c : Command) (file : List ℕ) (answer : Result (List ℕ) Stop) (status : ℕ)
+pub ends_by_the_answer : (c : Command) (file : List ℕ) (answer : Result (List ℕ) StopReason) (status : ℕ)
     (old new : SinkState) → IsAnswer c file answer → Ends (IsAnswer c file) status old new
     → (status ≡ status_at answer) ⊎ (status ≡ 3) ⊎ (status ≡ 7) ⊎ (status ≡ 9) ⊎ (status ≡ 10)
 ends_by_the_answer c file answer status old new is ends =
@@ -206,9 +208,10 @@ ends_by_the_answer c file answer status old new is ends =
     ends.by)
 
 -- want of memory stops any command before it puts any
-pub stopped_for_memory : (answer : Result (List ℕ) Stop → Type 0) (state : SinkState) (why : Stop)
+pub stopped_for_memory : (answer : Result (List ℕ) StopReason → Type 0) (state : SinkState) (why : StopReason)
     → why ≡ stop.NoMemory → Answers answer state state (Err why)
-stopped_for_memory answer state why is = subst (λ (w : Stop). Answers answer state state (Err w)) (sym is)
+stopped_for_memory answer state why is = subst (λ (w : StopReason). Answers answer state state (Err w))
+    (sym is)
     (record {
       bytes = [];
       ends = refl;

@@ -5,7 +5,7 @@ use Rattle.disk_face.specs.Counts.{Rose}
 use Rattle.disk_face.specs.States.{State}
 use Rattle.disk_face.specs.Streams.{SinkState, SourceState}
 use Rattle.size_class.specs.declared.TheConstants.{CLASSES}
-use Rattle.store_core.specs.Connection.{Kept}
+use Rattle.store_core.specs.Connection.{StoreValue}
 use Rattle.ask_session.specs.Sittings.{Sitting, new_sitting}
 use Rattle.ask_session.specs.Runs.{EndsRun}
 use Rattle.ask_session.specs.Inputs.{is_source}
@@ -15,11 +15,11 @@ use Rattle.ask_session.specs.declared.ends.End.{End}
 use Rattle.ask_session.specs.declared.ends.End.TheVariants as ends
 use Rattle.costore_top.specs.Outcomes.{status_at}
 use Rattle.costore_top.specs.Sessions.{IsUnserved, end_of}
-use Rattle.costore_top.specs.declared.stop.Stop.{Stop}
+use Rattle.costore_top.specs.declared.stop.StopReason.{StopReason}
 
 -- what the session's devices are once it ended
 pub record SessionKeeps (a z : State) (from rest : SourceState) (out mid_out : SinkState)
-    (end : Result (Unit {0}) Stop)
+    (end : Result (Unit {0}) StopReason)
     (a_turn kept_turn : ℕ) : Type 0 where
   pub later : a.faults ≤ z.faults
   pub rose : status_at end ≡ 7 → Rose a.faults z.faults
@@ -38,7 +38,7 @@ pub record SessionKeeps (a z : State) (from rest : SourceState) (out mid_out : S
   pub served : IsUnserved (status_at end) → ⊥
 
 module _ {D I O : Type 0} (disk_of : D → State) (source_of : I → SourceState) (sink_of : O → SinkState)
-    (mid now : D) (from rest : I) (out mid_out : O) (s : Kept) (new : Sitting) where
+    (mid now : D) (from rest : I) (out mid_out : O) (s : StoreValue) (new : Sitting) where
   abbrev Session : End → Type 0
   Session how = EndsRun disk_of source_of sink_of CLASSES
       (new_sitting s (disk_of mid).turn) new mid now from rest out

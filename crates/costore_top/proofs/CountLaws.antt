@@ -6,8 +6,8 @@ use Rattle.disk_face.specs.Mounts.{is_mounted}
 use Rattle.disk_face.specs.States as disk
 use Rattle.disk_face.specs.Streams.{SinkState, SourceState}
 use Rattle.size_class.specs.declared.TheConstants.{CLASSES}
-use Rattle.store_terms.specs.Requests.{Reply, Request}
-use Rattle.store_core.specs.Connection.{Kept, limits_of, state_of}
+use Rattle.map_model.specs.Requests.{Reply, Request}
+use Rattle.store_core.specs.Connection.{StoreValue, limits_of, state_of}
 use Rattle.store_core.specs.States.{Chain, Limits, State}
 use Rattle.ask_session.specs.Serving.{acknowledges}
 use Rattle.ask_session.specs.Sittings.{Sitting, new_sitting}
@@ -18,10 +18,10 @@ use Rattle.ask_session.specs.declared.ends.End.TheVariants as ends
 use Rattle.costore_top.specs.Getting.{stop_of}
 use Rattle.costore_top.specs.Headline.{HasMounted}
 use Rattle.costore_top.specs.Outcomes.{status_at, status_of}
-use Rattle.costore_top.specs.Sessions.{HasCounted, Went, WentFrom, end_of, ended_as, outcome_of, unserved}
+use Rattle.costore_top.specs.Sessions.{HasCounted, Went, RunSteps, end_of, ended_as, outcome_of, unserved}
 use Rattle.costore_top.specs.Words.{run}
-use Rattle.costore_top.specs.declared.stop.Stop.{Stop}
-use Rattle.costore_top.specs.declared.stop.Stop.TheVariants as stop
+use Rattle.costore_top.specs.declared.stop.StopReason.{StopReason}
+use Rattle.costore_top.specs.declared.stop.StopReason.TheVariants as stop
 use Rattle.costore_top.specs.declared.run.Ended.{Ended}
 use Rattle.costore_top.proofs.ClauseLaws.{session_keeps}
 use Rattle.costore_top.proofs.WentLaws.{not_status}
@@ -52,7 +52,7 @@ kept_within done kept (reply ∷ replies) low few =
     next false = omega (arith, low, few)
 
 -- no session was begun
-none_counted : (why : Stop) (turn : ℕ) (told mounted : Type 0) → status_of why ≢ 11
+none_counted : (why : StopReason) (turn : ℕ) (told mounted : Type 0) → status_of why ≢ 11
     → HasCounted (outcome_of (unserved why turn)) told mounted
 none_counted why turn told mounted other = record {
   none = λ is. (refl, refl);
@@ -62,7 +62,7 @@ none_counted why turn told mounted other = record {
 }
 
 module _ {D I O : Type 0} (disk_of : D → disk.State) (source_of : I → SourceState) (sink_of : O → SinkState)
-    (mid now : D) (from rest : I) (out mid_out : O) (s : Kept) (new : Sitting) (told mounted : Type 0)
+    (mid now : D) (from rest : I) (out mid_out : O) (s : StoreValue) (new : Sitting) (told mounted : Type 0)
     (tells : told → IsTrue (disk_of mid).tells) (there : mounted) where
   abbrev Session : End → Type 0
   Session how = EndsRun disk_of source_of sink_of CLASSES
@@ -123,11 +123,11 @@ module _ {D I O : Type 0} (disk_of : D → disk.State) (source_of : I → Source
   abbrev All : Ended → Type 0
   All x = HasCounted (outcome_of x) (IsTrue (disk_of before).tells) (HasMounted (disk_of now))
 
-  none_of : (why : Stop) (turn : ℕ) → status_of why ≢ 11 → e ≡ unserved why turn → All e
+  none_of : (why : StopReason) (turn : ℕ) → status_of why ≢ 11 → e ≡ unserved why turn → All e
   none_of why turn other is = subst All (sym is)
       (none_counted why turn (IsTrue (disk_of before).tells) (HasMounted (disk_of now)) other)
 
-  pub has_counted : WentFrom disk_of source_of sink_of (run file) before now from rest out mid_out e
+  pub has_counted : RunSteps disk_of source_of sink_of (run file) before now from rest out mid_out e
       → All e
   has_counted (inl (is, source, sink)) = elim is.which as (λ _. All e) [
     | inl failed ↦ none_of stop.Disk 0 (λ n. omega (arith, n)) failed.0

@@ -12,24 +12,24 @@ use Rattle.disk_face.specs.Writes.{KeepsDisk}
 use Rattle.disk_face.specs.declared.bay.Mounted.TheVariants.{Absent, There}
 use Rattle.disk_face.proofs.FrameLaws.{Untouched-then}
 use Rattle.size_class.specs.declared.TheConstants.{CLASSES, SIZE_MAX}
-use Rattle.store_terms.specs.Maps.{Map}
+use Rattle.map_model.specs.Maps.{Map}
 use Rattle.segment_layout.specs.Books.{Book}
 use Rattle.table_rules.specs.Opening.{Opens}
-use Rattle.store_core.specs.Connection.{Kept}
+use Rattle.store_core.specs.Connection.{StoreValue}
 use Rattle.store_core.specs.Opened.{IsOpening}
 use Rattle.reopen.specs.Refusals.{RefusesToOpen}
 use Rattle.reopen.specs.declared.fault.OpenFault.{OpenFault}
 use Rattle.work_maker.proofs.ListLaws.{how_many}
 use Rattle.costore_top.specs.Commands.{IsMounted}
-use Rattle.costore_top.specs.Doing.{Did, DidFrom, IsAllDone, IsNotBegun, IsRefusal, IsStopped}
+use Rattle.costore_top.specs.Doing.{Did, WorkSteps, IsAllDone, IsNotBegun, IsRefusal, IsStopped}
 use Rattle.costore_top.specs.Faults.{line_of}
 use Rattle.costore_top.specs.Getting.{IsRefused, stop_of}
 use Rattle.costore_top.specs.Outcomes.{Ends, EndsBy, IsFront, PutsLast, PutsLine, line_at, mounted, status_at, status_of}
 use Rattle.costore_top.specs.Summaries.{summary_text}
 use Rattle.costore_top.specs.Words.{Command, work}
 use Rattle.costore_top.specs.Working.{KeepsWork, PutsSummary, has_worked, is_working}
-use Rattle.costore_top.specs.declared.stop.Stop.{Stop}
-use Rattle.costore_top.specs.declared.stop.Stop.TheVariants as stop
+use Rattle.costore_top.specs.declared.stop.StopReason.{StopReason}
+use Rattle.costore_top.specs.declared.stop.StopReason.TheVariants as stop
 use Rattle.costore_top.proofs.EndLaws.{calm_by}
 use Rattle.costore_top.proofs.Statuses.{Puts-front}
 use Rattle.costore_top.proofs.WentLaws.{disk_by, mount_untouched, not_status, refused_unchanged, refuses, status_unopened}
@@ -150,11 +150,11 @@ known_refusal n (inr (inr ten)) = inl (ap is_working ten)
 
 module _ {D : Type 0} (disk_of : D → State) (file : List ℕ) (number count : ℕ) (old z : State)
     (out put : SinkState)
-    (end : Result (Unit {0}) Stop) where
+    (end : Result (Unit {0}) StopReason) where
   -- the status of this end
-  carried : (e : Result (Unit {0}) Stop) → end ≡ e → All file number count old z out put (status_at e)
+  carried : (e : Result (Unit {0}) StopReason) → end ≡ e → All file number count old z out put (status_at e)
       → All file number count old z out put (status_at end)
-  carried e is all = subst (λ (x : Result (Unit {0}) Stop). All file number count old z out put
+  carried e is all = subst (λ (x : Result (Unit {0}) StopReason). All file number count old z out put
       (status_at x)) (sym is) all
 
   module _ (first : State) (mount : AfterMount old first) (calm : first.faults ≡ old.faults)
@@ -213,7 +213,7 @@ module _ {D : Type 0} (disk_of : D → State) (file : List ℕ) (number count : 
         later : first.faults ≤ z.faults
         later = omega (arith, x.opening.cause.later, x.done.ran.later)
 
-        by : (e : Result (Unit {0}) Stop) → end ≡ e → OnErr e (e ≡ Err stop.Sink)
+        by : (e : Result (Unit {0}) StopReason) → end ≡ e → OnErr e (e ≡ Err stop.Sink)
             → HasCause out.faults put.faults e
             → All file number count old z out put (status_at end)
         by (Ok y) is only cause = carried (Ok y) is
@@ -225,7 +225,7 @@ module _ {D : Type 0} (disk_of : D → State) (file : List ℕ) (number count : 
             (λ n. omega (arith, n)) (λ n. omega (arith, n)) (λ n. omega (arith, n)) cause.later
             (λ n. cause.rose) (λ n. absurd (omega (arith, n))) x.told)
 
-  pub whole : DidFrom disk_of (work file number count) number count old z out put end
+  pub whole : WorkSteps disk_of (work file number count) number count old z out put end
       → Whole (work file number count) old z out put (status_at end)
   whole (inl (is, same)) = elim is.which as (λ _. All file number count old z out put (status_at end)) [
     | inl failed ↦ carried (Err stop.Disk) failed.0
@@ -244,7 +244,7 @@ module _ {D : Type 0} (disk_of : D → State) (file : List ℕ) (number count : 
 
   -- a file that isn't opened ends the command as its first refusal says
   pub refused_did : IsTrue old.tells → ((m : Map) (b : Book) → Opens CLASSES SIZE_MAX old.file m b → ⊥)
-      → DidFrom disk_of (work file number count) number count old z out put end
+      → WorkSteps disk_of (work file number count) number count old z out put end
       → EndsBy (IsRefused old.file) [] end × (put ≡ out)
   refused_did told never (inl (is, same)) = (
     elim is.which as (λ _. EndsBy (IsRefused old.file) [] end) [
@@ -261,7 +261,7 @@ module _ {D : Type 0} (disk_of : D → State) (file : List ℕ) (number count : 
       same_file : (disk_of x.first).file ≡ old.file
       same_file = x.mount.same_file told
 
-      never_opened : (a : State) (s : Kept) → IsOpening CLASSES (disk_of x.first) a (Ok s) → ⊥
+      never_opened : (a : State) (s : StoreValue) → IsOpening CLASSES (disk_of x.first) a (Ok s) → ⊥
       never_opened a s is =
           let o = is.opened told_there in
           never o.m o.b (subst (λ (f : List ℕ). Opens CLASSES SIZE_MAX f o.m o.b) same_file
@@ -291,7 +291,7 @@ no_line put after failed line = line.front.2
     ∙ append-nil put.given
 
 -- a front of a text was put, and no line after it
-text_put : (out put after : SinkState) (text : List ℕ) (e : Result (Unit {0}) Stop) (failed : Type 0)
+text_put : (out put after : SinkState) (text : List ℕ) (e : Result (Unit {0}) StopReason) (failed : Type 0)
     → Puts out.given put.given text e → after.given ≡ put.given
     → (after.given ≡ out.given ++ text) ⊎ failed → PutsLast out.given after.given text failed
 text_put out put after text e failed puts same whole = record {
@@ -301,7 +301,7 @@ text_put out put after text e failed puts same whole = record {
 }
 
 module _ {D : Type 0} (disk_of : D → State) (number count : ℕ) (z : State) (out put after : SinkState)
-    (end : Result (Unit {0}) Stop) (line : IsTrue put.tells
+    (end : Result (Unit {0}) StopReason) (line : IsTrue put.tells
     → PutsLast put.given after.given (line_at end) (Rose put.faults after.faults)) where
   -- where all jobs were done a summary is put, or a front of it
   pub summary_put : {first : State} (x : IsAllDone disk_of number count first z out put end)
@@ -311,24 +311,25 @@ module _ {D : Type 0} (disk_of : D → State) (number count : ℕ) (z : State) (
       text : List ℕ
       text = summary_text x.summary
 
-      by : (e : Result (Unit {0}) Stop) → OnErr e (e ≡ Err stop.Sink) → Puts out.given put.given text e
+      by : (e : Result (Unit {0}) StopReason) → OnErr e (e ≡ Err stop.Sink) → Puts out.given put.given text e
           → PutsLast put.given after.given (line_at e) (Rose put.faults after.faults)
           → PutsLast out.given after.given text (status_at e ≡ 9)
       by (Ok y) only puts ends =
           let same = no_line put after (Rose put.faults after.faults) ends in
           text_put out put after text (Ok y) (0 ≡ 9) puts same (inl (same ∙ puts.all))
       by (Err why) only puts ends =
-          let none = subst (λ (e : Result (Unit {0}) Stop).
+          let none = subst (λ (e : Result (Unit {0}) StopReason).
           PutsLast put.given after.given (line_at e) (Rose put.faults after.faults)) only ends in
           text_put out put after text (Err why) (status_of why ≡ 9) puts
           (no_line put after (Rose put.faults after.faults) none)
-          (inr (ap (λ (e : Result (Unit {0}) Stop). status_at e) only))
+          (inr (ap (λ (e : Result (Unit {0}) StopReason). status_at e) only))
 
   -- the jobs of a command that ends so weren't all done
-  unworked : {A : Type 0} (e : Result (Unit {0}) Stop) → end ≡ e → has_worked (status_at e) ≡ false
+  unworked : {A : Type 0} (e : Result (Unit {0}) StopReason) → end ≡ e → has_worked (status_at e) ≡ false
       → IsTrue (has_worked (status_at end)) → A
   unworked e is none worked =
-      not_both (sym none ∙ ap (λ (x : Result (Unit {0}) Stop). has_worked (status_at x)) (sym is) ∙ worked)
+      not_both (sym none ∙ ap (λ (x : Result (Unit {0}) StopReason). has_worked (status_at x)) (sym is)
+      ∙ worked)
 
   unworked_refusal : (n : ℕ) → (n ≡ 4) ⊎ (n ≡ 7) ⊎ (n ≡ 10) → has_worked n ≡ false
   unworked_refusal n (inl four) = ap has_worked four
@@ -336,7 +337,7 @@ module _ {D : Type 0} (disk_of : D → State) (number count : ℕ) (z : State) (
   unworked_refusal n (inr (inr ten)) = ap has_worked ten
 
   -- what the summary says on any disk
-  pub summary_of : {c : Command} {old : State} → DidFrom disk_of c number count old z out put end
+  pub summary_of : {c : Command} {old : State} → WorkSteps disk_of c number count old z out put end
       → IsTrue (has_worked (status_at end)) → PutsSummary count (status_at end) out after
   summary_of (inl (is, same)) worked = elim is.which as (λ _. PutsSummary count (status_at end) out after) [
     | inl failed ↦ unworked (Err stop.Disk) failed.0 refl worked
@@ -364,7 +365,7 @@ module _ {D : Type 0} (disk_of : D → State) (number count : ℕ) (z : State) (
       }
 
 -- a line is put, and nothing else
-pub line_only : (out put after : SinkState) (end : Result (Unit {0}) Stop)
+pub line_only : (out put after : SinkState) (end : Result (Unit {0}) StopReason)
     → has_worked (status_at end) ≡ false
     → put ≡ out → IsTrue out.tells
     → (IsTrue put.tells → PutsLast put.given after.given (line_at end) (Rose put.faults after.faults))
@@ -379,7 +380,7 @@ line_only out put after (Err why) none same told line = record {
 }
 
 -- what is kept once the line was put
-pub keeps_line : (old z : State) (out put after : SinkState) (end : Result (Unit {0}) Stop)
+pub keeps_line : (old z : State) (out put after : SinkState) (end : Result (Unit {0}) StopReason)
     → KeepsWork old z out put (status_at end) → put.faults ≤ after.faults
     → OnOk end (after.faults ≡ put.faults)
     → after.tells ≡ put.tells → KeepsWork old z out after (status_at end)
@@ -435,8 +436,9 @@ jobs_done file number count n old z out after known keeps mount there calm sink_
 -- ---- the first refusal
 
 -- the line alone was put, of an end that is to be
-pub ends_by_line : (answer : Result (List ℕ) Stop → Type 0) (out put after : SinkState)
-    (end : Result (Unit {0}) Stop) (status : ℕ) → status ≡ status_at end → EndsBy answer [] end → put ≡ out
+pub ends_by_line : (answer : Result (List ℕ) StopReason → Type 0) (out put after : SinkState)
+    (end : Result (Unit {0}) StopReason) (status : ℕ) → status ≡ status_at end → EndsBy answer [] end
+    → put ≡ out
     → (IsTrue put.tells → PutsLast put.given after.given (line_at end) (Rose put.faults after.faults))
     → Ends answer status out after
 ends_by_line answer out put after end status is by same line = record {

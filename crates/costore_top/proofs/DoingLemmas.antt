@@ -5,19 +5,19 @@ use Rattle.disk_face.specs.Counts.{HasCause}
 use Rattle.disk_face.specs.States.{State}
 use Rattle.disk_face.specs.Streams.{Puts, SinkState}
 use Rattle.size_class.specs.declared.TheConstants.{CLASSES}
-use Rattle.store_core.specs.Connection.{Kept}
+use Rattle.store_core.specs.Connection.{StoreValue}
 use Rattle.store_core.specs.Opened.{IsOpening}
 use Rattle.work_session.specs.Works.{HasDone, HasStopped}
 use Rattle.work_session.specs.declared.summary.Summary.{Summary}
 use Rattle.costore_top.specs.Doing.{Did, jobs_of}
 use Rattle.costore_top.specs.Summaries.{summary_text}
-use Rattle.costore_top.specs.declared.stop.Stop.{Stop}
-use Rattle.costore_top.specs.declared.stop.Stop.TheVariants as stop
+use Rattle.costore_top.specs.declared.stop.StopReason.{StopReason}
+use Rattle.costore_top.specs.declared.stop.StopReason.TheVariants as stop
 
 module _ {D : Type 0} (disk_of : D → State) (number count : ℕ) (first mid now : D) (out put : SinkState)
-    (s : Kept)
+    (s : StoreValue)
     (opening : IsOpening CLASSES (disk_of first) (disk_of mid) (Ok s)) where
-  pub did_all : (x : Summary) (text : List ℕ) (end : Result (Unit {0}) Stop)
+  pub did_all : (x : Summary) (text : List ℕ) (end : Result (Unit {0}) StopReason)
       → HasDone CLASSES s (jobs_of number count s) (disk_of mid) (disk_of now) x → text ≡ summary_text x
       → (IsTrue out.tells → Puts out.given put.given text end) → OnErr end (end ≡ Err stop.Sink)
       → put.tells ≡ out.tells → HasCause out.faults put.faults end → Did disk_of number count (disk_of first)

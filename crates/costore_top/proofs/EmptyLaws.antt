@@ -1,5 +1,5 @@
--- A file with the table of a store that was just formatted opens to the empty map and the empty book, and what
--- is no store opens to nothing.
+-- A file with the table of a store that was just formatted opens to the empty map and the empty book,
+-- and what is no store opens to nothing.
 use Rattle.std.specs.Prelude.{◌≡◌, ℕ, ◌-◌, nat_lt, List, [], length, take, IsErr, refl}
 use Rattle.std.proofs.Common.{arith, sym, ◌∙◌, subst, inl, inr}
 use Rattle.std.proofs.lemmas.Bool.{cond-false, le-ltb}
@@ -12,8 +12,8 @@ use Rattle.slot_codec.proofs.ChoiceLaws.{table_chosen}
 use Rattle.slot_codec.specs.Spelling.{head_len}
 use Rattle.slot_codec.specs.declared.codec.Header.{Header}
 use Rattle.slot_codec.specs.declared.codec.Kind.TheVariants.{Settled}
-use Rattle.slot_pair.specs.Formats.{HasFirstTable, IsNoStore, IsNoneOrFirst, first_header, first_table}
-use Rattle.store_terms.specs.Maps.{Map}
+use Rattle.slot_pair.specs.Formats.{HasFirstTable, IsNoStore, IsNoStoreOrEmpty, first_header, first_table}
+use Rattle.map_model.specs.Maps.{Map}
 use Rattle.segment_layout.specs.Shapes.{end_of}
 use Rattle.segment_layout.specs.Books.{Book, empty_book, volumes_of_sizes}
 use Rattle.segment_layout.proofs.LayoutLaws.{taken_nothing}
@@ -104,7 +104,7 @@ none_opens file m b none opens =
     let is = (table_chosen file opens.table opens.opens.read).0 in
     absurd (let e = subst IsErr is none in cc)
 
-pub none_or_empty : (k names : ℕ) (file : List ℕ) → IsNoneOrFirst k names file → IsNoneOrEmpty k names file
+pub none_or_empty : (k names : ℕ) (file : List ℕ) → IsNoStoreOrEmpty k names file → IsNoneOrEmpty k names file
 none_or_empty k names file (inl none) = inl none
 none_or_empty k names file (inr first) =
     inr (record { table = first; opens = first_opens k names file first })

@@ -6,11 +6,11 @@ use Rattle.disk_face.specs.States.{State}
 use Rattle.disk_face.specs.Streams.{SinkState, SourceState}
 use Rattle.costore_top.specs.Outcomes.{Ends, EndsBy, PutsLast, PutsLine, line_at, status_at}
 use Rattle.costore_top.specs.Sessions.{IsUnserved, KeepsRun}
-use Rattle.costore_top.specs.declared.stop.Stop.{Stop}
-use Rattle.costore_top.specs.declared.stop.Stop.TheVariants as stop
+use Rattle.costore_top.specs.declared.stop.StopReason.{StopReason}
+use Rattle.costore_top.specs.declared.stop.StopReason.TheVariants as stop
 use Rattle.costore_top.proofs.Statuses.{later_rose}
 
-pub calm_by : {P : Type 0} (end : Result (Unit {0}) Stop) → OnOk end P → status_at end ≡ 0 → P
+pub calm_by : {P : Type 0} (end : Result (Unit {0}) StopReason) → OnOk end P → status_at end ≡ 0 → P
 calm_by (Ok x) calm is = calm
 calm_by (Err stop.Words) calm is = absurd (omega (arith, is))
 calm_by (Err stop.NoFile) calm is = absurd (omega (arith, is))
@@ -24,7 +24,8 @@ calm_by (Err (stop.Line n)) calm is = absurd (omega (arith, is))
 calm_by (Err stop.Source) calm is = absurd (omega (arith, is))
 calm_by (Err stop.Budget) calm is = absurd (omega (arith, is))
 
-module _ (old z : State) (from rest : SourceState) (out mid after : SinkState) (end : Result (Unit {0}) Stop)
+module _ (old z : State) (from rest : SourceState) (out mid after : SinkState)
+    (end : Result (Unit {0}) StopReason)
     (status : ℕ) (is : status ≡ status_at end) (keeps : KeepsRun old z from rest out mid (status_at end))
     (line : IsTrue mid.tells → PutsLast mid.given after.given (line_at end)
     (Rose mid.faults after.faults)) where
@@ -58,7 +59,7 @@ module _ (old z : State) (from rest : SourceState) (out mid after : SinkState) (
     line_only told = subst (λ (x : SinkState). PutsLast x.given after.given (line_at end)
         (Rose out.faults after.faults)) same (line_after told)
 
-    pub ends_after : (answer : Result (List ℕ) Stop → Type 0) → EndsBy answer [] end
+    pub ends_after : (answer : Result (List ℕ) StopReason → Type 0) → EndsBy answer [] end
         → Ends answer status out after
     ends_after answer by = record {
       end = end;
@@ -76,7 +77,7 @@ module _ (old z : State) (from rest : SourceState) (out mid after : SinkState) (
     pub only_line : IsUnserved status → IsTrue out.tells → PutsLine status out after
     only_line unserved told = by end is (line_only told)
       where
-        by : (e : Result (Unit {0}) Stop) → status ≡ status_at e
+        by : (e : Result (Unit {0}) StopReason) → status ≡ status_at e
             → PutsLast out.given after.given (line_at e) (Rose out.faults after.faults)
             → PutsLine status out after
         by (Ok x) zero puts = absurd (elim unserved as (λ _. ⊥) [

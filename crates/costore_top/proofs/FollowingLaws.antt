@@ -16,8 +16,8 @@ use Rattle.slot_codec.specs.declared.codec.SuperBlock.{SuperBlock}
 use Rattle.slot_codec.proofs.ChoiceLaws.{chosen_parts, table_chosen}
 use Rattle.slot_codec.proofs.PickLaws.{in_use_parts}
 use Rattle.slot_codec.proofs.SuperBlockLaws.{superblock_parts}
-use Rattle.store_terms.specs.Maps.{Map}
-use Rattle.store_terms.specs.Requests.{Reply, Request}
+use Rattle.map_model.specs.Maps.{Map}
+use Rattle.map_model.specs.Requests.{Reply, Request}
 use Rattle.segment_layout.specs.Books.{Book}
 use Rattle.table_rules.specs.Opening.{Opens, OpensBy}
 use Rattle.table_rules.specs.Sequences.{HasSequenceUpTo}
@@ -27,8 +27,8 @@ use Rattle.store_core.proofs.OpeningLaws.{alike_itself}
 use Rattle.ask_session.specs.Runs.{last_state}
 use Rattle.costore_top.specs.declared.top.Outcome.{Outcome}
 use Rattle.costore_top.specs.Following.{LeavesRoomTwice, MayBegin}
-use Rattle.costore_top.specs.Headline.{IsNextStart, OpensToBeing, OpensToKept, RunsAs, limits_with, most_left}
-use Rattle.costore_top.specs.Working.{WorksAs}
+use Rattle.costore_top.specs.Headline.{IsNextStart, OpensToBeing, OpensToKept, RunHolds, limits_with, most_left}
+use Rattle.costore_top.specs.Working.{WorkHolds}
 
 -- ---- numbers
 
@@ -132,7 +132,7 @@ module _ {t : choice.Table} {m : Map} {b : Book} {old z : State} {out after : Si
     (o : OpensBy CLASSES SIZE_MAX t old.file m b) (twice : LeavesRoomTwice t) (rests : RestsOnFound t old)
     (below : z.turn < last) where
   pub run_followed : {requests : List Request} {end : List ℕ} {x : Outcome} {from rest : SourceState}
-      → RunsAs t.chosen.block t m b requests end x old z from rest out after
+      → RunHolds t.chosen.block t m b requests end x old z from rest out after
       → LeftOnly z old.turn (MayBegin (most_left t.chosen.block.k t))
   run_followed {x = x} r image since =
       let room = room_once t twice in
@@ -144,7 +144,7 @@ module _ {t : choice.Table} {m : Map} {b : Book} {old z : State} {out after : Si
       ])
 
   pub work_followed : {number count status : ℕ}
-      → WorksAs t.chosen.block t m b number count status old z out after
+      → WorkHolds t.chosen.block t m b number count status old z out after
       → LeftOnly z old.turn (MayBegin (most_left t.chosen.block.k t))
   work_followed {status = status} w image since =
       let room = room_once t twice in

@@ -8,12 +8,12 @@ use Rattle.disk_face.specs.Moments.{Leaves, Only, Rests}
 use Rattle.disk_face.specs.States.{State}
 use Rattle.disk_face.proofs.MomentLaws.{Leaves-trans, Leaves-weaken}
 use Rattle.slot_pair.proofs.FormatLaws.{short_is_none}
-use Rattle.slot_pair.specs.Formats.{HasFirstTable, IsNoneOrFirst, formatted_file}
+use Rattle.slot_pair.specs.Formats.{HasFirstTable, IsNoStoreOrEmpty, formatted_file}
 use Rattle.costore_top.specs.Commands.{Formats, IsDone, IsEmptyStore, IsFormatted, IsNoneOrEmpty}
-use Rattle.costore_top.specs.Layers.{IsPlain}
+use Rattle.costore_top.specs.Layers.{IsCommandReason}
 use Rattle.costore_top.specs.Outcomes.{status_at}
-use Rattle.costore_top.specs.declared.stop.Stop.{Stop}
-use Rattle.costore_top.specs.declared.stop.Stop.TheVariants as stop
+use Rattle.costore_top.specs.declared.stop.StopReason.{StopReason}
+use Rattle.costore_top.specs.declared.stop.StopReason.TheVariants as stop
 use Rattle.costore_top.proofs.EmptyLaws.{first_opens, none_or_empty}
 
 -- an empty file that rests leaves no bytes, which are no store
@@ -38,7 +38,7 @@ formatted_now {a} {b} k names file table rests calls =
     }
 
 pub formats_now : {a b : State} (k names : ℕ) (done : Type 0) → length a.file ≡ 0
-    → IsNoneOrFirst k names b.file → (Only [] a.may_leave → Leaves a b (IsNoneOrFirst k names))
+    → IsNoStoreOrEmpty k names b.file → (Only [] a.may_leave → Leaves a b (IsNoStoreOrEmpty k names))
     → (done → IsFormatted k names a b) → Formats k names a b done
 formats_now {a} {b} k names done empty stopped leaves formatted = record {
   stopped = none_or_empty k names b.file stopped;
@@ -76,7 +76,7 @@ formats_later {a} k names done same told empty formats = record {
 }
 
 -- which ends the statuses 0, 7 and 9 come of
-done_by : (end : Result (Unit {0}) Stop) → (status_at end ≡ 0) ⊎ (status_at end ≡ 9) → IsDone end
+done_by : (end : Result (Unit {0}) StopReason) → (status_at end ≡ 0) ⊎ (status_at end ≡ 9) → IsDone end
 done_by (Ok tt) is = inl refl
 done_by (Err stop.Sink) is = inr refl
 done_by (Err stop.Words) is = absurd (omega (arith, is))
@@ -90,7 +90,7 @@ done_by (Err (stop.Line n)) is = absurd (omega (arith, is))
 done_by (Err stop.Source) is = absurd (omega (arith, is))
 done_by (Err stop.Budget) is = absurd (omega (arith, is))
 
-pub disk_by : (end : Result (Unit {0}) Stop) → status_at end ≡ 7 → end ≡ Err stop.Disk
+pub disk_by : (end : Result (Unit {0}) StopReason) → status_at end ≡ 7 → end ≡ Err stop.Disk
 disk_by (Ok tt) is = absurd (omega (arith, is))
 disk_by (Err stop.Sink) is = absurd (omega (arith, is))
 disk_by (Err stop.Words) is = absurd (omega (arith, is))
@@ -104,7 +104,7 @@ disk_by (Err (stop.Line n)) is = absurd (omega (arith, is))
 disk_by (Err stop.Source) is = absurd (omega (arith, is))
 disk_by (Err stop.Budget) is = absurd (omega (arith, is))
 
-pub formats_by : {a b : State} (k names : ℕ) (end : Result (Unit {0}) Stop)
+pub formats_by : {a b : State} (k names : ℕ) (end : Result (Unit {0}) StopReason)
     → Formats k names a b (IsDone end)
     → Formats k names a b ((status_at end ≡ 0) ⊎ (status_at end ≡ 9))
 formats_by k names end formats = record {
@@ -114,7 +114,7 @@ formats_by k names end formats = record {
 }
 
 -- the statuses of a session alone
-pub plain_status : (end : Result (Unit {0}) Stop) → IfErr end IsPlain → (status_at end ≢ 2)
+pub plain_status : (end : Result (Unit {0}) StopReason) → IfErr end IsCommandReason → (status_at end ≢ 2)
     × (status_at end ≢ 8) × (status_at end ≢ 11)
 plain_status (Ok x) is = (λ e. omega (arith, e), λ e. omega (arith, e), λ e. omega (arith, e))
 plain_status (Err stop.Sink) is = (λ e. omega (arith, e), λ e. omega (arith, e), λ e. omega (arith, e))

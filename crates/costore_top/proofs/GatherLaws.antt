@@ -7,7 +7,7 @@ use Rattle.std.proofs.lemmas.List.{append-nil, take-append-drop, take-append-le,
 use Rattle.std.proofs.lemmas.Option.{get_or_from_slice_get, slice_get_within}
 use Rattle.byte_ranges.specs.Lists.{below, counting_from}
 use Rattle.disk_face.specs.Streams.{Puts}
-use Rattle.costore_top.specs.declared.stop.Stop.{Stop}
+use Rattle.costore_top.specs.declared.stop.StopReason.{StopReason}
 use Rattle.costore_top.specs.Texts.{Gathers}
 
 -- bytes that are gathered alone
@@ -54,7 +54,7 @@ module _ {put piece mid gathered x : List ℕ} (first : Gathers put piece mid ga
             ∙ take-append-add put (piece ++ (x ++ more)) m,
       )
 
-  pub gathered_then : {after piece_after y : List ℕ} (end : Result (Unit {0}) Stop)
+  pub gathered_then : {after piece_after y : List ℕ} (end : Result (Unit {0}) StopReason)
       → Gathers mid gathered after piece_after y end → Gathers put piece after piece_after (x ++ y) end
   gathered_then {after} {piece_after} {y} (Ok u) second = record {
     all = (second.all.0 ∙ both y, omega (arith, first.all.1, second.all.1));
@@ -66,7 +66,7 @@ module _ {put piece mid gathered x : List ℕ} (first : Gathers put piece mid ga
   }
 
   -- the rest is put
-  pub gathered_put : {after : List ℕ} (end : Result (Unit {0}) Stop) → Puts mid after gathered end
+  pub gathered_put : {after : List ℕ} (end : Result (Unit {0}) StopReason) → Puts mid after gathered end
       → Puts put after (piece ++ x) end
   gathered_put {after} (Ok u) puts = record { all = puts.all ∙ first.all.0; front = tt }
   gathered_put {after} (Err e) puts = record {
@@ -80,7 +80,7 @@ module _ {put piece mid gathered x : List ℕ} (first : Gathers put piece mid ga
   }
 
 -- where the sink failed, a front was put of more bytes too
-pub stopped_before : {put piece after piece_after x : List ℕ} (y : List ℕ) (why : Stop)
+pub stopped_before : {put piece after piece_after x : List ℕ} (y : List ℕ) (why : StopReason)
     → Gathers put piece after piece_after x (Err why) → Gathers put piece after piece_after (x ++ y) (Err why)
 stopped_before {put} {piece} {after} {piece_after} {x} y why first = record {
   all = tt;
@@ -94,7 +94,7 @@ stopped_before {put} {piece} {after} {piece_after} {x} y why first = record {
   );
 }
 
-pub stopped_put : {put after piece_after x : List ℕ} (y : List ℕ) (why : Stop)
+pub stopped_put : {put after piece_after x : List ℕ} (y : List ℕ) (why : StopReason)
     → Gathers put [] after piece_after x (Err why) → Puts {T = Unit {0}} put after (x ++ y) (Err why)
 stopped_put y why first = record { all = tt; front = (stopped_before y why first).front }
 
@@ -123,7 +123,7 @@ module _ {A : Type 0} (line : A → List ℕ) (xs : List A) where
       (gathered_then (gathered_then so_far (Ok tt) moved) (Ok tt) (pushed next room after (line x) added))
 
   -- the sink failed before a line
-  pub line_stopped : {put piece mid gathered next room : List ℕ} (n : ℕ) (why : Stop)
+  pub line_stopped : {put piece mid gathered next room : List ℕ} (n : ℕ) (why : StopReason)
       → Gathers put piece mid gathered (flat_map line (take n xs)) (Ok tt)
       → Gathers mid gathered next room [] (Err why)
       → Gathers put piece next room (flat_map line xs) (Err why)

@@ -8,10 +8,10 @@ use Rattle.slot_codec.specs.declared.codec.Record.{Record}
 use Rattle.table_rules.specs.Opening.{placed_table}
 use Rattle.table_rules.specs.Tables.{book_of, end_of_record}
 use Rattle.extent_table.specs.declared.spot.Spot.{Spot}
-use Rattle.spot_terms.specs.Reads.{object_at, read_at}
-use Rattle.spot_terms.proofs.ReadLaws.{get-read_at}
-use Rattle.spot_terms.proofs.EnterLaws.{by_name}
-use Rattle.spot_terms.proofs.OpenedLaws.{record_within}
+use Rattle.placement_model.specs.Reads.{object_at, read_at}
+use Rattle.placement_model.proofs.ReadLaws.{get-read_at}
+use Rattle.placement_model.proofs.EnterLaws.{by_name}
+use Rattle.placement_model.proofs.OpenedLaws.{record_within}
 use Rattle.reopen.specs.Loads.{IsLoadedFrom, KeepsLoaded, table_seen}
 use Rattle.reopen.specs.declared.state.Loaded.{Loaded}
 use Rattle.costore_top.specs.Getting.{IsGiven, or_missing}

@@ -14,11 +14,11 @@ use Rattle.slot_codec.specs.Choice as choice
 use Rattle.slot_codec.specs.declared.codec.SuperBlock.{SuperBlock}
 use Rattle.slot_codec.specs.declared.codec.Kind.TheVariants as kind
 use Rattle.slot_pair.specs.declared.find.SlotFault.TheVariants as slot
-use Rattle.store_terms.specs.Maps.{Map}
-use Rattle.store_terms.specs.Requests.{Request}
+use Rattle.map_model.specs.Maps.{Map}
+use Rattle.map_model.specs.Requests.{Request}
 use Rattle.segment_layout.specs.Books.{Book, book_end}
 use Rattle.table_rules.specs.Opening.{OpensBy}
-use Rattle.store_core.specs.Connection.{Kept, state_of}
+use Rattle.store_core.specs.Connection.{StoreValue, state_of}
 use Rattle.store_core.specs.Stores.{IsStore}
 use Rattle.store_core.specs.States as store
 use Rattle.store_core.specs.Opened.{IsFoundImage, IsOpening, LeavesRoom, RestsOnFound, SameOnFound, found_base, state_at}
@@ -33,12 +33,12 @@ use Rattle.ask_session.specs.Runs.{EndsRun, budget}
 use Rattle.ask_session.specs.declared.ends.End.{End}
 use Rattle.ask_session.specs.declared.ends.End.TheVariants as ends
 use Rattle.costore_top.specs.Getting.{stop_of}
-use Rattle.costore_top.specs.Headline.{HasMounted, HowFar, IsNextStart, RunsAs, Starts, turn_opened}
+use Rattle.costore_top.specs.Headline.{HasMounted, HowFar, IsNextStart, RunHolds, Starts, turn_opened}
 use Rattle.costore_top.specs.Outcomes.{PutsLast, line_at, mounted, status_at}
-use Rattle.costore_top.specs.Sessions.{IsServed, IsUnbegun, IsUnopened, Went, WentFrom, ended_as, end_of, outcome_of, unserved}
+use Rattle.costore_top.specs.Sessions.{IsServed, IsUnbegun, IsUnopened, Went, RunSteps, ended_as, end_of, outcome_of, unserved}
 use Rattle.costore_top.specs.Words.{Command}
-use Rattle.costore_top.specs.declared.stop.Stop.{Stop}
-use Rattle.costore_top.specs.declared.stop.Stop.TheVariants as stop
+use Rattle.costore_top.specs.declared.stop.StopReason.{StopReason}
+use Rattle.costore_top.specs.declared.stop.StopReason.TheVariants as stop
 use Rattle.costore_top.specs.declared.run.Ended.{Ended}
 use Rattle.costore_top.specs.declared.top.Outcome.{Outcome}
 use Rattle.costore_top.proofs.OpeningLemmas.{Opened, left_first, left_opening, opened_by, opens_first, rests_first, told_first}
@@ -64,12 +64,12 @@ module _ {D I O : Type 0} (disk_of : D → State) (source_of : I → SourceState
   z = disk_of now
 
   -- the line of an end is put behind what the session put
-  abbrev PutsEnd : Result (Unit {0}) Stop → Type 0
+  abbrev PutsEnd : Result (Unit {0}) StopReason → Type 0
   PutsEnd ending = IsTrue (sink_of out).tells → PutsLast (sink_of mid_out).given after.given (line_at ending)
       (Rose (sink_of out).faults after.faults)
 
   abbrev Runs : Outcome → Type 0
-  Runs x = RunsAs t.chosen.block t m b requests end x old z (source_of from) (source_of rest)
+  Runs x = RunHolds t.chosen.block t m b requests end x old z (source_of from) (source_of rest)
       (sink_of out) after
 
   left_before : old.turn < last → RestsOnFound t old
@@ -116,7 +116,7 @@ module _ {D I O : Type 0} (disk_of : D → State) (source_of : I → SourceState
       ]
 
   module _ (same_source : rest ≡ from) (same_sink : mid_out ≡ out) where
-    line_out : (ending : Result (Unit {0}) Stop) → PutsEnd ending → IsTrue (sink_of out).tells
+    line_out : (ending : Result (Unit {0}) StopReason) → PutsEnd ending → IsTrue (sink_of out).tells
         → PutsLast (sink_of out).given after.given (line_at ending) (Rose (sink_of out).faults after.faults)
     line_out ending line sink_told = subst (λ (x : O). PutsLast (sink_of x).given after.given (line_at ending)
         (Rose (sink_of out).faults after.faults)) same_sink (line sink_told)
@@ -234,7 +234,7 @@ module _ {D I O : Type 0} (disk_of : D → State) (source_of : I → SourceState
           let op : Opened t m b old z x.store =
           opened_by t m b old first mount told o z x.store calm_mount x.opening in
           subst (λ (y : Ended). Runs (outcome_of y)) (sym x.ended)
-          (subst (λ (u : SuperBlock). RunsAs u t m b requests end
+          (subst (λ (u : SuperBlock). RunHolds u t m b requests end
           (outcome_of (unserved stop.NoMemory z.turn)) old z
           (source_of from) (source_of rest) (sink_of out) after) op.block
           (unserved_runs x.store.in_use.block (state_of x.store z.file)
@@ -253,7 +253,7 @@ module _ {D I O : Type 0} (disk_of : D → State) (source_of : I → SourceState
 
   module _ (first : D) (mount : AfterMount old (disk_of first))
       (calm_mount : (disk_of first).faults ≡ old.faults)
-      (e : Ended) (s : Kept) (mid : D) (opens : IsOpening CLASSES (disk_of first) (disk_of mid) (Ok s))
+      (e : Ended) (s : StoreValue) (mid : D) (opens : IsOpening CLASSES (disk_of first) (disk_of mid) (Ok s))
       (new : Sitting) (line : PutsEnd e.end) where
     op : Opened t m b old (disk_of mid) s
     op = opened_by t m b old (disk_of first) mount told o (disk_of mid) s calm_mount opens
@@ -264,7 +264,7 @@ module _ {D I O : Type 0} (disk_of : D → State) (source_of : I → SourceState
     module _ (how : End)
         (y : EndsRun disk_of source_of sink_of CLASSES s0 new mid now from rest out mid_out how)
         (sound : new.store.is_broken ≡ false → IsStore CLASSES new.store) (ended : e ≡ ended_as how new) where
-      abbrev ending : Result (Unit {0}) Stop
+      abbrev ending : Result (Unit {0}) StopReason
       ending = end_of how new.done
 
       line_now : PutsEnd ending
@@ -274,7 +274,7 @@ module _ {D I O : Type 0} (disk_of : D → State) (source_of : I → SourceState
       module _ (un : IsUnserved y.sitting new) (unserved_how : is_unserved (turn.Ended how) ≡ true) where
         sound_mid : IsStore CLASSES y.sitting.store
         sound_mid = subst (IsStore CLASSES) un.store
-            (sound (ap (λ (k : Kept). k.is_broken) un.store ∙ y.ran.unbroken))
+            (sound (ap (λ (k : StoreValue). k.is_broken) un.store ∙ y.ran.unbroken))
 
         line_mid : IsTrue (sink_of out).tells
             → PutsLast (sink_of y.mid_sink).given after.given (line_at ending)
@@ -283,7 +283,7 @@ module _ {D I O : Type 0} (disk_of : D → State) (source_of : I → SourceState
             (Rose (sink_of out).faults after.faults)) (y.same_sink unserved_how) (line_now sink_told)
 
         carried : (status : ℕ) → status ≡ status_at ending
-            → RunsAs s.in_use.block t m b requests end (record {
+            → RunHolds s.in_use.block t m b requests end (record {
               status = status;
               done = y.sitting.done;
               kept_done = y.sitting.kept_done;
@@ -303,14 +303,14 @@ module _ {D I O : Type 0} (disk_of : D → State) (source_of : I → SourceState
               kept_turn = un.counts.kept_turn i;
             }) in
             subst Runs (sym same)
-            (subst (λ (x : D). RunsAs t.chosen.block t m b requests end (record {
+            (subst (λ (x : D). RunHolds t.chosen.block t m b requests end (record {
               status = status;
               done = y.sitting.done;
               kept_done = y.sitting.kept_done;
               kept_turn = y.sitting.kept_turn;
             }) old (disk_of x) (source_of from) (source_of rest) (sink_of out) after)
             (sym (y.same_disk unserved_how))
-            (subst (λ (u : SuperBlock). RunsAs u t m b requests end (record {
+            (subst (λ (u : SuperBlock). RunHolds u t m b requests end (record {
               status = status;
               done = y.sitting.done;
               kept_done = y.sitting.kept_done;
@@ -360,14 +360,14 @@ module _ {D I O : Type 0} (disk_of : D → State) (source_of : I → SourceState
         (line_mid ends.Budget y sound ended un refl) refl y.last_turn.0)
     session_by ends.Disk y sound ended =
         subst (λ (x : Ended). Runs (outcome_of x)) (sym ended)
-        (subst (λ (u : SuperBlock). RunsAs u t m b requests end (outcome_of (ended_as ends.Disk new)) old z
+        (subst (λ (u : SuperBlock). RunHolds u t m b requests end (outcome_of (ended_as ends.Disk new)) old z
         (source_of from) (source_of rest) (sink_of out) after) op.block
         (disk_failed op (lawful before)
         (lawful mid) o left_before asks told_source y.ran y.few ends.Disk y.last_turn
         after (Err stop.Disk) tt (y.fewer refl) (line_now ends.Disk y sound ended) refl refl))
     session_by ends.Sink y sound ended =
         subst (λ (x : Ended). Runs (outcome_of x)) (sym ended)
-        (subst (λ (u : SuperBlock). RunsAs u t m b requests end (outcome_of (ended_as ends.Sink new)) old z
+        (subst (λ (u : SuperBlock). RunHolds u t m b requests end (outcome_of (ended_as ends.Sink new)) old z
         (source_of from) (source_of rest) (sink_of out) after) op.block
         (sink_failed op (lawful before)
         (lawful mid) o left_before asks told_source y.ran y.few ends.Sink y.last_turn
@@ -387,7 +387,7 @@ module _ {D I O : Type 0} (disk_of : D → State) (source_of : I → SourceState
           y.ended
 
   pub headline : (c : Command) (e : Ended)
-      → WentFrom disk_of source_of sink_of c before now from rest out mid_out e
+      → RunSteps disk_of source_of sink_of c before now from rest out mid_out e
       → PutsEnd e.end → Runs (outcome_of e)
   headline c e (inl (is, source, sink)) line = elim is.which as (λ _. Runs (outcome_of e)) [
     | inl failed ↦ subst (λ (y : Ended). Runs (outcome_of y)) (sym failed.0) (failed_before source sink 0

@@ -14,12 +14,12 @@ use Rattle.slot_codec.specs.declared.codec.Record.{Record}
 use Rattle.slot_codec.proofs.ChoiceLaws.{table_chosen}
 use Rattle.slot_codec.proofs.RecordsLaws.{read_records_rise}
 use Rattle.slot_codec.proofs.RollLaws.{RiseFrom, name_lt-trans}
-use Rattle.store_terms.specs.Maps.{Map, name_cmp, volume}
-use Rattle.store_terms.proofs.MapLaws.{name_order, names_differ}
+use Rattle.map_model.specs.Maps.{Map, name_cmp, volume}
+use Rattle.map_model.proofs.MapLaws.{name_order, names_differ}
 use Rattle.segment_layout.specs.Books.{Book}
 use Rattle.table_rules.specs.Opening.{OpensBy}
 use Rattle.table_rules.specs.Tables.{end_of_record, map_of, no_record, size_sum}
-use Rattle.spot_terms.proofs.OpenedLaws.{record_within}
+use Rattle.placement_model.proofs.OpenedLaws.{record_within}
 
 module _ (base : ℕ) (file : List ℕ) where
   abbrev entry_of : Record → List ℕ × List ℕ

@@ -11,12 +11,12 @@ use Rattle.size_class.specs.declared.TheConstants.{CLASSES, SIZE_MAX}
 use Rattle.slot_codec.specs.Choice as choice
 use Rattle.slot_codec.specs.declared.codec.Kind.{Kind}
 use Rattle.slot_codec.specs.declared.codec.Kind.TheVariants as kind
-use Rattle.store_terms.specs.Maps.{Map}
+use Rattle.map_model.specs.Maps.{Map}
 use Rattle.segment_layout.specs.Books.{Book, book_end}
 use Rattle.table_rules.specs.Opening.{OpensBy}
 use Rattle.table_rules.specs.Sequences.{HasSequenceUpTo}
 use Rattle.table_rules.proofs.SequenceLaws.{sequence_wider}
-use Rattle.store_core.specs.Connection.{IsOver, Kept, RestsOnTable, base_of, state_of}
+use Rattle.store_core.specs.Connection.{IsOver, StoreValue, RestsOnTable, base_of, state_of}
 use Rattle.store_core.specs.Stores.{IsStore}
 use Rattle.store_core.specs.Opened.{ContinuesFrom, IsFoundImage, IsOpened, IsOpening, LeavesRoom, OpenCallsOf, OpensFound, RestsOnFound, SameOnFound, found_base, most_by, most_found, state_at, turn_after_cut}
 use Rattle.store_core.proofs.OpeningLaws.{FoundSame, found_image, found_one}
@@ -28,7 +28,8 @@ use Rattle.costore_top.specs.Headline.{BeginsFrom, most_left, turn_opened}
 pub found_numbered : (t : choice.Table) (m : Map) (b : Book) (longest k : ℕ) (image : List ℕ)
     → IsFoundImage CLASSES t m b longest image → HasSequenceUpTo (most_left k t) image
 found_numbered t m b longest k image is =
-    sequence_wider (most_found t) (most_left k t) image (le-max_left (most_found t) (2 ^ 61 + 2 * k)) is.sequence
+    sequence_wider (most_found t) (most_left k t) image (le-max_left (most_found t)
+    (2 ^ 61 + 2 * k)) is.sequence
 
 -- and so do those that requests leave after it
 pub requests_low : (t : choice.Table) (k q : ℕ) → q ≤ most_found t → most_sequence k q ≤ most_left k t
@@ -50,7 +51,7 @@ start_low t k q is = omega (
 )
 
 -- A store was opened over the file that a call began with.
-pub record Opened (t : choice.Table) (m : Map) (b : Book) (old a : State) (s : Kept) : Type 0 where
+pub record Opened (t : choice.Table) (m : Map) (b : Book) (old a : State) (s : StoreValue) : Type 0 where
   pub state : state_of s a.file ≡ state_at m b s.in_use.sequence
   pub block : s.in_use.block ≡ t.chosen.block
   pub sequence : BeginsFrom t.chosen.header.kind t.chosen.header.sequence s.in_use.sequence
@@ -74,7 +75,7 @@ most_of : (k : Kind) (found q : ℕ) → ContinuesFrom k found q → q ≤ most_
 most_of kind.Settled found q is = omega (arith, is)
 most_of kind.Moving found q is = omega (arith, is.1)
 
-turn_of : (k : Kind) (t : choice.Table) (m : Map) (b : Book) (file : List ℕ) (first now : ℕ) (s : Kept)
+turn_of : (k : Kind) (t : choice.Table) (m : Map) (b : Book) (file : List ℕ) (first now : ℕ) (s : StoreValue)
     → OpenCallsOf k t m b file first now s → k ≡ kind.Settled
     → now ≡ turn_after_cut (found_base t + book_end t.chosen.block.k b) file first
 turn_of kind.Settled t m b file first now s is settled = is
@@ -107,14 +108,14 @@ module _ (t : choice.Table) (m : Map) (b : Book) (old first : State) (mount : Af
 
   module _ (a : State) where
     -- what an opening leaves meanwhile, whether it fails or not
-    pub left_opening : (result : Result Kept OpenFault) → IsOpening CLASSES first a result
+    pub left_opening : (result : Result StoreValue OpenFault) → IsOpening CLASSES first a result
         → LeavesRoom t → RestsOnFound t old
         → Leaves old a (IsFoundImage CLASSES t m b (length old.file))
     left_opening result opening room rests = Leaves-trans (left_first rests)
         (subst (λ (f : List ℕ). Leaves first a (IsFoundImage CLASSES t m b (length f))) file_first
         ((opening.found told_first t m b opens_first).left room (rests_first rests)))
 
-    pub opened_by : (s : Kept) → first.faults ≡ old.faults → IsOpening CLASSES first a (Ok s)
+    pub opened_by : (s : StoreValue) → first.faults ≡ old.faults → IsOpening CLASSES first a (Ok s)
         → Opened t m b old a s
     opened_by s calm opening =
         let found : OpensFound CLASSES t m b first a (Ok s) = opening.found told_first t m b opens_first in

@@ -2,7 +2,7 @@
 use Rattle.std.specs.Prelude.{◌≡◌, ◌≢◌, ◌⊎◌, ◌↔◌, ℕ, true, false, Bool, List, IsTrue}
 use Rattle.std.proofs.Common.{ap, arith, refl, subst, sym, ◌∙◌, inl, inr}
 use Rattle.costore_top.specs.Headline.{is_session}
-use Rattle.costore_top.specs.Outcomes.{IsOther, serves}
+use Rattle.costore_top.specs.Outcomes.{ServesNothing, serves}
 use Rattle.costore_top.specs.Words.{Command, Means, MeansNone, run, serving_of, work}
 use Rattle.costore_top.specs.declared.words.Serving.{Serving}
 use Rattle.costore_top.specs.Working.{is_working}
@@ -10,7 +10,7 @@ use Rattle.costore_top.proofs.WordLists.{means_one}
 
 -- words that ask for requests to be served ask for nothing else
 pub not_other : {A : Type 0} (c : Command) (texts : List (List ℕ)) → IsTrue (serves c) → Means texts c
-    → IsOther texts → A
+    → ServesNothing texts → A
 not_other c texts is means other = let e : true ≡ false = sym is ∙ other c means in absurd (cc)
 
 -- what holds of the one command that words mean, and what doesn't hold of it

@@ -7,13 +7,13 @@ use Rattle.disk_face.specs.Streams.{SinkState, SourceState}
 use Rattle.size_class.specs.declared.TheConstants.{CLASSES}
 use Rattle.store_core.specs.Opened.{IsOpening}
 use Rattle.reopen.specs.declared.fault.OpenFault.{OpenFault}
-use Rattle.costore_top.specs.Doing.{Did, DidFrom}
+use Rattle.costore_top.specs.Doing.{Did, WorkSteps}
 use Rattle.costore_top.specs.Getting.{stop_of}
 use Rattle.costore_top.specs.Outcomes.{status_at, status_of}
-use Rattle.costore_top.specs.Sessions.{NeverOpens, Went, WentFrom}
+use Rattle.costore_top.specs.Sessions.{NeverOpens, Went, RunSteps}
 use Rattle.costore_top.specs.Words.{run, work}
-use Rattle.costore_top.specs.declared.stop.Stop.{Stop}
-use Rattle.costore_top.specs.declared.stop.Stop.TheVariants as stop
+use Rattle.costore_top.specs.declared.stop.StopReason.{StopReason}
+use Rattle.costore_top.specs.declared.stop.StopReason.TheVariants as stop
 use Rattle.costore_top.specs.declared.run.Ended.{Ended}
 use Rattle.costore_top.proofs.ClauseLaws.{session_keeps}
 use Rattle.costore_top.proofs.UnopenedLaws.{unopened_never}
@@ -28,7 +28,7 @@ never_mounted old first z why mount opening told four = subst NeverOpens (mount.
 module _ {D I O : Type 0} (disk_of : D → State) (source_of : I → SourceState) (sink_of : O → SinkState)
     (file : List ℕ) (before now : D) (from rest : I) (out mid_out : O) (e : Ended)
     (told : IsTrue (disk_of before).tells) (four : status_at e.end ≡ 4) where
-  pub never_ran : WentFrom disk_of source_of sink_of (run file) before now from rest out mid_out e
+  pub never_ran : RunSteps disk_of source_of sink_of (run file) before now from rest out mid_out e
       → NeverOpens (disk_of before).file
   never_ran (inl (is, source, sink)) = elim is.which as (λ _. NeverOpens (disk_of before).file) [
     | inl failed ↦ absurd (omega (arith, four, ap (λ (y : Ended). status_at y.end) failed.0))
@@ -47,9 +47,9 @@ module _ {D I O : Type 0} (disk_of : D → State) (source_of : I → SourceState
           y.ran).served (inr (inl (sym (ap (λ (w : Ended). status_at w.end) y.ended) ∙ four))))
 
 module _ {D : Type 0} (disk_of : D → State) (file : List ℕ) (number count : ℕ) (old z : State)
-    (out put : SinkState) (end : Result (Unit {0}) Stop) (told : IsTrue old.tells)
+    (out put : SinkState) (end : Result (Unit {0}) StopReason) (told : IsTrue old.tells)
     (four : status_at end ≡ 4) where
-  pub never_did : DidFrom disk_of (work file number count) number count old z out put end
+  pub never_did : WorkSteps disk_of (work file number count) number count old z out put end
       → NeverOpens old.file
   never_did (inl (is, same)) = elim is.which as (λ _. NeverOpens old.file) [
     | inl failed ↦ absurd (omega (arith, four, ap status_at failed.0))
@@ -64,7 +64,7 @@ module _ {D : Type 0} (disk_of : D → State) (file : List ℕ) (number count : 
       by (inl (inr (inr is), same)) = absurd (omega (arith, four, ap status_at is.ended))
       by (inr is) = done end four is.only
         where
-          done : (e : Result (Unit {0}) Stop) → status_at e ≡ 4 → OnErr e (e ≡ Err stop.Sink)
+          done : (e : Result (Unit {0}) StopReason) → status_at e ≡ 4 → OnErr e (e ≡ Err stop.Sink)
               → NeverOpens old.file
           done (Ok y) n only = absurd (omega (arith, n))
           done (Err why) n only = absurd (omega (arith, n, ap status_at only))

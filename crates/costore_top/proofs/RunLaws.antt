@@ -14,14 +14,14 @@ use Rattle.slot_codec.specs.Spelling.{head_len}
 use Rattle.slot_codec.specs.declared.codec.SuperBlock.{SuperBlock}
 use Rattle.slot_codec.specs.declared.codec.Kind.TheVariants as kind
 use Rattle.slot_codec.proofs.ChoiceLaws.{chosen_sequence, table_chosen}
-use Rattle.store_terms.specs.Maps.{Map}
-use Rattle.store_terms.specs.Requests.{Request}
+use Rattle.map_model.specs.Maps.{Map}
+use Rattle.map_model.specs.Requests.{Request}
 use Rattle.segment_layout.specs.Books.{Book, book_end}
 use Rattle.segment_layout.specs.Bounds.{Loose, Tight}
 use Rattle.table_rules.specs.Opening.{Opens, OpensBy}
 use Rattle.table_rules.specs.Sequences.{HasSequenceUpTo}
 use Rattle.table_rules.proofs.SequenceLaws.{sequence_wider}
-use Rattle.store_core.specs.Connection.{IsOver, Kept, RestsOnTable, base_of, limits_of, state_of}
+use Rattle.store_core.specs.Connection.{IsOver, StoreValue, RestsOnTable, base_of, limits_of, state_of}
 use Rattle.store_core.specs.Stores.{IsStore}
 use Rattle.store_core.specs.States as store
 use Rattle.store_core.specs.States.{Limits, Served, Step, served}
@@ -40,9 +40,9 @@ use Rattle.ask_session.specs.declared.ends.End.{End}
 use Rattle.ask_session.proofs.GrowingLaws.{and_none, last_more, some_last, some_more}
 use Rattle.ask_session.proofs.MakesLaws.{makes, saves_within}
 use Rattle.ask_session.proofs.RunLaws.{opens_with}
-use Rattle.costore_top.specs.Headline.{EndsTight, HasReplied, HowFar, IsLong, IsNextStart, IsPartial, IsTold, IsWithinBounds, NumbersLine, OpensTo, OpensToBeing, OpensToKept, OpensToNext, Ran, RunsAs, Starts, has_failed, limits_with, most_left, next_is_changing, next_reply, next_saves, next_states, served_states, state_after, turn_opened}
+use Rattle.costore_top.specs.Headline.{EndsTight, HasReplied, HowFar, IsLong, IsNextStart, IsPartial, IsTold, IsWithinBounds, NumbersLine, OpensTo, OpensToBeing, OpensToKept, OpensToNext, Ran, RunHolds, Starts, has_failed, limits_with, most_left, next_is_changing, next_reply, next_saves, next_states, served_states, state_after, turn_opened}
 use Rattle.costore_top.specs.Outcomes.{PutsLast, line_at, status_at}
-use Rattle.costore_top.specs.declared.stop.Stop.{Stop}
+use Rattle.costore_top.specs.declared.stop.StopReason.{StopReason}
 use Rattle.costore_top.specs.declared.top.Outcome.{Outcome}
 use Rattle.costore_top.proofs.RunLists.{IsNext, LastIs, Splits, begins_none, first_kept, last_is, next_is, none_next, served_sequence, some_weaker, splits}
 use Rattle.costore_top.proofs.OpeningLemmas.{Opened, found_numbered, requests_low}
@@ -50,7 +50,7 @@ use Rattle.costore_top.proofs.OpeningLemmas.{Opened, found_numbered, requests_lo
 -- ---- a store over a file
 
 -- its data part is within bounds, now and once it goes back
-pub tight_over : (s : Kept) (file : List ℕ) (u : SuperBlock) → IsStore CLASSES s → IsOver CLASSES s file
+pub tight_over : (s : StoreValue) (file : List ℕ) (u : SuperBlock) → IsStore CLASSES s → IsOver CLASSES s file
     → s.in_use.block ≡ u → EndsTight u.k (head_len u.names) (state_of s file) file
 tight_over s file u h over is = subst
     (λ (x : SuperBlock). EndsTight x.k (head_len x.names) (state_of s file) file) is
@@ -68,7 +68,7 @@ tight_over s file u h over is = subst
     data_len = omega (arith, over.same_length)
 
 -- it may be opened again
-pub next_over : (t : choice.Table) (s : Kept) (old z : State) (q : ℕ) → IsStore CLASSES s
+pub next_over : (t : choice.Table) (s : StoreValue) (old z : State) (q : ℕ) → IsStore CLASSES s
     → IsOver CLASSES s z.file → s.in_use.block ≡ t.chosen.block → s.in_use.sequence ≤ q
     → (RestsOnFound t old → RestsOnTable (base_of s) s.kept z) → IsNextStart t (state_of s z.file) q old z
 next_over t s old z q h over block low rests = record {
@@ -89,7 +89,7 @@ next_over t s old z q h over block low rests = record {
 -- ---- a session so far
 
 module _ {t : choice.Table} {m : Map} {b : Book} {requests : List Request} {end : List ℕ} {old a : State}
-    {s : Kept} (op : Opened t m b old a s) (lawful_old : IsLawful old) (lawful_a : IsLawful a)
+    {s : StoreValue} (op : Opened t m b old a s) (lawful_old : IsLawful old) (lawful_a : IsLawful a)
     (o : OpensBy CLASSES SIZE_MAX t old.file m b)
     (left_before : old.turn < last → RestsOnFound t old
     → LeftOnly old old.turn (IsFoundImage CLASSES t m b (length old.file)))
@@ -286,7 +286,7 @@ module _ {t : choice.Table} {m : Map} {b : Book} {requests : List Request} {end 
 
   module _ (after : SinkState) (rest : SourceState) (status : ℕ) (not_nine : (status == 9) ≡ false)
       (not_failed : has_failed status ≡ false) (nine : status ≢ 9) (seven : status ≢ 7)
-      (sound : IsStore CLASSES s1.store) (ending : Result (Unit {0}) Stop)
+      (sound : IsStore CLASSES s1.store) (ending : Result (Unit {0}) StopReason)
       (status_is : status ≡ status_at ending)
       (numbered : NumbersLine s1.done ending)
       (line : IsTrue out.tells → PutsLast o1.given after.given (line_at ending)
@@ -299,7 +299,7 @@ module _ {t : choice.Table} {m : Map} {b : Book} {requests : List Request} {end 
     same_states = ap (λ (x : Bool). if x then states ++ next_states limits last_one split.others else states)
         not_nine
 
-    between_requests : RunsAs u t m b requests end counts old c from rest out after
+    between_requests : RunHolds u t m b requests end counts old c from rest out after
     between_requests = record {
       start = start;
       starts = starts;
@@ -352,11 +352,11 @@ module _ {t : choice.Table} {m : Map} {b : Book} {requests : List Request} {end 
     }
 
   module _ (after : SinkState) (rest : SourceState) (sound : IsStore CLASSES s1.store)
-      (ending : Result (Unit {0}) Stop) (numbered : NumbersLine s1.done ending)
+      (ending : Result (Unit {0}) StopReason) (numbered : NumbersLine s1.done ending)
       (line : IsTrue out.tells → PutsLast o1.given after.given (line_at ending)
       (Rose out.faults after.faults)) where
     abbrev RunsWith : ℕ → Type 0
-    RunsWith status = RunsAs u t m b requests end (record {
+    RunsWith status = RunHolds u t m b requests end (record {
       status = status;
       done = s1.done;
       kept_done = s1.kept_done;
@@ -504,7 +504,8 @@ module _ {t : choice.Table} {m : Map} {b : Book} {requests : List Request} {end 
         ) in
         LeftOnly-after old.turn P (omega (arith, op.later, turn_c))
         (numbered_c room rests (omega (arith, below, turn_z)))
-        (Leaves-weaken P (λ image is. sequence_wider q (most_left u.k t) image low is.sequence) (left_z rests))
+        (Leaves-weaken P (λ image is. sequence_wider q (most_left u.k t) image low is.sequence)
+        (left_z rests))
 
     module _ (status : ℕ) (failed : IsTrue (has_failed status)) where
       crash_z : LeavesRoom t → RestsOnFound t old → z.turn < last → LeftOnly z old.turn
@@ -539,7 +540,7 @@ module _ {t : choice.Table} {m : Map} {b : Book} {requests : List Request} {end 
     -- the replies, and a front of the next
     module _ (after : SinkState) (status : ℕ) (failed : has_failed status ≡ true) (seven : status ≡ 7
         → is_disk bad ≡ true)
-        (ending : Result (Unit {0}) Stop) (status_is : status ≡ status_at ending)
+        (ending : Result (Unit {0}) StopReason) (status_is : status ≡ status_at ending)
         (numbered : NumbersLine new.done ending) (told : IsTrue out.tells)
         (line : PutsLast o2.given after.given (line_at ending) (Rose out.faults after.faults)) where
       told_1 : IsTrue o1.tells
@@ -576,7 +577,8 @@ module _ {t : choice.Table} {m : Map} {b : Book} {requests : List Request} {end 
         line = line;
       }
 
-    module _ (after : SinkState) (ending : Result (Unit {0}) Stop) (numbered : NumbersLine new.done ending)
+    module _ (after : SinkState) (ending : Result (Unit {0}) StopReason)
+        (numbered : NumbersLine new.done ending)
         (fewer : n < budget)
         (line : IsTrue out.tells → PutsLast o2.given after.given (line_at ending)
         (Rose out.faults after.faults))
@@ -586,7 +588,7 @@ module _ {t : choice.Table} {m : Map} {b : Book} {requests : List Request} {end 
             record { status = status; done = new.done; kept_done = new.kept_done; kept_turn = new.kept_turn }
 
         abbrev RunsTo : ℕ → Type 0
-        RunsTo status = RunsAs u t m b requests end (counts_of status) old z from rest out after
+        RunsTo status = RunHolds u t m b requests end (counts_of status) old z from rest out after
 
         few_z : new.done ≤ budget
         few_z = omega (arith, x.counts.done, few_done)

@@ -8,12 +8,12 @@ use Rattle.disk_face.specs.States.{State}
 use Rattle.disk_face.specs.Streams.{SinkState, SourceState}
 use Rattle.disk_face.specs.declared.bay.Mounted.TheVariants.{There}
 use Rattle.slot_codec.specs.Choice as choice
-use Rattle.store_terms.specs.Maps.{Map}
-use Rattle.store_terms.specs.Requests.{Request}
+use Rattle.map_model.specs.Maps.{Map}
+use Rattle.map_model.specs.Requests.{Request}
 use Rattle.segment_layout.specs.Books.{Book}
 use Rattle.ask_session.specs.Runs.{budget}
 use Rattle.costore_top.specs.Commands.{IsMounted}
-use Rattle.costore_top.specs.Headline.{RunsAs, is_session}
+use Rattle.costore_top.specs.Headline.{RunHolds, is_session}
 use Rattle.costore_top.specs.Outcomes.{mounted}
 use Rattle.costore_top.specs.Sessions.{KeepsRun}
 use Rattle.costore_top.specs.Words.{run}
@@ -47,7 +47,7 @@ status_calm n known two three seven eight nine eleven = elim (cases_eq n 0) as (
 
 module _ {t : choice.Table} {m : Map} {b : Book} (requests : List Request) {o : Outcome} {old z : State}
     {from rest : SourceState} {out after : SinkState}
-    (r : RunsAs t.chosen.block t m b requests [] o old z from rest out after) where
+    (r : RunHolds t.chosen.block t m b requests [] o old z from rest out after) where
   -- those that were answered, and the others
   all_are : length requests ≡ o.done + length r.ran.others
   all_are = omega (

@@ -4,7 +4,7 @@ use Rattle.std.proofs.Common.{ap, sym, ◌∙◌, subst, inl, inr}
 use Rattle.disk_face.specs.States.{State}
 use Rattle.disk_face.specs.Streams.{SinkState, SourceState}
 use Rattle.size_class.specs.declared.TheConstants.{CLASSES}
-use Rattle.store_core.specs.Connection.{IsConnected, Kept}
+use Rattle.store_core.specs.Connection.{IsConnected, StoreValue}
 use Rattle.store_core.specs.Opened.{IsOpening}
 use Rattle.store_core.specs.Stores.{IsStore}
 use Rattle.ask_session.specs.Sittings.{Sitting, new_sitting}
@@ -12,16 +12,17 @@ use Rattle.ask_session.specs.Runs.{EndsRun}
 use Rattle.ask_session.specs.declared.ends.End.{End}
 use Rattle.costore_top.specs.Sessions.{Went, ended_as, unserved}
 use Rattle.costore_top.specs.Getting.{stop_of}
-use Rattle.costore_top.specs.declared.stop.Stop.TheVariants as stop
+use Rattle.costore_top.specs.declared.stop.StopReason.TheVariants as stop
 use Rattle.costore_top.specs.declared.run.Ended.{Ended}
 use Rattle.reopen.specs.declared.fault.OpenFault.{OpenFault}
 
 -- a store that was opened is over its file
-pub connected_of : (a b : State) (s : Kept) → IsOpening CLASSES a b (Ok s) → IsConnected CLASSES s b
+pub connected_of : (a b : State) (s : StoreValue) → IsOpening CLASSES a b (Ok s) → IsConnected CLASSES s b
 connected_of a b s opening = λ whole told. opening.over (sym opening.frame.stays.told ∙ told)
 
 module _ {D I O : Type 0} (disk_of : D → State) (source_of : I → SourceState) (sink_of : O → SinkState) where
-  pub went_session : (first mid now : D) (from rest : I) (out after : O) (store : Kept) (s new : Sitting)
+  pub went_session : (first mid now : D) (from rest : I) (out after : O) (store : StoreValue)
+      (s new : Sitting)
       (end : End)
       (turn : ℕ) (e : Ended) → IsOpening CLASSES (disk_of first) (disk_of mid) (Ok store)
       → s ≡ new_sitting store turn → turn ≡ (disk_of mid).turn
@@ -42,7 +43,7 @@ module _ {D I O : Type 0} (disk_of : D → State) (source_of : I → SourceState
         ended = ended;
       })
 
-  pub went_unbegun : (first now : D) (from : I) (out : O) (store : Kept) (turn : ℕ) (e : Ended)
+  pub went_unbegun : (first now : D) (from : I) (out : O) (store : StoreValue) (turn : ℕ) (e : Ended)
       → IsOpening CLASSES (disk_of first) (disk_of now) (Ok store) → turn ≡ (disk_of now).turn
       → e ≡ unserved stop.NoMemory turn → Went disk_of source_of sink_of first now from from out out e
   went_unbegun first now from out store turn e opening at is = inl (

@@ -11,8 +11,8 @@ use Rattle.slot_codec.specs.Choice as choice
 use Rattle.slot_codec.specs.declared.codec.Record.{Record}
 use Rattle.slot_codec.specs.declared.codec.Kind.{Kind}
 use Rattle.slot_codec.specs.declared.codec.Kind.TheVariants as kind
-use Rattle.store_terms.specs.Maps.{Map}
-use Rattle.store_terms.proofs.MapLaws.{sum_by-map}
+use Rattle.map_model.specs.Maps.{Map}
+use Rattle.map_model.proofs.MapLaws.{sum_by-map}
 use Rattle.segment_layout.specs.Shapes.{buffer_of, end_of, settled_caps}
 use Rattle.segment_layout.specs.Books.{Book, book_end, volumes_of_sizes}
 use Rattle.segment_layout.proofs.BalanceLaws.{bytes_in, bytes_in-none, bytes_in-other}
@@ -21,7 +21,7 @@ use Rattle.segment_layout.proofs.ShapeLaws.{end_of-rest}
 use Rattle.segment_layout.proofs.SumLaws.{sum_by_same_places}
 use Rattle.table_rules.specs.Opening.{OpensBy, placed_table}
 use Rattle.table_rules.specs.Tables.{PlacedTable, boundary_of_kind, end_of_record, last_end, no_record, nth, sizes}
-use Rattle.spot_terms.proofs.OpenedLaws.{opens_long}
+use Rattle.placement_model.proofs.OpenedLaws.{opens_long}
 use Rattle.store_core.specs.Opened.{found_base}
 use Rattle.disk_face.specs.Counts.{counted, last}
 use Rattle.disk_face.specs.States.{State}

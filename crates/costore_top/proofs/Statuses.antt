@@ -1,7 +1,7 @@
 -- What was put, and which status comes of it.
 use Rattle.std.specs.Prelude.{◌≡◌, ◌⊎◌, ◌≤◌, ℕ, List, ◌++◌, length, Result, Ok, Err, IsOk, IsTrue, OnErr, refl}
-use Rattle.costore_top.specs.declared.stop.Stop.{Stop}
-use Rattle.costore_top.specs.declared.stop.Stop.TheVariants as stop
+use Rattle.costore_top.specs.declared.stop.StopReason.{StopReason}
+use Rattle.costore_top.specs.declared.stop.StopReason.TheVariants as stop
 use Rattle.std.proofs.Common.{arith, ap, sym, ◌∙◌, subst, inl, inr}
 use Rattle.disk_face.specs.Counts.{HasCause, Rose}
 use Rattle.std.proofs.lemmas.List.{take_all}
@@ -48,7 +48,7 @@ later_rose {between} {now} {line} a b n later last = record {
 }
 
 -- the end of a command, its answer's bytes put first and its line after them
-pub ended : (answer : Result (List ℕ) Stop → Type 0) (end : Result (Unit {0}) Stop) (status : ℕ)
+pub ended : (answer : Result (List ℕ) StopReason → Type 0) (end : Result (Unit {0}) StopReason) (status : ℕ)
     (old mid new : SinkState)
     → status ≡ status_at end → Answers answer old mid end → mid.tells ≡ old.tells → old.faults ≤ mid.faults
     → (IsTrue mid.tells → PutsLast mid.given new.given (line_at end) (Rose mid.faults new.faults))
@@ -66,13 +66,13 @@ ended answer end status old mid new is answers told later line = record {
   };
 }
   where
-    whole_of : (e : Result (Unit {0}) Stop) → Puts old.given mid.given answers.bytes e → IsOk e
+    whole_of : (e : Result (Unit {0}) StopReason) → Puts old.given mid.given answers.bytes e → IsOk e
         → mid.given ≡ old.given ++ answers.bytes
     whole_of (Ok x) puts done = puts.all
     whole_of (Err why) puts done = cc
 
 -- where nothing was put before it, the line is all that was put
-pub line_after_none : (old mid new : SinkState) (end : Result (Unit {0}) Stop) → mid ≡ old
+pub line_after_none : (old mid new : SinkState) (end : Result (Unit {0}) StopReason) → mid ≡ old
     → end ≡ Err stop.Disk
     → IsTrue old.tells
     → (IsTrue mid.tells → PutsLast mid.given new.given (line_at end) (Rose mid.faults new.faults))
@@ -87,7 +87,7 @@ line_after_none old mid new end same disk told line = record {
 
 -- where no device failed, a command that stopped has put its line alone
 pub line_unless : {O : Type 0} (sink_of : O → SinkState) (old mid : O) (new : SinkState)
-    (end : Result (Unit {0}) Stop) (status : ℕ) → status ≡ status_at end → PutsNone old mid end
+    (end : Result (Unit {0}) StopReason) (status : ℕ) → status ≡ status_at end → PutsNone old mid end
     → IsTrue (sink_of old).tells → (IsTrue (sink_of mid).tells
     → PutsLast (sink_of mid).given new.given (line_at end) (Rose (sink_of mid).faults new.faults))
     → (status ≡ 0) ⊎ (status ≡ 7) ⊎ (status ≡ 9) ⊎ PutsLine status (sink_of old) new

@@ -14,8 +14,8 @@ use Rattle.table_rules.specs.Tables.{book_of, size_sum}
 use Rattle.extent_table.specs.declared.spot.Spot.{Spot}
 use Rattle.extent_table.specs.Extents.{Extents, IsTable, record_of, records_of, volume_of}
 use Rattle.extent_table.proofs.ExtentLaws.{records_of-all}
-use Rattle.spot_terms.specs.Reads.{read_at}
-use Rattle.spot_terms.proofs.SpotSumLaws.{records_sum, volume_of-weights}
+use Rattle.placement_model.specs.Reads.{read_at}
+use Rattle.placement_model.proofs.SpotSumLaws.{records_sum, volume_of-weights}
 use Rattle.reopen.specs.Loads.{IsLoadedFrom, KeepsLoaded, table_seen}
 use Rattle.reopen.specs.declared.state.Loaded.{Loaded}
 use Rattle.costore_top.specs.Texts.{IsTold, check_text, data_of, kind_text, numbered}

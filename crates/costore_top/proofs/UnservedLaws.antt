@@ -11,18 +11,18 @@ use Rattle.slot_codec.specs.Choice as choice
 use Rattle.slot_codec.specs.Spelling.{head_len}
 use Rattle.slot_codec.specs.declared.codec.SuperBlock.{SuperBlock}
 use Rattle.slot_codec.specs.declared.codec.Kind.TheVariants as kind
-use Rattle.store_terms.specs.Maps.{Map}
-use Rattle.store_terms.specs.Requests.{Request}
+use Rattle.map_model.specs.Maps.{Map}
+use Rattle.map_model.specs.Requests.{Request}
 use Rattle.segment_layout.specs.Books.{Book, book_end}
 use Rattle.table_rules.specs.Opening.{Opens}
 use Rattle.store_core.specs.States as store
 use Rattle.store_core.specs.Opened.{IsFoundImage, LeavesRoom, RestsOnFound}
 use Rattle.ask_session.specs.Runs.{last_state}
 use Rattle.ask_session.proofs.RunLaws.{opens_with}
-use Rattle.costore_top.specs.Headline.{HasMounted, HowFar, IsLong, IsNextStart, NumbersLine, OpensTo, RunsAs, Starts, has_opened, is_whole, limits_with, next_reply, next_saves, next_states, served_states, turn_opened}
+use Rattle.costore_top.specs.Headline.{HasMounted, HowFar, IsLong, IsNextStart, NumbersLine, OpensTo, RunHolds, Starts, has_opened, is_whole, limits_with, next_reply, next_saves, next_states, served_states, turn_opened}
 use Rattle.costore_top.specs.Outcomes.{PutsLast, line_at, status_at}
 use Rattle.costore_top.proofs.OpeningLemmas.{found_numbered, start_low}
-use Rattle.costore_top.specs.declared.stop.Stop.{Stop}
+use Rattle.costore_top.specs.declared.stop.StopReason.{StopReason}
 use Rattle.costore_top.specs.declared.top.Outcome.{Outcome}
 
 module _ {t : choice.Table} {m : Map} {b : Book} {old z : State}
@@ -50,7 +50,7 @@ module _ {t : choice.Table} {m : Map} {b : Book} {old z : State}
       (since : HasMounted z → kept_turn ≡ z.turn)
       (told : IsCalm old.faults z.faults → IsTrue (has_opened status) → ⊥)
       (next : IsCalm old.faults z.faults → IsNextStart t start start.sequence old z)
-      (ending : Result (Unit {0}) Stop) (status_is : status ≡ status_at ending)
+      (ending : Result (Unit {0}) StopReason) (status_is : status ≡ status_at ending)
       (numbered : NumbersLine 0 ending)
       (line : IsTrue out.tells → PutsLast out.given after.given (line_at ending)
       (Rose out.faults after.faults))
@@ -62,7 +62,7 @@ module _ {t : choice.Table} {m : Map} {b : Book} {old z : State}
     same_states =
         ap (λ (x : Bool). if x then [] ++ next_states (limits_with u) start requests else []) not_nine
 
-    pub unserved_runs : RunsAs u t m b requests end counts old z from rest out after
+    pub unserved_runs : RunHolds u t m b requests end counts old z from rest out after
     unserved_runs = record {
       start = start;
       starts = starts;

@@ -12,10 +12,10 @@ use Rattle.disk_face.proofs.MomentLaws.{Leaves-call}
 use Rattle.size_class.specs.declared.TheConstants.{CLASSES, SIZE_MAX}
 use Rattle.slot_codec.specs.Choice as choice
 use Rattle.slot_pair.specs.declared.find.SlotFault.TheVariants as slot
-use Rattle.store_terms.specs.Maps.{Map}
+use Rattle.map_model.specs.Maps.{Map}
 use Rattle.segment_layout.specs.Books.{Book}
 use Rattle.table_rules.specs.Opening.{Opens}
-use Rattle.store_core.specs.Connection.{Kept}
+use Rattle.store_core.specs.Connection.{StoreValue}
 use Rattle.store_core.specs.Opened.{IsOpening, RefusesUnchanged}
 use Rattle.reopen.specs.Refusals.{RefusesToOpen}
 use Rattle.reopen.specs.declared.fault.OpenFault.{OpenFault}
@@ -26,9 +26,9 @@ use Rattle.costore_top.specs.Headline.{HasMounted, IsKeptTurn, is_session}
 use Rattle.ask_session.specs.declared.ends.End.{End}
 use Rattle.ask_session.specs.declared.ends.End.TheVariants as ends
 use Rattle.costore_top.specs.Outcomes.{EndsBy, mounted, status_at, status_of}
-use Rattle.costore_top.specs.Sessions.{IsServed, IsUnserved, KeepsRun, Went, WentFrom, end_of, outcome_of, unserved}
+use Rattle.costore_top.specs.Sessions.{IsServed, IsUnserved, KeepsRun, Went, RunSteps, end_of, outcome_of, unserved}
 use Rattle.costore_top.specs.Words.{run}
-use Rattle.costore_top.specs.declared.stop.Stop.TheVariants as stop
+use Rattle.costore_top.specs.declared.stop.StopReason.TheVariants as stop
 use Rattle.costore_top.specs.declared.stop.StoreFault.TheVariants as fault
 use Rattle.costore_top.specs.declared.run.Ended.{Ended}
 use Rattle.costore_top.proofs.ClauseLaws.{SessionKeeps, session_keeps}
@@ -309,7 +309,7 @@ module _ {D I O : Type 0} (disk_of : D → State) (source_of : I → SourceState
           (sink_of mid_out) w.end (disk_of y.mid).turn w.kept_turn) (sym y.ended)
           (session_keeps disk_of source_of sink_of y.mid now from rest out mid_out y.store y.new y.end y.ran))
 
-  pub whole : WentFrom disk_of source_of sink_of (run file) before now from rest out mid_out e → All e
+  pub whole : RunSteps disk_of source_of sink_of (run file) before now from rest out mid_out e → All e
   whole (inl (is, source, sink)) = elim is.which as (λ _. All e) [
     | inl failed ↦ subst All (sym failed.0)
         (mount_failed file old z (source_of from) (source_of rest) (sink_of out)
@@ -324,7 +324,7 @@ module _ {D I O : Type 0} (disk_of : D → State) (source_of : I → SourceState
   -- ---- a file that is refused
 
   -- it stays as it is
-  pub untouched : WentFrom disk_of source_of sink_of (run file) before now from rest out mid_out e
+  pub untouched : RunSteps disk_of source_of sink_of (run file) before now from rest out mid_out e
       → (status_at e.end ≡ 3) ⊎ (status_at e.end ≡ 4) → Untouched old z
   untouched (inl (is, source, sink)) status = mount_untouched old z is.mount is.later
   untouched (inr x) status = by x.went status
@@ -350,7 +350,7 @@ module _ {D I O : Type 0} (disk_of : D → State) (source_of : I → SourceState
 
   -- a file that isn't opened ends the command as its first refusal says
   pub refused_by : IsTrue old.tells → ((m : Map) (b : Book) → Opens CLASSES SIZE_MAX old.file m b → ⊥)
-      → WentFrom disk_of source_of sink_of (run file) before now from rest out mid_out e
+      → RunSteps disk_of source_of sink_of (run file) before now from rest out mid_out e
       → EndsBy (IsRefused old.file) [] e.end × (mid_out ≡ out)
   refused_by told never (inl (is, source, sink)) = (
     elim is.which as (λ _. EndsBy (IsRefused old.file) [] e.end) [
@@ -367,7 +367,7 @@ module _ {D I O : Type 0} (disk_of : D → State) (source_of : I → SourceState
       same_file : (disk_of x.first).file ≡ old.file
       same_file = x.mount.same_file told
 
-      never_opened : (a : State) (s : Kept) → IsOpening CLASSES (disk_of x.first) a (Ok s) → ⊥
+      never_opened : (a : State) (s : StoreValue) → IsOpening CLASSES (disk_of x.first) a (Ok s) → ⊥
       never_opened a s is =
           let o = is.opened told_first in
           never o.m o.b (subst (λ (f : List ℕ). Opens CLASSES SIZE_MAX f o.m o.b) same_file
@@ -402,7 +402,7 @@ module _ {D I O : Type 0} (disk_of : D → State) (source_of : I → SourceState
   known_unopened n (inr (inl seven)) = inl (ap is_session seven)
   known_unopened n (inr (inr ten)) = inl (ap is_session ten)
 
-  pub known : WentFrom disk_of source_of sink_of (run file) before now from rest out mid_out e
+  pub known : RunSteps disk_of source_of sink_of (run file) before now from rest out mid_out e
       → IsKnown (status_at e.end)
   known (inl (is, source, sink)) = elim is.which as (λ _. IsKnown (status_at e.end)) [
     | inl failed ↦ inl (ap (λ (y : Ended). is_session (status_at y.end)) failed.0)

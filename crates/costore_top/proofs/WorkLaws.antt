@@ -11,13 +11,13 @@ use Rattle.size_class.specs.declared.TheConstants.{CLASSES, SIZE_MAX}
 use Rattle.slot_codec.specs.Choice as choice
 use Rattle.slot_codec.specs.Spelling.{head_len}
 use Rattle.slot_codec.specs.declared.codec.SuperBlock.{SuperBlock}
-use Rattle.store_terms.specs.Maps.{Map}
-use Rattle.store_terms.specs.Requests.{Reply, Request}
+use Rattle.map_model.specs.Maps.{Map}
+use Rattle.map_model.specs.Requests.{Reply, Request}
 use Rattle.segment_layout.specs.Books.{Book, book_end}
 use Rattle.table_rules.specs.Opening.{Opens, OpensBy}
 use Rattle.table_rules.specs.Sequences.{HasSequenceUpTo}
 use Rattle.table_rules.proofs.SequenceLaws.{sequence_wider}
-use Rattle.store_core.specs.Connection.{IsOver, Kept, base_of, limits_of, state_of}
+use Rattle.store_core.specs.Connection.{IsOver, StoreValue, base_of, limits_of, state_of}
 use Rattle.store_core.specs.States as store
 use Rattle.store_core.specs.States.{Chain}
 use Rattle.store_core.specs.Opened.{IsFoundImage, LeavesRoom, RestsOnFound, found_base}
@@ -33,7 +33,7 @@ use Rattle.costore_top.specs.Doing.{jobs_of}
 use Rattle.costore_top.specs.Headline.{EndsTight, IsNextStart, OpensTo, OpensToBeing, OpensToKept, Starts, limits_with, most_left, turn_opened}
 use Rattle.costore_top.specs.Outcomes.{PutsLast}
 use Rattle.costore_top.specs.Summaries.{summary_text}
-use Rattle.costore_top.specs.Working.{WorksAs, has_worked, is_working}
+use Rattle.costore_top.specs.Working.{WorkHolds, has_worked, is_working}
 use Rattle.costore_top.proofs.OpeningLemmas.{Opened, found_numbered, requests_low, start_low}
 use Rattle.costore_top.proofs.RunLaws.{next_over, tight_over}
 use Rattle.costore_top.proofs.RunLists.{Shows, first_kept, last_shown, some_weaker}
@@ -84,7 +84,7 @@ module _ (t : choice.Table) (m : Map) (b : Book) (old : State) (lawful : IsLawfu
 
     pub none_begun : (status : ℕ) → is_working status ≡ true → has_worked status ≡ false
         → (IsCalm old.faults z.faults → IsNextStart t start start.sequence old z)
-        → WorksAs u t m b number count status old z out after
+        → WorkHolds u t m b number count status old z out after
     none_begun status known none next = record {
       start = start;
       starts = starts;
@@ -115,7 +115,7 @@ module _ (t : choice.Table) (m : Map) (b : Book) (old : State) (lawful : IsLawfu
 
   -- ---- the file was opened
 
-  module _ {mid : State} {s : Kept} (op : Opened t m b old mid s) where
+  module _ {mid : State} {s : StoreValue} (op : Opened t m b old mid s) where
     abbrev u : SuperBlock
     u = s.in_use.block
 
@@ -135,7 +135,7 @@ module _ (t : choice.Table) (m : Map) (b : Book) (old : State) (lawful : IsLawfu
     left_mid room rests below = left_start u start starts op.later op.left room rests below
 
     pub none_done : (status : ℕ) → is_working status ≡ true → has_worked status ≡ false
-        → WorksAs u t m b number count status old mid out after
+        → WorkHolds u t m b number count status old mid out after
     none_done status known none = none_begun u start starts op.later op.left status known none
         (λ calm. next_over t s old mid s.in_use.sequence op.sound op.over op.block (omega arith) op.rests)
 
@@ -178,7 +178,8 @@ module _ (t : choice.Table) (m : Map) (b : Book) (old : State) (lawful : IsLawfu
           image (requests_low t u.k s.in_use.sequence op.most)) left)
 
       -- the disk failed in a job
-      pub in_a_job : HasStopped CLASSES s (jobs_of number count s) mid z → WorksAs u t m b number count 7 old
+      pub in_a_job : HasStopped CLASSES s (jobs_of number count s) mid z
+          → WorkHolds u t m b number count 7 old
           z out after
       in_a_job x = record {
         start = start;
@@ -235,7 +236,7 @@ module _ (t : choice.Table) (m : Map) (b : Book) (old : State) (lawful : IsLawfu
         pub all_done : (status : ℕ) → is_working status ≡ true → has_worked status ≡ true → status ≢ 7
             → ((status ≡ 3) ⊎ (status ≡ 10) → ⊥)
             → (IsTrue out.tells → PutsLast out.given after.given (summary_text x) (status ≡ 9))
-            → WorksAs u t m b number count status old z out after
+            → WorkHolds u t m b number count status old z out after
         all_done status known worked seven begun puts = record {
           start = start;
           starts = starts;

@@ -10,23 +10,23 @@ use Rattle.size_class.specs.declared.TheConstants.{CLASSES, SIZE_MAX}
 use Rattle.slot_codec.specs.Choice as choice
 use Rattle.slot_codec.specs.declared.codec.SuperBlock.{SuperBlock}
 use Rattle.slot_pair.specs.declared.find.SlotFault.TheVariants as slot
-use Rattle.store_terms.specs.Maps.{Map}
+use Rattle.map_model.specs.Maps.{Map}
 use Rattle.segment_layout.specs.Books.{Book}
 use Rattle.table_rules.specs.Opening.{OpensBy}
-use Rattle.store_core.specs.Connection.{Kept}
+use Rattle.store_core.specs.Connection.{StoreValue}
 use Rattle.store_core.specs.States as store
 use Rattle.store_core.specs.Opened.{IsFoundImage, IsOpening, LeavesRoom, RestsOnFound, SameOnFound, state_at}
 use Rattle.reopen.specs.declared.fault.OpenFault.{OpenFault}
 use Rattle.reopen.specs.declared.fault.OpenFault.TheVariants as opening
-use Rattle.costore_top.specs.Doing.{Did, DidFrom, IsAllDone, IsNotBegun, IsRefusal, IsStopped}
+use Rattle.costore_top.specs.Doing.{Did, WorkSteps, IsAllDone, IsNotBegun, IsRefusal, IsStopped}
 use Rattle.costore_top.specs.Getting.{stop_of}
 use Rattle.costore_top.specs.Headline.{IsNextStart, Starts}
 use Rattle.costore_top.specs.Outcomes.{PutsLast, line_at, status_at, status_of}
 use Rattle.costore_top.specs.Summaries.{summary_text}
 use Rattle.costore_top.specs.Words.{Command}
-use Rattle.costore_top.specs.Working.{WorksAs}
-use Rattle.costore_top.specs.declared.stop.Stop.{Stop}
-use Rattle.costore_top.specs.declared.stop.Stop.TheVariants as stop
+use Rattle.costore_top.specs.Working.{WorkHolds}
+use Rattle.costore_top.specs.declared.stop.StopReason.{StopReason}
+use Rattle.costore_top.specs.declared.stop.StopReason.TheVariants as stop
 use Rattle.costore_top.proofs.DidLaws.{summary_put}
 use Rattle.costore_top.proofs.UnopenedLaws.{WhyUnopened, begins_itself, why_unopened}
 use Rattle.costore_top.proofs.UnopenedLaws.WhyUnopened.{disk, memory}
@@ -38,10 +38,10 @@ module _ (t : choice.Table) (m : Map) (b : Book) (old : State) (lawful : IsLawfu
     (o : OpensBy CLASSES SIZE_MAX t old.file m b)
     {D : Type 0} (disk_of : D → State) (number count : ℕ) (z : State) (out put after : SinkState) where
   abbrev Works : ℕ → Type 0
-  Works n = WorksAs t.chosen.block t m b number count n old z out after
+  Works n = WorkHolds t.chosen.block t m b number count n old z out after
 
   -- the line of an end is put behind what was put
-  abbrev PutsEnd : Result (Unit {0}) Stop → Type 0
+  abbrev PutsEnd : Result (Unit {0}) StopReason → Type 0
   PutsEnd end = IsTrue put.tells → PutsLast put.given after.given (line_at end) (Rose put.faults after.faults)
 
   -- ---- the file wasn't opened
@@ -102,15 +102,15 @@ module _ (t : choice.Table) (m : Map) (b : Book) (old : State) (lawful : IsLawfu
     unopened_by (opening.Slot (slot.Codec f at)) none is = elim none [ ]
     unopened_by (opening.Table broken) none is = elim none [ ]
 
-    module _ (end : Result (Unit {0}) Stop) where
+    module _ (end : Result (Unit {0}) StopReason) where
       -- the status of this end
-      carried : (e : Result (Unit {0}) Stop) → end ≡ e → Works (status_at e) → Works (status_at end)
-      carried e is works = subst (λ (x : Result (Unit {0}) Stop). Works (status_at x)) (sym is) works
+      carried : (e : Result (Unit {0}) StopReason) → end ≡ e → Works (status_at e) → Works (status_at end)
+      carried e is works = subst (λ (x : Result (Unit {0}) StopReason). Works (status_at x)) (sym is) works
 
       -- the superblock of the store is that of the table found
-      over_block : {mid : State} {s : Kept} (n : ℕ) → Opened t m b old mid s
-          → WorksAs s.in_use.block t m b number count n old z out after → Works n
-      over_block n op works = subst (λ (u : SuperBlock). WorksAs u t m b number count n old z out after)
+      over_block : {mid : State} {s : StoreValue} (n : ℕ) → Opened t m b old mid s
+          → WorkHolds s.in_use.block t m b number count n old z out after → Works n
+      over_block n op works = subst (λ (u : SuperBlock). WorkHolds u t m b number count n old z out after)
           op.block works
 
       refusal : IsRefusal first z end → Works (status_at end)
@@ -141,13 +141,14 @@ module _ (t : choice.Table) (m : Map) (b : Book) (old : State) (lawful : IsLawfu
           op : Opened t m b old (disk_of x.mid) x.store
           op = opened_by t m b old first mount told o (disk_of x.mid) x.store calm_mount x.opening
 
-          puts : (e : Result (Unit {0}) Stop) → end ≡ e → IsTrue out.tells
+          puts : (e : Result (Unit {0}) StopReason) → end ≡ e → IsTrue out.tells
               → PutsLast out.given after.given (summary_text x.summary) (status_at e ≡ 9)
-          puts e is = subst (λ (e : Result (Unit {0}) Stop). IsTrue out.tells
+          puts e is = subst (λ (e : Result (Unit {0}) StopReason). IsTrue out.tells
               → PutsLast out.given after.given (summary_text x.summary) (status_at e ≡ 9)) is
               (summary_put disk_of number count z out put after end line x)
 
-          by : (e : Result (Unit {0}) Stop) → end ≡ e → OnErr e (e ≡ Err stop.Sink) → Works (status_at end)
+          by : (e : Result (Unit {0}) StopReason) → end ≡ e → OnErr e (e ≡ Err stop.Sink)
+              → Works (status_at end)
           by (Ok y) is only = carried (Ok y) is (over_block 0 op
               (all_done t m b old lawful o number count out after op x.summary x.done 0 refl refl
               (λ n. omega (arith, n)) (λ n. omega (arith, n)) (puts (Ok y) is)))
@@ -157,13 +158,15 @@ module _ (t : choice.Table) (m : Map) (b : Book) (old : State) (lawful : IsLawfu
 
   -- ---- all of them
 
-  pub works : (c : Command) (end : Result (Unit {0}) Stop) → DidFrom disk_of c number count old z out put end
+  pub works : (c : Command) (end : Result (Unit {0}) StopReason)
+      → WorkSteps disk_of c number count old z out put end
       → PutsEnd end
       → Works (status_at end)
   works c end (inl (is, same)) line = elim is.which as (λ _. Works (status_at end)) [
-    | inl failed ↦ subst (λ (x : Result (Unit {0}) Stop). Works (status_at x)) (sym failed.0)
+    | inl failed ↦ subst (λ (x : Result (Unit {0}) StopReason). Works (status_at x)) (sym failed.0)
         (failed_before is.mount.time.later (λ room. left_first t m b old z is.mount told o) failed.2)
-    | inr gone ↦ subst (λ (x : Result (Unit {0}) Stop). Works (status_at x)) (sym gone.0) (absent is.mount)
+    | inr gone ↦ subst (λ (x : Result (Unit {0}) StopReason). Works (status_at x)) (sym gone.0)
+        (absent is.mount)
   ]
   works c end (inr x) line = by x.did
     where

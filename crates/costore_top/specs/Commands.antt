@@ -13,8 +13,8 @@ use Rattle.disk_face.specs.declared.bay.Mounted.{Mounted}
 use Rattle.disk_face.specs.declared.bay.Mounted.TheVariants.{There, Made, Absent}
 use Rattle.costore_top.specs.Words.{Command}
 use Rattle.costore_top.specs.Outcomes.{makes, mounted}
-use Rattle.costore_top.specs.declared.stop.Stop.{Stop}
-use Rattle.costore_top.specs.declared.stop.Stop.TheVariants as stop
+use Rattle.costore_top.specs.declared.stop.StopReason.{StopReason}
+use Rattle.costore_top.specs.declared.stop.StopReason.TheVariants as stop
 
 -- what the mount of a command's file answers where the file isn't there
 abbrev pub not_there : Command → Mounted
@@ -28,7 +28,7 @@ pub record IsMounted (c : Command) (mount : Option Mount) (disk_failed no_file :
   pub absent : no_file ↔ (mount ≡ mounted c Absent)
 
 -- a file was formatted: only telling so may have failed
-abbrev pub IsDone : Result (Unit {0}) Stop → Type 0
+abbrev pub IsDone : Result (Unit {0}) StopReason → Type 0
 IsDone end = (end ≡ Ok tt) ⊎ (end ≡ Err stop.Sink)
 
 -- A file is the store with no names: it has the table that a store is made with, and by that it opens to the

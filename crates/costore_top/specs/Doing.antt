@@ -6,8 +6,8 @@ use Rattle.disk_face.specs.States.{State}
 use Rattle.disk_face.specs.Streams.{Puts, SinkState}
 use Rattle.disk_face.specs.declared.bay.Mounted.TheVariants.{Absent, There}
 use Rattle.size_class.specs.declared.TheConstants.{CLASSES}
-use Rattle.store_terms.specs.Requests.{Request}
-use Rattle.store_core.specs.Connection.{Kept}
+use Rattle.map_model.specs.Requests.{Request}
+use Rattle.store_core.specs.Connection.{StoreValue}
 use Rattle.store_core.specs.Opened.{IsOpening}
 use Rattle.reopen.specs.declared.fault.OpenFault.{OpenFault}
 use Rattle.work_maker.specs.Jobs.{jobs}
@@ -17,29 +17,29 @@ use Rattle.costore_top.specs.Words.{Command}
 use Rattle.costore_top.specs.Outcomes.{mounted}
 use Rattle.costore_top.specs.Getting.{stop_of}
 use Rattle.costore_top.specs.Summaries.{summary_text}
-use Rattle.costore_top.specs.declared.stop.Stop.{Stop}
-use Rattle.costore_top.specs.declared.stop.Stop.TheVariants as stop
+use Rattle.costore_top.specs.declared.stop.StopReason.{StopReason}
+use Rattle.costore_top.specs.declared.stop.StopReason.TheVariants as stop
 
 -- the jobs of a number for a store
-abbrev pub jobs_of : ℕ → ℕ → Kept → List Request
+abbrev pub jobs_of : ℕ → ℕ → StoreValue → List Request
 jobs_of number count s = jobs number count s.in_use.block.names
 
 -- the file wasn't opened
-pub record IsRefusal (before now : State) (end : Result (Unit {0}) Stop) : Type 0 where
+pub record IsRefusal (before now : State) (end : Result (Unit {0}) StopReason) : Type 0 where
   pub fault : OpenFault
   pub opening : IsOpening CLASSES before now (Err fault)
   pub ended : end ≡ Err (stop_of fault)
 
 -- It was opened, and there was no memory for the jobs.
-pub record IsNotBegun (before now : State) (end : Result (Unit {0}) Stop) : Type 0 where
-  pub store : Kept
+pub record IsNotBegun (before now : State) (end : Result (Unit {0}) StopReason) : Type 0 where
+  pub store : StoreValue
   pub opening : IsOpening CLASSES before now (Ok store)
   pub ended : end ≡ Err stop.NoMemory
 
 -- It was opened, at `mid`, and the disk failed in a job.
 pub record IsStopped {D : Type 0} (disk_of : D → State) (number count : ℕ) (before now : State)
-    (end : Result (Unit {0}) Stop) : Type 0 where
-  pub store : Kept
+    (end : Result (Unit {0}) StopReason) : Type 0 where
+  pub store : StoreValue
   pub mid : D
   pub opening : IsOpening CLASSES before (disk_of mid) (Ok store)
   pub stopped : HasStopped CLASSES store (jobs_of number count store) (disk_of mid) now
@@ -47,8 +47,8 @@ pub record IsStopped {D : Type 0} (disk_of : D → State) (number count : ℕ) (
 
 -- It was opened, at `mid`, all jobs were done, and their summary was put, unless the sink failed.
 pub record IsAllDone {D : Type 0} (disk_of : D → State) (number count : ℕ) (before now : State)
-    (out after : SinkState) (end : Result (Unit {0}) Stop) : Type 0 where
-  pub store : Kept
+    (out after : SinkState) (end : Result (Unit {0}) StopReason) : Type 0 where
+  pub store : StoreValue
   pub mid : D
   pub opening : IsOpening CLASSES before (disk_of mid) (Ok store)
   pub summary : Summary
@@ -60,7 +60,7 @@ pub record IsAllDone {D : Type 0} (disk_of : D → State) (number count : ℕ) (
 
 -- The jobs over an open file went so; but for a summary nothing was put.
 abbrev pub Did : {D : Type 0} → (D → State) → ℕ → ℕ → State → State → SinkState → SinkState
-    → Result (Unit {0}) Stop
+    → Result (Unit {0}) StopReason
     → Type 0
 Did disk_of number count before now out after end =
     ((IsRefusal before now end ⊎ IsNotBegun before now end ⊎ IsStopped disk_of number count before now end)
@@ -68,7 +68,7 @@ Did disk_of number count before now out after end =
     ⊎ IsAllDone disk_of number count before now out after end
 
 -- The file of a command wasn't mounted: the disk failed, or the file isn't there.
-pub record IsNotMounted (c : Command) (before now : State) (end : Result (Unit {0}) Stop) : Type 0 where
+pub record IsNotMounted (c : Command) (before now : State) (end : Result (Unit {0}) StopReason) : Type 0 where
   pub mount : AfterMount before now
   pub later : before.faults ≤ now.faults
   pub which : ((end ≡ Err stop.Disk) × (now.last_mount ≡ None) × Rose before.faults now.faults)
@@ -77,7 +77,7 @@ pub record IsNotMounted (c : Command) (before now : State) (end : Result (Unit {
 -- It was mounted, at `first`, and the jobs over it went so.
 pub record IsMountedAndDid {D : Type 0} (disk_of : D → State) (c : Command) (number count : ℕ)
     (before now : State)
-    (out after : SinkState) (end : Result (Unit {0}) Stop) : Type 0 where
+    (out after : SinkState) (end : Result (Unit {0}) StopReason) : Type 0 where
   pub first : D
   pub mount : AfterMount before (disk_of first)
   pub there : (disk_of first).last_mount ≡ mounted c There
@@ -85,7 +85,7 @@ pub record IsMountedAndDid {D : Type 0} (disk_of : D → State) (c : Command) (n
   pub did : Did disk_of number count (disk_of first) now out after end
 
 -- A command that does jobs went so; where its file wasn't mounted, nothing was put.
-abbrev pub DidFrom : {D : Type 0} → (D → State) → Command → ℕ → ℕ → State → State → SinkState → SinkState
-    → Result (Unit {0}) Stop → Type 0
-DidFrom disk_of c number count before now out after end = (IsNotMounted c before now end × (after ≡ out))
+abbrev pub WorkSteps : {D : Type 0} → (D → State) → Command → ℕ → ℕ → State → State → SinkState → SinkState
+    → Result (Unit {0}) StopReason → Type 0
+WorkSteps disk_of c number count before now out after end = (IsNotMounted c before now end × (after ≡ out))
     ⊎ IsMountedAndDid disk_of c number count before now out after end

@@ -7,8 +7,8 @@ use Rattle.slot_pair.specs.declared.find.SlotFault.{SlotFault}
 use Rattle.slot_pair.specs.declared.find.SlotFault.TheVariants as slot
 use Rattle.costore_top.specs.declared.stop.StoreFault.{StoreFault}
 use Rattle.costore_top.specs.declared.stop.StoreFault.TheVariants as store
-use Rattle.costore_top.specs.declared.stop.Stop.{Stop}
-use Rattle.costore_top.specs.declared.stop.Stop.TheVariants as stop
+use Rattle.costore_top.specs.declared.stop.StopReason.{StopReason}
+use Rattle.costore_top.specs.declared.stop.StopReason.TheVariants as stop
 
 -- the numbers of the faults in bytes
 abbrev pub number_of : CodecFault → ℕ
@@ -36,7 +36,7 @@ store_text (store.Slot f) = slot_text f
 store_text (store.Table broken) = codes "rule " ++ decimal broken.rule ++ codes " at " ++ decimal broken.at
 
 -- the line of a reason to stop; of the sink's own fault there is none
-abbrev pub line_of : Stop → List ℕ
+abbrev pub line_of : StopReason → List ℕ
 line_of stop.Words = codes "fault words\n"
 line_of stop.NoFile = codes "fault no file\n"
 line_of (stop.NotStore f) = codes "fault store " ++ store_text f ++ codes "\n"

@@ -12,8 +12,8 @@ use Rattle.slot_codec.specs.Spelling.{head_len}
 use Rattle.slot_codec.specs.declared.codec.SuperBlock.{SuperBlock}
 use Rattle.slot_codec.specs.declared.codec.Kind.{Kind}
 use Rattle.slot_codec.specs.declared.codec.Kind.TheVariants as kind
-use Rattle.store_terms.specs.Maps.{Map}
-use Rattle.store_terms.specs.Requests.{Reply, Request}
+use Rattle.map_model.specs.Maps.{Map}
+use Rattle.map_model.specs.Requests.{Reply, Request}
 use Rattle.segment_layout.specs.Books.{Book, book_end}
 use Rattle.segment_layout.specs.Bounds.{Loose, Tight}
 use Rattle.table_rules.specs.Opening.{Opens, OpensBy}
@@ -25,8 +25,8 @@ use Rattle.ask_text.specs.Replies.{reply_text}
 use Rattle.ask_session.specs.Serving.{acknowledges, is_changing}
 use Rattle.ask_session.specs.Runs.{SomeStep, budget, calls_since, last_kept, last_state, most_sequence}
 use Rattle.costore_top.specs.Outcomes.{PutsLast, line_at, status_at}
-use Rattle.costore_top.specs.declared.stop.Stop.{Stop}
-use Rattle.costore_top.specs.declared.stop.Stop.TheVariants as stop
+use Rattle.costore_top.specs.declared.stop.StopReason.{StopReason}
+use Rattle.costore_top.specs.declared.stop.StopReason.TheVariants as stop
 use Rattle.costore_top.specs.declared.top.Outcome.{Outcome}
 
 -- ---- a run of requests
@@ -145,7 +145,7 @@ pub record IsPartial (status : ℕ) (limits : Limits) (s : State) (others : List
     pub changing : status ≡ 7 → next_is_changing others ≡ true → partial ≡ []
 
 -- a faulty request has the number after those that were answered
-abbrev pub NumbersLine : ℕ → Result (Unit {0}) Stop → Type 0
+abbrev pub NumbersLine : ℕ → Result (Unit {0}) StopReason → Type 0
 NumbersLine n (Err (stop.Line number)) = number ≡ n + 1
 NumbersLine n _ = Unit {0}
 
@@ -154,7 +154,7 @@ pub record HasReplied (limits : Limits) (s : State) (replies : List Reply) (othe
     (status n : ℕ) (out after : SinkState) : Type 0 where
   pub between : List ℕ
   pub partial : List ℕ
-  pub end : Result (Unit {0}) Stop
+  pub end : Result (Unit {0}) StopReason
   pub put : between ≡ out.given ++ flat_map reply_text replies ++ partial
   pub front : IsPartial status limits s others partial
   pub same_status : status ≡ status_at end
@@ -224,8 +224,8 @@ pub record IsCrashSafe (limits : Limits) (start s : State) (replies : List Reply
       ⊎ OpensToBeing o.status limits s others image)
   pub safe : o.status ≡ 9 → NextIsSafe limits s others new.may_leave
 
--- the greatest sequence that a call leaves over a file with a table: what an opening raises its sequence to, or
--- what requests may
+-- the greatest sequence that a call leaves over a file with a table: what an opening raises its sequence
+-- to, or what requests may
 abbrev pub most_left : ℕ → choice.Table → ℕ
 most_left k t = most_sequence k (most_found t)
 
@@ -250,8 +250,8 @@ pub record IsAcknowledged (limits : Limits) (start : State) (answered : List Req
 -- ---- the next call
 
 -- The next call may begin here: the content opens to the checkpoint of a state, by the same superblock and
--- with a sequence that is no greater, and just this where it is the state's own; and where the disk rested on its
--- table it rests on this one.
+-- with a sequence that is no greater, and just this where it is the state's own; and where the disk
+-- rested on its table it rests on this one.
 pub record IsNextStart (found : choice.Table) (s : State) (sequence : ℕ) (old new : disk.State) : Type 0 where
   pub table : choice.Table
   pub opens : OpensBy CLASSES SIZE_MAX table new.file s.kept s.kept_book
@@ -274,7 +274,7 @@ turn_opened t b old = turn_after_cut (found_base t + book_end t.chosen.block.k b
 -- input asks for these requests. What is said of images is said of a disk that rested on that table, below
 -- the last turn, and of a moving table whose sequence leaves room for the saves of its flush; what is said of
 -- lengths, of a disk whose count of faults didn't rise.
-pub record RunsAs (u : SuperBlock) (t : choice.Table) (m : Map) (b : Book) (requests : List Request)
+pub record RunHolds (u : SuperBlock) (t : choice.Table) (m : Map) (b : Book) (requests : List Request)
     (end : List ℕ)
     (o : Outcome) (old new : disk.State) (from rest : SourceState) (out after : SinkState) : Type 0 where
   pub start : State
@@ -303,8 +303,8 @@ pub record RunsAs (u : SuperBlock) (t : choice.Table) (m : Map) (b : Book) (requ
       ran.replies ran.states ran.others o (HasMounted new) old new
   pub numbered : LeavesRoom t → RestsOnFound t old → new.turn < last
       → LeftOnly new old.turn (HasSequenceUpTo (most_left u.k t))
-  -- what is acknowledged, and the turns since where the disk failed in a request that only reads, or before the
-  -- first
+  -- what is acknowledged, and the turns since where the disk failed in a request that only reads, or
+  -- before the first
   pub acknowledged : IsAcknowledged (limits_with u) start ran.answered ran.replies ran.states o new.turn
   pub failed : o.status ≡ 7 → HasMounted new → (next_is_changing ran.others ≡ true)
       ⊎ (new.turn ≡ counted o.kept_turn (calls_since (limits_with u) 0 start ran.states ran.answered
@@ -320,9 +320,9 @@ pub record RunsAs (u : SuperBlock) (t : choice.Table) (m : Map) (b : Book) (requ
       ≤ most_left u.k t
 
 -- The headline: so it is of every file that opens, and of every input.
-abbrev pub RunsFrom : Outcome → disk.State → disk.State → SourceState → SourceState → SinkState → SinkState
+abbrev pub RunPromise : Outcome → disk.State → disk.State → SourceState → SourceState → SinkState → SinkState
     → Type 0
-RunsFrom o old new from rest out after =
+RunPromise o old new from rest out after =
     (t : choice.Table) (m : Map) (b : Book) (requests : List Request) (end : List ℕ)
     → OpensBy CLASSES SIZE_MAX t old.file m b → Asks from.left requests end
-    → RunsAs t.chosen.block t m b requests end o old new from rest out after
+    → RunHolds t.chosen.block t m b requests end o old new from rest out after

@@ -6,8 +6,8 @@ use Rattle.disk_face.specs.Streams.{SinkState, Puts}
 use Rattle.disk_face.specs.Frames.{Unchanged, Untouched}
 use Rattle.slot_pair.specs.Finding.{HasDiskCause}
 use Rattle.costore_top.specs.Outcomes.{EndsBy}
-use Rattle.costore_top.specs.declared.stop.Stop.{Stop}
-use Rattle.costore_top.specs.declared.stop.Stop.TheVariants as stop
+use Rattle.costore_top.specs.declared.stop.StopReason.{StopReason}
+use Rattle.costore_top.specs.declared.stop.StopReason.TheVariants as stop
 
 -- No count of faults falls. A device's own fault comes only where its count rose; else no call of the disk
 -- failed, and where all is done none of the sink. What the sink tells stays told.
@@ -32,31 +32,31 @@ pub record Keeps (old new : State) (sink_old sink_new : SinkState) (disk_failed 
   pub taken : IsTrue old.tells → 0 < length old.file → Untouched old new
 
 -- the same of a layer that ends so
-abbrev pub HasCausesAt : State → State → SinkState → SinkState → Result (Unit {0}) Stop → Type 0
+abbrev pub HasCausesAt : State → State → SinkState → SinkState → Result (Unit {0}) StopReason → Type 0
 HasCausesAt old new sink_old sink_new end =
     HasCauses old new sink_old sink_new (end ≡ Err stop.Disk) (end ≡ Err stop.Sink) (end ≡ Ok tt)
 
-abbrev pub KeepsAt : State → State → SinkState → SinkState → Result (Unit {0}) Stop → Type 0
+abbrev pub KeepsAt : State → State → SinkState → SinkState → Result (Unit {0}) StopReason → Type 0
 KeepsAt old new sink_old sink_new end =
     Keeps old new sink_old sink_new (end ≡ Err stop.Disk) (end ≡ Err stop.Sink) (end ≡ Ok tt)
 
 -- A step that looks at the file leaves it, and stops for what the file shows, or where the disk failed.
-pub record Looks {T : Type 0} (old new : State) (result : Result T Stop) : Type 0 where
+pub record Looks {T : Type 0} (old new : State) (result : Result T StopReason) : Type 0 where
   pub only : IfErr result (λ why. (why ≢ stop.Sink) × (why ≢ stop.NoFile) × (why ≢ stop.Words))
   pub cause : HasDiskCause stop.Disk old.faults new.faults result
   pub frame : Unchanged old new
 
 -- a reason to stop that isn't one of a session's alone
-abbrev pub IsPlain : Stop → Type 0
-IsPlain why = (why ≢ stop.Source) × (why ≢ stop.Budget) × ((n : ℕ) → why ≢ stop.Line n)
+abbrev pub IsCommandReason : StopReason → Type 0
+IsCommandReason why = (why ≢ stop.Source) × (why ≢ stop.Budget) × ((n : ℕ) → why ≢ stop.Line n)
 
 -- A layer that is to answer so ends by it, and puts its bytes, or a front of them where it stopped.
-pub record Answers (answer : Result (List ℕ) Stop → Type 0) (old new : SinkState)
-    (end : Result (Unit {0}) Stop) : Type 0 where
+pub record Answers (answer : Result (List ℕ) StopReason → Type 0) (old new : SinkState)
+    (end : Result (Unit {0}) StopReason) : Type 0 where
   pub bytes : List ℕ
   pub ends : EndsBy answer bytes end
   pub puts : IsTrue old.tells → Puts old.given new.given bytes end
 
 -- where a layer stopped and no device failed, nothing was put
-abbrev pub PutsNone : {O : Type 0} → O → O → Result (Unit {0}) Stop → Type 0
+abbrev pub PutsNone : {O : Type 0} → O → O → Result (Unit {0}) StopReason → Type 0
 PutsNone old new end = IfErr end (λ why. (why ≡ stop.Disk) ⊎ (why ≡ stop.Sink) ⊎ (new ≡ old))

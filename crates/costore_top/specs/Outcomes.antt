@@ -8,12 +8,12 @@ use Rattle.costore_top.specs.Words.{Command, Means, check, format, get, help, ma
 use Rattle.costore_top.specs.Getting.{IsObject}
 use Rattle.costore_top.specs.Texts.{IsChecked, IsMapped}
 use Rattle.costore_top.specs.Faults.{line_of}
-use Rattle.costore_top.specs.declared.stop.Stop.{Stop}
-use Rattle.costore_top.specs.declared.stop.Stop.TheVariants as stop
+use Rattle.costore_top.specs.declared.stop.StopReason.{StopReason}
+use Rattle.costore_top.specs.declared.stop.StopReason.TheVariants as stop
 use Rattle.costore_top.specs.declared.help.TheConstants.{HELP, VERSION}
 
 -- the status of a command that stops for this reason
-abbrev pub status_of : Stop → ℕ
+abbrev pub status_of : StopReason → ℕ
 status_of stop.Words = 1
 status_of stop.NoFile = 3
 status_of (stop.NotStore f) = 4
@@ -27,7 +27,7 @@ status_of stop.Source = 8
 status_of stop.Budget = 11
 
 -- the status of a command that ends so
-abbrev pub status_at : {A : Type 0} → Result A Stop → ℕ
+abbrev pub status_at : {A : Type 0} → Result A StopReason → ℕ
 status_at (Ok a) = 0
 status_at (Err why) = status_of why
 
@@ -61,12 +61,12 @@ serves (work file number count) = true
 serves _ = false
 
 -- the words don't ask for requests to be served
-abbrev pub IsOther : List (List ℕ) → Type 0
-IsOther words = (c : Command) → Means words c → IsFalse (serves c)
+abbrev pub ServesNothing : List (List ℕ) → Type 0
+ServesNothing words = (c : Command) → Means words c → IsFalse (serves c)
 
 -- the words don't ask for the requests of the input
-abbrev pub IsNoSession : List (List ℕ) → Type 0
-IsNoSession words = (file : List ℕ) → Means words (run file) → ⊥
+abbrev pub IsNotRun : List (List ℕ) → Type 0
+IsNotRun words = (file : List ℕ) → Means words (run file) → ⊥
 
 -- the file that a command mounts
 abbrev pub file_of : Command → List ℕ
@@ -83,11 +83,11 @@ abbrev pub mounted : Command → Mounted → Option Mount
 mounted c answer = Some (record { name = file_of c; make = makes c; answer = answer })
 
 -- only an empty file is formatted
-abbrev pub format_answer : List ℕ → Result (List ℕ) Stop
+abbrev pub format_answer : List ℕ → Result (List ℕ) StopReason
 format_answer file = if length file == 0 then Ok (codes "formatted\n") else Err (stop.Taken (length file))
 
 -- what a command is to answer, against the bytes of its file
-unfoldable pub IsAnswer : Command → List ℕ → Result (List ℕ) Stop → Type 0
+unfoldable pub IsAnswer : Command → List ℕ → Result (List ℕ) StopReason → Type 0
 IsAnswer (format name k names) file answer = answer ≡ format_answer file
 IsAnswer (get name object) file answer = IsObject object file answer
 IsAnswer (check name) file answer = IsChecked file answer
@@ -100,7 +100,7 @@ IsAnswer version file answer = answer ≡ Ok VERSION.now
 -- A command that is to answer so may end so, where these are the bytes that it puts: it has put all that it
 -- is to answer; or the sink failed meanwhile, or the disk did, then or before; or its file isn't there, or
 -- memory is wanting, and there are none; or it stops as it is to, and there are none.
-abbrev pub EndsBy : (Result (List ℕ) Stop → Type 0) → List ℕ → Result (Unit {0}) Stop → Type 0
+abbrev pub EndsBy : (Result (List ℕ) StopReason → Type 0) → List ℕ → Result (Unit {0}) StopReason → Type 0
 EndsBy answer bytes (Ok x) = answer (Ok bytes)
 EndsBy answer bytes (Err stop.Sink) = answer (Ok bytes)
 EndsBy answer bytes (Err stop.Disk) = answer (Ok bytes) ⊎ (bytes ≡ [])
@@ -109,7 +109,7 @@ EndsBy answer bytes (Err stop.NoMemory) = bytes ≡ []
 EndsBy answer bytes (Err why) = answer (Err why) × (bytes ≡ [])
 
 -- the line that is put last
-abbrev pub line_at : {A : Type 0} → Result A Stop → List ℕ
+abbrev pub line_at : {A : Type 0} → Result A StopReason → List ℕ
 line_at (Ok a) = []
 line_at (Err why) = line_of why
 
@@ -124,7 +124,8 @@ pub record PutsLast (before now bytes : List ℕ) (failed : Type 0) : Type 0 whe
 
 -- What a command that ends so has put: these bytes, all of them where it is done and a front of them where
 -- it stopped, and then the line of its end.
-pub record PutsOut (bytes : List ℕ) (end : Result (Unit {0}) Stop) (before now : List ℕ) (failed : Type 0)
+pub record PutsOut (bytes : List ℕ) (end : Result (Unit {0}) StopReason) (before now : List ℕ)
+    (failed : Type 0)
     : Type 0 where
   pub between : List ℕ
   pub object : IsFront before between bytes
@@ -133,13 +134,14 @@ pub record PutsOut (bytes : List ℕ) (end : Result (Unit {0}) Stop) (before now
 
 -- The line of a reason to stop of this status was put and nothing more, whole unless the sink failed.
 pub record PutsLine (status : ℕ) (old new : SinkState) : Type 0 where
-  pub why : Stop
+  pub why : StopReason
   pub same_status : status ≡ status_of why
   pub line : PutsLast old.given new.given (line_of why) (Rose old.faults new.faults)
 
 -- The end of a command that is to answer so, by its status and by what it put.
-pub record Ends (answer : Result (List ℕ) Stop → Type 0) (status : ℕ) (old new : SinkState) : Type 0 where
-  pub end : Result (Unit {0}) Stop
+pub record Ends (answer : Result (List ℕ) StopReason → Type 0) (status : ℕ)
+    (old new : SinkState) : Type 0 where
+  pub end : Result (Unit {0}) StopReason
   pub bytes : List ℕ
   pub same_status : status ≡ status_at end
   pub by : EndsBy answer bytes end

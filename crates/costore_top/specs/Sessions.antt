@@ -6,10 +6,10 @@ use Rattle.disk_face.specs.declared.bay.Mounted.TheVariants.{Absent, There}
 use Rattle.disk_face.specs.States.{State}
 use Rattle.disk_face.specs.Streams.{SinkState, SourceState}
 use Rattle.size_class.specs.declared.TheConstants.{CLASSES, SIZE_MAX}
-use Rattle.store_terms.specs.Maps.{Map}
+use Rattle.map_model.specs.Maps.{Map}
 use Rattle.segment_layout.specs.Books.{Book}
 use Rattle.table_rules.specs.Opening.{Opens}
-use Rattle.store_core.specs.Connection.{Kept}
+use Rattle.store_core.specs.Connection.{StoreValue}
 use Rattle.store_core.specs.Opened.{IsOpening}
 use Rattle.store_core.specs.Stores.{IsStore}
 use Rattle.reopen.specs.declared.fault.OpenFault.{OpenFault}
@@ -21,13 +21,13 @@ use Rattle.costore_top.specs.Words.{Command}
 use Rattle.costore_top.specs.Outcomes.{PutsLine, mounted, status_at}
 use Rattle.costore_top.specs.Headline.{HasMounted, IsKeptTurn}
 use Rattle.costore_top.specs.Getting.{stop_of}
-use Rattle.costore_top.specs.declared.stop.Stop.{Stop}
-use Rattle.costore_top.specs.declared.stop.Stop.TheVariants as stop
+use Rattle.costore_top.specs.declared.stop.StopReason.{StopReason}
+use Rattle.costore_top.specs.declared.stop.StopReason.TheVariants as stop
 use Rattle.costore_top.specs.declared.run.Ended.{Ended}
 use Rattle.costore_top.specs.declared.top.Outcome.{Outcome}
 
 -- how the program ends where a session ended so, after so many requests were answered
-abbrev pub end_of : End → ℕ → Result (Unit {0}) Stop
+abbrev pub end_of : End → ℕ → Result (Unit {0}) StopReason
 end_of ends.End done = Ok tt
 end_of ends.Line done = Err (stop.Line (counted done 1))
 end_of ends.Disk done = Err stop.Disk
@@ -45,7 +45,7 @@ ended_as end s = record {
 }
 
 -- no session was begun
-abbrev pub unserved : Stop → ℕ → Ended
+abbrev pub unserved : StopReason → ℕ → Ended
 unserved why turn = record { end = Err why; done = 0; kept_done = 0; kept_turn = turn }
 
 -- the file wasn't opened
@@ -56,7 +56,7 @@ pub record IsUnopened (before now : State) (e : Ended) : Type 0 where
 
 -- it was opened, and there was no memory for a session
 pub record IsUnbegun (before now : State) (e : Ended) : Type 0 where
-  pub store : Kept
+  pub store : StoreValue
   pub opening : IsOpening CLASSES before now (Ok store)
   pub ended : e ≡ unserved stop.NoMemory now.turn
 
@@ -64,7 +64,7 @@ pub record IsUnbegun (before now : State) (e : Ended) : Type 0 where
 pub record HasSession {D I O : Type 0} (disk_of : D → State) (source_of : I → SourceState)
     (sink_of : O → SinkState)
     (before now : D) (from rest : I) (out after : O) (e : Ended) : Type 0 where
-  pub store : Kept
+  pub store : StoreValue
   pub mid : D
   pub new : Sitting
   pub end : End
@@ -102,10 +102,10 @@ pub record IsServed {D I O : Type 0} (disk_of : D → State) (source_of : I → 
   pub went : Went disk_of source_of sink_of first now from rest out after e
 
 -- A command that serves requests went so; where its file wasn't mounted, no stream was called.
-abbrev pub WentFrom : {D I O : Type 0} → (D → State) → (I → SourceState) → (O → SinkState) → Command → D → D
+abbrev pub RunSteps : {D I O : Type 0} → (D → State) → (I → SourceState) → (O → SinkState) → Command → D → D
     → I → I → O
     → O → Ended → Type 0
-WentFrom disk_of source_of sink_of c before now from rest out after e =
+RunSteps disk_of source_of sink_of c before now from rest out after e =
     (IsUnmounted c (disk_of before) (disk_of now) e × (rest ≡ from) × (after ≡ out))
     ⊎ IsServed disk_of source_of sink_of c before now from rest out after e
 
@@ -145,7 +145,7 @@ NeverOpens file = (m : Map) (b : Book) → Opens CLASSES SIZE_MAX file m b → �
 -- What the command that serves requests does whatever the file and the devices tell. Where no request was
 -- read the input is as it was, and the fault line is all that is put; where the file isn't there or is
 -- refused, it stays as it was. One that opens isn't refused.
-pub record ServesSo (o : Outcome) (old new : State) (from rest : SourceState) (out after : SinkState)
+pub record RunAlways (o : Outcome) (old new : State) (from rest : SourceState) (out after : SinkState)
     (same_input : Type 0) : Type 0 where
   pub keeps : KeepsRun old new from rest out after o.status
   pub numbers : HasCounted o (IsTrue old.tells) (HasMounted new)

@@ -11,11 +11,11 @@ use Rattle.slot_codec.specs.declared.codec.Kind.TheVariants.{Settled, Moving}
 use Rattle.slot_codec.specs.declared.codec.Record.{Record}
 use Rattle.segment_layout.specs.Books.{Book}
 use Rattle.segment_layout.specs.Shapes.{buffer_of, taken_in}
-use Rattle.store_terms.specs.Maps.{Map}
+use Rattle.map_model.specs.Maps.{Map}
 use Rattle.table_rules.specs.Opening.{OpensBy}
 use Rattle.table_rules.specs.Tables.{size_sum}
 use Rattle.costore_top.specs.Getting.{IsRefused}
-use Rattle.costore_top.specs.declared.stop.Stop.{Stop}
+use Rattle.costore_top.specs.declared.stop.StopReason.{StopReason}
 
 -- a number after a blank
 unfoldable pub numbered : ℕ → List ℕ
@@ -67,7 +67,8 @@ map_text t = moving_line t.chosen.header t.chosen.header.kind
 
 -- What was put and what is gathered since: these bytes came behind it, and as much was put as before or more;
 -- or where the sink failed, a front of that was put.
-pub record Gathers (put piece put_after piece_after bytes : List ℕ) (result : Result (Unit {0}) Stop) : Type 0
+pub record Gathers (put piece put_after piece_after bytes : List ℕ)
+    (result : Result (Unit {0}) StopReason) : Type 0
   where
     pub all : OnOk result ((put_after ++ piece_after ≡ put ++ (piece ++ bytes))
         × (length put ≤ length put_after))
@@ -77,7 +78,7 @@ pub record Gathers (put piece put_after piece_after bytes : List ℕ) (result : 
 -- ---- the answers
 
 -- The file opens by a table, and the answer is a text of that table and of the file's length.
-pub record IsToldOf (text : choice.Table → ℕ → List ℕ) (file : List ℕ) (answer : Result (List ℕ) Stop)
+pub record IsToldOf (text : choice.Table → ℕ → List ℕ) (file : List ℕ) (answer : Result (List ℕ) StopReason)
     : Type 0 where
   pub table : choice.Table
   pub map : Map
@@ -86,12 +87,12 @@ pub record IsToldOf (text : choice.Table → ℕ → List ℕ) (file : List ℕ)
   pub same : answer ≡ Ok (text table (length file))
 
 -- what a command is to answer that puts such a text
-abbrev pub IsTold : (choice.Table → ℕ → List ℕ) → List ℕ → Result (List ℕ) Stop → Type 0
+abbrev pub IsTold : (choice.Table → ℕ → List ℕ) → List ℕ → Result (List ℕ) StopReason → Type 0
 IsTold text file answer = IsToldOf text file answer ⊎ IsRefused file answer
 
 -- what `check` is to answer, and what `map` is
-abbrev pub IsChecked : List ℕ → Result (List ℕ) Stop → Type 0
+abbrev pub IsChecked : List ℕ → Result (List ℕ) StopReason → Type 0
 IsChecked file answer = IsTold check_text file answer
 
-abbrev pub IsMapped : List ℕ → Result (List ℕ) Stop → Type 0
+abbrev pub IsMapped : List ℕ → Result (List ℕ) StopReason → Type 0
 IsMapped file answer = IsTold (λ t len. map_text t) file answer

@@ -10,8 +10,8 @@ use Rattle.slot_codec.specs.Choice as choice
 use Rattle.slot_codec.specs.Spelling.{head_len}
 use Rattle.slot_codec.specs.declared.codec.SuperBlock.{SuperBlock}
 use Rattle.slot_codec.specs.declared.codec.Kind.TheVariants as kind
-use Rattle.store_terms.specs.Maps.{Map}
-use Rattle.store_terms.specs.Requests.{Reply, Request}
+use Rattle.map_model.specs.Maps.{Map}
+use Rattle.map_model.specs.Requests.{Reply, Request}
 use Rattle.segment_layout.specs.Books.{Book, book_end}
 use Rattle.table_rules.specs.Opening.{OpensBy}
 use Rattle.table_rules.specs.Sequences.{HasSequenceUpTo}
@@ -89,9 +89,9 @@ pub record AreDone (u : SuperBlock) (t : choice.Table) (b : Book) (start : State
 -- The first were done one after another, from the state in which the file is opened. What is said of images
 -- is said of a disk that rested on that table, below the last turn, and of a moving table whose sequence
 -- leaves room for the saves of its flush: at any moment a crash leaves the start, or what stood after a job
--- that made a checkpoint, or the one that the job makes in which the disk failed; and the start alone where no
--- job was begun.
-pub record WorksAs (u : SuperBlock) (t : choice.Table) (m : Map) (b : Book) (number count status : ℕ)
+-- that made a checkpoint, or the one that the job makes in which the disk failed; and the start alone
+-- where no job was begun.
+pub record WorkHolds (u : SuperBlock) (t : choice.Table) (m : Map) (b : Book) (number count status : ℕ)
     (old new : disk.State) (out after : SinkState) : Type 0 where
   pub start : State
   pub starts : Starts t m b start
@@ -114,10 +114,10 @@ pub record WorksAs (u : SuperBlock) (t : choice.Table) (m : Map) (b : Book) (num
   pub reach : (last_state start ran.states).sequence ≤ most_left u.k t
 
 -- So it is of every file that opens.
-abbrev pub WorksFrom : ℕ → ℕ → ℕ → disk.State → disk.State → SinkState → SinkState → Type 0
-WorksFrom number count status old new out after = (t : choice.Table) (m : Map) (b : Book)
+abbrev pub WorkPromise : ℕ → ℕ → ℕ → disk.State → disk.State → SinkState → SinkState → Type 0
+WorkPromise number count status old new out after = (t : choice.Table) (m : Map) (b : Book)
     → OpensBy CLASSES SIZE_MAX t old.file m b
-    → WorksAs t.chosen.block t m b number count status old new out after
+    → WorkHolds t.chosen.block t m b number count status old new out after
 
 -- ---- whatever is told
 
@@ -153,7 +153,7 @@ pub record PutsSummary (count status : ℕ) (out after : SinkState) : Type 0 whe
 -- What `work` does whatever the file and the devices tell. Where all jobs were done their summary is put, and
 -- else the fault line alone; where the file isn't there or is refused, it stays as it was. One that opens
 -- isn't refused.
-pub record WorksSo (count status : ℕ) (old new : disk.State) (out after : SinkState) : Type 0 where
+pub record WorkAlways (count status : ℕ) (old new : disk.State) (out after : SinkState) : Type 0 where
   pub known : (is_working status ≡ true) ⊎ (status ≡ 4)
   pub keeps : KeepsWork old new out after status
   pub untouched : (status ≡ 3) ⊎ (status ≡ 4) → Untouched old new

@@ -2,11 +2,11 @@
 ghost use Rattle.std.specs.Prelude.{◌≡◌, ◌≢◌, ◌≤◌, ℕ, List, None, Ok, Err, IfErr, IsTrue, IsFalse, length};
 ghost use Rattle.disk_face.specs.Frames.{Untouched};
 ghost use Rattle.costore_top.specs.Commands.{Formats, IsDone, IsMounted};
-ghost use Rattle.costore_top.specs.Layers.{Answers, IsPlain, KeepsAt, PutsNone};
+ghost use Rattle.costore_top.specs.Layers.{Answers, IsCommandReason, KeepsAt, PutsNone};
 ghost use Rattle.costore_top.specs.Words.{Command, command_of, format};
 ghost use Rattle.costore_top.specs.Outcomes.{IsAnswer, makes, mounts, reads, serves};
 
-use crate::Stop;
+use crate::StopReason;
 use crate::command::{check_from, format_in, get_from, map_from};
 use crate::copy::put_whole;
 use crate::help::{HELP, VERSION};
@@ -21,28 +21,28 @@ pub fn do_asked<B: Bay, O: Sink>(
     asked: &Asked,
     bay: &mut B,
     output: &mut O,
-) -> Result<(), Stop>
+) -> Result<(), StopReason>
     requires none { (B.state bay.old).last_mount ≡ None }
     requires no_session { IsFalse (serves (command_of asked.now)) }
     requires ranges { (file : List ℕ) (k names : ℕ) → command_of asked.now ≡ format file k names
         → (2 ≤ k) × (k ≤ 64) × (16 ≤ names) × (names ≤ 65536) }
-    ensures words { result ≢ Err Stop.Words }
+    ensures words { result ≢ Err StopReason.Words }
     ensures unmounted { IsFalse (mounts (command_of asked.now))
-        → (bay.new ≡ bay.old) × (result ≢ Err Stop.NoFile) }
+        → (bay.new ≡ bay.old) × (result ≢ Err StopReason.NoFile) }
     ensures mounted { IsTrue (mounts (command_of asked.now))
-        → IsMounted (command_of asked.now) (B.state bay.new).last_mount (result ≡ Err Stop.Disk)
-        (result ≡ Err Stop.NoFile) }
+        → IsMounted (command_of asked.now) (B.state bay.new).last_mount (result ≡ Err StopReason.Disk)
+        (result ≡ Err StopReason.NoFile) }
     ensures answers { (IsTrue (mounts (command_of asked.now)) → IsTrue (B.state bay.old).tells)
         → Answers (IsAnswer (command_of asked.now) (B.state bay.old).file) (O.state output.old)
         (O.state output.new) result }
-    ensures memory { IsFalse (reads (command_of asked.now)) → result ≢ Err Stop.NoMemory }
+    ensures memory { IsFalse (reads (command_of asked.now)) → result ≢ Err StopReason.NoMemory }
     ensures nothing_put { PutsNone output.old output.new result }
-    ensures plain { IfErr result IsPlain }
+    ensures plain { IfErr result IsCommandReason }
     ensures frame { IsFalse (makes (command_of asked.now)) → Untouched (B.state bay.old) (B.state bay.new) }
     ensures formats { (file : List ℕ) (k names : ℕ) → command_of asked.now ≡ format file k names
         → IsTrue (B.state bay.old).tells → length (B.state bay.old).file ≡ 0
         → Formats k names (B.state bay.old) (B.state bay.new) (IsDone result) }
-    ensures silent { IsTrue (makes (command_of asked.now)) → result ≡ Err Stop.Disk
+    ensures silent { IsTrue (makes (command_of asked.now)) → result ≡ Err StopReason.Disk
         → output.new ≡ output.old }
     ensures keeps { KeepsAt (B.state bay.old) (B.state bay.new) (O.state output.old) (O.state output.new)
         result }

@@ -3,10 +3,10 @@ ghost use Rattle.std.specs.Prelude.{◌≡◌, ◌≢◌, ◌≤◌, Ok, Err, If
 ghost use Rattle.disk_face.specs.Frames.{Unchanged};
 ghost use Rattle.reopen.specs.Loads.{KeepsLoaded, table_seen};
 ghost use Rattle.costore_top.specs.Getting.{StopsAs};
-ghost use Rattle.costore_top.specs.Layers.{Answers, HasCausesAt, IsPlain, Looks, PutsNone};
+ghost use Rattle.costore_top.specs.Layers.{Answers, HasCausesAt, IsCommandReason, Looks, PutsNone};
 ghost use Rattle.costore_top.specs.Texts.{IsChecked, check_text, kind_text};
 
-use crate::Stop;
+use crate::StopReason;
 use crate::copy::put_whole;
 use crate::lines::{push, push_three};
 use crate::load::load;
@@ -19,15 +19,19 @@ use std::alloc::Global;
 
 /// Puts one line about the file: its numbers, and whether a flush of it was interrupted. The disk
 /// stays as it is.
-pub fn check<D: Disk, O: Sink>(alloc: Global, disk: &mut D, output: &mut O) -> Result<(), Stop>
+pub fn check<D: Disk, O: Sink>(
+    alloc: Global,
+    disk: &mut D,
+    output: &mut O,
+) -> Result<(), StopReason>
     requires ready { IsTrue (D.state disk.old).is_ready }
-    ensures words { (result ≢ Err Stop.Words) × (result ≢ Err Stop.NoFile) }
+    ensures words { (result ≢ Err StopReason.Words) × (result ≢ Err StopReason.NoFile) }
     ensures answers { IsTrue (D.state disk.old).tells
         → Answers (IsChecked (D.state disk.old).file) (O.state output.old) (O.state output.new) result }
     ensures nothing_put { PutsNone output.old output.new result }
     ensures causes { HasCausesAt (D.state disk.old) (D.state disk.new) (O.state output.old)
         (O.state output.new) result }
-    ensures plain { IfErr result IsPlain }
+    ensures plain { IfErr result IsCommandReason }
     ensures frame { Unchanged (D.state disk.old) (D.state disk.new) }
 {
     let line = store_line(alloc, disk)?;
@@ -35,17 +39,17 @@ pub fn check<D: Disk, O: Sink>(alloc: Global, disk: &mut D, output: &mut O) -> R
 }
 
 /// The line about the file.
-fn store_line<D: Disk>(alloc: Global, disk: &mut D) -> Result<ArrayVec<u8, 4096>, Stop>
+fn store_line<D: Disk>(alloc: Global, disk: &mut D) -> Result<ArrayVec<u8, 4096>, StopReason>
     requires ready { IsTrue (D.state disk.old).is_ready }
     ensures found { IsTrue (D.state disk.old).tells
         → IfOk result (λ line. IsChecked (D.state disk.old).file (Ok line.items)) }
     ensures stopped { IsTrue (D.state disk.old).tells
         → IfErr result (StopsAs (IsChecked (D.state disk.old).file)) }
     ensures looks { Looks (D.state disk.old) (D.state disk.new) result }
-    ensures plain { IfErr result IsPlain }
+    ensures plain { IfErr result IsCommandReason }
 {
     let loaded = load(alloc, disk)?;
-    let length = length_of(disk).map_err(|_| Stop::Disk)?;
+    let length = length_of(disk).map_err(|_| StopReason::Disk)?;
     Ok(line_of(&loaded, length))
 }
 

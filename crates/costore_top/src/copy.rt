@@ -6,7 +6,7 @@ ghost use Rattle.disk_face.specs.Frames.{Unchanged};
 ghost use Rattle.disk_face.specs.Streams.{Puts};
 ghost use Rattle.costore_top.specs.Layers.{HasCausesAt};
 
-use crate::Stop;
+use crate::StopReason;
 use disk_face::{Disk, Sink, read};
 use std::alloc::Global;
 
@@ -14,12 +14,12 @@ use std::alloc::Global;
 const PIECE: u64 = 65_536;
 
 /// Memory for a piece of an object of so many bytes.
-pub fn take_piece(alloc: Global, size: u64) -> Result<Vec<u8>, Stop>
+pub fn take_piece(alloc: Global, size: u64) -> Result<Vec<u8>, StopReason>
     ensures long { IfOk result (λ piece. vec_len piece ≡ min size PIECE) }
-    ensures refused { IfErr result (λ why. why ≡ Stop.NoMemory) }
+    ensures refused { IfErr result (λ why. why ≡ StopReason.NoMemory) }
 {
     let length = size.min(PIECE) as usize;
-    vec![in alloc; 0; length].map_err(|_| Stop::NoMemory)
+    vec![in alloc; 0; length].map_err(|_| StopReason::NoMemory)
 }
 
 /// Puts `size` bytes of the file from position `at` on, in pieces, through a buffer that has room for
@@ -30,7 +30,7 @@ pub fn put_bytes<D: Disk, O: Sink>(
     size: u64,
     piece: &mut [u8],
     output: &mut O,
-) -> Result<(), Stop>
+) -> Result<(), StopReason>
     requires ready { IsTrue (D.state disk.old).is_ready }
     requires room { min size PIECE ≤ length piece.old }
     requires range { at + size < 2 ^ 64 }
@@ -38,7 +38,7 @@ pub fn put_bytes<D: Disk, O: Sink>(
     ensures put { IsTrue (D.state disk.old).tells → IsTrue (O.state output.old).tells
         → Puts (O.state output.old).given (O.state output.new).given
         (bytes_at (D.state disk.old).file at size) result }
-    ensures only { OnErr result ((result ≡ Err Stop.Disk) ⊎ (result ≡ Err Stop.Sink)) }
+    ensures only { OnErr result ((result ≡ Err StopReason.Disk) ⊎ (result ≡ Err StopReason.Sink)) }
     ensures causes { HasCausesAt (D.state disk.old) (D.state disk.new) (O.state output.old)
         (O.state output.new) result }
     ensures frame { Unchanged (D.state disk.old) (D.state disk.new) }
@@ -59,30 +59,30 @@ fn put_piece<D: Disk, O: Sink>(
     size: usize,
     buffer: &mut [u8],
     output: &mut O,
-) -> Result<(), Stop>
+) -> Result<(), StopReason>
     requires ready { IsTrue (D.state disk.old).is_ready }
     requires room { size ≤ length buffer.old }
     requires within { IsTrue (D.state disk.old).tells → at + size ≤ length (D.state disk.old).file }
     ensures put { IsTrue (D.state disk.old).tells → IsTrue (O.state output.old).tells
         → Puts (O.state output.old).given (O.state output.new).given
         (bytes_at (D.state disk.old).file at size) result }
-    ensures only { OnErr result ((result ≡ Err Stop.Disk) ⊎ (result ≡ Err Stop.Sink)) }
+    ensures only { OnErr result ((result ≡ Err StopReason.Disk) ⊎ (result ≡ Err StopReason.Sink)) }
     ensures causes { HasCausesAt (D.state disk.old) (D.state disk.new) (O.state output.old)
         (O.state output.new) result }
     ensures frame { Unchanged (D.state disk.old) (D.state disk.new) }
 {
     let piece = &mut buffer[..size];
-    read(disk, at, piece).map_err(|_| Stop::Disk)?;
+    read(disk, at, piece).map_err(|_| StopReason::Disk)?;
     put_whole(output, piece)
 }
 
 /// Puts bytes at once.
-pub fn put_whole<O: Sink>(output: &mut O, bytes: &[u8]) -> Result<(), Stop>
+pub fn put_whole<O: Sink>(output: &mut O, bytes: &[u8]) -> Result<(), StopReason>
     ensures put { IsTrue (O.state output.old).tells
         → Puts (O.state output.old).given (O.state output.new).given bytes.now result }
-    ensures only { OnErr result (result ≡ Err Stop.Sink) }
+    ensures only { OnErr result (result ≡ Err StopReason.Sink) }
     ensures told { (O.state output.new).tells ≡ (O.state output.old).tells }
     ensures cause { HasCause (O.state output.old).faults (O.state output.new).faults result }
 {
-    output.put(bytes).map_err(|_| Stop::Sink)
+    output.put(bytes).map_err(|_| StopReason::Sink)
 }

@@ -4,41 +4,41 @@ ghost use Rattle.std.specs.Fmt.{decimal};
 ghost use Rattle.arrayvec.specs.ArrayVec.{array_vec_len};
 ghost use Rattle.costore_top.specs.Faults.{line_of, number_of, slot_text, store_text};
 
-use crate::{Stop, StoreFault};
+use crate::{StopReason, StoreFault};
 use arrayvec::ArrayVec;
 use itoa::Buffer;
 use slot_codec::CodecFault;
 use slot_pair::SlotFault;
 
 /// The fault line of a reason to stop, with its newline; empty where the sink itself failed.
-pub fn fault_line(why: Stop) -> ArrayVec<u8, 128>
+pub fn fault_line(why: StopReason) -> ArrayVec<u8, 128>
     ensures { result.items ≡ line_of why }
 {
     let mut line = ArrayVec::new();
     match why {
-        Stop::Words => push(&mut line, b"fault words\n"),
-        Stop::NoFile => push(&mut line, b"fault no file\n"),
-        Stop::NotStore(fault) => {
+        StopReason::Words => push(&mut line, b"fault words\n"),
+        StopReason::NoFile => push(&mut line, b"fault no file\n"),
+        StopReason::NotStore(fault) => {
             push(&mut line, b"fault store ");
             push_store_fault(&mut line, fault);
             push(&mut line, b"\n");
         }
-        Stop::Taken(length) => {
+        StopReason::Taken(length) => {
             push(&mut line, b"fault taken ");
             push_number(&mut line, length);
             push(&mut line, b"\n");
         }
-        Stop::Missing => push(&mut line, b"fault missing\n"),
-        Stop::Disk => push(&mut line, b"fault disk\n"),
-        Stop::Sink => {}
-        Stop::NoMemory => push(&mut line, b"fault memory\n"),
-        Stop::Line(number) => {
+        StopReason::Missing => push(&mut line, b"fault missing\n"),
+        StopReason::Disk => push(&mut line, b"fault disk\n"),
+        StopReason::Sink => {}
+        StopReason::NoMemory => push(&mut line, b"fault memory\n"),
+        StopReason::Line(number) => {
             push(&mut line, b"fault request ");
             push_number(&mut line, number);
             push(&mut line, b"\n");
         }
-        Stop::Source => push(&mut line, b"fault source\n"),
-        Stop::Budget => push(&mut line, b"fault budget\n"),
+        StopReason::Source => push(&mut line, b"fault source\n"),
+        StopReason::Budget => push(&mut line, b"fault budget\n"),
     }
     line
 }

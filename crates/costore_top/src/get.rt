@@ -4,9 +4,9 @@ ghost use Rattle.byte_ranges.specs.Ranges.{bytes_at};
 ghost use Rattle.disk_face.specs.Frames.{Unchanged};
 ghost use Rattle.reopen.specs.Loads.{IsLoadedFrom, KeepsLoaded};
 ghost use Rattle.costore_top.specs.Getting.{IsObject, StopsAs};
-ghost use Rattle.costore_top.specs.Layers.{Answers, HasCausesAt, IsPlain, Looks, PutsNone};
+ghost use Rattle.costore_top.specs.Layers.{Answers, HasCausesAt, IsCommandReason, Looks, PutsNone};
 
-use crate::Stop;
+use crate::StopReason;
 use crate::copy::{put_bytes, take_piece};
 use crate::load::load;
 use disk_face::{Disk, Sink};
@@ -22,14 +22,14 @@ pub fn get<D: Disk, O: Sink>(
     disk: &mut D,
     name: &Name,
     output: &mut O,
-) -> Result<(), Stop>
+) -> Result<(), StopReason>
     requires ready { IsTrue (D.state disk.old).is_ready }
-    ensures words { (result ≢ Err Stop.Words) × (result ≢ Err Stop.NoFile) }
+    ensures words { (result ≢ Err StopReason.Words) × (result ≢ Err StopReason.NoFile) }
     ensures answers { IsTrue (D.state disk.old).tells
         → Answers (IsObject name.now (D.state disk.old).file) (O.state output.old) (O.state output.new)
         result }
     ensures nothing_put { PutsNone output.old output.new result }
-    ensures plain { IfErr result IsPlain }
+    ensures plain { IfErr result IsCommandReason }
     ensures causes { HasCausesAt (D.state disk.old) (D.state disk.new) (O.state output.old)
         (O.state output.new) result }
     ensures frame { Unchanged (D.state disk.old) (D.state disk.new) }
@@ -40,7 +40,7 @@ pub fn get<D: Disk, O: Sink>(
 }
 
 /// Where the object of a name begins in the file, and how many bytes it has.
-fn locate<D: Disk>(alloc: Global, disk: &mut D, name: &Name) -> Result<(u64, u64), Stop>
+fn locate<D: Disk>(alloc: Global, disk: &mut D, name: &Name) -> Result<(u64, u64), StopReason>
     requires ready { IsTrue (D.state disk.old).is_ready }
     ensures found { IsTrue (D.state disk.old).tells → IfOk result (λ at. IsObject name.now
         (D.state disk.old).file (Ok (bytes_at (D.state disk.old).file at.0 at.1))) }
@@ -50,26 +50,26 @@ fn locate<D: Disk>(alloc: Global, disk: &mut D, name: &Name) -> Result<(u64, u64
         → IfOk result (λ at. at.0 + at.1 ≤ length (D.state disk.old).file) }
     ensures ranges { IfOk result (λ at. at.0 + at.1 < 2 ^ 64) }
     ensures looks { Looks (D.state disk.old) (D.state disk.new) result }
-    ensures plain { IfErr result IsPlain }
+    ensures plain { IfErr result IsCommandReason }
 {
     let loaded = load(alloc, disk)?;
     spot_in(&loaded, name)
 }
 
 /// Where the object of a name begins in the file of a table, and how many bytes it has.
-fn spot_in(loaded: &Loaded<CLASSES>, name: &Name) -> Result<(u64, u64), Stop>
+fn spot_in(loaded: &Loaded<CLASSES>, name: &Name) -> Result<(u64, u64), StopReason>
     requires loaded { KeepsLoaded loaded.now }
     ensures found { (file : List ℕ) → IsLoadedFrom file loaded.now → IfOk result (λ at. IsObject name.now file
         (Ok (bytes_at file at.0 at.1))) }
     ensures within { (file : List ℕ) → IsLoadedFrom file loaded.now → IfOk result (λ at. at.0 + at.1
         ≤ length file) }
     ensures ranges { IfOk result (λ at. at.0 + at.1 < 2 ^ 64) }
-    ensures only { IfErr result (λ why. why ≡ Stop.Missing) }
+    ensures only { IfErr result (λ why. why ≡ StopReason.Missing) }
     ensures missing { (file : List ℕ) → IsLoadedFrom file loaded.now → IfErr result (λ why. IsObject name.now
         file (Err why)) }
 {
     match loaded.table.get(name) {
         Some(spot) => Ok((head_len(loaded.block.names) + spot.place, spot.size)),
-        None => Err(Stop::Missing),
+        None => Err(StopReason::Missing),
     }
 }

@@ -8,8 +8,8 @@ ghost use Rattle.disk_face.specs.declared.bay.Mounted.TheVariants.{There};
 ghost use Rattle.slot_codec.specs.Choice as choice;
 ghost use Rattle.slot_pair.specs.Formats.{HasFirstTable, IsNoStore, first_table};
 ghost use Rattle.segment_layout.specs.Books.{Book, empty_book};
-ghost use Rattle.store_terms.specs.Maps.{Map, volume};
-ghost use Rattle.store_terms.specs.Requests.{Request};
+ghost use Rattle.map_model.specs.Maps.{Map, volume};
+ghost use Rattle.map_model.specs.Requests.{Request};
 ghost use Rattle.table_rules.specs.Opening.{Opens, OpensBy};
 ghost use Rattle.table_rules.specs.Tables.{size_sum};
 ghost use Rattle.store_core.specs.Opened.{RestsOnFound, most_found};
@@ -18,16 +18,16 @@ ghost use Rattle.ask_session.specs.Runs.{budget};
 ghost use Rattle.costore_top.specs.Commands.{IsMounted};
 ghost use Rattle.costore_top.specs.Getting.{or_missing};
 ghost use Rattle.costore_top.specs.Following.{LeavesRoomTwice, MayBegin};
-ghost use Rattle.costore_top.specs.Headline.{RunsFrom, most_left};
+ghost use Rattle.costore_top.specs.Headline.{RunPromise, most_left};
 ghost use Rattle.costore_top.specs.Outcomes.{Ends, IsAnswer, mounted, status_at};
-ghost use Rattle.costore_top.specs.Sessions.{ServesSo};
+ghost use Rattle.costore_top.specs.Sessions.{RunAlways};
 ghost use Rattle.costore_top.specs.Summaries.{eleven_jobs, summary_text};
 ghost use Rattle.costore_top.specs.Texts.{check_text, map_text};
 ghost use Rattle.costore_top.specs.Words.{Command, check, get, map_of, run, work};
 ghost use Rattle.costore_top.specs.Worked.{hello, moved_up};
-ghost use Rattle.costore_top.specs.Working.{WorksFrom, WorksSo};
+ghost use Rattle.costore_top.specs.Working.{WorkPromise, WorkAlways};
 
-use crate::{Outcome, Stop};
+use crate::{Outcome, StopReason};
 use disk_face::{Bay, Mounted, Sink, Source};
 use size_class::{CLASSES, SIZE_MAX};
 
@@ -35,7 +35,8 @@ use size_class::{CLASSES, SIZE_MAX};
 /// the file's map gives to the name; of `check` and `map` it is their text of the table by which it
 /// opens.
 pub fn one_answer()
-    ensures one { (c : Command) (file : List ℕ) (answer other : Result (List ℕ) Stop) → IsAnswer c file answer
+    ensures one { (c : Command) (file : List ℕ) (answer other : Result (List ℕ) StopReason)
+        → IsAnswer c file answer
         → IsAnswer c file other → answer ≡ other }
     ensures given { (at name file : List ℕ) (m : Map) (b : Book) → Opens CLASSES SIZE_MAX file m b
         → IsAnswer (get at name) file (or_missing (fin.get m name)) }
@@ -83,7 +84,8 @@ pub fn worked_summary()
 /// A command ends with the status of its answer, unless its file isn't there, a device failed, or
 /// memory was wanting.
 pub fn ends_by_the_answer()
-    ensures { (c : Command) (file : List ℕ) (answer : Result (List ℕ) Stop) (status : ℕ) (old new : SinkState)
+    ensures { (c : Command) (file : List ℕ) (answer : Result (List ℕ) StopReason) (status : ℕ)
+        (old new : SinkState)
         → IsAnswer c file answer → Ends (IsAnswer c file) status old new → (status ≡ status_at answer)
         ⊎ (status ≡ 3) ⊎ (status ≡ 7) ⊎ (status ≡ 9) ⊎ (status ≡ 10) }
 {}
@@ -93,8 +95,8 @@ pub fn ends_by_the_answer()
 pub fn jobs_are_done<B: Bay, O: Sink>()
     ensures { (t : choice.Table) (m : Map) (b : Book) (file : List ℕ) (number count status : ℕ) (old new : B)
         (out after : O) → OpensBy CLASSES SIZE_MAX t (B.state old).file m b
-        → WorksFrom number count status (B.state old) (B.state new) (O.state out) (O.state after)
-        → WorksSo count status (B.state old) (B.state new) (O.state out) (O.state after)
+        → WorkPromise number count status (B.state old) (B.state new) (O.state out) (O.state after)
+        → WorkAlways count status (B.state old) (B.state new) (O.state out) (O.state after)
         → IsMounted (work file number count) (B.state new).last_mount (status ≡ 7) (status ≡ 3)
         → (B.state new).last_mount ≡ mounted (work file number count) There
         → IsCalm (B.state old).faults (B.state new).faults
@@ -109,8 +111,8 @@ pub fn requests_are_served<B: Bay, I: Source, O: Sink>()
     ensures { (t : choice.Table) (m : Map) (b : Book) (file : List ℕ) (requests : List Request) (o : Outcome)
         (old new : B) (from rest : I) (out after : O) → OpensBy CLASSES SIZE_MAX t (B.state old).file m b
         → Asks (I.state from).left requests [] → length requests < budget
-        → RunsFrom o (B.state old) (B.state new) (I.state from) (I.state rest) (O.state out) (O.state after)
-        → ServesSo o (B.state old) (B.state new) (I.state from) (I.state rest) (O.state out) (O.state after)
+        → RunPromise o (B.state old) (B.state new) (I.state from) (I.state rest) (O.state out) (O.state after)
+        → RunAlways o (B.state old) (B.state new) (I.state from) (I.state rest) (O.state out) (O.state after)
         (rest ≡ from)
         → IsMounted (run file) (B.state new).last_mount (o.status ≡ 7) (o.status ≡ 3)
         → (B.state new).last_mount ≡ mounted (run file) There
@@ -120,34 +122,38 @@ pub fn requests_are_served<B: Bay, I: Source, O: Sink>()
         → ((o.status ≡ 0) × (o.done ≡ length requests)) ⊎ ((o.status ≡ 10) × (o.done ≡ 0)) }
 {}
 
-/// What a crash leaves at any moment of `run` or `work` may be the start of another call: it opens, by a table
-/// whose sequence leaves room for the saves of an opening, and a disk that has it and is left alone rests on
-/// that table. So is the file where no call of the disk failed. The sequence is below the limit that requests keep, or an opening raised it by fewer than 2^18.
-/// So a call may follow each crash while the sequence found leaves room twice.
+/// What a crash leaves at any moment of `run` or `work` may be the start of another call: it opens, by a
+/// table whose sequence leaves room for the saves of an opening, and a disk that has it and is left
+/// alone rests on that table. So is the file where no call of the disk failed. The sequence is below the
+/// limit that requests keep, or an opening raised it by fewer than 2^18. So a call may follow each crash
+/// while the sequence found leaves room twice.
 pub fn a_crash_may_be_followed_by_a_call<B: Bay, I: Source, O: Sink>()
-    ensures run { (t : choice.Table) (m : Map) (b : Book) (requests : List Request) (end : List ℕ) (o : Outcome)
+    ensures run { (t : choice.Table) (m : Map) (b : Book) (requests : List Request) (end : List ℕ)
+        (o : Outcome)
         (old new : B) (from rest : I) (out after : O) → OpensBy CLASSES SIZE_MAX t (B.state old).file m b
         → Asks (I.state from).left requests end
-        → RunsFrom o (B.state old) (B.state new) (I.state from) (I.state rest) (O.state out) (O.state after)
+        → RunPromise o (B.state old) (B.state new) (I.state from) (I.state rest) (O.state out) (O.state after)
         → LeavesRoomTwice t → RestsOnFound t (B.state old) → (B.state new).turn < last
         → LeftOnly (B.state new) (B.state old).turn (MayBegin (most_left t.chosen.block.k t)) }
     ensures work { (t : choice.Table) (m : Map) (b : Book) (number count status : ℕ) (old new : B)
         (out after : O) → OpensBy CLASSES SIZE_MAX t (B.state old).file m b
-        → WorksFrom number count status (B.state old) (B.state new) (O.state out) (O.state after)
+        → WorkPromise number count status (B.state old) (B.state new) (O.state out) (O.state after)
         → LeavesRoomTwice t → RestsOnFound t (B.state old) → (B.state new).turn < last
         → LeftOnly (B.state new) (B.state old).turn (MayBegin (most_left t.chosen.block.k t)) }
-    ensures calm { (t : choice.Table) (m : Map) (b : Book) (requests : List Request) (end : List ℕ) (o : Outcome)
+    ensures calm { (t : choice.Table) (m : Map) (b : Book) (requests : List Request) (end : List ℕ)
+        (o : Outcome)
         (old new : B) (from rest : I) (out after : O) → OpensBy CLASSES SIZE_MAX t (B.state old).file m b
         → Asks (I.state from).left requests end
-        → RunsFrom o (B.state old) (B.state new) (I.state from) (I.state rest) (O.state out) (O.state after)
+        → RunPromise o (B.state old) (B.state new) (I.state from) (I.state rest) (O.state out) (O.state after)
         → LeavesRoomTwice t → IsCalm (B.state old).faults (B.state new).faults
         → MayBegin (most_left t.chosen.block.k t) (B.state new).file }
     ensures calm_work { (t : choice.Table) (m : Map) (b : Book) (number count status : ℕ) (old new : B)
         (out after : O) → OpensBy CLASSES SIZE_MAX t (B.state old).file m b
-        → WorksFrom number count status (B.state old) (B.state new) (O.state out) (O.state after)
+        → WorkPromise number count status (B.state old) (B.state new) (O.state out) (O.state after)
         → LeavesRoomTwice t → IsCalm (B.state old).faults (B.state new).faults
         → MayBegin (most_left t.chosen.block.k t) (B.state new).file }
-    ensures low { (t : choice.Table) (file : List ℕ) (m : Map) (b : Book) → OpensBy CLASSES SIZE_MAX t file m b
+    ensures low { (t : choice.Table) (file : List ℕ) (m : Map) (b : Book)
+        → OpensBy CLASSES SIZE_MAX t file m b
         → most_left t.chosen.block.k t < max (most_found t + 1) (2 ^ 61 + 130) }
     ensures rests { (t : choice.Table) (d : B) → Only (B.state d).file (B.state d).may_leave
         → RestsOnFound t (B.state d) }

@@ -25,5 +25,5 @@ pub use laws::{
     a_crash_may_be_followed_by_a_call, a_formatted_file_is_the_empty_store, ends_by_the_answer,
     jobs_are_done, one_answer, requests_are_served, told_of_the_map, worked_summary, worked_texts,
 };
-pub use stop::{Stop, StoreFault};
+pub use stop::{StopReason, StoreFault};
 pub use top::{Outcome, costore};

@@ -5,7 +5,7 @@ ghost use Rattle.disk_face.specs.Counts.{HasCause};
 ghost use Rattle.disk_face.specs.Streams.{Puts};
 ghost use Rattle.costore_top.specs.Texts.{Gathers, numbered};
 
-use crate::Stop;
+use crate::StopReason;
 use crate::copy::put_whole;
 use arrayvec::ArrayVec;
 use disk_face::Sink;
@@ -19,11 +19,11 @@ const PIECE: usize = 4096;
 const LONGEST: usize = 128;
 
 /// Puts what was gathered, where it leaves no room for another line.
-pub fn make_room<O: Sink>(piece: &mut ArrayVec<u8, 4096>, output: &mut O) -> Result<(), Stop>
+pub fn make_room<O: Sink>(piece: &mut ArrayVec<u8, 4096>, output: &mut O) -> Result<(), StopReason>
     ensures room { OnOk result (array_vec_len piece.new + 128 ≤ 4096) }
     ensures gathered { IsTrue (O.state output.old).tells → Gathers (O.state output.old).given piece.old.items
         (O.state output.new).given piece.new.items [] result }
-    ensures only { OnErr result (result ≡ Err Stop.Sink) }
+    ensures only { OnErr result (result ≡ Err StopReason.Sink) }
     ensures told { (O.state output.new).tells ≡ (O.state output.old).tells }
     ensures cause { HasCause (O.state output.old).faults (O.state output.new).faults result }
 {
@@ -35,10 +35,10 @@ pub fn make_room<O: Sink>(piece: &mut ArrayVec<u8, 4096>, output: &mut O) -> Res
 }
 
 /// Puts what is left.
-pub fn put_rest<O: Sink>(piece: &ArrayVec<u8, 4096>, output: &mut O) -> Result<(), Stop>
+pub fn put_rest<O: Sink>(piece: &ArrayVec<u8, 4096>, output: &mut O) -> Result<(), StopReason>
     ensures put { IsTrue (O.state output.old).tells
         → Puts (O.state output.old).given (O.state output.new).given piece.now.items result }
-    ensures only { OnErr result (result ≡ Err Stop.Sink) }
+    ensures only { OnErr result (result ≡ Err StopReason.Sink) }
     ensures told { (O.state output.new).tells ≡ (O.state output.old).tells }
     ensures cause { HasCause (O.state output.old).faults (O.state output.new).faults result }
 {

@@ -11,10 +11,10 @@ ghost use Rattle.slot_codec.specs.Reading.{all_in_range};
 ghost use Rattle.table_check.specs.Frames.{AreSmall};
 ghost use Rattle.extent_table.specs.Extents.{IsTable, record_of, records_of};
 ghost use Rattle.reopen.specs.Loads.{KeepsLoaded, table_seen};
-ghost use Rattle.costore_top.specs.Layers.{Answers, HasCausesAt, IsPlain, PutsNone};
+ghost use Rattle.costore_top.specs.Layers.{Answers, HasCausesAt, IsCommandReason, PutsNone};
 ghost use Rattle.costore_top.specs.Texts.{Gathers, IsMapped, class_line, map_text, moving_line, object_line};
 
-use crate::Stop;
+use crate::StopReason;
 use crate::lines::{make_room, push, push_number, push_three, put_rest};
 use crate::load::load;
 use arrayvec::ArrayVec;
@@ -27,12 +27,12 @@ use std::alloc::Global;
 
 /// Puts a line for a flush that was interrupted, one for each class that has a segment, and one for
 /// each object, by rising name. The disk stays as it is.
-pub fn map<D: Disk, O: Sink>(alloc: Global, disk: &mut D, output: &mut O) -> Result<(), Stop>
+pub fn map<D: Disk, O: Sink>(alloc: Global, disk: &mut D, output: &mut O) -> Result<(), StopReason>
     requires ready { IsTrue (D.state disk.old).is_ready }
-    ensures words { (result ≢ Err Stop.Words) × (result ≢ Err Stop.NoFile) }
+    ensures words { (result ≢ Err StopReason.Words) × (result ≢ Err StopReason.NoFile) }
     ensures answers { IsTrue (D.state disk.old).tells
         → Answers (IsMapped (D.state disk.old).file) (O.state output.old) (O.state output.new) result }
-    ensures plain { IfErr result IsPlain }
+    ensures plain { IfErr result IsCommandReason }
     ensures nothing_put { PutsNone output.old output.new result }
     ensures causes { HasCausesAt (D.state disk.old) (D.state disk.new) (O.state output.old)
         (O.state output.new) result }
@@ -43,12 +43,12 @@ pub fn map<D: Disk, O: Sink>(alloc: Global, disk: &mut D, output: &mut O) -> Res
 }
 
 /// Puts the lines of a table.
-fn put_map<O: Sink>(loaded: &Loaded<CLASSES>, output: &mut O) -> Result<(), Stop>
+fn put_map<O: Sink>(loaded: &Loaded<CLASSES>, output: &mut O) -> Result<(), StopReason>
     requires loaded { KeepsLoaded loaded.now }
     ensures put { IsTrue (O.state output.old).tells
         → Puts (O.state output.old).given (O.state output.new).given (map_text (table_seen loaded.now))
         result }
-    ensures only { OnErr result (result ≡ Err Stop.Sink) }
+    ensures only { OnErr result (result ≡ Err StopReason.Sink) }
     ensures told { (O.state output.new).tells ≡ (O.state output.old).tells }
     ensures cause { HasCause (O.state output.old).faults (O.state output.new).faults result }
 {
@@ -80,12 +80,12 @@ fn put_classes<O: Sink>(
     k: u64,
     header: &Header,
     output: &mut O,
-) -> Result<(), Stop>
+) -> Result<(), StopReason>
     requires divisor { 1 ≤ k }
     requires ranges { IsTrue (all_in_range header.now) }
     ensures gathered { IsTrue (O.state output.old).tells → Gathers (O.state output.old).given piece.old.items
         (O.state output.new).given piece.new.items (flat_map (class_line k header.now) (below width)) result }
-    ensures only { OnErr result (result ≡ Err Stop.Sink) }
+    ensures only { OnErr result (result ≡ Err StopReason.Sink) }
     ensures told { (O.state output.new).tells ≡ (O.state output.old).tells }
     ensures cause { HasCause (O.state output.old).faults (O.state output.new).faults result }
 {
@@ -134,11 +134,11 @@ fn put_objects<O: Sink>(
     piece: &mut ArrayVec<u8, 4096>,
     table: &Table,
     output: &mut O,
-) -> Result<(), Stop>
+) -> Result<(), StopReason>
     requires { IsTable table.now }
     ensures gathered { IsTrue (O.state output.old).tells → Gathers (O.state output.old).given piece.old.items
         (O.state output.new).given piece.new.items (flat_map object_line (records_of table.now.now)) result }
-    ensures only { OnErr result (result ≡ Err Stop.Sink) }
+    ensures only { OnErr result (result ≡ Err StopReason.Sink) }
     ensures told { (O.state output.new).tells ≡ (O.state output.old).tells }
     ensures cause { HasCause (O.state output.old).faults (O.state output.new).faults result }
 {

@@ -6,14 +6,14 @@ ghost use Rattle.store_core.specs.Opened.{IsOpening};
 ghost use Rattle.store_core.specs.Stores.{IsStore};
 ghost use Rattle.costore_top.specs.Commands.{IsMounted};
 ghost use Rattle.costore_top.specs.Getting.{IsRefused};
-ghost use Rattle.costore_top.specs.Headline.{RunsFrom, is_session};
+ghost use Rattle.costore_top.specs.Headline.{RunPromise, is_session};
 ghost use Rattle.costore_top.specs.Outcomes.{Ends};
-ghost use Rattle.costore_top.specs.Sessions.{NeverOpens, ServesSo, Went, WentFrom, end_of, ended_as, unserved};
+ghost use Rattle.costore_top.specs.Sessions.{NeverOpens, RunAlways, Went, RunSteps, end_of, ended_as, unserved};
 ghost use Rattle.costore_top.specs.Words.{run};
 
 use crate::load::stop_of;
 use crate::top::finish;
-use crate::{Outcome, Stop};
+use crate::{Outcome, StopReason};
 use ask_session::{End, Session};
 use disk_face::{Bay, Disk, Mounted, Sink, Source};
 use size_class::CLASSES;
@@ -23,7 +23,7 @@ use store_core::Store;
 /// How a command ended that serves requests, but for the fault line, and its three numbers.
 #[derive(Clone, Copy)]
 pub struct Ended {
-    pub end: Result<(), Stop>,
+    pub end: Result<(), StopReason>,
     pub done: u64,
     pub kept_done: u64,
     pub kept_turn: u64,
@@ -39,14 +39,14 @@ pub fn run_file<B: Bay, I: Source, O: Sink>(
 ) -> Outcome
     requires { (B.state bay.old).last_mount ≡ None }
     ensures headline { IsTrue (B.state bay.old).tells → IsTrue (I.state input.old).tells
-        → RunsFrom result (B.state bay.old) (B.state bay.new) (I.state input.old) (I.state input.new)
+        → RunPromise result (B.state bay.old) (B.state bay.new) (I.state input.old) (I.state input.new)
         (O.state output.old) (O.state output.new) }
     ensures refused { IsTrue (B.state bay.old).tells → NeverOpens (B.state bay.old).file
         → Ends (IsRefused (B.state bay.old).file) result.status (O.state output.old) (O.state output.new) }
     ensures known { (is_session result.status ≡ true) ⊎ (result.status ≡ 4) }
     ensures mounted { IsMounted (run file.now) (B.state bay.new).last_mount (result.status ≡ 7)
         (result.status ≡ 3) }
-    ensures serves { ServesSo result (B.state bay.old) (B.state bay.new) (I.state input.old)
+    ensures serves { RunAlways result (B.state bay.old) (B.state bay.new) (I.state input.old)
         (I.state input.new) (O.state output.old) (O.state output.new) (input.new ≡ input.old) }
 {
     let ended = serve_file(alloc, bay, file, input, output);
@@ -68,12 +68,12 @@ fn serve_file<B: Bay, I: Source, O: Sink>(
     output: &mut O,
 ) -> Ended
     requires { (B.state bay.old).last_mount ≡ None }
-    ensures { WentFrom B.state I.state O.state (run file.now) bay.old bay.new input.old input.new output.old
+    ensures { RunSteps B.state I.state O.state (run file.now) bay.old bay.new input.old input.new output.old
         output.new result }
 {
     match bay.mount(file, false) {
-        Err(_) => unserved(Stop::Disk, 0),
-        Ok(Mounted::Absent) => unserved(Stop::NoFile, 0),
+        Err(_) => unserved(StopReason::Disk, 0),
+        Ok(Mounted::Absent) => unserved(StopReason::NoFile, 0),
         // Nothing is made where it isn't asked for.
         Ok(Mounted::Made) => unreachable!(),
         Ok(Mounted::There) => serve_from(alloc, bay, input, output),
@@ -120,12 +120,12 @@ fn serve_store<D: Disk, I: Source, O: Sink>(
             let end = session.run(disk, input, output);
             ended_as(end, session)
         }
-        Err(_) => unserved(Stop::NoMemory, turn),
+        Err(_) => unserved(StopReason::NoMemory, turn),
     }
 }
 
 /// No session was begun.
-fn unserved(why: Stop, turn: u64) -> Ended
+fn unserved(why: StopReason, turn: u64) -> Ended
     ensures { result ≡ unserved why turn }
 {
     Ended {
@@ -155,15 +155,15 @@ fn ended_as(end: End, session: Session<CLASSES>) -> Ended
 }
 
 /// How the program ends where a session ended so, after so many requests were answered.
-fn end_of(end: End, done: u64) -> Result<(), Stop>
+fn end_of(end: End, done: u64) -> Result<(), StopReason>
     ensures { result ≡ end_of end done }
 {
     match end {
         End::End => Ok(()),
-        End::Line => Err(Stop::Line(done.saturating_add(1))),
-        End::Disk => Err(Stop::Disk),
-        End::Source => Err(Stop::Source),
-        End::Sink => Err(Stop::Sink),
-        End::Budget => Err(Stop::Budget),
+        End::Line => Err(StopReason::Line(done.saturating_add(1))),
+        End::Disk => Err(StopReason::Disk),
+        End::Source => Err(StopReason::Source),
+        End::Sink => Err(StopReason::Sink),
+        End::Budget => Err(StopReason::Budget),
     }
 }

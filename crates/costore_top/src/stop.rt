@@ -13,7 +13,7 @@ pub enum StoreFault {
 
 /// Why a command stops.
 #[derive(Clone, Copy, Debug, PartialEq, Eq)]
-pub enum Stop {
+pub enum StopReason {
     /// The words are no command.
     Words,
     /// There is no such file.

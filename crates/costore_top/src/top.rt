@@ -5,14 +5,14 @@ ghost use Rattle.disk_face.specs.Frames.{Untouched};
 ghost use Rattle.costore_top.specs.Commands.{Formats, IsDone, IsMounted};
 ghost use Rattle.costore_top.specs.Words.{Command, Means, MeansNone, format, run, texts, work};
 ghost use Rattle.costore_top.specs.Getting.{IsRefused};
-ghost use Rattle.costore_top.specs.Headline.{RunsFrom, is_session};
-ghost use Rattle.costore_top.specs.Sessions.{NeverOpens, ServesSo};
-ghost use Rattle.costore_top.specs.Working.{WorksFrom, WorksSo};
-ghost use Rattle.costore_top.specs.Outcomes.{Ends, IsNoSession, IsOther, PutsLast, PutsLine, IsAnswer, line_at, makes, mounts, reads, serves, status_at};
-ghost use Rattle.costore_top.specs.Layers.{Answers, IsPlain, Keeps, KeepsAt, PutsNone};
+ghost use Rattle.costore_top.specs.Headline.{RunPromise, is_session};
+ghost use Rattle.costore_top.specs.Sessions.{NeverOpens, RunAlways};
+ghost use Rattle.costore_top.specs.Working.{WorkPromise, WorkAlways};
+ghost use Rattle.costore_top.specs.Outcomes.{Ends, IsNotRun, ServesNothing, PutsLast, PutsLine, IsAnswer, line_at, makes, mounts, reads, serves, status_at};
+ghost use Rattle.costore_top.specs.Layers.{Answers, IsCommandReason, Keeps, KeepsAt, PutsNone};
 ghost use Rattle.costore_top.specs.Faults.{line_of};
 
-use crate::Stop;
+use crate::StopReason;
 use crate::asked::do_asked;
 use crate::fault::fault_line;
 use crate::run::run_file;
@@ -65,13 +65,13 @@ pub fn costore<B: Bay, I: Source, O: Sink>(
         → (IsTrue (mounts c) → IsTrue (B.state bay.old).tells)
         → Ends (IsAnswer c (B.state bay.old).file) result.status (O.state output.old) (O.state output.new) }
     ensures memory { (c : Command) → Means (texts words.now) c → IsFalse (reads c) → result.status ≢ 10 }
-    ensures line_alone { IsOther (texts words.now) → IsTrue (O.state output.old).tells
+    ensures line_alone { ServesNothing (texts words.now) → IsTrue (O.state output.old).tells
         → (result.status ≡ 0) ⊎ (result.status ≡ 7) ⊎ (result.status ≡ 9)
         ⊎ PutsLine result.status (O.state output.old) (O.state output.new) }
 
     // `format` alone makes changing calls, and only on an empty file. It tells that a file is formatted
     // only once that file is safe: where the disk failed, the fault line is all that is put.
-    ensures frame { IsOther (texts words.now) → ((c : Command) → Means (texts words.now) c
+    ensures frame { ServesNothing (texts words.now) → ((c : Command) → Means (texts words.now) c
         → IsFalse (makes c)) → Untouched (B.state bay.old) (B.state bay.new) }
     ensures formats { (file : List ℕ) (k names : ℕ) → Means (texts words.now) (format file k names)
         → IsTrue (B.state bay.old).tells → length (B.state bay.old).file ≡ 0
@@ -81,15 +81,15 @@ pub fn costore<B: Bay, I: Source, O: Sink>(
         → PutsLine 7 (O.state output.old) (O.state output.new) }
 
     // What every other call than `run` and `work` keeps. The devices' own faults have their causes.
-    ensures keeps { IsOther (texts words.now) → Keeps (B.state bay.old) (B.state bay.new)
+    ensures keeps { ServesNothing (texts words.now) → Keeps (B.state bay.old) (B.state bay.new)
         (O.state output.old) (O.state output.new) (result.status ≡ 7) (result.status ≡ 9)
         (result.status ≡ 0) }
 
     // No call but `run` reads the input, and the three numbers are of its requests.
-    ensures input { IsNoSession (texts words.now) → input.new ≡ input.old }
-    ensures no_session { IsNoSession (texts words.now)
+    ensures input { IsNotRun (texts words.now) → input.new ≡ input.old }
+    ensures no_session { IsNotRun (texts words.now)
         → (result.status ≢ 2) × (result.status ≢ 8) × (result.status ≢ 11) }
-    ensures numbers { IsNoSession (texts words.now)
+    ensures numbers { IsNotRun (texts words.now)
         → (result.done ≡ 0) × (result.kept_done ≡ 0) × (result.kept_turn ≡ 0) }
 
     // A file that doesn't open ends these two calls as its first refusal says.
@@ -101,20 +101,20 @@ pub fn costore<B: Bay, I: Source, O: Sink>(
     // is the headline.
     ensures headline { (file : List ℕ) → Means (texts words.now) (run file)
         → IsTrue (B.state bay.old).tells → IsTrue (I.state input.old).tells
-        → RunsFrom result (B.state bay.old) (B.state bay.new) (I.state input.old) (I.state input.new)
+        → RunPromise result (B.state bay.old) (B.state bay.new) (I.state input.old) (I.state input.new)
         (O.state output.old) (O.state output.new) }
     ensures known { (file : List ℕ) → Means (texts words.now) (run file)
         → (is_session result.status ≡ true) ⊎ (result.status ≡ 4) }
-    ensures serves { (file : List ℕ) → Means (texts words.now) (run file) → ServesSo result
+    ensures serves { (file : List ℕ) → Means (texts words.now) (run file) → RunAlways result
         (B.state bay.old) (B.state bay.new) (I.state input.old) (I.state input.new) (O.state output.old)
         (O.state output.new) (input.new ≡ input.old) }
 
     // `work` serves the jobs of a number, and puts a summary of them.
     ensures works { (file : List ℕ) (number count : ℕ) → Means (texts words.now) (work file number count)
-        → IsTrue (B.state bay.old).tells → WorksFrom number count result.status (B.state bay.old)
+        → IsTrue (B.state bay.old).tells → WorkPromise number count result.status (B.state bay.old)
         (B.state bay.new) (O.state output.old) (O.state output.new) }
     ensures keeps_working { (file : List ℕ) (number count : ℕ)
-        → Means (texts words.now) (work file number count) → WorksSo count result.status (B.state bay.old)
+        → Means (texts words.now) (work file number count) → WorkAlways count result.status (B.state bay.old)
         (B.state bay.new) (O.state output.old) (O.state output.new) }
 {
     match read_serving(words) {
@@ -135,41 +135,43 @@ fn do_words<B: Bay, O: Sink>(
     words: &[&str],
     bay: &mut B,
     output: &mut O,
-) -> Result<(), Stop>
+) -> Result<(), StopReason>
     requires none { (B.state bay.old).last_mount ≡ None }
-    requires no_session { IsOther (texts words.now) }
-    ensures words { (result ≡ Err Stop.Words) ↔ MeansNone (texts words.now) }
+    requires no_session { ServesNothing (texts words.now) }
+    ensures words { (result ≡ Err StopReason.Words) ↔ MeansNone (texts words.now) }
     ensures nothing_done { MeansNone (texts words.now) → bay.new ≡ bay.old }
     ensures unmounted { (c : Command) → Means (texts words.now) c → IsFalse (mounts c)
-        → (bay.new ≡ bay.old) × (result ≢ Err Stop.NoFile) }
+        → (bay.new ≡ bay.old) × (result ≢ Err StopReason.NoFile) }
     ensures mounted { (c : Command) → Means (texts words.now) c → IsTrue (mounts c)
-        → IsMounted c (B.state bay.new).last_mount (result ≡ Err Stop.Disk) (result ≡ Err Stop.NoFile) }
+        → IsMounted c (B.state bay.new).last_mount (result ≡ Err StopReason.Disk)
+        (result ≡ Err StopReason.NoFile) }
     ensures answers { (c : Command) → Means (texts words.now) c
         → (IsTrue (mounts c) → IsTrue (B.state bay.old).tells)
         → Answers (IsAnswer c (B.state bay.old).file) (O.state output.old) (O.state output.new) result }
     ensures memory { (c : Command) → Means (texts words.now) c → IsFalse (reads c)
-        → result ≢ Err Stop.NoMemory }
+        → result ≢ Err StopReason.NoMemory }
     ensures nothing_put { PutsNone output.old output.new result }
-    ensures plain { IfErr result IsPlain }
+    ensures plain { IfErr result IsCommandReason }
     ensures frame { ((c : Command) → Means (texts words.now) c → IsFalse (makes c))
         → Untouched (B.state bay.old) (B.state bay.new) }
     ensures formats { (file : List ℕ) (k names : ℕ) → Means (texts words.now) (format file k names)
         → IsTrue (B.state bay.old).tells → length (B.state bay.old).file ≡ 0
         → Formats k names (B.state bay.old) (B.state bay.new) (IsDone result) }
-    ensures silent { (c : Command) → Means (texts words.now) c → IsTrue (makes c) → result ≡ Err Stop.Disk
+    ensures silent { (c : Command) → Means (texts words.now) c → IsTrue (makes c)
+        → result ≡ Err StopReason.Disk
         → output.new ≡ output.old }
     ensures keeps { KeepsAt (B.state bay.old) (B.state bay.new) (O.state output.old) (O.state output.new)
         result }
 {
     match read_words(words) {
-        None => Err(Stop::Words),
+        None => Err(StopReason::Words),
         Some(asked) => do_asked(alloc, &asked, bay, output),
     }
 }
 
 /// Puts the fault line of a command that stopped, and answers the status. Where that put fails, the
 /// status stays.
-pub fn finish<O: Sink>(end: Result<(), Stop>, output: &mut O) -> Outcome
+pub fn finish<O: Sink>(end: Result<(), StopReason>, output: &mut O) -> Outcome
     ensures status { result ≡ record { status = status_at end; done = 0; kept_done = 0; kept_turn = 0 } }
     ensures line { IsTrue (O.state output.old).tells
         → PutsLast (O.state output.old).given (O.state output.new).given (line_at end)
@@ -190,7 +192,7 @@ pub fn finish<O: Sink>(end: Result<(), Stop>, output: &mut O) -> Outcome
 }
 
 /// Puts the fault line of a reason to stop.
-fn tell<O: Sink>(why: Stop, output: &mut O)
+fn tell<O: Sink>(why: StopReason, output: &mut O)
     ensures line { IsTrue (O.state output.old).tells
         → PutsLast (O.state output.old).given (O.state output.new).given (line_of why)
         (Rose (O.state output.old).faults (O.state output.new).faults) }
@@ -202,21 +204,21 @@ fn tell<O: Sink>(why: Stop, output: &mut O)
 }
 
 /// The status of a command that ends so.
-fn status_at(end: &Result<(), Stop>) -> u8
+fn status_at(end: &Result<(), StopReason>) -> u8
     ensures { result ≡ status_at end.now }
 {
     match end {
         Ok(()) => 0,
-        Err(Stop::Words) => 1,
-        Err(Stop::NoFile) => 3,
-        Err(Stop::NotStore(_)) => 4,
-        Err(Stop::Taken(_)) => 5,
-        Err(Stop::Missing) => 6,
-        Err(Stop::Disk) => 7,
-        Err(Stop::Sink) => 9,
-        Err(Stop::NoMemory) => 10,
-        Err(Stop::Line(_)) => 2,
-        Err(Stop::Source) => 8,
-        Err(Stop::Budget) => 11,
+        Err(StopReason::Words) => 1,
+        Err(StopReason::NoFile) => 3,
+        Err(StopReason::NotStore(_)) => 4,
+        Err(StopReason::Taken(_)) => 5,
+        Err(StopReason::Missing) => 6,
+        Err(StopReason::Disk) => 7,
+        Err(StopReason::Sink) => 9,
+        Err(StopReason::NoMemory) => 10,
+        Err(StopReason::Line(_)) => 2,
+        Err(StopReason::Source) => 8,
+        Err(StopReason::Budget) => 11,
     }
 }

@@ -1,7 +1,7 @@
 //! The command that the words of the command line mean.
 ghost use Rattle.std.specs.Prelude.{◌≡◌, ◌≤◌, ◌↔◌, ◌∷◌, [], ℕ, IsTrue, MatchOption};
 ghost use Rattle.std.specs.Fmt.{decimal};
-ghost use Rattle.costore_top.specs.Outcomes.{IsOther};
+ghost use Rattle.costore_top.specs.Outcomes.{ServesNothing};
 ghost use Rattle.costore_top.specs.Words.{Means, MeansNone, texts, command_of, serving_of};
 
 use itoa::Buffer;
@@ -32,7 +32,7 @@ pub enum Serving<'a> {
 
 /// Which requests the words ask to be served, or none where they ask for none.
 pub fn read_serving<'a>(words: &[&'a str]) -> Option<Serving<'a>>
-    ensures { MatchOption result (IsOther (texts words.now))
+    ensures { MatchOption result (ServesNothing (texts words.now))
         (λ asked. Means (texts words.now) (serving_of asked)) }
 {
     match read_words(words) {

@@ -4,18 +4,18 @@ ghost use Rattle.size_class.specs.declared.TheConstants.{CLASSES};
 ghost use Rattle.store_core.specs.Connection.{IsConnected};
 ghost use Rattle.store_core.specs.Opened.{IsFresh, IsOpening};
 ghost use Rattle.costore_top.specs.Commands.{IsMounted};
-ghost use Rattle.costore_top.specs.Doing.{Did, DidFrom};
+ghost use Rattle.costore_top.specs.Doing.{Did, WorkSteps};
 ghost use Rattle.costore_top.specs.Getting.{IsRefused};
 ghost use Rattle.costore_top.specs.Outcomes.{Ends};
 ghost use Rattle.costore_top.specs.Sessions.{NeverOpens};
 ghost use Rattle.costore_top.specs.Words.{work};
-ghost use Rattle.costore_top.specs.Working.{WorksFrom, WorksSo};
+ghost use Rattle.costore_top.specs.Working.{WorkPromise, WorkAlways};
 
 use crate::copy::put_whole;
 use crate::load::stop_of;
 use crate::summary::summary_text;
 use crate::top::finish;
-use crate::{Outcome, Stop};
+use crate::{Outcome, StopReason};
 use disk_face::{Bay, Disk, Mounted, Sink};
 use size_class::CLASSES;
 use std::alloc::Global;
@@ -34,13 +34,13 @@ pub fn work_file<B: Bay, O: Sink>(
     requires none { (B.state bay.old).last_mount ≡ None }
     requires least { 1 ≤ count }
     requires most { count ≤ 1000000 }
-    ensures works { IsTrue (B.state bay.old).tells → WorksFrom number count result.status (B.state bay.old)
+    ensures works { IsTrue (B.state bay.old).tells → WorkPromise number count result.status (B.state bay.old)
         (B.state bay.new) (O.state output.old) (O.state output.new) }
     ensures refused { IsTrue (B.state bay.old).tells → NeverOpens (B.state bay.old).file
         → Ends (IsRefused (B.state bay.old).file) result.status (O.state output.old) (O.state output.new) }
     ensures mounted { IsMounted (work file.now number count) (B.state bay.new).last_mount (result.status ≡ 7)
         (result.status ≡ 3) }
-    ensures keeps { WorksSo count result.status (B.state bay.old) (B.state bay.new) (O.state output.old)
+    ensures keeps { WorkAlways count result.status (B.state bay.old) (B.state bay.new) (O.state output.old)
         (O.state output.new) }
     ensures numbers { (result.done ≡ 0) × (result.kept_done ≡ 0) × (result.kept_turn ≡ 0) }
 {
@@ -56,16 +56,16 @@ fn work_over<B: Bay, O: Sink>(
     number: u64,
     count: u64,
     output: &mut O,
-) -> Result<(), Stop>
+) -> Result<(), StopReason>
     requires none { (B.state bay.old).last_mount ≡ None }
     requires least { 1 ≤ count }
     requires most { count ≤ 1000000 }
-    ensures { DidFrom B.state (work file.now number count) number count (B.state bay.old) (B.state bay.new)
+    ensures { WorkSteps B.state (work file.now number count) number count (B.state bay.old) (B.state bay.new)
         (O.state output.old) (O.state output.new) result }
 {
     match bay.mount(file, false) {
-        Err(_) => Err(Stop::Disk),
-        Ok(Mounted::Absent) => Err(Stop::NoFile),
+        Err(_) => Err(StopReason::Disk),
+        Ok(Mounted::Absent) => Err(StopReason::NoFile),
         // Nothing is made where it isn't asked for.
         Ok(Mounted::Made) => unreachable!(),
         Ok(Mounted::There) => work_from(alloc, bay, number, count, output),
@@ -79,7 +79,7 @@ fn work_from<D: Disk, O: Sink>(
     number: u64,
     count: u64,
     output: &mut O,
-) -> Result<(), Stop>
+) -> Result<(), StopReason>
     requires ready { IsTrue (D.state disk.old).is_ready }
     requires least { 1 ≤ count }
     requires most { count ≤ 1000000 }
@@ -100,7 +100,7 @@ fn work_store<D: Disk, O: Sink>(
     number: u64,
     count: u64,
     output: &mut O,
-) -> Result<(), Stop>
+) -> Result<(), StopReason>
     requires ready { IsTrue (D.state disk.old).is_ready }
     requires over { IsConnected CLASSES store (D.state disk.old) }
     requires fresh { IsFresh CLASSES store }
@@ -112,7 +112,7 @@ fn work_store<D: Disk, O: Sink>(
 {
     match do_work(alloc, store, disk, number, count) {
         Ok(summary) => put_whole(output, summary_text(&summary).as_slice()),
-        Err(WorkFault::Disk) => Err(Stop::Disk),
-        Err(WorkFault::NoMemory) => Err(Stop::NoMemory),
+        Err(WorkFault::Disk) => Err(StopReason::Disk),
+        Err(WorkFault::NoMemory) => Err(StopReason::NoMemory),
     }
 }

@@ -68,7 +68,8 @@ within-trans {at} {n} {a} {b} {c} ab bc = record {
 -- a call that changes nothing
 pub within-unchanged : (at n : ℕ) {a b : State} → Unchanged a b → WritesWithin at n a b
 within-unchanged at n {a} u = record {
-  others = λ told. subst (λ x. SameOutside at n a.file x) (sym (u.same_file told)) (SameOutside-refl at n a.file);
+  others = λ told. subst (λ x. SameOutside at n a.file x) (sym (u.same_file told))
+      (SameOutside-refl at n a.file);
   images = λ image is. (image, u.images image is, SameOutside-refl at n image);
   since = Leaves-weaken (IsRewritten a.may_leave at n) (λ image is. (image, is, SameOutside-refl at n image))
       u.since;

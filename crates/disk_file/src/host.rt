@@ -113,7 +113,8 @@ pub trait Host {
         ensures bytes { IsTrue (state self.now).tells
             → IfOk result (λ n. take n out.new ≡ bytes_at (state self.now).file pos n) }
         ensures serves { IsFalse (marks self.now).may_fail
-            → pos + length out.old ≤ length (state self.now).file → 0 < length out.old → MatchResult result (λ n. 0 < n) (λ _. ⊥) };
+            → pos + length out.old ≤ length (state self.now).file → 0 < length out.old
+            → MatchResult result (λ n. 0 < n) (λ _. ⊥) };
 
     /// Writes the first of the bytes from a position on, and answers how many.
     fn write_some(&mut self, pos: u64, bytes: &[u8]) -> io::Result<usize>

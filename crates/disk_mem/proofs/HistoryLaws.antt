@@ -8,20 +8,20 @@ use Rattle.disk_face.specs.Counts.{last, counted}
 use Rattle.disk_face.specs.Images.{Unsynced, IsImage}
 use Rattle.disk_face.proofs.ImageLaws.{image_with_range, image_with_length, image_synced, image_after_range, image_after_length}
 use Rattle.disk_face.specs.Moments.{Elapses, Follows, NoMore, Only, ResizedImage}
-use Rattle.disk_mem.specs.Changes.{Change, Stamped, during, left_by}
-use Rattle.disk_mem.specs.Changes.Change.{Wrote, Sized, Synced}
+use Rattle.disk_mem.specs.Changes.{RecordedCall, Stamped, during, left_by}
+use Rattle.disk_mem.specs.Changes.RecordedCall.{Wrote, Sized, Synced}
 use Rattle.disk_mem.specs.Lawful.{present_is_image}
 use Rattle.disk_mem.specs.Histories.{History, file_of, unsynced_of, MayLeave, done, undone, LeftBefore, LeftSince, EndedBy, history_state}
 
 -- an image before a call is one within it
-pub image_during : (change : Change) (u : Unsynced) (image : List ℕ) → IsImage u image
+pub image_during : (change : RecordedCall) (u : Unsynced) (image : List ℕ) → IsImage u image
     → IsImage (during change u) image
 image_during (Wrote at bytes) u image is = image_with_range u at (length bytes) image is
 image_during (Sized n) u image is = image_with_length u n image is
 image_during Synced u image is = is
 
 -- an image after a call is one within it
-image_within : (change : Change) (file : List ℕ) (u : Unsynced) (image : List ℕ) → IsImage u file
+image_within : (change : RecordedCall) (file : List ℕ) (u : Unsynced) (image : List ℕ) → IsImage u file
     → IsImage (left_by change file u) image → IsImage (during change u) image
 image_within (Wrote at bytes) file u image was is = is
 image_within (Sized n) file u image was is = is
@@ -57,7 +57,7 @@ module _ (h : History) (fits : h.turn ≤ last) (ended : EndedBy h.turn h.calls)
   ]
 
   -- time goes on over a call that was done
-  pub Elapses_done : (change : Change) (now : List ℕ → Type 0)
+  pub Elapses_done : (change : RecordedCall) (now : List ℕ → Type 0)
       → ((image : List ℕ) → IsImage (during change (unsynced_of h)) image → now image)
       → Elapses (history_state h) (history_state (done change h)) now
   Elapses_done change now within = record {

@@ -4,8 +4,8 @@ use Rattle.std.specs.Prelude.{if◌then◌else◌}
 use Rattle.std.proofs.lemmas.Bool.{le-leb}
 use Rattle.byte_ranges.specs.Ranges.{overwritten}
 use Rattle.disk_face.specs.Counts.{last, counted}
-use Rattle.disk_mem.specs.Changes.{Change, Stamped, changed, content_after}
-use Rattle.disk_mem.specs.Changes.Change.{Wrote}
+use Rattle.disk_mem.specs.Changes.{RecordedCall, Stamped, changed, content_after}
+use Rattle.disk_mem.specs.Changes.RecordedCall.{Wrote}
 use Rattle.disk_mem.specs.Histories.{EndedBy}
 use Rattle.disk_mem.proofs.HistoryLaws.{EndedBy_later}
 
@@ -19,7 +19,7 @@ holds_undone file base calls now turn next is fits same holds ended = (
 )
 
 -- a call that was done stands in the record, and the bytes are those after it
-pub holds_done : (file new base : List ℕ) (calls now : List Stamped) (change : Change) (turn next : ℕ)
+pub holds_done : (file new base : List ℕ) (calls now : List Stamped) (change : RecordedCall) (turn next : ℕ)
     → next ≡ counted turn 1 → turn ≤ last → now ≡ record { began = turn; change = change } ∷ calls
     → new ≡ changed change file
     → file ≡ content_after base calls → EndedBy turn calls → (new ≡ content_after base now) × EndedBy next now

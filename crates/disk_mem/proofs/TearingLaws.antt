@@ -10,8 +10,8 @@ use Rattle.byte_ranges.specs.Ranges.{SameOutside, resized}
 use Rattle.byte_ranges.proofs.RangeLaws.{SameOutside-refl, length-resized, resized-index}
 use Rattle.disk_face.specs.Images.{Unsynced, is_unsynced, in_range, after_sync, with_range, with_length}
 use Rattle.disk_face.proofs.ImageLaws.{inside_range, loose_past}
-use Rattle.disk_mem.specs.Changes.{Change, Stamped, changed, content_after, unsynced_after}
-use Rattle.disk_mem.specs.Changes.Change.{Wrote, Sized, Synced}
+use Rattle.disk_mem.specs.Changes.{RecordedCall, Stamped, changed, content_after, unsynced_after}
+use Rattle.disk_mem.specs.Changes.RecordedCall.{Wrote, Sized, Synced}
 use Rattle.disk_mem.specs.Histories.{History}
 use Rattle.disk_mem.specs.Lawful.{present_is_image, changed_outside}
 use Rattle.disk_mem.specs.Turns.{torn, within_write, within_next_write, next_after, ended_by, newest_at, image_at}
@@ -156,7 +156,7 @@ unfolding up_to_sync since_sync
 torn_smeared b base [] = torn_settled b base
 torn_smeared b base (call ∷ earlier) = by_change call.began call.change (torn_smeared b base earlier)
   where
-    by_change : (began : ℕ) (change : Change)
+    by_change : (began : ℕ) (change : RecordedCall)
         → torn b (unsynced_after base earlier) (content_after base earlier)
         ≡ smeared_after b (content_after base (up_to_sync earlier)) (since_sync earlier)
         → torn b (unsynced_after base (record { began = began; change = change } ∷ earlier))
@@ -180,7 +180,7 @@ unfolding up_to_sync
 synced_up_to base [] = refl
 synced_up_to base (call ∷ earlier) = by_change call.began call.change (synced_up_to base earlier)
   where
-    by_change : (began : ℕ) (change : Change)
+    by_change : (began : ℕ) (change : RecordedCall)
         → (unsynced_after base earlier).synced ≡ content_after base (up_to_sync earlier)
         → (unsynced_after base (record { began = began; change = change } ∷ earlier)).synced
         ≡ content_after base (up_to_sync (record { began = began; change = change } ∷ earlier))
@@ -195,7 +195,7 @@ unfolding up_to_sync since_sync
 content_since base [] = refl
 content_since base (call ∷ earlier) = by_change call.began call.change (content_since base earlier)
   where
-    by_change : (began : ℕ) (change : Change)
+    by_change : (began : ℕ) (change : RecordedCall)
         → content_after base earlier ≡ content_after (content_after base (up_to_sync earlier))
         (since_sync earlier)
         → content_after base (record { began = began; change = change } ∷ earlier)
@@ -212,7 +212,7 @@ torn_next : (t b : ℕ) (next : Option Stamped) (u : Unsynced) (file : List ℕ)
 torn_next t b None u file = refl
 torn_next t b (Some call) u file = by_test (nat_eq call.began t) call.change
   where
-    by_test : (test : Bool) (change : Change)
+    by_test : (test : Bool) (change : RecordedCall)
         → torn b (if test then within_write change u else u) file
         ≡ (if test then smeared_within b change (torn b u file) else torn b u file)
     by_test true (Wrote at bytes) = torn_range b u at (length bytes) file file

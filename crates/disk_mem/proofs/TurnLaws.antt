@@ -5,8 +5,8 @@ use Rattle.byte_ranges.proofs.ListLaws.{length-map_below, map_below-index}
 use Rattle.disk_face.specs.Counts.{counted}
 use Rattle.disk_face.specs.Images.{Unsynced, IsImage, is_unsynced}
 use Rattle.disk_face.proofs.ImageLaws.{image_with_range, image_with_length, synced_image}
-use Rattle.disk_mem.specs.Changes.{Change, Stamped, during, left_by, content_after, unsynced_after}
-use Rattle.disk_mem.specs.Changes.Change.{Wrote, Sized, Synced}
+use Rattle.disk_mem.specs.Changes.{RecordedCall, Stamped, during, left_by, content_after, unsynced_after}
+use Rattle.disk_mem.specs.Changes.RecordedCall.{Wrote, Sized, Synced}
 use Rattle.disk_mem.specs.Histories.{History, LeftBefore, LeftSince, EndedBy}
 use Rattle.disk_mem.proofs.HistoryLaws.{image_during}
 use Rattle.disk_mem.specs.Lawful.{present_is_image}
@@ -20,7 +20,8 @@ synced_is_image : (base : List ℕ) (calls : List Stamped)
 synced_is_image base [] = synced_image base
 synced_is_image base (call ∷ earlier) = by_change call.change (synced_is_image base earlier)
   where
-    by_change : (change : Change) → IsImage (unsynced_after base earlier) (unsynced_after base earlier).synced
+    by_change : (change : RecordedCall) → IsImage (unsynced_after base earlier)
+        (unsynced_after base earlier).synced
         → IsImage (left_by change (content_after base earlier) (unsynced_after base earlier))
         (left_by change (content_after base earlier) (unsynced_after base earlier)).synced
     by_change (Wrote at bytes) is = image_with_range (unsynced_after base earlier) at (length bytes) _ is
@@ -71,7 +72,7 @@ module _ (t : ℕ) (u : Unsynced) (image : List ℕ) where
   before_next_write None is = is
   before_next_write (Some call) is = by_test (nat_eq call.began t) call.change
     where
-      by_test : (b : Bool) (change : Change) → IsImage (if b then within_write change u else u) image
+      by_test : (b : Bool) (change : RecordedCall) → IsImage (if b then within_write change u else u) image
       by_test true (Wrote at bytes) = image_with_range u at (length bytes) image is
       by_test true (Sized n) = is
       by_test true Synced = is
@@ -82,7 +83,7 @@ module _ (t : ℕ) (u : Unsynced) (image : List ℕ) where
   write_within None is = is
   write_within (Some call) is = by_test (nat_eq call.began t) call.change is
     where
-      by_test : (b : Bool) (change : Change) → IsImage (if b then within_write change u else u) image
+      by_test : (b : Bool) (change : RecordedCall) → IsImage (if b then within_write change u else u) image
           → IsImage (if b then during change u else u) image
       by_test true (Wrote at bytes) here = here
       by_test true (Sized n) here = image_with_length u n image here

@@ -1,13 +1,13 @@
 -- The record that a disk in memory keeps, as calls.
 use Rattle.std.specs.Prelude.{List, map, reverse}
-use Rattle.disk_mem.specs.Changes.{Change, Stamped}
-use Rattle.disk_mem.specs.Changes.Change.{Wrote, Sized, Synced}
+use Rattle.disk_mem.specs.Changes.{RecordedCall, Stamped}
+use Rattle.disk_mem.specs.Changes.RecordedCall.{Wrote, Sized, Synced}
 use Rattle.disk_mem.specs.declared.record.Call.{Call}
 use Rattle.disk_mem.specs.declared.record.Call.TheVariants.{Write, Resize, Sync}
 use Rattle.disk_mem.specs.declared.record.Entry.{Entry}
 
 -- what a recorded call asked
-abbrev pub change_of : Call → Change
+abbrev pub change_of : Call → RecordedCall
 change_of (Write at bytes) = Wrote at bytes.items
 change_of (Resize n) = Sized n
 change_of Sync = Synced

@@ -3,7 +3,7 @@ use Rattle.std.specs.Prelude.{◌⊎◌, ℕ, ◌<◌, ◌≤◌, List, [], ◌�
 use Rattle.disk_face.specs.Counts.{last, counted}
 use Rattle.disk_face.specs.Images.{Unsynced, IsImage}
 use Rattle.disk_face.specs.States.{State}
-use Rattle.disk_mem.specs.Changes.{Change, Stamped, content_after, unsynced_after, during}
+use Rattle.disk_mem.specs.Changes.{RecordedCall, Stamped, content_after, unsynced_after, during}
 
 -- the recorded calls stand with the newest first; a call that found no memory for its record has raised turn
 -- and faults alone
@@ -30,7 +30,7 @@ abbrev pub fresh : List ℕ → History
 fresh bytes = record { base = bytes; calls = []; turn = 0; faults = 0 }
 
 -- after a call that was done
-abbrev pub done : Change → History → History
+abbrev pub done : RecordedCall → History → History
 done change h = record h {
   calls = record { began = h.turn; change = change } ∷ h.calls;
   turn = counted h.turn 1;

@@ -9,8 +9,8 @@ use Rattle.disk_face.specs.Counts.{last}
 use Rattle.disk_face.specs.Images.{Unsynced, IsImage}
 use Rattle.disk_face.specs.States.{IsLawful}
 use Rattle.disk_face.proofs.ImageLaws.{synced_image, image_written, image_resized}
-use Rattle.disk_mem.specs.Changes.{Change, Stamped, changed, left_by, content_after, unsynced_after}
-use Rattle.disk_mem.specs.Changes.Change.{Wrote, Sized, Synced}
+use Rattle.disk_mem.specs.Changes.{RecordedCall, Stamped, changed, left_by, content_after, unsynced_after}
+use Rattle.disk_mem.specs.Changes.RecordedCall.{Wrote, Sized, Synced}
 use Rattle.disk_mem.specs.Histories.{History, unsynced_of, LeftSince, history_state}
 use Rattle.std.proofs.lemmas.Bool.{false≢true}
 use Rattle.disk_mem.specs.Plain.{Plain, plain_state}
@@ -27,7 +27,7 @@ changed_outside file at bytes = by_test (nat_le (at + length bytes) (length file
     by_test false f = SameOutside-refl at (length bytes) file
 
 -- what reads give is an image
-image_changed : (change : Change) (file : List ℕ) (u : Unsynced) → IsImage u file
+image_changed : (change : RecordedCall) (file : List ℕ) (u : Unsynced) → IsImage u file
     → IsImage (left_by change file u) (changed change file)
 image_changed (Wrote at bytes) file u is =
     image_written u at (length bytes) file (changed (Wrote at bytes) file) is (changed_outside file at bytes)

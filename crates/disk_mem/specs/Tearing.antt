@@ -2,8 +2,8 @@
 use Rattle.std.specs.Prelude.{ℕ, ◌-◌, nat_eq, Bool, true, false, cond, if◌then◌else◌, List, [], ◌∷◌, ◌++◌, length, take, replicate, map, slice_index, Option, Some, None}
 use Rattle.byte_ranges.specs.Lists.{below}
 use Rattle.disk_face.specs.Images.{in_range}
-use Rattle.disk_mem.specs.Changes.{Change, Stamped, content_after}
-use Rattle.disk_mem.specs.Changes.Change.{Wrote, Sized, Synced}
+use Rattle.disk_mem.specs.Changes.{RecordedCall, Stamped, content_after}
+use Rattle.disk_mem.specs.Changes.RecordedCall.{Wrote, Sized, Synced}
 use Rattle.disk_mem.specs.declared.image.Choice.{Choice}
 use Rattle.disk_mem.specs.declared.image.Choice.TheVariants.{Durable, Newest, Torn}
 
@@ -12,7 +12,7 @@ abbrev pub filled : ℕ → ℕ → ℕ → List ℕ → List ℕ
 filled b at n file = map (λ i. cond (in_range i (at, n)) b (slice_index file i)) (below (length file))
 
 -- a file after a call, with b for each byte that the call wrote or grew
-abbrev pub smeared : ℕ → Change → List ℕ → List ℕ
+abbrev pub smeared : ℕ → RecordedCall → List ℕ → List ℕ
 smeared b (Wrote at bytes) file = filled b at (length bytes) file
 smeared b (Sized n) file = take n file ++ replicate (n - length file) b
 smeared b Synced file = file
@@ -23,7 +23,7 @@ smeared_after b file [] = file
 smeared_after b file (call ∷ earlier) = smeared b call.change (smeared_after b file earlier)
 
 -- the call is a sync
-abbrev pub is_sync : Change → Bool
+abbrev pub is_sync : RecordedCall → Bool
 is_sync (Wrote at bytes) = false
 is_sync (Sized n) = false
 is_sync Synced = true
@@ -39,7 +39,7 @@ since_sync [] = []
 since_sync (call ∷ earlier) = if is_sync call.change then [] else call ∷ since_sync earlier
 
 -- a file with the byte b in the range of a write
-abbrev pub smeared_within : ℕ → Change → List ℕ → List ℕ
+abbrev pub smeared_within : ℕ → RecordedCall → List ℕ → List ℕ
 smeared_within b (Wrote at bytes) file = filled b at (length bytes) file
 smeared_within b (Sized n) file = file
 smeared_within b Synced file = file

@@ -3,8 +3,8 @@ use Rattle.std.specs.Prelude.{ℕ, nat_le, nat_eq, if◌then◌else◌, cond, Li
 use Rattle.byte_ranges.specs.Lists.{below}
 use Rattle.disk_face.specs.Counts.{counted}
 use Rattle.disk_face.specs.Images.{Unsynced, IsImage, is_unsynced, with_range}
-use Rattle.disk_mem.specs.Changes.{Change, Stamped, content_after, unsynced_after, during}
-use Rattle.disk_mem.specs.Changes.Change.{Wrote, Sized, Synced}
+use Rattle.disk_mem.specs.Changes.{RecordedCall, Stamped, content_after, unsynced_after, during}
+use Rattle.disk_mem.specs.Changes.RecordedCall.{Wrote, Sized, Synced}
 use Rattle.disk_mem.specs.Histories.{History}
 use Rattle.disk_mem.specs.declared.image.Choice.{Choice}
 use Rattle.disk_mem.specs.declared.image.Choice.TheVariants.{Durable, Newest, Torn}
@@ -41,7 +41,7 @@ abbrev pub newest_at : History → ℕ → List ℕ
 newest_at h t = content_after h.base (ended_by h t)
 
 -- within a write, its range counts as written
-abbrev pub within_write : Change → Unsynced → Unsynced
+abbrev pub within_write : RecordedCall → Unsynced → Unsynced
 within_write (Wrote at bytes) u = with_range u at (length bytes)
 within_write (Sized n) u = u
 within_write Synced u = u

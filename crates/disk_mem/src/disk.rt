@@ -3,7 +3,7 @@ ghost use Rattle.std.specs.Prelude.{◌≡◌, ◌≤◌, ◌+◌, [], length, O
 ghost use Rattle.byte_ranges.specs.Ranges.{bytes_at, SameOutside};
 ghost use Rattle.disk_face.specs.Counts.{HasCause};
 ghost use Rattle.disk_face.specs.Moments.{ResizedImage, Follows, Only, NoMore, Elapses};
-ghost use Rattle.disk_mem.specs.Changes.Change.{Wrote, Sized, Synced};
+ghost use Rattle.disk_mem.specs.Changes.RecordedCall.{Wrote, Sized, Synced};
 ghost use Rattle.disk_mem.specs.Turns.{LeftAt, image_at};
 ghost use Rattle.disk_mem.specs.Histories.{fresh, done, undone, file_of, MayLeave, LeftSince, history_state};
 

@@ -1,5 +1,5 @@
-//! The outside in memory: disks that keep a record or none, disks that fail when they are told to, a bay of one
-//! file, a source and a sink.
+//! The outside in memory: disks that keep a record or none, disks that fail when they are told to, a bay
+//! of one file, a source and a sink.
 #![tactic(auto)]
 
 mod bay;

@@ -5,14 +5,14 @@ use Rattle.std.proofs.lemmas.List.Sorted.{Contains-permutation, IsPermutation-sy
 use Rattle.std.proofs.lemmas.List.Sums.{sum_by-cons}
 use Rattle.size_class.specs.Classes.{width}
 use Rattle.segment_layout.specs.Shapes.{end_of, start_of}
-use Rattle.plan_terms.specs.declared.item.Item.{Item}
-use Rattle.plan_terms.specs.Phases.{CanFlush}
-use Rattle.plan_terms.specs.Plans.{class_total, in_class, laid_length, numbers_of, object_of, stands_in_payload, total}
-use Rattle.plan_terms.proofs.FinalLaws.{class_total_is}
-use Rattle.plan_terms.proofs.LargestLaws.{largest-permuted}
-use Rattle.plan_terms.proofs.PlaceLaws.{segments_same}
-use Rattle.plan_terms.proofs.SortLaws.{apart_permuted, total_permuted}
-use Rattle.plan_terms.proofs.SumLaws.{same_numbers}
+use Rattle.flush_model.specs.declared.item.Item.{Item}
+use Rattle.flush_model.specs.Phases.{CanFlush}
+use Rattle.flush_model.specs.Plans.{class_total, in_class, laid_length, numbers_of, object_of, stands_in_payload, total}
+use Rattle.flush_model.proofs.FinalLaws.{class_total_is}
+use Rattle.flush_model.proofs.LargestLaws.{largest-permuted}
+use Rattle.flush_model.proofs.PlaceLaws.{segments_same}
+use Rattle.flush_model.proofs.SortLaws.{apart_permuted, total_permuted}
+use Rattle.flush_model.proofs.SumLaws.{same_numbers}
 
 module _ (xs ys : List Item) (same : IsPermutation xs ys) where
   back : (it : Item) → Contains ys it → Contains xs it

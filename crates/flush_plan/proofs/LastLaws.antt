@@ -2,7 +2,7 @@
 use Rattle.std.specs.Prelude.{◌≡◌, ℕ, ◌+◌, ◌<◌, ◌≤◌, List, slice_get, Some, Contains}
 use Rattle.std.proofs.Common.{arith, inl, inr}
 use Rattle.std.proofs.lemmas.Bool.{cases_lt}
-use Rattle.plan_terms.specs.declared.item.Item.{Item}
+use Rattle.flush_model.specs.declared.item.Item.{Item}
 use Rattle.flush_plan.specs.Shelves.{IsLastBefore, IsOnShelf, IsRank}
 use Rattle.flush_plan.proofs.ShelfLaws.{got_has, item_on_shelf, rank_last, rank_precedes, rank_zero, shelf_item}
 

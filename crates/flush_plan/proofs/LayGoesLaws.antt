@@ -3,27 +3,27 @@ use Rattle.std.specs.Prelude.{◌≡◌, ◌≢◌, ℕ, ◌+◌, ◌<◌, ◌�
 use Rattle.std.proofs.Common.{arith, sym, ◌∙◌, ap, inl, inr}
 use Rattle.std.proofs.lemmas.Bool.{cases_lt, cases_order}
 use Rattle.std.proofs.Math.Nat.{le-max_left, max-le}
-use Rattle.plan_terms.specs.declared.item.Item.{Item}
-use Rattle.plan_terms.specs.declared.item.Move.{Move}
-use Rattle.plan_terms.specs.declared.item.Numbers.{Numbers}
-use Rattle.plan_terms.specs.Plans.{AreBelow, class_total, IsLaid, IsPacked, IsNextLay, ItemsCanResume, laid_length, mover, relocated, sizes_before, weight}
-use Rattle.plan_terms.specs.Phases.{AreItems, AreLaying, IsLaidWhole, IsLaying, IsPackedWhole, moved_by, Phase}
-use Rattle.plan_terms.specs.Segments.{ArePlaces}
-use Rattle.plan_terms.specs.Steps.{IsLayStep}
-use Rattle.plan_terms.proofs.ItemLaws.{total_is, weight_moves}
-use Rattle.plan_terms.proofs.PlaceLaws.{segments_same}
-use Rattle.plan_terms.proofs.PackLaws.{laid_length_after}
-use Rattle.plan_terms.proofs.LayLaws.{lay_fits, packed_far, past_far}
-use Rattle.plan_terms.proofs.PhaseLaws.{below_after, laying_begins, laying_moved, small_after}
-use Rattle.plan_terms.proofs.StepLaws.{lay_step}
-use Rattle.flush_plan.specs.Shelves.{Course, IsFirstOf, phase_on}
+use Rattle.flush_model.specs.declared.item.Item.{Item}
+use Rattle.flush_model.specs.declared.item.Move.{Move}
+use Rattle.flush_model.specs.declared.item.Numbers.{Numbers}
+use Rattle.flush_model.specs.Plans.{AreBelow, class_total, IsLaid, IsPacked, IsNextLay, ItemsCanResume, laid_length, mover, relocated, sizes_before, weight}
+use Rattle.flush_model.specs.Phases.{AreItems, AreLaying, IsLaidWhole, IsLaying, IsPackedWhole, moved_by, PlanState}
+use Rattle.flush_model.specs.Segments.{ArePlaces}
+use Rattle.flush_model.specs.Steps.{IsLayStep}
+use Rattle.flush_model.proofs.ItemLaws.{total_is, weight_moves}
+use Rattle.flush_model.proofs.PlaceLaws.{segments_same}
+use Rattle.flush_model.proofs.PackLaws.{laid_length_after}
+use Rattle.flush_model.proofs.LayLaws.{lay_fits, packed_far, past_far}
+use Rattle.flush_model.proofs.PhaseLaws.{below_after, laying_begins, laying_moved, small_after}
+use Rattle.flush_model.proofs.StepLaws.{lay_step}
+use Rattle.flush_plan.specs.Shelves.{PlanFrame, IsFirstOf, phase_on}
 use Rattle.flush_plan.specs.Packs.{KeepsPacking, Pack}
 use Rattle.flush_plan.specs.Lays.{IsLaidTo, IsNextClass, KeepsLaying, Lay}
 use Rattle.flush_plan.proofs.PackGoesLaws.{move_of}
 use Rattle.flush_plan.proofs.LayStepLaws.{all_before, before_at_most, class_begins, class_empty, first_waits, lay_moves, lay_next, none_counts, not_laid}
 
 -- the value of Lay
-abbrev pub lay_at : Course → List ℕ → ℕ → ℕ → ℕ → Lay
+abbrev pub lay_at : PlanFrame → List ℕ → ℕ → ℕ → ℕ → Lay
 lay_at course volumes class to ahead =
     record { course = course; volumes = volumes; class = class; to = to; ahead = ahead }
 
@@ -171,7 +171,7 @@ module _ (C : ℕ) (v : Lay) (items : List Item) (keeps : KeepsLaying C v items)
   abbrev k : ℕ
   k = v.course.k
 
-  abbrev p : Phase
+  abbrev p : PlanState
   p = phase_on v.course items
 
   are : AreItems n items

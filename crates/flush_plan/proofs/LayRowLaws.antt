@@ -4,15 +4,15 @@ use Rattle.std.proofs.Common.{arith, sym, ◌∙◌, inl, inr}
 use Rattle.std.proofs.lemmas.Bool.{cases_lt}
 use Rattle.std.proofs.lemmas.List.Sorted.{Contains-permutation, IsPermutation-sym}
 use Rattle.size_class.specs.Classes.{IsRow, width}
-use Rattle.plan_terms.specs.declared.item.Item.{Item}
-use Rattle.plan_terms.specs.declared.item.Numbers.{Numbers}
-use Rattle.plan_terms.specs.Plans.{AreBelow, class_total, laid_length, relocated, segments_length}
-use Rattle.plan_terms.specs.Phases.{IsPackedWhole}
-use Rattle.plan_terms.specs.Segments.{ArePlaces}
-use Rattle.plan_terms.proofs.FinalLaws.{laid_length_class, laid_length_split}
-use Rattle.plan_terms.proofs.PlaceLaws.{segments_same, totals_low}
-use Rattle.plan_terms.proofs.SettledLaws.{class_total_none}
-use Rattle.plan_terms.proofs.SortLaws.{below_permuted, class_total_permuted}
+use Rattle.flush_model.specs.declared.item.Item.{Item}
+use Rattle.flush_model.specs.declared.item.Numbers.{Numbers}
+use Rattle.flush_model.specs.Plans.{AreBelow, class_total, laid_length, relocated, segments_length}
+use Rattle.flush_model.specs.Phases.{IsPackedWhole}
+use Rattle.flush_model.specs.Segments.{ArePlaces}
+use Rattle.flush_model.proofs.FinalLaws.{laid_length_class, laid_length_split}
+use Rattle.flush_model.proofs.PlaceLaws.{segments_same, totals_low}
+use Rattle.flush_model.proofs.SettledLaws.{class_total_none}
+use Rattle.flush_model.proofs.SortLaws.{below_permuted, class_total_permuted}
 use Rattle.flush_plan.specs.Shelves.{from_place, IsFirstOf, phase_on}
 use Rattle.flush_plan.specs.Packs.{KeepsPacking, Pack, Packs}
 use Rattle.flush_plan.specs.Lays.{IsNextClass, KeepsLaying, Lay}

@@ -2,17 +2,17 @@
 use Rattle.std.specs.Prelude.{◌≡◌, ◌≢◌, ◌⊎◌, ℕ, ◌+◌, ◌<◌, ◌≤◌, ◌==◌, nat_le, nat_lt, Bool, false, ◌&&◌, List, Contains}
 use Rattle.std.proofs.Common.{arith, sym, ◌∙◌, ap, subst, inl, inr}
 use Rattle.std.proofs.lemmas.Bool.{both_ways, cases_lt, cases_eq, cond-false, eq-eqb, eqb-true, le-leb, leb-true, lt-ltb, le-ltb, ne_eqb, and_from, and_left, and_parts}
-use Rattle.plan_terms.specs.declared.item.Item.{Item}
-use Rattle.plan_terms.specs.declared.item.Move.{Move}
-use Rattle.plan_terms.specs.declared.item.Numbers.{Numbers}
-use Rattle.plan_terms.specs.Plans.{class_total, final_place, in_class, IsBefore, IsLaid, IsNextLay, ItemsCanResume, laid_length, mover, relocated, sizes_before}
-use Rattle.plan_terms.specs.Phases.{AreItems, AreLaying}
-use Rattle.plan_terms.proofs.ListLaws.{first_of_list, sum_by_le_in, sum_by_more_in, sum_by_none_in, sum_by_same_in}
-use Rattle.plan_terms.proofs.ItemLaws.{after_is, same_or_apart, target, weight_moves}
-use Rattle.plan_terms.proofs.PackLaws.{laid_length_after}
-use Rattle.plan_terms.proofs.FinalLaws.{class_total_is, earlier, earlier_counts, earlier_later, earlier_le, earlier_other, earlier_sum_is, in_class_counts, is_earlier}
-use Rattle.plan_terms.proofs.LayLaws.{cases_laid, lay_down, lay_fits, packed_far, past_far}
-use Rattle.plan_terms.proofs.LayKeepsLaws.{final_other, laid_other, target_laid}
+use Rattle.flush_model.specs.declared.item.Item.{Item}
+use Rattle.flush_model.specs.declared.item.Move.{Move}
+use Rattle.flush_model.specs.declared.item.Numbers.{Numbers}
+use Rattle.flush_model.specs.Plans.{class_total, final_place, in_class, IsBefore, IsLaid, IsNextLay, ItemsCanResume, laid_length, mover, relocated, sizes_before}
+use Rattle.flush_model.specs.Phases.{AreItems, AreLaying}
+use Rattle.flush_model.proofs.ListLaws.{first_of_list, sum_by_le_in, sum_by_more_in, sum_by_none_in, sum_by_same_in}
+use Rattle.flush_model.proofs.ItemLaws.{after_is, same_or_apart, target, weight_moves}
+use Rattle.flush_model.proofs.PackLaws.{laid_length_after}
+use Rattle.flush_model.proofs.FinalLaws.{class_total_is, earlier, earlier_counts, earlier_later, earlier_le, earlier_other, earlier_sum_is, in_class_counts, is_earlier}
+use Rattle.flush_model.proofs.LayLaws.{cases_laid, lay_down, lay_fits, packed_far, past_far}
+use Rattle.flush_model.proofs.LayKeepsLaws.{final_other, laid_other, target_laid}
 use Rattle.flush_plan.specs.Shelves.{IsFirstOf}
 use Rattle.flush_plan.specs.Lays.{IsFront, IsLaidTo}
 

@@ -6,26 +6,26 @@ use Rattle.std.proofs.lemmas.Bool.{cases_lt, cases_order, not_from_false}
 use Rattle.size_class.specs.Classes.{IsRow, width}
 use Rattle.segment_layout.specs.Shapes.{buffer_start, end_of, start_of}
 use Rattle.segment_layout.proofs.ShapeLaws.{start_of-le}
-use Rattle.plan_terms.specs.declared.item.Item.{Item}
-use Rattle.plan_terms.specs.declared.item.Move.{Move}
-use Rattle.plan_terms.specs.declared.item.Numbers.{Numbers}
-use Rattle.plan_terms.specs.Plans.{AreSmall, IsInBuffer, IsNextLift, lifted_bytes, relocated, stands_in_payload}
-use Rattle.plan_terms.specs.Phases.{IsLifted, IsLifting, lifted_in, Phase, stands_below}
-use Rattle.plan_terms.specs.Begins.{Begins, pending_size, with_pending}
-use Rattle.plan_terms.specs.Steps.{IsLiftStep}
-use Rattle.plan_terms.proofs.BeginLaws.{begun, begun_below, begun_small, HasBegun, push_each}
-use Rattle.plan_terms.proofs.ItemLaws.{after_is, same_or_apart}
-use Rattle.plan_terms.proofs.LargestLaws.{largest-permuted}
-use Rattle.plan_terms.proofs.LiftLaws.{lift_ends_before, lift_past, lifted_after, lifted_in_none, payload_parts, start_of-rises}
-use Rattle.plan_terms.proofs.PhaseLaws.{below_after, lifting_moved, small_after}
-use Rattle.plan_terms.proofs.SortLaws.{below_permuted, items_permuted, lifted_permuted, lifting_permuted, small_permuted, suits_permuted, total_permuted}
-use Rattle.plan_terms.proofs.StepLaws.{lift_step}
+use Rattle.flush_model.specs.declared.item.Item.{Item}
+use Rattle.flush_model.specs.declared.item.Move.{Move}
+use Rattle.flush_model.specs.declared.item.Numbers.{Numbers}
+use Rattle.flush_model.specs.Plans.{AreSmall, IsInBuffer, IsNextLift, lifted_bytes, relocated, stands_in_payload}
+use Rattle.flush_model.specs.Phases.{IsLifted, IsLifting, lifted_in, PlanState, stands_below}
+use Rattle.flush_model.specs.Begins.{Begins, pending_size, with_pending}
+use Rattle.flush_model.specs.Steps.{IsLiftStep}
+use Rattle.flush_model.proofs.BeginLaws.{begun, begun_below, begun_small, HasBegun, push_each}
+use Rattle.flush_model.proofs.ItemLaws.{after_is, same_or_apart}
+use Rattle.flush_model.proofs.LargestLaws.{largest-permuted}
+use Rattle.flush_model.proofs.LiftLaws.{lift_ends_before, lift_past, lifted_after, lifted_in_none, payload_parts, start_of-rises}
+use Rattle.flush_model.proofs.PhaseLaws.{below_after, lifting_moved, small_after}
+use Rattle.flush_model.proofs.SortLaws.{below_permuted, items_permuted, lifted_permuted, lifting_permuted, small_permuted, suits_permuted, total_permuted}
+use Rattle.flush_model.proofs.StepLaws.{lift_step}
 use Rattle.flush_plan.specs.Lifts.{ArePassed, IsFirstUnlifted, KeepsLifting, Lift, Lifts}
-use Rattle.flush_plan.specs.Shelves.{Course, course_of, IsRank, phase_on}
+use Rattle.flush_plan.specs.Shelves.{PlanFrame, course_of, IsRank, phase_on}
 use Rattle.flush_plan.proofs.ShelfLaws.{first_is_least, first_item, none_is_left}
 
 -- the value of Lift at a place, with the next target
-abbrev pub lift_at : Course → ℕ → ℕ → Lift
+abbrev pub lift_at : PlanFrame → ℕ → ℕ → Lift
 lift_at course from to = record { course = course; from = from; to = to }
 
 module _ (C : ℕ) (v : Lift) (items : List Item) (keeps : KeepsLifting C v items) where
@@ -38,7 +38,7 @@ module _ (C : ℕ) (v : Lift) (items : List Item) (keeps : KeepsLifting C v item
   abbrev n : Numbers
   n = v.course.numbers
 
-  abbrev p : Phase
+  abbrev p : PlanState
   p = phase_on v.course items
 
   is : IsLifting p
@@ -221,7 +221,7 @@ module _ (C k : ℕ) (caps : List ℕ) (n : Numbers) (items : List Item) (pendin
     (fits : C ≤ width) (boundary : n.boundary < C) (divisor : 2 ≤ k) (row : IsRow C caps)
     (high : end_of k caps ≤ 2 ^ 54) (class : IfSome pending (λ it. it.class < C))
     (begins : Begins k caps n items pending) (same : IsPermutation (with_pending items pending) all) where
-  abbrev course : Course
+  abbrev course : PlanFrame
   course = course_of k caps n (pending_size pending)
 
   has : HasBegun k caps n (pending_size pending) (with_pending items pending)

@@ -3,25 +3,25 @@ use Rattle.std.specs.Prelude.{◌≡◌, ◌≢◌, ◌⊎◌, ℕ, ◌+◌, ◌
 use Rattle.std.proofs.Common.{arith, ap, subst, inl, inr}
 use Rattle.size_class.specs.Classes.{width}
 use Rattle.segment_layout.specs.Shapes.{start_of}
-use Rattle.plan_terms.specs.declared.item.Item.{Item}
-use Rattle.plan_terms.specs.declared.item.Move.{Move}
-use Rattle.plan_terms.specs.declared.item.Numbers.{Numbers}
-use Rattle.plan_terms.specs.Plans.{AreBelow, AreSmall, IsNextPack, ItemsCanResume, mover, relocated}
-use Rattle.plan_terms.specs.Phases.{AreItems, IsLifted, IsLifting, IsPackedWhole, IsPacking, Phase}
-use Rattle.plan_terms.specs.Steps.{IsPackStep}
-use Rattle.plan_terms.specs.Resumed.{numbers_again}
-use Rattle.plan_terms.proofs.PhaseLaws.{below_after, packing_begins, packing_moved, packing_resumes, small_after}
-use Rattle.plan_terms.proofs.StepLaws.{pack_step}
-use Rattle.flush_plan.specs.Shelves.{Course, course_of, IsLastBefore, IsOnShelf, phase_on}
+use Rattle.flush_model.specs.declared.item.Item.{Item}
+use Rattle.flush_model.specs.declared.item.Move.{Move}
+use Rattle.flush_model.specs.declared.item.Numbers.{Numbers}
+use Rattle.flush_model.specs.Plans.{AreBelow, AreSmall, IsNextPack, ItemsCanResume, mover, relocated}
+use Rattle.flush_model.specs.Phases.{AreItems, IsLifted, IsLifting, IsPackedWhole, IsPacking, PlanState}
+use Rattle.flush_model.specs.Steps.{IsPackStep}
+use Rattle.flush_model.specs.Resumed.{numbers_again}
+use Rattle.flush_model.proofs.PhaseLaws.{below_after, packing_begins, packing_moved, packing_resumes, small_after}
+use Rattle.flush_model.proofs.StepLaws.{pack_step}
+use Rattle.flush_plan.specs.Shelves.{PlanFrame, course_of, IsLastBefore, IsOnShelf, phase_on}
 use Rattle.flush_plan.specs.Packs.{CanGoOn, IsPackedFrom, KeepsPacking, Pack, Packs}
 use Rattle.flush_plan.proofs.PackStepLaws.{alone_at_top, ends_before_top, over_is_row, pack_loosens, pack_moves, pack_next, pack_stays, packed_from_wall}
 
 -- the value of Pack at a place
-abbrev pub pack_at : Course → ℕ → Pack
+abbrev pub pack_at : PlanFrame → ℕ → Pack
 pack_at course top = record { course = course; top = top }
 
 module _ (C : ℕ) (v : Pack) (items : List Item) (keeps : KeepsPacking C v items) where
-  abbrev p : Phase
+  abbrev p : PlanState
   p = phase_on v.course items
 
   is : IsPacking p
@@ -102,7 +102,7 @@ module _ (C : ℕ) (v : Pack) (items shelf : List Item) (packs : Packs C v items
         (omega (arith, fits_on_shelf))
 
 -- Pack begins at the wall, where Lift ends: what lies below the wall ends before it.
-pub pack_begins : (C : ℕ) (course : Course) (items : List Item) → C ≤ width → course.numbers.boundary ≤ C
+pub pack_begins : (C : ℕ) (course : PlanFrame) (items : List Item) → C ≤ width → course.numbers.boundary ≤ C
     → 2 ≤ course.k → IsLifting (phase_on course items) → IsLifted (phase_on course items) → AreBelow C items
     → AreSmall course.numbers items → KeepsPacking C (pack_at course course.numbers.wall) items
 pack_begins C course items fits boundary divisor is ended classes small =
@@ -159,7 +159,7 @@ module _ (C k : ℕ) (caps : List ℕ) (n : Numbers) (items shelf : List Item)
         differ (omega (arith, ends, ap (λ (x : Item). x.place) same, ap (λ (x : Item). x.size) same))
 
   module _ (fits : C ≤ width) (boundary : n.boundary < C) (divisor : 2 ≤ k) where
-    abbrev course : Course
+    abbrev course : PlanFrame
     course = course_of k caps n 0
 
     pub pack_from : (top : ℕ) → IsPackedFrom n items top
@@ -181,12 +181,15 @@ module _ (C k : ℕ) (caps : List ℕ) (n : Numbers) (items shelf : List Item)
 
 -- A flush that is interrupted in Pack or in Lay can go on over the same shelf, by the wall and the slack that
 -- it began with.
-pub can_go_on : (C k : ℕ) (caps : List ℕ) (v : Course) (items shelf : List Item) → IsPacking (phase_on v items)
+pub can_go_on : (C k : ℕ) (caps : List ℕ) (v : PlanFrame) (items shelf : List Item)
+    → IsPacking (phase_on v items)
     → AreBelow C items → AreSmall v.numbers items → IsOnShelf v.numbers.start items shelf → v.k ≡ k
     → v.numbers.start ≡ start_of k caps v.numbers.boundary
-    → CanGoOn C k caps (numbers_again k caps v.numbers.boundary v.numbers.wall v.numbers.slack items) items shelf
+    → CanGoOn C k caps (numbers_again k caps v.numbers.boundary v.numbers.wall v.numbers.slack items) items
+    shelf
 can_go_on C k caps v items shelf is classes small on same start =
-    let can : ItemsCanResume k v.numbers items = subst (λ x. ItemsCanResume x v.numbers items) same is.resumes in
+    let can : ItemsCanResume k v.numbers items = subst
+    (λ x. ItemsCanResume x v.numbers items) same is.resumes in
     record {
       objects = record {
         apart = is.items.apart;

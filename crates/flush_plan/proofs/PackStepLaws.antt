@@ -2,14 +2,14 @@
 use Rattle.std.specs.Prelude.{◌≡◌, ◌≢◌, ◌⊎◌, ℕ, ◌+◌, ◌<◌, ◌≤◌, nat_le, ◌&&◌, cond, List, Contains}
 use Rattle.std.proofs.Common.{arith, sym, ◌∙◌, ap, subst, inl, inr}
 use Rattle.std.proofs.lemmas.Bool.{cases_lt, cond-true, cond-false, lt-ltb, le-ltb, le-leb, lt-leb, leb-true, ltb-true, and_parts, and_from, and_left, and_right}
-use Rattle.plan_terms.specs.declared.item.Item.{Item}
-use Rattle.plan_terms.specs.declared.item.Move.{Move}
-use Rattle.plan_terms.specs.declared.item.Numbers.{Numbers}
-use Rattle.plan_terms.specs.Plans.{is_below_wall, IsNextPack, IsPacked, ItemsCanResume, mover, relocated, sizes_over, weight}
-use Rattle.plan_terms.specs.Phases.{AreItems}
-use Rattle.plan_terms.proofs.ListLaws.{sum_by_more_in, sum_by_none_in, sum_by_same_in}
-use Rattle.plan_terms.proofs.ItemLaws.{after_is, items_within, same_or_apart, target, total_is, weight_moves}
-use Rattle.plan_terms.proofs.PackLaws.{over, over_before, over_counts, over_other, over_past, pack_far, sizes_over_is, target_packed}
+use Rattle.flush_model.specs.declared.item.Item.{Item}
+use Rattle.flush_model.specs.declared.item.Move.{Move}
+use Rattle.flush_model.specs.declared.item.Numbers.{Numbers}
+use Rattle.flush_model.specs.Plans.{is_below_wall, IsNextPack, IsPacked, ItemsCanResume, mover, relocated, sizes_over, weight}
+use Rattle.flush_model.specs.Phases.{AreItems}
+use Rattle.flush_model.proofs.ListLaws.{sum_by_more_in, sum_by_none_in, sum_by_same_in}
+use Rattle.flush_model.proofs.ItemLaws.{after_is, items_within, same_or_apart, target, total_is, weight_moves}
+use Rattle.flush_model.proofs.PackLaws.{over, over_before, over_counts, over_other, over_past, pack_far, sizes_over_is, target_packed}
 use Rattle.flush_plan.specs.Shelves.{IsLastBefore}
 use Rattle.flush_plan.specs.Packs.{is_from, IsPackedFrom}
 

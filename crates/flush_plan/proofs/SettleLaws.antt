@@ -1,10 +1,10 @@
 -- What Lay leaves at its end.
 use Rattle.std.specs.Prelude.{ℕ, List}
 use Rattle.size_class.specs.Classes.{IsRow}
-use Rattle.plan_terms.specs.declared.item.Item.{Item}
-use Rattle.plan_terms.specs.Phases.{IsLaidWhole}
-use Rattle.plan_terms.specs.Settlements.{KeepsSettled}
-use Rattle.plan_terms.proofs.SettledLaws.{ends, placed, volumes_below}
+use Rattle.flush_model.specs.declared.item.Item.{Item}
+use Rattle.flush_model.specs.Phases.{IsLaidWhole}
+use Rattle.flush_model.specs.Settlements.{KeepsSettled}
+use Rattle.flush_model.proofs.SettledLaws.{ends, placed, volumes_below}
 use Rattle.flush_plan.specs.Shelves.{phase_on}
 use Rattle.flush_plan.specs.Lays.{End, HasSettled, KeepsLaying, Lay, settlement_on}
 

@@ -5,9 +5,9 @@ use Rattle.std.proofs.lemmas.Bool.{both_ways, cases_Bool, cases_order, cond-true
 use Rattle.std.proofs.lemmas.List.{length-drop}
 use Rattle.std.proofs.lemmas.List.Sorted.{Contains-permutation, IsPermutation-sym}
 use Rattle.std.proofs.lemmas.Option.{get_or_from_slice_get, slice_get_within, same_Some}
-use Rattle.plan_terms.specs.declared.item.Item.{Item}
-use Rattle.plan_terms.specs.Plans.{AreBelow, class_total, total}
-use Rattle.plan_terms.proofs.ListLaws.{contains_cases, contains_here, contains_later, got_at, sizes-permuted}
+use Rattle.flush_model.specs.declared.item.Item.{Item}
+use Rattle.flush_model.specs.Plans.{AreBelow, class_total, total}
+use Rattle.flush_model.proofs.ListLaws.{contains_cases, contains_here, contains_later, got_at, sizes-permuted}
 use Rattle.flush_plan.specs.Shelves.{from_place, IsOnShelf, IsRank, IsShelf}
 
 -- ---- what a filter leaves

@@ -3,10 +3,10 @@ use Rattle.std.specs.Prelude.{◌≡◌, ◌≢◌, ℕ, ◌<◌, ◌≤◌, Lis
 use Rattle.std.proofs.Common.{arith, sym, ◌∙◌, ap, inl, inr}
 use Rattle.std.proofs.lemmas.Bool.{cases_lt, cases_order}
 use Rattle.std.proofs.lemmas.Option.{same_Some}
-use Rattle.plan_terms.specs.declared.item.Item.{Item}
-use Rattle.plan_terms.specs.declared.item.Numbers.{Numbers}
-use Rattle.plan_terms.proofs.FinalLaws.{final_rises}
-use Rattle.plan_terms.proofs.ListLaws.{got_at}
+use Rattle.flush_model.specs.declared.item.Item.{Item}
+use Rattle.flush_model.specs.declared.item.Numbers.{Numbers}
+use Rattle.flush_model.proofs.FinalLaws.{final_rises}
+use Rattle.flush_model.proofs.ListLaws.{got_at}
 use Rattle.flush_plan.specs.Shelves.{IsFirstOf, IsRank}
 use Rattle.flush_plan.specs.Lays.{KeepsLaying, Lay, Lays, StandsPast}
 use Rattle.flush_plan.proofs.LayGoesLaws.{lay_ends_low, lay_has_next}

@@ -1,7 +1,7 @@
 -- What is counted up over the items of a flush and its pending object.
 use Rattle.std.specs.Prelude.{◌≡◌, ℕ, ◌<◌, not, List, ◌∷◌, slice_index}
-use Rattle.plan_terms.specs.declared.item.Item.{Item}
-use Rattle.plan_terms.specs.Plans.{class_total, largest_of, object_of, stands_in_payload, weight}
+use Rattle.flush_model.specs.declared.item.Item.{Item}
+use Rattle.flush_model.specs.Plans.{class_total, largest_of, object_of, stands_in_payload, weight}
 
 -- The bytes of each class and the largest size, the pending object among them, and the bytes of the items
 -- that stand in payload segments, and of those in buffers.

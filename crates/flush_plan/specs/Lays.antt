@@ -1,18 +1,18 @@
 -- How far Lay has come: the classes before one are laid, and of that one what stands before a place.
 use Rattle.std.specs.Prelude.{◌≡◌, ◌⊎◌, ℕ, ◌<◌, ◌≤◌, List, Contains, slice_index}
 use Rattle.size_class.specs.Classes.{width}
-use Rattle.plan_terms.specs.declared.item.Item.{Item}
-use Rattle.plan_terms.specs.declared.item.Numbers.{Numbers}
-use Rattle.plan_terms.specs.Plans.{AreBelow, AreSmall, class_total, final_place, IsLaid, sizes_before}
-use Rattle.plan_terms.specs.Phases.{IsLaidWhole, IsLaying}
-use Rattle.plan_terms.specs.Settlements.{IsPlaced, new_end, Settlement}
-use Rattle.flush_plan.specs.Shelves.{Course, IsOnShelf, phase_on}
+use Rattle.flush_model.specs.declared.item.Item.{Item}
+use Rattle.flush_model.specs.declared.item.Numbers.{Numbers}
+use Rattle.flush_model.specs.Plans.{AreBelow, AreSmall, class_total, final_place, IsLaid, sizes_before}
+use Rattle.flush_model.specs.Phases.{IsLaidWhole, IsLaying}
+use Rattle.flush_model.specs.Settlements.{IsPlaced, new_end, Settlement}
+use Rattle.flush_plan.specs.Shelves.{PlanFrame, IsOnShelf, phase_on}
 
 -- The value of Lay: the bytes of each class; the class that is laid, or the number of classes at the end;
 -- where the next of its objects goes, and a place past the wall before which none of its objects stands past
 -- it.
 pub record Lay : Type 0 where
-  pub course : Course
+  pub course : PlanFrame
   pub volumes : List ℕ
   pub class : ℕ
   pub to : ℕ
@@ -62,7 +62,7 @@ StandsPast v items = (it : Item) → Contains items it → it.class ≡ v.class 
 
 -- the value at the end
 pub record End : Type 0 where
-  pub course : Course
+  pub course : PlanFrame
   pub volumes : List ℕ
 
 abbrev pub settlement_on : End → List Item → Settlement

@@ -1,19 +1,19 @@
 -- How far Lift has come: what stands before a place is lifted, or stands in its payload segment.
 use Rattle.std.specs.Prelude.{◌≡◌, ◌⊎◌, ℕ, ◌+◌, ◌<◌, ◌≤◌, false, List, Contains, IsTrue}
 use Rattle.size_class.specs.Classes.{width}
-use Rattle.plan_terms.specs.declared.item.Item.{Item}
-use Rattle.plan_terms.specs.Plans.{AreBelow, AreSmall, IsInBuffer, lifted_bytes, stands_in_payload}
-use Rattle.plan_terms.specs.Phases.{IsLifting}
-use Rattle.flush_plan.specs.Shelves.{Course, IsOnShelf, phase_on}
+use Rattle.flush_model.specs.declared.item.Item.{Item}
+use Rattle.flush_model.specs.Plans.{AreBelow, AreSmall, IsInBuffer, lifted_bytes, stands_in_payload}
+use Rattle.flush_model.specs.Phases.{IsLifting}
+use Rattle.flush_plan.specs.Shelves.{PlanFrame, IsOnShelf, phase_on}
 
 -- the value of Lift: where it goes on from, and where the next object goes to
 pub record Lift : Type 0 where
-  pub course : Course
+  pub course : PlanFrame
   pub from : ℕ
   pub to : ℕ
 
 -- each item below the wall that stands before a place stands in its payload segment
-abbrev pub ArePassed : Course → List Item → ℕ → Type 0
+abbrev pub ArePassed : PlanFrame → List Item → ℕ → Type 0
 ArePassed c items from = (it : Item) → Contains items it → it.place < from → it.place < c.numbers.wall
     → IsTrue (stands_in_payload c.k c.caps it)
 
@@ -39,7 +39,7 @@ pub record Lifts (C : ℕ) (v : Lift) (items shelf : List Item) : Type 0 where
   pub on : IsOnShelf v.course.numbers.start items shelf
 
 -- this item is the first below the wall that doesn't stand in its payload segment
-pub record IsFirstUnlifted (c : Course) (items : List Item) (m : Item) : Type 0 where
+pub record IsFirstUnlifted (c : PlanFrame) (items : List Item) (m : Item) : Type 0 where
   pub has : Contains items m
   pub below : m.place < c.numbers.wall
   pub outside : stands_in_payload c.k c.caps m ≡ false

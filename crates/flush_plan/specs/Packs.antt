@@ -2,15 +2,15 @@
 use Rattle.std.specs.Prelude.{◌≡◌, ◌≢◌, ℕ, ◌+◌, ◌<◌, ◌≤◌, nat_le, ◌&&◌, Bool, List, Contains, filter}
 use Rattle.size_class.specs.Classes.{width}
 use Rattle.segment_layout.specs.Shapes.{start_of}
-use Rattle.plan_terms.specs.declared.item.Item.{Item}
-use Rattle.plan_terms.specs.declared.item.Numbers.{Numbers}
-use Rattle.plan_terms.specs.Plans.{AreBelow, AreSmall, is_below_wall, IsPacked, ItemsCanResume, laid_length, total}
-use Rattle.plan_terms.specs.Phases.{AreObjects, IsPacking}
-use Rattle.flush_plan.specs.Shelves.{Course, IsOnShelf, phase_on}
+use Rattle.flush_model.specs.declared.item.Item.{Item}
+use Rattle.flush_model.specs.declared.item.Numbers.{Numbers}
+use Rattle.flush_model.specs.Plans.{AreBelow, AreSmall, is_below_wall, IsPacked, ItemsCanResume, laid_length, total}
+use Rattle.flush_model.specs.Phases.{AreObjects, IsPacking}
+use Rattle.flush_plan.specs.Shelves.{PlanFrame, IsOnShelf, phase_on}
 
 -- the value of Pack: the place from which all is packed
 pub record Pack : Type 0 where
-  pub course : Course
+  pub course : PlanFrame
   pub top : ℕ
 
 -- an item below the wall stands at a place or behind it

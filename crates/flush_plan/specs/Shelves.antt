@@ -1,8 +1,8 @@
 -- Objects on a shelf, by rising place, and the items of a flush among them.
 use Rattle.std.specs.Prelude.{◌≡◌, ◌≢◌, ℕ, ◌+◌, ◌<◌, ◌≤◌, nat_le, List, length, filter, slice_get, Some, Contains, IsPermutation}
-use Rattle.plan_terms.specs.declared.item.Item.{Item}
-use Rattle.plan_terms.specs.declared.item.Numbers.{Numbers}
-use Rattle.plan_terms.specs.Phases.{Phase, phase_of}
+use Rattle.flush_model.specs.declared.item.Item.{Item}
+use Rattle.flush_model.specs.declared.item.Numbers.{Numbers}
+use Rattle.flush_model.specs.Phases.{PlanState, phase_of}
 
 -- Each object has a byte at least and a key of its own, and begins where the one before it ends, or behind.
 pub record IsShelf (xs : List Item) : Type 0 where
@@ -42,15 +42,15 @@ pub record IsFirstOf (items : List Item) (class place : ℕ) (m : Item) : Type 0
 
 -- A phase without its items: the layout that the flush began with, its numbers, and the size of the pending
 -- item.
-pub record Course : Type 0 where
+pub record PlanFrame : Type 0 where
   pub k : ℕ
   pub caps : List ℕ
   pub numbers : Numbers
   pub pending : ℕ
 
-abbrev pub course_of : ℕ → List ℕ → Numbers → ℕ → Course
+abbrev pub course_of : ℕ → List ℕ → Numbers → ℕ → PlanFrame
 course_of k caps numbers pending = record { k = k; caps = caps; numbers = numbers; pending = pending }
 
 -- the phase over its items, which are kept in no list
-abbrev pub phase_on : Course → List Item → Phase
+abbrev pub phase_on : PlanFrame → List Item → PlanState
 phase_on c items = phase_of c.k c.caps c.numbers c.pending items

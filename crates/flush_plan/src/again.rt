@@ -2,14 +2,14 @@
 ghost use Rattle.std.specs.Prelude.{◌≡◌, ◌<◌, ◌≤◌, List};
 ghost use Rattle.segment_layout.specs.Shapes.{start_of};
 ghost use Rattle.segment_layout.specs.Layouts.{caps_of, divisor_of};
-ghost use Rattle.plan_terms.specs.declared.item.Item.{Item as AnyItem};
-ghost use Rattle.plan_terms.specs.Resumed.{numbers_again as again};
+ghost use Rattle.flush_model.specs.declared.item.Item.{Item as AnyItem};
+ghost use Rattle.flush_model.specs.Resumed.{numbers_again as again};
 ghost use Rattle.flush_plan.specs.Shelves.{IsOnShelf};
 ghost use Rattle.flush_plan.specs.Packs.{CanGoOn};
 
 use crate::shelf::Shelf;
 use crate::volumes::volumes_from;
-use plan_terms::{Numbers, places_of};
+use flush_model::{Numbers, places_of};
 use segment_layout::Layout;
 use size_class::Row;
 

@@ -4,15 +4,15 @@ ghost use Rattle.size_class.specs.Classes.{class_of as class_of_lem};
 ghost use Rattle.size_class.specs.Rows.{cells_of};
 ghost use Rattle.segment_layout.specs.Shapes.{start_of};
 ghost use Rattle.segment_layout.specs.Layouts.{divisor_of, caps_of};
-ghost use Rattle.plan_terms.specs.declared.item.Item.{Item as AnyItem};
-ghost use Rattle.plan_terms.specs.Plans.{in_class, numbers_of, object_of};
-ghost use Rattle.plan_terms.specs.Phases.{CanFlush};
+ghost use Rattle.flush_model.specs.declared.item.Item.{Item as AnyItem};
+ghost use Rattle.flush_model.specs.Plans.{in_class, numbers_of, object_of};
+ghost use Rattle.flush_model.specs.Phases.{CanFlush};
 ghost use Rattle.flush_plan.specs.Shelves.{from_place, IsOnShelf, IsShelf};
 ghost use Rattle.flush_plan.specs.Counts.{IsCount};
 
 use crate::ranks::rank_from;
 use crate::shelf::Shelf;
-use plan_terms::{Item, Numbers, places_of, stands, starts_of};
+use flush_model::{Item, Numbers, places_of, stands, starts_of};
 use segment_layout::Layout;
 use size_class::{Row, class_of};
 

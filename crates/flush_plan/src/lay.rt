@@ -1,17 +1,17 @@
 //! Lay: the objects go down to their new places, in the order of class and place.
 ghost use Rattle.std.specs.Prelude.{◌≡◌, ◌≢◌, ℕ, ◌+◌, ◌<◌, ◌≤◌, ◌↔◌, List, IfSome, IsNone, IsTrue, length, slice_get, slice_index, Some};
 ghost use Rattle.size_class.specs.Rows.{cells_of};
-ghost use Rattle.plan_terms.specs.declared.item.Item.{Item as AnyItem};
-ghost use Rattle.plan_terms.specs.Plans.{relocated};
-ghost use Rattle.plan_terms.specs.Phases.{IsLaidWhole};
-ghost use Rattle.plan_terms.specs.Steps.{IsLayStep};
+ghost use Rattle.flush_model.specs.declared.item.Item.{Item as AnyItem};
+ghost use Rattle.flush_model.specs.Plans.{relocated};
+ghost use Rattle.flush_model.specs.Phases.{IsLaidWhole};
+ghost use Rattle.flush_model.specs.Steps.{IsLayStep};
 ghost use Rattle.flush_plan.specs.Shelves.{IsFirstOf, phase_on};
 ghost use Rattle.flush_plan.specs.Lays.{HasSettled, IsNextClass, KeepsLaying, Lays, StandsPast};
 
 use crate::ranks::rank_from;
 use crate::settled::Settled;
 use crate::shelf::Shelf;
-use plan_terms::{Item, Move, Numbers};
+use flush_model::{Item, Move, Numbers};
 use size_class::Row;
 use std::marker::Model;
 
@@ -35,7 +35,7 @@ pub struct Laying<const C: usize> {
 impl<const C: usize> Model for Laying<C> {
     ghost use Rattle.std.specs.Prelude.{slice_index};
     ghost use Rattle.size_class.specs.Rows.{cells_of};
-    ghost use Rattle.plan_terms.specs.Segments.{ArePlaces};
+    ghost use Rattle.flush_model.specs.Segments.{ArePlaces};
     ghost use Rattle.flush_plan.specs.Shelves.{course_of};
     ghost use Rattle.flush_plan.specs.Lays.{Lay};
 

@@ -14,9 +14,9 @@ mod volumes;
 
 pub use again::numbers_again;
 pub use counts::numbers;
+pub use flush_model::{Item, Move, Numbers};
 pub use lay::Laying;
 pub use lift::Lifting;
 pub use pack::Packing;
-pub use plan_terms::{Item, Move, Numbers};
 pub use settled::Settled;
 pub use shelf::Shelf;

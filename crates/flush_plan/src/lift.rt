@@ -1,11 +1,11 @@
 //! Lift: the objects of the buffers go past the wall, the one at the least place first.
 ghost use Rattle.std.specs.Prelude.{◌≡◌, ℕ, ◌<◌, ◌≤◌, ◌↔◌, List, IfSome, IsNone, IsPermutation, IsTrue};
 ghost use Rattle.segment_layout.specs.Layouts.{divisor_of, caps_of};
-ghost use Rattle.plan_terms.specs.declared.item.Item.{Item as AnyItem};
-ghost use Rattle.plan_terms.specs.Plans.{relocated};
-ghost use Rattle.plan_terms.specs.Phases.{bytes_below, IsLifted, lifted_in, PaysFor};
-ghost use Rattle.plan_terms.specs.Steps.{IsLiftStep};
-ghost use Rattle.plan_terms.specs.Begins.{Begins, pending_size, with_pending};
+ghost use Rattle.flush_model.specs.declared.item.Item.{Item as AnyItem};
+ghost use Rattle.flush_model.specs.Plans.{relocated};
+ghost use Rattle.flush_model.specs.Phases.{bytes_below, IsLifted, lifted_in, PaysFor};
+ghost use Rattle.flush_model.specs.Steps.{IsLiftStep};
+ghost use Rattle.flush_model.specs.Begins.{Begins, pending_size, with_pending};
 ghost use Rattle.flush_plan.specs.Shelves.{course_of, phase_on};
 ghost use Rattle.flush_plan.specs.Lifts.{IsFirstUnlifted, KeepsLifting, Lifts};
 ghost use Rattle.flush_plan.specs.Packs.{KeepsPacking};
@@ -13,7 +13,7 @@ ghost use Rattle.flush_plan.specs.Packs.{KeepsPacking};
 use crate::pack::Packing;
 use crate::ranks::rank_from;
 use crate::shelf::Shelf;
-use plan_terms::{Item, Move, Numbers, stands, starts_of};
+use flush_model::{Item, Move, Numbers, stands, starts_of};
 use segment_layout::Layout;
 use size_class::Row;
 use std::marker::Model;
@@ -34,7 +34,7 @@ pub struct Lifting<const C: usize> {
 
 impl<const C: usize> Model for Lifting<C> {
     ghost use Rattle.size_class.specs.Rows.{cells_of};
-    ghost use Rattle.plan_terms.specs.Segments.{AreStarts};
+    ghost use Rattle.flush_model.specs.Segments.{AreStarts};
     ghost use Rattle.flush_plan.specs.Shelves.{course_of};
     ghost use Rattle.flush_plan.specs.Lifts.{Lift};
 

@@ -1,10 +1,10 @@
 //! Pack: the objects below the wall go up to it, the one at the greatest place first.
 ghost use Rattle.std.specs.Prelude.{◌≡◌, ◌≢◌, ℕ, ◌+◌, ◌<◌, ◌≤◌, ◌↔◌, List, Contains, IfSome, IsNone, IsTrue};
 ghost use Rattle.segment_layout.specs.Layouts.{caps_of, divisor_of};
-ghost use Rattle.plan_terms.specs.declared.item.Item.{Item as AnyItem};
-ghost use Rattle.plan_terms.specs.Plans.{relocated};
-ghost use Rattle.plan_terms.specs.Phases.{IsPackedWhole};
-ghost use Rattle.plan_terms.specs.Steps.{IsPackStep};
+ghost use Rattle.flush_model.specs.declared.item.Item.{Item as AnyItem};
+ghost use Rattle.flush_model.specs.Plans.{relocated};
+ghost use Rattle.flush_model.specs.Phases.{IsPackedWhole};
+ghost use Rattle.flush_model.specs.Steps.{IsPackStep};
 ghost use Rattle.flush_plan.specs.Shelves.{course_of, IsLastBefore, IsOnShelf, IsShelf, phase_on};
 ghost use Rattle.flush_plan.specs.Packs.{CanGoOn, IsPackedFrom, KeepsPacking, Packs};
 ghost use Rattle.flush_plan.specs.Lays.{KeepsLaying};
@@ -13,7 +13,7 @@ use crate::lay::{Laying, next_segment};
 use crate::ranks::rank_from;
 use crate::shelf::Shelf;
 use crate::volumes::volumes_from;
-use plan_terms::{Item, Move, Numbers, places_of};
+use flush_model::{Item, Move, Numbers, places_of};
 use segment_layout::Layout;
 use size_class::Row;
 use std::marker::Model;

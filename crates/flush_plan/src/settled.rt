@@ -2,7 +2,7 @@
 ghost use Rattle.std.specs.Prelude.{◌≡◌};
 ghost use Rattle.size_class.specs.Rows.{cells_of};
 
-use plan_terms::Numbers;
+use flush_model::Numbers;
 use size_class::Row;
 use std::marker::Model;
 

@@ -1,11 +1,11 @@
 //! The objects of a table in the order of their places, told by rank.
 
-use plan_terms::Item;
+use flush_model::Item;
 
 /// Objects of at least 1 byte, by rising place. A table is one, where no two of its objects share a byte.
 pub trait Shelf {
     ghost use Rattle.std.specs.Prelude.{◌≡◌, ℕ, ◌<◌, List, length, Some, slice_get};
-    ghost use Rattle.plan_terms.specs.declared.item.Item.{Item as AnyItem};
+    ghost use Rattle.flush_model.specs.declared.item.Item.{Item as AnyItem};
 
     /// The objects, in the order of their places.
     ghost items: { Self → List AnyItem };

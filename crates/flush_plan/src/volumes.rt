@@ -1,8 +1,8 @@
 //! The bytes of each class over the end of a shelf.
 ghost use Rattle.std.specs.Prelude.{◌≡◌, ℕ, ◌<◌, ◌≤◌, ◌^◌, Contains, slice_index};
 ghost use Rattle.size_class.specs.Rows.{cells_of};
-ghost use Rattle.plan_terms.specs.declared.item.Item.{Item as AnyItem};
-ghost use Rattle.plan_terms.specs.Plans.{AreBelow, class_total};
+ghost use Rattle.flush_model.specs.declared.item.Item.{Item as AnyItem};
+ghost use Rattle.flush_model.specs.Plans.{AreBelow, class_total};
 ghost use Rattle.flush_plan.specs.Shelves.{from_place, IsShelf};
 
 use crate::ranks::rank_from;

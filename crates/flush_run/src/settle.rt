@@ -7,11 +7,11 @@ ghost use Rattle.slot_codec.specs.Reading.{all_in_range, worn_from};
 ghost use Rattle.slot_codec.specs.Spelling.{head_len};
 ghost use Rattle.slot_pair.specs.Saves.{next_in_use, save_calls};
 ghost use Rattle.extent_table.specs.Extents.{IsTable, records_of};
-ghost use Rattle.flush_run.specs.Flights.{Flies, Flight, LeavesOldOrNew};
+ghost use Rattle.flush_run.specs.FlushFrames.{IsMidFlush, FlushFrame, LeavesOldOrNew};
 ghost use Rattle.flush_run.specs.Saves.{IsSaveable};
 ghost use Rattle.segment_layout.specs.Layouts.{caps_of, grid_of};
 ghost use Rattle.size_class.specs.Rows.{cells_of};
-ghost use Rattle.flush_run.specs.Loops.{Lays};
+ghost use Rattle.flush_run.specs.Loops.{MidLay};
 ghost use Rattle.flush_run.specs.Settling.{CanCut, FlushEnds, IsSettled};
 ghost use Rattle.flush_run.specs.Parts.{KeepsOn, KeepsSettling, parts_of};
 ghost use Rattle.flush_run.specs.Shelved.{items_now, phase_now};
@@ -19,14 +19,14 @@ ghost use Rattle.flush_plan.specs.Lays.{HasSettled};
 
 use crate::Hands;
 use crate::headers::settled_header;
-use crate::save::save_held;
+use crate::save::save_mid_flush;
 use disk_face::{Disk, DiskFault};
 use flush_plan::Settled;
 use slot_codec::Header;
 
 /// Saves the settled table, cuts the file to a length, and syncs. At Ok a crash leaves only the
 /// content, which opens to the map and the book of after.
-pub(crate) fn settle_held<D: Disk, const C: usize>(
+pub(crate) fn settle_mid_flush<D: Disk, const C: usize>(
     disk: &mut D,
     header: &Header,
     len: u64,
@@ -42,16 +42,16 @@ pub(crate) fn settle_held<D: Disk, const C: usize>(
         → head_len hands.old.slots.block.names ≤ length (D.state disk.old).file }
     requires in_use { IsTrue (D.state disk.old).tells
         → slot_in_use (D.state disk.old).file ≡ Ok hands.old.slots }
-    ensures settled { (f : Flight) (end : ℕ) → IsTrue (D.state disk.old).tells → f.base + end ≡ len
+    ensures settled { (f : FlushFrame) (end : ℕ) → IsTrue (D.state disk.old).tells → f.base + end ≡ len
         → IsSaveable f hands.old.slots hands.old.table.now header.now
         → CanCut f hands.old.slots hands.old.table.now header.now end
-        → Flies f hands.old.slots hands.old.table (D.state disk.old)
+        → IsMidFlush f hands.old.slots hands.old.table (D.state disk.old)
         → OnOk result (IsSettled f hands.new.slots hands.new.table.now end (D.state disk.new).file
         (D.state disk.new).may_leave) }
-    ensures left { (f : Flight) (end : ℕ) → IsTrue (D.state disk.old).tells → f.base + end ≡ len
+    ensures left { (f : FlushFrame) (end : ℕ) → IsTrue (D.state disk.old).tells → f.base + end ≡ len
         → IsSaveable f hands.old.slots hands.old.table.now header.now
         → CanCut f hands.old.slots hands.old.table.now header.now end
-        → Flies f hands.old.slots hands.old.table (D.state disk.old)
+        → IsMidFlush f hands.old.slots hands.old.table (D.state disk.old)
         → LeavesOldOrNew f (hands.old.slots.sequence + 1) (D.state disk.old) (D.state disk.new) }
     ensures pair { OnOk result (hands.new.slots ≡ next_in_use hands.old.slots) }
     ensures same_pair { OnErr result ((hands.old.slots.sequence ≤ hands.new.slots.sequence)) }
@@ -64,12 +64,12 @@ pub(crate) fn settle_held<D: Disk, const C: usize>(
     ensures keeps { KeepsOn (D.state disk.old) (D.state disk.new) (parts_of hands.old) (parts_of hands.new) }
     ensures ledger { hands.new.ledger ≡ hands.old.ledger }
 {
-    save_held(disk, header, hands)?;
+    save_mid_flush(disk, header, hands)?;
     disk.set_len(len)?;
     disk.sync()
 }
 
-/// Lays the layout out anew for what was laid, saves it as a settled table, cuts the file to where the
+/// MidLay the layout out anew for what was laid, saves it as a settled table, cuts the file to where the
 /// layout ends, and syncs.
 pub(crate) fn settle<D: Disk, const C: usize>(
     disk: &mut D,
@@ -79,13 +79,13 @@ pub(crate) fn settle<D: Disk, const C: usize>(
     requires ready { IsTrue (D.state disk.old).is_ready }
     requires buffer { vec_len hands.old.buf ≡ 65536 }
     requires fits { C ≤ 32 }
-    requires start { (f : Flight) × Lays C f (caps_of hands.old.layout) (grid_of hands.old.layout)
+    requires start { (f : FlushFrame) × MidLay C f (caps_of hands.old.layout) (grid_of hands.old.layout)
         (parts_of hands.old) (phase_now settled.now.course hands.old.table) (D.state disk.old) }
     requires settled { HasSettled C settled.now (items_now settled.now.course hands.old.table) }
-    ensures ends { (f : Flight) → Lays C f (caps_of hands.old.layout) (grid_of hands.old.layout)
+    ensures ends { (f : FlushFrame) → MidLay C f (caps_of hands.old.layout) (grid_of hands.old.layout)
         (parts_of hands.old) (phase_now settled.now.course hands.old.table) (D.state disk.old)
         → OnOk result (FlushEnds C f (parts_of hands.new) (D.state disk.new)) }
-    ensures left { (f : Flight) → Lays C f (caps_of hands.old.layout) (grid_of hands.old.layout)
+    ensures left { (f : FlushFrame) → MidLay C f (caps_of hands.old.layout) (grid_of hands.old.layout)
         (parts_of hands.old) (phase_now settled.now.course hands.old.table) (D.state disk.old)
         → IsTrue (D.state disk.old).tells
         → LeavesOldOrNew f (hands.old.slots.sequence + 1) (D.state disk.old) (D.state disk.new) }
@@ -104,6 +104,6 @@ pub(crate) fn settle<D: Disk, const C: usize>(
     hands.layout.settle(numbers.boundary, &settled.volumes());
     let header = settled_header(&hands.layout);
     let len = hands.base + hands.layout.end();
-    settle_held(disk, &header, len, hands)?;
+    settle_mid_flush(disk, &header, len, hands)?;
     Ok(())
 }

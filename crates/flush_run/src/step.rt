@@ -11,19 +11,19 @@ ghost use Rattle.size_class.specs.Classes.{class_of};
 ghost use Rattle.size_class.specs.Rows.{cells_of};
 ghost use Rattle.extent_table.specs.Extents.{IsTable, records_of};
 ghost use Rattle.data_area.specs.Pieces.{pieces};
-ghost use Rattle.spot_terms.specs.Held.{IsFreed, is_at};
-ghost use Rattle.plan_terms.specs.declared.item.Move.{Move as AnyMove};
-ghost use Rattle.flush_run.specs.Flights.{Flies, Flight, InFlight, IsFreeSpace, LeavesOldOrNew};
+ghost use Rattle.placement_model.specs.Held.{IsFreed, is_at};
+ghost use Rattle.flush_model.specs.declared.item.Move.{Move as AnyMove};
+ghost use Rattle.flush_run.specs.FlushFrames.{IsMidFlush, FlushFrame, MidFlush, IsFreeSpace, LeavesOldOrNew};
 ghost use Rattle.flush_run.specs.Saves.{IsSaveable};
 ghost use Rattle.flush_run.specs.Moves.{CanMove, FreesTarget, HasMoved, HasMover};
 ghost use Rattle.flush_run.specs.Parts.{KeepsOn, parts_of};
 
 use crate::Hands;
-use crate::save::save_held;
+use crate::save::save_mid_flush;
 use data_area::move_object;
 use disk_face::{Disk, DiskFault};
 use extent_table::Table;
-use plan_terms::Move;
+use flush_model::Move;
 use slot_codec::Header;
 use span_math::Span;
 
@@ -47,13 +47,13 @@ pub(crate) fn free_target<D: Disk, const C: usize>(
         → slot_in_use (D.state disk.old).file ≡ Ok hands.old.slots }
     ensures answer { IfOk result (λ saved. FreesTarget saved target hands.old.slots hands.new.slots
         hands.old.table hands.new.table hands.old.guard.spans hands.new.guard.spans) }
-    ensures flies { (f : Flight) → IsTrue (D.state disk.old).tells
+    ensures flies { (f : FlushFrame) → IsTrue (D.state disk.old).tells
         → IsSaveable f hands.old.slots hands.old.table.now header.now
-        → Flies f hands.old.slots hands.old.table (D.state disk.old)
-        → OnOk result (Flies f hands.new.slots hands.new.table (D.state disk.new)) }
-    ensures left { (f : Flight) → IsTrue (D.state disk.old).tells
+        → IsMidFlush f hands.old.slots hands.old.table (D.state disk.old)
+        → OnOk result (IsMidFlush f hands.new.slots hands.new.table (D.state disk.new)) }
+    ensures left { (f : FlushFrame) → IsTrue (D.state disk.old).tells
         → IsSaveable f hands.old.slots hands.old.table.now header.now
-        → Flies f hands.old.slots hands.old.table (D.state disk.old)
+        → IsMidFlush f hands.old.slots hands.old.table (D.state disk.old)
         → LeavesOldOrNew f (hands.old.slots.sequence + 1) (D.state disk.old) (D.state disk.new) }
     ensures most { (D.state disk.new).turn
         ≤ (D.state disk.old).turn + save_calls (length (records_of hands.old.table.now)) }
@@ -68,7 +68,7 @@ pub(crate) fn free_target<D: Disk, const C: usize>(
     if !hands.guard.touches(target) {
         return Ok(false);
     }
-    save_held(disk, header, hands)?;
+    save_mid_flush(disk, header, hands)?;
     Ok(true)
 }
 
@@ -93,13 +93,13 @@ pub(crate) fn move_one<D: Disk, const C: usize>(
     requires room { hands.old.table.names ≤ hands.old.guard.room }
     ensures moved { OnOk result (HasMoved mv.now hands.old.table hands.new.table hands.old.guard.spans
         hands.new.guard.spans) }
-    ensures flies { (f : Flight) (u : InUse) → IsTrue (D.state disk.old).tells → f.base ≡ hands.old.base
+    ensures flies { (f : FlushFrame) (u : InUse) → IsTrue (D.state disk.old).tells → f.base ≡ hands.old.base
         → IsFreeSpace hands.old.table.now hands.old.table.kept mv.now.to mv.now.size
-        → mv.now.to + mv.now.size ≤ f.reach → Flies f u hands.old.table (D.state disk.old)
-        → OnOk result (Flies f u hands.new.table (D.state disk.new)) }
-    ensures left { (f : Flight) (u : InUse) → IsTrue (D.state disk.old).tells → f.base ≡ hands.old.base
+        → mv.now.to + mv.now.size ≤ f.reach → IsMidFlush f u hands.old.table (D.state disk.old)
+        → OnOk result (IsMidFlush f u hands.new.table (D.state disk.new)) }
+    ensures left { (f : FlushFrame) (u : InUse) → IsTrue (D.state disk.old).tells → f.base ≡ hands.old.base
         → IsFreeSpace hands.old.table.now hands.old.table.kept mv.now.to mv.now.size
-        → Flies f u hands.old.table (D.state disk.old)
+        → IsMidFlush f u hands.old.table (D.state disk.old)
         → LeavesOldOrNew f u.sequence (D.state disk.old) (D.state disk.new) }
     ensures most { (D.state disk.new).turn ≤ (D.state disk.old).turn + pieces 65536 mv.now.size }
     ensures ledger { OnOk result (cells_of hands.new.ledger.moved

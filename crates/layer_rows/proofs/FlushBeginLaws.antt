@@ -1,16 +1,16 @@
 -- That a flush may begin with items, as it is checked one item after another.
 use Rattle.std.specs.Prelude.{◌≡◌, ◌⊎◌, ℕ, ◌+◌, ◌<◌, ◌≤◌, List, length, slice_get, Some, IsTrue, Contains, refl, ◌^◌, ◌≢◌, ◌-◌, take}
 use Rattle.std.proofs.Common.{arith, sym, ◌∙◌, ap, subst, inl, inr}
-use Rattle.plan_terms.specs.declared.item.Item.{Item}
-use Rattle.plan_terms.specs.Phases.{CanFlush}
-use Rattle.plan_terms.specs.Plans.{IsInBuffer, ItemsApart, stands_in_payload, numbers_of}
+use Rattle.flush_model.specs.declared.item.Item.{Item}
+use Rattle.flush_model.specs.Phases.{CanFlush}
+use Rattle.flush_model.specs.Plans.{IsInBuffer, ItemsApart, stands_in_payload, numbers_of}
 use Rattle.std.proofs.lemmas.Bool.{cases_order}
 use Rattle.size_class.specs.Classes.{class_of, width}
-use Rattle.plan_terms.proofs.ListLaws.{got_at}
+use Rattle.flush_model.proofs.ListLaws.{got_at}
 use Rattle.std.proofs.lemmas.Option.{same_Some, slice_get_within, get_or_from_slice_get, slice_get-get_or}
-use Rattle.plan_terms.specs.Begins.{Begins}
-use Rattle.plan_terms.specs.declared.item.Numbers.{Numbers}
-use Rattle.plan_terms.proofs.NumbersLaws.{reach_is}
+use Rattle.flush_model.specs.Begins.{Begins}
+use Rattle.flush_model.specs.declared.item.Numbers.{Numbers}
+use Rattle.flush_model.proofs.NumbersLaws.{reach_is}
 use Rattle.std.proofs.lemmas.List.{get_or-take, length-take}
 
 -- an item has the class of its size, from class b on, and stands in a segment for it

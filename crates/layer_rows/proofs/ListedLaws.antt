@@ -5,13 +5,13 @@ use Rattle.std.proofs.Common.{arith, sym, ◌∙◌, ap, subst, inl, inr}
 use Rattle.std.proofs.lemmas.Bool.{cases_order, cond-true, le-leb}
 use Rattle.std.proofs.lemmas.List.Sorted.{IsPermutation-map, IsPermutation-trans}
 use Rattle.std.proofs.lemmas.Option.{slice_get-get_or}
-use Rattle.plan_terms.specs.declared.item.Item.{Item}
-use Rattle.plan_terms.specs.declared.item.Move.{Move}
-use Rattle.plan_terms.specs.declared.item.Numbers.{Numbers}
-use Rattle.plan_terms.specs.Plans.{moved_item, relocated}
-use Rattle.plan_terms.specs.Phases.{AreItems}
-use Rattle.plan_terms.proofs.ListLaws.{contains_here, contains_later, got_at}
-use Rattle.plan_terms.proofs.SortLaws.{items_permuted, rising_from_sorted}
+use Rattle.flush_model.specs.declared.item.Item.{Item}
+use Rattle.flush_model.specs.declared.item.Move.{Move}
+use Rattle.flush_model.specs.declared.item.Numbers.{Numbers}
+use Rattle.flush_model.specs.Plans.{moved_item, relocated}
+use Rattle.flush_model.specs.Phases.{AreItems}
+use Rattle.flush_model.proofs.ListLaws.{contains_here, contains_later, got_at}
+use Rattle.flush_model.proofs.SortLaws.{items_permuted, rising_from_sorted}
 use Rattle.flush_plan.specs.Shelves.{from_place, IsOnShelf, IsRank, IsShelf}
 use Rattle.flush_plan.specs.Lifts.{Lift, Lifts}
 use Rattle.flush_plan.specs.Packs.{Pack, Packs}

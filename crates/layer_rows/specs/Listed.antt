@@ -2,7 +2,7 @@
 -- that the flush began with.
 use Rattle.std.specs.Prelude.{◌≡◌, ℕ, List, IsPermutation}
 use Rattle.std.specs.List.Sorted.{IsNonDecreasingBy}
-use Rattle.plan_terms.specs.declared.item.Item.{Item}
+use Rattle.flush_model.specs.declared.item.Item.{Item}
 use Rattle.flush_plan.specs.Lifts.{KeepsLifting, Lift}
 use Rattle.flush_plan.specs.Packs.{KeepsPacking, Pack}
 use Rattle.flush_plan.specs.Lays.{KeepsLaying, Lay}

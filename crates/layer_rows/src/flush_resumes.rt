@@ -2,10 +2,10 @@
 ghost use Rattle.std.specs.Prelude.{◌≡◌, List, IfSome, IsPermutation};
 ghost use Rattle.std.specs.List.Sorted.{IsNonDecreasingBy};
 ghost use Rattle.segment_layout.specs.Layouts.{divisor_of};
-ghost use Rattle.plan_terms.specs.declared.item.Item.{Item as AnyItem};
-ghost use Rattle.plan_terms.specs.Plans.{AreBelow, AreSmall};
-ghost use Rattle.plan_terms.specs.Phases.{IsPacking};
-ghost use Rattle.flush_plan.specs.Shelves.{Course, phase_on};
+ghost use Rattle.flush_model.specs.declared.item.Item.{Item as AnyItem};
+ghost use Rattle.flush_model.specs.Plans.{AreBelow, AreSmall};
+ghost use Rattle.flush_model.specs.Phases.{IsPacking};
+ghost use Rattle.flush_plan.specs.Shelves.{PlanFrame, phase_on};
 ghost use Rattle.layer_rows.specs.Listed.{LaysList, PacksList};
 
 use crate::list_shelf::ListShelf;
@@ -43,7 +43,8 @@ fn resumed<const C: usize>(
     numbers: Numbers,
     shelf: &ListShelf,
 ) -> Option<Packing<C>>
-    requires { (v : Course) × (v.k ≡ divisor_of layout.now) × (v.numbers ≡ numbers) × (items : List AnyItem)
+    requires { (v : PlanFrame) × (v.k ≡ divisor_of layout.now) × (v.numbers ≡ numbers)
+        × (items : List AnyItem)
         × IsPacking (phase_on v items) × AreBelow C items × AreSmall v.numbers items
         × IsPermutation items shelf.now.items.items
         × IsNonDecreasingBy (λ (it : AnyItem). it.place) shelf.now.items.items }

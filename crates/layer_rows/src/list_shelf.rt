@@ -1,10 +1,10 @@
 //! A shelf that is a list.
 ghost use Rattle.std.specs.Prelude.{◌<◌, ◌≤◌, Contains, IsPermutation};
 ghost use Rattle.std.specs.List.Sorted.{IsNonDecreasingBy};
-ghost use Rattle.plan_terms.specs.declared.item.Item.{Item as AnyItem};
-ghost use Rattle.plan_terms.specs.declared.item.Numbers.{Numbers as AnyNumbers};
-ghost use Rattle.plan_terms.specs.Plans.{mover, relocated};
-ghost use Rattle.plan_terms.specs.Phases.{AreItems};
+ghost use Rattle.flush_model.specs.declared.item.Item.{Item as AnyItem};
+ghost use Rattle.flush_model.specs.declared.item.Numbers.{Numbers as AnyNumbers};
+ghost use Rattle.flush_model.specs.Plans.{mover, relocated};
+ghost use Rattle.flush_model.specs.Phases.{AreItems};
 ghost use Rattle.flush_plan.specs.Shelves.{IsRank, IsShelf};
 
 use flush_plan::{Item, Move, Shelf};

@@ -1,7 +1,7 @@
 //! A plain plan of a flush in three passes over its items.
 ghost use Rattle.std.specs.Prelude.{◌<◌, ◌≤◌};
 
-use plan_terms::{Item, Move, Numbers};
+use flush_model::{Item, Move, Numbers};
 use segment_layout::Layout;
 use size_class::{Row, class_of};
 use std::alloc::AllocError;

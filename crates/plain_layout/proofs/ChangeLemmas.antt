@@ -6,10 +6,10 @@ use Rattle.std.specs.FinSet as set
 use Rattle.std.specs.Option.{option_map}
 use Rattle.std.proofs.Common.{ap, sym, ◌∙◌, inl, inr}
 use Rattle.std.proofs.lemmas.Bool.{cases_Bool, cond-true, cond-false}
-use Rattle.store_terms.specs.Maps.{Map, name_cmp}
-use Rattle.store_terms.specs.Requests.{Change, changed}
-use Rattle.store_terms.specs.Weights.{same_name}
-use Rattle.store_terms.proofs.MapLaws.{name_order, names_differ, same_name-is}
+use Rattle.map_model.specs.Maps.{Map, name_cmp}
+use Rattle.map_model.specs.Requests.{Change, changed}
+use Rattle.map_model.specs.Weights.{same_name}
+use Rattle.map_model.proofs.MapLaws.{name_order, names_differ, same_name-is}
 use Rattle.segment_layout.specs.Books as books
 use Rattle.segment_layout.specs.Books.{Charged, Reshaped, below_class, buffered_after, charge_all, charge_change, charge_one, found_room, is_below_class, is_new_buffered, item_of, new_item, next_book, old_item, reshaped, volumes, volumes_of_sizes}
 use Rattle.segment_layout.proofs.ChargingLaws.{charge_all-append, last_found, tried_one}
@@ -99,7 +99,8 @@ module _ (k : ℕ) (caps : List ℕ) (grid : List (List ℕ)) (old : List ℕ) w
 
 -- the names before any flush
 stands_is : (names : set.FinSet name_cmp) (name q : List ℕ) (found : Bool)
-    → set.contains (names_after names name found) q ≡ (if same_name q name then found else set.contains names q)
+    → set.contains (names_after names name found) q
+    ≡ (if same_name q name then found else set.contains names q)
 stands_is names name q found =
     elim (cases_Bool (same_name q name)) [
       | inl is ↦ ap (set.contains (names_after names name found)) (same_name-is q name is)

@@ -5,9 +5,9 @@ use Rattle.std.proofs.Common.{arith, ap, sym, ◌∙◌, inl, inr, subst}
 use Rattle.std.proofs.lemmas.Bool.{cases_Bool, cond-true, cond-false}
 use Rattle.byte_ranges.specs.Ranges.{bytes_at}
 use Rattle.slot_codec.specs.declared.codec.Record.{Record}
-use Rattle.store_terms.specs.Maps.{name_cmp}
-use Rattle.store_terms.specs.Weights.{same_name}
-use Rattle.store_terms.proofs.MapLaws.{name_order}
+use Rattle.map_model.specs.Maps.{name_cmp}
+use Rattle.map_model.specs.Weights.{same_name}
+use Rattle.map_model.proofs.MapLaws.{name_order}
 use Rattle.table_rules.specs.Tables.{no_record}
 use Rattle.plain_layout.specs.Objects.{cut, object_of, spot_in}
 
@@ -23,10 +23,12 @@ cut_in base file [] name = refl
 cut_in base file (r ∷ rs) name =
     let object = bytes_at file (base + r.place) r.size in
     elim (cases_Bool (same_name name r.name)) [
-      | inl is ↦ ap (cut base file) (cond-true (same_name name r.name) (Some (r.place, r.size)) (spot_in rs name) is)
+      | inl is ↦ ap (cut base file) (cond-true (same_name name r.name) (Some (r.place, r.size))
+          (spot_in rs name) is)
           ∙ sym (cond-true (same_name name r.name) (Some object) (object_in base file rs name) is)
       | inr other ↦
-          ap (cut base file) (cond-false (same_name name r.name) (Some (r.place, r.size)) (spot_in rs name) other)
+          ap (cut base file) (cond-false (same_name name r.name) (Some (r.place, r.size))
+          (spot_in rs name) other)
           ∙ cut_in base file rs name
           ∙ sym (cond-false (same_name name r.name) (Some object) (object_in base file rs name) other)
     ]

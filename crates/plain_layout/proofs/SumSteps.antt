@@ -11,7 +11,7 @@ use Rattle.size_class.proofs.ClassLaws.{power_next}
 use Rattle.slot_codec.specs.declared.codec.Record.{Record}
 use Rattle.segment_layout.specs.Shapes.{buffer_of, end_of, start_of}
 use Rattle.segment_layout.proofs.ShapeLaws.{end_of-next, buffer_of-zero}
-use Rattle.store_terms.proofs.MapLaws.{sum_by-map}
+use Rattle.map_model.proofs.MapLaws.{sum_by-map}
 use Rattle.segment_layout.specs.Books.{volumes_of_sizes}
 use Rattle.segment_layout.proofs.BalanceLaws.{bytes_in}
 use Rattle.segment_layout.proofs.BookLaws.{sum_by-filter, volumes_of_sizes-index}

@@ -1,8 +1,8 @@
 -- What a change does to a book: its numbers, and which names stand in buffers after it.
 use Rattle.std.specs.Prelude.{◌≡◌, ℕ, nat_lt, Bool, false, ◌&&◌, ◌||◌, if◌then◌else◌, List, [], fold, Option, Some, None}
 use Rattle.size_class.specs.Classes.{class_of}
-use Rattle.store_terms.specs.Maps.{Map}
-use Rattle.store_terms.specs.Requests.{Change}
+use Rattle.map_model.specs.Maps.{Map}
+use Rattle.map_model.specs.Requests.{Change}
 use Rattle.segment_layout.specs.Books.{Book, Charged, charge_change, charge_one, next_book, some_size}
 use Rattle.plain_layout.specs.declared.change.Next.{Next}
 

@@ -3,7 +3,7 @@ use Rattle.std.specs.Prelude.{ℕ, ◌+◌, List, map, Option, option_map}
 use Rattle.std.specs.FinMap as fin
 use Rattle.byte_ranges.specs.Ranges.{bytes_at}
 use Rattle.slot_codec.specs.declared.codec.Record.{Record}
-use Rattle.store_terms.specs.Maps.{name_cmp}
+use Rattle.map_model.specs.Maps.{name_cmp}
 use Rattle.table_rules.specs.Tables.{map_of}
 
 -- the bytes at a place and of a size, where there are such

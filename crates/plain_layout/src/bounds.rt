@@ -1,7 +1,7 @@
 //! The two bounds on the length of the data part, as tests on numbers.
 ghost use Rattle.std.specs.Prelude.{◌≡◌, ◌≤◌, ◌↔◌, ◌*◌, ◌^◌, IsTrue};
 ghost use Rattle.segment_layout.specs.Bounds.{Loose, Tight};
-ghost use Rattle.store_terms.specs.Maps.{Map, largest, volume};
+ghost use Rattle.map_model.specs.Maps.{Map, largest, volume};
 
 /// What a bound sees of a map, in bytes.
 #[derive(Clone, Copy, Debug, PartialEq, Eq)]

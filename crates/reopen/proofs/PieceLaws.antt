@@ -12,8 +12,8 @@ use Rattle.slot_codec.specs.Choice.{read_records}
 use Rattle.slot_pair.specs.Finding.{Refuses}
 use Rattle.slot_pair.specs.declared.find.SlotFault.{SlotFault}
 use Rattle.extent_table.specs.Extents.{Extents, Spots, records_of}
-use Rattle.spot_terms.specs.Orders.{SetSoFar}
-use Rattle.spot_terms.proofs.OrderLaws.{set_none}
+use Rattle.placement_model.specs.Orders.{SetSoFar}
+use Rattle.placement_model.proofs.OrderLaws.{set_none}
 use Rattle.reopen.specs.Records.{ReadThrough, all_records}
 use Rattle.reopen.proofs.RecordLaws.{all_from_none, all_to_none}
 

@@ -17,8 +17,8 @@ use Rattle.slot_codec.specs.declared.codec.CodecFault.TheVariants as codec
 use Rattle.slot_pair.specs.Finding.{Refuses}
 use Rattle.slot_pair.specs.declared.find.SlotFault.TheVariants as fault
 use Rattle.extent_table.specs.Extents.{Extents, Spots, records_of}
-use Rattle.spot_terms.specs.Orders.{SetSoFar, spot_of}
-use Rattle.spot_terms.proofs.OrderLaws.{set_more, set_none}
+use Rattle.placement_model.specs.Orders.{SetSoFar, spot_of}
+use Rattle.placement_model.proofs.OrderLaws.{set_more, set_none}
 use Rattle.reopen.specs.Records.{SetThrough, all_records}
 use Rattle.reopen.proofs.RefusalLaws.{refuses_on}
 

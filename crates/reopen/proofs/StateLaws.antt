@@ -11,7 +11,7 @@ use Rattle.table_rules.specs.Opening.{placed_table}
 use Rattle.table_rules.specs.Rules.{FirstBroken, IsValid}
 use Rattle.table_check.specs.declared.fault.TableFault.{TableFault}
 use Rattle.extent_table.specs.Extents.{records_of}
-use Rattle.spot_terms.specs.Laid.{laid}
+use Rattle.placement_model.specs.Laid.{laid}
 use Rattle.reopen.specs.Loads.{IsLoadedFrom, KeepsLoaded}
 use Rattle.reopen.specs.Refusals.{BreaksFirst}
 use Rattle.reopen.specs.Tables.{IsRead, IsReadFrom}

@@ -10,7 +10,7 @@ use Rattle.slot_codec.specs.declared.codec.Record.{Record}
 use Rattle.slot_pair.specs.Finding.{Refuses}
 use Rattle.slot_pair.specs.declared.find.SlotFault.{SlotFault}
 use Rattle.extent_table.specs.Extents.{Spots}
-use Rattle.spot_terms.specs.Laid.{laid}
+use Rattle.placement_model.specs.Laid.{laid}
 use Rattle.table_check.specs.Checked.{checked, of_kind}
 use Rattle.reopen.proofs.RefusalLaws.{refuses_on}
 

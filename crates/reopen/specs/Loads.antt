@@ -13,8 +13,8 @@ use Rattle.table_rules.specs.Opening.{OpensBy, placed_table}
 use Rattle.table_rules.specs.Rules.{IsValid}
 use Rattle.table_rules.specs.Tables.{book_of}
 use Rattle.extent_table.specs.Extents.{IsTable, records_of}
-use Rattle.spot_terms.specs.Laid.{laid}
-use Rattle.spot_terms.specs.Reads.{read_at}
+use Rattle.placement_model.specs.Laid.{laid}
+use Rattle.placement_model.specs.Reads.{read_at}
 use Rattle.reopen.specs.declared.state.Loaded.{Loaded}
 use Rattle.reopen.specs.declared.state.State.{State}
 use Rattle.reopen.specs.declared.state.State.TheVariants as state

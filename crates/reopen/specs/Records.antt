@@ -9,7 +9,7 @@ use Rattle.slot_codec.specs.Choice.{SlotRefusal, read_records}
 use Rattle.slot_codec.specs.Spelling.{record_len}
 use Rattle.slot_codec.specs.declared.codec.Record.{Record}
 use Rattle.extent_table.specs.Extents.{Extents, Spots, records_of}
-use Rattle.spot_terms.specs.Orders.{SetSoFar}
+use Rattle.placement_model.specs.Orders.{SetSoFar}
 
 -- the records of spots that were set, then n records of a text that stands at a position, behind a name
 unfoldable pub all_records : Spots → ℕ → List ℕ → ℕ → Option (List ℕ) → Result (List Record) SlotRefusal

@@ -7,7 +7,7 @@ ghost use Rattle.slot_codec.specs.Choice.{read_records, record_after};
 ghost use Rattle.slot_codec.specs.Names.{IsName};
 ghost use Rattle.slot_pair.specs.Finding.{HasDiskCause, Refuses};
 ghost use Rattle.extent_table.specs.Extents.{records_of};
-ghost use Rattle.spot_terms.specs.Orders.{SetSoFar};
+ghost use Rattle.placement_model.specs.Orders.{SetSoFar};
 ghost use Rattle.reopen.specs.Records.{SetThrough, all_records};
 
 use disk_face::{Disk, read};

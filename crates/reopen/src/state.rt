@@ -7,7 +7,7 @@ ghost use Rattle.slot_codec.specs.Readable.{IsSuperBlock};
 ghost use Rattle.slot_pair.specs.Finding.{HasDiskCause, in_use_of};
 ghost use Rattle.segment_layout.specs.Layouts.{caps_of, divisor_of, grid_of};
 ghost use Rattle.table_rules.specs.Rules.{FirstBroken, IsValid};
-ghost use Rattle.spot_terms.specs.Laid.{laid};
+ghost use Rattle.placement_model.specs.Laid.{laid};
 ghost use Rattle.reopen.specs.Loads.{IsStateOf, KeepsState, kind_of, loaded_of};
 ghost use Rattle.reopen.specs.Refusals.{RefusesToOpen};
 

@@ -7,10 +7,10 @@ use Rattle.std.specs.FinMap as fin
 use Rattle.std.specs.FinSet as set
 use Rattle.size_class.specs.Classes.{width}
 use Rattle.size_class.proofs.ClassLaws.{class_below}
-use Rattle.store_terms.specs.Maps.{Map}
-use Rattle.store_terms.specs.Requests.{Change, changed}
-use Rattle.store_terms.specs.Weights.{weights, weight, same_name}
-use Rattle.store_terms.proofs.MapLaws.{weights-remove, same_name-itself, name_order}
+use Rattle.map_model.specs.Maps.{Map}
+use Rattle.map_model.specs.Requests.{Change, changed}
+use Rattle.map_model.specs.Weights.{weights, weight, same_name}
+use Rattle.map_model.proofs.MapLaws.{weights-remove, same_name-itself, name_order}
 use Rattle.segment_layout.specs.Shapes.{boundary_of, settled_caps, settled_grid}
 use Rattle.segment_layout.specs.Books.{Book, Charged, charge_one, charge_all, charge_change, item_of, old_item, new_item, found_room, is_new_buffered, buffered_after, below_class, is_quiet, trigger, next_book, volumes}
 use Rattle.segment_layout.specs.Balance.{IsBalanced}

@@ -5,8 +5,8 @@ use Rattle.std.specs.FinMap as fin
 use Rattle.std.specs.FinSet as set
 use Rattle.byte_ranges.specs.Lists.{below}
 use Rattle.size_class.specs.Classes.{width, class_of, zero_row, zero_grid}
-use Rattle.store_terms.specs.Maps.{Map, name_cmp}
-use Rattle.store_terms.specs.Requests.{Change, changed}
+use Rattle.map_model.specs.Maps.{Map, name_cmp}
+use Rattle.map_model.specs.Requests.{Change, changed}
 use Rattle.segment_layout.specs.Shapes.{end_of, buffer_for, with_entry, boundary_of, settled_caps, settled_grid}
 
 pub record Book : Type 0 where

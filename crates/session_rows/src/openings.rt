@@ -108,7 +108,8 @@ const TWO: [Change; 6] = [
 
 const TWO_OBJECTS: [Row; 4] = rows! {
         "side by side in class 6": 19825, [(152, 200), (8696, 100), (8704, 100)] => None;
-        "8: two objects share bytes": 19825, [(152, 200), (8696, 50), (8704, 100)] => Some(Refusal::Rule(8, 1));
+        "8: two objects share bytes": 19825, [(152, 200), (8696, 50),
+            (8704, 100)] => Some(Refusal::Rule(8, 1));
         // Class 7, whose capacity stands at 160, has a buffer of 22 bytes.
         "in class 6 and class 7": 19936, [(160, 200), (8696, 111), (8704, 200)] => None;
         "10: an entry of 1 byte of class 7": 19936, [(160, 200), (8696, 111), (8704, 200), (2208, 1)]

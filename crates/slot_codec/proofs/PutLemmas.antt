@@ -17,4 +17,5 @@ record_grown name text place size one two all named is full a b c =
     let whole : 0 + length text ≡ 64 = omega (arith, long) in
     let front : take 64 one ≡ name_bytes name = ap (λ k. take k one) (sym whole) ∙ a ∙ is in
     sym (take_all 80 all (omega (arith, full)))
-    ∙ grown (name_bytes name ++ place) size two all 72 8 (grown (name_bytes name) place one two 64 8 front b) c
+    ∙ grown (name_bytes name ++ place) size two all 72 8 (grown
+    (name_bytes name) place one two 64 8 front b) c

@@ -19,7 +19,7 @@ use Rattle.slot_codec.proofs.StepLaws.{from_ok}
 use Rattle.slot_codec.proofs.SuperBlockLaws.{superblock_read}
 use Rattle.slot_codec.specs.declared.codec.SuperBlock.{SuperBlock}
 use Rattle.slot_codec.specs.declared.codec.Header.{Header}
-use Rattle.slot_pair.specs.Formats.{HasFirstTable, HasOneMore, IsNoStore, IsNoneOrFirst, IsUnfinished, block_for, first_bytes, first_header, first_in_use, first_slot, first_table, formatted_file, unsealed_file, with_first_slot}
+use Rattle.slot_pair.specs.Formats.{HasFirstTable, HasOneMore, IsNoStore, IsNoStoreOrEmpty, IsUnfinished, block_for, first_bytes, first_header, first_in_use, first_slot, first_table, formatted_file, unsealed_file, with_first_slot}
 
 -- a file that is no store, by what a store has
 no_store : (file : List ℕ) → ((c : Chosen) → chosen file ≡ Ok c → ⊥) → IsNoStore file
@@ -325,7 +325,7 @@ unsealed_begins k names i low =
 -- without the format gate it is no store, and with it the store that was just formatted
 one_byte_more : (k names : ℕ) (file : List ℕ) (open_gate : Bool) → IsSuperBlock (block_for k names)
     → SameBelow (head_len names - 1) (unsealed_file k names) file → length file ≡ head_len names
-    → is_open file (format_gate_at names) ≡ open_gate → IsNoneOrFirst k names file
+    → is_open file (format_gate_at names) ≡ open_gate → IsNoStoreOrEmpty k names file
 unfolding formatted_file
 one_byte_more k names file true fits same len gate =
     let unsealed = unsealed_file k names in
@@ -357,11 +357,11 @@ one_byte_more k names file false fits same len gate =
     cc (sym gate ∙ opened)))
 
 pub sealing : (k names : ℕ) (file : List ℕ) → IsSuperBlock (block_for k names)
-    → HasOneMore (unsealed_file k names) file → IsNoneOrFirst k names file
+    → HasOneMore (unsealed_file k names) file → IsNoStoreOrEmpty k names file
 sealing k names file fits more =
     let same : SameBelow (head_len names - 1) (unsealed_file k names) file =
     λ i low. more.same i (omega (arith, low, length-unsealed k names)) in
-    elim more.either as (λ x. IsNoneOrFirst k names file) [
+    elim more.either as (λ x. IsNoStoreOrEmpty k names file) [
       | inl shorter ↦
           inl (unfinished_is_none (block_for k names) file fits (record {
             low = omega (arith, shorter, length-unsealed k names, length-superblock (block_for k names));
@@ -387,16 +387,16 @@ unfolding formatted_file
 formatted_is k names before file a b = b ∙ ap (λ xs. xs ++ gate_open ∷ []) a
 
 pub short_is_none_or_first : (k names : ℕ) (file : List ℕ) → length file ≤ superblock_len
-    → IsNoneOrFirst k names file
+    → IsNoStoreOrEmpty k names file
 short_is_none_or_first k names file low = inl (short_is_none file low)
 
 pub unfinished_is_none_or_first : (k names : ℕ) (front file : List ℕ) → IsSuperBlock (block_for k names)
     → front ≡ superblock_bytes (block_for k names) → IsUnfinished names front file
-    → IsNoneOrFirst k names file
+    → IsNoStoreOrEmpty k names file
 unfinished_is_none_or_first k names front file fits is u =
     inl (unfinished_is_none (block_for k names) file fits (subst (λ xs. IsUnfinished names xs file) is u))
 
 pub sealing_from : (k names : ℕ) (before file : List ℕ) → IsSuperBlock (block_for k names)
-    → before ≡ unsealed_file k names → HasOneMore before file → IsNoneOrFirst k names file
+    → before ≡ unsealed_file k names → HasOneMore before file → IsNoStoreOrEmpty k names file
 sealing_from k names before file fits is more =
     sealing k names file fits (subst (λ xs. HasOneMore xs file) is more)

@@ -14,7 +14,7 @@ use Rattle.slot_codec.specs.Spelling.{gate_at, head_len, header_len, record_len,
 use Rattle.slot_codec.specs.declared.codec.Header.{Header}
 use Rattle.slot_codec.specs.declared.codec.Record.{Record}
 use Rattle.slot_pair.proofs.SaveLaws.{IsBeside, IsFilled, alike-refl, beside_data, beside_keeps, body_beside, closing_beside, closing_data, closing_keeps, filled_in_use, filled_saved, gate_filled}
-use Rattle.slot_pair.specs.Saves.{HasEither, HasTable, IsSaved, IsWhole, LeavesEither, SaveLeaves, closing_at, closing_len, next_chosen, next_header, next_in_use}
+use Rattle.slot_pair.specs.Saves.{HasOldOrNewTable, HasTable, IsSaved, IsWhole, LeavesEither, SaveLeaves, closing_at, closing_len, next_chosen, next_header, next_in_use}
 use Rattle.disk_face.specs.Writes.{IsRewritten, WritesWithin}
 
 -- what is known as a save begins
@@ -46,7 +46,8 @@ opening_either : {u : InUse} {old : Chosen} {h : Header} {rs : List Record} {a :
     (middle image : List ℕ) → Begins u h rs a → chosen a.file ≡ Ok old → u.sequence + 1 < worn_from h.kind
     → IsBeside u a.file middle
     → HasTable (slot_at u.block.names (1 - u.slot)) (next_header u h (length rs)) rs middle
-    → SameOutside (gate_at u.block.names (1 - u.slot)) 1 middle image → HasEither u old h rs a.file image
+    → SameOutside (gate_at u.block.names (1 - u.slot)) 1 middle image
+    → HasOldOrNewTable u old h rs a.file image
 opening_either {u} {old} {h} {rs} {a} middle image b is fresh beside table same =
     by_gate (is_open image (gate_at u.block.names (1 - u.slot))) refl
   where
@@ -55,7 +56,7 @@ opening_either {u} {old} {h} {rs} {a} middle image b is fresh beside table same 
         same
 
     by_gate : (x : Bool) → is_open image (gate_at u.block.names (1 - u.slot)) ≡ x
-        → HasEither u old h rs a.file image
+        → HasOldOrNewTable u old h rs a.file image
     by_gate true gate = inr (filled_saved u h rs a.file image b.in_use b.names (header_fits b fresh) b.roll
         b.ranges filled (filled_in_use u h rs a.file image b.in_use (omega (arith, b.sequence)) filled gate))
     by_gate false gate = inl (beside_keeps u old a.file image b.in_use is
@@ -63,7 +64,8 @@ opening_either {u} {old} {h} {rs} {a} middle image b is fresh beside table same 
 
 -- beside a table that a save may leave, the data part of the content
 with_data : (u : InUse) (old : Chosen) (h : Header) (rs : List Record) (may_leave : List ℕ → Type 0)
-    (file image : List ℕ) → SameFrom (head_len u.block.names) file image → HasEither u old h rs file image
+    (file image : List ℕ) → SameFrom (head_len u.block.names) file image
+    → HasOldOrNewTable u old h rs file image
     → LeavesEither u old h rs may_leave file image
 with_data u old h rs may_leave file image same (inl kept) =
     inl (record { table = kept; before = file; was = inr refl; data_part = same })

@@ -69,8 +69,8 @@ abbrev pub IsNoStore : List ℕ → Type 0
 IsNoStore file = IsErr (choice.chosen file)
 
 -- a file is no store, or has the table of a store that was just formatted
-abbrev pub IsNoneOrFirst : ℕ → ℕ → List ℕ → Type 0
-IsNoneOrFirst k names file = IsNoStore file ⊎ HasFirstTable k names file
+abbrev pub IsNoStoreOrEmpty : ℕ → ℕ → List ℕ → Type 0
+IsNoStoreOrEmpty k names file = IsNoStore file ⊎ HasFirstTable k names file
 
 -- a file begins with another one, and ends before its data part
 pub record IsUnfinished (names : ℕ) (front file : List ℕ) : Type 0 where

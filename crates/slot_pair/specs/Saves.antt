@@ -54,8 +54,9 @@ pub record LeavesNew (c : choice.Chosen) (records : List Record) (base : ℕ) (f
     pub data_part : SameFrom base file image
 
 -- the old table or the new one
-abbrev pub HasEither : choice.InUse → choice.Chosen → Header → List Record → List ℕ → List ℕ → Type 0
-HasEither u old h rs file image = KeepsTable old file image ⊎ IsSaved (next_chosen u h (length rs)) rs image
+abbrev pub HasOldOrNewTable : choice.InUse → choice.Chosen → Header → List Record → List ℕ → List ℕ → Type 0
+HasOldOrNewTable u old h rs file image = KeepsTable old file image
+    ⊎ IsSaved (next_chosen u h (length rs)) rs image
 
 -- the same, with the data part that stands beside it
 abbrev pub LeavesEither : choice.InUse → choice.Chosen → Header → List Record → (List ℕ → Type 0) → List ℕ
@@ -75,7 +76,7 @@ pub record IsAlikeBelow (base : ℕ) (file image : List ℕ) : Type 0 where
 pub record SaveLeaves (u : choice.InUse) (h : Header) (rs : List Record) (a b : State) : Type 0 where
   pub data_part : SameFrom (head_len u.block.names) a.file b.file
   pub old_or_new : (old : choice.Chosen) → choice.chosen a.file ≡ Ok old → u.sequence + 1 < worn_from h.kind
-      → HasEither u old h rs a.file b.file
+      → HasOldOrNewTable u old h rs a.file b.file
   pub images : (old : choice.Chosen) → choice.chosen a.file ≡ Ok old → u.sequence + 1 < worn_from h.kind
       → ((image : List ℕ) → a.may_leave image → IsAlikeBelow (head_len u.block.names) a.file image)
       → Leaves a b (LeavesEither u old h rs a.may_leave a.file)

@@ -5,26 +5,26 @@ use Rattle.size_class.specs.declared.TheConstants.{SIZE_MAX}
 use Rattle.segment_layout.specs.Books.{Book}
 use Rattle.segment_layout.specs.Layouts.{grid_of}
 use Rattle.segment_layout.specs.Shapes.{end_of}
-use Rattle.store_terms.specs.Requests as ask
+use Rattle.map_model.specs.Requests as ask
 use Rattle.held_guard.specs.Freed.{Freed}
 use Rattle.extent_table.specs.Extents.{Extents, IsTable}
-use Rattle.spot_terms.specs.Held.{IsFreed}
-use Rattle.spot_terms.specs.LaidOut.{IsLaidOut, shown_book}
-use Rattle.spot_terms.proofs.GuardLaws.{freed_nothing}
-use Rattle.spot_terms.proofs.RiseLaws.{CellsRise-itself}
+use Rattle.placement_model.specs.Held.{IsFreed}
+use Rattle.placement_model.specs.LaidOut.{IsLaidOut, shown_book}
+use Rattle.placement_model.proofs.GuardLaws.{freed_nothing}
+use Rattle.placement_model.proofs.RiseLaws.{CellsRise-itself}
 use Rattle.store_core.specs.declared.store.Store.TheInside.{Inside}
-use Rattle.store_core.specs.Connection.{IsOver, Kept, limits_of, state_of}
+use Rattle.store_core.specs.Connection.{IsOver, StoreValue, limits_of, state_of}
 use Rattle.store_core.specs.Inside.{IsWhole, kept_of}
 use Rattle.store_core.specs.Stores.{IsStore}
 use Rattle.store_core.specs.States.{Step}
 
-abbrev pub gone_back : Kept → Kept
+abbrev pub gone_back : StoreValue → StoreValue
 gone_back s = record s { now = s.kept; book = s.kept_book }
 
-same_caps : {classes : ℕ} (s : Kept) → IsStore classes s → s.kept_book.caps ≡ s.book.caps
+same_caps : {classes : ℕ} (s : StoreValue) → IsStore classes s → s.kept_book.caps ≡ s.book.caps
 same_caps s h = ap (λ (b : Book). b.caps) h.kept_book
 
-pub store_back : {classes : ℕ} (s : Kept) → IsStore classes s → IsStore classes (gone_back s)
+pub store_back : {classes : ℕ} (s : StoreValue) → IsStore classes s → IsStore classes (gone_back s)
 store_back {classes} s h =
     let k = s.in_use.block.k in
     let laid = subst (λ caps. IsLaidOut classes SIZE_MAX k caps s.kept_book.grid s.kept) (sym (same_caps s h))
@@ -44,7 +44,7 @@ store_back {classes} s h =
       fuller = CellsRise-itself s.kept_book.grid;
     }
 
-pub over_back : {classes : ℕ} (s : Kept) (file : List ℕ) → IsStore classes s → IsOver classes s file
+pub over_back : {classes : ℕ} (s : StoreValue) (file : List ℕ) → IsStore classes s → IsOver classes s file
     → IsOver classes (gone_back s) file
 over_back s file h over = record {
   table = over.table;
@@ -56,7 +56,7 @@ over_back s file h over = record {
   same_length = omega (arith, over.same_length, ap (end_of s.in_use.block.k) (same_caps s h));
 }
 
-pub step_back : (s : Kept) (file : List ℕ)
+pub step_back : (s : StoreValue) (file : List ℕ)
     → Step (limits_of s) (state_of s file) ask.back ask.done (state_of (gone_back s) file)
 step_back s file = record { replied = refl; state = refl; low = omega arith; high = omega arith }
 

@@ -7,21 +7,21 @@ use Rattle.size_class.specs.Classes.{class_of}
 use Rattle.size_class.specs.declared.TheConstants.{SIZE_MAX}
 use Rattle.extent_table.specs.declared.spot.Spot.{Spot}
 use Rattle.extent_table.specs.Extents.{Extents}
-use Rattle.plan_terms.specs.declared.item.Item.{Item}
-use Rattle.plan_terms.specs.declared.item.Numbers.{Numbers}
+use Rattle.flush_model.specs.declared.item.Item.{Item}
+use Rattle.flush_model.specs.declared.item.Numbers.{Numbers}
 use Rattle.segment_layout.specs.Shapes.{start_of}
-use Rattle.plan_terms.specs.Begins.{Begins}
-use Rattle.plan_terms.specs.Phases.{CanFlush}
-use Rattle.plan_terms.specs.Plans.{numbers_of}
+use Rattle.flush_model.specs.Begins.{Begins}
+use Rattle.flush_model.specs.Phases.{CanFlush}
+use Rattle.flush_model.specs.Plans.{numbers_of}
 use Rattle.flush_run.specs.Hands.{suffix_items}
 use Rattle.flush_run.specs.Shelved.{items_now, phase_now, shelf_of}
-use Rattle.flush_start.specs.Items.{item_at}
-use Rattle.flush_start.specs.Starts.{IsWith}
-use Rattle.flush_start.proofs.CanFlushLaws.{begins_pending, can_flush}
-use Rattle.flush_start.proofs.ReachLaws.{reach_low, reach_past_wall}
-use Rattle.flush_start.proofs.SuffixLaws.{items_with}
-use Rattle.flush_start.proofs.ShelfLaws.{start_shelf}
-use Rattle.flush_plan.specs.Shelves.{Course, IsOnShelf, course_of}
+use Rattle.change_charges.specs.Items.{item_at}
+use Rattle.change_charges.specs.Starts.{IsWith}
+use Rattle.change_charges.proofs.CanFlushLaws.{begins_pending, can_flush}
+use Rattle.change_charges.proofs.ReachLaws.{reach_low, reach_past_wall}
+use Rattle.change_charges.proofs.SuffixLaws.{items_with}
+use Rattle.change_charges.proofs.ShelfLaws.{start_shelf}
+use Rattle.flush_plan.specs.Shelves.{PlanFrame, IsOnShelf, course_of}
 use Rattle.store_core.specs.Flushing.{CanStartAt, IsStarted}
 
 module _ {classes b k : ℕ} {caps : List ℕ} {grid : List (List ℕ)} {e : Extents}
@@ -80,18 +80,19 @@ module _ {classes b k : ℕ} {caps : List ℕ} {grid : List (List ℕ)} {e : Ext
 -- ---- what begins
 
 -- the items of a course are those from its boundary on
-pub items_from : {b k pending : ℕ} {caps : List ℕ} {n : Numbers} (e : Extents) (c : Course)
+pub items_from : {b k pending : ℕ} {caps : List ℕ} {n : Numbers} (e : Extents) (c : PlanFrame)
     → c ≡ course_of k caps n pending → n.boundary ≡ b → items_now c e ≡ suffix_items b e
-items_from e c is same = ap (λ (d : ℕ). suffix_items d e) (ap (λ (q : Course). q.numbers.boundary) is ∙ same)
+items_from e c is same = ap (λ (d : ℕ). suffix_items d e) (ap (λ (q : PlanFrame). q.numbers.boundary) is
+    ∙ same)
 
 -- lifting began with the items of a table
-pub started_now : {b k : ℕ} {caps : List ℕ} {e : Extents} (c : Course)
+pub started_now : {b k : ℕ} {caps : List ℕ} {e : Extents} (c : PlanFrame)
     → c ≡ course_of k caps (numbers_of k caps b (suffix_items b e) 0) 0 → IsStarted b k caps e (phase_now c e)
-started_now {e = e} c is = record { value = ap (λ (q : Course). phase_now q e) is }
+started_now {e = e} c is = record { value = ap (λ (q : PlanFrame). phase_now q e) is }
 
 -- with a pending object, which stands at a spot in the table after, the items are those of before and it
 pub items_waiting : {b k size : ℕ} {caps : List ℕ} {e after : Extents} {name : List ℕ} {s : Spot} {key : ℕ}
-    (c : Course) → c ≡ course_of k caps (numbers_of k caps b (suffix_items b e) size) size
+    (c : PlanFrame) → c ≡ course_of k caps (numbers_of k caps b (suffix_items b e) size) size
     → fin.get e.now name ≡ None → IsWith name s key e after → 1 ≤ s.size → b ≤ class_of s.size
     → IsPermutation (suffix_items b e ++ item_at key s ∷ []) (items_now c after)
 items_waiting {b} {k} {size} {caps} {e} {after} {name} {s} {key} c is new joins some high =

@@ -7,28 +7,28 @@ use Rattle.std.specs.FinMap as fin
 use Rattle.size_class.specs.Classes.{class_of}
 use Rattle.size_class.specs.declared.TheConstants.{SIZE_MAX}
 use Rattle.slot_codec.specs.Names.{IsName}
-use Rattle.store_terms.proofs.MapLaws.{name_order}
+use Rattle.map_model.proofs.MapLaws.{name_order}
 use Rattle.segment_layout.specs.Books.{is_quiet, some_size}
 use Rattle.segment_layout.specs.Shapes.{end_of}
 use Rattle.extent_table.specs.declared.spot.Spot.{Spot}
 use Rattle.extent_table.specs.Extents.{Extents, Spots}
-use Rattle.spot_terms.specs.Quiet.{PlacedTo}
-use Rattle.spot_terms.proofs.EntryLaws.{get-remove_here, insert-remove}
-use Rattle.plan_terms.specs.Phases.{Phase}
-use Rattle.plan_terms.specs.Plans.{numbers_of}
+use Rattle.placement_model.specs.Quiet.{PlacedTo}
+use Rattle.placement_model.proofs.EntryLaws.{get-remove_here, insert-remove}
+use Rattle.flush_model.specs.Phases.{PlanState}
+use Rattle.flush_model.specs.Plans.{numbers_of}
 use Rattle.flush_run.specs.Hands.{suffix_items}
 use Rattle.flush_run.specs.Shelved.{phase_now}
 use Rattle.flush_plan.specs.Shelves.{course_of}
-use Rattle.flush_run.specs.Parts.{Parts}
-use Rattle.flush_start.specs.Charging.{PlacesNew, between, new_charged}
-use Rattle.flush_start.specs.Starts.{IsLoud, IsWith, IsWithout}
-use Rattle.flush_start.proofs.EndLaws.{end_small, most_end}
-use Rattle.store_core.specs.Flushing.{CanStartAt, IsBegun, IsLoudAt, IsStarted, MayBegin, StartsPlaced, StartsWaiting, TakesOut}
+use Rattle.flush_run.specs.Parts.{HandsValue}
+use Rattle.change_charges.specs.Charging.{PlacesNew, between, new_charged}
+use Rattle.change_charges.specs.Starts.{IsLoud, IsWith, IsWithout}
+use Rattle.change_charges.proofs.EndLaws.{end_small, most_end}
+use Rattle.store_core.specs.Flushing.{CanStartAt, IsBegun, NeedsFlushAt, IsStarted, MayBegin, StartsPlaced, StartsWaiting, TakesOut}
 use Rattle.store_core.specs.Quiet.{added, del_of, put_of, sizes_at}
 use Rattle.store_core.proofs.ChargedLaws.{ChargesTo, can_start_at, started_at, is_loud, places_here}
 use Rattle.store_core.proofs.StartingLaws.{del_starts, begun_removed, put_starts, begun_placed, placed_low, wait_starts, wait_some, wait_high, begun_waiting}
 
-module _ {classes : ℕ} {kept_grid : List (List ℕ)} {x0 : Parts} (may : MayBegin classes kept_grid x0)
+module _ {classes : ℕ} {kept_grid : List (List ℕ)} {x0 : HandsValue} (may : MayBegin classes kept_grid x0)
     (name : List ℕ) where
   abbrev k : ℕ
   k = x0.in_use.block.k
@@ -90,25 +90,25 @@ module _ {classes : ℕ} {kept_grid : List (List ℕ)} {x0 : Parts} (may : MayBe
       x0.in_use.block.names may.before.block.divisor_low may.before.block.names_high may.before.small
       (omega (arith, may.before.table.now_room, may.before.names))
 
-  module _ (x1 : Parts) (out : TakesOut name x0 x1) where
+  module _ (x1 : HandsValue) (out : TakesOut name x0 x1) where
     rest_divisor : x1.divisor ≡ x0.divisor
-    rest_divisor = ap (λ (x : Parts). x.divisor) out.rest
+    rest_divisor = ap (λ (x : HandsValue). x.divisor) out.rest
 
     rest_caps : x1.caps ≡ x0.caps
-    rest_caps = ap (λ (x : Parts). x.caps) out.rest
+    rest_caps = ap (λ (x : HandsValue). x.caps) out.rest
 
     rest_grid : x1.grid ≡ x0.grid
-    rest_grid = ap (λ (x : Parts). x.grid) out.rest
+    rest_grid = ap (λ (x : HandsValue). x.grid) out.rest
 
     -- ---- a removal
 
     module _ (o : Option Spot) (o_is : o ≡ old) (k2 : ℕ) (caps2 : List ℕ) (after : List (List ℕ))
         (gone : Bool) (place : Option ℕ) (class b : ℕ)
         (ch : ChargesTo x1 o 0 k2 caps2 after gone place class b)
-        (loud : IsLoudAt x0 name 0) where
+        (needs_flush : NeedsFlushAt x0 name 0) where
       del_loud : IsLoud k x0.caps x0.grid old 0 after b
       del_loud = is_loud may name x1 rest_divisor rest_caps rest_grid o o_is 0 k2 caps2 after gone
-          place class b ch loud
+          place class b ch needs_flush
 
       del_k : k2 ≡ k
       del_k = ch.divisor ∙ rest_divisor ∙ may.divisor
@@ -121,11 +121,11 @@ module _ {classes : ℕ} {kept_grid : List (List ℕ)} {x0 : Parts} (may : MayBe
           (del_starts may name x1.table x1.spans x1.asked out.without out.frees after b del_loud) del_k
           del_caps
 
-      pub del_begun : (p : Phase) → IsStarted b k2 caps2 x1.table p
+      pub del_begun : (p : PlanState) → IsStarted b k2 caps2 x1.table p
           → IsBegun classes x0 (del_of name) (record x1 { divisor = k2; caps = caps2; grid = after }) p 0
-      del_begun p st = subst (λ (y : Parts). IsBegun classes x0 (del_of name) y p 0)
+      del_begun p st = subst (λ (y : HandsValue). IsBegun classes x0 (del_of name) y p 0)
           (sym ((λ i. record x1 { divisor = ch.divisor i; caps = ch.caps_are i; grid = after })
-          ∙ ap (λ (y : Parts). record y { grid = after }) out.rest))
+          ∙ ap (λ (y : HandsValue). record y { grid = after }) out.rest))
           (begun_removed may name x1.table x1.spans x1.asked out.without out.frees after b del_loud p
           (started_at del_k del_caps st) out.asked)
 
@@ -136,13 +136,13 @@ module _ {classes : ℕ} {kept_grid : List (List ℕ)} {x0 : Parts} (may : MayBe
         (o : Option Spot) (o_is : o ≡ old) (k2 : ℕ) (caps2 : List ℕ) (after : List (List ℕ)) (gone : Bool)
         (place : Option ℕ) (class b : ℕ)
         (ch : ChargesTo x1 o (length object) k2 caps2 after gone place class b)
-        (loud : IsLoudAt x0 name (length object)) where
+        (needs_flush : NeedsFlushAt x0 name (length object)) where
       abbrev object_len : ℕ
       object_len = length object
 
       put_loud : IsLoud k x0.caps x0.grid old object_len after b
       put_loud = is_loud may name x1 rest_divisor rest_caps rest_grid o o_is object_len k2 caps2 after gone
-          place class b ch loud
+          place class b ch needs_flush
 
       put_k : k2 ≡ k
       put_k = ch.divisor ∙ rest_divisor ∙ may.divisor
@@ -152,13 +152,13 @@ module _ {classes : ℕ} {kept_grid : List (List ℕ)} {x0 : Parts} (may : MayBe
 
       put_places : PlacesNew k x0.caps (between k x0.caps x0.grid old) object_len after place
       put_places = places_here may name x1 rest_divisor rest_caps rest_grid o o_is object_len k2 caps2 after
-          gone place class b ch loud
+          gone place class b ch needs_flush
 
       put_sums : asked ≡ fold added x0.asked (sizes_at old ++ some_size object_len)
       put_sums = asked_is ∙ ap (λ (a : List ℕ). fold added a (some_size object_len)) out.asked
           ∙ sym (fold-append added x0.asked (sizes_at old) (some_size object_len))
 
-      abbrev charged_parts : Parts
+      abbrev charged_parts : HandsValue
       charged_parts = record x1 { divisor = k2; caps = caps2; grid = after; moved = moved; asked = asked }
 
       charged_is : charged_parts ≡ record x0 {
@@ -173,7 +173,7 @@ module _ {classes : ℕ} {kept_grid : List (List ℕ)} {x0 : Parts} (may : MayBe
         grid = after;
         moved = moved_is i;
         asked = asked;
-      }) ∙ ap (λ (y : Parts). record y { grid = after; asked = asked }) out.rest
+      }) ∙ ap (λ (y : HandsValue). record y { grid = after; asked = asked }) out.rest
 
       -- whose object found room
       module _ (at : ℕ) (found : place ≡ Some at) where
@@ -196,12 +196,12 @@ module _ {classes : ℕ} {kept_grid : List (List ℕ)} {x0 : Parts} (may : MayBe
           end_is_low,
         )
 
-        pub placed_begun : (x : Parts) (p : Phase) (at2 : ℕ) → at2 ≡ at
+        pub placed_begun : (x : HandsValue) (p : PlanState) (at2 : ℕ) → at2 ≡ at
             → StartsPlaced b name (record { place = at; size = object_len }) charged_parts x p
             → IsBegun classes x0 (put_of name object) x p at2
         placed_begun x p at2 same st = subst (λ (n : ℕ). IsBegun classes x0 (put_of name object) x p n)
-            (sym same) (subst (λ (y : Parts). IsBegun classes x0 (put_of name object) y p at)
-            (sym (st.rest ∙ ap (λ (y : Parts). record y { table = x.table }) charged_is))
+            (sym same) (subst (λ (y : HandsValue). IsBegun classes x0 (put_of name object) y p at)
+            (sym (st.rest ∙ ap (λ (y : HandsValue). record y { table = x.table }) charged_is))
             (begun_placed may name x1.table x1.spans asked out.without out.frees after b is object small
             put_loud at put_placed st.key x.table st.joins p (started_at put_k put_caps st.started) put_sums))
 
@@ -228,11 +228,11 @@ module _ {classes : ℕ} {kept_grid : List (List ℕ)} {x0 : Parts} (may : MayBe
         pub waiting_new : fin.get x1.table.now name ≡ None
         waiting_new = ap (λ (m : Spots). fin.get m name) out.without.now ∙ get-remove_here x0.table.now name
 
-        pub waiting_begun : (x : Parts) (p : Phase) (at : ℕ)
+        pub waiting_begun : (x : HandsValue) (p : PlanState) (at : ℕ)
             → StartsWaiting b name object_len at charged_parts x p
             → IsBegun classes x0 (put_of name object) x p at
-        waiting_begun x p at st = subst (λ (y : Parts). IsBegun classes x0 (put_of name object) y p at)
-            (sym (st.rest ∙ ap (λ (y : Parts). record y { table = x.table }) charged_is))
+        waiting_begun x p at st = subst (λ (y : HandsValue). IsBegun classes x0 (put_of name object) y p at)
+            (sym (st.rest ∙ ap (λ (y : HandsValue). record y { table = x.table }) charged_is))
             (begun_waiting may name x1.table x1.spans asked out.without out.frees after b is object small
             put_loud put_missed at st.key x.table st.joins p
             (st.value ∙ (λ i. phase_now (course_of (put_k i) (put_caps i)

@@ -10,30 +10,30 @@ use Rattle.segment_layout.specs.Books.{some_size}
 use Rattle.segment_layout.specs.Shapes.{end_of}
 use Rattle.extent_table.specs.declared.spot.Spot.{Spot}
 use Rattle.extent_table.specs.Extents.{Spots}
-use Rattle.spot_terms.specs.Held.{FreesSpot, IsFreed}
-use Rattle.spot_terms.specs.LaidOut.{shown_book}
-use Rattle.spot_terms.specs.Quiet.{QuietTo, gone_items}
-use Rattle.spot_terms.specs.Reads.{AllLieApart}
-use Rattle.spot_terms.specs.Rises.{CellsRise}
-use Rattle.spot_terms.proofs.AfterLaws.{laid_gone, laid_put}
-use Rattle.spot_terms.proofs.FreedLaws.{freed_put, off_kept, span_apart, span_room}
-use Rattle.spot_terms.proofs.PlaceLaws.{place_apart, place_within}
-use Rattle.spot_terms.proofs.QuietLaws.{quiet_rises}
-use Rattle.spot_terms.proofs.RiseLaws.{CellsRise-then}
+use Rattle.placement_model.specs.Held.{FreesSpot, IsFreed}
+use Rattle.placement_model.specs.LaidOut.{shown_book}
+use Rattle.placement_model.specs.Quiet.{QuietTo, gone_items}
+use Rattle.placement_model.specs.Reads.{AllLieApart}
+use Rattle.placement_model.specs.Rises.{CellsRise}
+use Rattle.placement_model.proofs.AfterLaws.{laid_gone, laid_put}
+use Rattle.placement_model.proofs.FreedLaws.{freed_put, off_kept, span_apart, span_room}
+use Rattle.placement_model.proofs.PlaceLaws.{place_apart, place_within}
+use Rattle.placement_model.proofs.QuietLaws.{quiet_rises}
+use Rattle.placement_model.proofs.RiseLaws.{CellsRise-then}
 use Rattle.held_guard.specs.Freed.{Freed}
-use Rattle.store_core.specs.Connection.{Kept}
+use Rattle.store_core.specs.Connection.{StoreValue}
 use Rattle.store_core.specs.Quiet.{CanFree, IsCharged}
 use Rattle.store_core.specs.Stores.{AreInRange, IsStore}
 
 -- a store with other objects: its book is what the layout shows of them
-abbrev pub with_now : ℕ → Kept → Spots → List (List ℕ) → List ℕ → Kept
+abbrev pub with_now : ℕ → StoreValue → Spots → List (List ℕ) → List ℕ → StoreValue
 with_now classes s now grid asked = record s {
   now = now;
   book = shown_book classes SIZE_MAX s.in_use.block.k s.book.caps grid now;
   asked = asked;
 }
 
-module _ {classes : ℕ} (s : Kept) (h : IsStore classes s) (name : List ℕ) where
+module _ {classes : ℕ} (s : StoreValue) (h : IsStore classes s) (name : List ℕ) where
   abbrev k : ℕ
   k = s.in_use.block.k
 

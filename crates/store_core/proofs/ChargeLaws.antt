@@ -4,7 +4,7 @@ use Rattle.std.proofs.Common.{sym, subst}
 use Rattle.std.specs.FinMap as fin
 use Rattle.size_class.specs.Classes.{class_of}
 use Rattle.size_class.specs.declared.TheConstants.{SIZE_MAX}
-use Rattle.spot_terms.proofs.LaidOutLaws.{class_in_use}
+use Rattle.placement_model.proofs.LaidOutLaws.{class_in_use}
 
 -- the class of each object is among those in use
 pub class_low : (classes size class : ℕ) → class ≡ class_of size → SIZE_MAX < 2 ^ classes → 1 ≤ size

@@ -10,20 +10,20 @@ use Rattle.segment_layout.specs.Books.{is_quiet, trigger}
 use Rattle.segment_layout.specs.Shapes.{boundary_of}
 use Rattle.extent_table.specs.declared.spot.Spot.{Spot}
 use Rattle.extent_table.specs.Extents.{Extents}
-use Rattle.spot_terms.proofs.EnterLaws.{by_name}
-use Rattle.spot_terms.proofs.LaidOutLaws.{laid_below}
-use Rattle.spot_terms.proofs.FreedLaws.{span_apart, span_room}
+use Rattle.placement_model.proofs.EnterLaws.{by_name}
+use Rattle.placement_model.proofs.LaidOutLaws.{laid_below}
+use Rattle.placement_model.proofs.FreedLaws.{span_apart, span_room}
 use Rattle.held_guard.specs.Freed.{Freed}
-use Rattle.plan_terms.specs.Phases.{Phase}
-use Rattle.flush_run.specs.Parts.{Parts}
-use Rattle.flush_start.specs.Charging.{PlacesNew, between, charged_by}
-use Rattle.flush_start.specs.Starts.{CanStart, IsLoud}
-use Rattle.flush_start.proofs.StartLaws.{outcome_loud}
-use Rattle.store_core.specs.Flushing.{CanStartAt, IsLoudAt, IsStarted, MayBegin}
+use Rattle.flush_model.specs.Phases.{PlanState}
+use Rattle.flush_run.specs.Parts.{HandsValue}
+use Rattle.change_charges.specs.Charging.{PlacesNew, between, charged_by}
+use Rattle.change_charges.specs.Starts.{CanStart, IsLoud}
+use Rattle.change_charges.proofs.StartLaws.{outcome_loud}
+use Rattle.store_core.specs.Flushing.{CanStartAt, NeedsFlushAt, IsStarted, MayBegin}
 use Rattle.store_core.specs.Quiet.{CanFree}
 
 -- what was charged on the layout of some parts
-pub record ChargesTo (x : Parts) (o : Option Spot) (size k : ℕ) (caps : List ℕ) (after : List (List ℕ))
+pub record ChargesTo (x : HandsValue) (o : Option Spot) (size k : ℕ) (caps : List ℕ) (after : List (List ℕ))
     (gone : Bool) (place : Option ℕ) (class b : ℕ) : Type 0 where
   pub grid : after ≡ (charged_by x.divisor x.caps x.grid o size).grid
   pub place_is : PlacesNew x.divisor x.caps (between x.divisor x.caps x.grid o) size after place
@@ -35,7 +35,7 @@ pub record ChargesTo (x : Parts) (o : Option Spot) (size k : ℕ) (caps : List �
 
 -- a flush begins at a layout with the same numbers
 pub can_start_at : {classes b k : ℕ} {caps caps2 : List ℕ} {grid : List (List ℕ)} {e : Extents}
-    (kept_grid : List (List ℕ)) (x : Parts) (spans : List Span)
+    (kept_grid : List (List ℕ)) (x : HandsValue) (spans : List Span)
     → CanStart classes SIZE_MAX caps grid kept_grid b x.in_use e spans → k ≡ x.in_use.block.k → caps2 ≡ caps
     → CanStartAt classes b k caps2 grid e
 can_start_at {classes} {b} {k} {caps} {caps2} {grid} {e} kept_grid x spans start divisor same = record {
@@ -47,13 +47,13 @@ can_start_at {classes} {b} {k} {caps} {caps2} {grid} {e} kept_grid x spans start
   divisor = divisor;
 }
 
-pub started_at : {b k k2 : ℕ} {caps caps2 : List ℕ} {e : Extents} {p : Phase} → k2 ≡ k
+pub started_at : {b k k2 : ℕ} {caps caps2 : List ℕ} {e : Extents} {p : PlanState} → k2 ≡ k
     → caps2 ≡ caps → IsStarted b k2 caps2 e p → IsStarted b k caps e p
 started_at {b} {k} {k2} {caps} {caps2} {e} {p} ks cs st =
     subst (λ (y : List ℕ). IsStarted b k y e p) cs
     (subst (λ (y : ℕ). IsStarted b y caps2 e p) ks st)
 
-module _ {classes : ℕ} {kept_grid : List (List ℕ)} {x0 : Parts} (may : MayBegin classes kept_grid x0)
+module _ {classes : ℕ} {kept_grid : List (List ℕ)} {x0 : HandsValue} (may : MayBegin classes kept_grid x0)
     (name : List ℕ) where
   abbrev k : ℕ
   k = x0.in_use.block.k
@@ -87,16 +87,18 @@ module _ {classes : ℕ} {kept_grid : List (List ℕ)} {x0 : Parts} (may : MayBe
 
   -- ---- the charges
 
-  module _ (x : Parts) (divisor : x.divisor ≡ x0.divisor) (caps : x.caps ≡ x0.caps) (grid : x.grid ≡ x0.grid)
+  module _ (x : HandsValue) (divisor : x.divisor ≡ x0.divisor) (caps : x.caps ≡ x0.caps)
+      (grid : x.grid ≡ x0.grid)
       (o : Option Spot) (o_is : o ≡ old) (size : ℕ) (k2 : ℕ) (caps2 : List ℕ) (after : List (List ℕ))
       (gone : Bool) (place : Option ℕ) (class b : ℕ)
       (ch : ChargesTo x o size k2 caps2 after gone place class b)
-      (loud : IsLoudAt x0 name size) where
+      (needs_flush : NeedsFlushAt x0 name size) where
     all_same : charged_by x.divisor x.caps x.grid o size ≡ charged_by k x0.caps x0.grid old size
     all_same = λ i. charged_by ((divisor ∙ may.divisor) i) (caps i) (grid i) (o_is i) size
 
     loud_here : is_quiet (charged_by k x0.caps x0.grid old size) ≡ false
-    loud_here = subst (λ (d : ℕ). is_quiet (charged_by d x0.caps x0.grid old size) ≡ false) may.divisor loud
+    loud_here = subst (λ (d : ℕ). is_quiet (charged_by d x0.caps x0.grid old size)
+        ≡ false) may.divisor needs_flush
 
     pub is_loud : IsLoud k x0.caps x0.grid old size after b
     is_loud = outcome_loud k x0.caps x0.grid after old size gone place class b

@@ -7,11 +7,11 @@ use Rattle.disk_face.specs.Frames.{Calls}
 use Rattle.disk_face.proofs.MomentLaws.{Leaves-none}
 use Rattle.disk_face.specs.Writes.{WritesWithin}
 use Rattle.segment_layout.specs.Shapes.{end_of}
-use Rattle.store_terms.specs.Requests.{Change}
-use Rattle.spot_terms.specs.Reads.{AllLieApart}
+use Rattle.map_model.specs.Requests.{Change}
+use Rattle.placement_model.specs.Reads.{AllLieApart}
 use Rattle.store_core.specs.declared.answers.Refusal.{Refusal}
 use Rattle.store_core.specs.declared.answers.Done.{Done}
-use Rattle.store_core.specs.Connection.{IsKeptImage, IsOver, Kept, base_of}
+use Rattle.store_core.specs.Connection.{IsKeptImage, IsOver, StoreValue, base_of}
 use Rattle.store_core.specs.Changes.{ChangesQuietly, IsQuietChange}
 use Rattle.store_core.specs.Quiet.{quiet_calls}
 use Rattle.store_core.specs.Stores.{IsStore}
@@ -36,7 +36,7 @@ calls_err x y c = record {
 }
 
 -- A write apart from the checkpoint's objects, and what becomes of the store.
-pub quiet_effects : {classes : ℕ} (c : Change) (s new : Kept) (a d : disk.State)
+pub quiet_effects : {classes : ℕ} (c : Change) (s new : StoreValue) (a d : disk.State)
     (result : Result Done Refusal) (base place n : ℕ) → IsStore classes s → base ≡ base_of s
     → (IsTrue a.tells → IsOver classes s a.file) → AllLieApart place n s.kept
     → WritesWithin (base + place) n a d → Calls (quiet_calls c) a d result
@@ -58,12 +58,12 @@ quiet_effects {classes} c s new a d result base place n h at over apart within c
     }
 
 -- positions of the file are small numbers
-pub position_fits : {classes : ℕ} (s : Kept) (base place n : ℕ) → IsStore classes s → base ≡ base_of s
+pub position_fits : {classes : ℕ} (s : StoreValue) (base place n : ℕ) → IsStore classes s → base ≡ base_of s
     → place + n ≤ end_of s.in_use.block.k s.book.caps → base + place + n < 2 ^ 63
 position_fits s base place n h at low = omega (arith, at, low, end_low s h, h.block.names_high)
 
 -- No call on the disk.
-pub no_effects : {classes : ℕ} (c : Change) (s new : Kept) (a : disk.State) (answer : Done)
+pub no_effects : {classes : ℕ} (c : Change) (s new : StoreValue) (a : disk.State) (answer : Done)
     → IsStore classes s
     → (IsTrue a.tells → IsOver classes s a.file) → IsTrue a.is_ready → a.turn ≤ last → quiet_calls c ≡ 0
     → ChangesQuietly classes c s new → IsQuietChange classes c s new a a (Ok answer)

@@ -3,11 +3,12 @@ use Rattle.std.specs.Prelude.{ℕ, ◌^◌, ◌<◌}
 use Rattle.std.proofs.Common.{arith}
 use Rattle.size_class.specs.declared.TheConstants.{SIZE_MAX}
 use Rattle.segment_layout.specs.Shapes.{end_of}
-use Rattle.flush_start.proofs.EndLaws.{end_small}
-use Rattle.store_core.specs.Connection.{Kept}
+use Rattle.change_charges.proofs.EndLaws.{end_small}
+use Rattle.store_core.specs.Connection.{StoreValue}
 use Rattle.store_core.specs.Stores.{IsStore}
 
-pub end_low : {classes : ℕ} (s : Kept) → IsStore classes s → end_of s.in_use.block.k s.book.caps < 2 ^ 48
+pub end_low : {classes : ℕ} (s : StoreValue) → IsStore classes s
+    → end_of s.in_use.block.k s.book.caps < 2 ^ 48
 end_low {classes} s h = omega (
   arith,
   end_small classes SIZE_MAX s.in_use.block.k s.book.caps s.book.grid s.now h.now s.in_use.block.names

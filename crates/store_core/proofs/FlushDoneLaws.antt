@@ -6,34 +6,34 @@ use Rattle.disk_face.specs.Counts.{HasCause}
 use Rattle.disk_face.specs.Moments.{Leaves}
 use Rattle.size_class.specs.Rows.{cells_of}
 use Rattle.size_class.specs.declared.TheConstants.{SIZE_MAX}
-use Rattle.spot_terms.specs.LaidOut.{shown_book}
+use Rattle.placement_model.specs.LaidOut.{shown_book}
 use Rattle.slot_codec.specs.Readable.{IsSuperBlock}
 use Rattle.slot_codec.specs.Spelling.{head_len}
 use Rattle.slot_codec.specs.declared.codec.SuperBlock.{SuperBlock}
-use Rattle.store_terms.specs.Requests as ask
-use Rattle.store_terms.specs.Requests.{Change, changed}
+use Rattle.map_model.specs.Requests as ask
+use Rattle.map_model.specs.Requests.{Change, changed}
 use Rattle.segment_layout.specs.Books.{is_quiet, next_book, trigger, volumes}
 use Rattle.segment_layout.specs.Shapes.{boundary_of}
-use Rattle.store_terms.specs.Maps.{Map}
+use Rattle.map_model.specs.Maps.{Map}
 use Rattle.store_core.specs.Keeps.{now_map}
-use Rattle.flush_start.specs.Sized.{IsSizedBy}
+use Rattle.change_charges.specs.Sized.{IsSizedBy}
 use Rattle.std.proofs.lemmas.Bool.{cases_lt}
 use Rattle.std.specs.FinMap as fin
 use Rattle.segment_layout.specs.Layouts.{caps_of, divisor_of, grid_of}
 use Rattle.extent_table.specs.Extents.{Spots}
-use Rattle.plan_terms.specs.Phases.{Phase}
+use Rattle.flush_model.specs.Phases.{PlanState}
 use Rattle.flush_run.specs.declared.hands.Hands.{Hands}
 use Rattle.flush_run.specs.Calls.{CallsSoFar, piece_calls}
-use Rattle.flush_run.specs.Flights.{Flight}
-use Rattle.flush_run.specs.Parts.{Parts, parts_of, size_in}
+use Rattle.flush_run.specs.FlushFrames.{FlushFrame}
+use Rattle.flush_run.specs.Parts.{HandsValue, parts_of, size_in}
 use Rattle.flush_run.specs.Settling.{FlushEnds}
 use Rattle.store_core.specs.declared.answers.Refusal.{Refusal}
 use Rattle.store_core.specs.declared.answers.Done.{Done}
 use Rattle.store_core.specs.declared.store.Store.TheInside.{Inside}
-use Rattle.store_core.specs.Connection.{IsOver, Kept, RestsOnTable, base_of, limits_of, state_of}
+use Rattle.store_core.specs.Connection.{IsOver, StoreValue, RestsOnTable, base_of, limits_of, state_of}
 use Rattle.store_core.specs.Flushed.{IsFlushed}
 use Rattle.store_core.specs.Flushes.{IsFlush, IsFlushImage, flush_boundary, map_after, names_after, size_after}
-use Rattle.store_core.specs.Flushing.{CanFly, Setting, flight_of}
+use Rattle.store_core.specs.Flushing.{CanMakeFlush, BeforeChange, flight_of}
 use Rattle.store_core.specs.Inside.{IsWhole, kept_of}
 use Rattle.store_core.specs.Quiet.{asked_after, charges_of}
 use Rattle.store_core.specs.States.{Facts, State, Step, refusal}
@@ -43,41 +43,41 @@ use Rattle.store_core.proofs.FlushLaws.{can_fly, flush_content, flush_left, flus
 use Rattle.store_core.proofs.FlushedLaws.{ended_only, ended_opens, ended_over, ended_rests, ended_state, ended_store, flushed_view, flushed_whole}
 use Rattle.store_core.proofs.QuietLaws.{quiet_by_book}
 use Rattle.store_core.proofs.StepLaws.{facts_same}
-use Rattle.store_core.proofs.FlownLaws.{IsFlown, same_charges, items_total, len_after, sizes_after}
+use Rattle.store_core.proofs.MadeFlushLaws.{IsFlown, same_charges, items_total, len_after, sizes_after}
 
-module _ {C : ℕ} (s : Inside C) (c : Change) (hands1 : Hands C) (p : Phase) (place : ℕ) (bytes : List ℕ)
+module _ {C : ℕ} (s : Inside C) (c : Change) (hands1 : Hands C) (p : PlanState) (place : ℕ) (bytes : List ℕ)
     (hands2 : Hands C) (a d : disk.State) (w : IsFlown s c hands1 p place bytes hands2 a d) where
-  abbrev ks : Kept
+  abbrev ks : StoreValue
   ks = kept_of s
 
-  abbrev x0 : Parts
+  abbrev x0 : HandsValue
   x0 = parts_of s.hands
 
   -- ---- what stays
 
   same_block : hands2.slots.block ≡ s.hands.slots.block
-  same_block = w.made.keeps.block ∙ ap (λ (y : Parts). y.in_use.block) w.begun.rest
+  same_block = w.made.keeps.block ∙ ap (λ (y : HandsValue). y.in_use.block) w.begun.rest
 
   same_base : hands2.base ≡ s.hands.base
-  same_base = w.made.keeps.base ∙ ap (λ (y : Parts). y.base) w.begun.rest
+  same_base = w.made.keeps.base ∙ ap (λ (y : HandsValue). y.base) w.begun.rest
 
   same_buffer : vec_len hands2.buf ≡ 65536
-  same_buffer = w.made.keeps.buffer ∙ ap (λ (y : Parts). y.buffer) w.begun.rest ∙ w.whole.buf
+  same_buffer = w.made.keeps.buffer ∙ ap (λ (y : HandsValue). y.buffer) w.begun.rest ∙ w.whole.buf
 
   same_names : hands2.table.names ≡ s.hands.table.names
   same_names = w.made.keeps.names ∙ w.begun.names
 
   same_room : hands2.guard.room ≡ s.hands.guard.room
-  same_room = w.made.keeps.room ∙ ap (λ (y : Parts). y.room) w.begun.rest
+  same_room = w.made.keeps.room ∙ ap (λ (y : HandsValue). y.room) w.begun.rest
 
   same_divisor : divisor_of hands2.layout ≡ divisor_of s.hands.layout
-  same_divisor = w.made.keeps.divisor ∙ ap (λ (y : Parts). y.divisor) w.begun.rest
+  same_divisor = w.made.keeps.divisor ∙ ap (λ (y : HandsValue). y.divisor) w.begun.rest
 
   same_sequence : hands1.slots.sequence ≡ s.hands.slots.sequence
-  same_sequence = ap (λ (y : Parts). y.in_use.sequence) w.begun.rest
+  same_sequence = ap (λ (y : HandsValue). y.in_use.sequence) w.begun.rest
 
   same_moved : cells_of hands1.ledger.moved ≡ cells_of s.hands.ledger.moved
-  same_moved = ap (λ (y : Parts). y.moved) w.begun.rest
+  same_moved = ap (λ (y : HandsValue). y.moved) w.begun.rest
 
   names_are : fin.len hands1.table.now ≡ names_after ks c
   names_are = ap (λ (m : Spots). fin.len m) w.begun.now ∙ len_after ks c place
@@ -102,7 +102,7 @@ module _ {C : ℕ} (s : Inside C) (c : Change) (hands1 : Hands C) (p : Phase) (p
     arith,
     w.made.few_saves,
     same_sequence,
-    ap (λ (y : Parts). y.in_use.block.k) w.begun.rest,
+    ap (λ (y : HandsValue). y.in_use.block.k) w.begun.rest,
   )
 
   few_image : hands2.slots.sequence + 1 ≤ ks.in_use.sequence + 2 * ks.in_use.block.k + 1
@@ -110,13 +110,15 @@ module _ {C : ℕ} (s : Inside C) (c : Change) (hands1 : Hands C) (p : Phase) (p
 
   content_is : IsTrue a.tells → IsFlushImage C ks c a.file d.file
   content_is told = flush_content s w.whole w.unbroken c (parts_of hands1) p place bytes w.begun w.name
-      w.object w.fresh a (w.over told) _ few_image (w.left x0 c _ (can_fly s w.whole w.unbroken c (parts_of hands1)
+      w.object w.fresh a (w.over told) _ few_image (w.left x0 c _
+      (can_fly s w.whole w.unbroken c (parts_of hands1)
       p place bytes w.begun w.name w.object w.fresh a (w.over told) false (λ t.
       absurd (let e : false ≡ true = t in cc))) told)
 
   left_is : IsTrue a.tells → RestsOnTable (base_of ks) ks.kept a → Leaves a d (IsFlushImage C ks c a.file)
   left_is told rests = flush_left s w.whole w.unbroken c (parts_of hands1) p place bytes w.begun w.name
-      w.object w.fresh a (w.over told) _ few_image (w.left x0 c _ (can_fly s w.whole w.unbroken c (parts_of hands1)
+      w.object w.fresh a (w.over told) _ few_image (w.left x0 c _
+      (can_fly s w.whole w.unbroken c (parts_of hands1)
       p place bytes w.begun w.name w.object w.fresh a (w.over told) true (λ t. rests)) told)
 
   -- ---- the bytes moved
@@ -197,7 +199,8 @@ module _ {C : ℕ} (s : Inside C) (c : Change) (hands1 : Hands C) (p : Phase) (p
 
   -- ---- where it was done
 
-  module _ (ends : (x : Parts) (e : Change) (g : Setting) → CanFly C x e g (parts_of hands1) p place bytes a
+  module _ (ends : (x : HandsValue) (e : Change) (g : BeforeChange)
+      → CanMakeFlush C x e g (parts_of hands1) p place bytes a
       → FlushEnds C (flight_of C x e p.numbers.reach g) (parts_of hands2) d)
       (low : hands1.slots.sequence + 1 ≤ hands2.slots.sequence)
       (high : hands2.slots.sequence ≤ hands1.slots.sequence + 2 * hands1.slots.block.k)
@@ -205,7 +208,7 @@ module _ {C : ℕ} (s : Inside C) (c : Change) (hands1 : Hands C) (p : Phase) (p
       abbrev done_inside : Inside C
       done_inside = record s { hands = hands2; kept_layout = hands2.layout }
 
-      any : (g : Setting) × CanFly C x0 c g (parts_of hands1) p place bytes a
+      any : (g : BeforeChange) × CanMakeFlush C x0 c g (parts_of hands1) p place bytes a
       any = some_flight s w.whole w.unbroken c (parts_of hands1) p place bytes w.begun w.name w.object
           w.fresh a w.over
 
@@ -239,7 +242,7 @@ module _ {C : ℕ} (s : Inside C) (c : Change) (hands1 : Hands C) (p : Phase) (p
       done_whole = flushed_whole s hands2 w.whole same_block same_base same_buffer any_ends.divisor same_names
           same_room any_ends.table any_ends.kept any_ends.empty done_store
 
-      abbrev told_flight : IsTrue a.tells → Flight
+      abbrev told_flight : IsTrue a.tells → FlushFrame
       told_flight told = flight_of C x0 c p.numbers.reach (record {
         map = (state_of ks a.file).map;
         kept_map = (state_of ks a.file).kept;
@@ -263,18 +266,18 @@ module _ {C : ℕ} (s : Inside C) (c : Change) (hands1 : Hands C) (p : Phase) (p
             → is_quiet (charges_of ks c) ≡ false
             → Step (limits_of ks) (state_of ks a.file) (ask.change c) ask.kept
             (state_of (kept_of done_inside) d.file)
-        done_step calm loud =
+        done_step calm needs_flush =
             let h = w.whole.sound w.unbroken in
             let is = ended_state hands2 (told_flight told) d (told_ends told) names_now block_now
             (kept_of done_inside) view base_now still in
             flush_step (limits_of ks) (state_of ks a.file) (state_of (kept_of done_inside) d.file) c
             (ap (λ (f : Facts). refusal (limits_of ks) f (ask.change c))
             (facts_same ks a.file (ask.change c) h.now.named h.kept.named) ∙ calm)
-            (quiet_by_book C ks a.file c h (w.over told) ∙ loud) (ap (λ (x : State). x.map) is)
+            (quiet_by_book C ks a.file c h (w.over told) ∙ needs_flush) (ap (λ (x : State). x.map) is)
             (ap (λ (x : State). x.kept) is) (ap (λ (x : State). x.book) is)
             (ap (λ (x : State). x.kept_book) is)
             (omega (arith, low, same_sequence))
-            (omega (arith, high, same_sequence, ap (λ (y : Parts). y.in_use.block.k) w.begun.rest))
+            (omega (arith, high, same_sequence, ap (λ (y : HandsValue). y.in_use.block.k) w.begun.rest))
 
       pub done_flush : (done : Done) (x : Unit {0}) → CallsSoFar a.turn d.turn (cells_of hands1.ledger.moved)
           (cells_of hands2.ledger.moved) 4 (hands2.slots.sequence - hands1.slots.sequence)
@@ -317,8 +320,8 @@ module _ {C : ℕ} (s : Inside C) (c : Change) (hands1 : Hands C) (p : Phase) (p
 
 -- ---- as contracts see the store
 
-module _ {C : ℕ} (s : Inside C) (c : Change) (hands1 : Hands C) (p : Phase) (place : ℕ) (bytes : List ℕ)
-    (hands2 : Hands C) (a d : disk.State) (w : IsFlown s c hands1 p place bytes hands2 a d) (t : Kept)
+module _ {C : ℕ} (s : Inside C) (c : Change) (hands1 : Hands C) (p : PlanState) (place : ℕ) (bytes : List ℕ)
+    (hands2 : Hands C) (a d : disk.State) (w : IsFlown s c hands1 p place bytes hands2 a d) (t : StoreValue)
     (is : kept_of s ≡ t) where
   pub failed_seen : {E : Type 0} (why : Refusal) (fault : E)
       → HasCause {T = Unit {0}} a.faults d.faults (Err fault)
@@ -327,32 +330,34 @@ module _ {C : ℕ} (s : Inside C) (c : Change) (hands1 : Hands C) (p : Phase) (p
         kept_layout = hands2.layout;
         broken = true;
       })) a d (Err why)
-  failed_seen why fault cause = subst (λ (x : Kept). IsFlush C c x (kept_of (record s {
+  failed_seen why fault cause = subst (λ (x : StoreValue). IsFlush C c x (kept_of (record s {
     hands = hands2;
     kept_layout = hands2.layout;
     broken = true;
   })) a d (Err why)) is (failed_flush s c hands1 p place bytes hands2 a d w why fault cause)
 
-  module _ (ends : (x : Parts) (e : Change) (g : Setting) → CanFly C x e g (parts_of hands1) p place bytes a
+  module _ (ends : (x : HandsValue) (e : Change) (g : BeforeChange)
+      → CanMakeFlush C x e g (parts_of hands1) p place bytes a
       → FlushEnds C (flight_of C x e p.numbers.reach g) (parts_of hands2) d)
       (low : hands1.slots.sequence + 1 ≤ hands2.slots.sequence)
       (high : hands2.slots.sequence ≤ hands1.slots.sequence + 2 * hands1.slots.block.k)
     where
-      abbrev after : Kept
+      abbrev after : StoreValue
       after = kept_of (record s { hands = hands2; kept_layout = hands2.layout })
 
       pub done_seen : {E : Type 0} (done : Done) → CallsSoFar a.turn d.turn (cells_of hands1.ledger.moved)
           (cells_of hands2.ledger.moved) 4 (hands2.slots.sequence - hands1.slots.sequence)
           (fin.len hands1.table.now)
           → HasCause {T = Unit {0}} {E = E} a.faults d.faults (Ok tt) → IsFlush C c t after a d (Ok done)
-      done_seen done calls cause = subst (λ (x : Kept). IsFlush C c x after a d (Ok done)) is
+      done_seen done calls cause = subst (λ (x : StoreValue). IsFlush C c x after a d (Ok done)) is
           (done_flush s c hands1 p place bytes hands2 a d w ends low high done tt calls cause)
 
       pub step_seen : IsTrue a.tells → refusal (limits_of t) (facts_at t (ask.change c)) (ask.change c) ≡ None
           → is_quiet (charges_of t c) ≡ false
           → Step (limits_of t) (state_of t a.file) (ask.change c) ask.kept (state_of after d.file)
-      step_seen told calm loud = subst (λ (x : Kept). Step (limits_of x) (state_of x a.file) (ask.change c)
+      step_seen told calm needs_flush = subst (λ (x : StoreValue). Step (limits_of x) (state_of x a.file)
+          (ask.change c)
           ask.kept (state_of after d.file)) is
           (done_step s c hands1 p place bytes hands2 a d w ends low high told
-          (subst (λ (x : Kept). refusal (limits_of x) (facts_at x (ask.change c)) (ask.change c) ≡ None)
-          (sym is) calm) (subst (λ (x : Kept). is_quiet (charges_of x c) ≡ false) (sym is) loud))
+          (subst (λ (x : StoreValue). refusal (limits_of x) (facts_at x (ask.change c)) (ask.change c) ≡ None)
+          (sym is) calm) (subst (λ (x : StoreValue). is_quiet (charges_of x c) ≡ false) (sym is) needs_flush))

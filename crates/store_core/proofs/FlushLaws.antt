@@ -10,34 +10,34 @@ use Rattle.disk_face.specs.Moments.{Leaves}
 use Rattle.disk_face.proofs.MomentLaws.{Leaves-weaken}
 use Rattle.size_class.specs.declared.TheConstants.{SIZE_MAX}
 use Rattle.slot_codec.specs.Names.{IsName}
-use Rattle.store_terms.specs.Maps.{Map}
-use Rattle.store_terms.specs.Requests as ask
-use Rattle.store_terms.specs.Requests.{Change, changed}
+use Rattle.map_model.specs.Maps.{Map}
+use Rattle.map_model.specs.Requests as ask
+use Rattle.map_model.specs.Requests.{Change, changed}
 use Rattle.segment_layout.specs.Books.{Book, is_quiet, next_book}
 use Rattle.segment_layout.specs.Bounds.{Loose}
 use Rattle.segment_layout.specs.Layouts.{caps_of, grid_of}
 use Rattle.table_rules.proofs.SequenceLaws.{sequence_wider}
 use Rattle.table_rules.specs.Opening.{Opens}
-use Rattle.spot_terms.specs.Reads.{read_at}
-use Rattle.spot_terms.proofs.LaidOutLaws.{laid_ends}
-use Rattle.spot_terms.proofs.ReadLaws.{read_at-remove}
-use Rattle.plan_terms.specs.Phases.{Phase}
-use Rattle.flush_run.specs.Flights.{IsOldOrNew, LeavesOldOrNew}
-use Rattle.flush_run.specs.Parts.{Parts, parts_of}
-use Rattle.flush_start.specs.Charging.{charged_by}
-use Rattle.flush_start.proofs.EndLaws.{blank, in_blank}
-use Rattle.flush_start.proofs.GoneAboveLaws.{left_over}
-use Rattle.flush_start.proofs.SizedLaws.{sized_read}
+use Rattle.placement_model.specs.Reads.{read_at}
+use Rattle.placement_model.proofs.LaidOutLaws.{laid_ends}
+use Rattle.placement_model.proofs.ReadLaws.{read_at-remove}
+use Rattle.flush_model.specs.Phases.{PlanState}
+use Rattle.flush_run.specs.FlushFrames.{IsOldOrNew, LeavesOldOrNew}
+use Rattle.flush_run.specs.Parts.{HandsValue, parts_of}
+use Rattle.change_charges.specs.Charging.{charged_by}
+use Rattle.change_charges.proofs.EndLaws.{blank, in_blank}
+use Rattle.change_charges.proofs.GoneAboveLaws.{left_over}
+use Rattle.change_charges.proofs.SizedLaws.{sized_read}
 use Rattle.store_core.specs.declared.store.Store.TheInside.{Inside}
-use Rattle.store_core.specs.Connection.{IsOver, Kept, RestsOnTable, base_of, kept_map}
+use Rattle.store_core.specs.Connection.{IsOver, StoreValue, RestsOnTable, base_of, kept_map}
 use Rattle.store_core.specs.Flushes.{IsFlushImage, book_after, map_after}
-use Rattle.store_core.specs.Flushing.{CanFly, IsBegun, IsLoudAt, MayBegin, Setting, bytes_of, flight_of}
+use Rattle.store_core.specs.Flushing.{CanMakeFlush, IsBegun, NeedsFlushAt, MayBegin, BeforeChange, bytes_of, flight_of}
 use Rattle.store_core.specs.Inside.{IsWhole, kept_of}
 use Rattle.store_core.specs.Keeps.{now_map}
 use Rattle.store_core.specs.Quiet.{charges_of, del_of, put_of}
 use Rattle.store_core.specs.States.{Limits, Served, State, Step, facts_of, refusal, served}
 use Rattle.store_core.specs.Stores.{IsStore}
-use Rattle.flush_start.proofs.EndLaws.{shown_balanced}
+use Rattle.change_charges.proofs.EndLaws.{shown_balanced}
 use Rattle.store_core.proofs.OverLaws.{head_is, opens_again}
 use Rattle.store_core.proofs.StepLaws.{served_by}
 use Rattle.store_core.proofs.StoreLaws.{now_lies}
@@ -50,7 +50,7 @@ pub flush_step : (limits : Limits) (s after : State) (c : Change)
     → after.book ≡ (next_book limits.k s.map s.book c).book
     → after.kept_book ≡ (next_book limits.k s.map s.book c).book → s.sequence + 1 ≤ after.sequence
     → after.sequence ≤ s.sequence + (2 * limits.k + 1) → Step limits s (ask.change c) ask.kept after
-flush_step limits s after c none loud map kept book kept_book low high =
+flush_step limits s after c none needs_flush map kept book kept_book low high =
     let next = next_book limits.k s.map s.book c in
     let m = changed c s.map in
     let is : served limits s (ask.change c) ≡ record {
@@ -66,7 +66,7 @@ flush_step limits s after c none loud map kept book kept_book low high =
       reply = ask.kept;
       state = record s { map = m; kept = m; book = next.book; kept_book = next.book };
       saves = record { least = 1; most = 2 * limits.k + 1 };
-    } in r) loud in
+    } in r) needs_flush in
     record {
       replied = ap (λ (x : Served). x.reply) (sym is);
       state = (λ i. record {
@@ -81,10 +81,10 @@ flush_step limits s after c none loud map kept book kept_book low high =
     }
 
 module _ {C : ℕ} (s : Inside C) (whole : IsWhole s) (unbroken : s.broken ≡ false) where
-  abbrev ks : Kept
+  abbrev ks : StoreValue
   ks = kept_of s
 
-  abbrev x0 : Parts
+  abbrev x0 : HandsValue
   x0 = parts_of s.hands
 
   abbrev k : ℕ
@@ -108,18 +108,18 @@ module _ {C : ℕ} (s : Inside C) (whole : IsWhole s) (unbroken : s.broken ≡ f
   }
 
   pub put_loud : (name object : List ℕ) → is_quiet (charges_of ks (put_of name object)) ≡ false
-      → IsLoudAt x0 name (length object)
-  put_loud name object loud = subst (λ (n : ℕ). is_quiet (charged_by n (caps_of s.hands.layout)
+      → NeedsFlushAt x0 name (length object)
+  put_loud name object needs_flush = subst (λ (n : ℕ). is_quiet (charged_by n (caps_of s.hands.layout)
       (grid_of s.hands.layout) (fin.get s.hands.table.now name) (length object)) ≡ false)
-      (sym whole.divisor) loud
+      (sym whole.divisor) needs_flush
 
-  pub del_loud : (name : List ℕ) → is_quiet (charges_of ks (del_of name)) ≡ false → IsLoudAt x0 name 0
-  del_loud name loud = subst (λ (n : ℕ). is_quiet (charged_by n (caps_of s.hands.layout)
-      (grid_of s.hands.layout) (fin.get s.hands.table.now name) 0) ≡ false) (sym whole.divisor) loud
+  pub del_loud : (name : List ℕ) → is_quiet (charges_of ks (del_of name)) ≡ false → NeedsFlushAt x0 name 0
+  del_loud name needs_flush = subst (λ (n : ℕ). is_quiet (charged_by n (caps_of s.hands.layout)
+      (grid_of s.hands.layout) (fin.get s.hands.table.now name) 0) ≡ false) (sym whole.divisor) needs_flush
 
   -- ---- the device calls may begin
 
-  abbrev setting : List ℕ → Bool → Setting
+  abbrev setting : List ℕ → Bool → BeforeChange
   setting file rests = record {
     map = now_map ks file;
     kept_map = kept_map ks file;
@@ -127,13 +127,13 @@ module _ {C : ℕ} (s : Inside C) (whole : IsWhole s) (unbroken : s.broken ≡ f
     is_at_rest = rests;
   }
 
-  module _ (c : Change) (x : Parts) (p : Phase) (place : ℕ) (bytes : List ℕ)
+  module _ (c : Change) (x : HandsValue) (p : PlanState) (place : ℕ) (bytes : List ℕ)
       (begun : IsBegun C x0 c x p place) (name : IsName c.name) (object : bytes_of c ≡ bytes)
       (fresh : ks.in_use.sequence < 2 ^ 61)
       (a : disk.State) where
     module _ (over : IsOver C ks a.file) (rests : Bool)
         (given : IsTrue rests → RestsOnTable (base_of ks) ks.kept a) where
-      pub can_fly : CanFly C x0 c (setting a.file rests) x p place bytes a
+      pub can_fly : CanMakeFlush C x0 c (setting a.file rests) x p place bytes a
       can_fly = record {
         kept_grid = grid_of s.kept_layout;
         may = may_begin;
@@ -172,7 +172,7 @@ module _ {C : ℕ} (s : Inside C) (whole : IsWhole s) (unbroken : s.broken ≡ f
       }
 
     -- where the disk tells nothing, any map serves whose objects have the sizes
-    can_fly_untold : a.tells ≡ false → CanFly C x0 c (record {
+    can_fly_untold : a.tells ≡ false → CanMakeFlush C x0 c (record {
       map = read_at 0 (blank C SIZE_MAX k ks.book.caps ks.book.grid ks.now h.now) ks.now;
       kept_map = kept_map ks a.file;
       kept_book = ks.kept_book;
@@ -190,15 +190,16 @@ module _ {C : ℕ} (s : Inside C) (whole : IsWhole s) (unbroken : s.broken ≡ f
       start = λ told. absurd (let e : false ≡ true = sym none ∙ told in cc);
     }
 
-    pub some_flight : (IsTrue a.tells → IsOver C ks a.file) → (g : Setting) × CanFly C x0 c g
+    pub some_flight : (IsTrue a.tells → IsOver C ks a.file) → (g : BeforeChange) × CanMakeFlush C x0 c g
         x p place bytes a
-    some_flight over = elim (cases_Bool a.tells) as (λ _. (g : Setting) × CanFly C x0 c g x p place bytes a) [
-      | inl told ↦ (
-        setting a.file false,
-        can_fly (over told) false (λ t. absurd (let e : false ≡ true = t in cc)),
-      )
-      | inr none ↦ (_, can_fly_untold none)
-    ]
+    some_flight over = elim (cases_Bool a.tells) as (λ _. (g : BeforeChange)
+        × CanMakeFlush C x0 c g x p place bytes a) [
+          | inl told ↦ (
+            setting a.file false,
+            can_fly (over told) false (λ t. absurd (let e : false ≡ true = t in cc)),
+          )
+          | inr none ↦ (_, can_fly_untold none)
+        ]
 
     -- ---- what was left
 
@@ -225,7 +226,8 @@ module _ {C : ℕ} (s : Inside C) (whole : IsWhole s) (unbroken : s.broken ≡ f
                 | inr new ↦ inr (subst (λ (m : Map). Opens C SIZE_MAX image m (book_after ks c a.file)) new.0
                     (subst (λ (b : Book). Opens C SIZE_MAX image i.m b) new.1 i.opens))
               ];
-          sequence = sequence_wider most (ks.in_use.sequence + 2 * ks.in_use.block.k + 1) image few i.sequence;
+          sequence = sequence_wider most (ks.in_use.sequence + 2 * ks.in_use.block.k
+              + 1) image few i.sequence;
           loose = loose_at (length image - base_of ks) (omega (arith, i.longest, whole.base));
         }
 
@@ -234,6 +236,7 @@ module _ {C : ℕ} (s : Inside C) (whole : IsWhole s) (unbroken : s.broken ≡ f
               → Leaves a d (IsFlushImage C ks c a.file)
           flush_left left = Leaves-weaken (IsFlushImage C ks c a.file) (flush_image true) ((left refl).0 refl)
 
-          pub flush_content : LeavesOldOrNew (flight_of C x0 c p.numbers.reach (setting a.file false)) most a d
+          pub flush_content : LeavesOldOrNew (flight_of C x0 c p.numbers.reach
+              (setting a.file false)) most a d
               → IsFlushImage C ks c a.file d.file
           flush_content left = flush_image false d.file (left refl).1

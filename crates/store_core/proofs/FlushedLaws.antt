@@ -7,24 +7,24 @@ use Rattle.size_class.specs.declared.TheConstants.{SIZE_MAX}
 use Rattle.slot_codec.specs.Choice as choice
 use Rattle.slot_codec.specs.Readable.{IsSuperBlock}
 use Rattle.slot_codec.specs.Spelling.{head_len}
-use Rattle.store_terms.specs.Maps.{Map}
+use Rattle.map_model.specs.Maps.{Map}
 use Rattle.segment_layout.specs.Books.{Book}
 use Rattle.segment_layout.specs.Layouts.{caps_of, divisor_of, grid_of}
 use Rattle.segment_layout.specs.Shapes.{end_of}
 use Rattle.table_rules.specs.Opening.{Opens, OpensBy}
 use Rattle.table_rules.specs.Tables.{map_of}
 use Rattle.extent_table.specs.Extents.{IsTable, Spots}
-use Rattle.spot_terms.specs.Held.{IsFreed}
-use Rattle.spot_terms.specs.LaidOut.{shown_book}
-use Rattle.spot_terms.specs.Reads.{read_at}
-use Rattle.spot_terms.proofs.GuardLaws.{freed_nothing}
-use Rattle.spot_terms.proofs.RiseLaws.{CellsRise-itself}
+use Rattle.placement_model.specs.Held.{IsFreed}
+use Rattle.placement_model.specs.LaidOut.{shown_book}
+use Rattle.placement_model.specs.Reads.{read_at}
+use Rattle.placement_model.proofs.GuardLaws.{freed_nothing}
+use Rattle.placement_model.proofs.RiseLaws.{CellsRise-itself}
 use Rattle.flush_run.specs.declared.hands.Hands.{Hands}
-use Rattle.flush_run.specs.Flights.{Flight}
+use Rattle.flush_run.specs.FlushFrames.{FlushFrame}
 use Rattle.flush_run.specs.Parts.{parts_of}
 use Rattle.flush_run.specs.Settling.{FlushEnds, IsSettled}
 use Rattle.store_core.specs.declared.store.Store.TheInside.{Inside}
-use Rattle.store_core.specs.Connection.{IsOver, Kept, RestsOnTable, SameOnTable, base_of, kept_map, state_of}
+use Rattle.store_core.specs.Connection.{IsOver, StoreValue, RestsOnTable, SameOnTable, base_of, kept_map, state_of}
 use Rattle.store_core.specs.Flushed.{IsFlushed}
 use Rattle.store_core.specs.Inside.{IsWhole, kept_of}
 use Rattle.store_core.specs.Stores.{IsStore}
@@ -33,7 +33,7 @@ use Rattle.store_core.proofs.OverLaws.{same_itself}
 -- ---- any flushed store
 
 -- a store with these parts, whatever it moved
-abbrev flushed_as : ℕ → choice.InUse → Spots → List ℕ → List (List ℕ) → Kept → Kept
+abbrev flushed_as : ℕ → choice.InUse → Spots → List ℕ → List (List ℕ) → StoreValue → StoreValue
 flushed_as classes u now caps grid s = record s {
   in_use = u;
   now = now;
@@ -42,7 +42,8 @@ flushed_as classes u now caps grid s = record s {
   kept_book = shown_book classes SIZE_MAX u.block.k caps grid now;
 }
 
-flushed_is : {classes : ℕ} (u : choice.InUse) (now : Spots) (caps : List ℕ) (grid : List (List ℕ)) (s : Kept)
+flushed_is : {classes : ℕ} (u : choice.InUse) (now : Spots) (caps : List ℕ) (grid : List (List ℕ))
+    (s : StoreValue)
     → IsFlushed classes u now caps grid s → flushed_as classes u now caps grid s ≡ s
 flushed_is u now caps grid s is = λ i. record s {
   in_use = sym is.in_use i;
@@ -54,14 +55,15 @@ flushed_is u now caps grid s is = λ i. record s {
 
 -- ---- a flush that ended
 
-module _ {C : ℕ} (hands : Hands C) (flight : Flight) (d : disk.State)
+module _ {C : ℕ} (hands : Hands C) (flight : FlushFrame) (d : disk.State)
     (ends : FlushEnds C (record flight { classes = C; size_max = SIZE_MAX }) (parts_of hands) d)
-    (names : hands.table.names ≡ hands.slots.block.names) (block : IsSuperBlock hands.slots.block) (s : Kept)
+    (names : hands.table.names ≡ hands.slots.block.names) (block : IsSuperBlock hands.slots.block)
+    (s : StoreValue)
     (is : IsFlushed C hands.slots hands.table.now (caps_of hands.layout) (grid_of hands.layout) s) where
-  abbrev f : Flight
+  abbrev f : FlushFrame
   f = record flight { classes = C; size_max = SIZE_MAX }
 
-  abbrev as_flushed : Kept
+  abbrev as_flushed : StoreValue
   as_flushed = flushed_as C hands.slots hands.table.now (caps_of hands.layout) (grid_of hands.layout) s
 
   same : as_flushed ≡ s
@@ -99,7 +101,7 @@ module _ {C : ℕ} (hands : Hands C) (flight : Flight) (d : disk.State)
 
     -- it is over its file, and a crash leaves only that
     pub ended_over : IsOver C s file
-    ended_over = subst (λ (x : Kept). IsOver C x file) same (record {
+    ended_over = subst (λ (x : StoreValue). IsOver C x file) same (record {
       table = settled.t;
       checkpoint = record { slot = settled.slot; records = settled.records; opens = opens_in };
       same_length = omega (arith, settled.same_length, base);
@@ -123,7 +125,7 @@ module _ {C : ℕ} (hands : Hands C) (flight : Flight) (d : disk.State)
       kept_book = f.new_book;
       sequence = hands.slots.sequence;
     }
-    ended_state = ap (λ (x : Kept). state_of x file) (sym same) ∙ (λ i. record {
+    ended_state = ap (λ (x : StoreValue). state_of x file) (sym same) ∙ (λ i. record {
       map = map_is i;
       kept = map_is i;
       book = ends.book i;

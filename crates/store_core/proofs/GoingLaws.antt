@@ -14,7 +14,7 @@ use Rattle.slot_codec.specs.Spelling.{head_len}
 use Rattle.slot_codec.specs.Reading.{worn_from}
 use Rattle.slot_codec.specs.declared.codec.Kind.TheVariants as kind
 use Rattle.slot_codec.specs.declared.codec.SuperBlock.{SuperBlock}
-use Rattle.store_terms.specs.Maps.{Map}
+use Rattle.map_model.specs.Maps.{Map}
 use Rattle.segment_layout.specs.Books.{Book}
 use Rattle.segment_layout.specs.Layouts.{caps_of, divisor_of, grid_of}
 use Rattle.table_rules.specs.Opening.{Opens, placed_table}
@@ -23,12 +23,12 @@ use Rattle.table_rules.specs.Sequences.{HasSequenceUpTo}
 use Rattle.table_rules.proofs.SequenceLaws.{sequence_wider}
 use Rattle.table_rules.specs.Tables.{book_of}
 use Rattle.extent_table.specs.Extents.{Spots, records_of}
-use Rattle.spot_terms.specs.Laid.{laid}
-use Rattle.spot_terms.specs.Reads.{read_at}
-use Rattle.spot_terms.proofs.OpenedLaws.{opens_long}
-use Rattle.plan_terms.specs.Phases.{Phase, phase_of}
-use Rattle.flush_run.specs.Flights.{Flies, Flight, IsOldOrNew, LeavesOldOrNew}
-use Rattle.flush_run.specs.Parts.{Parts}
+use Rattle.placement_model.specs.Laid.{laid}
+use Rattle.placement_model.specs.Reads.{read_at}
+use Rattle.placement_model.proofs.OpenedLaws.{opens_long}
+use Rattle.flush_model.specs.Phases.{PlanState, phase_of}
+use Rattle.flush_run.specs.FlushFrames.{IsMidFlush, FlushFrame, IsOldOrNew, LeavesOldOrNew}
+use Rattle.flush_run.specs.Parts.{HandsValue}
 use Rattle.flush_run.specs.Runs.{CanResume}
 use Rattle.reopen.specs.declared.state.Loaded.{Loaded}
 use Rattle.reopen.specs.Loads.{IsLoadedFrom, KeepsLoaded, table_seen}
@@ -38,7 +38,7 @@ use Rattle.store_core.proofs.MovingLaws.{again, book_saved, hands_again, numbers
 use Rattle.store_core.proofs.OpeningLaws.{opens_alike}
 
 module _ {C : ℕ} (x : Loaded C) (loads : KeepsLoaded x) (moving : x.header.kind ≡ kind.Moving) (few : C ≤ 32)
-    (wide : SIZE_MAX < 2 ^ C) (y : Parts) (starts : StartsAgain x y) (p : Phase)
+    (wide : SIZE_MAX < 2 ^ C) (y : HandsValue) (starts : StartsAgain x y) (p : PlanState)
     (packs : PacksAgain x p) where
   abbrev now : Spots
   now = x.table.now
@@ -50,7 +50,7 @@ module _ {C : ℕ} (x : Loaded C) (loads : KeepsLoaded x) (moving : x.header.kin
   same_base = ap (λ (b : SuperBlock). head_len b.names) loads.same_block
 
   -- the parts and the phase in the words of what was read
-  abbrev there : Parts
+  abbrev there : HandsValue
   there = record y {
     in_use = x.slots;
     table = x.table;
@@ -72,7 +72,7 @@ module _ {C : ℕ} (x : Loaded C) (loads : KeepsLoaded x) (moving : x.header.kin
     base = (same_base ∙ sym starts.base) i;
   }
 
-  abbrev pub phase : Phase
+  abbrev pub phase : PlanState
   phase = phase_of (divisor_of x.layout) (caps_of x.layout)
       (numbers x loads moving few wide (divisor_of x.layout)) 0 p.items
 
@@ -84,13 +84,13 @@ module _ {C : ℕ} (x : Loaded C) (loads : KeepsLoaded x) (moving : x.header.kin
 
   -- It may go on in a flight from a map and a book to the same, where the disk has them.
   module _ (n : ℕ) (v : IsValid (laid C SIZE_MAX x.block.k n x.header now)) (fresh rests : Bool) (m : Map)
-      (d : disk.State) (flies : IsTrue d.tells → Flies (again x loads moving few wide n v fresh rests m
+      (d : disk.State) (flies : IsTrue d.tells → IsMidFlush (again x loads moving few wide n v fresh rests m
       (book_of (laid C SIZE_MAX x.block.k n x.header now))) x.slots x.table d)
       (leaves : IsTrue fresh → x.header.sequence + 2 ^ 19 ≤ 2 ^ 62) where
     abbrev book : Book
     book = book_of (laid C SIZE_MAX x.block.k n x.header now)
 
-    abbrev f : Flight
+    abbrev f : FlushFrame
     f = again x loads moving few wide n v fresh rests m book
 
     can_there : CanResume C f there phase d
@@ -115,8 +115,8 @@ module _ {C : ℕ} (x : Loaded C) (loads : KeepsLoaded x) (moving : x.header.kin
     }
 
     pub can_resume : CanResume C f y p d
-    can_resume = subst (λ (q : Phase). CanResume C f y q d) (sym packs.value)
-        (subst (λ (z : Parts). CanResume C f z phase d) there_is can_there)
+    can_resume = subst (λ (q : PlanState). CanResume C f y q d) (sym packs.value)
+        (subst (λ (z : HandsValue). CanResume C f z phase d) there_is can_there)
 
   -- ---- the disk that it was read from
 
@@ -138,10 +138,10 @@ module _ {C : ℕ} (x : Loaded C) (loads : KeepsLoaded x) (moving : x.header.kin
 
     module _ (fresh rests : Bool) (given : IsTrue rests → RestsOnFound t first)
         (leaves : IsTrue fresh → x.header.sequence + 2 ^ 19 ≤ 2 ^ 62) where
-      abbrev pub flight : Flight
+      abbrev pub flight : FlushFrame
       flight = again x loads moving few wide n from.opens.valid fresh rests m b
 
-      flies : Flies flight x.slots x.table first
+      flies : IsMidFlush flight x.slots x.table first
       flies = record {
         content = record {
           base = refl;
@@ -190,8 +190,8 @@ module _ {C : ℕ} (x : Loaded C) (loads : KeepsLoaded x) (moving : x.header.kin
 
   -- where the disk tells nothing, it may go on too
   pub some_again : (first : disk.State) → (IsTrue first.tells → IsLoadedFrom first.file x)
-      → (f : Flight) × CanResume C f y p first
-  some_again first from = elim (cases_Bool first.tells) as (λ _. (f : Flight) × CanResume C f y p first) [
+      → (f : FlushFrame) × CanResume C f y p first
+  some_again first from = elim (cases_Bool first.tells) as (λ _. (f : FlushFrame) × CanResume C f y p first) [
     | inl told ↦ (
       _,
       can_told first (from told) false false (λ e. absurd (let z : false ≡ true = e in cc))
@@ -208,7 +208,7 @@ module _ {C : ℕ} (x : Loaded C) (loads : KeepsLoaded x) (moving : x.header.kin
   -- ---- what it left
 
   module _ (first last : disk.State) (most : ℕ) (few_most : most ≤ x.header.sequence + (2 ^ 18 - 1))
-      (left : (f : Flight) → CanResume C f y p first → IsTrue first.tells
+      (left : (f : FlushFrame) → CanResume C f y p first → IsTrue first.tells
       → LeavesOldOrNew f most first last) (told : IsTrue first.tells) (from : IsLoadedFrom first.file x) where
     room_is : LeavesRoom (table_seen x) → x.header.sequence + 2 ^ 19 ≤ 2 ^ 62
     room_is leaves = subst (λ z. RoomOf z x.header.sequence) moving leaves
@@ -223,6 +223,7 @@ module _ {C : ℕ} (x : Loaded C) (loads : KeepsLoaded x) (moving : x.header.kin
 
     pub left_again : LeavesRoom (table_seen x) → RestsOnFound (table_seen x) first
         → Leaves first last (IsFoundImage C (table_seen x) (m first from) (b first from) (length first.file))
-    left_again leaves rests = Leaves-weaken (IsFoundImage C (table_seen x) (m first from) (b first from) (length first.file))
+    left_again leaves rests = Leaves-weaken (IsFoundImage C (table_seen x) (m first from) (b first from)
+        (length first.file))
         (found_again first from true true (λ _. rests) (λ _. room_is leaves) most few_most)
         ((left _ (can_told first from true true (λ _. rests) (λ _. room_is leaves)) told refl).0 refl)

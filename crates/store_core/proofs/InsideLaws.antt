@@ -8,16 +8,16 @@ use Rattle.segment_layout.specs.declared.layout.Layout.{Layout}
 use Rattle.segment_layout.specs.Layouts.{caps_of, divisor_of, grid_of}
 use Rattle.held_guard.specs.Freed.{Freed}
 use Rattle.extent_table.specs.Extents.{Extents, IsTable, Spots}
-use Rattle.spot_terms.specs.Held.{IsFreed}
-use Rattle.spot_terms.specs.LaidOut.{shown_book}
+use Rattle.placement_model.specs.Held.{IsFreed}
+use Rattle.placement_model.specs.LaidOut.{shown_book}
 use Rattle.store_core.specs.declared.store.Store.TheInside.{Inside}
-use Rattle.store_core.specs.Connection.{Kept, base_of}
+use Rattle.store_core.specs.Connection.{StoreValue, base_of}
 use Rattle.store_core.specs.Inside.{IsWhole, kept_of}
 use Rattle.store_core.specs.Stores.{IsStore}
 use Rattle.store_core.proofs.ChangeLaws.{with_now}
 
 -- What the fields of a store that isn't broken are to what contracts see of it.
-pub record IsOpened {C : ℕ} (s : Inside C) (t : Kept) : Type 0 where
+pub record IsOpened {C : ℕ} (s : Inside C) (t : StoreValue) : Type 0 where
   pub store : IsStore C t
   pub freed : IsFreed s.hands.guard.spans t.now t.kept
   pub now : s.hands.table.now ≡ t.now
@@ -26,25 +26,25 @@ pub record IsOpened {C : ℕ} (s : Inside C) (t : Kept) : Type 0 where
   pub room : s.hands.table.names ≡ t.in_use.block.names
   pub base : s.hands.base ≡ base_of t
 
-pub opened : {C : ℕ} (s : Inside C) (t : Kept) → kept_of s ≡ t → IsWhole s
+pub opened : {C : ℕ} (s : Inside C) (t : StoreValue) → kept_of s ≡ t → IsWhole s
     → t.is_broken ≡ false → IsOpened s t
 opened {C} s t is whole unbroken =
-    let now = ap (λ (x : Kept). x.now) is in
-    let kept = ap (λ (x : Kept). x.kept) is in
-    let sound = ap (λ (x : Kept). x.is_broken) is ∙ unbroken in
+    let now = ap (λ (x : StoreValue). x.now) is in
+    let kept = ap (λ (x : StoreValue). x.kept) is in
+    let sound = ap (λ (x : StoreValue). x.is_broken) is ∙ unbroken in
     record {
       store = subst (IsStore C) is (whole.sound sound);
       freed = subst (λ x. IsFreed s.hands.guard.spans x t.kept) now
           (subst (λ x. IsFreed s.hands.guard.spans s.hands.table.now x) kept (whole.freed sound));
       now = now;
       kept = kept;
-      guard_room = whole.guard_room ∙ ap (λ (x : Kept). x.in_use.block.names) is;
-      room = whole.room ∙ ap (λ (x : Kept). x.in_use.block.names) is;
+      guard_room = whole.guard_room ∙ ap (λ (x : StoreValue). x.in_use.block.names) is;
+      room = whole.room ∙ ap (λ (x : StoreValue). x.in_use.block.names) is;
       base = whole.base ∙ ap base_of is;
     }
 
 -- The table, the guard, the ledger and the layout are new, and contracts saw the store as t.
-module _ {C : ℕ} (s : Inside C) (t : Kept) (is : kept_of s ≡ t) (whole : IsWhole s) (table : Extents)
+module _ {C : ℕ} (s : Inside C) (t : StoreValue) (is : kept_of s ≡ t) (whole : IsWhole s) (table : Extents)
     (guard : Freed) (ledger : Ledger C) (layout : Layout C) (now : Spots) (same_now : table.now ≡ now)
     (kept : table.kept ≡ s.hands.table.kept) (caps : caps_of layout ≡ t.book.caps)
     (moved : cells_of ledger.moved ≡ cells_of s.hands.ledger.moved) where
@@ -54,7 +54,7 @@ module _ {C : ℕ} (s : Inside C) (t : Kept) (is : kept_of s ≡ t) (whole : IsW
   }
 
   caps_stay : caps_of layout ≡ caps_of s.hands.layout
-  caps_stay = caps ∙ ap (λ (x : Kept). x.book.caps) (sym is)
+  caps_stay = caps ∙ ap (λ (x : StoreValue). x.book.caps) (sym is)
 
   pub changed_view : kept_of changed_inside ≡ with_now C t now (grid_of layout) (cells_of ledger.asked)
   changed_view = (λ i. record (kept_of s) {
@@ -64,7 +64,7 @@ module _ {C : ℕ} (s : Inside C) (t : Kept) (is : kept_of s ≡ t) (whole : IsW
     kept_book = shown_book C SIZE_MAX s.hands.slots.block.k (caps_stay i) (grid_of s.kept_layout) (kept i);
     moved = moved i;
     asked = cells_of ledger.asked;
-  }) ∙ ap (λ (x : Kept). with_now C x now (grid_of layout) (cells_of ledger.asked)) is
+  }) ∙ ap (λ (x : StoreValue). with_now C x now (grid_of layout) (cells_of ledger.asked)) is
 
   pub changed_whole : IsTable table → table.names ≡ s.hands.table.names → guard.room ≡ s.hands.guard.room
       → divisor_of layout ≡ t.in_use.block.k
@@ -76,7 +76,7 @@ module _ {C : ℕ} (s : Inside C) (t : Kept) (is : kept_of s ≡ t) (whole : IsW
     base = whole.base;
     few = whole.few;
     buf = whole.buf;
-    divisor = divisor ∙ ap (λ (x : Kept). x.in_use.block.k) (sym is);
+    divisor = divisor ∙ ap (λ (x : StoreValue). x.in_use.block.k) (sym is);
     kept_divisor = whole.kept_divisor;
     kept_caps = whole.kept_caps ∙ sym caps_stay;
     room = names ∙ whole.room;
@@ -84,5 +84,5 @@ module _ {C : ℕ} (s : Inside C) (t : Kept) (is : kept_of s ≡ t) (whole : IsW
     table = λ sound. is_table;
     sound = λ sound. subst (IsStore C) (sym changed_view) store;
     freed = λ sound. subst (λ x. IsFreed guard.spans x table.kept) (sym same_now)
-        (subst (λ x. IsFreed guard.spans now x) (ap (λ (x : Kept). x.kept) (sym is) ∙ sym kept) freed);
+        (subst (λ x. IsFreed guard.spans now x) (ap (λ (x : StoreValue). x.kept) (sym is) ∙ sym kept) freed);
   }

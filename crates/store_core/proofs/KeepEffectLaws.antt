@@ -17,19 +17,19 @@ use Rattle.slot_codec.specs.declared.codec.Header.{Header}
 use Rattle.slot_codec.proofs.ChoiceLaws.{chosen_sequence, table_chosen}
 use Rattle.slot_codec.proofs.StepLaws.{from_ok}
 use Rattle.slot_pair.specs.Saves.{IsSaved, LeavesEither, SaveLeaves, next_chosen, next_in_use, save_calls}
-use Rattle.store_terms.specs.Requests as ask
+use Rattle.map_model.specs.Requests as ask
 use Rattle.segment_layout.specs.Layouts.{caps_of, grid_of}
 use Rattle.extent_table.specs.Extents.{Extents, IsTable, records_of}
 use Rattle.table_rules.specs.Sequences.{HasSequenceUpTo}
-use Rattle.spot_terms.specs.Held.{IsFreed}
-use Rattle.spot_terms.specs.LaidOut.{shown_book}
-use Rattle.spot_terms.proofs.GuardLaws.{freed_nothing}
+use Rattle.placement_model.specs.Held.{IsFreed}
+use Rattle.placement_model.specs.LaidOut.{shown_book}
+use Rattle.placement_model.proofs.GuardLaws.{freed_nothing}
 use Rattle.store_core.specs.declared.answers.Refusal.{Refusal}
 use Rattle.store_core.specs.declared.answers.Done.{Done}
 use Rattle.store_core.specs.declared.store.Store.TheInside.{Inside}
-use Rattle.store_core.specs.Connection.{IsConnected, IsOver, Kept, RestsOnTable, SameOnTable, base_of, limits_of, state_of}
+use Rattle.store_core.specs.Connection.{IsConnected, IsOver, StoreValue, RestsOnTable, SameOnTable, base_of, limits_of, state_of}
 use Rattle.store_core.specs.Inside.{IsWhole, kept_of}
-use Rattle.store_core.specs.Keeps.{IsEitherImage, KeepsNow, kept_now}
+use Rattle.store_core.specs.Keeps.{OpensToKeptOrNow, KeepsNow, kept_now}
 use Rattle.store_core.specs.States.{Step}
 use Rattle.store_core.specs.Stores.{IsStore}
 use Rattle.store_core.proofs.InsideLaws.{opened}
@@ -45,7 +45,7 @@ sequence_of_chosen file c most is low t read =
     let same : c ≡ t.chosen = from_ok c t.chosen (sym is ∙ (table_chosen file t read).0) in
     omega (arith, low, ap (λ (x : choice.Chosen). x.header.sequence) same)
 
-module _ {classes : ℕ} (s : Kept) (h : IsStore classes s) (fresh : s.in_use.sequence < 2 ^ 61) where
+module _ {classes : ℕ} (s : StoreValue) (h : IsStore classes s) (fresh : s.in_use.sequence < 2 ^ 61) where
   abbrev base : ℕ
   base = base_of s
 
@@ -68,7 +68,7 @@ module _ {classes : ℕ} (s : Kept) (h : IsStore classes s) (fresh : s.in_use.se
     -- each image that a save may leave is of the last checkpoint, or of now
     either_image : RestsOnTable base s.kept a → (image : List ℕ)
         → LeavesEither s.in_use over.table.chosen (header_now s) (records_of s.now) a.may_leave a.file image
-        → IsEitherImage classes s a.file image
+        → OpensToKeptOrNow classes s a.file image
     either_image rests image (inr new) = record {
       same_length = sym new.data_part.same_length;
       opens = inr (record {
@@ -92,14 +92,14 @@ module _ {classes : ℕ} (s : Kept) (h : IsStore classes s) (fresh : s.in_use.se
           | inr same ↦ subst (SameOnTable base s.kept a.file) (sym same) (same_itself base s.kept a.file)
         ]
 
-    pub left_either : RestsOnTable base s.kept a → Leaves a d (IsEitherImage classes s a.file)
-    left_either rests = Leaves-weaken (IsEitherImage classes s a.file) (either_image rests)
+    pub left_either : RestsOnTable base s.kept a → Leaves a d (OpensToKeptOrNow classes s a.file)
+    left_either rests = Leaves-weaken (OpensToKeptOrNow classes s a.file) (either_image rests)
         (left.images over.table.chosen chosen (omega (arith, fresh)) (λ image is. record {
           long = omega (arith, over.same_length, (rests image is).same_length);
           bytes = (rests image is).below;
         }))
 
-    pub content_either : IsEitherImage classes s a.file d.file
+    pub content_either : OpensToKeptOrNow classes s a.file d.file
     content_either = record {
       same_length = sym left.data_part.same_length;
       opens = elim (left.old_or_new over.table.chosen chosen (omega (arith, fresh))) [
@@ -131,7 +131,7 @@ module _ {classes : ℕ} (s : Kept) (h : IsStore classes s) (fresh : s.in_use.se
       (left : IsTrue a.tells → SaveLeaves s.in_use (header_now s) (records_of s.now) a d)
       (frame : KeepsDisk a d)
     where
-      pub keeps_saved : (answer : Done) (new : Kept) → new ≡ kept_now s
+      pub keeps_saved : (answer : Done) (new : StoreValue) → new ≡ kept_now s
           → (IsTrue a.tells → IsSaved (table_now s).chosen (records_of s.now) d.file)
           → (IsTrue a.tells → Rests d)
           → Calls {E = Refusal} (save_calls (length (records_of s.now))) a d (Ok answer)
@@ -153,7 +153,7 @@ module _ {classes : ℕ} (s : Kept) (h : IsStore classes s) (fresh : s.in_use.se
         frame = frame;
       }
 
-      pub keeps_failed : (refused : Refusal) (new : Kept) → new ≡ record s { is_broken = true }
+      pub keeps_failed : (refused : Refusal) (new : StoreValue) → new ≡ record s { is_broken = true }
           → Calls {T = Done} (save_calls (length (records_of s.now))) a d (Err refused)
           → KeepsNow classes s new a d (Err refused)
       keeps_failed refused new is calls = record {
@@ -216,11 +216,12 @@ module _ {C : ℕ} (s : Inside C) (whole : IsWhole s) (table : Extents) (guard :
 -- ---- what contracts see
 
 -- What holds of the fields and of the header that was saved, holds of what contracts see and of its header.
-seen : {C : ℕ} (P : Kept → Header → Type 0) (s : Inside C) (t : Kept) → kept_of s ≡ t → (h : Header)
+seen : {C : ℕ} (P : StoreValue → Header → Type 0) (s : Inside C) (t : StoreValue) → kept_of s ≡ t
+    → (h : Header)
     → h ≡ header_now (kept_of s) → P (kept_of s) h → P t (header_now t)
 seen P s t is h same p = subst (λ x. P x (header_now x)) is (subst (P (kept_of s)) same p)
 
-module _ {C : ℕ} (s : Inside C) (t : Kept) (is : kept_of s ≡ t) (whole : IsWhole s)
+module _ {C : ℕ} (s : Inside C) (t : StoreValue) (is : kept_of s ≡ t) (whole : IsWhole s)
     (unbroken : t.is_broken ≡ false) (fresh : t.in_use.sequence < 2 ^ 61) (h : Header)
     (same : h ≡ header_now (kept_of s)) {a d : disk.State} (connected : IsConnected C t a)
     (leaves : IsTrue a.tells → SaveLeaves s.hands.slots h (records_of s.hands.table.now) a d)
@@ -234,19 +235,20 @@ module _ {C : ℕ} (s : Inside C) (t : Kept) (is : kept_of s ≡ t) (whole : IsW
   calls_seen : {A : Type 0} (result : Result A Refusal)
       → Calls (save_calls (length (records_of s.hands.table.now))) a d result
       → Calls (save_calls (length (records_of t.now))) a d result
-  calls_seen result = subst (λ (x : Kept). Calls (save_calls (length (records_of x.now))) a d result) is
+  calls_seen result = subst (λ (x : StoreValue). Calls (save_calls (length (records_of x.now))) a d result) is
 
-  pub keep_failed : (refused : Refusal) (new : Kept) → new ≡ record (kept_of s) { is_broken = true }
+  pub keep_failed : (refused : Refusal) (new : StoreValue) → new ≡ record (kept_of s) { is_broken = true }
       → Calls {T = Done} (save_calls (length (records_of s.hands.table.now))) a d (Err refused)
       → KeepsNow C t new a d (Err refused)
   keep_failed refused new new_is calls = keeps_failed t store fresh (connected unbroken) left_seen frame
-      refused new (new_is ∙ ap (λ (x : Kept). record x { is_broken = true }) is)
+      refused new (new_is ∙ ap (λ (x : StoreValue). record x { is_broken = true }) is)
       (calls_seen (Err refused) calls)
 
   module _ (saved : IsTrue a.tells → s.hands.slots.sequence + 1 < worn_from h.kind
       → IsSaved (next_chosen s.hands.slots h (length (records_of s.hands.table.now)))
       (records_of s.hands.table.now) d.file)
-      (in_use : IsTrue a.tells → choice.slot_in_use d.file ≡ Ok (next_in_use s.hands.slots)) (new : Kept)
+      (in_use : IsTrue a.tells → choice.slot_in_use d.file ≡ Ok (next_in_use s.hands.slots))
+      (new : StoreValue)
       (new_is : new ≡ kept_now (kept_of s)) where
     saved_seen : IsTrue a.tells → IsSaved (table_now t).chosen (records_of t.now) d.file
     saved_seen told = seen (λ x h. x.in_use.sequence + 1 < worn_from h.kind
@@ -265,7 +267,7 @@ module _ {C : ℕ} (s : Inside C) (t : Kept) (is : kept_of s ≡ t) (whole : IsW
 
     pub keep_step : IsTrue a.tells
         → Step (limits_of t) (state_of t a.file) ask.keep ask.kept (state_of new d.file)
-    keep_step told = subst (λ (x : Kept). Step (limits_of t) (state_of t a.file) ask.keep ask.kept
+    keep_step told = subst (λ (x : StoreValue). Step (limits_of t) (state_of t a.file) ask.keep ask.kept
         (state_of x d.file)) (sym new_seen)
         (step_kept t store a.file (connected unbroken told) d.file (saved_seen told)
         (left_seen told).data_part fresh)
@@ -273,6 +275,6 @@ module _ {C : ℕ} (s : Inside C) (t : Kept) (is : kept_of s ≡ t) (whole : IsW
     pub keep_over : IsTrue d.tells → IsOver C new d.file
     keep_over told =
         let first = subst IsTrue frame.stays.told told in
-        subst (λ (x : Kept). IsOver C x d.file) (sym new_seen)
+        subst (λ (x : StoreValue). IsOver C x d.file) (sym new_seen)
         (over_kept t store a.file (connected unbroken first) d.file (saved_seen first)
-        (left_seen first).data_part (in_use first ∙ ap (λ (x : Kept). Ok (next_in_use x.in_use)) is))
+        (left_seen first).data_part (in_use first ∙ ap (λ (x : StoreValue). Ok (next_in_use x.in_use)) is))

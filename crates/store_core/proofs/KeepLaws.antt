@@ -9,7 +9,7 @@ use Rattle.size_class.specs.declared.TheConstants.{SIZE_MAX}
 use Rattle.slot_codec.specs.Choice as choice
 use Rattle.slot_codec.specs.declared.codec.Header.{Header}
 use Rattle.slot_pair.specs.Saves.{IsSaved, KeepsTable, next_chosen, next_in_use}
-use Rattle.store_terms.specs.Requests as ask
+use Rattle.map_model.specs.Requests as ask
 use Rattle.segment_layout.specs.Books.{Book}
 use Rattle.segment_layout.specs.Shapes.{end_of}
 use Rattle.table_rules.specs.Opening.{OpensBy, placed_table}
@@ -17,13 +17,13 @@ use Rattle.table_rules.specs.Rules.{IsValid}
 use Rattle.table_rules.specs.Tables.{book_of}
 use Rattle.extent_table.specs.Extents.{Spots, record_of, records_of}
 use Rattle.extent_table.proofs.ExtentLaws.{records_of-all}
-use Rattle.spot_terms.specs.Laid.{settled_header, settled_table}
-use Rattle.spot_terms.specs.Reads.{AreNamed}
-use Rattle.spot_terms.proofs.LaidLaws.{valid_numbered}
-use Rattle.spot_terms.proofs.RiseLaws.{CellsRise-itself}
-use Rattle.spot_terms.proofs.ShownLaws.{book_shown}
+use Rattle.placement_model.specs.Laid.{settled_header, settled_table}
+use Rattle.placement_model.specs.Reads.{AreNamed}
+use Rattle.placement_model.proofs.LaidLaws.{valid_numbered}
+use Rattle.placement_model.proofs.RiseLaws.{CellsRise-itself}
+use Rattle.placement_model.proofs.ShownLaws.{book_shown}
 use Rattle.flush_run.proofs.SavedLaws.{map_from, new_image_opens, old_image_opens, valid_at}
-use Rattle.store_core.specs.Connection.{IsOver, Kept, SameOnTable, base_of, kept_map, limits_of, state_of}
+use Rattle.store_core.specs.Connection.{IsOver, StoreValue, SameOnTable, base_of, kept_map, limits_of, state_of}
 use Rattle.store_core.specs.Keeps.{kept_now, now_map}
 use Rattle.store_core.specs.States.{Limits, Served, State, Step, facts_of, refusal}
 use Rattle.store_core.specs.Stores.{IsStore}
@@ -36,10 +36,10 @@ length-records_of spots named = ap length (records_of-all spots named)
     ∙ length-map (fin.entries spots) record_of ∙ sym (fin.len-entries spots)
 
 -- the header and the table of what stands now
-abbrev pub header_now : Kept → Header
+abbrev pub header_now : StoreValue → Header
 header_now s = settled_header s.book.caps s.book.grid
 
-abbrev pub table_now : Kept → choice.Table
+abbrev pub table_now : StoreValue → choice.Table
 table_now s = record {
   chosen = next_chosen s.in_use (header_now s) (length (records_of s.now));
   records = records_of s.now;
@@ -66,7 +66,7 @@ keep_step limits s after fresh map kept book kept_book sequence =
       high = omega (arith, sequence, ap (λ (x : Served). x.saves.most) is);
     }
 
-module _ {classes : ℕ} (s : Kept) (h : IsStore classes s) where
+module _ {classes : ℕ} (s : StoreValue) (h : IsStore classes s) where
   abbrev k : ℕ
   k = s.in_use.block.k
 

@@ -24,9 +24,9 @@ pub mod BeginLaws
 pub mod ChargedLaws
 pub mod StartingLaws
 pub mod BegunLaws
-pub mod FlyLaws
+pub mod MakeFlushLaws
 pub mod FlushLaws
-pub mod FlownLaws
+pub mod MadeFlushLaws
 pub mod FlushDoneLaws
 pub mod ServeLaws
 pub mod OpeningLaws

@@ -16,9 +16,9 @@ use Rattle.slot_codec.specs.declared.codec.Header.{Header}
 use Rattle.slot_codec.specs.declared.codec.Kind.TheVariants as kind
 use Rattle.slot_codec.specs.declared.codec.Record.{Record}
 use Rattle.slot_codec.specs.declared.codec.SuperBlock.{SuperBlock}
-use Rattle.store_terms.specs.Maps.{Map}
-use Rattle.store_terms.specs.Weights.{same_name}
-use Rattle.store_terms.proofs.MapLaws.{same_name-is}
+use Rattle.map_model.specs.Maps.{Map}
+use Rattle.map_model.specs.Weights.{same_name}
+use Rattle.map_model.proofs.MapLaws.{same_name-is}
 use Rattle.segment_layout.specs.Books.{Book}
 use Rattle.segment_layout.specs.Layouts.{caps_of, divisor_of, grid_of}
 use Rattle.segment_layout.specs.Shapes.{is_boundary, settled_caps, settled_grid, start_of}
@@ -29,25 +29,25 @@ use Rattle.table_rules.specs.Tables.{HasFullRows, PlacedTable, book_of, end_of_r
 use Rattle.table_rules.proofs.TableLaws.{zero_cell}
 use Rattle.extent_table.specs.declared.spot.Spot.{Spot}
 use Rattle.extent_table.specs.Extents.{Spots, records_of}
-use Rattle.spot_terms.specs.Held.{IsFreed}
-use Rattle.spot_terms.specs.Laid.{laid, moving_header}
-use Rattle.spot_terms.proofs.EnterLaws.{by_name}
-use Rattle.spot_terms.proofs.GoneLaws.{apart_by_name}
-use Rattle.spot_terms.proofs.GuardLaws.{freed_nothing}
-use Rattle.spot_terms.proofs.LaidLaws.{valid_numbered}
-use Rattle.spot_terms.proofs.LaidOutLaws.{class_in_use}
-use Rattle.spot_terms.proofs.QuietLaws.{IsGrid-wider}
-use Rattle.plan_terms.specs.declared.item.Item.{Item}
-use Rattle.plan_terms.specs.declared.item.Numbers.{Numbers}
-use Rattle.plan_terms.specs.Phases.{AreObjects, phase_of}
-use Rattle.plan_terms.specs.Plans.{AreBelow, AreSmall, ItemsCanResume}
-use Rattle.plan_terms.specs.Resumed.{numbers_again}
-use Rattle.flush_run.specs.Flights.{Flight}
-use Rattle.flush_run.specs.Hands.{IsHandsFor, suffix_items}
+use Rattle.placement_model.specs.Held.{IsFreed}
+use Rattle.placement_model.specs.Laid.{laid, moving_header}
+use Rattle.placement_model.proofs.EnterLaws.{by_name}
+use Rattle.placement_model.proofs.GoneLaws.{apart_by_name}
+use Rattle.placement_model.proofs.GuardLaws.{freed_nothing}
+use Rattle.placement_model.proofs.LaidLaws.{valid_numbered}
+use Rattle.placement_model.proofs.LaidOutLaws.{class_in_use}
+use Rattle.placement_model.proofs.QuietLaws.{IsGrid-wider}
+use Rattle.flush_model.specs.declared.item.Item.{Item}
+use Rattle.flush_model.specs.declared.item.Numbers.{Numbers}
+use Rattle.flush_model.specs.Phases.{AreObjects, phase_of}
+use Rattle.flush_model.specs.Plans.{AreBelow, AreSmall, ItemsCanResume}
+use Rattle.flush_model.specs.Resumed.{numbers_again}
+use Rattle.flush_run.specs.FlushFrames.{FlushFrame}
+use Rattle.flush_run.specs.Hands.{HandsMatchPlan, suffix_items}
 use Rattle.flush_run.specs.Shelved.{shelf_of}
 use Rattle.flush_run.proofs.OverLaws.{shelf_holds}
-use Rattle.flush_start.proofs.AgainLaws.{are_objects, items_can}
-use Rattle.flush_start.proofs.SuffixLaws.{has_item}
+use Rattle.change_charges.proofs.AgainLaws.{are_objects, items_can}
+use Rattle.change_charges.proofs.SuffixLaws.{has_item}
 use Rattle.reopen.specs.declared.state.Loaded.{Loaded}
 use Rattle.reopen.specs.Loads.{KeepsLoaded}
 use Rattle.flush_plan.specs.Packs.{CanGoOn}
@@ -228,7 +228,7 @@ module _ {C : ℕ} (x : Loaded C) (loads : KeepsLoaded x) (moving : x.header.kin
     -- ---- the hands
 
     -- The flight of a flush that goes on: from what was found to the same.
-    abbrev pub again : Bool → Bool → Map → Book → Flight
+    abbrev pub again : Bool → Bool → Map → Book → FlushFrame
     again fresh rests m book = record {
       classes = C;
       size_max = SIZE_MAX;
@@ -244,7 +244,7 @@ module _ {C : ℕ} (x : Loaded C) (loads : KeepsLoaded x) (moving : x.header.kin
 
     module _ (fresh rests : Bool) (m : Map) (book : Book) (divisor : ℕ) (same : divisor ≡ k) (all : List Item)
         (perm : IsPermutation all items) where
-      pub hands_again : IsHandsFor (again fresh rests m book) x.slots x.table caps grid []
+      pub hands_again : HandsMatchPlan (again fresh rests m book) x.slots x.table caps grid []
           (phase_of divisor caps (numbers divisor) 0 all)
       hands_again = record {
         block = subst IsSuperBlock (sym loads.same_block) loads.ranges;

@@ -12,30 +12,30 @@ use Rattle.segment_layout.specs.Layouts.{caps_of, divisor_of, grid_of}
 use Rattle.segment_layout.proofs.TightLaws.{tight}
 use Rattle.table_rules.specs.Rules.{IsValid}
 use Rattle.extent_table.specs.Extents.{IsTable}
-use Rattle.spot_terms.specs.Held.{IsFreed}
-use Rattle.spot_terms.specs.Laid.{settled_table}
-use Rattle.spot_terms.specs.Rises.{CellsRise}
-use Rattle.spot_terms.specs.LaidOut.{IsLaidOut, shown_book}
-use Rattle.spot_terms.proofs.GuardLaws.{freed_nothing}
-use Rattle.spot_terms.proofs.RiseLaws.{CellsRise-itself}
-use Rattle.spot_terms.proofs.ShownLaws.{book_shown}
+use Rattle.placement_model.specs.Held.{IsFreed}
+use Rattle.placement_model.specs.Laid.{settled_table}
+use Rattle.placement_model.specs.Rises.{CellsRise}
+use Rattle.placement_model.specs.LaidOut.{IsLaidOut, shown_book}
+use Rattle.placement_model.proofs.GuardLaws.{freed_nothing}
+use Rattle.placement_model.proofs.RiseLaws.{CellsRise-itself}
+use Rattle.placement_model.proofs.ShownLaws.{book_shown}
 use Rattle.store_core.specs.declared.store.Store.TheInside.{Inside}
-use Rattle.store_core.specs.Connection.{IsOver, Kept, base_of, opened_store, state_of}
+use Rattle.store_core.specs.Connection.{IsOver, StoreValue, base_of, opened_store, state_of}
 use Rattle.store_core.specs.Inside.{IsWhole, kept_of}
 use Rattle.store_core.specs.Stores.{IsStore}
-use Rattle.flush_start.proofs.EndLaws.{shown_balanced}
+use Rattle.change_charges.proofs.EndLaws.{shown_balanced}
 use Rattle.store_core.proofs.StoreLaws.{kept_lies, now_lies}
 
 -- ---- tight
 
-pub tight_now : {classes : ℕ} (s : Kept) (file : List ℕ) → IsStore classes s → IsOver classes s file
+pub tight_now : {classes : ℕ} (s : StoreValue) (file : List ℕ) → IsStore classes s → IsOver classes s file
     → Tight s.in_use.block.k (book_end s.in_use.block.k s.book) (state_of s file).map
 tight_now {classes} s file h over = tight s.in_use.block.k (state_of s file).map
     (shown_book classes SIZE_MAX s.in_use.block.k s.book.caps s.book.grid s.now)
     (shown_balanced classes SIZE_MAX s.in_use.block.k s.book.caps s.book.grid s.now h.now (base_of s) file
     (now_lies s file h over))
 
-pub tight_kept : {classes : ℕ} (s : Kept) (file : List ℕ) → IsStore classes s → IsOver classes s file
+pub tight_kept : {classes : ℕ} (s : StoreValue) (file : List ℕ) → IsStore classes s → IsOver classes s file
     → Tight s.in_use.block.k (book_end s.in_use.block.k s.kept_book) (state_of s file).kept
 tight_kept {classes} s file h over =
     let k = s.in_use.block.k in

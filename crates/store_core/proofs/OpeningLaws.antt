@@ -18,22 +18,22 @@ use Rattle.slot_codec.specs.declared.codec.Record.{Record}
 use Rattle.table_rules.proofs.SequenceLaws.{sequence_of_table}
 use Rattle.slot_pair.specs.Finding.{HasDiskCause}
 use Rattle.slot_pair.specs.declared.find.SlotFault.TheVariants as slot
-use Rattle.store_terms.specs.Maps.{Map}
+use Rattle.map_model.specs.Maps.{Map}
 use Rattle.segment_layout.specs.Books.{Book}
 use Rattle.table_rules.specs.Objects.{HasRoomFor}
 use Rattle.table_rules.specs.Opening.{Opens, OpensBy, placed_table}
 use Rattle.table_rules.specs.Tables.{book_of, map_of, no_record}
 use Rattle.table_rules.proofs.OpeningLaws.{carries_on}
 use Rattle.extent_table.specs.Extents.{Spots, record_of, records_of}
-use Rattle.spot_terms.specs.Reads.{AreNamed}
-use Rattle.spot_terms.proofs.OpenedLaws.{opens_long, record_within}
-use Rattle.spot_terms.proofs.ReadLaws.{record_at, spot_of_record}
+use Rattle.placement_model.specs.Reads.{AreNamed}
+use Rattle.placement_model.proofs.OpenedLaws.{opens_long, record_within}
+use Rattle.placement_model.proofs.ReadLaws.{record_at, spot_of_record}
 use Rattle.flush_run.specs.Calls.{piece_calls}
 use Rattle.flush_run.proofs.CallLaws.{calls_none, calls_wider}
 use Rattle.reopen.specs.Refusals.{RefusesToOpen}
 use Rattle.reopen.specs.declared.fault.OpenFault.{OpenFault}
 use Rattle.reopen.specs.declared.fault.OpenFault.TheVariants as fault
-use Rattle.store_core.specs.Connection.{IsOver, Kept, SameOnTable, base_of, state_of}
+use Rattle.store_core.specs.Connection.{IsOver, StoreValue, SameOnTable, base_of, state_of}
 use Rattle.store_core.specs.Opened.{HasOpenCalls, IsFoundImage, IsOpened, IsOpening, OpensFound, RefusesUnchanged, RestsOnFound, SameOnFound, found_base, MostCallsOf, most_by, most_found, state_at}
 use Rattle.store_core.specs.Stores.{IsStore}
 use Rattle.store_core.proofs.OverLaws.{by_index, head_is}
@@ -155,7 +155,7 @@ module _ {classes : ℕ} {t : choice.Table} {m : Map} {b : Book} {before mid : d
   }
 
   -- an opening goes on
-  pub opens_then : {now : disk.State} {result : Result Kept OpenFault}
+  pub opens_then : {now : disk.State} {result : Result StoreValue OpenFault}
       → OpensFound classes t m b mid now result → OpensFound classes t m b before now result
   opens_then {now} {result} next = record {
     content = λ room. subst (λ n. IsFoundImage classes t m b (length n) now.file) file_stays
@@ -167,13 +167,15 @@ module _ {classes : ℕ} {t : choice.Table} {m : Map} {b : Book} {before mid : d
     calls = subst (λ n. IfOk result (HasOpenCalls t m b before.file n now.turn)) same.same_turn
         (subst (λ n. IfOk result (HasOpenCalls t m b n mid.turn now.turn)) file_stays next.calls);
     most = subst (λ n. MostCallsOf t.chosen.header.kind t m n now.turn) same.same_turn next.most;
-    alone = λ settled low. Unchanged-trans same (next.alone settled (omega (arith, low, ap length file_stays)));
+    alone = λ settled low. Unchanged-trans same (next.alone settled
+        (omega (arith, low, ap length file_stays)));
   }
 
 -- ---- what was found, by other words
 
 pub found_by : {classes : ℕ} {t u : choice.Table} {m n : Map} {b c : Book} {before now : disk.State}
-    {result : Result Kept OpenFault} → FoundSame t u m n b c → OpensFound classes t m b before now result
+    {result : Result StoreValue OpenFault} → FoundSame t u m n b c
+    → OpensFound classes t m b before now result
     → OpensFound classes u n c before now result
 found_by {classes} {t} {u} {m} {n} {b} {c} {before} {now} {result} same is =
     subst (λ (x : Book). OpensFound classes u n x before now result) same.same_book
@@ -254,14 +256,14 @@ later_refusal a m d (fault.Slot (slot.Codec f at)) same after = Unchanged-trans 
 later_refusal a m d (fault.Table broken) same after = Unchanged-trans same after
 later_refusal a m d fault.NoMemory same after = Unchanged-trans same after
 
-after_reading : (a m d : disk.State) → Unchanged a m → (result : Result Kept OpenFault)
+after_reading : (a m d : disk.State) → Unchanged a m → (result : Result StoreValue OpenFault)
     → IfErr result (RefusesUnchanged m d) → IfErr result (RefusesUnchanged a d)
 after_reading a m d same (Ok s) is = tt
 after_reading a m d same (Err why) is = later_refusal a m d why same is
 
 -- it was, and its table is opened
 module _ {classes : ℕ} {a m d : disk.State} (same : Unchanged a m) (calm : m.faults ≡ a.faults) where
-  pub opening_then : (result : Result Kept OpenFault) → IsOpening classes m d result
+  pub opening_then : (result : Result StoreValue OpenFault) → IsOpening classes m d result
       → IsOpening classes a d result
   opening_then result next = record {
     opened = λ told. subst (λ f. IfOk result (IsOpened classes f d.file)) (same.same_file told)
@@ -289,7 +291,8 @@ module _ {classes : ℕ} {a m d : disk.State} (same : Unchanged a m) (calm : m.f
 
 -- what an opening left opens to the same state
 pub opened_again : (classes : ℕ) (t : choice.Table) (m : Map) (b : Book) (longest : ℕ)
-    (image now : List ℕ) (s : Kept) → IsFoundImage classes t m b longest image → IsOpened classes image now s
+    (image now : List ℕ) (s : StoreValue) → IsFoundImage classes t m b longest image
+    → IsOpened classes image now s
     → state_of s now ≡ state_at m b s.in_use.sequence
 opened_again classes t m b longest image now s left opened =
     let one = found_one classes opened.table left.opens.table image opened.m m opened.b b opened.found
@@ -305,7 +308,7 @@ alike_itself t file = record {
 }
 
 -- what is alike on the table of a store's checkpoint is so on the table that is found
-pub alike_found : (classes : ℕ) (s : Kept) (file image : List ℕ) → IsStore classes s
+pub alike_found : (classes : ℕ) (s : StoreValue) (file image : List ℕ) → IsStore classes s
     → (over : IsOver classes s file) → SameOnTable (base_of s) s.kept file image
     → SameOnFound over.table file image
 alike_found classes s file image h over same =

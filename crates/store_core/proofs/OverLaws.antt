@@ -13,16 +13,16 @@ use Rattle.slot_codec.specs.Spelling.{head_len}
 use Rattle.slot_codec.specs.declared.codec.Record.{Record}
 use Rattle.slot_codec.specs.declared.codec.SuperBlock.{SuperBlock}
 use Rattle.slot_codec.proofs.ChoiceLaws.{chosen_parts, same_in_use, table_chosen}
-use Rattle.store_terms.specs.Maps.{Map}
+use Rattle.map_model.specs.Maps.{Map}
 use Rattle.table_rules.specs.Objects.{HasRoomFor, SameObjects}
 use Rattle.table_rules.specs.Opening.{OpensBy, placed_table}
 use Rattle.table_rules.specs.Tables.{end_of_record, map_of, no_record}
 use Rattle.table_rules.proofs.OpeningLaws.{carries_on}
 use Rattle.table_rules.proofs.SequenceLaws.{sequence_of_slot}
 use Rattle.extent_table.specs.Extents.{Spots, records_of}
-use Rattle.spot_terms.specs.Reads.{AllLieApart, AreNamed, EndWithin}
-use Rattle.spot_terms.proofs.ReadLaws.{spot_of_record}
-use Rattle.store_core.specs.Connection.{HasCheckpoint, IsKeptImage, IsOver, Kept, RestsOnTable, SameOnTable, base_of, kept_map}
+use Rattle.placement_model.specs.Reads.{AllLieApart, AreNamed, EndWithin}
+use Rattle.placement_model.proofs.ReadLaws.{spot_of_record}
+use Rattle.store_core.specs.Connection.{HasCheckpoint, IsKeptImage, IsOver, StoreValue, RestsOnTable, SameOnTable, base_of, kept_map}
 use Rattle.store_core.specs.Stores.{IsStore}
 use Rattle.store_core.proofs.StoreLaws.{kept_lies}
 
@@ -97,14 +97,16 @@ same_objects base spots a b named within same = by_index base (records_of spots)
 
 -- ---- a store over a file
 
-pub same_block : {classes : ℕ} (s : Kept) (file : List ℕ) (t : choice.Table) → HasCheckpoint classes s file t
+pub same_block : {classes : ℕ} (s : StoreValue) (file : List ℕ) (t : choice.Table)
+    → HasCheckpoint classes s file t
     → t.chosen.block ≡ s.in_use.block
 same_block s file t c =
     let p = chosen_parts file t.chosen (table_chosen file t c.opens.read).0 in
     let one : p.in_use ≡ s.in_use = (let both : Ok p.in_use ≡ Ok s.in_use = sym p.slot_read ∙ c.slot in cc) in
     p.same_block ∙ ap (λ (u : choice.InUse). u.block) one
 
-module _ {classes : ℕ} (s : Kept) (h : IsStore classes s) (file : List ℕ) (over : IsOver classes s file) where
+module _ {classes : ℕ} (s : StoreValue) (h : IsStore classes s) (file : List ℕ)
+    (over : IsOver classes s file) where
   abbrev t : choice.Table
   t = over.table
 

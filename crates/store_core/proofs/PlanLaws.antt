@@ -5,17 +5,17 @@ use Rattle.std.proofs.lemmas.Bool.{leb-false, ltb-false}
 use Rattle.std.specs.FinMap as fin
 use Rattle.size_class.specs.declared.TheConstants.{SIZE_MAX}
 use Rattle.slot_codec.specs.Names.{IsName, is_name}
-use Rattle.store_terms.specs.Requests as ask
-use Rattle.store_terms.specs.Requests.{Change, Refused}
+use Rattle.map_model.specs.Requests as ask
+use Rattle.map_model.specs.Requests.{Change, Refused}
 use Rattle.std.proofs.lemmas.List.{append-nil}
 use Rattle.segment_layout.specs.Books.{charge_all, is_quiet, some_size}
 use Rattle.extent_table.specs.declared.spot.Spot.{Spot}
-use Rattle.spot_terms.specs.Quiet.{QuietTo, gone_items}
-use Rattle.spot_terms.proofs.QuietLaws.{quiet_then}
+use Rattle.placement_model.specs.Quiet.{QuietTo, gone_items}
+use Rattle.placement_model.proofs.QuietLaws.{quiet_then}
 use Rattle.store_core.specs.declared.answers.Refusal.{Refusal}
 use Rattle.store_core.specs.declared.answers.Refusal.TheVariants as why
 use Rattle.store_core.specs.Answers.{facts_at, refusal_for, refused_by}
-use Rattle.store_core.specs.Connection.{Kept, limits_of}
+use Rattle.store_core.specs.Connection.{StoreValue, limits_of}
 use Rattle.store_core.specs.Plans.{AcceptsName, IsDelPlan, IsPutPlan}
 use Rattle.store_core.specs.Quiet.{IsCharged, charges_of, del_of, put_of}
 use Rattle.store_core.specs.States.{first_refusal, object_tests, refusal, worn_test}
@@ -38,7 +38,7 @@ not_refused : (o : Option Refused) → option_map refusal_for o ≡ None → o �
 not_refused None is = refl
 not_refused (Some why) is = absurd (cc)
 
-no_refusal : (s : Kept) (r : ask.Request) → refused_by s r ≡ None
+no_refusal : (s : StoreValue) (r : ask.Request) → refused_by s r ≡ None
     → (s.is_broken ≡ false) × (refusal (limits_of s) (facts_at s r) r ≡ None)
 no_refusal s r is =
     let whole = whole_if_served s.is_broken (option_map refusal_for (refusal (limits_of s) (facts_at s r) r))
@@ -54,7 +54,7 @@ false_of_not : (b : Bool) → not b ≡ false → b ≡ true
 false_of_not true is = refl
 false_of_not false is = absurd (cc)
 
-pub record PutServed (s : Kept) (name object : List ℕ) : Type 0 where
+pub record PutServed (s : StoreValue) (name object : List ℕ) : Type 0 where
   pub whole : s.is_broken ≡ false
   pub named : IsName name
   pub small : length object ≤ SIZE_MAX
@@ -64,7 +64,8 @@ pub record PutServed (s : Kept) (name object : List ℕ) : Type 0 where
       (ask.change (put_of name object))
       ≡ None
 
-pub put_served : (s : Kept) (name object : List ℕ) → refused_by s (ask.change (put_of name object)) ≡ None
+pub put_served : (s : StoreValue) (name object : List ℕ) → refused_by s (ask.change (put_of name object))
+    ≡ None
     → PutServed s name object
 put_served s name object is =
     let f = facts_at s (ask.change (put_of name object)) in
@@ -93,13 +94,13 @@ put_served s name object is =
     either (Some x) is = inl refl
     either None is = inr (leb-false s.in_use.block.names (fin.len s.now) is)
 
-pub record DelServed (s : Kept) (name : List ℕ) : Type 0 where
+pub record DelServed (s : StoreValue) (name : List ℕ) : Type 0 where
   pub whole : s.is_broken ≡ false
   pub named : IsName name
   pub fresh : s.in_use.sequence < 2 ^ 61
   pub calm : refusal (limits_of s) (facts_at s (ask.change (del_of name))) (ask.change (del_of name)) ≡ None
 
-pub del_served : (s : Kept) (name : List ℕ) → refused_by s (ask.change (del_of name)) ≡ None
+pub del_served : (s : StoreValue) (name : List ℕ) → refused_by s (ask.change (del_of name)) ≡ None
     → DelServed s name
 del_served s name is =
     let no = no_refusal s (ask.change (del_of name)) is in
@@ -117,7 +118,7 @@ del_served s name is =
 
 -- ---- each charge finds room
 
-pub charged_quietly : (s : Kept) (name object : List ℕ) (grid : List (List ℕ)) (place : ℕ)
+pub charged_quietly : (s : StoreValue) (name object : List ℕ) (grid : List (List ℕ)) (place : ℕ)
     → IsCharged s.in_use.block.k s.book.caps s.book.grid (fin.get s.now name) (length object) grid place
     → QuietTo s.in_use.block.k s.book.caps s.book.grid
     (gone_items s.in_use.block.k s.book.caps (fin.get s.now name) ++ some_size (length object)) grid
@@ -126,7 +127,7 @@ charged_quietly s name object grid place c = quiet_then s.in_use.block.k s.book.
     c.placed.charged
 
 -- the plans, from what was charged on a copy of the layout
-pub put_planned : (s : Kept) (name object n : List ℕ) (k k' : ℕ) (caps caps' : List ℕ)
+pub put_planned : (s : StoreValue) (name object n : List ℕ) (k k' : ℕ) (caps caps' : List ℕ)
     (grid after : List (List ℕ)) (o : Option Spot) (place : ℕ)
     → refused_by s (ask.change (put_of name object)) ≡ None → n ≡ name → k ≡ s.in_use.block.k
     → caps ≡ s.book.caps → grid ≡ s.book.grid → o ≡ fin.get s.now n
@@ -146,7 +147,7 @@ put_planned s name object n k k' caps caps' grid after o place served same ks cs
           (subst (λ x. IsCharged x caps grid o (length object) after place) ks charged))));
     }
 
-pub del_planned : (s : Kept) (name n : List ℕ) (k k' : ℕ) (caps caps' : List ℕ)
+pub del_planned : (s : StoreValue) (name n : List ℕ) (k k' : ℕ) (caps caps' : List ℕ)
     (grid after : List (List ℕ)) (o : Option Spot) → refused_by s (ask.change (del_of name)) ≡ None
     → n ≡ name → k ≡ s.in_use.block.k → caps ≡ s.book.caps → grid ≡ s.book.grid → o ≡ fin.get s.now n
     → QuietTo k caps grid (gone_items k caps o) after → k' ≡ k → caps' ≡ caps
@@ -164,26 +165,26 @@ del_planned s name n k k' caps caps' grid after o served same ks cs gs os charge
 }
 
 -- where a charge found no room on that copy, the change isn't quiet
-pub put_unplanned : (s : Kept) (name object : List ℕ) (k : ℕ) (caps : List ℕ) (grid : List (List ℕ))
+pub put_unplanned : (s : StoreValue) (name object : List ℕ) (k : ℕ) (caps : List ℕ) (grid : List (List ℕ))
     (o : Option Spot) → k ≡ s.in_use.block.k → caps ≡ s.book.caps → grid ≡ s.book.grid
     → o ≡ fin.get s.now name
     → is_quiet (charge_all k caps grid (gone_items k caps o ++ some_size (length object))) ≡ false
     → is_quiet (charges_of s (put_of name object)) ≡ false
-put_unplanned s name object k caps grid o ks cs gs os loud =
+put_unplanned s name object k caps grid o ks cs gs os needs_flush =
     sym (λ i. is_quiet (charge_all (ks i) (cs i) (gs i) (gone_items (ks i) (cs i) (os i)
-    ++ some_size (length object)))) ∙ loud
+    ++ some_size (length object)))) ∙ needs_flush
 
-pub del_unplanned : (s : Kept) (name : List ℕ) (k : ℕ) (caps : List ℕ) (grid : List (List ℕ))
+pub del_unplanned : (s : StoreValue) (name : List ℕ) (k : ℕ) (caps : List ℕ) (grid : List (List ℕ))
     (o : Option Spot)
     → k ≡ s.in_use.block.k → caps ≡ s.book.caps → grid ≡ s.book.grid → o ≡ fin.get s.now name
     → is_quiet (charge_all k caps grid (gone_items k caps o)) ≡ false
     → is_quiet (charges_of s (del_of name)) ≡ false
-del_unplanned s name k caps grid o ks cs gs os loud =
+del_unplanned s name k caps grid o ks cs gs os needs_flush =
     ap (λ xs. is_quiet (charge_all s.in_use.block.k s.book.caps s.book.grid xs))
     (append-nil (gone_items s.in_use.block.k s.book.caps (fin.get s.now name)))
-    ∙ sym (λ i. is_quiet (charge_all (ks i) (cs i) (gs i) (gone_items (ks i) (cs i) (os i)))) ∙ loud
+    ∙ sym (λ i. is_quiet (charge_all (ks i) (cs i) (gs i) (gone_items (ks i) (cs i) (os i)))) ∙ needs_flush
 
-pub del_quiet : (s : Kept) (name : List ℕ) (grid : List (List ℕ))
+pub del_quiet : (s : StoreValue) (name : List ℕ) (grid : List (List ℕ))
     → QuietTo s.in_use.block.k s.book.caps s.book.grid
     (gone_items s.in_use.block.k s.book.caps (fin.get s.now name)) grid
     → is_quiet (charges_of s (del_of name)) ≡ true

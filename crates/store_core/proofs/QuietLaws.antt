@@ -6,16 +6,16 @@ use Rattle.std.specs.FinMap as fin
 use Rattle.byte_ranges.specs.Ranges.{SameOutside, overwritten}
 use Rattle.byte_ranges.proofs.RangeLaws.{overwritten-outside}
 use Rattle.size_class.specs.declared.TheConstants.{SIZE_MAX}
-use Rattle.store_terms.specs.Requests as ask
-use Rattle.store_terms.specs.Requests.{Change, changed}
+use Rattle.map_model.specs.Requests as ask
+use Rattle.map_model.specs.Requests.{Change, changed}
 use Rattle.segment_layout.specs.Books.{Book, is_quiet, next_book, some_size}
 use Rattle.extent_table.specs.declared.spot.Spot.{Spot}
-use Rattle.spot_terms.specs.LaidOut.{shown_book}
-use Rattle.spot_terms.specs.Quiet.{QuietTo, gone_items}
-use Rattle.spot_terms.specs.Reads.{read_at}
-use Rattle.spot_terms.proofs.NextQuietLaws.{book_gone, book_put, next_quiet}
-use Rattle.spot_terms.proofs.ReadLaws.{read_at-put, read_at-remove}
-use Rattle.store_core.specs.Connection.{IsOver, Kept, SameOnTable, base_of, limits_of, state_of}
+use Rattle.placement_model.specs.LaidOut.{shown_book}
+use Rattle.placement_model.specs.Quiet.{QuietTo, gone_items}
+use Rattle.placement_model.specs.Reads.{read_at}
+use Rattle.placement_model.proofs.NextQuietLaws.{book_gone, book_put, next_quiet}
+use Rattle.placement_model.proofs.ReadLaws.{read_at-put, read_at-remove}
+use Rattle.store_core.specs.Connection.{IsOver, StoreValue, SameOnTable, base_of, limits_of, state_of}
 use Rattle.store_core.specs.Changes.{ChangesQuietly}
 use Rattle.store_core.specs.Plans.{IsDelPlan, IsPutPlan}
 use Rattle.store_core.specs.Quiet.{added, charges_of, del_of, put_of, sizes_at}
@@ -65,7 +65,7 @@ change_step limits s after c none quiet map kept book kept_book sequence =
       high = omega (arith, sequence, ap (λ (x : Served). x.saves.most) is);
     }
 
-module _ {classes : ℕ} (s : Kept) (h : IsStore classes s) where
+module _ {classes : ℕ} (s : StoreValue) (h : IsStore classes s) where
   abbrev k : ℕ
   k = s.in_use.block.k
 
@@ -97,10 +97,10 @@ module _ {classes : ℕ} (s : Kept) (h : IsStore classes s) where
     asked = fold added s.asked (sizes_at (fin.get s.now name) ++ some_size spot.size)
 
     -- what the store is then
-    abbrev put_store : Kept
+    abbrev put_store : StoreValue
     put_store = with_now classes s (fin.insert s.now name spot) grid asked
 
-    pub put_value : (new : Kept) → new ≡ put_store → ChangesQuietly classes (put_of name object) s new
+    pub put_value : (new : StoreValue) → new ≡ put_store → ChangesQuietly classes (put_of name object) s new
     put_value new is = subst (ChangesQuietly classes (put_of name object) s) (sym is) (record {
       places = (spot.place, plan.charged, ap (λ (x : Spot). fin.insert s.now name x) spot_is);
       rest = λ i. record s {
@@ -125,10 +125,10 @@ module _ {classes : ℕ} (s : Kept) (h : IsStore classes s) where
           (overwritten-outside file (base + spot.place) object fits))
           (apart_kept s h name (length object) spot.place grid plan.charged)
 
-      pub put_over : (new : Kept) → new ≡ put_store → IsOver classes new b
+      pub put_over : (new : StoreValue) → new ≡ put_store → IsOver classes new b
       put_over new is =
           let c = checkpoint_again s h file over b alike in
-          subst (λ (x : Kept). IsOver classes x b) (sym is) (record {
+          subst (λ (x : StoreValue). IsOver classes x b) (sym is) (record {
             table = over.table;
             checkpoint = record { slot = c.slot; records = c.records; opens = c.opens };
             same_length = alike.same_length ∙ over.same_length;
@@ -140,7 +140,7 @@ module _ {classes : ℕ} (s : Kept) (h : IsStore classes s) where
           (now_lies s file h over)
           (apart_now s h name (length object) spot.place grid plan.charged)
 
-      pub put_step : (new : Kept) → new ≡ put_store
+      pub put_step : (new : StoreValue) → new ≡ put_store
           → Step (limits_of s) (state_of s file) (ask.change (put_of name object)) ask.done (state_of new b)
       put_step new is =
           let c = put_of name object in
@@ -150,7 +150,8 @@ module _ {classes : ℕ} (s : Kept) (h : IsStore classes s) where
           let book = book_put classes SIZE_MAX k s.book.caps s.book.grid s.now h.now base file
           (now_lies s file h over) name object plan.charged.mid grid spot.place can.named can.small
           plan.charged.gone plan.charged.placed in
-          subst (λ (x : Kept). Step (limits_of s) (state_of s file) (ask.change c) ask.done (state_of x b))
+          subst (λ (x : StoreValue). Step (limits_of s) (state_of s file) (ask.change c) ask.done
+          (state_of x b))
           (sym is)
           (change_step (limits_of s) (state_of s file) (state_of put_store b) c
           (ap (λ (f : Facts). refusal (limits_of s) f (ask.change c))
@@ -173,13 +174,13 @@ module _ {classes : ℕ} (s : Kept) (h : IsStore classes s) where
         (sym (append-nil (gone_items k s.book.caps (fin.get s.now name)))) plan.charged
 
     -- what the store is then, by its name or by the plan's
-    abbrev without : List ℕ → Kept
+    abbrev without : List ℕ → StoreValue
     without q = with_now classes s (fin.remove s.now q) grid (fold added s.asked (sizes_at (fin.get s.now q)))
 
-    abbrev del_store : Kept
+    abbrev del_store : StoreValue
     del_store = without name
 
-    pub del_value : (new : Kept) → new ≡ without n → ChangesQuietly classes (del_of name) s new
+    pub del_value : (new : StoreValue) → new ≡ without n → ChangesQuietly classes (del_of name) s new
     del_value new is = subst (ChangesQuietly classes (del_of name) s)
         (sym (is ∙ ap without plan.same_name)) (record {
           places = refl;
@@ -192,7 +193,7 @@ module _ {classes : ℕ} (s : Kept) (h : IsStore classes s) where
         })
 
     module _ (file : List ℕ) (over : IsOver classes s file) where
-      pub del_step : (new : Kept) → new ≡ without n
+      pub del_step : (new : StoreValue) → new ≡ without n
           → Step (limits_of s) (state_of s file) (ask.change (del_of name)) ask.done (state_of new file)
       del_step new is =
           let c = del_of name in
@@ -201,7 +202,8 @@ module _ {classes : ℕ} (s : Kept) (h : IsStore classes s) where
           (now_lies s file h over) c in
           let book = book_gone classes SIZE_MAX k s.book.caps s.book.grid s.now h.now base file
           (now_lies s file h over) name grid plan.charged in
-          subst (λ (x : Kept). Step (limits_of s) (state_of s file) (ask.change c) ask.done (state_of x file))
+          subst (λ (x : StoreValue). Step (limits_of s) (state_of s file) (ask.change c) ask.done
+          (state_of x file))
           (sym (is ∙ ap without plan.same_name))
           (change_step (limits_of s) (state_of s file) (state_of del_store file) c
           (ap (λ (f : Facts). refusal (limits_of s) f (ask.change c))
@@ -211,7 +213,7 @@ module _ {classes : ℕ} (s : Kept) (h : IsStore classes s) where
           (sym (ap (λ (x : Book). (next_book k m x c).book) h.now_book ∙ book)) refl refl)
 
 -- whether a change is quiet is what the book says
-pub quiet_by_book : (classes : ℕ) (s : Kept) (file : List ℕ) (c : Change) → IsStore classes s
+pub quiet_by_book : (classes : ℕ) (s : StoreValue) (file : List ℕ) (c : Change) → IsStore classes s
     → IsOver classes s file → (next_book s.in_use.block.k (state_of s file).map s.book c).quiet
     ≡ is_quiet (charges_of s c)
 quiet_by_book classes s file c h over =

@@ -2,15 +2,15 @@
 use Rattle.std.specs.Prelude.{◌≡◌, ℕ, Bool, true, false, if◌then◌else◌, List, Option, Some, None, option_map, Result, Ok, Err, refl}
 use Rattle.std.proofs.Common.{ap, sym, ◌∙◌, subst}
 use Rattle.std.specs.FinMap as fin
-use Rattle.store_terms.specs.Requests.{Request}
+use Rattle.map_model.specs.Requests.{Request}
 use Rattle.extent_table.specs.declared.spot.Spot.{Spot}
 use Rattle.extent_table.specs.Extents.{Spots}
-use Rattle.spot_terms.specs.Reads.{AreNamed, object_at, read_at}
-use Rattle.spot_terms.proofs.ReadLaws.{get-read_at}
+use Rattle.placement_model.specs.Reads.{AreNamed, object_at, read_at}
+use Rattle.placement_model.proofs.ReadLaws.{get-read_at}
 use Rattle.store_core.specs.declared.answers.Refusal.{Refusal}
 use Rattle.store_core.specs.declared.answers.Refusal.TheVariants as why
 use Rattle.store_core.specs.Answers.{AnswersRead, AnswersSpot, facts_at, refusal_for, refused_by}
-use Rattle.store_core.specs.Connection.{Kept, limits_of}
+use Rattle.store_core.specs.Connection.{StoreValue, limits_of}
 use Rattle.store_core.specs.Stores.{IsStore}
 use Rattle.store_core.specs.Reads.{GivesObject}
 use Rattle.store_core.specs.States.{object_in, refusal}
@@ -28,14 +28,14 @@ whole_if_served true o is = absurd (cc)
 whole_if_served false o is = refl
 
 -- An object is found among the places of now or of the last checkpoint, by a store that isn't broken.
-pub record IsFound (classes : ℕ) (s : Kept) (r : Request) (spots : Spots) (name : List ℕ)
+pub record IsFound (classes : ℕ) (s : StoreValue) (r : Request) (spots : Spots) (name : List ℕ)
     (x : Spot) : Type 0 where
   pub served : refused_by s r ≡ None
   pub whole : s.is_broken ≡ false
   pub there : fin.get spots name ≡ Some x
   pub sound : IsStore classes s
 
-pub is_found : {classes : ℕ} (s : Kept) (r : Request) (spots : Spots) (name : List ℕ) (x : Spot)
+pub is_found : {classes : ℕ} (s : StoreValue) (r : Request) (spots : Spots) (name : List ℕ) (x : Spot)
     → AnswersSpot (refused_by s r) (fin.get spots name) (Ok x) → (s.is_broken ≡ false → IsStore classes s)
     → IsFound classes s r spots name x
 is_found s r spots name x answer sound =

@@ -1,13 +1,13 @@
 -- Changes that are refused.
 use Rattle.std.specs.Prelude.{◌≡◌, ℕ, Bool, false, if◌then◌else◌, List, Option, Some, None, option_map, Err, IfSome, IsNone, IsSome, refl}
 use Rattle.std.proofs.Common.{ap, sym, ◌∙◌, subst}
-use Rattle.store_terms.specs.Requests as ask
-use Rattle.store_terms.specs.Requests.{Change, Refused}
+use Rattle.map_model.specs.Requests as ask
+use Rattle.map_model.specs.Requests.{Change, Refused}
 use Rattle.store_core.specs.declared.answers.Refusal.{Refusal}
 use Rattle.store_core.specs.declared.answers.Refusal.TheVariants as why
 use Rattle.store_core.specs.Answers.{AnswersChange, facts_at, refusal_for, refused_by, refused_reply}
 use Rattle.store_core.specs.Plans.{AcceptsName}
-use Rattle.store_core.specs.Connection.{Kept, limits_of, state_of}
+use Rattle.store_core.specs.Connection.{StoreValue, limits_of, state_of}
 use Rattle.store_core.specs.States.{Facts, Limits, State, Step, facts_of, refusal}
 use Rattle.store_core.specs.Stores.{IsStore}
 use Rattle.store_core.proofs.StepLaws.{facts_same, refused_step}
@@ -33,7 +33,7 @@ refused_replied limits s r w is = each w (refused_step limits s r w is)
     each ask.worn step = step
 
 -- a change that is refused is a step that leaves the state, if it has a reply
-pub refused_change_step : {classes : ℕ} (s : Kept) (file : List ℕ) (c : Change) (refused : Refusal)
+pub refused_change_step : {classes : ℕ} (s : StoreValue) (file : List ℕ) (c : Change) (refused : Refusal)
     → s.is_broken ≡ false → IsStore classes s → refused_by s (ask.change c) ≡ Some refused
     → IfSome (refused_reply refused)
     (λ reply. Step (limits_of s) (state_of s file) (ask.change c) reply (state_of s file))

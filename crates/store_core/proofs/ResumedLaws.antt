@@ -21,38 +21,38 @@ use Rattle.segment_layout.specs.Layouts.{caps_of, grid_of}
 use Rattle.segment_layout.proofs.ShapeLaws.{caps-settled_above}
 use Rattle.table_rules.specs.Tables.{sizes}
 use Rattle.extent_table.specs.Extents.{Extents, records_of}
-use Rattle.spot_terms.specs.Reads.{EndWithin}
-use Rattle.spot_terms.proofs.BookLaws.{volumes_of_records}
-use Rattle.spot_terms.proofs.ShownLaws.{book_shown}
-use Rattle.plan_terms.specs.Phases.{Phase, to_pack}
-use Rattle.plan_terms.specs.Plans.{class_total}
+use Rattle.placement_model.specs.Reads.{EndWithin}
+use Rattle.placement_model.proofs.BookLaws.{volumes_of_records}
+use Rattle.placement_model.proofs.ShownLaws.{book_shown}
+use Rattle.flush_model.specs.Phases.{PlanState, to_pack}
+use Rattle.flush_model.specs.Plans.{class_total}
 use Rattle.flush_run.specs.declared.hands.Hands.{Hands}
 use Rattle.flush_run.specs.Calls.{CallsSoFar, piece_calls}
 use Rattle.flush_run.proofs.BeginLaws.{items_low, to_pack_few}
-use Rattle.flush_run.specs.Flights.{Flight, LeavesOldOrNew}
-use Rattle.flush_run.specs.Parts.{Parts, parts_of}
+use Rattle.flush_run.specs.FlushFrames.{FlushFrame, LeavesOldOrNew}
+use Rattle.flush_run.specs.Parts.{HandsValue, parts_of}
 use Rattle.flush_run.specs.Runs.{CanResume, HasRun}
 use Rattle.flush_run.specs.Settling.{FlushEnds}
-use Rattle.flush_run.specs.Hands.{IsHandsFor}
+use Rattle.flush_run.specs.Hands.{HandsMatchPlan}
 use Rattle.flush_run.proofs.LaidPlaceLaws.{new_cap}
 use Rattle.reopen.specs.declared.fault.OpenFault.TheVariants as fault_of
 use Rattle.reopen.specs.declared.state.Loaded.{Loaded}
 use Rattle.reopen.specs.Loads.{IsLoadedFrom, KeepsLoaded, table_seen}
-use Rattle.store_core.specs.Connection.{Kept, opened_store}
+use Rattle.store_core.specs.Connection.{StoreValue, opened_store}
 use Rattle.store_core.specs.Flushed.{IsFlushed}
 use Rattle.store_core.specs.Opened.{ContinuesFrom, IsFresh, IsOpened, IsOpening, LeavesAlone, MostCallsOf, MovesOn, OpenCallsOf, OpensFound}
 use Rattle.store_core.specs.Resuming.{MakesStore, PacksAgain, StartsAgain}
-use Rattle.flush_start.proofs.EndLaws.{names_differ_all, records_lie}
+use Rattle.change_charges.proofs.EndLaws.{names_differ_all, records_lie}
 use Rattle.store_core.proofs.FlushedLaws.{ended_over, ended_rests, ended_state, ended_store}
 use Rattle.store_core.proofs.GoingLaws.{begins_within, can_told, content_again, flight, left_again, phase, some_again}
 use Rattle.store_core.proofs.MovingLaws.{hands_again, same_divisor}
 use Rattle.store_core.proofs.OpeningLaws.{found_by, found_one}
 
 module _ {C : ℕ} (x : Loaded C) (loads : KeepsLoaded x) (moving : x.header.kind ≡ kind.Moving) (few : C ≤ 32)
-    (wide : SIZE_MAX < 2 ^ C) (y : Parts) (starts : StartsAgain x y) (p : Phase)
+    (wide : SIZE_MAX < 2 ^ C) (y : HandsValue) (starts : StartsAgain x y) (p : PlanState)
     (packs : PacksAgain x p) (first last : disk.State)
     (from : IsTrue first.tells → IsLoadedFrom first.file x)
-    (hands : Hands C) (left : (f : Flight) → CanResume C f y p first → IsTrue first.tells
+    (hands : Hands C) (left : (f : FlushFrame) → CanResume C f y p first → IsTrue first.tells
     → LeavesOldOrNew f (hands.slots.sequence + 1) first last)
     (made : HasRun p.numbers.boundary p.items first last y (parts_of hands))
     (few_saves : hands.slots.sequence + 1 < y.in_use.sequence + 2 ^ 18)
@@ -78,20 +78,20 @@ module _ {C : ℕ} (x : Loaded C) (loads : KeepsLoaded x) (moving : x.header.kin
       never : {A : Type 0} → IsTrue false → A
       never e = absurd (let z : false ≡ true = e in cc)
 
-      abbrev f : Flight
+      abbrev f : FlushFrame
       f = flight x loads moving few wide y starts p packs first (from told) false false never never
 
       can : CanResume C f y p first
       can = can_told x loads moving few wide y starts p packs first (from told) false false never never
 
-      hand : IsHandsFor f x.slots x.table (caps_of x.layout) (grid_of x.layout) []
+      hand : HandsMatchPlan f x.slots x.table (caps_of x.layout) (grid_of x.layout) []
           (phase x loads moving few wide y starts p packs)
       hand = hands_again x loads moving few wide _ (from told).opens.valid false false f.new_map f.new_book
           _ (same_divisor x loads moving few wide) p.items
           (IsPermutation-sym _ p.items packs.items)
 
       boundary_is : p.numbers.boundary ≡ x.header.boundary
-      boundary_is = ap (λ (q : Phase). q.numbers.boundary) packs.value
+      boundary_is = ap (λ (q : PlanState). q.numbers.boundary) packs.value
 
       lies : EndWithin base file x.table.now
       lies name z there = omega (
@@ -135,7 +135,8 @@ module _ {C : ℕ} (x : Loaded C) (loads : KeepsLoaded x) (moving : x.header.kin
         loads.sequence,
       )
 
-      calls_are : (more saves : ℕ) → CallsSoFar first.turn last.turn y.moved (cells_of hands.ledger.moved) more
+      calls_are : (more saves : ℕ) → CallsSoFar first.turn last.turn y.moved
+          (cells_of hands.ledger.moved) more
           (hands.slots.sequence - y.in_use.sequence + saves) (fin.len y.table.now)
           → CallsSoFar first.turn last.turn zero_row (cells_of hands.ledger.moved) more
           (hands.slots.sequence - x.header.sequence + saves) x.header.count
@@ -149,13 +150,14 @@ module _ {C : ℕ} (x : Loaded C) (loads : KeepsLoaded x) (moving : x.header.kin
           (hands.slots.sequence - y.in_use.sequence + saves) (fin.len y.table.now)) starts.moved calls))
 
       again_most : MostCallsOf x.header.kind (table_seen x) f.new_map first.turn last.turn
-      again_most = subst (λ z. MostCallsOf z (table_seen x) f.new_map first.turn last.turn) (sym moving) (record {
-        moved = cells_of hands.ledger.moved;
-        saves = hands.slots.sequence - x.header.sequence;
-        few = moved_few;
-        few_saves = saves_are;
-        calls = calls_are (piece_calls + 2) 1 made.most;
-      })
+      again_most = subst (λ z. MostCallsOf z (table_seen x) f.new_map first.turn last.turn) (sym moving)
+          (record {
+            moved = cells_of hands.ledger.moved;
+            saves = hands.slots.sequence - x.header.sequence;
+            few = moved_few;
+            few_saves = saves_are;
+            calls = calls_are (piece_calls + 2) 1 made.most;
+          })
 
       again_alone : LeavesAlone (table_seen x) f.new_book first last
       again_alone settled low = absurd (let e : kind.Moving ≡ kind.Settled = sym moving ∙ settled in cc)
@@ -170,10 +172,12 @@ module _ {C : ℕ} (x : Loaded C) (loads : KeepsLoaded x) (moving : x.header.kin
       refused = λ told. tt;
       found = λ told t m b o.
           found_by (found_one C (table_seen x) t first.file _ m _ b (from told).opens o) (record {
-            content = content_again x loads moving few wide y starts p packs first last (hands.slots.sequence + 1) few_most
+            content = content_again x loads moving few wide y starts p packs first last
+                (hands.slots.sequence + 1) few_most
                 left told
                 (from told);
-            left = left_again x loads moving few wide y starts p packs first last (hands.slots.sequence + 1) few_most
+            left = left_again x loads moving few wide y starts p packs first last
+                (hands.slots.sequence + 1) few_most
                 left told (from told);
             rests = λ rests. tt;
             calls = tt;
@@ -188,14 +192,14 @@ module _ {C : ℕ} (x : Loaded C) (loads : KeepsLoaded x) (moving : x.header.kin
 
     -- ---- it was done
 
-    module _ (ends : (f : Flight) → CanResume C f y p first → FlushEnds C f (parts_of hands) last)
+    module _ (ends : (f : FlushFrame) → CanResume C f y p first → FlushEnds C f (parts_of hands) last)
         (later : y.in_use.sequence + 1 ≤ hands.slots.sequence) where
-      ends_for : (f : Flight) → CanResume C f y p first
+      ends_for : (f : FlushFrame) → CanResume C f y p first
           → FlushEnds C (record f { classes = C; size_max = SIZE_MAX }) (parts_of hands) last
       ends_for f can = subst (λ z. FlushEnds C z (parts_of hands) last)
           (λ i. record f { classes = can.goes.same_classes i; size_max = can.goes.same_max i }) (ends f can)
 
-      any : (f : Flight) × CanResume C f y p first
+      any : (f : FlushFrame) × CanResume C f y p first
       any = some_again x loads moving few wide y starts p packs first from
 
       any_ends : FlushEnds C (record any.0 { classes = C; size_max = SIZE_MAX }) (parts_of hands) last
@@ -233,7 +237,7 @@ module _ {C : ℕ} (x : Loaded C) (loads : KeepsLoaded x) (moving : x.header.kin
 
       -- ---- the store
 
-      abbrev s : Kept
+      abbrev s : StoreValue
       s = opened_store C hands.slots hands.table.now (caps_of hands.layout) (grid_of hands.layout)
 
       is_flushed : IsFlushed C hands.slots hands.table.now (caps_of hands.layout) (grid_of hands.layout) s
@@ -253,7 +257,7 @@ module _ {C : ℕ} (x : Loaded C) (loads : KeepsLoaded x) (moving : x.header.kin
       }
 
       module _ (told : IsTrue first.tells) where
-        abbrev here : Flight
+        abbrev here : FlushFrame
         here = f told
 
         told_ends : FlushEnds C here (parts_of hands) last
@@ -297,14 +301,17 @@ module _ {C : ℕ} (x : Loaded C) (loads : KeepsLoaded x) (moving : x.header.kin
 
           again_found : OpensFound C (table_seen x) here.new_map here.new_book first last (Ok s)
           again_found = record {
-            content = content_again x loads moving few wide y starts p packs first last (hands.slots.sequence + 1) few_most
+            content = content_again x loads moving few wide y starts p packs first last
+                (hands.slots.sequence + 1) few_most
                 left told
                 (from told);
-            left = left_again x loads moving few wide y starts p packs first last (hands.slots.sequence + 1) few_most
+            left = left_again x loads moving few wide y starts p packs first last
+                (hands.slots.sequence + 1) few_most
                 left told (from told);
             rests = λ rests. ended_rests hands here last told_ends names_now block_now s is_flushed base_now
                 still_told;
-            calls = subst (λ z. OpenCallsOf z (table_seen x) here.new_map here.new_book first.file first.turn last.turn s)
+            calls = subst (λ z. OpenCallsOf z
+                (table_seen x) here.new_map here.new_book first.file first.turn last.turn s)
                 (sym moving) moves_on;
             most = again_most told;
             alone = again_alone told;

@@ -11,29 +11,29 @@ use Rattle.segment_layout.specs.Books.{is_quiet, some_size, trigger}
 use Rattle.segment_layout.specs.Shapes.{boundary_of, end_of, is_boundary}
 use Rattle.extent_table.specs.declared.spot.Spot.{Spot}
 use Rattle.extent_table.specs.Extents.{Extents, Spots}
-use Rattle.spot_terms.specs.Held.{FreesSpot}
-use Rattle.spot_terms.specs.Quiet.{PlacedTo}
-use Rattle.spot_terms.specs.Reads.{read_at}
-use Rattle.spot_terms.proofs.EntryLaws.{insert-remove}
-use Rattle.plan_terms.specs.declared.item.Numbers.{Numbers}
-use Rattle.plan_terms.specs.Phases.{Phase}
-use Rattle.plan_terms.specs.Plans.{numbers_of}
-use Rattle.flush_run.specs.Flights.{Flight, IsFreeSpace}
+use Rattle.placement_model.specs.Held.{FreesSpot}
+use Rattle.placement_model.specs.Quiet.{PlacedTo}
+use Rattle.placement_model.specs.Reads.{read_at}
+use Rattle.placement_model.proofs.EntryLaws.{insert-remove}
+use Rattle.flush_model.specs.declared.item.Numbers.{Numbers}
+use Rattle.flush_model.specs.Phases.{PlanState}
+use Rattle.flush_model.specs.Plans.{numbers_of}
+use Rattle.flush_run.specs.FlushFrames.{FlushFrame, IsFreeSpace}
 use Rattle.flush_run.specs.Hands.{suffix_items}
 use Rattle.flush_run.specs.Shelved.{phase_now}
 use Rattle.flush_plan.specs.Shelves.{course_of}
-use Rattle.flush_run.specs.Parts.{Parts}
-use Rattle.flush_start.specs.Charging.{between, charged_by, new_charged}
-use Rattle.flush_start.specs.Lifting.{BeginsLift}
-use Rattle.flush_start.specs.Starts.{CanStart, IsLoud, IsWith, IsWithout, WasBefore}
-use Rattle.flush_start.proofs.LiftStartLaws.{pending_high, pending_is_free, pending_lifts, pending_some, pending_starts, placed_free, placed_in_reach, placed_lifts, placed_starts, removed_lifts, removed_starts}
-use Rattle.flush_start.proofs.LooseLaws.{pending_loose, placed_loose, removed_loose}
-use Rattle.flush_start.proofs.ReachLaws.{reach_low, reach_past_wall, wall_past_end}
-use Rattle.flush_start.proofs.StartLaws.{placed_within}
-use Rattle.store_core.specs.Flushing.{IsBegun, IsStarted, MayBegin, Setting, book_before, flight_of}
+use Rattle.flush_run.specs.Parts.{HandsValue}
+use Rattle.change_charges.specs.Charging.{between, charged_by, new_charged}
+use Rattle.change_charges.specs.Lifting.{BeginsLift}
+use Rattle.change_charges.specs.Starts.{CanStart, IsLoud, IsWith, IsWithout, WasBefore}
+use Rattle.change_charges.proofs.LiftStartLaws.{pending_high, pending_is_free, pending_lifts, pending_some, pending_starts, placed_free, placed_in_reach, placed_lifts, placed_starts, removed_lifts, removed_starts}
+use Rattle.change_charges.proofs.LooseLaws.{pending_loose, placed_loose, removed_loose}
+use Rattle.change_charges.proofs.ReachLaws.{reach_low, reach_past_wall, wall_past_end}
+use Rattle.change_charges.proofs.StartLaws.{placed_within}
+use Rattle.store_core.specs.Flushing.{IsBegun, IsStarted, MayBegin, BeforeChange, book_before, flight_of}
 use Rattle.store_core.specs.Quiet.{added, del_of, put_of, sizes_at}
 
-module _ {classes : ℕ} {kept_grid : List (List ℕ)} {x0 : Parts} (may : MayBegin classes kept_grid x0)
+module _ {classes : ℕ} {kept_grid : List (List ℕ)} {x0 : HandsValue} (may : MayBegin classes kept_grid x0)
     (name : List ℕ) where
   abbrev k : ℕ
   k = x0.in_use.block.k
@@ -46,14 +46,14 @@ module _ {classes : ℕ} {kept_grid : List (List ℕ)} {x0 : Parts} (may : MayBe
   module _ (gone : Extents) (freed : List Span) (asked : List ℕ) (without : IsWithout name x0.table gone)
       (frees : FreesSpot old (fin.get x0.table.kept name) x0.spans freed)
       (after : List (List ℕ)) (b : ℕ) where
-    abbrev parts : Extents → Parts
+    abbrev parts : Extents → HandsValue
     parts e = record x0 { table = e; grid = after; spans = freed; asked = asked }
 
     abbrev h : WasBefore classes SIZE_MAX x0.caps x0.grid kept_grid x0.in_use x0.table x0.spans
     h = may.before
 
     -- some setting, where none matters
-    abbrev some_setting : Setting
+    abbrev some_setting : BeforeChange
     some_setting = record {
       map = read_at 0 [] x0.table.now;
       kept_map = read_at 0 [] x0.table.now;
@@ -67,19 +67,20 @@ module _ {classes : ℕ} {kept_grid : List (List ℕ)} {x0 : Parts} (may : MayBe
       abbrev numbers : Numbers
       numbers = numbers_of k x0.caps b (suffix_items b gone) 0
 
-      abbrev del_flight : ℕ → Setting → Flight
+      abbrev del_flight : ℕ → BeforeChange → FlushFrame
       del_flight reach g = flight_of classes x0 (del_of name) reach g
 
       pub del_starts : CanStart classes SIZE_MAX x0.caps after kept_grid b x0.in_use gone freed
       del_starts = removed_starts (del_flight 0 some_setting) x0.caps x0.grid kept_grid x0.in_use x0.table
           x0.spans h may.base name after b gone without freed frees l
 
-      pub begun_removed : (p : Phase) → IsStarted b k x0.caps gone p
+      pub begun_removed : (p : PlanState) → IsStarted b k x0.caps gone p
           → asked ≡ fold added x0.asked (sizes_at old) → IsBegun classes x0 (del_of name) (parts gone) p 0
       begun_removed p st sums =
-          let reach : p.numbers.reach ≡ numbers.reach = ap (λ (q : Phase). q.numbers.reach) st.value in
+          let reach : p.numbers.reach ≡ numbers.reach = ap (λ (q : PlanState). q.numbers.reach) st.value in
           record {
-            lifts = λ g sized. subst (λ (q : Phase). BeginsLift (del_flight p.numbers.reach g) x0.caps after
+            lifts = λ g sized. subst (λ (q : PlanState). BeginsLift
+                (del_flight p.numbers.reach g) x0.caps after
                 x0.in_use gone freed q) (sym st.value)
                 (removed_lifts (del_flight p.numbers.reach g) x0.caps x0.grid kept_grid x0.in_use x0.table
                 x0.spans h may.base name after b gone without freed frees l reach g.map sized
@@ -105,12 +106,12 @@ module _ {classes : ℕ} {kept_grid : List (List ℕ)} {x0 : Parts} (may : MayBe
               reach_low classes SIZE_MAX x0.caps after kept_grid b x0.in_use gone freed del_starts
                   0 (omega arith),
             );
-            whole = subst (λ (q : Phase). is_boundary after q.numbers.boundary ≡ true) (sym st.value)
+            whole = subst (λ (q : PlanState). is_boundary after q.numbers.boundary ≡ true) (sym st.value)
                 del_starts.boundary;
-            boundary = ap (λ (q : Phase). q.numbers.boundary) st.value ∙ l.boundary
+            boundary = ap (λ (q : PlanState). q.numbers.boundary) st.value ∙ l.boundary
                 ∙ ap (λ (g : List (List ℕ)). boundary_of g (trigger (charged_by k x0.caps x0.grid old 0)))
                 l.after_is;
-            divisor = may.divisor ∙ sym (ap (λ (q : Phase). q.k) st.value);
+            divisor = may.divisor ∙ sym (ap (λ (q : PlanState). q.k) st.value);
             asked = sums ∙ ap (λ (xs : List ℕ). fold added x0.asked xs) (sym (append-nil (sizes_at old)));
             kept = without.kept;
             table = without.table;
@@ -128,7 +129,7 @@ module _ {classes : ℕ} {kept_grid : List (List ℕ)} {x0 : Parts} (may : MayBe
       abbrev spot_at : ℕ → Spot
       spot_at place = record { place = place; size = size }
 
-      abbrev put_flight : ℕ → Setting → Flight
+      abbrev put_flight : ℕ → BeforeChange → FlushFrame
       put_flight reach g = flight_of classes x0 (put_of name object) reach g
 
       now_is : (place key : ℕ) (put : Extents) → IsWith name (spot_at place) key gone put
@@ -153,16 +154,18 @@ module _ {classes : ℕ} {kept_grid : List (List ℕ)} {x0 : Parts} (may : MayBe
             place key placed
             put joins
 
-        pub begun_placed : (key : ℕ) (put : Extents) → IsWith name (spot_at place) key gone put → (p : Phase)
+        pub begun_placed : (key : ℕ) (put : Extents) → IsWith name (spot_at place) key gone put
+            → (p : PlanState)
             → IsStarted b k x0.caps put p
             → asked ≡ fold added x0.asked (sizes_at old ++ some_size size)
             → IsBegun classes x0 (put_of name object) (parts put) p place
         begun_placed key put joins p st sums =
             let starts = put_starts key put joins in
             let reach : p.numbers.reach ≡ (numbers_of k x0.caps b (suffix_items b put) 0).reach =
-            ap (λ (q : Phase). q.numbers.reach) st.value in
+            ap (λ (q : PlanState). q.numbers.reach) st.value in
             record {
-              lifts = λ g sized. subst (λ (q : Phase). BeginsLift (put_flight p.numbers.reach g) x0.caps after
+              lifts = λ g sized. subst (λ (q : PlanState). BeginsLift
+                  (put_flight p.numbers.reach g) x0.caps after
                   x0.in_use put freed q) (sym st.value)
                   (placed_lifts (put_flight p.numbers.reach g) x0.caps x0.grid kept_grid x0.in_use x0.table
                   x0.spans h may.base name after b gone without freed frees is object small l place key placed
@@ -196,13 +199,13 @@ module _ {classes : ℕ} {kept_grid : List (List ℕ)} {x0 : Parts} (may : MayBe
                 reach_low classes SIZE_MAX x0.caps after kept_grid b x0.in_use put freed starts
                     0 (omega arith),
               );
-              whole = subst (λ (q : Phase). is_boundary after q.numbers.boundary ≡ true) (sym st.value)
+              whole = subst (λ (q : PlanState). is_boundary after q.numbers.boundary ≡ true) (sym st.value)
                   starts.boundary;
-              boundary = ap (λ (q : Phase). q.numbers.boundary) st.value ∙ l.boundary
+              boundary = ap (λ (q : PlanState). q.numbers.boundary) st.value ∙ l.boundary
                   ∙ ap (λ (g : List (List ℕ)). boundary_of g
                   (trigger (charged_by k x0.caps x0.grid old size)))
                   l.after_is;
-              divisor = may.divisor ∙ sym (ap (λ (q : Phase). q.k) st.value);
+              divisor = may.divisor ∙ sym (ap (λ (q : PlanState). q.k) st.value);
               asked = sums;
               kept = joins.kept ∙ without.kept;
               table = joins.table;
@@ -231,16 +234,17 @@ module _ {classes : ℕ} {kept_grid : List (List ℕ)} {x0 : Parts} (may : MayBe
             x0.spans h may.base name after b gone without freed frees is object small l missed
 
         pub begun_waiting : (place key : ℕ) (put : Extents) → IsWith name (spot_at place) key gone put
-            → (p : Phase) → p ≡ phase_now (course_of k x0.caps (numbers_of k x0.caps b
+            → (p : PlanState) → p ≡ phase_now (course_of k x0.caps (numbers_of k x0.caps b
             (suffix_items b gone) size) size) put
             → place + size ≡ p.numbers.reach
             → asked ≡ fold added x0.asked (sizes_at old ++ some_size size)
             → IsBegun classes x0 (put_of name object) (parts put) p place
         begun_waiting place key put joins p value ends sums =
             let reach : p.numbers.reach ≡ (numbers_of k x0.caps b (suffix_items b gone) size).reach =
-            ap (λ (q : Phase). q.numbers.reach) value in
+            ap (λ (q : PlanState). q.numbers.reach) value in
             record {
-              lifts = λ g sized. subst (λ (q : Phase). BeginsLift (put_flight p.numbers.reach g) x0.caps after
+              lifts = λ g sized. subst (λ (q : PlanState). BeginsLift
+                  (put_flight p.numbers.reach g) x0.caps after
                   x0.in_use put freed q) (sym value)
                   (pending_lifts (put_flight p.numbers.reach g) x0.caps x0.grid kept_grid x0.in_use x0.table
                   x0.spans h may.base name after b gone without freed frees is object small l missed place
@@ -268,13 +272,13 @@ module _ {classes : ℕ} {kept_grid : List (List ℕ)} {x0 : Parts} (may : MayBe
                 reach_low classes SIZE_MAX x0.caps after kept_grid b x0.in_use gone freed
                     wait_starts size small,
               );
-              whole = subst (λ (q : Phase). is_boundary after q.numbers.boundary ≡ true) (sym value)
+              whole = subst (λ (q : PlanState). is_boundary after q.numbers.boundary ≡ true) (sym value)
                   wait_starts.boundary;
-              boundary = ap (λ (q : Phase). q.numbers.boundary) value ∙ l.boundary
+              boundary = ap (λ (q : PlanState). q.numbers.boundary) value ∙ l.boundary
                   ∙ ap (λ (g : List (List ℕ)). boundary_of g
                   (trigger (charged_by k x0.caps x0.grid old size)))
                   l.after_is;
-              divisor = may.divisor ∙ sym (ap (λ (q : Phase). q.k) value);
+              divisor = may.divisor ∙ sym (ap (λ (q : PlanState). q.k) value);
               asked = sums;
               kept = joins.kept ∙ without.kept;
               table = joins.table;

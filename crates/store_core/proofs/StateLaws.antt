@@ -5,16 +5,16 @@ use Rattle.std.proofs.lemmas.List.{length-map}
 use Rattle.std.specs.Ordering.{is_lt}
 use Rattle.std.specs.FinMap as fin
 use Rattle.std.specs.FinMap.Entries.{find, below_all}
-use Rattle.store_terms.specs.Maps.{name_cmp, volume}
-use Rattle.store_terms.proofs.MapLaws.{name_order, names_differ}
-use Rattle.store_terms.specs.Weights.{same_name}
+use Rattle.map_model.specs.Maps.{name_cmp, volume}
+use Rattle.map_model.proofs.MapLaws.{name_order, names_differ}
+use Rattle.map_model.specs.Weights.{same_name}
 use Rattle.extent_table.specs.declared.spot.Spot.{Spot}
 use Rattle.extent_table.specs.Extents.{Spots, volume_of}
 use Rattle.byte_ranges.proofs.RangeLaws.{length-bytes_at}
 use Rattle.std.proofs.lemmas.List.Sums.{sum_by-cons}
 use Rattle.store_core.specs.Lines.{listing_of}
-use Rattle.spot_terms.specs.Reads.{AreNamed, EndWithin, object_at, read_at}
-use Rattle.spot_terms.proofs.ReadLaws.{found_by_name, get-read_at}
+use Rattle.placement_model.specs.Reads.{AreNamed, EndWithin, object_at, read_at}
+use Rattle.placement_model.proofs.ReadLaws.{found_by_name, get-read_at}
 
 -- an entry of a map to spots, with the bytes that a file gives there
 abbrev read_entry : ℕ → List ℕ → List ℕ × Spot → List ℕ × List ℕ

@@ -2,14 +2,14 @@
 use Rattle.std.specs.Prelude.{◌≡◌, ℕ, List, Option, Some, None, option_map, is_some, refl, Bool, false, if◌then◌else◌, Result, Ok, Err, IfSome, OnOk}
 use Rattle.std.proofs.Common.{arith, ap, sym, ◌∙◌, subst, inl, inr}
 use Rattle.std.specs.FinMap as fin
-use Rattle.store_terms.specs.Requests as ask
-use Rattle.store_terms.specs.Requests.{Refused, Reply, Request}
+use Rattle.map_model.specs.Requests as ask
+use Rattle.map_model.specs.Requests.{Refused, Reply, Request}
 use Rattle.extent_table.specs.declared.spot.Spot.{Spot}
-use Rattle.spot_terms.specs.Reads.{AreNamed, object_at}
-use Rattle.spot_terms.proofs.ReadLaws.{get-read_at}
+use Rattle.placement_model.specs.Reads.{AreNamed, object_at}
+use Rattle.placement_model.proofs.ReadLaws.{get-read_at}
 use Rattle.store_core.specs.Stores.{IsStore}
 use Rattle.store_core.specs.States.{Facts, Limits, State, Served, Step, accepted, facts_of, name_of, refusal, served, unchanged}
-use Rattle.store_core.specs.Connection.{IsOver, Kept, base_of, limits_of, state_of}
+use Rattle.store_core.specs.Connection.{IsOver, StoreValue, base_of, limits_of, state_of}
 use Rattle.store_core.specs.Answers.{AnswersRead, facts_at, refusal_for, refused_by, refused_reply, reply_of}
 use Rattle.store_core.specs.declared.answers.Refusal.{Refusal}
 use Rattle.store_core.specs.declared.answers.Refusal.TheVariants as why
@@ -58,7 +58,7 @@ there_still base file None = refl
 there_still base file (Some s) = refl
 
 -- the facts of a state are those of the places
-pub facts_same : (s : Kept) (file : List ℕ) (r : Request) → AreNamed s.now → AreNamed s.kept
+pub facts_same : (s : StoreValue) (file : List ℕ) (r : Request) → AreNamed s.now → AreNamed s.kept
     → facts_of (state_of s file) r ≡ facts_at s r
 facts_same s file r now kept = λ i. record {
   is_live = (ap is_some (get-read_at (base_of s) file s.now now (name_of r))
@@ -100,14 +100,14 @@ replies_read limits s r reply n result step (inr (inr is)) = subst
     (λ (x : Result ℕ Refusal). IfSome (reply_of (λ (m : ℕ). reply) x) (λ x. Step limits s r x s)) (sym is) tt
 
 -- a read is a step with the reply of its answer
-pub read_step : {classes : ℕ} (s after : Kept) (file now : List ℕ) (r : Request) (reply : Reply) (n : ℕ)
+pub read_step : {classes : ℕ} (s after : StoreValue) (file now : List ℕ) (r : Request) (reply : Reply) (n : ℕ)
     (result : Result ℕ Refusal) → s.is_broken ≡ false → IsStore classes s → after ≡ s → now ≡ file
     → accepted (limits_of s) (state_of s file) r ≡ unchanged (state_of s file) reply
     → AnswersRead (refused_by s r) n result
     → IfSome (reply_of (λ (m : ℕ). reply) result)
     (λ x. Step (limits_of s) (state_of s file) r x (state_of after now))
 read_step s after file now r reply n result whole sound same_store same_file serves answer =
-    subst (λ (x : Kept). IfSome (reply_of (λ (m : ℕ). reply) result)
+    subst (λ (x : StoreValue). IfSome (reply_of (λ (m : ℕ). reply) result)
     (λ y. Step (limits_of s) (state_of s file) r y (state_of x now))) (sym same_store)
     (subst (λ (x : List ℕ). IfSome (reply_of (λ (m : ℕ). reply) result)
     (λ y. Step (limits_of s) (state_of s file) r y (state_of s x))) (sym same_file)
@@ -132,13 +132,13 @@ pub always : {A E : Type 0} {P : Type 0} (result : Result A E) → P → OnOk re
 always (Ok x) is = is
 always (Err e) is = tt
 
-pub list_step : {classes : ℕ} (s : Kept) (file : List ℕ) → IsStore classes s → IsOver classes s file
+pub list_step : {classes : ℕ} (s : StoreValue) (file : List ℕ) → IsStore classes s → IsOver classes s file
     → Step (limits_of s) (state_of s file) ask.list (ask.listed (listing_of s.now)) (state_of s file)
 list_step s file h over = accepted_step (limits_of s) (state_of s file) ask.list
     (ask.listed (listing_of s.now)) refl (ap (λ (es : List (List ℕ × ℕ)). unchanged (state_of s file)
     (ask.listed es)) (listing-read_at (base_of s) file s.now h.now.named (now_lies s file h over)))
 
-pub stat_step : {classes : ℕ} (s : Kept) (file : List ℕ) (names bytes kept_names kept_bytes : ℕ)
+pub stat_step : {classes : ℕ} (s : StoreValue) (file : List ℕ) (names bytes kept_names kept_bytes : ℕ)
     → IsStore classes s → IsOver classes s file → names ≡ fin.len s.now → bytes ≡ volume_of s.now
     → kept_names ≡ fin.len s.kept → kept_bytes ≡ volume_of s.kept
     → Step (limits_of s) (state_of s file) ask.stat (ask.counts names bytes kept_names kept_bytes)

@@ -15,7 +15,7 @@ use Rattle.slot_codec.specs.declared.codec.Header.{Header}
 use Rattle.slot_codec.specs.declared.codec.Kind.TheVariants as kind
 use Rattle.slot_codec.specs.declared.codec.SuperBlock.{SuperBlock}
 use Rattle.slot_codec.proofs.ChoiceLaws.{same_in_use}
-use Rattle.store_terms.specs.Maps.{Map}
+use Rattle.map_model.specs.Maps.{Map}
 use Rattle.segment_layout.specs.Books.{Book, book_end}
 use Rattle.segment_layout.specs.Layouts.{caps_of, grid_of}
 use Rattle.segment_layout.specs.Shapes.{end_of}
@@ -27,17 +27,17 @@ use Rattle.table_rules.specs.Suffixes.{KeepsBelow}
 use Rattle.table_rules.specs.Tables.{book_of, end_of_record, last_end, nth}
 use Rattle.table_rules.proofs.SuffixLaws.{below_of_places}
 use Rattle.extent_table.specs.Extents.{Spots, records_of}
-use Rattle.spot_terms.specs.Laid.{book_at, laid, settled_table}
-use Rattle.spot_terms.specs.LaidOut.{IsLaidOut}
-use Rattle.spot_terms.specs.Reads.{read_at}
-use Rattle.spot_terms.proofs.LaidOutLaws.{laid_from_below}
-use Rattle.spot_terms.proofs.OpenedLaws.{opens_long, opens_resized}
-use Rattle.spot_terms.proofs.QuietLaws.{IsGrid-wider}
-use Rattle.spot_terms.proofs.RiseLaws.{CellsRise-itself}
-use Rattle.spot_terms.proofs.ShownLaws.{book_shown}
+use Rattle.placement_model.specs.Laid.{book_at, laid, settled_table}
+use Rattle.placement_model.specs.LaidOut.{IsLaidOut}
+use Rattle.placement_model.specs.Reads.{read_at}
+use Rattle.placement_model.proofs.LaidOutLaws.{laid_from_below}
+use Rattle.placement_model.proofs.OpenedLaws.{opens_long, opens_resized}
+use Rattle.placement_model.proofs.QuietLaws.{IsGrid-wider}
+use Rattle.placement_model.proofs.RiseLaws.{CellsRise-itself}
+use Rattle.placement_model.proofs.ShownLaws.{book_shown}
 use Rattle.reopen.specs.declared.state.Loaded.{Loaded}
 use Rattle.reopen.specs.Loads.{IsLoadedFrom, KeepsLoaded, table_seen}
-use Rattle.store_core.specs.Connection.{IsOver, Kept, base_of, kept_map, opened_store, state_of}
+use Rattle.store_core.specs.Connection.{IsOver, StoreValue, base_of, kept_map, opened_store, state_of}
 use Rattle.store_core.specs.Opened.{IsFoundImage, IsFresh, SameOnFound, most_found, state_at}
 use Rattle.store_core.specs.Stores.{IsStore}
 use Rattle.table_rules.proofs.SequenceLaws.{sequence_of_table}
@@ -104,7 +104,7 @@ module _ {C : ℕ} (x : Loaded C) (loads : KeepsLoaded x) (still : x.header.kind
       (below_still C SIZE_MAX k loads.data_len h now keeps)
 
   -- the store
-  abbrev s : Kept
+  abbrev s : StoreValue
   s = opened_store C x.slots now caps grid
 
   pub same_base : base_of s ≡ base
@@ -205,7 +205,8 @@ module _ {C : ℕ} (x : Loaded C) (loads : KeepsLoaded x) (still : x.header.kind
     pub resized_image : (old image : List ℕ) → SameOnFound t file old → ResizedImage len old image
         → IsFoundImage C t m b (length file) image
     resized_image old image same step =
-        let opens = opens_resized C SIZE_MAX t old image m b len (opens_alike C t file m b from.opens old same)
+        let opens = opens_resized C SIZE_MAX t old image m b len
+        (opens_alike C t file m b from.opens old same)
         step (omega arith) (room (length old - base)) in
         record {
           opens = record { table = t; opens = opens };

@@ -2,14 +2,14 @@
 use Rattle.std.specs.Prelude.{◌≡◌, ℕ, ◌⊎◌, Bool, true, false, not, if◌then◌else◌, Option, Some, None, option_map, List, Result, Ok, Err, IsOk, IfOk}
 use Rattle.std.specs.FinMap as fin
 use Rattle.slot_codec.specs.Names.{is_name}
-use Rattle.store_terms.specs.Requests as ask
-use Rattle.store_terms.specs.Requests.{Request, Reply, Refused}
+use Rattle.map_model.specs.Requests as ask
+use Rattle.map_model.specs.Requests.{Request, Reply, Refused}
 use Rattle.extent_table.specs.declared.spot.Spot.{Spot}
 use Rattle.store_core.specs.declared.answers.Refusal.{Refusal}
 use Rattle.store_core.specs.declared.answers.Refusal.TheVariants as why
 use Rattle.store_core.specs.declared.answers.Done.{Done}
 use Rattle.store_core.specs.States.{Facts, refusal, name_of}
-use Rattle.store_core.specs.Connection.{Kept, limits_of}
+use Rattle.store_core.specs.Connection.{StoreValue, limits_of}
 
 -- ---- refusals
 
@@ -21,7 +21,7 @@ refusal_for ask.full = why.Full
 refusal_for ask.worn = why.Worn
 
 -- what a refusal depends on, by the places of the objects alone: a disk that tells nothing has it too
-abbrev pub facts_at : Kept → Request → Facts
+abbrev pub facts_at : StoreValue → Request → Facts
 facts_at s r = record {
   is_live = fin.contains_key s.now (name_of r);
   is_kept = fin.contains_key s.kept (name_of r);
@@ -30,7 +30,7 @@ facts_at s r = record {
 }
 
 -- the refusal of a request that no device has a part in: first that the store is broken
-abbrev pub refused_by : Kept → Request → Option Refusal
+abbrev pub refused_by : StoreValue → Request → Option Refusal
 refused_by s r = if s.is_broken then Some why.Broken
     else option_map refusal_for (refusal (limits_of s) (facts_at s r) r)
 
@@ -47,7 +47,7 @@ AnswersSpot None spot result = IfOk result (λ s. spot ≡ Some s) × IsOk resul
 AnswersSpot (Some refused) spot result = result ≡ Err refused
 
 -- the answer is a name's bytes; that the store is broken comes first, and then that they are no name
-abbrev pub AnswersName : Kept → List ℕ → Result (List ℕ) Refusal → Type 0
+abbrev pub AnswersName : StoreValue → List ℕ → Result (List ℕ) Refusal → Type 0
 AnswersName s name result = result ≡ (if s.is_broken then Err why.Broken
     else if is_name name then Ok name else Err why.BadName)
 

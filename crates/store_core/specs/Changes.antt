@@ -6,22 +6,22 @@ use Rattle.disk_face.specs.Frames.{Calls, Unchanged}
 use Rattle.disk_face.specs.Moments.{Leaves}
 use Rattle.disk_face.specs.Writes.{KeepsDisk}
 use Rattle.size_class.specs.declared.TheConstants.{SIZE_MAX}
-use Rattle.store_terms.specs.Requests.{Change}
+use Rattle.map_model.specs.Requests.{Change}
 use Rattle.table_rules.specs.Opening.{Opens}
 use Rattle.table_rules.specs.Sequences.{HasSequenceUpTo}
-use Rattle.spot_terms.specs.LaidOut.{shown_book}
+use Rattle.placement_model.specs.LaidOut.{shown_book}
 use Rattle.store_core.specs.declared.answers.Refusal.{Refusal}
 use Rattle.store_core.specs.declared.answers.Done.{Done}
-use Rattle.store_core.specs.Connection.{Kept, RestsOnTable, IsKeptImage, base_of, kept_map}
+use Rattle.store_core.specs.Connection.{StoreValue, RestsOnTable, IsKeptImage, base_of, kept_map}
 use Rattle.store_core.specs.Quiet.{IsCharged, asked_after, charges_of, quiet_calls}
 
 -- a refusal: nothing changed
-pub record NothingChanged (old new : Kept) (before now : disk.State) : Type 0 where
+pub record NothingChanged (old new : StoreValue) (before now : disk.State) : Type 0 where
   pub same_store : new ≡ old
   pub same_disk : Unchanged before now
 
 -- The places after a change: without the name, or with the new object where it was charged.
-abbrev pub HasChanged : Change → Kept → Kept → Type 0
+abbrev pub HasChanged : Change → StoreValue → StoreValue → Type 0
 HasChanged c old new = of c.object
   where
     of : Option (List ℕ) → Type 0
@@ -33,7 +33,7 @@ HasChanged c old new = of c.object
 
 -- A quiet change changes the places, the book and what was asked for, and nothing else that a store keeps.
 -- The book is what the layout shows of the places, once each item is charged.
-pub record ChangesQuietly (classes : ℕ) (c : Change) (old new : Kept) : Type 0 where
+pub record ChangesQuietly (classes : ℕ) (c : Change) (old new : StoreValue) : Type 0 where
   pub places : HasChanged c old new
   pub rest : new ≡ record old {
     now = new.now;
@@ -44,7 +44,7 @@ pub record ChangesQuietly (classes : ℕ) (c : Change) (old new : Kept) : Type 0
 -- What a quiet change does, whether the disk fails or not. The content keeps its length and opens to the last
 -- checkpoint, by a table with no greater sequence, and so does all that a crash may leave, where the disk
 -- rested on its table; it rests there still.
-pub record IsQuietChange (classes : ℕ) (c : Change) (old new : Kept) (before now : disk.State)
+pub record IsQuietChange (classes : ℕ) (c : Change) (old new : StoreValue) (before now : disk.State)
     (result : Result Done Refusal) : Type 0 where
   pub value : OnOk result (ChangesQuietly classes c old new)
   pub content : IsTrue before.tells → Opens classes SIZE_MAX now.file (kept_map old before.file) old.kept_book

@@ -5,10 +5,10 @@ use Rattle.std.specs.FinSet as set
 use Rattle.std.specs.Coded.{Coded, code_by, coded×, coded_ℕ, coded_list, coded_bool}
 use Rattle.slot_codec.specs.Choice as choice
 use Rattle.slot_codec.specs.declared.codec.SuperBlock.{SuperBlock}
-use Rattle.store_terms.specs.Maps.{name_cmp}
+use Rattle.map_model.specs.Maps.{name_cmp}
 use Rattle.segment_layout.specs.Books.{Book}
 use Rattle.extent_table.specs.Extents.{Spots, spot_code}
-use Rattle.store_core.specs.Connection.{Kept}
+use Rattle.store_core.specs.Connection.{StoreValue}
 
 abbrev pub spots_code : Coded Spots
 spots_code = fin.code (coded_list coded_ℕ) spot_code
@@ -29,7 +29,7 @@ in_use_code = code_by (SuperBlock × (ℕ × (ℕ × Bool)))
     (λ u. (u.block, (u.slot, (u.sequence, u.other_open))))
     (λ p. record { block = p.0; slot = p.1.0; sequence = p.1.1.0; other_open = p.1.1.1 }) (λ _. refl)
 
-abbrev pub kept_code : Coded Kept
+abbrev pub kept_code : Coded StoreValue
 kept_code = code_by (choice.InUse × (Spots × (Spots × (Book × (Book × (Bool × (List ℕ × List ℕ)))))))
     (coded× in_use_code (coded× spots_code (coded× spots_code (coded× book_code (coded× book_code
     (coded× coded_bool (coded× (coded_list coded_ℕ) (coded_list coded_ℕ))))))))

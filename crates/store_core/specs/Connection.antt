@@ -7,19 +7,19 @@ use Rattle.size_class.specs.Classes.{zero_row}
 use Rattle.size_class.specs.declared.TheConstants.{SIZE_MAX}
 use Rattle.slot_codec.specs.Spelling.{head_len}
 use Rattle.slot_codec.specs.Choice as choice
-use Rattle.store_terms.specs.Maps.{Map}
+use Rattle.map_model.specs.Maps.{Map}
 use Rattle.segment_layout.specs.Books.{Book, book_end}
 use Rattle.table_rules.specs.Opening.{Opens, OpensBy}
 use Rattle.table_rules.specs.Sequences.{HasSequenceUpTo}
 use Rattle.extent_table.specs.declared.spot.Spot.{Spot}
 use Rattle.extent_table.specs.Extents.{Spots, records_of}
-use Rattle.spot_terms.specs.Laid.{book_at}
-use Rattle.spot_terms.specs.Reads.{read_at}
+use Rattle.placement_model.specs.Laid.{book_at}
+use Rattle.placement_model.specs.Reads.{read_at}
 use Rattle.store_core.specs.States.{Limits, State}
 
 -- What a store keeps, as its contracts see it: the slot in use, where the objects stand now and where they
 -- stood at the last checkpoint, the books of both, whether it is broken, and the bytes moved and asked for.
-pub record Kept : Type 0 where
+pub record StoreValue : Type 0 where
   pub in_use : choice.InUse
   pub now : Spots
   pub kept : Spots
@@ -30,19 +30,19 @@ pub record Kept : Type 0 where
   pub asked : List ℕ
 
 -- where the data part begins
-abbrev pub base_of : Kept → ℕ
+abbrev pub base_of : StoreValue → ℕ
 base_of s = head_len s.in_use.block.names
 
 -- what is fixed for it
-abbrev pub limits_of : Kept → Limits
+abbrev pub limits_of : StoreValue → Limits
 limits_of s = record { k = s.in_use.block.k; names = s.in_use.block.names; size_max = SIZE_MAX }
 
 -- what a file gives where the objects stood at the last checkpoint
-abbrev pub kept_map : Kept → List ℕ → Map
+abbrev pub kept_map : StoreValue → List ℕ → Map
 kept_map s file = read_at (base_of s) file s.kept
 
 -- the state of a store over a file: the bytes are those of the file
-abbrev pub state_of : Kept → List ℕ → State
+abbrev pub state_of : StoreValue → List ℕ → State
 state_of s file =
     record {
       map = read_at (base_of s) file s.now;
@@ -53,19 +53,19 @@ state_of s file =
     }
 
 -- the content opens to the checkpoint that the store keeps, by the slot and the places that it keeps
-pub record HasCheckpoint (classes : ℕ) (s : Kept) (file : List ℕ) (t : choice.Table) : Type 0 where
+pub record HasCheckpoint (classes : ℕ) (s : StoreValue) (file : List ℕ) (t : choice.Table) : Type 0 where
   pub slot : choice.slot_in_use file ≡ Ok s.in_use
   pub records : t.records ≡ records_of s.kept
   pub opens : OpensBy classes SIZE_MAX t file (kept_map s file) s.kept_book
 
 -- the store is over this file
-pub record IsOver (classes : ℕ) (s : Kept) (file : List ℕ) : Type 0 where
+pub record IsOver (classes : ℕ) (s : StoreValue) (file : List ℕ) : Type 0 where
   pub table : choice.Table
   pub checkpoint : HasCheckpoint classes s file table
   pub same_length : length file ≡ base_of s + book_end s.in_use.block.k s.book
 
 -- the store is broken, or the disk tells no content, or the store is over its file
-abbrev pub IsConnected : ℕ → Kept → disk.State → Type 0
+abbrev pub IsConnected : ℕ → StoreValue → disk.State → Type 0
 IsConnected classes s d = s.is_broken ≡ false → IsTrue d.tells → IsOver classes s d.file
 
 -- an image has the content's length, and the same bytes below the data part and on the objects of a
@@ -82,13 +82,13 @@ RestsOnTable base kept d = (image : List ℕ) → d.may_leave image → SameOnTa
 
 -- an image that opens to the last checkpoint, by a table with no greater sequence, and has the content's
 -- bytes where that checkpoint has its own
-pub record IsKeptImage (classes : ℕ) (s : Kept) (file image : List ℕ) : Type 0 where
+pub record IsKeptImage (classes : ℕ) (s : StoreValue) (file image : List ℕ) : Type 0 where
   pub same : SameOnTable (base_of s) s.kept file image
   pub opens : Opens classes SIZE_MAX image (kept_map s file) s.kept_book
   pub sequence : HasSequenceUpTo s.in_use.sequence image
 
 -- A store as it is opened: nothing was moved or asked for, and both books are that of its table.
-abbrev pub opened_store : ℕ → choice.InUse → Spots → List ℕ → List (List ℕ) → Kept
+abbrev pub opened_store : ℕ → choice.InUse → Spots → List ℕ → List (List ℕ) → StoreValue
 opened_store classes u spots caps grid =
     record {
       in_use = u;

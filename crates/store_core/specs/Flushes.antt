@@ -6,10 +6,10 @@ use Rattle.disk_face.specs.Counts.{HasCause}
 use Rattle.disk_face.specs.Moments.{Leaves, Rests}
 use Rattle.disk_face.specs.Writes.{KeepsDisk}
 use Rattle.size_class.specs.declared.TheConstants.{SIZE_MAX}
-use Rattle.store_terms.specs.Maps.{Map}
-use Rattle.store_terms.specs.Requests as ask
-use Rattle.store_terms.specs.Requests.{Change, changed}
-use Rattle.store_terms.specs.Weights.{same_name}
+use Rattle.map_model.specs.Maps.{Map}
+use Rattle.map_model.specs.Requests as ask
+use Rattle.map_model.specs.Requests.{Change, changed}
+use Rattle.map_model.specs.Weights.{same_name}
 use Rattle.segment_layout.specs.Books.{Book, is_quiet, next_book, trigger, volumes}
 use Rattle.segment_layout.specs.Bounds.{Loose}
 use Rattle.segment_layout.specs.Shapes.{boundary_of}
@@ -17,25 +17,25 @@ use Rattle.table_rules.specs.Opening.{Opens}
 use Rattle.table_rules.specs.Sequences.{HasSequenceUpTo}
 use Rattle.flush_run.specs.Calls.{CallsSoFar, piece_calls}
 use Rattle.flush_run.specs.Parts.{size_in}
-use Rattle.flush_start.specs.Sized.{IsSizedBy}
+use Rattle.change_charges.specs.Sized.{IsSizedBy}
 use Rattle.store_core.specs.declared.answers.Refusal.{Refusal}
 use Rattle.store_core.specs.declared.answers.Done.{Done}
 use Rattle.store_core.specs.Answers.{AnswersChange, done_reply, is_disk_fault, reply_of}
 use Rattle.store_core.specs.Changes.{IsQuietChange}
-use Rattle.store_core.specs.Connection.{IsConnected, Kept, RestsOnTable, base_of, kept_map, limits_of, state_of}
+use Rattle.store_core.specs.Connection.{IsConnected, StoreValue, RestsOnTable, base_of, kept_map, limits_of, state_of}
 use Rattle.store_core.specs.Keeps.{now_map}
 use Rattle.store_core.specs.Quiet.{asked_after, charges_of}
 use Rattle.store_core.specs.States.{Step}
 
 -- the map of a store over a file once it is changed, and its book then
-abbrev pub map_after : Kept → Change → List ℕ → Map
+abbrev pub map_after : StoreValue → Change → List ℕ → Map
 map_after s c file = changed c (now_map s file)
 
-abbrev pub book_after : Kept → Change → List ℕ → Book
+abbrev pub book_after : StoreValue → Change → List ℕ → Book
 book_after s c file = (next_book s.in_use.block.k (now_map s file) s.book c).book
 
 -- how many names there are once a store is changed: the others, and the change's own where it has an object
-abbrev pub names_after : Kept → Change → ℕ
+abbrev pub names_after : StoreValue → Change → ℕ
 names_after s c = of c.object
   where
     of : Option (List ℕ) → ℕ
@@ -43,16 +43,16 @@ names_after s c = of c.object
     of (Some object) = fin.len (fin.remove s.now c.name) + 1
 
 -- the size of a name's object once a store is changed, where it has one
-abbrev pub size_after : Kept → Change → List ℕ → Option ℕ
+abbrev pub size_after : StoreValue → Change → List ℕ → Option ℕ
 size_after s c name = cond (same_name name c.name) (option_map length c.object) (size_in s.now name)
 
 -- the class from which on the flush of a change lays the layout out anew
-abbrev pub flush_boundary : Kept → Change → ℕ
+abbrev pub flush_boundary : StoreValue → Change → ℕ
 flush_boundary s c = boundary_of (charges_of s c).grid (trigger (charges_of s c))
 
 -- An image opens to the last checkpoint or to what stands after the change, with a sequence at most 2k + 1
 -- greater, and its data part is within bounds for the maps before and after.
-pub record IsFlushImage (classes : ℕ) (s : Kept) (c : Change) (file image : List ℕ) : Type 0 where
+pub record IsFlushImage (classes : ℕ) (s : StoreValue) (c : Change) (file image : List ℕ) : Type 0 where
   pub opens : Opens classes SIZE_MAX image (kept_map s file) s.kept_book
       ⊎ Opens classes SIZE_MAX image (map_after s c file) (book_after s c file)
   pub sequence : HasSequenceUpTo (s.in_use.sequence + 2 * s.in_use.block.k + 1) image
@@ -61,7 +61,7 @@ pub record IsFlushImage (classes : ℕ) (s : Kept) (c : Change) (file image : Li
 -- The store after a flush: each name has an object of the size that the change leaves it, the book is the
 -- next one of any map whose objects had the sizes of what stood, what stands now is the checkpoint, the
 -- sequence rose, and the bytes of the change were asked for.
-pub record ChangesByFlush (c : Change) (old new : Kept) : Type 0 where
+pub record ChangesByFlush (c : Change) (old new : StoreValue) : Type 0 where
   pub same_block : new.in_use.block ≡ old.in_use.block
   pub sizes : (name : List ℕ) → size_in new.now name ≡ size_after old c name
   pub book : (m : Map) → IsSizedBy m old.now
@@ -73,13 +73,13 @@ pub record ChangesByFlush (c : Change) (old new : Kept) : Type 0 where
 
 -- What a change does that isn't quiet, whether the disk fails or not. The content opens to the last
 -- checkpoint or to what stands after the change, and so does all that a crash may leave meanwhile, where the
--- disk rested on its table. Once it is done, the new content is all that a crash may leave. At most 2k saves are
--- made. The calls are at
--- most 4, those of the bytes moved, and those of the saves, each of as many records as there are names after
--- the change; where the disk failed those of one move more, and of one save. No byte of a class below the boundary is
--- moved, and of each other class at most twice the bytes of the map after; on a disk that tells nothing, of
--- any map changed so whose objects had the sizes of what stood.
-pub record IsFlush (classes : ℕ) (c : Change) (old new : Kept) (before now : disk.State)
+-- disk rested on its table. Once it is done, the new content is all that a crash may leave. At most 2k
+-- saves are made. The calls are at most 4, those of the bytes moved, and those of the saves, each of as
+-- many records as there are names after the change; where the disk failed those of one move more, and of
+-- one save. No byte of a class below the boundary is moved, and of each other class at most twice the
+-- bytes of the map after; on a disk that tells nothing, of any map changed so whose objects had the
+-- sizes of what stood.
+pub record IsFlush (classes : ℕ) (c : Change) (old new : StoreValue) (before now : disk.State)
     (result : Result Done Refusal) : Type 0 where
   pub value : OnOk result (ChangesByFlush c old new)
   pub opened : IsTrue before.tells
@@ -104,7 +104,7 @@ pub record IsFlush (classes : ℕ) (c : Change) (old new : Kept) (before now : d
   pub cause : HasCause before.faults now.faults result
 
 -- A change that is served, quiet or not.
-pub record ServesChange (classes : ℕ) (c : Change) (old new : Kept) (before now : disk.State)
+pub record ServesChange (classes : ℕ) (c : Change) (old new : StoreValue) (before now : disk.State)
     (result : Result Done Refusal) : Type 0 where
   pub answer : AnswersChange (is_quiet (charges_of old c)) None result
   pub quiet : is_quiet (charges_of old c) ≡ true → IsQuietChange classes c old new before now result

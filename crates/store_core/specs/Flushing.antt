@@ -7,49 +7,49 @@ use Rattle.slot_codec.specs.Choice as choice
 use Rattle.slot_codec.specs.Names.{IsName}
 use Rattle.slot_codec.specs.Spelling.{head_len}
 use Rattle.span_math.specs.declared.span.Span.{Span}
-use Rattle.store_terms.specs.Maps.{Map}
-use Rattle.store_terms.specs.Requests.{Change, changed}
+use Rattle.map_model.specs.Maps.{Map}
+use Rattle.map_model.specs.Requests.{Change, changed}
 use Rattle.segment_layout.specs.Balance.{IsBalanced}
 use Rattle.segment_layout.specs.Books.{Book, is_quiet, new_item, next_book, trigger}
 use Rattle.segment_layout.specs.Bounds.{Loose}
 use Rattle.segment_layout.specs.Shapes.{boundary_of, end_of, is_boundary}
 use Rattle.extent_table.specs.declared.spot.Spot.{Spot}
 use Rattle.extent_table.specs.Extents.{Extents, IsTable, Spots}
-use Rattle.spot_terms.specs.Held.{FreesSpot}
-use Rattle.spot_terms.specs.LaidOut.{shown_book}
-use Rattle.plan_terms.specs.declared.item.Item.{Item}
-use Rattle.plan_terms.specs.Phases.{Phase}
-use Rattle.plan_terms.specs.Plans.{class_total, numbers_of}
-use Rattle.flush_run.specs.Flights.{Flight, IsAtHand, IsFreeSpace, OpensEither}
+use Rattle.placement_model.specs.Held.{FreesSpot}
+use Rattle.placement_model.specs.LaidOut.{shown_book}
+use Rattle.flush_model.specs.declared.item.Item.{Item}
+use Rattle.flush_model.specs.Phases.{PlanState}
+use Rattle.flush_model.specs.Plans.{class_total, numbers_of}
+use Rattle.flush_run.specs.FlushFrames.{FlushFrame, ContentHolds, IsFreeSpace, OpensEither}
 use Rattle.flush_run.specs.Calls.{CallsSoFar, piece_calls}
 use Rattle.flush_run.specs.Hands.{suffix_items}
-use Rattle.flush_run.specs.Parts.{KeepsSettling, Parts, SameSizes}
+use Rattle.flush_run.specs.Parts.{KeepsSettling, HandsValue, SameSizes}
 use Rattle.flush_run.specs.Shelved.{phase_now}
 use Rattle.flush_plan.specs.Shelves.{course_of}
-use Rattle.flush_start.specs.Charging.{charged_by}
-use Rattle.flush_start.specs.Lifting.{BeginsLift}
-use Rattle.flush_start.specs.Sized.{IsSizedBy, object_size}
-use Rattle.flush_start.specs.Starts.{CanStart, IsWith, IsWithout, WasBefore}
+use Rattle.change_charges.specs.Charging.{charged_by}
+use Rattle.change_charges.specs.Lifting.{BeginsLift}
+use Rattle.change_charges.specs.Sized.{IsSizedBy, object_size}
+use Rattle.change_charges.specs.Starts.{CanStart, IsWith, IsWithout, WasBefore}
 use Rattle.store_core.specs.Quiet.{added, sizes_at}
 
 -- ---- before the change
 
 -- The parts before a change: the layout holds what stands and what was kept, with the grid of the checkpoint.
-pub record MayBegin (classes : ℕ) (kept_grid : List (List ℕ)) (x : Parts) : Type 0 where
+pub record MayBegin (classes : ℕ) (kept_grid : List (List ℕ)) (x : HandsValue) : Type 0 where
   pub before : WasBefore classes SIZE_MAX x.caps x.grid kept_grid x.in_use x.table x.spans
   pub base : x.base ≡ head_len x.in_use.block.names
   pub room : x.room ≡ x.in_use.block.names
   pub divisor : x.divisor ≡ x.in_use.block.k
 
 -- a charge of the change finds no room
-abbrev pub IsLoudAt : Parts → List ℕ → ℕ → Type 0
-IsLoudAt x name size =
+abbrev pub NeedsFlushAt : HandsValue → List ℕ → ℕ → Type 0
+NeedsFlushAt x name size =
     is_quiet (charged_by x.divisor x.caps x.grid (fin.get x.table.now name) size) ≡ false
 
 -- ---- the steps of the change
 
 -- A name was taken out: the guard and the bytes asked for know of it.
-pub record TakesOut (name : List ℕ) (x0 x : Parts) : Type 0 where
+pub record TakesOut (name : List ℕ) (x0 x : HandsValue) : Type 0 where
   pub without : IsWithout name x0.table x.table
   pub frees : FreesSpot (fin.get x0.table.now name) (fin.get x0.table.kept name) x0.spans x.spans
   pub asked : x.asked ≡ fold added x0.asked (sizes_at (fin.get x0.table.now name))
@@ -65,18 +65,20 @@ pub record CanStartAt (classes b k : ℕ) (caps : List ℕ) (grid : List (List �
   pub divisor : k ≡ u.block.k
 
 -- Lifting begins with the items of a table, and nothing pending.
-pub record IsStarted (b k : ℕ) (caps : List ℕ) (e : Extents) (p : Phase) : Type 0 where
+pub record IsStarted (b k : ℕ) (caps : List ℕ) (e : Extents) (p : PlanState) : Type 0 where
   pub value : p ≡ phase_now (course_of k caps (numbers_of k caps b (suffix_items b e) 0) 0) e
 
 -- An object that found room was set, and lifting begins.
-pub record StartsPlaced (b : ℕ) (name : List ℕ) (spot : Spot) (x0 x : Parts) (p : Phase) : Type 0 where
+pub record StartsPlaced (b : ℕ) (name : List ℕ) (spot : Spot) (x0 x : HandsValue)
+    (p : PlanState) : Type 0 where
   pub key : ℕ
   pub joins : IsWith name spot key x0.table x.table
   pub rest : x ≡ record x0 { table = x.table }
   pub started : IsStarted b x0.divisor x0.caps x.table p
 
 -- An object that waits was set behind the room for what is lifted, and lifting begins.
-pub record StartsWaiting (b : ℕ) (name : List ℕ) (size place : ℕ) (x0 x : Parts) (p : Phase) : Type 0 where
+pub record StartsWaiting (b : ℕ) (name : List ℕ) (size place : ℕ) (x0 x : HandsValue)
+    (p : PlanState) : Type 0 where
   pub key : ℕ
   pub joins : IsWith name (record { place = place; size = size }) key x0.table x.table
   pub rest : x ≡ record x0 { table = x.table }
@@ -88,18 +90,18 @@ pub record StartsWaiting (b : ℕ) (name : List ℕ) (size place : ℕ) (x0 x : 
 
 -- What is known of the disk as a change begins: what the file gives where the objects stand, what the last
 -- checkpoint gives, the book of that, and whether the disk rested on its table.
-pub record Setting : Type 0 where
+pub record BeforeChange : Type 0 where
   pub map : Map
   pub kept_map : Map
   pub kept_book : Book
   pub is_at_rest : Bool
 
 -- the book before the change
-abbrev pub book_before : ℕ → Parts → Book
+abbrev pub book_before : ℕ → HandsValue → Book
 book_before classes x = shown_book classes SIZE_MAX x.in_use.block.k x.caps x.grid x.table.now
 
 -- What stays the same in the flush of a change: it goes from the last checkpoint to what the change makes.
-abbrev pub flight_of : ℕ → Parts → Change → ℕ → Setting → Flight
+abbrev pub flight_of : ℕ → HandsValue → Change → ℕ → BeforeChange → FlushFrame
 flight_of classes x c reach g = record {
   classes = classes;
   size_max = SIZE_MAX;
@@ -122,7 +124,7 @@ spots_after c spots place = of c.object
     of (Some object) = fin.insert spots c.name (record { place = place; size = length object })
 
 -- the class from which on a flush lays the layout out anew
-abbrev pub boundary_after : Parts → Change → ℕ
+abbrev pub boundary_after : HandsValue → Change → ℕ
 boundary_after x c =
     let charged = charged_by x.in_use.block.k x.caps x.grid (fin.get x.table.now c.name)
     (object_size c.object) in
@@ -130,8 +132,9 @@ boundary_after x c =
 
 -- The change was made in the table and the layout, and lifting may begin: the new object's bytes are to be
 -- written at a place that is free.
-pub record IsBegun (classes : ℕ) (x0 : Parts) (c : Change) (x : Parts) (p : Phase) (place : ℕ) : Type 0 where
-  pub lifts : (g : Setting) → IsSizedBy g.map x0.table.now
+pub record IsBegun (classes : ℕ) (x0 : HandsValue) (c : Change) (x : HandsValue) (p : PlanState)
+    (place : ℕ) : Type 0 where
+  pub lifts : (g : BeforeChange) → IsSizedBy g.map x0.table.now
       → BeginsLift (flight_of classes x0 c p.numbers.reach g) x.caps x.grid x.in_use x.table x.spans p
   pub loose : (m : Map) → IsSizedBy m x0.table.now → IsBalanced x0.in_use.block.k m (book_before classes x0)
       → Loose x0.in_use.block.k p.numbers.reach m (changed c m)
@@ -159,10 +162,10 @@ bytes_of c = of c.object
 
 -- The disk as a change begins: the content gives the objects that stay, and opens to the last checkpoint, as
 -- does each image where the disk rested on its table. The file ends where the layout does.
-pub record IsAtStart (classes : ℕ) (x : Parts) (c : Change) (reach : ℕ) (g : Setting)
+pub record IsAtStart (classes : ℕ) (x : HandsValue) (c : Change) (reach : ℕ) (g : BeforeChange)
     (d : disk.State) : Type 0
   where
-    pub content : IsAtHand (record (flight_of classes x c reach g) {
+    pub content : ContentHolds (record (flight_of classes x c reach g) {
       reach = end_of x.in_use.block.k x.caps;
       new_map = fin.remove g.map c.name;
     }) x.in_use (fin.remove x.table.now c.name) d.file
@@ -172,7 +175,8 @@ pub record IsAtStart (classes : ℕ) (x : Parts) (c : Change) (reach : ℕ) (g :
 
 -- A flush may make its device calls: the change was made in the table and the layout of these parts, and the
 -- disk is as it was before.
-pub record CanFly (classes : ℕ) (x0 : Parts) (c : Change) (g : Setting) (x : Parts) (p : Phase) (place : ℕ)
+pub record CanMakeFlush (classes : ℕ) (x0 : HandsValue) (c : Change) (g : BeforeChange) (x : HandsValue)
+    (p : PlanState) (place : ℕ)
     (bytes : List ℕ) (d : disk.State) : Type 0 where
   pub kept_grid : List (List ℕ)
   pub may : MayBegin classes kept_grid x0
@@ -185,10 +189,11 @@ pub record CanFly (classes : ℕ) (x0 : Parts) (c : Change) (g : Setting) (x : P
 
 -- What a flush has made, whether or not it failed: of its parts only the slot in use, the table, the layout,
 -- the guard's spans and the bytes moved change; each name has an object of the same size; no byte of a class
--- below b was moved, and of each other class at most twice the bytes of its items; at most 2k saves were made; and
--- the calls are those of
--- the bytes moved and of the saves, one of which may have failed, and at most four more than one move makes.
-pub record HasFlown (b : ℕ) (items : List Item) (first now : disk.State) (x x2 : Parts) : Type 0 where
+-- below b was moved, and of each other class at most twice the bytes of its items; at most 2k saves were
+-- made; and the calls are those of the bytes moved and of the saves, one of which may have failed, and
+-- at most four more than one move makes.
+pub record HasMadeFlush (b : ℕ) (items : List Item) (first now : disk.State)
+    (x x2 : HandsValue) : Type 0 where
   pub keeps : KeepsSettling first now x x2
   pub sizes : SameSizes x.table.now x2.table.now
   pub later : x.in_use.sequence ≤ x2.in_use.sequence

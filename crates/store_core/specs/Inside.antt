@@ -5,13 +5,13 @@ use Rattle.size_class.specs.declared.TheConstants.{SIZE_MAX}
 use Rattle.slot_codec.specs.Spelling.{head_len}
 use Rattle.segment_layout.specs.Layouts.{caps_of, divisor_of, grid_of}
 use Rattle.extent_table.specs.Extents.{IsTable}
-use Rattle.spot_terms.specs.Held.{IsFreed}
-use Rattle.spot_terms.specs.LaidOut.{shown_book}
+use Rattle.placement_model.specs.Held.{IsFreed}
+use Rattle.placement_model.specs.LaidOut.{shown_book}
 use Rattle.store_core.specs.declared.store.Store.TheInside.{Inside}
-use Rattle.store_core.specs.Connection.{Kept}
+use Rattle.store_core.specs.Connection.{StoreValue}
 use Rattle.store_core.specs.Stores.{IsStore}
 
-abbrev pub kept_of : {C : ℕ} → Inside C → Kept
+abbrev pub kept_of : {C : ℕ} → Inside C → StoreValue
 kept_of {C} s =
     record {
       in_use = s.hands.slots;

@@ -7,14 +7,14 @@ use Rattle.disk_face.specs.Moments.{Leaves, Rests}
 use Rattle.disk_face.specs.Writes.{KeepsDisk}
 use Rattle.size_class.specs.declared.TheConstants.{SIZE_MAX}
 use Rattle.slot_pair.specs.Saves.{next_in_use, save_calls}
-use Rattle.store_terms.specs.Maps.{Map}
+use Rattle.map_model.specs.Maps.{Map}
 use Rattle.table_rules.specs.Opening.{Opens}
 use Rattle.table_rules.specs.Sequences.{HasSequenceUpTo}
-use Rattle.spot_terms.specs.Reads.{read_at}
+use Rattle.placement_model.specs.Reads.{read_at}
 use Rattle.store_core.specs.declared.answers.Refusal.{Refusal}
 use Rattle.store_core.specs.declared.answers.Refusal.TheVariants as why
 use Rattle.store_core.specs.declared.answers.Done.{Done}
-use Rattle.store_core.specs.Connection.{Kept, RestsOnTable, base_of, kept_map}
+use Rattle.store_core.specs.Connection.{StoreValue, RestsOnTable, base_of, kept_map}
 
 -- the answer is the refusal; where there is none, a checkpoint was saved, or the disk failed
 abbrev pub AnswersKeep : Option Refusal → Result Done Refusal → Type 0
@@ -22,16 +22,16 @@ AnswersKeep None result = (result ≡ Ok (record { kept = true })) ⊎ (result �
 AnswersKeep (Some refused) result = result ≡ Err refused
 
 -- what a file gives where the objects stand now
-abbrev pub now_map : Kept → List ℕ → Map
+abbrev pub now_map : StoreValue → List ℕ → Map
 now_map s file = read_at (base_of s) file s.now
 
 -- the store whose checkpoint is what stands now, in the other slot
-abbrev pub kept_now : Kept → Kept
+abbrev pub kept_now : StoreValue → StoreValue
 kept_now s = record s { in_use = next_in_use s.in_use; kept = s.now; kept_book = s.book }
 
 -- an image with the content's length, that opens to the last checkpoint or to what stands now, by a table
 -- whose sequence is at most the next
-pub record IsEitherImage (classes : ℕ) (s : Kept) (file image : List ℕ) : Type 0 where
+pub record OpensToKeptOrNow (classes : ℕ) (s : StoreValue) (file image : List ℕ) : Type 0 where
   pub same_length : length image ≡ length file
   pub opens : Opens classes SIZE_MAX image (kept_map s file) s.kept_book
       ⊎ Opens classes SIZE_MAX image (now_map s file) s.book
@@ -40,15 +40,16 @@ pub record IsEitherImage (classes : ℕ) (s : Kept) (file image : List ℕ) : Ty
 -- What a keep does, whether the disk fails or not. The content opens to the last checkpoint or to what stands
 -- now, and so does all that a crash may leave meanwhile, where the disk rested on its table. Once it is done,
 -- what stands now is all that a crash may leave.
-pub record KeepsNow (classes : ℕ) (old new : Kept) (before now : disk.State) (result : Result Done Refusal)
+pub record KeepsNow (classes : ℕ) (old new : StoreValue) (before now : disk.State)
+    (result : Result Done Refusal)
     : Type 0 where
   pub value : OnOk result (new ≡ kept_now old)
   pub failed : OnErr result (new ≡ record old { is_broken = true })
   pub saved : IsTrue before.tells
       → OnOk result (Opens classes SIZE_MAX now.file (now_map old before.file) old.book)
-  pub content : IsTrue before.tells → IsEitherImage classes old before.file now.file
+  pub content : IsTrue before.tells → OpensToKeptOrNow classes old before.file now.file
   pub left : IsTrue before.tells → RestsOnTable (base_of old) old.kept before
-      → Leaves before now (IsEitherImage classes old before.file)
+      → Leaves before now (OpensToKeptOrNow classes old before.file)
   pub rests : IsTrue before.tells → OnOk result (Rests now)
   pub on_table : IsTrue before.tells → OnOk result (RestsOnTable (base_of new) new.kept now)
   pub calls : Calls (save_calls (fin.len old.now)) before now result

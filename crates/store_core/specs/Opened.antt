@@ -12,7 +12,7 @@ use Rattle.slot_codec.specs.Choice as choice
 use Rattle.slot_codec.specs.Spelling.{head_len}
 use Rattle.slot_codec.specs.declared.codec.Kind.{Kind}
 use Rattle.slot_codec.specs.declared.codec.Kind.TheVariants as kind
-use Rattle.store_terms.specs.Maps.{Map}
+use Rattle.map_model.specs.Maps.{Map}
 use Rattle.segment_layout.specs.Books.{Book, book_end, volumes}
 use Rattle.table_rules.specs.Opening.{Opens, OpensBy}
 use Rattle.table_rules.specs.Sequences.{HasSequenceUpTo}
@@ -23,7 +23,7 @@ use Rattle.reopen.specs.declared.fault.OpenFault.{OpenFault}
 use Rattle.reopen.specs.declared.fault.OpenFault.TheVariants as fault
 use Rattle.slot_pair.specs.Finding.{HasDiskCause}
 use Rattle.slot_pair.specs.declared.find.SlotFault.TheVariants as slot
-use Rattle.store_core.specs.Connection.{IsOver, Kept, RestsOnTable, base_of, state_of}
+use Rattle.store_core.specs.Connection.{IsOver, StoreValue, RestsOnTable, base_of, state_of}
 use Rattle.store_core.specs.Stores.{IsStore}
 use Rattle.store_core.specs.States.{State}
 
@@ -65,7 +65,8 @@ most_by kind.Moving found = found + (2 ^ 18 - 1)
 abbrev pub most_found : choice.Table → ℕ
 most_found t = most_by t.chosen.header.kind t.chosen.header.sequence
 
--- an image opens to what was found by a table, with at most such a sequence, and is no longer than the file was
+-- an image opens to what was found by a table, with at most such a sequence, and is no longer than the
+-- file was
 pub record IsFoundImage (classes : ℕ) (t : choice.Table) (m : Map) (b : Book) (longest : ℕ)
     (image : List ℕ) : Type 0 where
   pub opens : Opens classes SIZE_MAX image m b
@@ -84,7 +85,7 @@ ContinuesFrom kind.Moving found new = (found + 1 ≤ new) × (new < found + 2 ^ 
 -- The file opened by its table to a map and a book, which are those of the store over the file now, and of
 -- its checkpoint. The superblock is that of the table. The sequence is the one found, or rose by less than
 -- 2^18 where the table was a moving one.
-pub record IsOpened (classes : ℕ) (file now : List ℕ) (s : Kept) : Type 0 where
+pub record IsOpened (classes : ℕ) (file now : List ℕ) (s : StoreValue) : Type 0 where
   pub table : choice.Table
   pub m : Map
   pub b : Book
@@ -94,7 +95,7 @@ pub record IsOpened (classes : ℕ) (file now : List ℕ) (s : Kept) : Type 0 wh
   pub continues : ContinuesFrom table.chosen.header.kind table.chosen.header.sequence s.in_use.sequence
 
 -- A store as it is opened: it isn't broken, and nothing was moved or asked for yet.
-pub record IsFresh (classes : ℕ) (s : Kept) : Type 0 where
+pub record IsFresh (classes : ℕ) (s : StoreValue) : Type 0 where
   pub whole : s.is_broken ≡ false
   pub store : IsStore classes s
   pub same_now : s.kept ≡ s.now
@@ -109,8 +110,8 @@ abbrev pub turn_after_cut : ℕ → List ℕ → ℕ → ℕ
 turn_after_cut len file turn = if nat_lt len (length file) then counted turn 2 else turn
 
 -- The calls of a flush that went on: those of the bytes that it moved, of each class at most twice those of
--- the map, and those of its saves, each of as many records as there are names: at most one before each move, and
--- each name's object is moved twice at most, and one more.
+-- the map, and those of its saves, each of as many records as there are names: at most one before each
+-- move, and each name's object is moved twice at most, and one more.
 pub record MovesOn (m : Map) (names first now saves : ℕ) : Type 0 where
   pub moved : List ℕ
   pub few : (c : ℕ) → slice_index moved c ≤ 2 * slice_index (volumes m) c
@@ -119,14 +120,14 @@ pub record MovesOn (m : Map) (names first now saves : ℕ) : Type 0 where
 
 -- The changing calls of an opening, by the kind of the table and by how many had ended before and have now.
 -- Of a settled table there are none where its file ends with its layout, and two where it is longer.
-abbrev pub OpenCallsOf : Kind → choice.Table → Map → Book → List ℕ → ℕ → ℕ → Kept → Type 0
+abbrev pub OpenCallsOf : Kind → choice.Table → Map → Book → List ℕ → ℕ → ℕ → StoreValue → Type 0
 OpenCallsOf kind.Settled t m b file first now s = now
     ≡ turn_after_cut (found_base t + book_end t.chosen.block.k b) file first
 OpenCallsOf kind.Moving t m b file first now s = MovesOn m t.chosen.header.count first now
     (s.in_use.sequence - t.chosen.header.sequence)
 
--- So many calls an opening makes at most, whether it fails or not: of a settled table two, and of a moving one
--- those of a flush that goes on, of one move more, and of one save that failed.
+-- So many calls an opening makes at most, whether it fails or not: of a settled table two, and of a
+-- moving one those of a flush that goes on, of one move more, and of one save that failed.
 pub record MovesAtMost (m : Map) (names first now : ℕ) : Type 0 where
   pub moved : List ℕ
   pub saves : ℕ
@@ -143,7 +144,7 @@ abbrev pub LeavesAlone : choice.Table → Book → disk.State → disk.State →
 LeavesAlone t b before now = t.chosen.header.kind ≡ kind.Settled
     → length before.file ≤ found_base t + book_end t.chosen.block.k b → Unchanged before now
 
-abbrev pub HasOpenCalls : choice.Table → Map → Book → List ℕ → ℕ → ℕ → Kept → Type 0
+abbrev pub HasOpenCalls : choice.Table → Map → Book → List ℕ → ℕ → ℕ → StoreValue → Type 0
 HasOpenCalls t m b file first now s = OpenCallsOf t.chosen.header.kind t m b file first now s
 
 -- ---- an opening
@@ -153,7 +154,7 @@ HasOpenCalls t m b file first now s = OpenCallsOf t.chosen.header.kind t m b fil
 -- meanwhile; then the disk rests on the table of the store. How many calls it makes is bounded, also where it
 -- fails.
 pub record OpensFound (classes : ℕ) (t : choice.Table) (m : Map) (b : Book) (before now : disk.State)
-    (result : Result Kept OpenFault) : Type 0 where
+    (result : Result StoreValue OpenFault) : Type 0 where
   pub content : LeavesRoom t → IsFoundImage classes t m b (length before.file) now.file
   pub left : LeavesRoom t → RestsOnFound t before → Leaves before now
       (IsFoundImage classes t m b (length before.file))
@@ -170,7 +171,8 @@ RefusesUnchanged before now _ = Unchanged before now
 -- What opening answers and what it does. At Ok the store is over the file, and has what was found there. A
 -- refusal is the first that applies, and changes nothing, unless the disk or memory failed; want of memory
 -- changes nothing either, and a file that opens to nothing is left alone also where the disk failed.
-pub record IsOpening (classes : ℕ) (before now : disk.State) (result : Result Kept OpenFault) : Type 0 where
+pub record IsOpening (classes : ℕ) (before now : disk.State)
+    (result : Result StoreValue OpenFault) : Type 0 where
   pub opened : IsTrue before.tells → IfOk result (IsOpened classes before.file now.file)
   pub over : IsTrue before.tells → IfOk result (λ s. IsOver classes s now.file)
   pub fresh : IfOk result (IsFresh classes)

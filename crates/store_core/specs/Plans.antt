@@ -1,12 +1,12 @@
 -- What a put or a removal that is served and quiet will leave.
 use Rattle.std.specs.Prelude.{◌≡◌, ℕ, List, length, Option, Some, None, Result, Ok, Err}
 use Rattle.std.specs.FinMap as fin
-use Rattle.store_terms.specs.Requests as ask
+use Rattle.map_model.specs.Requests as ask
 use Rattle.extent_table.specs.declared.spot.Spot.{Spot}
-use Rattle.spot_terms.specs.Quiet.{QuietTo, gone_items}
+use Rattle.placement_model.specs.Quiet.{QuietTo, gone_items}
 use Rattle.store_core.specs.declared.answers.Refusal.{Refusal}
 use Rattle.store_core.specs.Answers.{refused_by}
-use Rattle.store_core.specs.Connection.{Kept}
+use Rattle.store_core.specs.Connection.{StoreValue}
 use Rattle.store_core.specs.Quiet.{IsCharged, del_of, put_of}
 
 -- the answer is the refusal, or where there is none the name
@@ -16,7 +16,7 @@ AcceptsName (Some why) name result = result ≡ Err why
 
 -- A put of an object under a name: a layout with the store's capacities, whose grid has its charges, and the
 -- place of the new object.
-pub record IsPutPlan (s : Kept) (name object plan_name : List ℕ) (k : ℕ) (caps : List ℕ)
+pub record IsPutPlan (s : StoreValue) (name object plan_name : List ℕ) (k : ℕ) (caps : List ℕ)
     (grid : List (List ℕ)) (spot : Spot) : Type 0 where
   pub served : refused_by s (ask.change (put_of name object)) ≡ None
   pub same_name : plan_name ≡ name
@@ -27,7 +27,7 @@ pub record IsPutPlan (s : Kept) (name object plan_name : List ℕ) (k : ℕ) (ca
       spot.place
 
 -- A removal of a name: the same, but that its old object alone is charged.
-pub record IsDelPlan (s : Kept) (name plan_name : List ℕ) (k : ℕ) (caps : List ℕ)
+pub record IsDelPlan (s : StoreValue) (name plan_name : List ℕ) (k : ℕ) (caps : List ℕ)
     (grid : List (List ℕ)) : Type 0
   where
     pub served : refused_by s (ask.change (del_of name)) ≡ None

@@ -7,12 +7,12 @@ use Rattle.size_class.specs.Classes.{class_of}
 use Rattle.held_guard.specs.Freed.{Freed}
 use Rattle.span_math.specs.declared.span.Span.{Span}
 use Rattle.span_math.specs.Spans.{IsApart}
-use Rattle.store_terms.specs.Requests.{Change}
+use Rattle.map_model.specs.Requests.{Change}
 use Rattle.segment_layout.specs.Books.{Charged, charge_all, is_quiet, new_item, some_size}
 use Rattle.extent_table.specs.declared.spot.Spot.{Spot}
-use Rattle.spot_terms.specs.Held.{IsSpanOf}
-use Rattle.spot_terms.specs.Quiet.{PlacedTo, QuietTo, gone_items}
-use Rattle.store_core.specs.Connection.{Kept}
+use Rattle.placement_model.specs.Held.{IsSpanOf}
+use Rattle.placement_model.specs.Quiet.{PlacedTo, QuietTo, gone_items}
+use Rattle.store_core.specs.Connection.{StoreValue}
 
 abbrev pub put_of : List ℕ → List ℕ → Change
 put_of name object = record { name = name; object = Some object }
@@ -22,7 +22,7 @@ del_of name = record { name = name; object = None }
 
 -- What a change charges, by where the old object stands and the sizes: its size where it stands in its
 -- payload segment, and then that of the new one.
-abbrev pub charges_of : Kept → Change → Charged
+abbrev pub charges_of : StoreValue → Change → Charged
 charges_of s c = charge_all s.in_use.block.k s.book.caps s.book.grid
     (gone_items s.in_use.block.k s.book.caps (fin.get s.now c.name) ++ new_item c)
 
@@ -54,7 +54,7 @@ sizes_at None = []
 sizes_at (Some x) = some_size x.size
 
 -- the bytes asked for: those of the object that goes, and of the one that comes
-abbrev pub asked_after : Kept → Change → List ℕ
+abbrev pub asked_after : StoreValue → Change → List ℕ
 asked_after s c = fold added s.asked (sizes_at (fin.get s.now c.name) ++ new_item c)
 
 -- an object of at least 1 byte is written once

@@ -7,17 +7,17 @@ use Rattle.slot_codec.specs.Spelling.{head_len}
 use Rattle.segment_layout.specs.Layouts.{caps_of, divisor_of, grid_of}
 use Rattle.table_rules.specs.Rules.{IsValid}
 use Rattle.extent_table.specs.Extents.{IsTable}
-use Rattle.spot_terms.specs.Laid.{settled_table}
-use Rattle.plan_terms.specs.Phases.{Phase, phase_of}
-use Rattle.plan_terms.specs.Resumed.{numbers_again}
+use Rattle.placement_model.specs.Laid.{settled_table}
+use Rattle.flush_model.specs.Phases.{PlanState, phase_of}
+use Rattle.flush_model.specs.Resumed.{numbers_again}
 use Rattle.flush_run.specs.declared.hands.Hands.{Hands}
 use Rattle.flush_run.specs.Hands.{suffix_items}
-use Rattle.flush_run.specs.Parts.{Parts}
+use Rattle.flush_run.specs.Parts.{HandsValue}
 use Rattle.reopen.specs.declared.state.Loaded.{Loaded}
 
 -- The parts of a flush that goes on are those of the table that was read; nothing was moved since, and no
 -- space is held but where objects stand.
-pub record StartsAgain {C : ℕ} (x : Loaded C) (y : Parts) : Type 0 where
+pub record StartsAgain {C : ℕ} (x : Loaded C) (y : HandsValue) : Type 0 where
   pub in_use : y.in_use ≡ x.slots
   pub table : y.table ≡ x.table
   pub divisor : y.divisor ≡ divisor_of x.layout
@@ -30,7 +30,7 @@ pub record StartsAgain {C : ℕ} (x : Loaded C) (y : Parts) : Type 0 where
   pub base : y.base ≡ head_len x.block.names
 
 -- The phase has the items of the table's suffix, and the wall and the slack of its header.
-pub record PacksAgain {C : ℕ} (x : Loaded C) (p : Phase) : Type 0 where
+pub record PacksAgain {C : ℕ} (x : Loaded C) (p : PlanState) : Type 0 where
   pub value : p ≡ phase_of (divisor_of x.layout) (caps_of x.layout)
       (numbers_again (divisor_of x.layout) (caps_of x.layout) x.header.boundary x.header.wall x.header.slack
       (suffix_items x.header.boundary x.table)) 0 p.items

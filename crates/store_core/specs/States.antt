@@ -2,9 +2,9 @@
 use Rattle.std.specs.Prelude.{◌≡◌, ℕ, ◌+◌, ◌*◌, ◌^◌, ◌≤◌, nat_lt, nat_le, Bool, not, ◌&&◌, if◌then◌else◌, List, [], ◌∷◌, ◌++◌, length, map, Option, Some, None}
 use Rattle.std.specs.FinMap as fin
 use Rattle.slot_codec.specs.Names.{is_name}
-use Rattle.store_terms.specs.Maps.{Map, volume}
-use Rattle.store_terms.specs.Requests as ask
-use Rattle.store_terms.specs.Requests.{Request, Reply, Refused, Change, changed}
+use Rattle.map_model.specs.Maps.{Map, volume}
+use Rattle.map_model.specs.Requests as ask
+use Rattle.map_model.specs.Requests.{Request, Reply, Refused, Change, changed}
 use Rattle.segment_layout.specs.Books.{Book, next_book}
 
 -- what is fixed for a store: the divisor, the greatest number of names, the greatest size of an object

@@ -5,9 +5,9 @@ use Rattle.size_class.specs.declared.TheConstants.{SIZE_MAX}
 use Rattle.slot_codec.specs.Readable.{IsSuperBlock}
 use Rattle.extent_table.specs.declared.spot.Spot.{Spot}
 use Rattle.extent_table.specs.Extents.{IsInRange, Spots}
-use Rattle.spot_terms.specs.LaidOut.{IsLaidOut, shown_book}
-use Rattle.spot_terms.specs.Rises.{CellsRise}
-use Rattle.store_core.specs.Connection.{Kept}
+use Rattle.placement_model.specs.LaidOut.{IsLaidOut, shown_book}
+use Rattle.placement_model.specs.Rises.{CellsRise}
+use Rattle.store_core.specs.Connection.{StoreValue}
 
 -- places and sizes are numbers that a record of the file can hold
 abbrev pub AreInRange : Spots → Type 0
@@ -17,7 +17,7 @@ AreInRange spots = (name : List ℕ) (x : Spot) → fin.get spots name ≡ Some 
 -- checkpoint with what theirs had: each book is what this layout shows. No buffer has taken less in any class
 -- than at the checkpoint, so what is charged since lies behind all that is held, and going back leaves the
 -- length right.
-pub record IsStore (classes : ℕ) (s : Kept) : Type 0 where
+pub record IsStore (classes : ℕ) (s : StoreValue) : Type 0 where
   pub block : IsSuperBlock s.in_use.block
   pub now : IsLaidOut classes SIZE_MAX s.in_use.block.k s.book.caps s.book.grid s.now
   pub now_book : s.book ≡ shown_book classes SIZE_MAX s.in_use.block.k s.book.caps s.book.grid s.now

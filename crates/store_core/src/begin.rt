@@ -7,31 +7,35 @@ ghost use Rattle.segment_layout.specs.Layouts.{caps_of, divisor_of, grid_of};
 ghost use Rattle.extent_table.specs.Extents.{Extents};
 ghost use Rattle.flush_run.specs.Parts.{parts_of};
 ghost use Rattle.flush_run.specs.Shelved.{items_now, phase_now};
-ghost use Rattle.flush_start.specs.Starts.{IsWith};
-ghost use Rattle.store_core.specs.Flushing.{CanStartAt, IsBegun, IsLoudAt, IsStarted, MayBegin, StartsPlaced, StartsWaiting, TakesOut};
+ghost use Rattle.change_charges.specs.Starts.{IsWith};
+ghost use Rattle.store_core.specs.Flushing.{CanStartAt, IsBegun, NeedsFlushAt, IsStarted, MayBegin, StartsPlaced, StartsWaiting, TakesOut};
 ghost use Rattle.store_core.specs.Quiet.{del_of, put_of};
 ghost use Rattle.flush_plan.specs.Lifts.{KeepsLifting};
 
 use crate::held::{add_gone, add_size, free_spot};
+use change_charges::charge_change;
 use extent_table::{Spot, Table};
+use flush_model::Item;
 use flush_plan::{Lifting, numbers};
 use flush_run::{Hands, TableShelf};
-use flush_start::charge_change;
-use plan_terms::Item;
 use segment_layout::Layout;
 use size_class::{SIZE_MAX, class_of};
 use slot_codec::Name;
 
 /// A flush that begins: its moves, and the place at which the new object is to be written.
 #[derive(Drop)]
-pub(crate) struct Begun<const C: usize> {
+pub(crate) struct StartedFlush<const C: usize> {
     pub(crate) phase: Lifting<C>,
     pub(crate) place: u64,
 }
 
 /// Makes a put that isn't quiet in the table and the layout. A new object that found no room stands
 /// where the flush reaches to.
-pub(crate) fn begin_put<const C: usize>(hands: &mut Hands<C>, name: &Name, bytes: &[u8]) -> Begun<C>
+pub(crate) fn start_put<const C: usize>(
+    hands: &mut Hands<C>,
+    name: &Name,
+    bytes: &[u8],
+) -> StartedFlush<C>
     requires fits { C ≤ 32 }
     requires wide { SIZE_MAX < 2 ^ C }
     requires named { IsName name.now }
@@ -39,7 +43,7 @@ pub(crate) fn begin_put<const C: usize>(hands: &mut Hands<C>, name: &Name, bytes
     requires room { IsSome (fin.get hands.old.table.now name.now)
         ⊎ (fin.len hands.old.table.now < hands.old.table.names) }
     requires before { (kept_grid : List (List ℕ)) × MayBegin C kept_grid (parts_of hands.old) }
-    requires loud { IsLoudAt (parts_of hands.old) name.now (length bytes.now) }
+    requires needs_flush { NeedsFlushAt (parts_of hands.old) name.now (length bytes.now) }
     ensures begun { IsBegun C (parts_of hands.old) (put_of name.now bytes.now) (parts_of hands.new)
         (phase_now result.phase.course hands.new.table) result.place }
     ensures keeps { KeepsLifting C result.phase (items_now result.phase.course hands.new.table) }
@@ -57,11 +61,11 @@ pub(crate) fn begin_put<const C: usize>(hands: &mut Hands<C>, name: &Name, bytes
 }
 
 /// Makes a removal that isn't quiet in the table and the layout.
-pub(crate) fn begin_del<const C: usize>(hands: &mut Hands<C>, name: &Name) -> Begun<C>
+pub(crate) fn start_del<const C: usize>(hands: &mut Hands<C>, name: &Name) -> StartedFlush<C>
     requires fits { C ≤ 32 }
     requires wide { SIZE_MAX < 2 ^ C }
     requires before { (kept_grid : List (List ℕ)) × MayBegin C kept_grid (parts_of hands.old) }
-    requires loud { IsLoudAt (parts_of hands.old) name.now 0 }
+    requires needs_flush { NeedsFlushAt (parts_of hands.old) name.now 0 }
     ensures begun { IsBegun C (parts_of hands.old) (del_of name.now) (parts_of hands.new)
         (phase_now result.phase.course hands.new.table) result.place }
     ensures keeps { KeepsLifting C result.phase (items_now result.phase.course hands.new.table) }
@@ -70,7 +74,7 @@ pub(crate) fn begin_del<const C: usize>(hands: &mut Hands<C>, name: &Name) -> Be
     take_out(hands, name);
     let outcome = charge_change(&mut hands.layout, old, 0);
     let b = hands.layout.boundary(outcome.class);
-    Begun {
+    StartedFlush {
         phase: start_lifting(&hands.table, &hands.layout, b),
         place: 0,
     }
@@ -90,7 +94,12 @@ fn take_out<const C: usize>(hands: &mut Hands<C>, name: &Name)
 }
 
 /// Sets a new object that found room, and begins a flush with nothing pending.
-fn start_placed<const C: usize>(hands: &mut Hands<C>, name: &Name, b: u8, spot: Spot) -> Begun<C>
+fn start_placed<const C: usize>(
+    hands: &mut Hands<C>,
+    name: &Name,
+    b: u8,
+    spot: Spot,
+) -> StartedFlush<C>
     requires fits { C ≤ 32 }
     requires room { fin.len hands.old.table.now < hands.old.table.names }
     requires low { spot.place + spot.size < 2 ^ 48 }
@@ -103,7 +112,7 @@ fn start_placed<const C: usize>(hands: &mut Hands<C>, name: &Name, b: u8, spot: 
     ensures place { result.place ≡ spot.place }
 {
     hands.table.set(name, spot);
-    Begun {
+    StartedFlush {
         phase: start_lifting(&hands.table, &hands.layout, b),
         place: spot.place,
     }
@@ -124,7 +133,12 @@ fn start_lifting<const C: usize>(table: &Table, layout: &Layout<C>, b: u8) -> Li
 }
 
 /// Sets a new object that found no room where the flush reaches to, and begins a flush with it pending.
-fn start_waiting<const C: usize>(hands: &mut Hands<C>, name: &Name, b: u8, size: u64) -> Begun<C>
+fn start_waiting<const C: usize>(
+    hands: &mut Hands<C>,
+    name: &Name,
+    b: u8,
+    size: u64,
+) -> StartedFlush<C>
     requires fits { C ≤ 32 }
     requires wide { SIZE_MAX < 2 ^ C }
     requires some { 1 ≤ size }
@@ -148,7 +162,7 @@ fn start_waiting<const C: usize>(hands: &mut Hands<C>, name: &Name, b: u8, size:
         size,
     };
     let shelf = TableShelf(&hands.table);
-    Begun {
+    StartedFlush {
         phase: Lifting::new(&hands.layout, found, &shelf, Some(pending)),
         place,
     }

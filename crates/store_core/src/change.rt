@@ -1,7 +1,7 @@
 //! Putting and removing objects.
 ghost use Rattle.std.specs.Prelude.{◌≡◌, ◌||◌, true, false, IfSome, IsNone, IsSome, IsTrue, None};
 ghost use Rattle.segment_layout.specs.Books.{is_quiet};
-ghost use Rattle.store_terms.specs.Requests as ask;
+ghost use Rattle.map_model.specs.Requests as ask;
 
 use crate::{Done, Refusal, Store};
 use disk_face::Disk;

@@ -2,7 +2,7 @@
 ghost use Rattle.std.specs.Prelude.{◌≡◌, ◌<◌, ◌≤◌, ◌^◌, IsFalse, IsTrue, IfSome, Some, false};
 ghost use Rattle.segment_layout.specs.Books.{charge_all, is_quiet, some_size};
 ghost use Rattle.segment_layout.specs.Layouts.{caps_of, divisor_of, grid_of};
-ghost use Rattle.spot_terms.specs.Quiet.{QuietTo, gone_items};
+ghost use Rattle.placement_model.specs.Quiet.{QuietTo, gone_items};
 ghost use Rattle.store_core.specs.Quiet.{FindsPlace, PlacesNew};
 
 use extent_table::Spot;
@@ -40,7 +40,7 @@ pub(crate) fn charge_gone<const C: usize>(layout: &mut Layout<C>, old: Option<Sp
     requires small { IfSome old (λ s. s.size ≤ SIZE_MAX) }
     ensures quiet { IsTrue result → QuietTo (divisor_of layout.old) (caps_of layout.old) (grid_of layout.old)
         (gone_items (divisor_of layout.old) (caps_of layout.old) old) (grid_of layout.new) }
-    ensures loud { IsFalse result → is_quiet (charge_all (divisor_of layout.old) (caps_of layout.old)
+    ensures needs_flush { IsFalse result → is_quiet (charge_all (divisor_of layout.old) (caps_of layout.old)
         (grid_of layout.old) (gone_items (divisor_of layout.old) (caps_of layout.old) old)) ≡ false }
     ensures divisor { divisor_of layout.new ≡ divisor_of layout.old }
     ensures caps { caps_of layout.new ≡ caps_of layout.old }
@@ -59,7 +59,7 @@ fn charge_spot<const C: usize>(layout: &mut Layout<C>, spot: Spot) -> bool
     requires small { spot.size ≤ SIZE_MAX }
     ensures quiet { IsTrue result → QuietTo (divisor_of layout.old) (caps_of layout.old) (grid_of layout.old)
         (gone_items (divisor_of layout.old) (caps_of layout.old) (Some spot)) (grid_of layout.new) }
-    ensures loud { IsFalse result → is_quiet (charge_all (divisor_of layout.old) (caps_of layout.old)
+    ensures needs_flush { IsFalse result → is_quiet (charge_all (divisor_of layout.old) (caps_of layout.old)
         (grid_of layout.old) (gone_items (divisor_of layout.old) (caps_of layout.old) (Some spot))) ≡ false }
     ensures divisor { divisor_of layout.new ≡ divisor_of layout.old }
     ensures caps { caps_of layout.new ≡ caps_of layout.old }

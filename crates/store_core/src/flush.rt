@@ -5,17 +5,17 @@ ghost use Rattle.std.specs.FinMap as fin;
 ghost use Rattle.disk_face.specs.Counts.{HasCause};
 ghost use Rattle.size_class.specs.Rows.{cells_of};
 ghost use Rattle.segment_layout.specs.Books.{is_quiet};
-ghost use Rattle.store_terms.specs.Requests as ask;
-ghost use Rattle.store_terms.specs.Requests.{Change};
+ghost use Rattle.map_model.specs.Requests as ask;
+ghost use Rattle.map_model.specs.Requests.{Change};
 ghost use Rattle.flush_run.specs.Calls.{CallsSoFar};
-ghost use Rattle.flush_run.specs.Flights.{LeavesOldOrNew};
-ghost use Rattle.flush_run.specs.Parts.{Parts, parts_of};
+ghost use Rattle.flush_run.specs.FlushFrames.{LeavesOldOrNew};
+ghost use Rattle.flush_run.specs.Parts.{HandsValue, parts_of};
 ghost use Rattle.flush_run.specs.Settling.{FlushEnds};
 ghost use Rattle.flush_run.specs.Shelved.{items_now, phase_now};
 ghost use Rattle.flush_plan.specs.Lifts.{KeepsLifting};
-ghost use Rattle.store_core.specs.Flushing.{CanFly, HasFlown, Setting, flight_of};
+ghost use Rattle.store_core.specs.Flushing.{CanMakeFlush, HasMadeFlush, BeforeChange, flight_of};
 
-use crate::begin::{Begun, begin_put};
+use crate::begin::{StartedFlush, start_put};
 use crate::quiet::write_new;
 use crate::{Done, Refusal, Store};
 use disk_face::{Disk, DiskFault};
@@ -39,7 +39,7 @@ impl<const C: usize> Store<C> {
         requires ready { IsTrue (D.state disk.old).is_ready }
         requires over { IsConnected C self.old (D.state disk.old) }
         requires served { refused_by self.old (ask.change (put_of name.now bytes.now)) ≡ None }
-        requires loud { is_quiet (charges_of self.old (put_of name.now bytes.now)) ≡ false }
+        requires needs_flush { is_quiet (charges_of self.old (put_of name.now bytes.now)) ≡ false }
         ensures answer { AnswersChange false None result }
         ensures flush { IsFlush C (put_of name.now bytes.now) self.old self.new (D.state disk.old)
             (D.state disk.new) result }
@@ -49,10 +49,10 @@ impl<const C: usize> Store<C> {
         ensures over { IsConnected C self.new (D.state disk.new) }
         ensures broken { self.new.is_broken ≡ is_disk_fault result }
     {
-        let begun = begin_put(&mut self.hands, name, bytes);
-        let flown = fly(disk, begun, &mut self.hands, bytes);
+        let begun = start_put(&mut self.hands, name, bytes);
+        let made = make_flush(disk, begun, &mut self.hands, bytes);
         self.kept_layout = self.hands.layout;
-        match flown {
+        match made {
             Ok(()) => Ok(Done { kept: true }),
             Err(DiskFault) => {
                 self.broken = true;
@@ -63,23 +63,26 @@ impl<const C: usize> Store<C> {
 }
 
 /// Grows the file to where the flush reaches, writes the new object, and makes the flush.
-pub(crate) fn fly<D: Disk, const C: usize>(
+pub(crate) fn make_flush<D: Disk, const C: usize>(
     disk: &mut D,
-    begun: Begun<C>,
+    begun: StartedFlush<C>,
     hands: &mut Hands<C>,
     bytes: &[u8],
 ) -> Result<(), DiskFault>
     requires ready { IsTrue (D.state disk.old).is_ready }
     requires buffer { vec_len hands.old.buf ≡ 65536 }
     requires fits { C ≤ 32 }
-    requires start { (x0 : Parts) × (c : Change) × (g : Setting) × CanFly C x0 c g (parts_of hands.old)
+    requires start { (x0 : HandsValue) × (c : Change) × (g : BeforeChange)
+        × CanMakeFlush C x0 c g (parts_of hands.old)
         (phase_now begun.phase.course hands.old.table) begun.place bytes.now (D.state disk.old) }
     requires keeps { KeepsLifting C begun.phase (items_now begun.phase.course hands.old.table) }
-    ensures ends { (x0 : Parts) (c : Change) (g : Setting) → CanFly C x0 c g (parts_of hands.old)
+    ensures ends { (x0 : HandsValue) (c : Change) (g : BeforeChange)
+        → CanMakeFlush C x0 c g (parts_of hands.old)
         (phase_now begun.entry.phase.course hands.old.table) begun.entry.place bytes.now (D.state disk.old)
         → OnOk result (FlushEnds C (flight_of C x0 c begun.entry.phase.course.numbers.reach g)
         (parts_of hands.new) (D.state disk.new)) }
-    ensures left { (x0 : Parts) (c : Change) (g : Setting) → CanFly C x0 c g (parts_of hands.old)
+    ensures left { (x0 : HandsValue) (c : Change) (g : BeforeChange)
+        → CanMakeFlush C x0 c g (parts_of hands.old)
         (phase_now begun.entry.phase.course hands.old.table) begun.entry.place bytes.now (D.state disk.old)
         → IsTrue (D.state disk.old).tells
         → LeavesOldOrNew (flight_of C x0 c begun.entry.phase.course.numbers.reach g)
@@ -89,12 +92,12 @@ pub(crate) fn fly<D: Disk, const C: usize>(
     ensures calls { OnOk result (CallsSoFar (D.state disk.old).turn (D.state disk.new).turn
         (cells_of hands.old.ledger.moved) (cells_of hands.new.ledger.moved) 4
         (hands.new.slots.sequence - hands.old.slots.sequence) (fin.len hands.old.table.now)) }
-    ensures made { HasFlown begun.entry.phase.course.numbers.boundary
+    ensures made { HasMadeFlush begun.entry.phase.course.numbers.boundary
         (items_now begun.entry.phase.course hands.old.table) (D.state disk.old)
         (D.state disk.new) (parts_of hands.old) (parts_of hands.new) }
     ensures cause { HasCause (D.state disk.old).faults (D.state disk.new).faults result }
 {
-    let Begun { phase, place } = begun;
+    let StartedFlush { phase, place } = begun;
     disk.set_len(hands.base + phase.numbers().reach)?;
     write_new(disk, hands.base, place, bytes)?;
     match run(disk, phase, hands) {

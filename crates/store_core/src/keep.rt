@@ -3,8 +3,8 @@ ghost use Rattle.std.specs.Prelude.{◌≡◌, ◌<◌, ◌≤◌, ◌^◌, ◌|
 ghost use Rattle.slot_codec.specs.Reading.{all_in_range};
 ghost use Rattle.segment_layout.specs.Layouts.{caps_of, grid_of};
 ghost use Rattle.extent_table.specs.Extents.{IsTable};
-ghost use Rattle.spot_terms.specs.Laid as laid;
-ghost use Rattle.store_terms.specs.Requests as ask;
+ghost use Rattle.placement_model.specs.Laid as laid;
+ghost use Rattle.map_model.specs.Requests as ask;
 
 use crate::plan::WORN_FROM;
 use crate::{Done, Refusal, Store};

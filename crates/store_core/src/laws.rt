@@ -1,19 +1,19 @@
 //! What holds of stores and of requests, as contracts of functions that do nothing.
 ghost use Rattle.std.specs.Prelude.{◌≡◌, ℕ, ◌*◌, ◌<◌, ◌≤◌, ◌^◌, List, [], IfOk, Some};
 ghost use Rattle.slot_codec.specs.Choice.{Table as FoundTable};
-ghost use Rattle.store_terms.specs.Maps.{Map};
-ghost use Rattle.store_terms.specs.Requests as ask;
-ghost use Rattle.store_terms.specs.Requests.{Change, Refused, Request};
+ghost use Rattle.map_model.specs.Maps.{Map};
+ghost use Rattle.map_model.specs.Requests as ask;
+ghost use Rattle.map_model.specs.Requests.{Change, Refused, Request};
 ghost use Rattle.segment_layout.specs.Books.{Book, book_end, is_quiet, next_book};
 ghost use Rattle.segment_layout.specs.Bounds.{Tight};
 ghost use Rattle.segment_layout.specs.Layouts.{caps_of, divisor_of, grid_of};
 ghost use Rattle.slot_codec.specs.Readable.{IsSuperBlock};
 ghost use Rattle.table_rules.specs.Rules.{IsValid};
-ghost use Rattle.spot_terms.specs.Laid.{settled_table};
+ghost use Rattle.placement_model.specs.Laid.{settled_table};
 ghost use Rattle.extent_table.specs.Extents.{IsTable, volume_of};
-ghost use Rattle.spot_terms.specs.Reads.{AreNamed};
+ghost use Rattle.placement_model.specs.Reads.{AreNamed};
 ghost use Rattle.store_core.specs.Answers.{facts_at};
-ghost use Rattle.store_core.specs.Connection.{IsOver, Kept, SameOnTable, base_of, opened_store, state_of};
+ghost use Rattle.store_core.specs.Connection.{IsOver, StoreValue, SameOnTable, base_of, opened_store, state_of};
 ghost use Rattle.store_core.specs.Opened.{IsFoundImage, IsOpened, SameOnFound, state_at};
 ghost use Rattle.store_core.specs.Quiet.{charges_of};
 ghost use Rattle.store_core.specs.Stores.{IsStore};
@@ -37,7 +37,7 @@ pub fn an_empty_run()
 /// A refused request leaves the state, and what it is refused by depends on where the objects stand
 /// and on the sequence alone.
 pub fn a_refusal_leaves_the_state()
-    ensures facts { (s : Kept) (file : List ℕ) (r : Request) → AreNamed s.now → AreNamed s.kept
+    ensures facts { (s : StoreValue) (file : List ℕ) (r : Request) → AreNamed s.now → AreNamed s.kept
         → facts_of (state_of s file) r ≡ facts_at s r }
     ensures step { (limits : Limits) (s : State) (r : Request) (why : Refused)
         → refusal limits (facts_of s r) r ≡ Some why → Step limits s r (ask.refused why) s }
@@ -45,23 +45,23 @@ pub fn a_refusal_leaves_the_state()
 
 /// The live bytes are at most those of as many largest objects as there may be names.
 pub fn a_store_has_few_bytes()
-    ensures { (classes : ℕ) (s : Kept) → IsStore classes s
+    ensures { (classes : ℕ) (s : StoreValue) → IsStore classes s
         → volume_of s.now ≤ s.in_use.block.names * SIZE_MAX }
 {}
 
 /// Whether a put or a removal is quiet, which is known by where the objects stand and by their sizes,
 /// is what the book says of the map.
 pub fn a_quiet_change_is_one_by_the_book()
-    ensures { (classes : ℕ) (s : Kept) (file : List ℕ) (c : Change) → IsStore classes s
+    ensures { (classes : ℕ) (s : StoreValue) (file : List ℕ) (c : Change) → IsStore classes s
         → IsOver classes s file → (next_book s.in_use.block.k (state_of s file).map s.book c).quiet
         ≡ is_quiet (charges_of s c) }
 {}
 
 /// Between requests the data part is within its bound, now and once the store goes back.
 pub fn a_store_is_tight()
-    ensures now { (classes : ℕ) (s : Kept) (file : List ℕ) → IsStore classes s → IsOver classes s file
+    ensures now { (classes : ℕ) (s : StoreValue) (file : List ℕ) → IsStore classes s → IsOver classes s file
         → Tight s.in_use.block.k (book_end s.in_use.block.k s.book) (state_of s file).map }
-    ensures kept { (classes : ℕ) (s : Kept) (file : List ℕ) → IsStore classes s → IsOver classes s file
+    ensures kept { (classes : ℕ) (s : StoreValue) (file : List ℕ) → IsStore classes s → IsOver classes s file
         → Tight s.in_use.block.k (book_end s.in_use.block.k s.kept_book) (state_of s file).kept }
 {}
 
@@ -70,10 +70,10 @@ pub fn a_store_is_tight()
 /// table of a store is so on the one that is found.
 pub fn a_stopped_opening_is_made_again()
     ensures state { (classes : ℕ) (t : FoundTable) (m : Map) (b : Book) (longest : ℕ) (image now : List ℕ)
-        (s : Kept) → IsFoundImage classes t m b longest image → IsOpened classes image now s
+        (s : StoreValue) → IsFoundImage classes t m b longest image → IsOpened classes image now s
         → state_of s now ≡ state_at m b s.in_use.sequence }
     ensures alone { (t : FoundTable) (file : List ℕ) → SameOnFound t file file }
-    ensures store { (classes : ℕ) (s : Kept) (file image : List ℕ) → IsStore classes s
+    ensures store { (classes : ℕ) (s : StoreValue) (file image : List ℕ) → IsStore classes s
         → (over : IsOver classes s file) → SameOnTable (base_of s) s.kept file image
         → SameOnFound over.table file image }
 {}

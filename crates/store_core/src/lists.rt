@@ -3,7 +3,7 @@ ghost use Rattle.std.specs.Prelude.{◌≡◌, ℕ, List, false, true, ◌↔◌
 ghost use Rattle.std.specs.FinMap as fin;
 ghost use Rattle.disk_face.specs.Streams.{Puts};
 ghost use Rattle.extent_table.specs.Extents.{volume_of};
-ghost use Rattle.store_terms.specs.Requests as ask;
+ghost use Rattle.map_model.specs.Requests as ask;
 ghost use Rattle.store_core.specs.Answers.{AnswersList, refused_by};
 ghost use Rattle.store_core.specs.Connection.{IsOver, limits_of, state_of};
 ghost use Rattle.store_core.specs.Lines.{lines_of, listing_of};

@@ -2,7 +2,7 @@
 ghost use Rattle.std.specs.Prelude.{◌≡◌, ◌<◌, ◌≤◌, ◌^◌, true, false, IfSome, IsNone, IsSome, None, Ok, Err};
 ghost use Rattle.segment_layout.specs.Books.{is_quiet};
 ghost use Rattle.segment_layout.specs.Layouts.{caps_of, divisor_of, grid_of};
-ghost use Rattle.store_terms.specs.Requests as ask;
+ghost use Rattle.map_model.specs.Requests as ask;
 
 use crate::charges::{charge_gone, charge_put};
 use crate::{Refusal, Store};
@@ -33,7 +33,8 @@ impl<const C: usize> Store<C> {
         ensures plan { IfSome result (λ plan. IsPutPlan self.now name.now bytes.now name.now
             (divisor_of plan.layout) (caps_of plan.layout) (grid_of plan.layout) plan.spot) }
         ensures quiet { IsSome result → is_quiet (charges_of self.now (put_of name.now bytes.now)) ≡ true }
-        ensures loud { IsNone result → is_quiet (charges_of self.now (put_of name.now bytes.now)) ≡ false }
+        ensures needs_flush { IsNone result → is_quiet (charges_of self.now (put_of name.now bytes.now))
+            ≡ false }
         ensures sound { IsStore C self.now }
     {
         let size = bytes.len() as u64;
@@ -53,7 +54,7 @@ impl<const C: usize> Store<C> {
         ensures plan { IfSome result (λ layout. IsDelPlan self.now name.now name.now
             (divisor_of layout) (caps_of layout) (grid_of layout)) }
         ensures quiet { IsSome result → is_quiet (charges_of self.now (del_of name.now)) ≡ true }
-        ensures loud { IsNone result → is_quiet (charges_of self.now (del_of name.now)) ≡ false }
+        ensures needs_flush { IsNone result → is_quiet (charges_of self.now (del_of name.now)) ≡ false }
         ensures sound { IsStore C self.now }
     {
         let mut layout = self.hands.layout;

@@ -7,9 +7,9 @@ ghost use Rattle.disk_face.specs.Writes.{WritesWithin};
 ghost use Rattle.slot_codec.specs.Names.{IsName};
 ghost use Rattle.segment_layout.specs.Books.{some_size};
 ghost use Rattle.segment_layout.specs.Layouts.{caps_of, divisor_of, grid_of};
-ghost use Rattle.store_terms.specs.Requests as ask;
-ghost use Rattle.spot_terms.specs.LaidOut.{shown_book};
-ghost use Rattle.spot_terms.specs.Quiet.{QuietTo, gone_items};
+ghost use Rattle.map_model.specs.Requests as ask;
+ghost use Rattle.placement_model.specs.LaidOut.{shown_book};
+ghost use Rattle.placement_model.specs.Quiet.{QuietTo, gone_items};
 ghost use Rattle.store_core.specs.Quiet.{IsCharged, added, del_of, put_of, sizes_at, writes_of};
 ghost use Rattle.store_core.specs.Plans.{IsDelPlan, IsPutPlan};
 

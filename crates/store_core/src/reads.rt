@@ -3,8 +3,8 @@ ghost use Rattle.std.specs.Prelude.{◌≡◌, false, ◌+◌, ◌≤◌, IsTrue
 ghost use Rattle.std.specs.FinMap as fin;
 ghost use Rattle.disk_face.specs.Frames.{Unchanged};
 ghost use Rattle.extent_table.specs.Extents.{IsInRange};
-ghost use Rattle.spot_terms.specs.Reads.{object_at};
-ghost use Rattle.store_terms.specs.Requests as ask;
+ghost use Rattle.placement_model.specs.Reads.{object_at};
+ghost use Rattle.map_model.specs.Requests as ask;
 ghost use Rattle.store_core.specs.Answers.{AnswersName, AnswersNumber, AnswersRead, AnswersSpot, refused_by, reply_of, size_at};
 ghost use Rattle.store_core.specs.Connection.{IsConnected, base_of, limits_of, state_of};
 ghost use Rattle.store_core.specs.Stores.{IsStore};

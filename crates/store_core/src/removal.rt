@@ -1,10 +1,10 @@
 //! A removal that isn't quiet.
 ghost use Rattle.std.specs.Prelude.{◌≡◌, false, IsTrue, None, OnOk};
 ghost use Rattle.segment_layout.specs.Books.{is_quiet};
-ghost use Rattle.store_terms.specs.Requests as ask;
+ghost use Rattle.map_model.specs.Requests as ask;
 
-use crate::begin::begin_del;
-use crate::flush::fly;
+use crate::begin::start_del;
+use crate::flush::make_flush;
 use crate::{Done, Refusal, Store};
 use disk_face::{Disk, DiskFault};
 use slot_codec::Name;
@@ -25,7 +25,7 @@ impl<const C: usize> Store<C> {
         requires ready { IsTrue (D.state disk.old).is_ready }
         requires over { IsConnected C self.old (D.state disk.old) }
         requires served { refused_by self.old (ask.change (del_of name.now)) ≡ None }
-        requires loud { is_quiet (charges_of self.old (del_of name.now)) ≡ false }
+        requires needs_flush { is_quiet (charges_of self.old (del_of name.now)) ≡ false }
         ensures answer { AnswersChange false None result }
         ensures flush { IsFlush C (del_of name.now) self.old self.new (D.state disk.old)
             (D.state disk.new) result }
@@ -35,10 +35,10 @@ impl<const C: usize> Store<C> {
         ensures over { IsConnected C self.new (D.state disk.new) }
         ensures broken { self.new.is_broken ≡ is_disk_fault result }
     {
-        let begun = begin_del(&mut self.hands, name);
-        let flown = fly(disk, begun, &mut self.hands, &[]);
+        let begun = start_del(&mut self.hands, name);
+        let made = make_flush(disk, begun, &mut self.hands, &[]);
         self.kept_layout = self.hands.layout;
-        match flown {
+        match made {
             Ok(()) => Ok(Done { kept: true }),
             Err(DiskFault) => {
                 self.broken = true;

@@ -14,7 +14,7 @@ use std::marker::Model;
 const HEAD_LEN_OF_NONE: u64 = (SUPERBLOCK_LEN + 2 * (HEADER_LEN + 1) + 1) as u64;
 
 /// A store over its disk: where the objects stand now, and where they stood at the last checkpoint.
-/// Contracts see it as `Kept`.
+/// Contracts see it as `StoreValue`.
 ///
 /// The hands have the parts of now, which a flush works with: the table, the layout, the guard, the
 /// slots, the ledger and the buffer. `kept_layout` is the layout of the last checkpoint.
@@ -26,10 +26,10 @@ pub struct Store<const C: usize> {
 }
 
 impl<const C: usize> Model for Store<C> {
-    ghost use Rattle.store_core.specs.Connection.{Kept};
+    ghost use Rattle.store_core.specs.Connection.{StoreValue};
     ghost use Rattle.store_core.specs.Codes.{kept_code};
 
-    ghost Value = { Kept };
+    ghost Value = { StoreValue };
 
     ghost coded = { kept_code };
 

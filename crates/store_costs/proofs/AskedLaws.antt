@@ -9,16 +9,16 @@ use Rattle.std.specs.FinMap as fin
 use Rattle.disk_face.specs.Counts.{last}
 use Rattle.size_class.specs.Classes.{width, class_of}
 use Rattle.size_class.proofs.ClassLaws.{class_below}
-use Rattle.store_terms.specs.Maps.{Map}
-use Rattle.store_terms.specs.Requests.{Change}
+use Rattle.map_model.specs.Maps.{Map}
+use Rattle.map_model.specs.Requests.{Change}
 use Rattle.segment_layout.specs.Books.{item_of, new_item, some_size, volumes_of_sizes}
 use Rattle.segment_layout.proofs.BalanceLaws.{bytes_in, bytes_in-none, bytes_in-other, bytes_in-same}
 use Rattle.segment_layout.proofs.BookLaws.{volumes_of_sizes-index}
 use Rattle.extent_table.specs.declared.spot.Spot.{Spot}
 use Rattle.cost_laws.specs.Paid.{AsksNext}
 use Rattle.flush_run.specs.Calls.{IsOpenRow}
-use Rattle.flush_start.specs.Sized.{IsSizedBy}
-use Rattle.store_core.specs.Connection.{Kept}
+use Rattle.change_charges.specs.Sized.{IsSizedBy}
+use Rattle.store_core.specs.Connection.{StoreValue}
 use Rattle.store_core.specs.Quiet.{added, asked_after, sizes_at}
 
 -- an object of any size, where its number is below the last value after
@@ -81,7 +81,7 @@ same_sizes (Some v) None same = absurd (cc)
 same_sizes (Some v) (Some s) same = let e : length v ≡ s.size = cc in ap some_size e
 
 -- What a change asks for is what its ledger counts, where no number stands at its last value.
-pub asks_next : (s : Kept) (m : Map) → IsSizedBy m s.now → (c : Change) → length s.asked ≡ width
+pub asks_next : (s : StoreValue) (m : Map) → IsSizedBy m s.now → (c : Change) → length s.asked ≡ width
     → IsOpenRow (asked_after s c) → AsksNext m c s.asked (asked_after s c)
 asks_next s m sized c full low d =
     let sizes = sizes_at (fin.get s.now c.name) ++ new_item c in

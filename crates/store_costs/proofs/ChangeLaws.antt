@@ -6,10 +6,10 @@ use Rattle.std.proofs.lemmas.List.{get_or_past}
 use Rattle.byte_ranges.proofs.ListLaws.{length-map_below}
 use Rattle.disk_face.specs.States as disk
 use Rattle.size_class.specs.Classes.{width}
-use Rattle.store_terms.specs.Requests as ask
-use Rattle.store_terms.specs.Requests.{Change}
+use Rattle.map_model.specs.Requests as ask
+use Rattle.map_model.specs.Requests.{Change}
 use Rattle.segment_layout.specs.Books.{Book, is_quiet}
-use Rattle.spot_terms.specs.Reads.{read_at}
+use Rattle.placement_model.specs.Reads.{read_at}
 use Rattle.cost_laws.specs.Paid.{IsPaid}
 use Rattle.segment_layout.proofs.SumLaws.{sum_below_zero}
 use Rattle.move_cost.specs.Costs.{IsCost, potential, rate, weigh}
@@ -19,14 +19,14 @@ use Rattle.store_core.specs.declared.answers.Refusal.{Refusal}
 use Rattle.store_core.specs.declared.answers.Done.{Done}
 use Rattle.store_core.specs.Answers.{AnswersChange, facts_at, is_disk_fault, refusal_for, refused_by}
 use Rattle.store_core.specs.Changes.{ChangesQuietly}
-use Rattle.store_core.specs.Connection.{Kept, limits_of}
+use Rattle.store_core.specs.Connection.{StoreValue, limits_of}
 use Rattle.store_core.specs.Flushes.{ChangesByFlush, IsFlush}
 use Rattle.store_core.specs.Quiet.{charges_of}
 use Rattle.store_core.specs.States.{refusal}
 use Rattle.store_core.specs.Stores.{IsStore}
 use Rattle.store_core.proofs.ReadingLaws.{whole_if_served}
 use Rattle.store_costs.specs.Calls.{IsChange, IsSound}
-use Rattle.store_costs.specs.Paid.{HasOpenLedger, HasPaid, MovesNothing, Pays}
+use Rattle.store_costs.specs.Paid.{HasOpenLedger, HasPaid, MovesNothing, StepIsPaidFor}
 use Rattle.store_costs.proofs.MadeLaws.{IsNext, flush_divisor, flush_grid, flush_next, next_has_paid, next_pays, quiet_divisor, quiet_grid, quiet_next}
 use Rattle.store_costs.proofs.WeighedLaws.{in_zeros, zeros}
 
@@ -44,7 +44,8 @@ no_rise C cost row new same = sum_below_zero C (λ d. slice_index (rise row new)
           (omega (arith, high, length-map_below (λ e. slice_index new e - slice_index row e) width))
     ]
 
-pub nothing_pays : (C : ℕ) (cost : ℕ → ℕ) (old new : Kept) → MovesNothing old new → Pays C cost old new
+pub nothing_pays : (C : ℕ) (cost : ℕ → ℕ) (old new : StoreValue) → MovesNothing old new
+    → StepIsPaidFor C cost old new
 nothing_pays C cost old new n =
     let k = old.in_use.block.k in
     omega (
@@ -53,7 +54,7 @@ nothing_pays C cost old new n =
       ap (λ (b : Book). potential C cost k b.grid) n.book,
     )
 
-pub nothing_has_paid : (C : ℕ) (cost : ℕ → ℕ) (first : ℕ) (old new : Kept) → MovesNothing old new
+pub nothing_has_paid : (C : ℕ) (cost : ℕ → ℕ) (first : ℕ) (old new : StoreValue) → MovesNothing old new
     → HasPaid C cost first old → HasPaid C cost first new
 nothing_has_paid C cost first old new n paid = record {
   full = ap length n.asked ∙ paid.full;
@@ -65,18 +66,18 @@ nothing_has_paid C cost first old new n paid = record {
       (sym n.asked) paid.paid)));
 }
 
-pub same_moves_nothing : (old new : Kept) → new ≡ old → MovesNothing old new
+pub same_moves_nothing : (old new : StoreValue) → new ≡ old → MovesNothing old new
 same_moves_nothing old new same = record {
-  moved = ap (λ (s : Kept). s.moved) same;
-  asked = ap (λ (s : Kept). s.asked) same;
-  book = ap (λ (s : Kept). s.book) same;
-  divisor = ap (λ (s : Kept). s.in_use.block.k) same;
+  moved = ap (λ (s : StoreValue). s.moved) same;
+  asked = ap (λ (s : StoreValue). s.asked) same;
+  book = ap (λ (s : StoreValue). s.book) same;
+  divisor = ap (λ (s : StoreValue). s.in_use.block.k) same;
 }
 
 -- ---- what a call comes to
 
 -- The change was served, and is done.
-record IsServed (c : Change) (old : Kept) (result : Result Done Refusal) : Type 0 where
+record IsServed (c : Change) (old : StoreValue) (result : Result Done Refusal) : Type 0 where
   whole : old.is_broken ≡ false
   served : IsNone (refused_by old (ask.change c))
   done : Done
@@ -85,7 +86,7 @@ record IsServed (c : Change) (old : Kept) (result : Result Done Refusal) : Type 
 at_ok : {P : Type 0} (r : Result Done Refusal) (done : Done) → r ≡ Ok done → OnOk r P → P
 at_ok {P} r done is p = subst (λ (x : Result Done Refusal). OnOk x P) is p
 
-module _ {C : ℕ} (c : Change) (old new : Kept) (before now : disk.State) (result : Result Done Refusal)
+module _ {C : ℕ} (c : Change) (old new : StoreValue) (before now : disk.State) (result : Result Done Refusal)
     (call : IsChange C c old new before now result) (fine : is_disk_fault result ≡ false) where
   abbrev why_not : Option Refusal
   why_not = refused_by old (ask.change c)
@@ -116,7 +117,7 @@ module _ {C : ℕ} (c : Change) (old new : Kept) (before now : disk.State) (resu
       (is : IsCost C cost) where
     -- ---- a quiet change
 
-    quiet_served : is_quiet (charges_of old c) ≡ true → IsServed c old result → Pays C cost old new
+    quiet_served : is_quiet (charges_of old c) ≡ true → IsServed c old result → StepIsPaidFor C cost old new
     quiet_served quiet s =
         let h = sound s.whole in
         let v = quiet_value quiet s in
@@ -136,38 +137,38 @@ module _ {C : ℕ} (c : Change) (old new : Kept) (before now : disk.State) (resu
 
     -- ---- a flush, by the map that a file of zeros gives where the objects stand
 
-    module _ (loud : is_quiet (charges_of old c) ≡ false) (s : IsServed c old result) where
+    module _ (needs_flush : is_quiet (charges_of old c) ≡ false) (s : IsServed c old result) where
       abbrev h : IsStore C old
       h = sound s.whole
 
       f : IsFlush C c old new before now result
-      f = call.flush s.served loud
+      f = call.flush s.served needs_flush
 
       v : ChangesByFlush c old new
       v = at_ok result s.done s.is_ok f.value
 
       n : IsNext (read_at 0 (zeros old h) old.now) c old new
-      n = flush_next old h 0 (zeros old h) (in_zeros old h) c new loud before now result f v full low
+      n = flush_next old h 0 (zeros old h) (in_zeros old h) c new needs_flush before now result f v full low
 
       grid : new.book.grid ≡ next_grid old.in_use.block.k (read_at 0 (zeros old h) old.now) old.book c
-      grid = flush_grid old h 0 (zeros old h) (in_zeros old h) c new loud before now result f v
+      grid = flush_grid old h 0 (zeros old h) (in_zeros old h) c new needs_flush before now result f v
 
-      flush_served : Pays C cost old new
+      flush_served : StepIsPaidFor C cost old new
       flush_served = next_pays old h 0 (zeros old h) (in_zeros old h) c new n cost is grid
 
       flush_session : (first : ℕ) → HasPaid C cost first old → HasPaid C cost first new
       flush_session first paid =
           next_has_paid old h 0 (zeros old h) (in_zeros old h) c new n cost is first grid
-          (flush_divisor old h 0 (zeros old h) (in_zeros old h) c new loud before now result f v) paid
+          (flush_divisor old h 0 (zeros old h) (in_zeros old h) c new needs_flush before now result f v) paid
 
     -- ---- each change
 
-    pub change_pays : Pays C cost old new
-    change_pays = elim refused_or_served as (λ _. Pays C cost old new) [
+    pub change_pays : StepIsPaidFor C cost old new
+    change_pays = elim refused_or_served as (λ _. StepIsPaidFor C cost old new) [
       | inl same ↦ nothing_pays C cost old new (same_moves_nothing old new same)
-      | inr s ↦ elim (cases_Bool (is_quiet (charges_of old c))) as (λ _. Pays C cost old new) [
+      | inr s ↦ elim (cases_Bool (is_quiet (charges_of old c))) as (λ _. StepIsPaidFor C cost old new) [
         | inl quiet ↦ quiet_served quiet s
-        | inr loud ↦ flush_served loud s
+        | inr needs_flush ↦ flush_served needs_flush s
       ]
     ]
 
@@ -176,6 +177,6 @@ module _ {C : ℕ} (c : Change) (old new : Kept) (before now : disk.State) (resu
       | inl same ↦ nothing_has_paid C cost first old new (same_moves_nothing old new same) paid
       | inr s ↦ elim (cases_Bool (is_quiet (charges_of old c))) as (λ _. HasPaid C cost first new) [
         | inl quiet ↦ quiet_session quiet s first paid
-        | inr loud ↦ flush_session loud s first paid
+        | inr needs_flush ↦ flush_session needs_flush s first paid
       ]
     ]

@@ -6,11 +6,11 @@ use Rattle.disk_face.specs.States as disk
 use Rattle.size_class.specs.Classes.{width}
 use Rattle.slot_codec.specs.Choice as choice
 use Rattle.slot_codec.specs.declared.codec.SuperBlock.{SuperBlock}
-use Rattle.store_terms.specs.Maps.{Map}
-use Rattle.store_terms.specs.Requests.{Change, changed}
+use Rattle.map_model.specs.Maps.{Map}
+use Rattle.map_model.specs.Requests.{Change, changed}
 use Rattle.segment_layout.specs.Books.{Book, Charged, is_quiet, new_item, next_book, trigger}
 use Rattle.segment_layout.specs.Shapes.{boundary_of}
-use Rattle.spot_terms.specs.Reads.{EndWithin, read_at}
+use Rattle.placement_model.specs.Reads.{EndWithin, read_at}
 use Rattle.table_rules.specs.Opening.{Opens, placed_table}
 use Rattle.table_rules.specs.Tables.{book_of}
 use Rattle.move_cost.specs.Costs.{IsCost}
@@ -22,11 +22,11 @@ use Rattle.flush_run.specs.Calls.{IsOpenRow}
 use Rattle.store_core.specs.declared.answers.Refusal.{Refusal}
 use Rattle.store_core.specs.declared.answers.Done.{Done}
 use Rattle.store_core.specs.Changes.{ChangesQuietly}
-use Rattle.store_core.specs.Connection.{Kept}
+use Rattle.store_core.specs.Connection.{StoreValue}
 use Rattle.store_core.specs.Flushes.{ChangesByFlush, IsFlush}
 use Rattle.store_core.specs.Quiet.{asked_after, charges_of, sizes_at}
 use Rattle.store_core.specs.Stores.{IsStore}
-use Rattle.store_costs.specs.Paid.{HasOpenLedger, HasPaid, Pays}
+use Rattle.store_costs.specs.Paid.{HasOpenLedger, HasPaid, StepIsPaidFor}
 use Rattle.store_costs.proofs.AskedLaws.{asks_next, length-all_added}
 use Rattle.store_costs.proofs.WeighedLaws.{same_charges, sized_now, weighed_now}
 
@@ -40,12 +40,12 @@ one_book {classes} {size_max} {file} x y =
     ∙ sym y.opens.same_book
 
 -- What a change did to a store's ledger, by the map that a file gives where the objects stood.
-pub record IsNext (m : Map) (c : Change) (old new : Kept) : Type 0 where
+pub record IsNext (m : Map) (c : Change) (old new : StoreValue) : Type 0 where
   pub moves : MovesNext (next_book old.in_use.block.k m old.book c) (changed c m) old.moved new.moved
   pub asks : AsksNext m c old.asked new.asked
   pub full : length new.asked ≡ length old.asked
 
-module _ {C : ℕ} (old : Kept) (h : IsStore C old) (base : ℕ) (file : List ℕ)
+module _ {C : ℕ} (old : StoreValue) (h : IsStore C old) (base : ℕ) (file : List ℕ)
     (within : EndWithin base file old.now) (c : Change) where
   abbrev k : ℕ
   k = old.in_use.block.k
@@ -56,25 +56,28 @@ module _ {C : ℕ} (old : Kept) (h : IsStore C old) (base : ℕ) (file : List �
   is_next_quiet : (next_book k m old.book c).quiet ≡ is_quiet (charges_of old c)
   is_next_quiet = next_quiet_is k m old.book c ∙ ap is_quiet (same_charges old h base file within c)
 
-  asks_for : (new : Kept) → new.asked ≡ asked_after old c → length old.asked ≡ width → IsOpenRow new.asked
+  asks_for : (new : StoreValue) → new.asked ≡ asked_after old c → length old.asked ≡ width
+      → IsOpenRow new.asked
       → AsksNext m c old.asked new.asked
   asks_for new asked full low = subst (AsksNext m c old.asked) (sym asked)
       (asks_next old m (sized_now old h base file within) c full (subst IsOpenRow asked low))
 
-  as_long : (new : Kept) → new.asked ≡ asked_after old c → length new.asked ≡ length old.asked
+  as_long : (new : StoreValue) → new.asked ≡ asked_after old c → length new.asked ≡ length old.asked
   as_long new asked = ap length asked
       ∙ length-all_added old.asked (sizes_at (fin.get old.now c.name) ++ new_item c)
 
   -- ---- a quiet change
 
-  module _ (new : Kept) (quiet : is_quiet (charges_of old c) ≡ true) (v : ChangesQuietly C c old new) where
+  module _ (new : StoreValue) (quiet : is_quiet (charges_of old c) ≡ true)
+      (v : ChangesQuietly C c old new) where
     pub quiet_next : length old.asked ≡ width → HasOpenLedger new → IsNext m c old new
     quiet_next full low =
-        let asked : new.asked ≡ asked_after old c = ap (λ (s : Kept). s.asked) v.rest in
+        let asked : new.asked ≡ asked_after old c = ap (λ (s : StoreValue). s.asked) v.rest in
         record {
           moves = record {
-            quiet = λ q d. ap (λ (s : Kept). slice_index s.moved d) v.rest;
-            flush = λ loud. absurd (let bad : false ≡ true = sym loud ∙ is_next_quiet ∙ quiet in cc);
+            quiet = λ q d. ap (λ (s : StoreValue). slice_index s.moved d) v.rest;
+            flush = λ needs_flush. absurd (let bad : false ≡ true = sym needs_flush ∙ is_next_quiet
+                ∙ quiet in cc);
           };
           asks = asks_for new asked full low.asked;
           full = as_long new asked;
@@ -83,15 +86,15 @@ module _ {C : ℕ} (old : Kept) (h : IsStore C old) (base : ℕ) (file : List �
     pub quiet_grid : new.book.grid ≡ next_grid k m old.book c
     quiet_grid =
         let same = same_charges old h base file within c in
-        ap (λ (s : Kept). s.book.grid) v.rest
+        ap (λ (s : StoreValue). s.book.grid) v.rest
         ∙ sym (grid_of_quiet k m old.book c (ap is_quiet same ∙ quiet) ∙ ap (λ (x : Charged). x.grid) same)
 
     pub quiet_divisor : new.in_use.block.k ≡ k
-    quiet_divisor = ap (λ (s : Kept). s.in_use.block.k) v.rest
+    quiet_divisor = ap (λ (s : StoreValue). s.in_use.block.k) v.rest
 
   -- ---- a flush
 
-  module _ (new : Kept) (loud : is_quiet (charges_of old c) ≡ false) (before now : disk.State)
+  module _ (new : StoreValue) (needs_flush : is_quiet (charges_of old c) ≡ false) (before now : disk.State)
       (result : Result Done Refusal) (f : IsFlush C c old new before now result)
       (v : ChangesByFlush c old new) where
     pub flush_next : length old.asked ≡ width → HasOpenLedger new → IsNext m c old new
@@ -102,7 +105,7 @@ module _ {C : ℕ} (old : Kept) (h : IsStore C old) (base : ℕ) (file : List �
         ∙ ap (λ (x : Charged). boundary_of x.grid (trigger x)) (same_charges old h base file within c) in
         record {
           moves = record {
-            quiet = λ q. absurd (let bad : true ≡ false = sym q ∙ is_next_quiet ∙ loud in cc);
+            quiet = λ q. absurd (let bad : true ≡ false = sym q ∙ is_next_quiet ∙ needs_flush in cc);
             flush = λ _. record {
               later = f.most.later low.moved;
               below = λ d lower. f.lower d (omega (arith, lower, boundary));
@@ -121,7 +124,7 @@ module _ {C : ℕ} (old : Kept) (h : IsStore C old) (base : ℕ) (file : List �
 
   -- ---- what is paid for
 
-  module _ (new : Kept) (n : IsNext m c old new) (cost : ℕ → ℕ) (is : IsCost C cost) where
+  module _ (new : StoreValue) (n : IsNext m c old new) (cost : ℕ → ℕ) (is : IsCost C cost) where
     w : IsWeighed C k cost m old.book
     w = weighed_now old h base file within cost is
 
@@ -129,7 +132,7 @@ module _ {C : ℕ} (old : Kept) (h : IsStore C old) (base : ℕ) (file : List �
         (next_grid k m old.book c)
     next_paid = cheap_call C k cost m old.book c w old.moved new.moved old.asked new.asked n.moves n.asks
 
-    pub next_pays : new.book.grid ≡ next_grid k m old.book c → Pays C cost old new
+    pub next_pays : new.book.grid ≡ next_grid k m old.book c → StepIsPaidFor C cost old new
     next_pays grid = subst
         (ArePaid C k cost (rise old.moved new.moved) (rise old.asked new.asked) old.book.grid)
         (sym grid) next_paid

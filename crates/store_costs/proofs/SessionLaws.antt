@@ -15,7 +15,7 @@ use Rattle.move_cost.specs.Costs.{IsCost, factor, potential, weigh}
 use Rattle.cost_laws.specs.Paid.{IsPaid}
 use Rattle.cost_laws.specs.Sessions.{IsPaidFor}
 use Rattle.cost_laws.proofs.PaidLaws.{paid_first, potential_none}
-use Rattle.store_core.specs.Connection.{IsOver, Kept, kept_map}
+use Rattle.store_core.specs.Connection.{IsOver, StoreValue, kept_map}
 use Rattle.store_core.specs.Keeps.{now_map}
 use Rattle.store_core.specs.Opened.{IsFresh, IsOpened}
 use Rattle.store_core.specs.States.{State}
@@ -29,7 +29,7 @@ use Rattle.store_costs.proofs.WeighedLaws.{kept_by_file, none_fell, weighed_by_f
 
 -- ---- as a session begins
 
-pub opened_has_paid : (C : ℕ) (cost : ℕ → ℕ) (s : Kept) → IsFresh C s
+pub opened_has_paid : (C : ℕ) (cost : ℕ → ℕ) (s : StoreValue) → IsFresh C s
     → HasPaid C cost (potential C cost s.in_use.block.k s.book.grid) s
 opened_has_paid C cost s fresh =
     let k = s.in_use.block.k in
@@ -71,7 +71,7 @@ none_taken C file k names low = its_grid C file k names ∙ ap (settled_grid C) 
     ∙ settled_nothing C low
 
 -- a store that nothing was put in yet has no potential
-pub formatted_has_paid : (C : ℕ) (cost : ℕ → ℕ) (k names : ℕ) (s : Kept) (file now : List ℕ)
+pub formatted_has_paid : (C : ℕ) (cost : ℕ → ℕ) (k names : ℕ) (s : StoreValue) (file now : List ℕ)
     → HasFirstTable k names file → IsFresh C s → IsOpened C file now s → HasPaid C cost 0 s
 formatted_has_paid C cost k names s file now first fresh o =
     let divisor = s.in_use.block.k in
@@ -88,7 +88,7 @@ formatted_has_paid C cost k names s file now first fresh o =
 -- ---- after each call
 
 module _ {D : Type 0} (state : D → disk.State) (C : ℕ) (cost : ℕ → ℕ) (is : IsCost C cost) where
-  pub call_has_paid : (first : ℕ) (old new : Kept) → IsCall state C old new → HasPaid C cost first old
+  pub call_has_paid : (first : ℕ) (old new : StoreValue) → IsCall state C old new → HasPaid C cost first old
       → HasPaid C cost first new
   call_has_paid first old new call paid = elim call as (λ _. HasPaid C cost first new) [
     | inl x ↦ change_has_paid x.c old new (state x.before) (state x.now) x.result x.counted.call
@@ -97,27 +97,31 @@ module _ {D : Type 0} (state : D → disk.State) (C : ℕ) (cost : ℕ → ℕ) 
       | inl x ↦ nothing_has_paid C cost first old new
           (keep_moves_nothing old new (state x.before) (state x.now) x.result x.call) paid
       | inr rest ↦ elim rest as (λ _. HasPaid C cost first new) [
-        | inl x ↦ subst (λ (s : Kept). HasPaid C cost first s) (sym x.back)
+        | inl x ↦ subst (λ (s : StoreValue). HasPaid C cost first s) (sym x.back)
             (back_has_paid old cost first x.store paid)
         | inr same ↦ nothing_has_paid C cost first old new (same_moves_nothing old new same) paid
       ]
     ]
   ]
 
-  pub calls_have_paid : (first : ℕ) (s : Kept) (between : List Kept) (t : Kept) → Session state C s between t
+  pub calls_have_paid : (first : ℕ) (s : StoreValue) (between : List StoreValue) (t : StoreValue)
+      → Session state C s between t
       → HasPaid C cost first s → HasPaid C cost first t
-  calls_have_paid first s [] t session paid = subst (λ (x : Kept). HasPaid C cost first x) (sym session) paid
+  calls_have_paid first s [] t session paid = subst (λ (x : StoreValue). HasPaid C cost first x)
+      (sym session) paid
   calls_have_paid first s (mid ∷ rest) t session paid =
       calls_have_paid first mid rest t session.1 (call_has_paid first s mid session.0 paid)
 
-  pub session_pays : (s : Kept) (between : List Kept) (t : Kept) → IsFresh C s → Session state C s between t
+  pub session_pays : (s : StoreValue) (between : List StoreValue) (t : StoreValue) → IsFresh C s
+      → Session state C s between t
       → HasPaid C cost (potential C cost s.in_use.block.k s.book.grid) t
   session_pays s between t fresh session =
       calls_have_paid (potential C cost s.in_use.block.k s.book.grid) s between t session
       (opened_has_paid C cost s fresh)
 
   -- so all that was asked of a newly formatted file pays for all that was moved
-  pub formatted_pays : (k names : ℕ) (s : Kept) (file now : List ℕ) (between : List Kept) (t : Kept)
+  pub formatted_pays : (k names : ℕ) (s : StoreValue) (file now : List ℕ) (between : List StoreValue)
+      (t : StoreValue)
       → HasFirstTable k names file → IsFresh C s → IsOpened C file now s → Session state C s between t
       → weigh C cost t.moved ≤ factor t.in_use.block.k * weigh C cost t.asked
   formatted_pays k names s file now between t first fresh o session =
@@ -127,11 +131,11 @@ module _ {D : Type 0} (state : D → disk.State) (C : ℕ) (cost : ℕ → ℕ) 
 
 -- ---- at any time
 
-pub in_all : (C : ℕ) (cost : ℕ → ℕ) (first : ℕ) (s : Kept) → HasPaid C cost first s
+pub in_all : (C : ℕ) (cost : ℕ → ℕ) (first : ℕ) (s : StoreValue) → HasPaid C cost first s
     → weigh C cost s.moved ≤ factor s.in_use.block.k * weigh C cost s.asked + first
 in_all C cost first s paid = omega (arith, paid.paid)
 
-pub both_books_paid : (C : ℕ) (cost : ℕ → ℕ) (first : ℕ) (s : Kept) (file : List ℕ) → IsCost C cost
+pub both_books_paid : (C : ℕ) (cost : ℕ → ℕ) (first : ℕ) (s : StoreValue) (file : List ℕ) → IsCost C cost
     → IsStore C s → IsOver C s file → HasPaid C cost first s
     → IsPaidFor C s.in_use.block.k cost first (now_map s file) (kept_map s file) s.book s.kept_book s.moved
     s.asked
@@ -145,7 +149,7 @@ both_books_paid C cost first s file is h over paid = record {
 -- ---- one session after another
 
 -- a store that is opened on the file of an earlier one begins with the book of its checkpoint
-pub opened_again : (C : ℕ) (s t : Kept) (file now : List ℕ) → IsOver C s file → IsOpened C file now t
+pub opened_again : (C : ℕ) (s t : StoreValue) (file now : List ℕ) → IsOver C s file → IsOpened C file now t
     → t.book ≡ s.kept_book
 opened_again C s t file now over o =
     let found : Opens C SIZE_MAX file o.m o.b = record { table = o.table; opens = o.found } in
@@ -153,7 +157,8 @@ opened_again C s t file now over o =
     record { table = over.table; opens = over.checkpoint.opens } in
     ap (λ (x : State). x.book) o.state ∙ one_book found saved
 
-pub sessions_add : (C : ℕ) (cost : ℕ → ℕ) (first : ℕ) (s t : Kept) → IsStore C s → HasPaid C cost first s
+pub sessions_add : (C : ℕ) (cost : ℕ → ℕ) (first : ℕ) (s t : StoreValue) → IsStore C s
+    → HasPaid C cost first s
     → t.in_use.block.k ≡ s.in_use.block.k
     → HasPaid C cost (potential C cost s.in_use.block.k s.kept_book.grid) t
     → weigh C cost s.moved + weigh C cost t.moved + potential C cost t.in_use.block.k t.book.grid

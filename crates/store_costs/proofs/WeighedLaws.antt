@@ -3,26 +3,26 @@ use Rattle.std.specs.Prelude.{◌≡◌, ℕ, List, ◌++◌}
 use Rattle.std.proofs.Common.{sym, ◌∙◌, ap, subst}
 use Rattle.std.specs.FinMap as fin
 use Rattle.size_class.specs.declared.TheConstants.{SIZE_MAX}
-use Rattle.store_terms.specs.Maps.{Map}
-use Rattle.store_terms.specs.Requests.{Change}
+use Rattle.map_model.specs.Maps.{Map}
+use Rattle.map_model.specs.Requests.{Change}
 use Rattle.segment_layout.specs.Balance.{IsBalanced}
 use Rattle.segment_layout.specs.Books.{Book, charge_all, charge_change, new_item, old_item}
-use Rattle.spot_terms.specs.Quiet.{gone_items}
-use Rattle.spot_terms.specs.Reads.{EndWithin, read_at}
-use Rattle.spot_terms.proofs.NextQuietLaws.{old_item-is}
+use Rattle.placement_model.specs.Quiet.{gone_items}
+use Rattle.placement_model.specs.Reads.{EndWithin, read_at}
+use Rattle.placement_model.proofs.NextQuietLaws.{old_item-is}
 use Rattle.move_cost.specs.Costs.{IsCost}
 use Rattle.cost_laws.specs.Cells.{NoCellFalls}
 use Rattle.cost_laws.specs.Paid.{IsWeighed}
-use Rattle.flush_start.specs.Sized.{IsSizedBy}
-use Rattle.flush_start.proofs.EndLaws.{blank, in_blank, shown_balanced}
-use Rattle.flush_start.proofs.SizedLaws.{sized_read}
-use Rattle.store_core.specs.Connection.{IsOver, Kept, base_of, kept_map}
+use Rattle.change_charges.specs.Sized.{IsSizedBy}
+use Rattle.change_charges.proofs.EndLaws.{blank, in_blank, shown_balanced}
+use Rattle.change_charges.proofs.SizedLaws.{sized_read}
+use Rattle.store_core.specs.Connection.{IsOver, StoreValue, base_of, kept_map}
 use Rattle.store_core.specs.Keeps.{now_map}
 use Rattle.store_core.specs.Quiet.{charges_of}
 use Rattle.store_core.specs.Stores.{IsStore}
 use Rattle.store_core.proofs.StoreLaws.{kept_lies, now_lies}
 
-module _ {C : ℕ} (s : Kept) (h : IsStore C s) where
+module _ {C : ℕ} (s : StoreValue) (h : IsStore C s) where
   abbrev k : ℕ
   k = s.in_use.block.k
 
@@ -74,13 +74,13 @@ module _ {C : ℕ} (s : Kept) (h : IsStore C s) where
 
 -- ---- over a file
 
-pub weighed_by_file : {C : ℕ} (s : Kept) (file : List ℕ) (cost : ℕ → ℕ) → IsStore C s → IsOver C s file
+pub weighed_by_file : {C : ℕ} (s : StoreValue) (file : List ℕ) (cost : ℕ → ℕ) → IsStore C s → IsOver C s file
     → IsCost C cost → IsWeighed C s.in_use.block.k cost (now_map s file) s.book
 weighed_by_file s file cost h over is = weighed_now s h (base_of s) file (now_lies s file h over) cost is
 
-pub kept_by_file : {C : ℕ} (s : Kept) (file : List ℕ) (cost : ℕ → ℕ) → IsStore C s → IsOver C s file
+pub kept_by_file : {C : ℕ} (s : StoreValue) (file : List ℕ) (cost : ℕ → ℕ) → IsStore C s → IsOver C s file
     → IsCost C cost → IsWeighed C s.in_use.block.k cost (kept_map s file) s.kept_book
 kept_by_file s file cost h over is = weighed_then s h (base_of s) file (kept_lies s file h over) cost is
 
-pub none_fell : {C : ℕ} (s : Kept) → IsStore C s → NoCellFalls s.kept_book.grid s.book.grid
+pub none_fell : {C : ℕ} (s : StoreValue) → IsStore C s → NoCellFalls s.kept_book.grid s.book.grid
 none_fell s h j c = h.fuller.cells j c

@@ -2,14 +2,14 @@
 use Rattle.std.specs.Prelude.{◌≡◌, ◌⊎◌, ℕ, true, false, ◌||◌, List, [], ◌∷◌, length, Result, IsNone, IsSome}
 use Rattle.disk_face.specs.States as disk
 use Rattle.size_class.specs.Classes.{width}
-use Rattle.store_terms.specs.Requests as ask
-use Rattle.store_terms.specs.Requests.{Change}
+use Rattle.map_model.specs.Requests as ask
+use Rattle.map_model.specs.Requests.{Change}
 use Rattle.segment_layout.specs.Books.{is_quiet}
 use Rattle.store_core.specs.declared.answers.Refusal.{Refusal}
 use Rattle.store_core.specs.declared.answers.Done.{Done}
 use Rattle.store_core.specs.Answers.{AnswersChange, is_disk_fault, refused_by}
 use Rattle.store_core.specs.Changes.{IsQuietChange, NothingChanged}
-use Rattle.store_core.specs.Connection.{IsConnected, Kept}
+use Rattle.store_core.specs.Connection.{IsConnected, StoreValue}
 use Rattle.store_core.specs.Flushes.{IsFlush}
 use Rattle.store_core.specs.Keeps.{AnswersKeep, KeepsNow}
 use Rattle.store_core.specs.Quiet.{charges_of}
@@ -17,11 +17,11 @@ use Rattle.store_core.specs.Stores.{IsStore}
 use Rattle.store_costs.specs.Paid.{HasOpenLedger}
 
 -- a store is sound unless it is broken
-abbrev pub IsSound : ℕ → Kept → Type 0
+abbrev pub IsSound : ℕ → StoreValue → Type 0
 IsSound classes s = s.is_broken ≡ false → IsStore classes s
 
 -- What a put or a removal says of a store and a disk.
-pub record IsChange (classes : ℕ) (c : Change) (old new : Kept) (before now : disk.State)
+pub record IsChange (classes : ℕ) (c : Change) (old new : StoreValue) (before now : disk.State)
     (result : Result Done Refusal) : Type 0 where
   pub answer : AnswersChange (is_quiet (charges_of old c)) (refused_by old (ask.change c)) result
   pub refused : IsSome (refused_by old (ask.change c)) → NothingChanged old new before now
@@ -34,7 +34,7 @@ pub record IsChange (classes : ℕ) (c : Change) (old new : Kept) (before now : 
 
 -- A put or a removal of a sound store in which the disk didn't fail, and which the ledger counts: it has a
 -- number for each class, and none stands at its last value.
-pub record IsCounted (classes : ℕ) (c : Change) (old new : Kept) (before now : disk.State)
+pub record IsCounted (classes : ℕ) (c : Change) (old new : StoreValue) (before now : disk.State)
     (result : Result Done Refusal) : Type 0 where
   pub call : IsChange classes c old new before now result
   pub fine : is_disk_fault result ≡ false
@@ -43,20 +43,20 @@ pub record IsCounted (classes : ℕ) (c : Change) (old new : Kept) (before now :
   pub counts : HasOpenLedger new
 
 -- What a keep says of them.
-pub record IsKeep (classes : ℕ) (old new : Kept) (before now : disk.State)
+pub record IsKeep (classes : ℕ) (old new : StoreValue) (before now : disk.State)
     (result : Result Done Refusal) : Type 0 where
   pub answer : AnswersKeep (refused_by old ask.keep) result
   pub refused : IsSome (refused_by old ask.keep) → NothingChanged old new before now
   pub kept : IsNone (refused_by old ask.keep) → KeepsNow classes old new before now result
 
 -- what going back makes of a store
-abbrev pub gone_back : Kept → Kept
+abbrev pub gone_back : StoreValue → StoreValue
 gone_back s = record s { now = s.kept; book = s.kept_book }
 
 -- ---- sessions, of a store with disks that each have a state
 
 -- a put or a removal, on any disk
-pub record Changes {D : Type 0} (state : D → disk.State) (classes : ℕ) (old new : Kept) : Type 0 where
+pub record Changes {D : Type 0} (state : D → disk.State) (classes : ℕ) (old new : StoreValue) : Type 0 where
   pub c : Change
   pub before : D
   pub now : D
@@ -64,23 +64,23 @@ pub record Changes {D : Type 0} (state : D → disk.State) (classes : ℕ) (old 
   pub counted : IsCounted classes c old new (state before) (state now) result
 
 -- a keep
-pub record Keeps {D : Type 0} (state : D → disk.State) (classes : ℕ) (old new : Kept) : Type 0 where
+pub record Keeps {D : Type 0} (state : D → disk.State) (classes : ℕ) (old new : StoreValue) : Type 0 where
   pub before : D
   pub now : D
   pub result : Result Done Refusal
   pub call : IsKeep classes old new (state before) (state now) result
 
 -- going back, by a sound store
-pub record GoesBack (classes : ℕ) (old new : Kept) : Type 0 where
+pub record GoesBack (classes : ℕ) (old new : StoreValue) : Type 0 where
   pub store : IsStore classes old
   pub back : new ≡ gone_back old
 
 -- a call of a store: a put or a removal, a keep, going back, or one that leaves the store
-abbrev pub IsCall : {D : Type 0} → (D → disk.State) → ℕ → Kept → Kept → Type 0
+abbrev pub IsCall : {D : Type 0} → (D → disk.State) → ℕ → StoreValue → StoreValue → Type 0
 IsCall state classes old new = Changes state classes old new ⊎ Keeps state classes old new
     ⊎ GoesBack classes old new ⊎ (new ≡ old)
 
 -- one call after another, with the store after each
-abbrev pub Session : {D : Type 0} → (D → disk.State) → ℕ → Kept → List Kept → Kept → Type 0
+abbrev pub Session : {D : Type 0} → (D → disk.State) → ℕ → StoreValue → List StoreValue → StoreValue → Type 0
 Session state classes s [] t = t ≡ s
 Session state classes s (mid ∷ rest) t = IsCall state classes s mid × Session state classes mid rest t

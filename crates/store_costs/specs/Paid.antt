@@ -4,27 +4,27 @@ use Rattle.size_class.specs.Classes.{width}
 use Rattle.cost_laws.specs.Moves.{rise}
 use Rattle.cost_laws.specs.Paid.{ArePaid, IsPaid}
 use Rattle.flush_run.specs.Calls.{IsOpenRow}
-use Rattle.store_core.specs.Connection.{Kept}
+use Rattle.store_core.specs.Connection.{StoreValue}
 
 -- no number of a store's ledger stands at its last value
-pub record HasOpenLedger (s : Kept) : Type 0 where
+pub record HasOpenLedger (s : StoreValue) : Type 0 where
   pub moved : IsOpenRow s.moved
   pub asked : IsOpenRow s.asked
 
 -- By a cost, what was moved from one store to the next is paid for by what was asked for and by what the
 -- potential of the book falls.
-abbrev pub Pays : (classes : ℕ) (cost : ℕ → ℕ) (old new : Kept) → Type 0
-Pays classes cost old new = ArePaid classes old.in_use.block.k cost (rise old.moved new.moved)
+abbrev pub StepIsPaidFor : (classes : ℕ) (cost : ℕ → ℕ) (old new : StoreValue) → Type 0
+StepIsPaidFor classes cost old new = ArePaid classes old.in_use.block.k cost (rise old.moved new.moved)
     (rise old.asked new.asked) old.book.grid new.book.grid
 
 -- A store's row of the bytes asked for is full, and by a cost what was moved since it was opened is paid for
 -- by what was asked for, and by so much at first, beside the potential of its book now.
-pub record HasPaid (classes : ℕ) (cost : ℕ → ℕ) (first : ℕ) (s : Kept) : Type 0 where
+pub record HasPaid (classes : ℕ) (cost : ℕ → ℕ) (first : ℕ) (s : StoreValue) : Type 0 where
   pub full : length s.asked ≡ width
   pub paid : IsPaid classes s.in_use.block.k cost first s.moved s.asked s.book.grid
 
 -- the ledger, the book and the divisor stay
-pub record MovesNothing (old new : Kept) : Type 0 where
+pub record MovesNothing (old new : StoreValue) : Type 0 where
   pub moved : new.moved ≡ old.moved
   pub asked : new.asked ≡ old.asked
   pub book : new.book ≡ old.book

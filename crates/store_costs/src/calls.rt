@@ -6,7 +6,7 @@ ghost use Rattle.store_core.specs.Answers.{is_disk_fault};
 ghost use Rattle.store_core.specs.Connection.{IsConnected};
 ghost use Rattle.store_core.specs.Quiet.{del_of, put_of};
 ghost use Rattle.store_costs.specs.Calls.{GoesBack, IsChange, IsCounted, IsKeep, IsSound};
-ghost use Rattle.store_costs.specs.Paid.{HasOpenLedger, HasPaid, MovesNothing, Pays};
+ghost use Rattle.store_costs.specs.Paid.{HasOpenLedger, HasPaid, MovesNothing, StepIsPaidFor};
 
 use disk_face::Disk;
 use store_core::{Done, Refusal, Store};
@@ -27,7 +27,7 @@ pub fn paid_put<const C: usize, D: Disk>(
         (D.state disk.new) result }
     ensures paid { is_disk_fault result ≡ false → HasOpenLedger store.new
         → (cost : ℕ → ℕ) → IsCost C cost
-        → Pays C cost store.old store.new }
+        → StepIsPaidFor C cost store.old store.new }
     ensures session { is_disk_fault result ≡ false → HasOpenLedger store.new
         → (cost : ℕ → ℕ) (first : ℕ) → IsCost C cost
         → HasPaid C cost first store.old → HasPaid C cost first store.new }
@@ -50,7 +50,7 @@ pub fn paid_del<const C: usize, D: Disk>(
         → IsCounted C (del_of name.now) store.old store.new (D.state disk.old) (D.state disk.new) result }
     ensures paid { is_disk_fault result ≡ false → HasOpenLedger store.new
         → (cost : ℕ → ℕ) → IsCost C cost
-        → Pays C cost store.old store.new }
+        → StepIsPaidFor C cost store.old store.new }
     ensures session { is_disk_fault result ≡ false → HasOpenLedger store.new
         → (cost : ℕ → ℕ) (first : ℕ) → IsCost C cost
         → HasPaid C cost first store.old → HasPaid C cost first store.new }
@@ -80,7 +80,7 @@ pub fn paid_back<const C: usize>(store: &mut Store<C>) -> Result<(), Refusal>
     ensures answer { IsErr result ↔ (store.old.is_broken ≡ true) }
     ensures back { OnOk result (GoesBack C store.old store.new) }
     ensures unchanged { OnErr result (store.new ≡ store.old) }
-    ensures paid { (cost : ℕ → ℕ) → Pays C cost store.old store.new }
+    ensures paid { (cost : ℕ → ℕ) → StepIsPaidFor C cost store.old store.new }
     ensures session { (cost : ℕ → ℕ) (first : ℕ) → HasPaid C cost first store.old
         → HasPaid C cost first store.new }
 {

@@ -3,17 +3,17 @@ use Rattle.std.specs.Prelude.{◌≡◌, List, ℕ, Bool, true, false, Option, S
 use Rattle.std.proofs.Common.{rules, sym, subst}
 use Rattle.disk_face.specs.States as disk
 use Rattle.disk_face.specs.Frames.{Stays}
-use Rattle.store_terms.specs.Requests.{Change}
+use Rattle.map_model.specs.Requests.{Change}
 use Rattle.size_class.specs.declared.TheConstants.{CLASSES}
 use Rattle.store_core.specs.declared.answers.Refusal.{Refusal}
 use Rattle.store_core.specs.declared.answers.Done.{Done}
 use Rattle.store_core.specs.Changes.{IsQuietChange, NothingChanged}
-use Rattle.store_core.specs.Connection.{IsConnected, IsOver, Kept}
+use Rattle.store_core.specs.Connection.{IsConnected, IsOver, StoreValue}
 use Rattle.store_core.specs.Flushes.{IsFlush}
 use Rattle.store_core.specs.Keeps.{KeepsNow}
 use Rattle.store_rows.specs.Served.{IsServed}
 
-served_on : (old new : Kept) (before now : disk.State) → IsServed old before → Stays before now
+served_on : (old new : StoreValue) (before now : disk.State) → IsServed old before → Stays before now
     → IsConnected CLASSES new now → IsServed new now
 served_on old new before now served stays over = record {
   ready = stays.ready;
@@ -22,7 +22,7 @@ served_on old new before now served stays over = record {
 }
 
 -- after a change that is refused, quiet, or made with a flush
-pub served_after : (refused : Option Refusal) (is_quiet : Bool) (c : Change) (old new : Kept)
+pub served_after : (refused : Option Refusal) (is_quiet : Bool) (c : Change) (old new : StoreValue)
     (before now : disk.State) (result : Result Done Refusal) → IsServed old before
     → (IsSome refused → NothingChanged old new before now)
     → (IsNone refused → is_quiet ≡ true → IsQuietChange CLASSES c old new before now result)
@@ -36,7 +36,7 @@ served_after None false c old new before now result served is_refused quiet flus
     served_on old new before now served (flush (search rules) (search rules)).frame.stays over
 
 -- after a checkpoint is saved, or refused
-pub served_kept : (refused : Option Refusal) (old new : Kept) (before now : disk.State)
+pub served_kept : (refused : Option Refusal) (old new : StoreValue) (before now : disk.State)
     (result : Result Done Refusal) → IsServed old before
     → (IsSome refused → NothingChanged old new before now)
     → (IsNone refused → KeepsNow CLASSES old new before now result) → IsConnected CLASSES new now

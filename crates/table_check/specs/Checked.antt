@@ -5,7 +5,7 @@ use Rattle.slot_codec.specs.declared.codec.Kind.{Kind}
 use Rattle.slot_codec.specs.declared.codec.Header.{Header}
 use Rattle.table_rules.specs.Tables.{PlacedTable}
 use Rattle.extent_table.specs.Extents.{Spots}
-use Rattle.spot_terms.specs.Laid.{laid}
+use Rattle.placement_model.specs.Laid.{laid}
 
 -- the header, with its kind set
 abbrev pub of_kind : Kind → Header → Header

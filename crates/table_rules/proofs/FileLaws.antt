@@ -26,10 +26,10 @@ use Rattle.slot_codec.specs.declared.codec.CodecFault.TheVariants as fault
 use Rattle.table_rules.specs.Opening.{OpensBy, placed_table}
 use Rattle.slot_codec.specs.declared.codec.Record.{Record}
 use Rattle.slot_codec.specs.declared.codec.CodecFault.{CodecFault}
-use Rattle.store_terms.specs.Maps.{Map, name_cmp}
-use Rattle.store_terms.specs.Weights.{Entry, weights, weight, same_name}
-use Rattle.store_terms.proofs.MapLaws.{weights-insert, weights-empty, same_name-itself, name_order, sum_by-map}
-use Rattle.store_terms.specs.Requests.{Change}
+use Rattle.map_model.specs.Maps.{Map, name_cmp}
+use Rattle.map_model.specs.Weights.{Entry, weights, weight, same_name}
+use Rattle.map_model.proofs.MapLaws.{weights-insert, weights-empty, same_name-itself, name_order, sum_by-map}
+use Rattle.map_model.specs.Requests.{Change}
 use Rattle.segment_layout.specs.Bounds.{Tight}
 use Rattle.segment_layout.proofs.TightLaws.{tight_over}
 use Rattle.segment_layout.specs.Books.{Book, book_end, book_after, map_after, volumes_of_sizes}

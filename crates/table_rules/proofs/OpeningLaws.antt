@@ -10,7 +10,7 @@ use Rattle.slot_codec.proofs.ChoiceLaws.{same_table, chosen_long, table_chosen}
 use Rattle.slot_codec.specs.declared.codec.Kind.{Kind}
 use Rattle.slot_codec.specs.declared.codec.Kind.TheVariants.{Settled, Moving}
 use Rattle.slot_codec.specs.declared.codec.Record.{Record}
-use Rattle.store_terms.specs.Maps.{Map}
+use Rattle.map_model.specs.Maps.{Map}
 use Rattle.segment_layout.specs.Books.{Book}
 use Rattle.table_rules.specs.Tables.{PlacedTable, map_of, book_of, nth, end_of_record, last_end}
 use Rattle.table_rules.specs.Opening.{OpensBy, placed_table}

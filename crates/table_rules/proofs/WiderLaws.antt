@@ -11,8 +11,8 @@ use Rattle.slot_codec.specs.Choice as choice
 use Rattle.slot_codec.specs.declared.codec.Kind.{Kind}
 use Rattle.slot_codec.specs.declared.codec.Kind.TheVariants.{Settled, Moving}
 use Rattle.slot_codec.specs.declared.codec.Record.{Record}
-use Rattle.store_terms.specs.Maps.{Map}
-use Rattle.store_terms.proofs.MapLaws.{sum_by-map}
+use Rattle.map_model.specs.Maps.{Map}
+use Rattle.map_model.proofs.MapLaws.{sum_by-map}
 use Rattle.segment_layout.specs.Shapes.{settled_caps, settled_grid}
 use Rattle.segment_layout.specs.Books.{Book, volumes_of_sizes}
 use Rattle.table_rules.specs.Tables.{PlacedTable, boundary_of_kind, table_boundary, nth, no_record, sizes, is_of, is_lower, lies_in_payload, lies_in_buffer, live_in_buffer, end_of_record, last_end, book_of, HasFullRows, is_buffered}
@@ -56,7 +56,8 @@ no_bytes t c none =
       | inr other ↦ cond-false (is_of c (nth t i)) (nth t i).size 0 other
       | inl is ↦
           let parts = and_parts (nat_lt 0 (nth t i).size) (class_of (nth t i).size == c) is in
-          absurd (none i within (ltb-true 0 (nth t i).size parts.0) (eqb-true (class_of (nth t i).size) c parts.1))
+          absurd (none i within (ltb-true 0 (nth t i).size parts.0)
+          (eqb-true (class_of (nth t i).size) c parts.1))
     ])
     ∙ sum_by_none (λ (r : Record). 0) t.records (λ r. refl)
 
@@ -304,7 +305,8 @@ wider_valid n s t h few wide small more v =
 
 -- the table of a file that opens
 full_rows : (classes size_max : ℕ) (t : choice.Table) (file : List ℕ) (m : Map) (book : Book)
-    → classes ≤ width → OpensBy classes size_max t file m book → HasFullRows (placed_table classes size_max file t)
+    → classes ≤ width → OpensBy classes size_max t file m book
+    → HasFullRows (placed_table classes size_max file t)
 full_rows classes size_max t file m book wide o =
     let header = file_header file t o.read in
     record { caps_full = header.0; grid_full = header.1; classes = wide }
@@ -374,6 +376,7 @@ pub files_of_before : (file : List ℕ) (m : Map) (book : Book) → OpensAsBefor
     → Opens CLASSES SIZE_MAX file m book
 files_of_before file m book o = record {
   table = o.table;
-  opens = more_classes 21 CLASSES 1048576 SIZE_MAX o.table file m book (omega arith) (omega arith) (omega arith)
+  opens = more_classes 21 CLASSES 1048576 SIZE_MAX o.table file m book (omega arith) (omega arith)
+      (omega arith)
       (omega arith) o.opens;
 }

@@ -3,7 +3,7 @@ use Rattle.std.specs.Prelude.{◌≡◌, ◌⊎◌, ℕ, ◌-◌, ◌≤◌, Lis
 use Rattle.size_class.specs.Classes.{cell}
 use Rattle.slot_codec.specs.Spelling.{head_len}
 use Rattle.slot_codec.specs.Choice as choice
-use Rattle.store_terms.specs.Maps.{Map}
+use Rattle.map_model.specs.Maps.{Map}
 use Rattle.segment_layout.specs.Books.{Book}
 use Rattle.table_rules.specs.Tables.{PlacedTable, map_of, book_of}
 use Rattle.table_rules.specs.Rules.{IsValid}
@@ -33,7 +33,8 @@ pub record Opens (classes size_max : ℕ) (file : List ℕ) (m : Map) (b : Book)
   pub table : choice.Table
   pub opens : OpensBy classes size_max table file m b
 
--- The same under the rules of the first programs, whose objects had at most 2^20 bytes and so one of 21 classes.
+-- The same under the rules of the first programs, whose objects had at most 2^20 bytes and so one of 21
+-- classes.
 abbrev pub OpensAsBefore : List ℕ → Map → Book → Type 0
 OpensAsBefore file m b = Opens 21 1048576 file m b
 

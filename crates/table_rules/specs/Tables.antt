@@ -10,7 +10,7 @@ use Rattle.slot_codec.specs.declared.codec.Kind.{Kind}
 use Rattle.slot_codec.specs.declared.codec.Kind.TheVariants.{Settled, Moving}
 use Rattle.slot_codec.specs.declared.codec.Header.{Header}
 use Rattle.slot_codec.specs.declared.codec.Record.{Record}
-use Rattle.store_terms.specs.Maps.{Map}
+use Rattle.map_model.specs.Maps.{Map}
 use Rattle.segment_layout.specs.Shapes.{buffer_of, end_of, start_of, buffer_start, taken_in, settled_caps, settled_grid}
 use Rattle.segment_layout.specs.Books.{Book, volumes_of_sizes}
 

@@ -3,7 +3,7 @@ use Rattle.std.proofs.Common.{ℕ, zero, suc, ◌≡◌, ◌+◌, ◌%◌, [], �
 use Rattle.byte_ranges.proofs.ListLaws.{length-map_below}
 use Rattle.rand_pcg.specs.Lcg.{Lcg}
 use Rattle.rand_pcg.specs.Pcg.{pcg32}
-use Rattle.store_terms.specs.Requests as ask
+use Rattle.map_model.specs.Requests as ask
 use Rattle.work_maker.specs.Jobs.{counting_bytes, job_drawn, jobs_from}
 
 -- the words after those of one job
@@ -18,7 +18,8 @@ pub last_of : (names i n : ℕ) (words : Lcg)
     → jobs_from names i n words ≡ take n (jobs_from names i n words) ++ ask.keep ∷ []
 last_of names i zero words = refl
 last_of names i (suc n) words =
-    ap (λ rest. job_drawn names i (pcg32 words).0 (pcg32 (pcg32 words).1).0 (pcg32 (pcg32 (pcg32 words).1).1).0 ∷ rest)
+    ap (λ rest. job_drawn names i (pcg32 words).0 (pcg32 (pcg32 words).1).0
+    (pcg32 (pcg32 (pcg32 words).1).1).0 ∷ rest)
     (last_of names (i + 1) n (after words))
 
 pub has_size : (first size : ℕ) → length (counting_bytes first size) ≡ size

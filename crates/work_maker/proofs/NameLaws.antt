@@ -16,7 +16,12 @@ name_digits : (n : ℕ) → n < 2 ^ 64 → list_all is_name_byte (decimal n) ≡
 name_digits n fits =
     decimal_by_steps (λ m ds. list_all is_name_byte ds ≡ true)
     (λ m small. rw (digit_byte m small) refl)
-    (λ m ds more all. rw (list_all-append is_name_byte ds ((48 + m % 10) ∷ []), all, digit_byte (m % 10) (omega arith)) refl)
+    (λ m ds more all. rw (
+      list_all-append is_name_byte ds ((48 + m % 10) ∷ []),
+      all,
+      digit_byte (m % 10)
+          (omega arith),
+    ) refl)
     n
     fits
 

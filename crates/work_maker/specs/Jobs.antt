@@ -4,8 +4,8 @@ use Rattle.rand_pcg.specs.Lcg.{Lcg, started, increment_of}
 use Rattle.rand_pcg.specs.Pcg.{multiplier_64, pcg32}
 use Rattle.std.specs.Fmt.{decimal}
 use Rattle.byte_ranges.specs.Lists.{below}
-use Rattle.store_terms.specs.Requests.{Request}
-use Rattle.store_terms.specs.Requests as ask
+use Rattle.map_model.specs.Requests.{Request}
+use Rattle.map_model.specs.Requests as ask
 
 -- so many bytes that count up from a first one, each modulo 256
 abbrev pub counting_bytes : ℕ → ℕ → List ℕ
@@ -15,9 +15,9 @@ counting_bytes first size = map (λ t. (first + t) % 256) (below size)
 abbrev pub name_drawn : ℕ → ℕ → List ℕ
 name_drawn names x = codes "o" ++ decimal (x % names)
 
--- Job i of three words. The first draws the name; the second draws a put five times in eight, else a removal, a
--- reading or a checkpoint, each once in eight; the third draws the size of a put, from 1 to 8,192 bytes, which
--- count up from i.
+-- Job i of three words. The first draws the name; the second draws a put five times in eight, else a
+-- removal, a reading or a checkpoint, each once in eight; the third draws the size of a put, from 1 to
+-- 8,192 bytes, which count up from i.
 abbrev pub job_drawn : ℕ → ℕ → ℕ → ℕ → ℕ → Request
 job_drawn names i x y z =
     if nat_lt (y % 8) 5

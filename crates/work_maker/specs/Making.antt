@@ -1,7 +1,7 @@
 -- What a maker of jobs has still to give, and what its jobs ask.
 use Rattle.std.specs.Prelude.{if◌then◌else◌, List, [], Some, None}
-use Rattle.store_terms.specs.Requests.{Request}
-use Rattle.store_terms.specs.Requests as ask
+use Rattle.map_model.specs.Requests.{Request}
+use Rattle.map_model.specs.Requests as ask
 use Rattle.work_maker.specs.Jobs.{counting_bytes, jobs_from}
 use Rattle.work_maker.specs.declared.job.Job.{Job}
 use Rattle.work_maker.specs.declared.job.Job.TheVariants as job

@@ -1,6 +1,6 @@
 //! What holds of the list of a number.
 ghost use Rattle.std.specs.Prelude.{◌≡◌, ◌+◌, ◌++◌, ◌∷◌, [], ℕ, length, take};
-ghost use Rattle.store_terms.specs.Requests as ask;
+ghost use Rattle.map_model.specs.Requests as ask;
 ghost use Rattle.work_maker.specs.Jobs.{counting_bytes, jobs};
 
 /// A list has as many jobs as its count, and one more, which is a checkpoint.

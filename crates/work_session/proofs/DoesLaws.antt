@@ -7,8 +7,8 @@ use Rattle.disk_face.specs.Frames.{Unchanged}
 use Rattle.size_class.specs.Classes.{width}
 use Rattle.size_class.specs.declared.TheConstants.{SIZE_MAX}
 use Rattle.slot_pair.specs.Saves.{save_calls}
-use Rattle.store_terms.specs.Requests as ask
-use Rattle.store_terms.specs.Requests.{Change, Refused, Reply, Request}
+use Rattle.map_model.specs.Requests as ask
+use Rattle.map_model.specs.Requests.{Change, Refused, Reply, Request}
 use Rattle.extent_table.specs.declared.spot.Spot.{Spot}
 use Rattle.store_core.proofs.StateLaws.{len-read_at}
 use Rattle.store_core.specs.declared.answers.Refusal.{Refusal}
@@ -17,7 +17,7 @@ use Rattle.store_core.specs.declared.answers.Done.{Done}
 use Rattle.store_core.specs.Answers.{AnswersChange, AnswersNumber, AnswersRead, done_reply, refusal_for, refused_by, reply_of, size_at}
 use Rattle.store_core.specs.Answers as store
 use Rattle.store_core.specs.Changes.{NothingChanged}
-use Rattle.store_core.specs.Connection.{IsConnected, Kept, base_of, limits_of, state_of}
+use Rattle.store_core.specs.Connection.{IsConnected, StoreValue, base_of, limits_of, state_of}
 use Rattle.store_core.specs.Keeps.{AnswersKeep, kept_now}
 use Rattle.store_core.specs.Quiet.{charges_of}
 use Rattle.store_core.specs.Reads as reads
@@ -29,12 +29,12 @@ use Rattle.segment_layout.specs.Books.{is_quiet}
 use Rattle.store_costs.specs.Calls.{IsChange, IsKeep}
 use Rattle.store_costs.proofs.ChangeLaws.{same_moves_nothing}
 use Rattle.store_costs.proofs.OtherLaws.{keep_moves_nothing}
-use Rattle.ask_text.specs.Replies.{head_of, told_for}
+use Rattle.ask_text.specs.Replies.{reply_line_of, told_for}
 use Rattle.ask_text.specs.declared.reply.Reply as text
 use Rattle.ask_text.specs.declared.reply.Reply.TheVariants as head
 use Rattle.ask_session.specs.declared.ends.End.{End}
 use Rattle.ask_session.specs.declared.ends.End.TheVariants as ends
-use Rattle.ask_session.specs.Heads.{Answers, answer_change, answer_of}
+use Rattle.ask_session.specs.ReplyLines.{Answers, answer_change, answer_of}
 use Rattle.ask_session.specs.Serving.{Serves, reply_at}
 use Rattle.ask_session.proofs.AnswerLaws.{change_answers, keep_answers, refused_head}
 use Rattle.ask_session.proofs.ReadReplyLaws.{get_long, get_served, number_served, refused_with}
@@ -46,7 +46,7 @@ use Rattle.work_session.proofs.DoneLaws.{IsShortChange, change_charges, nothing_
 -- ---- refused
 
 -- a request that is refused charges nothing
-refused_charges : {classes : ℕ} (r : Request) (s new : Kept) (a d : disk.State) (x : Refusal)
+refused_charges : {classes : ℕ} (r : Request) (s new : StoreValue) (a d : disk.State) (x : Refusal)
     → IsSound classes s a → refused_by s r ≡ Some x → NothingChanged s new a d
     → ((t : State) (w : Refused) → calls_by (state_of s a.file) t r (ask.refused w) ≡ 0)
     → Charges classes r s new a d
@@ -60,7 +60,8 @@ refused_charges {classes} r s new a d x h is same none =
 
 -- ---- changes
 
-change_result : {classes : ℕ} (s new : Kept) (c : Change) (a d : disk.State) (result : Result Done Refusal)
+change_result : {classes : ℕ} (s new : StoreValue) (c : Change) (a d : disk.State)
+    (result : Result Done Refusal)
     → IsSound classes s a → IsShortChange c → IsChange classes c s new a d result
     → (IsTrue a.tells → IfSome (reply_of done_reply result) (λ reply. Step (limits_of s) (state_of s a.file)
     (ask.change c) reply (state_of new d.file)))
@@ -82,7 +83,8 @@ change_result {classes} s new c a d (Err w) h short x step sound full =
     by (Some y) is answer = always (answer_of w) (refused_charges (ask.change c) s new a d y h is
         (x.refused (subst (λ (o : Option Refusal). IsSome o) (sym is) refl)) (λ t w. refl))
 
-pub change_does : {classes : ℕ} (s new : Kept) (c : Change) (a d : disk.State) (result : Result Done Refusal)
+pub change_does : {classes : ℕ} (s new : StoreValue) (c : Change) (a d : disk.State)
+    (result : Result Done Refusal)
     → IsSound classes s a → IsShortChange c → IsChange classes c s new a d result
     → (s.is_broken ≡ false → IsTrue a.tells → IfSome (reply_of done_reply result) (λ reply. Step (limits_of s)
     (state_of s a.file) (ask.change c) reply (state_of new d.file)))
@@ -109,7 +111,7 @@ change_does {classes} s new c a d result h short x step sound = record {
 at_ok : {P : Type 0} (r : Result Done Refusal) (done : Done) → r ≡ Ok done → OnOk r P → P
 at_ok {P} r done is p = subst (λ (y : Result Done Refusal). OnOk y P) is p
 
-module _ {classes : ℕ} (s new : Kept) (a d : disk.State) (h : IsSound classes s a) where
+module _ {classes : ℕ} (s new : StoreValue) (a d : disk.State) (h : IsSound classes s a) where
   keep_result : (result : Result Done Refusal) → IsKeep classes s new a d result
       → (IsTrue a.tells → IfSome (reply_of done_reply result) (λ reply. Step (limits_of s)
       (state_of s a.file) ask.keep reply (state_of new d.file)))
@@ -123,7 +125,7 @@ module _ {classes : ℕ} (s new : Kept) (a d : disk.State) (h : IsSound classes 
           let value : new ≡ kept_now s = at_ok result done is served.value in
           let calls = at_ok result done is served.calls.all in
           let same : fin.len (state_of new d.file).map ≡ fin.len s.now =
-          ap (λ (y : Kept). fin.len (state_of y d.file).map) value
+          ap (λ (y : StoreValue). fin.len (state_of y d.file).map) value
           ∙ len-read_at (base_of s) d.file s.now h.sound.now.named in
           let is_step : IsTrue a.tells → Step (limits_of s) (state_of s a.file) ask.keep (done_reply done)
           (state_of new d.file) = λ told. subst (λ (y : Result Done Refusal). IfSome (reply_of done_reply y)
@@ -193,7 +195,7 @@ there_short : (o : Option Spot) → IfSome o (λ x. x.size ≤ SIZE_MAX) → siz
 there_short None small = omega arith
 there_short (Some x) small = small
 
-module _ {classes : ℕ} (s : Kept) (a d : disk.State) (name : List ℕ) (h : IsSound classes s a)
+module _ {classes : ℕ} (s : StoreValue) (a d : disk.State) (name : List ℕ) (h : IsSound classes s a)
     (same : Unchanged a d) where
   abbrev r : Request
   r = ask.get name
@@ -218,7 +220,7 @@ module _ {classes : ℕ} (s : Kept) (a d : disk.State) (name : List ℕ) (h : Is
         }) refl;
         sound = h.sound;
         replied = λ told. ap head.Data (sym (get_long s a name size h number told))
-            ∙ sym (ap (λ (y : Served). head_of y.reply) (get_served s a name h served.0 told));
+            ∙ sym (ap (λ (y : Served). reply_line_of y.reply) (get_served s a name h served.0 told));
         small = omega (
           arith,
           served.1,

@@ -10,26 +10,26 @@ use Rattle.disk_face.specs.States as disk
 use Rattle.size_class.specs.Classes.{width}
 use Rattle.size_class.specs.declared.TheConstants.{SIZE_MAX}
 use Rattle.slot_pair.specs.Saves.{save_calls}
-use Rattle.store_terms.specs.Maps.{Map}
-use Rattle.store_terms.specs.Requests as ask
-use Rattle.store_terms.specs.Requests.{Change, Reply, Request, changed}
-use Rattle.store_terms.specs.Weights.{same_name}
-use Rattle.store_terms.proofs.MapLaws.{name_order}
+use Rattle.map_model.specs.Maps.{Map}
+use Rattle.map_model.specs.Requests as ask
+use Rattle.map_model.specs.Requests.{Change, Reply, Request, changed}
+use Rattle.map_model.specs.Weights.{same_name}
+use Rattle.map_model.proofs.MapLaws.{name_order}
 use Rattle.segment_layout.specs.Books.{is_quiet, new_item, some_size}
 use Rattle.extent_table.specs.declared.spot.Spot.{Spot}
 use Rattle.extent_table.specs.Extents.{Spots}
-use Rattle.spot_terms.proofs.EntryLaws.{get-remove_here, insert-remove}
-use Rattle.spot_terms.specs.Reads.{EndWithin, read_at}
+use Rattle.placement_model.proofs.EntryLaws.{get-remove_here, insert-remove}
+use Rattle.placement_model.specs.Reads.{EndWithin, read_at}
 use Rattle.flush_run.specs.Parts.{size_in}
-use Rattle.flush_start.specs.Sized.{IsSizedBy}
-use Rattle.flush_start.proofs.SizedLaws.{sized_entries, sized_gone, sized_volume}
+use Rattle.change_charges.specs.Sized.{IsSizedBy}
+use Rattle.change_charges.proofs.SizedLaws.{sized_entries, sized_gone, sized_volume}
 use Rattle.move_cost.specs.Costs.{IsCost}
 use Rattle.store_core.specs.declared.answers.Refusal.{Refusal}
 use Rattle.store_core.specs.declared.answers.Refusal.TheVariants as why
 use Rattle.store_core.specs.declared.answers.Done.{Done}
 use Rattle.store_core.specs.Answers.{AnswersChange, done_reply, refused_by}
 use Rattle.store_core.specs.Changes.{ChangesQuietly}
-use Rattle.store_core.specs.Connection.{IsOver, Kept, base_of, limits_of, state_of}
+use Rattle.store_core.specs.Connection.{IsOver, StoreValue, base_of, limits_of, state_of}
 use Rattle.store_core.specs.Flushes.{ChangesByFlush, IsFlush, names_after, size_after}
 use Rattle.store_core.specs.Keeps.{now_map}
 use Rattle.store_core.specs.Quiet.{asked_after, charges_of, del_of, put_of, sizes_at}
@@ -43,7 +43,7 @@ use Rattle.store_costs.proofs.MadeLaws.{flush_next, quiet_next}
 use Rattle.store_costs.proofs.WeighedLaws.{in_zeros, sized_now, zeros}
 use Rattle.ask_text.specs.declared.reply.Reply as text
 use Rattle.ask_session.specs.declared.ends.End.{End}
-use Rattle.ask_session.specs.Heads.{answer_change, answer_of, done_head}
+use Rattle.ask_session.specs.ReplyLines.{answer_change, answer_of, done_reply_line}
 use Rattle.ask_session.specs.Serving.{is_changing, is_disk_fault, reply_at}
 use Rattle.ask_session.proofs.GrowingLaws.{and_none}
 use Rattle.ask_session.proofs.ServingLaws.{IsSound}
@@ -53,7 +53,7 @@ use Rattle.work_session.proofs.RowLaws.{all_added_few, class_few}
 
 -- ---- where the disk didn't fail
 
-pub sound_if : {classes : ℕ} (r : Request) (new : Kept) (result : Result text.Reply End)
+pub sound_if : {classes : ℕ} (r : Request) (new : StoreValue) (result : Result text.Reply End)
     → new.is_broken ≡ (is_changing r && is_disk_fault result) → (new.is_broken ≡ false → IsStore classes new)
     → OnOk result (IsStore classes new)
 sound_if r new (Ok x) broken sound = sound (broken ∙ and_none (is_changing r))
@@ -75,14 +75,14 @@ pub small_change : (result : Result Done Refusal)
     → IfOk (answer_change result) (λ reply. read_head reply ≤ most_read)
 small_change (Ok done) = by done.kept
   where
-    by : (b : Bool) → read_head (done_head (record { kept = b })) ≤ most_read
+    by : (b : Bool) → read_head (done_reply_line (record { kept = b })) ≤ most_read
     by true = omega arith
     by false = omega arith
 small_change (Err x) = small_refused x
 
 -- ---- the ledger stays
 
-pub nothing_charged : {classes : ℕ} (r : Request) (s new : Kept) (a d : disk.State) → MovesNothing s new
+pub nothing_charged : {classes : ℕ} (r : Request) (s new : StoreValue) (a d : disk.State) → MovesNothing s new
     → ((e : ℕ) → asked_by (state_of s a.file) r (reply_at s a.file r) e ≡ 0)
     → (IsTrue a.tells
     → d.turn ≤ a.turn + calls_by (state_of s a.file) (state_of new d.file) r (reply_at s a.file r))
@@ -113,7 +113,8 @@ same_len m spots sized =
     fin.len-entries m ∙ sym (length-map (fin.entries m) _) ∙ ap length (sized_entries m spots sized)
     ∙ length-map (fin.entries spots) _ ∙ sym (fin.len-entries spots)
 
-len_changed : (s : Kept) (c : Change) (m : Map) → IsSizedBy m s.now → fin.len (changed c m) ≡ names_after s c
+len_changed : (s : StoreValue) (c : Change) (m : Map) → IsSizedBy m s.now
+    → fin.len (changed c m) ≡ names_after s c
 len_changed s c m sized = by c.object
   where
     gone : fin.len (fin.remove m c.name) ≡ fin.len (fin.remove s.now c.name)
@@ -131,7 +132,7 @@ len_changed s c m sized = by c.object
         ∙ ap (λ (n : ℕ). n + 1) gone
 
 -- the sizes after a change
-after_sizes : (s : Kept) (c : Change) (m : Map) → IsSizedBy m s.now → (q : List ℕ)
+after_sizes : (s : StoreValue) (c : Change) (m : Map) → IsSizedBy m s.now → (q : List ℕ)
     → option_map length (fin.get (changed c m) q) ≡ size_after s c q
 after_sizes s c m sized q = by c.object
   where
@@ -170,7 +171,7 @@ put_short name object short = omega (arith, short, sum_some (length object))
 pub del_short : (name : List ℕ) → IsShortChange (del_of name)
 del_short name = omega arith
 
-old_short : {classes : ℕ} (s : Kept) → IsStore classes s → (name : List ℕ)
+old_short : {classes : ℕ} (s : StoreValue) → IsStore classes s → (name : List ℕ)
     → sum_by (λ (n : ℕ). n) (sizes_at (fin.get s.now name)) ≤ SIZE_MAX
 old_short s h name = by (fin.get s.now name) (small_if_there s h name (fin.get s.now name) refl)
   where
@@ -179,7 +180,8 @@ old_short s h name = by (fin.get s.now name) (small_if_there s h name (fin.get s
     by None small = omega arith
     by (Some x) small = omega (arith, small, sum_some x.size)
 
-module _ {classes : ℕ} (s new : Kept) (c : Change) (a d : disk.State) (done : Done) (h : IsSound classes s a)
+module _ {classes : ℕ} (s new : StoreValue) (c : Change) (a d : disk.State) (done : Done)
+    (h : IsSound classes s a)
     (full : length s.asked ≡ width) (short : IsShortChange c) (x : IsChange classes c s new a d (Ok done))
     (step : IsTrue a.tells → Step (limits_of s) (state_of s a.file) (ask.change c) (done_reply done)
     (state_of new d.file)) (sound : IsStore classes new) where
@@ -247,9 +249,9 @@ module _ {classes : ℕ} (s new : Kept) (c : Change) (a d : disk.State) (done : 
       let plain : IsTrue a.tells → reply_at s a.file (ask.change c) ≡ ask.done =
       λ told. replied told false (accepted.kept ∙ ap not quiet) in
       record {
-        moved_few = λ e. omega (arith, ap (λ (y : Kept). slice_index y.moved e) v.rest);
-        asked_few = asked_few (ap (λ (y : Kept). y.asked) v.rest);
-        later = λ low e. omega (arith, ap (λ (y : Kept). slice_index y.moved e) v.rest);
+        moved_few = λ e. omega (arith, ap (λ (y : StoreValue). slice_index y.moved e) v.rest);
+        asked_few = asked_few (ap (λ (y : StoreValue). y.asked) v.rest);
+        later = λ low e. omega (arith, ap (λ (y : StoreValue). slice_index y.moved e) v.rest);
         asked = λ told low e. omega (
           arith,
           (quiet_next s h.sound (base_of s) a.file (within told) c new quiet v full low).asks e,
@@ -265,9 +267,9 @@ module _ {classes : ℕ} (s new : Kept) (c : Change) (a d : disk.State) (done : 
       }
 
   -- a change that makes a checkpoint
-  module _ (loud : is_quiet (charges_of s c) ≡ false) where
+  module _ (needs_flush : is_quiet (charges_of s c) ≡ false) where
     f : IsFlush classes c s new a d (Ok done)
-    f = x.flush accepted.none loud
+    f = x.flush accepted.none needs_flush
 
     v : ChangesByFlush c s new
     v = f.value
@@ -297,7 +299,7 @@ module _ {classes : ℕ} (s new : Kept) (c : Change) (a d : disk.State) (done : 
     loud_charges : Charges classes (ask.change c) s new a d
     loud_charges =
         let kept : IsTrue a.tells → reply_at s a.file (ask.change c) ≡ ask.kept =
-        λ told. replied told true (accepted.kept ∙ ap not loud) in
+        λ told. replied told true (accepted.kept ∙ ap not needs_flush) in
         let t = state_of new d.file in
         record {
           moved_few = moved_few;
@@ -305,7 +307,7 @@ module _ {classes : ℕ} (s new : Kept) (c : Change) (a d : disk.State) (done : 
           later = λ low e. f.calls.later low.moved e;
           asked = λ told low e. omega (
             arith,
-            (flush_next s h.sound (base_of s) a.file (within told) c new loud a d (Ok done) f v full
+            (flush_next s h.sound (base_of s) a.file (within told) c new needs_flush a d (Ok done) f v full
                 low).asks e,
             ap (λ (y : Reply). asked_by (state_of s a.file) (ask.change c) y e) (kept told),
           );
@@ -321,5 +323,5 @@ module _ {classes : ℕ} (s new : Kept) (c : Change) (a d : disk.State) (done : 
   pub change_charges : Charges classes (ask.change c) s new a d
   change_charges = elim (cases_Bool (is_quiet (charges_of s c))) [
     | inl quiet ↦ quiet_charges quiet
-    | inr loud ↦ loud_charges loud
+    | inr needs_flush ↦ loud_charges needs_flush
   ]

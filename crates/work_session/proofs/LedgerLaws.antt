@@ -5,16 +5,16 @@ use Rattle.std.proofs.lemmas.List.Sums.{sum_by_push}
 use Rattle.byte_ranges.proofs.ListLaws.{zeros_at}
 use Rattle.disk_face.specs.States as disk
 use Rattle.size_class.specs.Classes.{width, zero_row}
-use Rattle.store_terms.specs.Requests as ask
-use Rattle.store_terms.specs.Requests.{Reply, Request}
+use Rattle.map_model.specs.Requests as ask
+use Rattle.map_model.specs.Requests.{Reply, Request}
 use Rattle.move_cost.specs.Costs.{linear, potential}
 use Rattle.move_cost.specs.Lawful.{linear_is}
-use Rattle.store_core.specs.Connection.{Kept, limits_of, state_of}
+use Rattle.store_core.specs.Connection.{StoreValue, limits_of, state_of}
 use Rattle.store_core.specs.Opened.{IsFresh}
 use Rattle.store_core.specs.States.{Chain, Limits, State}
 use Rattle.store_costs.specs.Paid.{HasOpenLedger}
 use Rattle.store_costs.proofs.SessionLaws.{opened_has_paid}
-use Rattle.ask_text.specs.Replies.{head_of}
+use Rattle.ask_text.specs.Replies.{reply_line_of}
 use Rattle.ask_text.specs.declared.reply.Reply as text
 use Rattle.ask_text.specs.declared.reply.Reply.TheVariants as said
 use Rattle.ask_session.specs.Serving.{reply_at}
@@ -56,7 +56,7 @@ nothing : (d : ℕ) → slice_index zero_row d ≡ 0
 unfolding zero_row
 nothing d = zeros_at width d
 
-pub ledger_none : {classes : ℕ} (s : Kept) (a : disk.State) → IsFresh classes s
+pub ledger_none : {classes : ℕ} (s : StoreValue) (a : disk.State) → IsFresh classes s
     → HasLedger classes s s [] [] [] a a
 ledger_none {classes} s a fresh = record {
   moved_few = λ d. omega (arith, ap (λ (row : List ℕ). slice_index row d) fresh.moved, nothing d);
@@ -66,7 +66,8 @@ ledger_none {classes} s a fresh = record {
   calls = λ told. omega arith;
 }
 
-module _ {classes : ℕ} (old mid new : Kept) (a b d : disk.State) (jobs : List Request) (replies : List Reply)
+module _ {classes : ℕ} (old mid new : StoreValue) (a b d : disk.State) (jobs : List Request)
+    (replies : List Reply)
     (states : List State) (ledger : HasLedger classes old mid jobs replies states a b)
     (told_b : IsTrue a.tells → IsTrue b.tells)
     (chain : IsTrue a.tells → Chain (limits_of old) (state_of old a.file) jobs replies states)
@@ -111,7 +112,8 @@ module _ {classes : ℕ} (old mid new : Kept) (a b d : disk.State) (jobs : List 
   }
 
 -- the row of the bytes asked for has a number for each class
-pub full_row : {classes : ℕ} (old new : Kept) (a b : disk.State) (jobs : List Request) (replies : List Reply)
+pub full_row : {classes : ℕ} (old new : StoreValue) (a b : disk.State) (jobs : List Request)
+    (replies : List Reply)
     (states : List State) → HasLedger classes old new jobs replies states a b → length new.asked ≡ width
 full_row {classes} old new a b jobs replies states ledger = (ledger.paid linear (linear_is classes)).full
 
@@ -123,7 +125,7 @@ record CountsOne (reply : Reply) (t new : Tally) : Type 0 where
   read : new.read ≡ t.read + read_of reply
   refused : new.refused ≡ t.refused + refused_of reply
 
-counts_one : (reply : Reply) (t : Tally) → CountsOne reply t (tally_with t (head_of reply))
+counts_one : (reply : Reply) (t : Tally) → CountsOne reply t (tally_with t (reply_line_of reply))
 counts_one ask.done t = record { ok = refl; kept = omega arith; read = omega arith; refused = omega arith }
 counts_one ask.kept t = record { ok = omega arith; kept = refl; read = omega arith; refused = omega arith }
 counts_one (ask.found object) t =
@@ -136,7 +138,7 @@ counts_one (ask.counts names bytes kept_names kept_bytes) t =
     record { ok = omega arith; kept = omega arith; read = omega arith; refused = omega arith }
 
 pub tally_more : (replies : List Reply) (reply : Reply) (head : text.Reply) (t : Tally) → TallyOf replies t
-    → head ≡ head_of reply → TallyOf (replies ++ reply ∷ []) (tally_with t head)
+    → head ≡ reply_line_of reply → TallyOf (replies ++ reply ∷ []) (tally_with t head)
 tally_more replies reply head t h is =
     subst (λ (y : text.Reply). TallyOf (replies ++ reply ∷ []) (tally_with t y)) (sym is)
     (let one = counts_one reply t in record {

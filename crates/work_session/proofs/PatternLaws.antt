@@ -7,8 +7,8 @@ use Rattle.std.proofs.lemmas.Grind.{same_number_lists}
 use Rattle.byte_ranges.proofs.ListLaws.{length-map_below, map_below-index}
 use Rattle.rand_pcg.specs.Lcg.{Lcg}
 use Rattle.rand_pcg.specs.Pcg.{pcg32}
-use Rattle.store_terms.specs.Requests as ask
-use Rattle.store_terms.specs.Requests.{Request}
+use Rattle.map_model.specs.Requests as ask
+use Rattle.map_model.specs.Requests.{Request}
 use Rattle.work_maker.specs.Jobs.{counting_bytes, job_drawn, jobs_from, name_drawn}
 use Rattle.work_maker.specs.Making.{asked_by, jobs_left}
 use Rattle.work_maker.specs.declared.job.Job.{Job}

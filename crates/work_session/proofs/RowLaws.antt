@@ -8,8 +8,8 @@ use Rattle.std.specs.FinMap as fin
 use Rattle.disk_face.specs.Counts.{last}
 use Rattle.size_class.specs.Classes.{class_of, width}
 use Rattle.size_class.proofs.ClassLaws.{class_below}
-use Rattle.store_terms.specs.Maps.{Map, volume}
-use Rattle.store_terms.proofs.MapLaws.{sum_by-map}
+use Rattle.map_model.specs.Maps.{Map, volume}
+use Rattle.map_model.proofs.MapLaws.{sum_by-map}
 use Rattle.segment_layout.specs.Books.{volumes}
 use Rattle.segment_layout.proofs.BalanceLaws.{bytes_in}
 use Rattle.segment_layout.proofs.BookLaws.{volumes_of_sizes-index}

@@ -4,13 +4,13 @@ use Rattle.std.proofs.Common.{arith, ap, sym, ◌∙◌, subst, append-nil}
 use Rattle.std.specs.FinMap as fin
 use Rattle.disk_face.specs.States as disk
 use Rattle.slot_codec.specs.declared.codec.SuperBlock.{SuperBlock}
-use Rattle.store_terms.specs.Maps.{volume}
-use Rattle.store_terms.specs.Requests.{Request}
+use Rattle.map_model.specs.Maps.{volume}
+use Rattle.map_model.specs.Requests.{Request}
 use Rattle.segment_layout.specs.Books.{book_end}
-use Rattle.flush_start.proofs.SizedLaws.{sized_volume}
+use Rattle.change_charges.proofs.SizedLaws.{sized_volume}
 use Rattle.move_cost.specs.Costs.{IsCost, factor, flat, linear, potential, seek}
 use Rattle.move_cost.specs.Lawful.{flat_is, linear_is, seek_is}
-use Rattle.store_core.specs.Connection.{IsOver, Kept, base_of, state_of}
+use Rattle.store_core.specs.Connection.{IsOver, StoreValue, base_of, state_of}
 use Rattle.store_core.specs.States.{State}
 use Rattle.store_core.proofs.OverLaws.{kept_image}
 use Rattle.store_core.proofs.StateLaws.{len-read_at}
@@ -35,7 +35,8 @@ pub jobs_long : (number count names : ℕ) → length (jobs_of number count name
 jobs_long number count names =
     how_many names 1 count (started 64 multiplier_64 number (increment_of 64 1))
 
-module _ {classes : ℕ} (old new : Kept) (jobs : List Request) (a d : disk.State) (t : Tally) (x : Summary)
+module _ {classes : ℕ} (old new : StoreValue) (jobs : List Request) (a d : disk.State) (t : Tally)
+    (x : Summary)
     (w : IsWorking classes old new jobs [] a d t) (tally : HasTally t (length jobs) x) (end : EndsAt new x)
     (lines : LinesOf classes new.moved new.asked x) (zeros : (c : ℕ) → classes ≤ c
     → slice_index new.moved c ≡ 0)

@@ -8,12 +8,12 @@ use Rattle.disk_face.proofs.MomentLaws.{Leaves-none, Leaves-trans, Leaves-weaken
 use Rattle.size_class.specs.declared.TheConstants.{SIZE_MAX}
 use Rattle.slot_codec.specs.declared.codec.SuperBlock.{SuperBlock}
 use Rattle.slot_codec.specs.Spelling.{head_len}
-use Rattle.store_terms.specs.Maps.{Map}
-use Rattle.store_terms.specs.Requests.{Reply, Request}
+use Rattle.map_model.specs.Maps.{Map}
+use Rattle.map_model.specs.Requests.{Reply, Request}
 use Rattle.segment_layout.specs.Bounds.{Loose}
 use Rattle.table_rules.specs.Sequences.{HasSequenceUpTo}
 use Rattle.table_rules.proofs.SequenceLaws.{sequence_wider}
-use Rattle.store_core.specs.Connection.{IsConnected, Kept, base_of, limits_of, state_of}
+use Rattle.store_core.specs.Connection.{IsConnected, StoreValue, base_of, limits_of, state_of}
 use Rattle.store_core.specs.States.{Limits, State, Step}
 use Rattle.store_core.specs.Stores.{IsStore}
 use Rattle.ask_session.specs.declared.ends.End.{End}
@@ -25,7 +25,7 @@ use Rattle.ask_session.proofs.RunLaws.{opens_with}
 use Rattle.work_session.specs.Works.{HasStopped, HasWorked, IsJobImage}
 
 -- no job was done yet
-pub worked_none : {classes : ℕ} (s : Kept) (a : disk.State) → s.is_broken ≡ false → IsStore classes s
+pub worked_none : {classes : ℕ} (s : StoreValue) (a : disk.State) → s.is_broken ≡ false → IsStore classes s
     → IsConnected classes s a → IsTrue a.is_ready → HasWorked classes s s [] [] [] a a
 worked_none {classes} s a whole sound over ready = record {
   chain = λ told. tt;
@@ -45,9 +45,9 @@ worked_none {classes} s a whole sound over ready = record {
   };
 }
 
-module _ {classes : ℕ} (old mid : Kept) (a b : disk.State) (jobs : List Request) (replies : List Reply)
+module _ {classes : ℕ} (old mid : StoreValue) (a b : disk.State) (jobs : List Request) (replies : List Reply)
     (states : List State) (ran : HasWorked classes old mid jobs replies states a b)
-    (r : Request) (new : Kept) (d : disk.State) where
+    (r : Request) (new : StoreValue) (d : disk.State) where
   abbrev k : ℕ
   k = old.in_use.block.k
 
@@ -84,7 +84,8 @@ module _ {classes : ℕ} (old mid : Kept) (a b : disk.State) (jobs : List Reques
   numbered_low : IsTrue a.tells → (image : List ℕ) → IsServingImage classes mid r b.file image
       → HasSequenceUpTo most image
   numbered_low told image is =
-      sequence_wider (s.sequence + (served_at mid b.file r).saves.most) most image (saves_low told) is.sequence
+      sequence_wider (s.sequence + (served_at mid b.file r).saves.most) most image
+      (saves_low told) is.sequence
 
   -- ---- a job that was done
 

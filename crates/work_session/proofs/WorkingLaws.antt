@@ -2,8 +2,8 @@
 use Rattle.std.specs.Prelude.{◌≡◌, ℕ, ◌+◌, ◌≤◌, List, [], ◌∷◌, ◌++◌, length, Ok, Err, IsTrue, refl}
 use Rattle.std.proofs.Common.{arith, ap, sym, ◌∙◌, subst, append_assoc, length-append}
 use Rattle.disk_face.specs.States as disk
-use Rattle.store_terms.specs.Requests.{Request}
-use Rattle.store_core.specs.Connection.{IsConnected, Kept, state_of}
+use Rattle.map_model.specs.Requests.{Request}
+use Rattle.store_core.specs.Connection.{IsConnected, StoreValue, state_of}
 use Rattle.store_core.specs.Opened.{IsFresh}
 use Rattle.ask_text.specs.declared.reply.Reply as text
 use Rattle.ask_session.specs.declared.ends.End.{End}
@@ -14,7 +14,7 @@ use Rattle.work_session.specs.declared.tally.Tally.{Tally}
 use Rattle.work_session.proofs.LedgerLaws.{full_row, ledger_more, ledger_none, tally_few, tally_more, tally_read}
 use Rattle.work_session.proofs.WorkLaws.{work_stopped, worked_more, worked_none}
 
-pub working_none : {classes : ℕ} (s : Kept) (all : List Request) (a : disk.State) → IsFresh classes s
+pub working_none : {classes : ℕ} (s : StoreValue) (all : List Request) (a : disk.State) → IsFresh classes s
     → IsConnected classes s a → IsTrue a.is_ready → IsWorking classes s s all all a a no_tally
 working_none {classes} s all a fresh over ready = record {
   jobs = [];
@@ -28,7 +28,7 @@ working_none {classes} s all a fresh over ready = record {
   ledger = ledger_none s a fresh;
 }
 
-module _ {classes : ℕ} (old mid new : Kept) (all left : List Request) (r : Request) (a b d : disk.State)
+module _ {classes : ℕ} (old mid new : StoreValue) (all left : List Request) (r : Request) (a b d : disk.State)
     (t : Tally) (x : IsWorking classes old mid all (r ∷ left) a b t) where
   -- so many jobs are done at most
   pub few_jobs : length x.jobs + 1 ≤ length all
@@ -62,7 +62,7 @@ module _ {classes : ℕ} (old mid new : Kept) (all left : List Request) (r : Req
       (ap is_disk does.only) all left x.split
 
 -- the same jobs are left
-pub as_left : {classes : ℕ} {old new : Kept} {all xs ys : List Request} {a d : disk.State} {t : Tally}
+pub as_left : {classes : ℕ} {old new : StoreValue} {all xs ys : List Request} {a d : disk.State} {t : Tally}
     → IsWorking classes old new all xs a d t → xs ≡ ys → IsWorking classes old new all ys a d t
 as_left {classes} {old} {new} {all} {xs} {ys} {a} {d} {t} w same =
     subst (λ (rs : List Request). IsWorking classes old new all rs a d t) same w

@@ -2,8 +2,8 @@
 use Rattle.std.specs.Prelude.{ℕ, ◌+◌, ◌-◌, ◌*◌, List, [], ◌∷◌, length, slice_index}
 use Rattle.std.specs.FinMap as fin
 use Rattle.slot_pair.specs.Saves.{save_calls}
-use Rattle.store_terms.specs.Requests as ask
-use Rattle.store_terms.specs.Requests.{Reply, Request}
+use Rattle.map_model.specs.Requests as ask
+use Rattle.map_model.specs.Requests.{Reply, Request}
 use Rattle.cost_laws.specs.Asked.{asked_row}
 use Rattle.store_core.specs.Quiet.{quiet_calls}
 use Rattle.store_core.specs.States.{State}

@@ -3,16 +3,16 @@ use Rattle.std.specs.Prelude.{◌≡◌, ℕ, ◌+◌, ◌*◌, ◌%◌, ◌<◌
 use Rattle.disk_face.specs.States as disk
 use Rattle.size_class.specs.Classes.{width}
 use Rattle.size_class.specs.declared.TheConstants.{SIZE_MAX}
-use Rattle.store_terms.specs.Requests as ask
-use Rattle.store_terms.specs.Requests.{Request}
-use Rattle.spot_terms.specs.Limits.{most_bytes}
+use Rattle.map_model.specs.Requests as ask
+use Rattle.map_model.specs.Requests.{Request}
+use Rattle.placement_model.specs.Limits.{most_bytes}
 use Rattle.flush_run.specs.Calls.{move_calls, risen}
 use Rattle.move_cost.specs.Costs.{IsCost, potential}
-use Rattle.store_core.specs.Connection.{Kept, state_of}
+use Rattle.store_core.specs.Connection.{StoreValue, state_of}
 use Rattle.store_core.specs.States.{State}
 use Rattle.store_core.specs.Stores.{IsStore}
 use Rattle.store_costs.specs.Paid.{HasOpenLedger, HasPaid}
-use Rattle.ask_text.specs.Replies.{head_of}
+use Rattle.ask_text.specs.Replies.{reply_line_of}
 use Rattle.ask_text.specs.declared.reply.Reply.{Reply}
 use Rattle.ask_text.specs.declared.reply.Reply.TheVariants as head
 use Rattle.ask_session.specs.declared.ends.End.{End}
@@ -56,7 +56,7 @@ read_head _ = 0
 
 -- What a job that was done adds to the ledger, on any disk; and on one that tells its content what it asks
 -- for, and the calls that it makes.
-pub record Charges (classes : ℕ) (r : Request) (old new : Kept) (before now : disk.State) : Type 0 where
+pub record Charges (classes : ℕ) (r : Request) (old new : StoreValue) (before now : disk.State) : Type 0 where
   pub moved_few : (d : ℕ) → slice_index new.moved d ≤ slice_index old.moved d + most_rise
   pub asked_few : (d : ℕ) → slice_index new.asked d ≤ slice_index old.asked d + most_rise
   pub later : HasOpenLedger new → (d : ℕ) → slice_index old.moved d ≤ slice_index new.moved d
@@ -69,11 +69,12 @@ pub record Charges (classes : ℕ) (r : Request) (old new : Kept) (before now : 
       + move_calls (risen old.moved new.moved)
 
 -- What a job does, and how the reply to it begins.
-pub record Does (classes : ℕ) (r : Request) (old new : Kept) (before now : disk.State)
+pub record Does (classes : ℕ) (r : Request) (old new : StoreValue) (before now : disk.State)
     (result : Result Reply End) : Type 0 where
   pub serves : Serves classes r old new before now result
   pub sound : OnOk result (IsStore classes new)
-  pub replied : IsTrue before.tells → IfOk result (λ reply. reply ≡ head_of (reply_at old before.file r))
+  pub replied : IsTrue before.tells → IfOk result (λ reply. reply
+      ≡ reply_line_of (reply_at old before.file r))
   pub small : IfOk result (λ reply. read_head reply ≤ most_read)
   pub charges : length old.asked ≡ width → OnOk result (Charges classes r old new before now)
   pub only : IfErr result (λ end. end ≡ ends.Disk)
@@ -111,7 +112,7 @@ pub record HasTally (t : Tally) (requests : ℕ) (x : Summary) : Type 0 where
 
 -- The ledger after so many jobs of a store that was opened. What they asked for and how many calls they made
 -- is said of a disk that tells its content.
-pub record HasLedger (classes : ℕ) (old new : Kept) (jobs : List Request) (replies : List ask.Reply)
+pub record HasLedger (classes : ℕ) (old new : StoreValue) (jobs : List Request) (replies : List ask.Reply)
     (states : List State) (before now : disk.State) : Type 0 where
   pub moved_few : (d : ℕ) → slice_index new.moved d ≤ length jobs * most_rise
   pub asked_few : (d : ℕ) → slice_index new.asked d ≤ length jobs * most_rise
@@ -123,7 +124,7 @@ pub record HasLedger (classes : ℕ) (old new : Kept) (jobs : List Request) (rep
       ≤ before.turn + calls_in (state_of old before.file) jobs replies states + move_calls new.moved
 
 -- Of a list of jobs the first were done, and counted.
-pub record IsWorking (classes : ℕ) (old new : Kept) (all left : List Request) (before now : disk.State)
+pub record IsWorking (classes : ℕ) (old new : StoreValue) (all left : List Request) (before now : disk.State)
     (t : Tally) : Type 0 where
   pub jobs : List Request
   pub replies : List ask.Reply

@@ -7,15 +7,15 @@ use Rattle.disk_face.specs.States as disk
 use Rattle.disk_face.specs.Moments.{Leaves}
 use Rattle.disk_face.specs.Writes.{KeepsDisk}
 use Rattle.size_class.specs.declared.TheConstants.{SIZE_MAX}
-use Rattle.store_terms.specs.Maps.{volume}
-use Rattle.store_terms.specs.Requests.{Reply, Request}
+use Rattle.map_model.specs.Maps.{volume}
+use Rattle.map_model.specs.Requests.{Reply, Request}
 use Rattle.segment_layout.specs.Books.{book_end}
 use Rattle.extent_table.specs.Extents.{volume_of}
 use Rattle.segment_layout.specs.Bounds.{Loose}
 use Rattle.table_rules.specs.Opening.{Opens}
 use Rattle.table_rules.specs.Sequences.{HasSequenceUpTo}
 use Rattle.move_cost.specs.Costs.{factor, flat, linear, potential, seek, weigh}
-use Rattle.store_core.specs.Connection.{IsConnected, Kept, RestsOnTable, base_of, limits_of, state_of}
+use Rattle.store_core.specs.Connection.{IsConnected, StoreValue, RestsOnTable, base_of, limits_of, state_of}
 use Rattle.store_core.specs.States.{Chain, Limits, State, served}
 use Rattle.store_core.specs.Stores.{IsStore}
 use Rattle.ask_session.specs.Runs.{IsRunImage, OpensToKept, last_state, most_sequence}
@@ -28,7 +28,7 @@ use Rattle.work_session.specs.Counts.{asked_in, calls_in, kept_of, ok_of, read_o
 -- Jobs were done one after another by a store, which is another then: the states after them are a chain of
 -- steps. What a crash may leave meanwhile was left in one of them, where the disk rested on the checkpoint's
 -- table; it does so again; and its sequence is at most the greatest that requests leave.
-pub record HasWorked (classes : ℕ) (old new : Kept) (jobs : List Request) (replies : List Reply)
+pub record HasWorked (classes : ℕ) (old new : StoreValue) (jobs : List Request) (replies : List Reply)
     (states : List State) (before now : disk.State) : Type 0 where
   pub chain : IsTrue before.tells
       → Chain (limits_of old) (state_of old before.file) jobs replies states
@@ -71,7 +71,7 @@ pub record CountsOf (k : ℕ) (replies : List Reply) (s : State) (x : Summary) :
   pub long : x.length ≡ book_end k s.book
 
 -- whatever the disk tells, these numbers are those of the store at the end
-pub record EndsAt (s : Kept) (x : Summary) : Type 0 where
+pub record EndsAt (s : StoreValue) (x : Summary) : Type 0 where
   pub names : x.names ≡ fin.len s.now
   pub bytes : x.bytes ≡ volume_of s.now
   pub long : x.length ≡ book_end s.in_use.block.k s.book
@@ -103,10 +103,10 @@ pub record ArePaidLines (classes k : ℕ) (grid : List (List ℕ)) (x : Summary)
 -- last checkpoint, and so does what a crash leaves. The changing calls are at most those of the jobs, and of
 -- the bytes that were moved: one for each least size of an object of its class, and one for each 65,536
 -- bytes.
-pub record HasDone (classes : ℕ) (old : Kept) (jobs : List Request) (before now : disk.State)
+pub record HasDone (classes : ℕ) (old : StoreValue) (jobs : List Request) (before now : disk.State)
     (x : Summary) : Type 0
   where
-    pub new : Kept
+    pub new : StoreValue
     pub replies : List Reply
     pub states : List State
     pub ran : HasWorked classes old new jobs replies states before now
@@ -130,7 +130,7 @@ pub record HasDone (classes : ℕ) (old : Kept) (jobs : List Request) (before no
 
 -- The disk failed in a job, and those before it were done. What a crash may leave was left in a step of
 -- those, or in the job that failed; and its sequence is at most the greatest that requests leave.
-pub record HasStopped (classes : ℕ) (old : Kept) (jobs : List Request)
+pub record HasStopped (classes : ℕ) (old : StoreValue) (jobs : List Request)
     (before now : disk.State) : Type 0 where
   pub done : List Request
   pub next : Request

@@ -1,6 +1,6 @@
 //! What the answers of a store are counted as.
 ghost use Rattle.std.specs.Prelude.{◌≡◌};
-ghost use Rattle.ask_session.specs.Heads.{answer_change, answer_of};
+ghost use Rattle.ask_session.specs.ReplyLines.{answer_change, answer_of};
 
 use ask_session::End;
 use ask_text::{Reply, Word5};

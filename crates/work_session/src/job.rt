@@ -3,7 +3,7 @@ ghost use Rattle.std.specs.Prelude.{◌≡◌, ◌≤◌, ◌^◌, ◌<◌, ℕ,
 ghost use Rattle.store_core.specs.Connection.{IsConnected};
 ghost use Rattle.store_core.specs.Quiet.{del_of, put_of};
 ghost use Rattle.store_core.specs.Stores.{IsStore};
-ghost use Rattle.store_terms.specs.Requests as ask;
+ghost use Rattle.map_model.specs.Requests as ask;
 ghost use Rattle.work_maker.specs.Jobs.{counting_bytes};
 ghost use Rattle.work_maker.specs.Making.{asked_by};
 ghost use Rattle.work_session.specs.Jobs.{Does, IsPattern, IsShort};

@@ -1,9 +1,9 @@
 use Rattle.std.proofs.Common.{sym, subst}
 use Rattle.std.specs.Prelude.{Result}
-use Rattle.store_terms.specs.Requests as ask
+use Rattle.map_model.specs.Requests as ask
 use Rattle.ask_text.specs.declared.reply.Reply.{Reply}
 use Rattle.ask_session.specs.declared.ends.End.{End}
-use Rattle.ask_session.specs.Heads.{Answers}
+use Rattle.ask_session.specs.ReplyLines.{Answers}
 use Rattle.ask_session.proofs.AnswerLaws.{keep_answers}
 use Rattle.ask_session.proofs.changes.serve_keep.Goals as goal
 

@@ -1,10 +1,10 @@
 use Rattle.std.proofs.Common.{sym, subst}
 use Rattle.std.specs.Prelude.{Result}
 use Rattle.store_core.specs.Quiet.{put_of}
-use Rattle.store_terms.specs.Requests as ask
+use Rattle.map_model.specs.Requests as ask
 use Rattle.ask_text.specs.declared.reply.Reply.{Reply}
 use Rattle.ask_session.specs.declared.ends.End.{End}
-use Rattle.ask_session.specs.Heads.{Answers}
+use Rattle.ask_session.specs.ReplyLines.{Answers}
 use Rattle.ask_session.proofs.AnswerLaws.{change_answers}
 use Rattle.ask_session.proofs.changes.serve_put.Goals as goal
 

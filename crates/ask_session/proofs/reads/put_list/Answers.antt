@@ -1,5 +1,5 @@
 use Rattle.std.proofs.Common.{refl, None}
-use Rattle.store_terms.specs.Requests as ask
+use Rattle.map_model.specs.Requests as ask
 use Rattle.ask_session.proofs.AnswerLaws.{none_is, refused_is}
 use Rattle.ask_session.proofs.PutLaws.{puts_sink}
 use Rattle.ask_session.proofs.reads.put_list.Goals as goal

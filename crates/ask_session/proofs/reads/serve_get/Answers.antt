@@ -1,8 +1,8 @@
 use Rattle.std.proofs.Common.{sym, subst, refl}
 use Rattle.std.specs.FinMap as fin
-use Rattle.store_terms.specs.Requests as ask
+use Rattle.map_model.specs.Requests as ask
 use Rattle.store_core.specs.Answers.{refused_by, size_at}
-use Rattle.store_core.specs.Connection.{Kept, state_of}
+use Rattle.store_core.specs.Connection.{StoreValue, state_of}
 use Rattle.store_core.specs.States.{object_in}
 use Rattle.ask_session.specs.Serving.{Replies}
 use Rattle.ask_session.proofs.ReadReplyLaws.{cut_replies, found_replies, get_long, get_served, number_refused, number_served, refused_replies}
@@ -23,7 +23,7 @@ returns-in-Ok-say g c =
     } in
     let served = (number_served (refused_by s (ask.get name)) (size_at (fin.get s.now name)) c.in-Ok.size
     c.in-Ok.ensures).0 in
-    subst (λ (x : Kept). Replies g.row.C (ask.get name) s x a (g.D.Disk.state c.give.new.disk)
+    subst (λ (x : StoreValue). Replies g.row.C (ask.get name) s x a (g.D.Disk.state c.give.new.disk)
     (g.O.Sink.state c.args.output.now) (g.O.Sink.state c.give.new.output) c.give.result)
     (sym c.give.ensures.store)
     (found_replies (ask.get name) s a h (object_in (state_of s a.file).map name) c.in-Ok.size refl

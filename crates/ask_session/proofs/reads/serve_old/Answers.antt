@@ -1,8 +1,8 @@
 use Rattle.std.proofs.Common.{sym, subst, refl}
 use Rattle.std.specs.FinMap as fin
-use Rattle.store_terms.specs.Requests as ask
+use Rattle.map_model.specs.Requests as ask
 use Rattle.store_core.specs.Answers.{refused_by, size_at}
-use Rattle.store_core.specs.Connection.{Kept, state_of}
+use Rattle.store_core.specs.Connection.{StoreValue, state_of}
 use Rattle.store_core.specs.States.{object_in}
 use Rattle.ask_session.specs.Serving.{Replies}
 use Rattle.ask_session.proofs.ReadReplyLaws.{cut_replies, found_replies, old_long, old_served, number_refused, number_served, refused_replies}
@@ -23,7 +23,7 @@ returns-in-Ok-say g c =
     } in
     let served = (number_served (refused_by s (ask.old name)) (size_at (fin.get s.kept name)) c.in-Ok.size
     c.in-Ok.ensures).0 in
-    subst (λ (x : Kept). Replies g.row.C (ask.old name) s x a (g.D.Disk.state c.give_old.new.disk)
+    subst (λ (x : StoreValue). Replies g.row.C (ask.old name) s x a (g.D.Disk.state c.give_old.new.disk)
     (g.O.Sink.state c.args.output.now) (g.O.Sink.state c.give_old.new.output) c.give_old.result)
     (sym c.give_old.ensures.store)
     (found_replies (ask.old name) s a h (object_in (state_of s a.file).kept name) c.in-Ok.size refl

@@ -11,7 +11,8 @@ returns-in_default-clause-read g c =
     let none : size_asked c.in_ok-ask.ask ≡ None = grind arith in
     read_bare (IsTrue (g.I.Source.state c.args.input.now).tells) (c.args.ahead.now
     ++ (g.I.Source.state c.args.input.now).left)
-    (c.read_first.new.ahead ++ (g.I.Source.state c.read_first.new.input).left) c.args.body.now.items c.in_ok-ask.ask
+    (c.read_first.new.ahead
+    ++ (g.I.Source.state c.read_first.new.input).left) c.args.body.now.items c.in_ok-ask.ask
     c.in_ok-ask.ensures.ask none c.in_ok-ask.ensures.line
 
 pub returns-in-Ok-clause-read : goal.returns-in-Ok-clause-read

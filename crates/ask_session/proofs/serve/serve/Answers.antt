@@ -1,7 +1,7 @@
 use Rattle.std.proofs.Common.{◌≡◌, List, ℕ, ap, sym, subst, ◌∙◌}
 use Rattle.store_core.specs.Quiet.{del_of, put_of}
-use Rattle.store_terms.specs.Requests.{Request}
-use Rattle.store_terms.specs.Requests as request
+use Rattle.map_model.specs.Requests.{Request}
+use Rattle.map_model.specs.Requests as request
 use Rattle.ask_session.specs.Serving.{Replies}
 use Rattle.ask_session.proofs.KindLaws.{back_is, del_is, keep_is, put_is, stat_is}
 use Rattle.ask_session.proofs.ReplyLaws.{answers_replies}

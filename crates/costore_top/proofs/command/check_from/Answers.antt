@@ -1,7 +1,7 @@
 use Rattle.std.proofs.Common.{arith, refl}
 use Rattle.std.proofs.lemmas.Grind.{common_steps}
 use Rattle.costore_top.specs.Texts.{IsChecked}
-use Rattle.costore_top.specs.declared.stop.Stop.TheVariants as stop
+use Rattle.costore_top.specs.declared.stop.StopReason.TheVariants as stop
 use Rattle.costore_top.proofs.AnswerLaws.{stopped}
 use Rattle.costore_top.proofs.command.check_from.Goals as goal
 

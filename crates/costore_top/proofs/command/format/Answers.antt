@@ -5,7 +5,7 @@ use Rattle.disk_face.specs.Counts.{counted}
 use Rattle.disk_face.specs.Moments.{Rests}
 use Rattle.slot_pair.specs.Formats.{HasFirstTable, formatted_file}
 use Rattle.costore_top.specs.Commands.{IsDone, IsFormatted}
-use Rattle.costore_top.specs.declared.stop.Stop.TheVariants as stop
+use Rattle.costore_top.specs.declared.stop.StopReason.TheVariants as stop
 use Rattle.costore_top.specs.Outcomes.{format_answer}
 use Rattle.costore_top.proofs.AnswerLaws.{stopped}
 use Rattle.costore_top.proofs.Formatting.{formats_later, formats_now, formatted_now, untouched}

@@ -2,7 +2,7 @@ use Rattle.std.proofs.Common.{◌≡◌, ◌⊎◌, ◌∙◌, true, ap, sym, su
 use Rattle.std.specs.Prelude.{IsTrue}
 use Rattle.costore_top.specs.Commands.{IsMounted}
 use Rattle.costore_top.specs.Getting.{IsRefused}
-use Rattle.costore_top.specs.Headline.{HasMounted, IsKeptTurn, RunsAs, is_session}
+use Rattle.costore_top.specs.Headline.{HasMounted, IsKeptTurn, RunHolds, is_session}
 use Rattle.costore_top.specs.Outcomes.{status_at}
 use Rattle.costore_top.specs.Sessions.{HasCounted, IsUnserved}
 use Rattle.costore_top.specs.Words.{run}
@@ -22,7 +22,7 @@ returns-clause-headline g c = λ told source t m b requests end o asks.
     let w = whole g.B.Disk.state g.I.Source.state g.O.Sink.state c.args.file.now c.args.bay.now
     c.serve_file-ended.new.bay c.args.input.now c.serve_file-ended.new.input c.args.output.now
     c.serve_file-ended.new.output e c.serve_file-ended.ensures in
-    subst (λ n. RunsAs t.chosen.block t m b requests end (record {
+    subst (λ n. RunHolds t.chosen.block t m b requests end (record {
       status = n;
       done = e.done;
       kept_done = e.kept_done;

@@ -4,7 +4,7 @@ use Rattle.costore_top.specs.Commands.{Formats, IsMounted}
 use Rattle.costore_top.specs.Outcomes.{IsAnswer, makes, mounts, reads, serves, status_at}
 use Rattle.costore_top.proofs.Formatting.{disk_by, formats_by, plain_status}
 use Rattle.costore_top.specs.Words.{format, run, texts, work}
-use Rattle.costore_top.specs.Working.{WorksFrom, WorksSo}
+use Rattle.costore_top.specs.Working.{WorkPromise, WorkAlways}
 use Rattle.costore_top.proofs.OtherLaws.{no_other, not_none, not_other, not_run, same_numbers, served, session_not_one, working_not_one, working_plain}
 use Rattle.costore_top.proofs.WordLists.{means_one}
 use Rattle.costore_top.proofs.Statuses.{ended, line_after_none, line_unless}
@@ -251,8 +251,8 @@ returns-in-Some-Work-clause-works g c =
     let new = g.B.Disk.state c.work_file.new.bay in
     let out = g.O.Sink.state c.args.output.now in
     let after = g.O.Sink.state c.work_file.new.output in
-    subst (λ n. WorksFrom n count c.work_file.result.status old new out after) same.0
-    (subst (λ n. WorksFrom c.in-Some-Work.number n c.work_file.result.status old new out after) same.1
+    subst (λ n. WorkPromise n count c.work_file.result.status old new out after) same.0
+    (subst (λ n. WorkPromise c.in-Some-Work.number n c.work_file.result.status old new out after) same.1
     (c.work_file.ensures.works told))
 
 pub returns-in-Some-Work-clause-keeps_working : goal.returns-in-Some-Work-clause-keeps_working
@@ -262,6 +262,6 @@ returns-in-Some-Work-clause-keeps_working g c =
     let same = same_numbers c.in-Some-Work.file.now file c.in-Some-Work.number c.in-Some-Work.count number
     count
     (texts c.args.words.now) asked means in
-    subst (λ n. WorksSo n c.work_file.result.status (g.B.Disk.state c.args.bay.now)
+    subst (λ n. WorkAlways n c.work_file.result.status (g.B.Disk.state c.args.bay.now)
     (g.B.Disk.state c.work_file.new.bay) (g.O.Sink.state c.args.output.now)
     (g.O.Sink.state c.work_file.new.output)) same.1 c.work_file.ensures.keeps

@@ -3,7 +3,7 @@ use Rattle.std.proofs.lemmas.Grind.{common_steps}
 -- What was read is the one command that the words mean.
 use Rattle.costore_top.specs.Words.{command_of, format, texts}
 use Rattle.costore_top.specs.Commands.{IsMounted}
-use Rattle.costore_top.specs.declared.stop.Stop.TheVariants as stop
+use Rattle.costore_top.specs.declared.stop.StopReason.TheVariants as stop
 use Rattle.costore_top.specs.Layers.{Answers}
 use Rattle.costore_top.specs.Outcomes.{IsAnswer, mounts}
 use Rattle.costore_top.proofs.WordLists.{means_one}

@@ -4,7 +4,7 @@ use Rattle.costore_top.specs.Commands.{IsMounted}
 use Rattle.costore_top.specs.Getting.{IsRefused}
 use Rattle.costore_top.specs.Outcomes.{status_at}
 use Rattle.costore_top.specs.Words.{work}
-use Rattle.costore_top.specs.Working.{WorksAs, WorksSo}
+use Rattle.costore_top.specs.Working.{WorkHolds, WorkAlways}
 use Rattle.costore_top.specs.declared.top.Outcome.{Outcome}
 use Rattle.costore_top.proofs.DidLaws.{ends_by_line, keeps_line, line_only, refused_did, summary_of, whole}
 use Rattle.costore_top.proofs.RefusalLaws.{never_did}
@@ -20,7 +20,7 @@ returns-clause-works g c = λ told t m b opens.
     let after = g.O.Sink.state c.finish.new.output in
     let status : c.finish.result.status ≡ status_at c.work_over-end.result =
     ap (λ (x : Outcome). x.status) c.finish.ensures.status in
-    subst (λ n. WorksAs t.chosen.block t m b c.args.number c.args.count n old new out after) (sym status)
+    subst (λ n. WorkHolds t.chosen.block t m b c.args.number c.args.count n old new out after) (sym status)
     (works t m b old (g.met.B.Disk.lawful c.args.bay.now) told opens g.B.Disk.state c.args.number
     c.args.count new out put after
     (work c.args.file.now c.args.number c.args.count) c.work_over-end.result c.work_over-end.ensures
@@ -67,7 +67,7 @@ returns-clause-keeps g c =
     c.finish.ensures.status in
     let w = whole g.B.Disk.state c.args.file.now c.args.number c.args.count old new out put end
     c.work_over-end.ensures in
-    subst (λ n. WorksSo c.args.count n old new out after) (sym status) (record {
+    subst (λ n. WorkAlways c.args.count n old new out after) (sym status) (record {
       known = w.known;
       keeps = keeps_line old new out put after end w.keeps c.finish.ensures.later c.finish.ensures.calm
           c.finish.ensures.told;

@@ -8,12 +8,12 @@ use Rattle.segment_layout.specs.Shapes.{start_of}
 use Rattle.segment_layout.specs.Layouts.{caps_of, divisor_of}
 use Rattle.segment_layout.specs.declared.layout.Layout.{Layout}
 use Rattle.segment_layout.proofs.LayoutLaws.{layout_shape}
-use Rattle.plan_terms.specs.declared.item.Item.{Item}
-use Rattle.plan_terms.specs.Plans.{AreBelow, class_total, segments_length}
-use Rattle.plan_terms.specs.Resumed.{numbers_again}
-use Rattle.plan_terms.proofs.ResumedLaws.{end_fits_again, length_again, totals_again}
-use Rattle.plan_terms.proofs.SortLaws.{laid_length_permuted}
-use Rattle.plan_terms.proofs.SumLaws.{same_numbers}
+use Rattle.flush_model.specs.declared.item.Item.{Item}
+use Rattle.flush_model.specs.Plans.{AreBelow, class_total, segments_length}
+use Rattle.flush_model.specs.Resumed.{numbers_again}
+use Rattle.flush_model.proofs.ResumedLaws.{end_fits_again, length_again, totals_again}
+use Rattle.flush_model.proofs.SortLaws.{laid_length_permuted}
+use Rattle.flush_model.proofs.SumLaws.{same_numbers}
 use Rattle.flush_plan.specs.Packs.{CanGoOn}
 use Rattle.flush_plan.specs.Shelves.{from_place, IsOnShelf}
 use Rattle.flush_plan.proofs.ShelfLaws.{among_items, below_on_shelf, class_on_shelf}

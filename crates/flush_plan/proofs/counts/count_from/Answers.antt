@@ -9,13 +9,13 @@ use Rattle.segment_layout.specs.Shapes.{end_of, start_of}
 use Rattle.segment_layout.specs.Layouts.{divisor_of, caps_of}
 use Rattle.segment_layout.specs.declared.layout.Layout.{Layout}
 use Rattle.segment_layout.proofs.LayoutLaws.{layout_shape}
-use Rattle.plan_terms.specs.declared.item.Item.{Item}
-use Rattle.plan_terms.specs.Phases.{CanFlush}
-use Rattle.plan_terms.specs.Plans.{class_total, largest_of, object_of, stands_in_payload, weight}
-use Rattle.plan_terms.proofs.BoundLaws.{class_small, end_small, flush_below, weight_fits}
-use Rattle.plan_terms.proofs.NumbersLaws.{item_ends}
-use Rattle.plan_terms.proofs.PlaceLaws.{start_adds}
-use Rattle.plan_terms.proofs.SumLaws.{AreSums, buffers_fit, payload_fits, stands_is, sums_fit, sums_more, sums_whole}
+use Rattle.flush_model.specs.declared.item.Item.{Item}
+use Rattle.flush_model.specs.Phases.{CanFlush}
+use Rattle.flush_model.specs.Plans.{class_total, largest_of, object_of, stands_in_payload, weight}
+use Rattle.flush_model.proofs.BoundLaws.{class_small, end_small, flush_below, weight_fits}
+use Rattle.flush_model.proofs.NumbersLaws.{item_ends}
+use Rattle.flush_model.proofs.PlaceLaws.{start_adds}
+use Rattle.flush_model.proofs.SumLaws.{AreSums, buffers_fit, payload_fits, stands_is, sums_fit, sums_more, sums_whole}
 use Rattle.flush_plan.specs.Counts.{IsCount}
 use Rattle.flush_plan.specs.Shelves.{from_place, IsRank}
 use Rattle.flush_plan.proofs.ShelfLaws.{from_at, from_length, got_has}

@@ -2,7 +2,7 @@ use Rattle.std.proofs.Common.{◌-◌, ◌≤◌}
 use Rattle.size_class.specs.Rows.{cells_of}
 use Rattle.segment_layout.specs.Shapes.{start_of}
 use Rattle.segment_layout.specs.Layouts.{divisor_of, caps_of}
-use Rattle.plan_terms.proofs.SumLaws.{AreSums}
+use Rattle.flush_model.proofs.SumLaws.{AreSums}
 use Rattle.flush_plan.specs.Shelves.{from_place}
 use Rattle.flush_plan.proofs.counts.count_from.Given as goal
 

@@ -8,14 +8,14 @@ use Rattle.segment_layout.specs.Shapes.{end_of, start_of}
 use Rattle.segment_layout.specs.Layouts.{divisor_of, caps_of}
 use Rattle.segment_layout.specs.declared.layout.Layout.{Layout}
 use Rattle.segment_layout.proofs.LayoutLaws.{layout_shape}
-use Rattle.plan_terms.specs.Phases.{CanFlush}
-use Rattle.plan_terms.specs.declared.item.Item.{Item}
-use Rattle.plan_terms.specs.declared.item.Numbers.{Numbers}
-use Rattle.plan_terms.specs.Plans.{class_total, laid_length, numbers_of, object_of, segments_length, stands_in_payload, total}
-use Rattle.plan_terms.proofs.BoundLaws.{end_small, wall_small, reach_small}
-use Rattle.plan_terms.proofs.ItemLaws.{total_is}
-use Rattle.plan_terms.proofs.NumbersLaws.{reach_is, wall_over_new_end}
-use Rattle.plan_terms.proofs.SumLaws.{laid_from_row, same_numbers}
+use Rattle.flush_model.specs.Phases.{CanFlush}
+use Rattle.flush_model.specs.declared.item.Item.{Item}
+use Rattle.flush_model.specs.declared.item.Numbers.{Numbers}
+use Rattle.flush_model.specs.Plans.{class_total, laid_length, numbers_of, object_of, segments_length, stands_in_payload, total}
+use Rattle.flush_model.proofs.BoundLaws.{end_small, wall_small, reach_small}
+use Rattle.flush_model.proofs.ItemLaws.{total_is}
+use Rattle.flush_model.proofs.NumbersLaws.{reach_is, wall_over_new_end}
+use Rattle.flush_model.proofs.SumLaws.{laid_from_row, same_numbers}
 use Rattle.flush_plan.specs.declared.counts.Count.{Count}
 use Rattle.flush_plan.specs.Counts.{IsCount}
 use Rattle.flush_plan.specs.Shelves.{from_place, IsOnShelf}

@@ -1,6 +1,6 @@
 use Rattle.std.proofs.Common.{arith, ap, ◌∙◌, ◌≤◌, slice_index, slice_set}
 use Rattle.size_class.specs.Classes.{zero_row}
-use Rattle.plan_terms.proofs.SumLaws.{volume_nothing, volume_one}
+use Rattle.flush_model.proofs.SumLaws.{volume_nothing, volume_one}
 use Rattle.flush_plan.proofs.counts.volume_of.Goals as goal
 
 pub returns-then-size-gt0 : goal.returns-then-size-gt0

@@ -1,6 +1,6 @@
 use Rattle.std.proofs.Common.{List}
 use Rattle.segment_layout.specs.Layouts.{caps_of, divisor_of}
-use Rattle.plan_terms.specs.declared.item.Item.{Item}
+use Rattle.flush_model.specs.declared.item.Item.{Item}
 use Rattle.flush_plan.specs.Packs.{CanGoOn, IsPackedFrom}
 use Rattle.flush_plan.proofs.pack.packed_down.Given as goal
 

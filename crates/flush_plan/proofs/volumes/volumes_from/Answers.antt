@@ -3,10 +3,10 @@ use Rattle.std.specs.Prelude.{Contains, slice_index}
 use Rattle.size_class.specs.Rows.{cells_of}
 use Rattle.size_class.specs.declared.row.Row.{Row}
 use Rattle.size_class.proofs.RowLaws.{row_shape}
-use Rattle.plan_terms.specs.declared.item.Item.{Item}
-use Rattle.plan_terms.specs.Plans.{AreBelow, class_total}
-use Rattle.plan_terms.specs.Segments.{AreVolumes}
-use Rattle.plan_terms.proofs.PlaceLaws.{volumes_all, volumes_fit, volumes_more, volumes_none}
+use Rattle.flush_model.specs.declared.item.Item.{Item}
+use Rattle.flush_model.specs.Plans.{AreBelow, class_total}
+use Rattle.flush_model.specs.Segments.{AreVolumes}
+use Rattle.flush_model.proofs.PlaceLaws.{volumes_all, volumes_fit, volumes_more, volumes_none}
 use Rattle.flush_plan.specs.Shelves.{from_place, IsRank}
 use Rattle.flush_plan.proofs.ShelfLaws.{from_at, from_length, got_has}
 use Rattle.flush_plan.proofs.volumes.volumes_from.Goals as goal

@@ -1,6 +1,6 @@
 use Rattle.std.proofs.Common.{◌-◌, ◌≤◌}
 use Rattle.size_class.specs.Rows.{cells_of}
-use Rattle.plan_terms.specs.Segments.{AreVolumes}
+use Rattle.flush_model.specs.Segments.{AreVolumes}
 use Rattle.flush_plan.specs.Shelves.{from_place}
 use Rattle.flush_plan.proofs.volumes.volumes_from.Given as goal
 

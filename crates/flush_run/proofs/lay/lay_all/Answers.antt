@@ -1,7 +1,7 @@
 use Rattle.std.proofs.Common.{arith, refl, sym, subst, ◌∙◌, ap}
-use Rattle.plan_terms.specs.Phases.{IsLaidWhole, moved_by}
+use Rattle.flush_model.specs.Phases.{IsLaidWhole, moved_by}
 use Rattle.flush_plan.specs.Lays.{KeepsLaying, Lay}
-use Rattle.flush_run.specs.Loops.{Lays, LaysPaid}
+use Rattle.flush_run.specs.Loops.{MidLay, LaysPaid}
 use Rattle.flush_run.specs.Parts.{parts_of}
 use Rattle.flush_run.proofs.LeftLaws.{left_then, left_wider, none_of, source_within, still_told, target_within, told_before}
 use Rattle.slot_codec.specs.Choice as choice
@@ -233,7 +233,7 @@ moves-smaller g c =
 
 pub returns-clause-laid : goal.returns-clause-laid
 returns-clause-laid g c f start =
-    subst (λ (v : Lay). Lays g.row.C f (parts_of c.args.hands.now).caps (parts_of c.args.hands.now).grid
+    subst (λ (v : Lay). MidLay g.row.C f (parts_of c.args.hands.now).caps (parts_of c.args.hands.now).grid
     (parts_of c.moves.hands) (phase_now v.course c.moves.hands.table) (g.D.Disk.state c.moves.disk))
     (sym (c.next.ensures.same (none_of c.next.result c.in_default.not-Some)))
     (c.moves.invariant.all f start).lays

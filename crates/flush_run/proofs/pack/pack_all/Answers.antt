@@ -1,8 +1,8 @@
 use Rattle.std.proofs.Common.{arith, refl, sym, subst, ap, ◌∙◌}
-use Rattle.plan_terms.specs.Phases.{lifted_in}
-use Rattle.plan_terms.specs.Phases.{IsPackedWhole, moved_by}
+use Rattle.flush_model.specs.Phases.{lifted_in}
+use Rattle.flush_model.specs.Phases.{IsPackedWhole, moved_by}
 use Rattle.flush_plan.specs.Packs.{KeepsPacking, Pack}
-use Rattle.flush_run.specs.Loops.{Packs, PacksPaid}
+use Rattle.flush_run.specs.Loops.{MidPack, PacksPaid}
 use Rattle.flush_run.specs.Parts.{parts_of}
 use Rattle.flush_run.proofs.LeftLaws.{left_then, left_wider, none_of, source_within, still_told, target_within, told_before}
 use Rattle.slot_codec.specs.Choice as choice
@@ -235,7 +235,7 @@ moves-smaller g c =
 
 pub returns-clause-packed : goal.returns-clause-packed
 returns-clause-packed g c f start =
-    subst (λ (v : Pack). Packs g.row.C f (parts_of c.args.hands.now).caps (parts_of c.args.hands.now).grid
+    subst (λ (v : Pack). MidPack g.row.C f (parts_of c.args.hands.now).caps (parts_of c.args.hands.now).grid
     (parts_of c.moves.hands) (phase_now v.course c.moves.hands.table) (g.D.Disk.state c.moves.disk))
     (sym (c.next.ensures.same (none_of c.next.result c.in_default.not-Some)))
     (c.moves.invariant.all f start).packs

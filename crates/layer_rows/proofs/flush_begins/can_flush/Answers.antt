@@ -1,7 +1,7 @@
 use Rattle.std.proofs.Common.{arith}
 use Rattle.size_class.proofs.RowLaws.{row_shape}
 use Rattle.segment_layout.specs.Layouts.{divisor_of, caps_of}
-use Rattle.plan_terms.specs.declared.item.Item.{Item}
+use Rattle.flush_model.specs.declared.item.Item.{Item}
 use Rattle.layer_rows.proofs.FlushBeginLaws.{can_flush_all, can_flush_more, got_front}
 use Rattle.std.proofs.lemmas.Option.{slice_get-get_or}
 use Rattle.std.specs.Prelude.{slice_index_or}

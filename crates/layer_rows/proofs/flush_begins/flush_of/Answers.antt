@@ -4,14 +4,14 @@ use Rattle.std.specs.List.Sorted.{IsNonDecreasingBy}
 use Rattle.std.proofs.lemmas.List.Sorted.{IsPermutation-refl}
 use Rattle.segment_layout.specs.Shapes.{start_of}
 use Rattle.segment_layout.specs.Layouts.{divisor_of, caps_of}
-use Rattle.plan_terms.specs.declared.item.Item.{Item}
-use Rattle.plan_terms.specs.declared.item.Numbers.{Numbers}
-use Rattle.plan_terms.specs.Begins.{Begins}
-use Rattle.plan_terms.specs.Phases.{CanFlush}
-use Rattle.plan_terms.specs.Plans.{numbers_of}
+use Rattle.flush_model.specs.declared.item.Item.{Item}
+use Rattle.flush_model.specs.declared.item.Numbers.{Numbers}
+use Rattle.flush_model.specs.Begins.{Begins}
+use Rattle.flush_model.specs.Phases.{CanFlush}
+use Rattle.flush_model.specs.Plans.{numbers_of}
 use Rattle.layer_rows.proofs.FlushBeginLaws.{begins_at_reach}
-use Rattle.plan_terms.proofs.NumbersLaws.{items_of_flush}
-use Rattle.flush_plan.specs.Shelves.{Course, IsOnShelf}
+use Rattle.flush_model.proofs.NumbersLaws.{items_of_flush}
+use Rattle.flush_plan.specs.Shelves.{PlanFrame, IsOnShelf}
 use Rattle.layer_rows.proofs.ListedLaws.{listed}
 use Rattle.layer_rows.proofs.flush_begins.flush_of.Goals as goal
 
@@ -67,7 +67,7 @@ returns-then-pending-eq0 g c =
     subst (CanFlush k caps c.args.b) c.deref.ensures.value (c.can_flush.ensures c.if-not-can_flush.false) in
     let is = c.numbers-plain.ensures xs (on k caps c.args.b xs flush c.new-shelf.ensures.rising) in record {
       items = xs;
-      divisor = ap (λ (x : Course). x.k) c.new-lifting.ensures.course;
+      divisor = ap (λ (x : PlanFrame). x.k) c.new-lifting.ensures.course;
       keeps = c.new-lifting.ensures.keeps xs xs
           (begins_plain k caps c.args.b xs flush c.numbers-plain.result is)
           (IsPermutation-refl xs);
@@ -150,7 +150,7 @@ returns g c =
     (omega (arith, c.if-pending-eq0.false)) (omega (arith, c.if-pending.false)) c.class_of-class.ensures.same
     (omega (arith, c.if-class-b.false)) other in record {
       items = all;
-      divisor = ap (λ (x : Course). x.k) c.new-lifting-2.ensures.course;
+      divisor = ap (λ (x : PlanFrame). x.k) c.new-lifting-2.ensures.course;
       keeps = c.new-lifting-2.ensures.keeps xs all begins (IsPermutation-refl all);
       same = subst (λ ys. IsPermutation ys c.new-shelf-2.result.items.items) c.push_reserved.ensures.items
           c.new-shelf-2.ensures.same;

@@ -1,5 +1,5 @@
 use Rattle.std.proofs.Common.{◌≡◌, ◌≢◌, ◌-◌, ◌<◌, ℕ, length, slice_get, Some}
-use Rattle.plan_terms.specs.declared.item.Item.{Item}
+use Rattle.flush_model.specs.declared.item.Item.{Item}
 use Rattle.layer_rows.proofs.flush_begins.lacks_key.Given as goal
 
 abbrev pub invariant-items : goal.invariant-items

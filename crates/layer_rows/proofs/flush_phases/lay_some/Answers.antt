@@ -1,9 +1,9 @@
 use Rattle.std.proofs.Common.{arith, ap, refl, sym, subst, ◌∙◌}
 use Rattle.std.proofs.lemmas.List.Sorted.{Contains-permutation}
 use Rattle.segment_layout.specs.Layouts.{divisor_of}
-use Rattle.plan_terms.specs.Plans.{mover, relocated}
-use Rattle.plan_terms.proofs.SortLaws.{items_permuted}
-use Rattle.flush_plan.specs.Shelves.{Course}
+use Rattle.flush_model.specs.Plans.{mover, relocated}
+use Rattle.flush_model.proofs.SortLaws.{items_permuted}
+use Rattle.flush_plan.specs.Shelves.{PlanFrame}
 use Rattle.layer_rows.specs.Listed.{LaysList}
 use Rattle.layer_rows.proofs.ListedLaws.{lays_on, relisted}
 use Rattle.layer_rows.proofs.flush_phases.lay_some.Goals as goal
@@ -33,7 +33,7 @@ lays-preserved g c =
     let mv = c.in-Some.mv in
     record {
       items = relocated mv.key mv.to h.items;
-      divisor = ap (λ (x : Course). x.k) c.in-Some.ensures.course ∙ h.divisor;
+      divisor = ap (λ (x : PlanFrame). x.k) c.in-Some.ensures.course ∙ h.divisor;
       keeps = c.in-Some.ensures.keeps h.items (lays_on h);
       same = relisted h.items xs c.relocate.new.self.items.items mv h.same c.relocate.ensures.same;
       rising = c.relocate.ensures.rising;

@@ -1,9 +1,9 @@
 use Rattle.std.proofs.Common.{arith, ap, refl, sym, subst, ◌∙◌}
 use Rattle.std.proofs.lemmas.List.Sorted.{Contains-permutation}
-use Rattle.plan_terms.specs.Phases.{IsLifted}
-use Rattle.plan_terms.specs.Plans.{mover, relocated}
-use Rattle.plan_terms.proofs.SortLaws.{items_permuted}
-use Rattle.flush_plan.specs.Shelves.{Course, phase_on}
+use Rattle.flush_model.specs.Phases.{IsLifted}
+use Rattle.flush_model.specs.Plans.{mover, relocated}
+use Rattle.flush_model.proofs.SortLaws.{items_permuted}
+use Rattle.flush_plan.specs.Shelves.{PlanFrame, phase_on}
 use Rattle.flush_plan.specs.Lifts.{KeepsLifting, Lift}
 use Rattle.layer_rows.proofs.ListedLaws.{lifts_on, relisted}
 use Rattle.layer_rows.proofs.flush_phases.lift_all.Goals as goal
@@ -33,7 +33,7 @@ lifts-preserved g c =
     let mv = c.in-Some.mv in
     record {
       items = relocated mv.key mv.to h.items;
-      divisor = ap (λ (x : Course). x.k) c.in-Some.ensures.course ∙ h.divisor;
+      divisor = ap (λ (x : PlanFrame). x.k) c.in-Some.ensures.course ∙ h.divisor;
       keeps = c.in-Some.ensures.keeps h.items (lifts_on h);
       same = relisted h.items xs c.relocate.new.self.items.items mv h.same c.relocate.ensures.same;
       rising = c.relocate.ensures.rising;
@@ -47,7 +47,7 @@ returns-in-None g c =
     let same = sym (c.in-None.ensures.same refl) in
     record {
       items = h.items;
-      divisor = ap (λ (x : Course). x.k) (c.into_packing.ensures.course ∙ c.in-None.ensures.course)
+      divisor = ap (λ (x : PlanFrame). x.k) (c.into_packing.ensures.course ∙ c.in-None.ensures.course)
           ∙ h.divisor;
       keeps = c.into_packing.ensures.keeps h.items (subst (λ u. KeepsLifting g.row.C u h.items) same h.keeps)
           (subst (λ (u : Lift). IsLifted (phase_on u.course h.items)) same

@@ -1,8 +1,8 @@
 use Rattle.std.proofs.Common.{arith, ap, ◌∙◌}
 use Rattle.std.proofs.lemmas.List.Sorted.{Contains-permutation}
-use Rattle.plan_terms.specs.Plans.{mover, relocated}
-use Rattle.plan_terms.proofs.SortLaws.{items_permuted}
-use Rattle.flush_plan.specs.Shelves.{Course}
+use Rattle.flush_model.specs.Plans.{mover, relocated}
+use Rattle.flush_model.proofs.SortLaws.{items_permuted}
+use Rattle.flush_plan.specs.Shelves.{PlanFrame}
 use Rattle.layer_rows.proofs.ListedLaws.{packs_on, relisted}
 use Rattle.layer_rows.proofs.flush_phases.pack_once.Goals as goal
 
@@ -35,7 +35,7 @@ returns-in-Some g c =
     let mv = c.in-Some.mv in
     record {
       items = relocated mv.key mv.to h.items;
-      divisor = ap (λ (x : Course). x.k) c.in-Some.ensures.course ∙ h.divisor;
+      divisor = ap (λ (x : PlanFrame). x.k) c.in-Some.ensures.course ∙ h.divisor;
       keeps = c.in-Some.ensures.keeps h.items (packs_on h);
       same = relisted h.items xs c.relocate.new.self.items.items mv h.same c.relocate.ensures.same;
       rising = c.relocate.ensures.rising;

@@ -2,19 +2,19 @@ use Rattle.std.proofs.Common.{arith, ap, subst, sym, ◌∙◌, ◌≡◌, ℕ, 
 use Rattle.std.specs.List.Sorted.{IsNonDecreasingBy}
 use Rattle.segment_layout.specs.Layouts.{caps_of, divisor_of}
 use Rattle.segment_layout.specs.Shapes.{start_of}
-use Rattle.plan_terms.specs.declared.item.Item.{Item}
-use Rattle.plan_terms.specs.declared.item.Numbers.{Numbers}
-use Rattle.plan_terms.specs.Plans.{AreBelow, AreSmall}
-use Rattle.plan_terms.specs.Phases.{IsPacking}
-use Rattle.plan_terms.specs.Resumed.{numbers_again}
+use Rattle.flush_model.specs.declared.item.Item.{Item}
+use Rattle.flush_model.specs.declared.item.Numbers.{Numbers}
+use Rattle.flush_model.specs.Plans.{AreBelow, AreSmall}
+use Rattle.flush_model.specs.Phases.{IsPacking}
+use Rattle.flush_model.specs.Resumed.{numbers_again}
 use Rattle.flush_plan.specs.Packs.{CanGoOn}
-use Rattle.flush_plan.specs.Shelves.{Course, phase_on}
+use Rattle.flush_plan.specs.Shelves.{PlanFrame, phase_on}
 use Rattle.layer_rows.proofs.ListedLaws.{listed}
 use Rattle.flush_plan.proofs.PackGoesLaws.{can_go_on}
 use Rattle.layer_rows.proofs.flush_resumes.resumed.Goals as goal
 
 -- the objects of the list are those that Pack can go on with
-again : (C k : ℕ) (caps : List ℕ) (n : Numbers) (xs : List Item) (h : (v : Course) × (v.k ≡ k)
+again : (C k : ℕ) (caps : List ℕ) (n : Numbers) (xs : List Item) (h : (v : PlanFrame) × (v.k ≡ k)
     × (v.numbers ≡ n) × (items : List Item) × IsPacking (phase_on v items) × AreBelow C items
     × AreSmall v.numbers items × IsPermutation items xs × IsNonDecreasingBy (λ (it : Item). it.place) xs)
     → n.start ≡ start_of k caps n.boundary
@@ -22,7 +22,8 @@ again : (C k : ℕ) (caps : List ℕ) (n : Numbers) (xs : List Item) (h : (v : C
 again C k caps n xs h start =
     let v = h.0 in
     let items = h.3 in
-    subst (λ (m : Numbers). CanGoOn C k caps (numbers_again k caps m.boundary m.wall m.slack items) items xs) h.2
+    subst (λ (m : Numbers). CanGoOn C k caps
+    (numbers_again k caps m.boundary m.wall m.slack items) items xs) h.2
     (can_go_on C k caps v items xs h.4 h.5 h.6 (listed v.numbers items xs h.4.items h.7 h.8) h.1
     (subst (λ (m : Numbers). m.start ≡ start_of k caps m.boundary) (sym h.2) start))
 
@@ -82,7 +83,7 @@ returns g c =
     let found = c.numbers_again-again.ensures h.3 can.on in
     record {
       items = h.3;
-      divisor = ap (λ (x : Course). x.k) c.resume.ensures.course;
+      divisor = ap (λ (x : PlanFrame). x.k) c.resume.ensures.course;
       keeps = c.resume.ensures.keeps h.3 (subst (λ m. CanGoOn g.row.C k caps m h.3 xs) (sym found) can);
       same = h.7;
       rising = h.8;

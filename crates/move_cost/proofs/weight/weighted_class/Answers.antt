@@ -13,6 +13,7 @@ overflow_mul-result-2 g c =
       arith,
       part_high g.row.C
           (g.T.CostTable.cost_of c.args.table.now) c.args.c c.from.result c.from-cost.result _
-          (g.met.T.CostTable.is_cost c.args.table.now) c.requires.class c.requires.fits (omega arith) (omega arith)
+          (g.met.T.CostTable.is_cost c.args.table.now) c.requires.class c.requires.fits (omega arith)
+          (omega arith)
           (unit_is (g.row.C - 1 - c.args.c) (omega (arith, c.requires.fits))),
     )

@@ -8,14 +8,17 @@ use Rattle.plain_layout.proofs.record_list.+add_records.Goals as goal
 pub returns-in-Err-clause-refused : goal.returns-in-Err-clause-refused
 returns-in-Err-clause-refused t c =
     let some : 0 < c.args.count = omega (arith, c.if-count-eq0.false) in
-    let said : Err c.in-Err.fault ≡ record_after (take record_len c.args.text.now) c.args.before.now = search rules in
-    read_step-bad c.args.count c.args.text.now c.args.at c.args.before.now (slot.Codec c.in-Err.fault c.args.at)
+    let said : Err c.in-Err.fault
+    ≡ record_after (take record_len c.args.text.now) c.args.before.now = search rules in
+    read_step-bad c.args.count c.args.text.now c.args.at c.args.before.now
+    (slot.Codec c.in-Err.fault c.args.at)
     some (next_refused c.args.text.now c.args.at c.args.before.now c.in-Err.fault said)
 
 pub returns-clause-read : goal.returns-clause-read
 returns-clause-read t c =
     let some : 0 < c.args.count = omega (arith, c.if-count-eq0.false) in
-    let said : Ok c.in-Ok.record ≡ record_after (take record_len c.args.text.now) c.args.before.now = search rules in
+    let said : Ok c.in-Ok.record
+    ≡ record_after (take record_len c.args.text.now) c.args.before.now = search rules in
     let first = next_read c.args.text.now c.args.at c.args.before.now c.in-Ok.record said in
     let pushed : c.push.new.self.items ≡ c.args.records.now.items
     ++ (c.in-Ok.record ∷ []) = grind (
@@ -32,7 +35,8 @@ returns-clause-read t c =
 pub returns-clause-refused : goal.returns-clause-refused
 returns-clause-refused t c =
     let some : 0 < c.args.count = omega (arith, c.if-count-eq0.false) in
-    let said : Ok c.in-Ok.record ≡ record_after (take record_len c.args.text.now) c.args.before.now = search rules in
+    let said : Ok c.in-Ok.record
+    ≡ record_after (take record_len c.args.text.now) c.args.before.now = search rules in
     let first = next_read c.args.text.now c.args.at c.args.before.now c.in-Ok.record said in
     on_err c.add_records.result _ _ (λ why h.
     refused_more c.args.count c.args.text.now c.args.at c.args.before.now c.in-Ok.record

@@ -1,5 +1,5 @@
 use Rattle.std.proofs.Common.{◌∙◌, sym, arith, refl}
-use Rattle.spot_terms.proofs.OrderLaws.{behind_all}
+use Rattle.placement_model.proofs.OrderLaws.{behind_all}
 use Rattle.reopen.proofs.RecordLaws.{rises_after, through_more, through_refused}
 use Rattle.reopen.proofs.records.set_records.Goals as goal
 

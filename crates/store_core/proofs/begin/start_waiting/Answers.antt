@@ -1,11 +1,11 @@
 use Rattle.std.specs.Prelude.{IsPermutation, Some}
 use Rattle.std.proofs.Common.{◌∙◌, ◌-◌, ap, arith, lit<, refl, subst, sym}
 use Rattle.segment_layout.specs.Layouts.{caps_of, divisor_of}
-use Rattle.plan_terms.specs.Begins.{Begins, with_pending}
+use Rattle.flush_model.specs.Begins.{Begins, with_pending}
 use Rattle.flush_run.specs.Hands.{suffix_items}
 use Rattle.flush_run.specs.Shelved.{items_now, phase_now}
-use Rattle.flush_start.specs.Starts.{IsWith}
-use Rattle.flush_start.proofs.ChargedLaws.{class_low}
+use Rattle.change_charges.specs.Starts.{IsWith}
+use Rattle.change_charges.proofs.ChargedLaws.{class_low}
 use Rattle.flush_plan.specs.Shelves.{course_of}
 use Rattle.size_class.specs.declared.TheConstants.{SIZE_MAX}
 use Rattle.store_core.proofs.BeginLaws.{items_waiting, start_flush, start_holds, start_low, start_on_shelf, start_reach, start_waits}

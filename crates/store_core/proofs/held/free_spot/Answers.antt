@@ -1,6 +1,6 @@
 use Rattle.std.proofs.Common.{◌∙◌, ap, sym, refl, Some}
 use Rattle.extent_table.specs.declared.spot.Spot.{Spot}
-use Rattle.spot_terms.proofs.FreedLaws.{frees_joined}
+use Rattle.placement_model.proofs.FreedLaws.{frees_joined}
 use Rattle.store_core.proofs.HeldLaws.{same_spot}
 use Rattle.store_core.proofs.held.free_spot.Goals as goal
 

@@ -5,7 +5,7 @@ use Rattle.slot_codec.specs.Spelling.{head_len}
 use Rattle.slot_codec.specs.declared.codec.SuperBlock.{SuperBlock}
 use Rattle.segment_layout.specs.Layouts.{caps_of, grid_of}
 use Rattle.table_rules.specs.Rules.{IsValid}
-use Rattle.spot_terms.specs.Laid.{settled_table}
+use Rattle.placement_model.specs.Laid.{settled_table}
 use Rattle.store_core.proofs.laws.store_of.Goals as goal
 
 pub store_with-requires : goal.store_with-requires

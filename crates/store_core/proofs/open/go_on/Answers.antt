@@ -54,7 +54,8 @@ store_with-requires g c =
         lit< tt,
         makes_store c.args.found r.loads r.moving r.fits r.wide (parts_of c.hands_of-hands.result) starts
             _ packs (g.D.Disk.state c.args.disk.now) (g.D.Disk.state c.resume.new.disk) r.from
-            c.resume.new.hands c.resume.ensures.left c.resume.ensures.made c.resume.ensures.few c.resume.ensures.saves
+            c.resume.new.hands c.resume.ensures.left c.resume.ensures.made c.resume.ensures.few
+            c.resume.ensures.saves
             c.in-Ok.ensures.ends c.in-Ok.ensures.one,
       ),
     )
@@ -71,7 +72,8 @@ returns-in-Ok g c =
     c.phase_again-phase.ensures.again in
     subst (λ s. IsOpening g.row.C a d (Ok s)) (sym c.store_with.ensures)
     (again_done c.args.found r.loads r.moving r.fits r.wide (parts_of c.hands_of-hands.result) starts _ packs
-    a d r.from c.resume.new.hands c.resume.ensures.left c.resume.ensures.made c.resume.ensures.few c.resume.ensures.saves
+    a d r.from c.resume.new.hands c.resume.ensures.left c.resume.ensures.made c.resume.ensures.few
+    c.resume.ensures.saves
     c.in-Ok.ensures.ends c.in-Ok.ensures.one _ c.in-Ok.ensures.calls c.in-Ok.ensures.cause)
 
 pub returns-in-Err : goal.returns-in-Err
@@ -84,4 +86,5 @@ returns-in-Err g c =
     c.phase_again-phase.ensures.again in
     again_failed c.args.found r.loads r.moving r.fits r.wide (parts_of c.hands_of-hands.result) starts _ packs
     (g.D.Disk.state c.args.disk.now) (g.D.Disk.state c.resume.new.disk) r.from c.resume.new.hands
-    c.resume.ensures.left c.resume.ensures.made c.resume.ensures.few c.resume.ensures.saves c.in-Err.field-0 c.in-Err.ensures.cause
+    c.resume.ensures.left c.resume.ensures.made c.resume.ensures.few c.resume.ensures.saves c.in-Err.field-0
+    c.in-Err.ensures.cause

@@ -2,10 +2,10 @@ use Rattle.std.proofs.Common.{ap, lit<, refl, subst, sym, ◌∙◌}
 use Rattle.std.specs.Prelude.{ℕ, ◌<◌, IsPermutation}
 use Rattle.std.proofs.lemmas.List.Sorted.{IsPermutation-refl}
 use Rattle.segment_layout.specs.Layouts.{caps_of, divisor_of}
-use Rattle.plan_terms.specs.Phases.{phase_of}
+use Rattle.flush_model.specs.Phases.{phase_of}
 use Rattle.flush_run.specs.Hands.{suffix_items}
 use Rattle.flush_plan.specs.Packs.{KeepsPacking}
-use Rattle.flush_plan.specs.Shelves.{Course, course_of}
+use Rattle.flush_plan.specs.Shelves.{PlanFrame, course_of}
 use Rattle.store_core.proofs.MovingLaws.{can_go_on, front}
 use Rattle.store_core.proofs.open.phase_again.Goals as goal
 
@@ -58,9 +58,9 @@ returns-clause-again g c =
     let course = c.resume.ensures.course ∙ ap (λ n. course_of k caps n 0) found in
     let now = suffix_items c.resume.result.course.numbers.boundary x.table in
     record {
-      value = ap (λ (q : Course). phase_of q.k q.caps q.numbers q.pending now) course;
+      value = ap (λ (q : PlanFrame). phase_of q.k q.caps q.numbers q.pending now) course;
       items = subst (λ (b : ℕ). IsPermutation items (suffix_items b x.table))
-          (sym (ap (λ (q : Course). q.numbers.boundary) course)) (IsPermutation-refl items);
+          (sym (ap (λ (q : PlanFrame). q.numbers.boundary) course)) (IsPermutation-refl items);
     }
 
 pub returns-clause-keeps : goal.returns-clause-keeps
@@ -74,4 +74,4 @@ returns-clause-keeps g c =
     let found = c.numbers_again-numbers.ensures items (can _ refl).on in
     let course = c.resume.ensures.course ∙ ap (λ n. course_of k caps n 0) found in
     subst (λ (b : ℕ). KeepsPacking g.row.C c.resume.result (suffix_items b x.table))
-    (sym (ap (λ (q : Course). q.numbers.boundary) course)) (c.resume.ensures.keeps items (can _ found))
+    (sym (ap (λ (q : PlanFrame). q.numbers.boundary) course)) (c.resume.ensures.keeps items (can _ found))

@@ -1,7 +1,7 @@
 use Rattle.std.proofs.Common.{ap, arith, sym, subst}
 use Rattle.std.specs.Prelude.{Err, Ok, Result}
-use Rattle.store_terms.specs.Requests as ask
-use Rattle.store_core.specs.Connection.{Kept}
+use Rattle.map_model.specs.Requests as ask
+use Rattle.store_core.specs.Connection.{StoreValue}
 use Rattle.ask_text.specs.declared.reply.Reply.{Reply}
 use Rattle.ask_text.specs.declared.reply.Reply.TheVariants as head
 use Rattle.ask_session.specs.declared.ends.End.{End}
@@ -10,7 +10,7 @@ use Rattle.work_session.proofs.DoesLaws.{get_gives, get_stops}
 use Rattle.work_session.proofs.job.read.Goals as goal
 
 pub returns-in-Ok : goal.returns-in-Ok
-returns-in-Ok g c = subst (λ (x : Kept). Does g.row.C (ask.get c.args.name.now) c.args.store.now x
+returns-in-Ok g c = subst (λ (x : StoreValue). Does g.row.C (ask.get c.args.name.now) c.args.store.now x
     (g.D.Disk.state c.args.disk.now) (g.D.Disk.state c.get.new.disk) (Ok (head.Data c.in-Ok.size)))
     (sym c.in-Ok.ensures.store)
     (get_gives c.args.store.now (g.D.Disk.state c.args.disk.now)
@@ -25,7 +25,7 @@ returns-in-Ok g c = subst (λ (x : Kept). Does g.row.C (ask.get c.args.name.now)
     c.in-Ok.ensures.frame c.in-Ok.size c.in-Ok.ensures.answer)
 
 pub returns-in-Err : goal.returns-in-Err
-returns-in-Err g c = subst (λ (x : Kept). Does g.row.C (ask.get c.args.name.now) c.args.store.now x
+returns-in-Err g c = subst (λ (x : StoreValue). Does g.row.C (ask.get c.args.name.now) c.args.store.now x
     (g.D.Disk.state c.args.disk.now) (g.D.Disk.state c.get.new.disk) c.answer_of.result)
     (sym c.in-Err.ensures.store)
     (subst (λ (x : Result Reply End). Does g.row.C (ask.get c.args.name.now) c.args.store.now c.args.store.now

@@ -1,7 +1,7 @@
 use Rattle.std.proofs.Common.{arith, ap, sym, subst, length, ◌∙◌}
 use Rattle.std.proofs.lemmas.Grind.{common_steps}
 use Rattle.std.specs.Prelude.{List, [], ℕ}
-use Rattle.store_terms.specs.Requests.{Request}
+use Rattle.map_model.specs.Requests.{Request}
 use Rattle.work_maker.specs.Jobs.{jobs}
 use Rattle.work_session.specs.Jobs.{HasTally, IsPattern, IsWorking}
 use Rattle.work_session.proofs.WholeLaws.{has_done, jobs_long}

@@ -6,7 +6,8 @@ use Rattle.bench.proofs.opening.file.saved.Goals as goal
 
 -- src/file.rt:73:5
 pub save-requires-clause-records : goal.save-requires-clause-records
-save-requires-clause-records g c = c.a_table_can_be_saved.ensures.ranges c.args.table.now c.count.ensures.table
+save-requires-clause-records g c = c.a_table_can_be_saved.ensures.ranges c.args.table.now
+    c.count.ensures.table
 
 -- src/file.rt:73:5
 pub save-requires-clause-count : goal.save-requires-clause-count

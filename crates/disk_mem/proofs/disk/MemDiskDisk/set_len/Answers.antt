@@ -2,7 +2,7 @@ use Rattle.std.proofs.Common.{◌≡◌, ◌≤◌, ◌∙◌, ap, sym, subst, a
 use Rattle.disk_face.specs.Counts.{last}
 use Rattle.disk_face.specs.Moments.{Follows, Elapses, ResizedImage}
 use Rattle.disk_mem.specs.Entries.{newest_first}
-use Rattle.disk_mem.specs.Changes.Change.{Sized}
+use Rattle.disk_mem.specs.Changes.RecordedCall.{Sized}
 use Rattle.disk_mem.specs.Histories.{History, EndedBy, MayLeave, done, undone, history_state}
 use Rattle.disk_mem.proofs.HistoryLaws.{Elapses_done, Elapses_undone, Follows_length}
 use Rattle.disk_mem.proofs.Steps.{holds_done, holds_undone}

@@ -2,7 +2,7 @@ use Rattle.std.proofs.Common.{refl, ◌≡◌, ◌≤◌, ap, sym, subst, arith,
 use Rattle.disk_face.specs.Counts.{last}
 use Rattle.disk_face.specs.Moments.{NoMore, Only, Elapses}
 use Rattle.disk_mem.specs.Entries.{newest_first}
-use Rattle.disk_mem.specs.Changes.Change.{Synced}
+use Rattle.disk_mem.specs.Changes.RecordedCall.{Synced}
 use Rattle.disk_mem.specs.Histories.{History, EndedBy, file_of, MayLeave, done, undone, history_state}
 use Rattle.disk_mem.proofs.HistoryLaws.{Elapses_done, Elapses_undone, NoMore_sync, Only_sync}
 use Rattle.disk_mem.proofs.Steps.{holds_done, holds_undone}

@@ -3,7 +3,7 @@ use Rattle.disk_face.specs.Counts.{last}
 use Rattle.disk_face.specs.Moments.{Follows, Elapses}
 use Rattle.byte_ranges.specs.Ranges.{SameOutside}
 use Rattle.disk_mem.specs.Entries.{newest_first}
-use Rattle.disk_mem.specs.Changes.Change.{Wrote}
+use Rattle.disk_mem.specs.Changes.RecordedCall.{Wrote}
 use Rattle.disk_mem.specs.Histories.{History, EndedBy, MayLeave, done, undone, history_state}
 use Rattle.disk_mem.proofs.HistoryLaws.{Elapses_done, Elapses_undone, Follows_write}
 use Rattle.disk_mem.proofs.Steps.{holds_done, holds_undone, changed_within}

@@ -1,6 +1,6 @@
 use Rattle.std.proofs.Common.{sym, subst, inl, inr}
 use Rattle.std.proofs.lemmas.Bool.{cases_lt, le-leb, leb-true}
-use Rattle.plan_terms.specs.Phases.{IsLaidWhole}
+use Rattle.flush_model.specs.Phases.{IsLaidWhole}
 use Rattle.flush_plan.specs.Shelves.{phase_on}
 use Rattle.flush_plan.specs.Lays.{KeepsLaying, Lay}
 use Rattle.flush_plan.proofs.LayGoesLaws.{lay_ended, lay_waits}

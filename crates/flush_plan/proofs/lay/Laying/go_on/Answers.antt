@@ -1,6 +1,6 @@
 use Rattle.std.proofs.Common.{arith, sym, subst, ◌<◌, ◌+◌}
 use Rattle.size_class.specs.Rows.{cells_of}
-use Rattle.plan_terms.specs.Plans.{relocated}
+use Rattle.flush_model.specs.Plans.{relocated}
 use Rattle.flush_plan.specs.Shelves.{course_of, IsFirstOf}
 use Rattle.flush_plan.specs.Lays.{KeepsLaying, Lay}
 use Rattle.flush_plan.proofs.LayGoesLaws.{lay_at, lay_ends_low}

@@ -1,6 +1,6 @@
 use Rattle.std.proofs.Common.{sym, subst}
 use Rattle.size_class.proofs.RowLaws.{row_shape}
-use Rattle.plan_terms.specs.Phases.{IsLaidWhole}
+use Rattle.flush_model.specs.Phases.{IsLaidWhole}
 use Rattle.flush_plan.specs.Shelves.{phase_on}
 use Rattle.flush_plan.specs.Lays.{KeepsLaying, Lay}
 use Rattle.flush_plan.proofs.SettleLaws.{lay_settles}

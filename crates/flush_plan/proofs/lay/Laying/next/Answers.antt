@@ -1,6 +1,6 @@
 use Rattle.std.proofs.Common.{arith, sym, subst, refl}
-use Rattle.plan_terms.specs.Phases.{IsLaidWhole}
-use Rattle.plan_terms.specs.Steps.{IsLayStep}
+use Rattle.flush_model.specs.Phases.{IsLaidWhole}
+use Rattle.flush_model.specs.Steps.{IsLayStep}
 use Rattle.flush_plan.specs.Shelves.{IsFirstOf, phase_on}
 use Rattle.flush_plan.specs.Lays.{KeepsLaying, Lay}
 use Rattle.flush_plan.proofs.LayGoesLaws.{lay_ended, lay_is_step}

@@ -2,9 +2,9 @@ use Rattle.std.proofs.Common.{arith, sym, ap, subst, ◌∙◌, ◌≡◌, ◌+�
 use Rattle.std.specs.Prelude.{Contains, ◌^◌}
 use Rattle.size_class.specs.Rows.{cells_of}
 use Rattle.segment_layout.specs.Shapes.{start_of}
-use Rattle.plan_terms.specs.declared.item.Item.{Item}
-use Rattle.plan_terms.specs.Segments.{AreStarts}
-use Rattle.plan_terms.specs.Plans.{stands_in_payload}
+use Rattle.flush_model.specs.declared.item.Item.{Item}
+use Rattle.flush_model.specs.Segments.{AreStarts}
+use Rattle.flush_model.specs.Plans.{stands_in_payload}
 use Rattle.flush_plan.specs.declared.lift.Lifting.TheInside.{Inside}
 use Rattle.flush_plan.specs.Lifts.{ArePassed, Lift, Lifts}
 use Rattle.flush_plan.specs.Shelves.{course_of, IsRank}

@@ -1,5 +1,5 @@
 use Rattle.std.proofs.Common.{◌-◌, ◌≤◌, List}
-use Rattle.plan_terms.specs.declared.item.Item.{Item}
+use Rattle.flush_model.specs.declared.item.Item.{Item}
 use Rattle.flush_plan.specs.Lifts.{ArePassed, Lifts}
 use Rattle.flush_plan.proofs.lift.Lifting.first_unlifted.Given as goal
 

@@ -1,7 +1,7 @@
 use Rattle.std.proofs.Common.{sym, subst}
 use Rattle.size_class.specs.Rows.{cells_of}
-use Rattle.plan_terms.specs.Phases.{IsLifted}
-use Rattle.plan_terms.proofs.PhaseLaws.{lift_pays}
+use Rattle.flush_model.specs.Phases.{IsLifted}
+use Rattle.flush_model.proofs.PhaseLaws.{lift_pays}
 use Rattle.flush_plan.specs.Lifts.{KeepsLifting, Lift}
 use Rattle.flush_plan.specs.Shelves.{course_of, phase_on}
 use Rattle.flush_plan.proofs.LiftGoesLaws.{lift_at}

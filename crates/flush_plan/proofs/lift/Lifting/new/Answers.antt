@@ -5,23 +5,23 @@ use Rattle.size_class.proofs.RowLaws.{row_shape}
 use Rattle.segment_layout.specs.Layouts.{divisor_of, caps_of}
 use Rattle.segment_layout.specs.declared.layout.Layout.{Layout}
 use Rattle.segment_layout.proofs.LayoutLaws.{layout_shape}
-use Rattle.plan_terms.specs.declared.item.Item.{Item}
-use Rattle.plan_terms.specs.declared.item.Numbers.{Numbers}
-use Rattle.plan_terms.specs.Begins.{Begins, pending_size, with_pending}
-use Rattle.plan_terms.specs.Phases.{lifted_in}
-use Rattle.plan_terms.proofs.BoundLaws.{end_small}
+use Rattle.flush_model.specs.declared.item.Item.{Item}
+use Rattle.flush_model.specs.declared.item.Numbers.{Numbers}
+use Rattle.flush_model.specs.Begins.{Begins, pending_size, with_pending}
+use Rattle.flush_model.specs.Phases.{lifted_in}
+use Rattle.flush_model.proofs.BoundLaws.{end_small}
 use Rattle.flush_plan.specs.Lifts.{KeepsLifting}
-use Rattle.flush_plan.specs.Shelves.{Course, course_of, phase_on}
+use Rattle.flush_plan.specs.Shelves.{PlanFrame, course_of, phase_on}
 use Rattle.flush_plan.proofs.LiftGoesLaws.{lift_at, lift_begins, lift_begins_with_none}
 use Rattle.flush_plan.proofs.lift.Lifting.new.Goals as goal
 
 module _ {C : ℕ} (layout : Layout C) (n : Numbers) (pending : Option Item) (fits : C ≤ 32)
-    (boundary : n.boundary < C) (class : IfSome pending (λ it. it.class < C)) (course : Course)
+    (boundary : n.boundary < C) (class : IfSome pending (λ it. it.class < C)) (course : PlanFrame)
     (is : course ≡ course_of (divisor_of layout) (caps_of layout) n (pending_size pending))
     (items all : List Item) (begins : Begins (divisor_of layout) (caps_of layout) n items pending)
     (same : IsPermutation (with_pending items pending) all) where
   keeps : KeepsLifting C (lift_at course n.start n.wall) all
-  keeps = subst (λ (x : Course). KeepsLifting C (lift_at x n.start n.wall) all) (sym is)
+  keeps = subst (λ (x : PlanFrame). KeepsLifting C (lift_at x n.start n.wall) all) (sym is)
       (lift_begins C (divisor_of layout) (caps_of layout) n items pending all fits boundary
       (layout_shape layout).k_low (row_shape layout.caps)
       (end_small (divisor_of layout) (caps_of layout) (layout_shape layout).caps_high
@@ -29,7 +29,7 @@ module _ {C : ℕ} (layout : Layout C) (n : Numbers) (pending : Option Item) (fi
       class begins same)
 
   none : (c : ℕ) → lifted_in (phase_on course all) c ≡ 0
-  none c = subst (λ (x : Course). lifted_in (phase_on x all) c ≡ 0) (sym is)
+  none c = subst (λ (x : PlanFrame). lifted_in (phase_on x all) c ≡ 0) (sym is)
       (lift_begins_with_none C (divisor_of layout) (caps_of layout) n items pending all fits boundary
       (layout_shape layout).k_low (row_shape layout.caps)
       (end_small (divisor_of layout) (caps_of layout) (layout_shape layout).caps_high

@@ -1,9 +1,9 @@
 use Rattle.std.proofs.Common.{arith, sym, subst, ◌≡◌, ◌+◌, ◌<◌, ◌^◌, ℕ, List}
 use Rattle.size_class.specs.Rows.{cells_of}
-use Rattle.plan_terms.specs.declared.item.Item.{Item}
-use Rattle.plan_terms.specs.declared.item.Move.{Move}
-use Rattle.plan_terms.specs.Plans.{relocated}
-use Rattle.plan_terms.specs.Steps.{IsLiftStep}
+use Rattle.flush_model.specs.declared.item.Item.{Item}
+use Rattle.flush_model.specs.declared.item.Move.{Move}
+use Rattle.flush_model.specs.Plans.{relocated}
+use Rattle.flush_model.specs.Steps.{IsLiftStep}
 use Rattle.flush_plan.specs.declared.lift.Lifting.TheInside.{Inside}
 use Rattle.flush_plan.specs.Lifts.{IsFirstUnlifted, KeepsLifting, Lift}
 use Rattle.flush_plan.specs.Shelves.{course_of, phase_on}

@@ -1,5 +1,5 @@
 use Rattle.std.proofs.Common.{sym, subst}
-use Rattle.plan_terms.specs.Phases.{IsPackedWhole}
+use Rattle.flush_model.specs.Phases.{IsPackedWhole}
 use Rattle.flush_plan.specs.Packs.{Pack, Packs}
 use Rattle.flush_plan.specs.Shelves.{phase_on}
 use Rattle.flush_plan.proofs.EndLaws.{end_decided}

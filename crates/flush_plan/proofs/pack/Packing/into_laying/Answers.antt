@@ -1,7 +1,7 @@
 use Rattle.std.proofs.Common.{arith, sym, subst}
 use Rattle.size_class.proofs.RowLaws.{row_shape}
 use Rattle.size_class.specs.Rows.{cells_of}
-use Rattle.plan_terms.specs.Phases.{IsPackedWhole}
+use Rattle.flush_model.specs.Phases.{IsPackedWhole}
 use Rattle.flush_plan.specs.Shelves.{phase_on}
 use Rattle.flush_plan.specs.Packs.{Pack, Packs}
 use Rattle.flush_plan.proofs.LayRowLaws.{begins_by_rows, places_fit, shelf_below, shelf_totals}

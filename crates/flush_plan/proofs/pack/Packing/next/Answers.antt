@@ -1,10 +1,10 @@
 use Rattle.std.proofs.Common.{sym, ap, subst, true, false, refl}
 use Rattle.std.specs.Prelude.{ℕ, ◌-◌, is_some}
 use Rattle.std.proofs.lemmas.Bool.{both_ways}
-use Rattle.plan_terms.specs.declared.item.Item.{Item}
-use Rattle.plan_terms.specs.declared.item.Move.{Move}
-use Rattle.plan_terms.specs.Phases.{IsPackedWhole}
-use Rattle.plan_terms.specs.Steps.{IsPackStep}
+use Rattle.flush_model.specs.declared.item.Item.{Item}
+use Rattle.flush_model.specs.declared.item.Move.{Move}
+use Rattle.flush_model.specs.Phases.{IsPackedWhole}
+use Rattle.flush_model.specs.Steps.{IsPackStep}
 use Rattle.flush_plan.specs.Shelves.{phase_on}
 use Rattle.flush_plan.specs.Packs.{Pack, Packs}
 use Rattle.flush_plan.proofs.PackGoesLaws.{ends_on_shelf, fits_on_shelf, keeps_on_shelf, move_of, step_on_shelf, waits_on_shelf}

@@ -1,5 +1,5 @@
 use Rattle.std.proofs.Common.{◌≡◌, ◌-◌, ◌<◌, ◌≤◌, ℕ, length, Some, slice_get}
-use Rattle.plan_terms.specs.declared.item.Item.{Item}
+use Rattle.flush_model.specs.declared.item.Item.{Item}
 use Rattle.layer_rows.proofs.list_shelf.ListShelf.rank.Given as goal
 
 abbrev pub invariant-objects : goal.invariant-objects

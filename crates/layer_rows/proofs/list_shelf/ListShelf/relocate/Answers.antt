@@ -1,9 +1,9 @@
 use Rattle.std.proofs.Common.{arith, rules, sym, subst, ◌≡◌, IsPermutation, Some, slice_get}
 use Rattle.std.proofs.lemmas.List.Sorted.{IsNonDecreasingBy-from_sort_by_key}
 use Rattle.std.proofs.lemmas.Option.{get_or_from_slice_get, slice_get_within}
-use Rattle.plan_terms.specs.declared.item.Item.{Item}
-use Rattle.plan_terms.specs.Plans.{mover}
-use Rattle.plan_terms.proofs.ItemLaws.{moved_at}
+use Rattle.flush_model.specs.declared.item.Item.{Item}
+use Rattle.flush_model.specs.Plans.{mover}
+use Rattle.flush_model.proofs.ItemLaws.{moved_at}
 use Rattle.layer_rows.proofs.ListedLaws.{at_rank, is_shelf}
 use Rattle.layer_rows.proofs.list_shelf.ListShelf.relocate.Goals as goal
 

@@ -33,11 +33,13 @@ returns c =
     let caps = c.args.caps in
     let records = c.args.self.now.records.items in
     let volumes = volumes_of_sizes (sizes records) in
-    let b : c.table_boundary-boundary.result ≡ table_boundary (placed c.args.self.now) = c.table_boundary-boundary.ensures in
+    let b : c.table_boundary-boundary.result ≡ table_boundary
+    (placed c.args.self.now) = c.table_boundary-boundary.ensures in
     let e : c.classes.c ≡ 32 = omega arith in
     let long = length-volumes_of_sizes (sizes records) in
     let taken = subst (λ b. TakenUpTo b 32 caps volumes c.classes.caps) b
-    (subst (λ n. TakenUpTo c.table_boundary-boundary.result n caps volumes c.classes.caps) e c.classes.invariant) in
+    (subst (λ n. TakenUpTo c.table_boundary-boundary.result n caps volumes c.classes.caps) e
+    c.classes.invariant) in
     taken_all 32 (table_boundary (placed c.args.self.now)) caps volumes c.classes.caps
     (record { full = omega arith; zero_above = λ d h. get_or_past caps d 0 (omega arith) })
     (record { full = long; zero_above = λ d h. get_or_past volumes d 0 (omega (arith, long)) })

@@ -30,12 +30,12 @@ returns-in-Ok-clause-quiet g c none quiet =
     se.quiet quiet
 
 pub returns-in-Ok-clause-flush : goal.returns-in-Ok-clause-flush
-returns-in-Ok-clause-flush g c none loud =
+returns-in-Ok-clause-flush g c none needs_flush =
     let same = (accepted _ _ _ c.in-Ok.ensures.answer).1 in
     let se = subst (λ (n : List ℕ). ServesChange g.row.C (del_of n) c.args.self.now c.del_accepted.new.self
     (g.D.Disk.state c.args.disk.now) (g.D.Disk.state c.del_accepted.new.disk) c.del_accepted.result) same
     c.del_accepted.ensures in
-    se.flush loud
+    se.flush needs_flush
 
 pub returns-in-Ok-clause-step : goal.returns-in-Ok-clause-step
 returns-in-Ok-clause-step g c whole told =
@@ -58,7 +58,8 @@ pub returns-in-Err-clause-quiet : goal.returns-in-Err-clause-quiet
 returns-in-Err-clause-quiet g c none quiet = not_none _ _ (unaccepted _ _ _ c.in-Err.ensures.answer) none
 
 pub returns-in-Err-clause-flush : goal.returns-in-Err-clause-flush
-returns-in-Err-clause-flush g c none loud = not_none _ _ (unaccepted _ _ _ c.in-Err.ensures.answer) none
+returns-in-Err-clause-flush g c none needs_flush = not_none _ _
+    (unaccepted _ _ _ c.in-Err.ensures.answer) none
 
 pub returns-in-Err-clause-step : goal.returns-in-Err-clause-step
 returns-in-Err-clause-step g c whole told = refused_change_step c.args.self.now

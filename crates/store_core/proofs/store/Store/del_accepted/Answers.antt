@@ -26,6 +26,6 @@ returns-in-Some g c =
     (search rules) (search rules)
 
 pub returns-in-None : goal.returns-in-None
-returns-in-None g c = serves_flushed (c.in-None.ensures.loud refl) c.del_flushed.ensures.answer
+returns-in-None g c = serves_flushed (c.in-None.ensures.needs_flush refl) c.del_flushed.ensures.answer
     c.del_flushed.ensures.flush c.del_flushed.ensures.step c.del_flushed.ensures.over
     c.del_flushed.ensures.broken

@@ -3,7 +3,7 @@ use Rattle.std.specs.FinMap as fin
 use Rattle.size_class.specs.Rows.{cells_of}
 use Rattle.segment_layout.specs.Layouts.{grid_of}
 use Rattle.extent_table.specs.Extents.{Spots}
-use Rattle.spot_terms.specs.Held.{FreesSpot}
+use Rattle.placement_model.specs.Held.{FreesSpot}
 use Rattle.store_core.specs.Stores.{AreInRange}
 use Rattle.store_core.proofs.ChangeLaws.{can_free, place_ends, store_freed, store_put}
 use Rattle.store_core.proofs.EndLaws.{end_low}

@@ -1,5 +1,5 @@
 use Rattle.std.proofs.Common.{Err, refl, arith}
-use Rattle.store_terms.specs.Requests as ask
+use Rattle.map_model.specs.Requests as ask
 use Rattle.store_core.specs.Connection.{base_of, state_of}
 use Rattle.store_core.specs.States.{object_in}
 use Rattle.store_core.proofs.StepLaws.{read_step}

@@ -3,8 +3,8 @@ use Rattle.std.specs.FinMap as fin
 use Rattle.size_class.specs.Rows.{cells_of}
 use Rattle.segment_layout.specs.Layouts.{grid_of}
 use Rattle.extent_table.specs.Extents.{Spots}
-use Rattle.spot_terms.specs.Held.{FreesSpot}
-use Rattle.spot_terms.proofs.FreedLaws.{freed_gone}
+use Rattle.placement_model.specs.Held.{FreesSpot}
+use Rattle.placement_model.proofs.FreedLaws.{freed_gone}
 use Rattle.store_core.specs.Stores.{AreInRange}
 use Rattle.store_core.proofs.ChangeLaws.{can_free, store_gone}
 use Rattle.store_core.proofs.InsideLaws.{changed_whole, opened}

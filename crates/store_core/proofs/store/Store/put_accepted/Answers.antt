@@ -8,6 +8,6 @@ returns-in-Some g c = serves_quietly (c.in-Some.ensures.quiet refl) c.put_planne
     c.put_planned.ensures.broken
 
 pub returns-in-None : goal.returns-in-None
-returns-in-None g c = serves_flushed (c.in-None.ensures.loud refl) c.put_flushed.ensures.answer
+returns-in-None g c = serves_flushed (c.in-None.ensures.needs_flush refl) c.put_flushed.ensures.answer
     c.put_flushed.ensures.flush c.put_flushed.ensures.step c.put_flushed.ensures.over
     c.put_flushed.ensures.broken

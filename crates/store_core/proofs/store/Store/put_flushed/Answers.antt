@@ -2,14 +2,14 @@ use Rattle.std.specs.Prelude.{◌≡◌, ◌⊎◌, ◌<◌, IsSome, IsTrue, Non
 use Rattle.std.proofs.Common.{◌∙◌, ap, arith, inl, inr, lit<, subst, sym}
 use Rattle.std.specs.FinMap as fin
 use Rattle.segment_layout.specs.Books.{is_quiet}
-use Rattle.flush_run.specs.Parts.{Parts, parts_of}
+use Rattle.flush_run.specs.Parts.{HandsValue, parts_of}
 use Rattle.flush_run.specs.Shelved.{phase_now}
-use Rattle.store_terms.specs.Requests as ask
-use Rattle.store_core.specs.Connection.{IsOver, Kept}
+use Rattle.map_model.specs.Requests as ask
+use Rattle.store_core.specs.Connection.{IsOver, StoreValue}
 use Rattle.store_core.specs.Answers.{refused_by}
 use Rattle.store_core.specs.Inside.{kept_of}
 use Rattle.store_core.specs.Quiet.{charges_of, put_of}
-use Rattle.store_core.proofs.FlownLaws.{IsFlown}
+use Rattle.store_core.proofs.MadeFlushLaws.{IsFlown}
 use Rattle.store_core.proofs.FlushDoneLaws.{done_over, done_seen, done_whole, failed_seen, step_seen}
 use Rattle.store_core.proofs.FlushLaws.{may_begin, put_loud, some_flight}
 use Rattle.store_core.proofs.PlanLaws.{put_served}
@@ -19,118 +19,124 @@ pub returns-in-Ok-clause-flush : goal.returns-in-Ok-clause-flush
 returns-in-Ok-clause-flush g c =
     let t = c.args.self.now in
     let sv = put_served t c.args.name.now c.args.bytes.now c.requires.served in
-    let unbroken : c.self.inside.broken ≡ false = ap (λ (x : Kept). x.is_broken) c.self.view_is ∙ sv.whole in
-    let w : IsFlown c.self.inside (put_of c.args.name.now c.args.bytes.now) c.begin_put-begun.new.hands
-    (phase_now c.begin_put-begun.result.phase.course c.begin_put-begun.new.hands.table)
-    c.begin_put-begun.result.place
-    c.args.bytes.now c.fly-flown.new.hands (g.D.Disk.state c.args.disk.now) (g.D.Disk.state
-    c.fly-flown.new.disk) = record {
+    let unbroken : c.self.inside.broken ≡ false = ap (λ (x : StoreValue). x.is_broken) c.self.view_is
+    ∙ sv.whole in
+    let w : IsFlown c.self.inside (put_of c.args.name.now c.args.bytes.now) c.start_put-begun.new.hands
+    (phase_now c.start_put-begun.result.phase.course c.start_put-begun.new.hands.table)
+    c.start_put-begun.result.place
+    c.args.bytes.now c.make_flush-made.new.hands (g.D.Disk.state c.args.disk.now) (g.D.Disk.state
+    c.make_flush-made.new.disk) = record {
       whole = c.self.invariant;
       unbroken = unbroken;
-      begun = c.begin_put-begun.ensures.begun;
+      begun = c.start_put-begun.ensures.begun;
       name = sv.named;
       object = refl;
-      fresh = omega (arith, sv.fresh, ap (λ (x : Kept). x.in_use.sequence) c.self.view_is);
-      over = λ told. subst (λ (x : Kept). IsOver g.row.C x (g.D.Disk.state c.args.disk.now).file)
+      fresh = omega (arith, sv.fresh, ap (λ (x : StoreValue). x.in_use.sequence) c.self.view_is);
+      over = λ told. subst (λ (x : StoreValue). IsOver g.row.C x (g.D.Disk.state c.args.disk.now).file)
           (sym c.self.view_is) (c.requires.over sv.whole told);
-      left = c.fly-flown.ensures.left;
-      made = c.fly-flown.ensures.made;
+      left = c.make_flush-made.ensures.left;
+      made = c.make_flush-made.ensures.made;
     } in
-    done_seen c.self.inside (put_of c.args.name.now c.args.bytes.now) c.begin_put-begun.new.hands
-    (phase_now c.begin_put-begun.result.phase.course c.begin_put-begun.new.hands.table)
-    c.begin_put-begun.result.place
-    c.args.bytes.now c.fly-flown.new.hands (g.D.Disk.state c.args.disk.now)
-    (g.D.Disk.state c.fly-flown.new.disk) w t c.self.view_is c.in-Ok.ensures.ends c.in-Ok.ensures.saves.0
+    done_seen c.self.inside (put_of c.args.name.now c.args.bytes.now) c.start_put-begun.new.hands
+    (phase_now c.start_put-begun.result.phase.course c.start_put-begun.new.hands.table)
+    c.start_put-begun.result.place
+    c.args.bytes.now c.make_flush-made.new.hands (g.D.Disk.state c.args.disk.now)
+    (g.D.Disk.state c.make_flush-made.new.disk) w t c.self.view_is c.in-Ok.ensures.ends
+    c.in-Ok.ensures.saves.0
     c.in-Ok.ensures.saves.1 _ c.in-Ok.ensures.calls c.in-Ok.ensures.cause
 
 pub returns-in-Err-clause-flush : goal.returns-in-Err-clause-flush
 returns-in-Err-clause-flush g c =
     let t = c.args.self.now in
     let sv = put_served t c.args.name.now c.args.bytes.now c.requires.served in
-    let unbroken : c.self.inside.broken ≡ false = ap (λ (x : Kept). x.is_broken) c.self.view_is ∙ sv.whole in
-    let w : IsFlown c.self.inside (put_of c.args.name.now c.args.bytes.now) c.begin_put-begun.new.hands
-    (phase_now c.begin_put-begun.result.phase.course c.begin_put-begun.new.hands.table)
-    c.begin_put-begun.result.place
-    c.args.bytes.now c.fly-flown.new.hands (g.D.Disk.state c.args.disk.now) (g.D.Disk.state
-    c.fly-flown.new.disk) = record {
+    let unbroken : c.self.inside.broken ≡ false = ap (λ (x : StoreValue). x.is_broken) c.self.view_is
+    ∙ sv.whole in
+    let w : IsFlown c.self.inside (put_of c.args.name.now c.args.bytes.now) c.start_put-begun.new.hands
+    (phase_now c.start_put-begun.result.phase.course c.start_put-begun.new.hands.table)
+    c.start_put-begun.result.place
+    c.args.bytes.now c.make_flush-made.new.hands (g.D.Disk.state c.args.disk.now) (g.D.Disk.state
+    c.make_flush-made.new.disk) = record {
       whole = c.self.invariant;
       unbroken = unbroken;
-      begun = c.begin_put-begun.ensures.begun;
+      begun = c.start_put-begun.ensures.begun;
       name = sv.named;
       object = refl;
-      fresh = omega (arith, sv.fresh, ap (λ (x : Kept). x.in_use.sequence) c.self.view_is);
-      over = λ told. subst (λ (x : Kept). IsOver g.row.C x (g.D.Disk.state c.args.disk.now).file)
+      fresh = omega (arith, sv.fresh, ap (λ (x : StoreValue). x.in_use.sequence) c.self.view_is);
+      over = λ told. subst (λ (x : StoreValue). IsOver g.row.C x (g.D.Disk.state c.args.disk.now).file)
           (sym c.self.view_is) (c.requires.over sv.whole told);
-      left = c.fly-flown.ensures.left;
-      made = c.fly-flown.ensures.made;
+      left = c.make_flush-made.ensures.left;
+      made = c.make_flush-made.ensures.made;
     } in
-    failed_seen c.self.inside (put_of c.args.name.now c.args.bytes.now) c.begin_put-begun.new.hands
-    (phase_now c.begin_put-begun.result.phase.course c.begin_put-begun.new.hands.table)
-    c.begin_put-begun.result.place
-    c.args.bytes.now c.fly-flown.new.hands (g.D.Disk.state c.args.disk.now)
-    (g.D.Disk.state c.fly-flown.new.disk) w t c.self.view_is _ _ c.in-Err.ensures.cause
+    failed_seen c.self.inside (put_of c.args.name.now c.args.bytes.now) c.start_put-begun.new.hands
+    (phase_now c.start_put-begun.result.phase.course c.start_put-begun.new.hands.table)
+    c.start_put-begun.result.place
+    c.args.bytes.now c.make_flush-made.new.hands (g.D.Disk.state c.args.disk.now)
+    (g.D.Disk.state c.make_flush-made.new.disk) w t c.self.view_is _ _ c.in-Err.ensures.cause
 
 pub returns-in-Ok-clause-step : goal.returns-in-Ok-clause-step
 returns-in-Ok-clause-step g c told =
     let t = c.args.self.now in
     let sv = put_served t c.args.name.now c.args.bytes.now c.requires.served in
-    let unbroken : c.self.inside.broken ≡ false = ap (λ (x : Kept). x.is_broken) c.self.view_is ∙ sv.whole in
-    let w : IsFlown c.self.inside (put_of c.args.name.now c.args.bytes.now) c.begin_put-begun.new.hands
-    (phase_now c.begin_put-begun.result.phase.course c.begin_put-begun.new.hands.table)
-    c.begin_put-begun.result.place
-    c.args.bytes.now c.fly-flown.new.hands (g.D.Disk.state c.args.disk.now) (g.D.Disk.state
-    c.fly-flown.new.disk) = record {
+    let unbroken : c.self.inside.broken ≡ false = ap (λ (x : StoreValue). x.is_broken) c.self.view_is
+    ∙ sv.whole in
+    let w : IsFlown c.self.inside (put_of c.args.name.now c.args.bytes.now) c.start_put-begun.new.hands
+    (phase_now c.start_put-begun.result.phase.course c.start_put-begun.new.hands.table)
+    c.start_put-begun.result.place
+    c.args.bytes.now c.make_flush-made.new.hands (g.D.Disk.state c.args.disk.now) (g.D.Disk.state
+    c.make_flush-made.new.disk) = record {
       whole = c.self.invariant;
       unbroken = unbroken;
-      begun = c.begin_put-begun.ensures.begun;
+      begun = c.start_put-begun.ensures.begun;
       name = sv.named;
       object = refl;
-      fresh = omega (arith, sv.fresh, ap (λ (x : Kept). x.in_use.sequence) c.self.view_is);
-      over = λ told. subst (λ (x : Kept). IsOver g.row.C x (g.D.Disk.state c.args.disk.now).file)
+      fresh = omega (arith, sv.fresh, ap (λ (x : StoreValue). x.in_use.sequence) c.self.view_is);
+      over = λ told. subst (λ (x : StoreValue). IsOver g.row.C x (g.D.Disk.state c.args.disk.now).file)
           (sym c.self.view_is) (c.requires.over sv.whole told);
-      left = c.fly-flown.ensures.left;
-      made = c.fly-flown.ensures.made;
+      left = c.make_flush-made.ensures.left;
+      made = c.make_flush-made.ensures.made;
     } in
-    step_seen c.self.inside (put_of c.args.name.now c.args.bytes.now) c.begin_put-begun.new.hands
-    (phase_now c.begin_put-begun.result.phase.course c.begin_put-begun.new.hands.table)
-    c.begin_put-begun.result.place
-    c.args.bytes.now c.fly-flown.new.hands (g.D.Disk.state c.args.disk.now)
-    (g.D.Disk.state c.fly-flown.new.disk) w t c.self.view_is c.in-Ok.ensures.ends c.in-Ok.ensures.saves.0
-    c.in-Ok.ensures.saves.1 told sv.calm c.requires.loud
+    step_seen c.self.inside (put_of c.args.name.now c.args.bytes.now) c.start_put-begun.new.hands
+    (phase_now c.start_put-begun.result.phase.course c.start_put-begun.new.hands.table)
+    c.start_put-begun.result.place
+    c.args.bytes.now c.make_flush-made.new.hands (g.D.Disk.state c.args.disk.now)
+    (g.D.Disk.state c.make_flush-made.new.disk) w t c.self.view_is c.in-Ok.ensures.ends
+    c.in-Ok.ensures.saves.0
+    c.in-Ok.ensures.saves.1 told sv.calm c.requires.needs_flush
 
 pub returns-in-Ok-clause-over : goal.returns-in-Ok-clause-over
 returns-in-Ok-clause-over g c whole told =
     let t = c.args.self.now in
     let sv = put_served t c.args.name.now c.args.bytes.now c.requires.served in
-    let unbroken : c.self.inside.broken ≡ false = ap (λ (x : Kept). x.is_broken) c.self.view_is ∙ sv.whole in
-    let w : IsFlown c.self.inside (put_of c.args.name.now c.args.bytes.now) c.begin_put-begun.new.hands
-    (phase_now c.begin_put-begun.result.phase.course c.begin_put-begun.new.hands.table)
-    c.begin_put-begun.result.place
-    c.args.bytes.now c.fly-flown.new.hands (g.D.Disk.state c.args.disk.now) (g.D.Disk.state
-    c.fly-flown.new.disk) = record {
+    let unbroken : c.self.inside.broken ≡ false = ap (λ (x : StoreValue). x.is_broken) c.self.view_is
+    ∙ sv.whole in
+    let w : IsFlown c.self.inside (put_of c.args.name.now c.args.bytes.now) c.start_put-begun.new.hands
+    (phase_now c.start_put-begun.result.phase.course c.start_put-begun.new.hands.table)
+    c.start_put-begun.result.place
+    c.args.bytes.now c.make_flush-made.new.hands (g.D.Disk.state c.args.disk.now) (g.D.Disk.state
+    c.make_flush-made.new.disk) = record {
       whole = c.self.invariant;
       unbroken = unbroken;
-      begun = c.begin_put-begun.ensures.begun;
+      begun = c.start_put-begun.ensures.begun;
       name = sv.named;
       object = refl;
-      fresh = omega (arith, sv.fresh, ap (λ (x : Kept). x.in_use.sequence) c.self.view_is);
-      over = λ told. subst (λ (x : Kept). IsOver g.row.C x (g.D.Disk.state c.args.disk.now).file)
+      fresh = omega (arith, sv.fresh, ap (λ (x : StoreValue). x.in_use.sequence) c.self.view_is);
+      over = λ told. subst (λ (x : StoreValue). IsOver g.row.C x (g.D.Disk.state c.args.disk.now).file)
           (sym c.self.view_is) (c.requires.over sv.whole told);
-      left = c.fly-flown.ensures.left;
-      made = c.fly-flown.ensures.made;
+      left = c.make_flush-made.ensures.left;
+      made = c.make_flush-made.ensures.made;
     } in
-    done_over c.self.inside (put_of c.args.name.now c.args.bytes.now) c.begin_put-begun.new.hands
-    (phase_now c.begin_put-begun.result.phase.course c.begin_put-begun.new.hands.table)
-    c.begin_put-begun.result.place
-    c.args.bytes.now c.fly-flown.new.hands (g.D.Disk.state c.args.disk.now)
-    (g.D.Disk.state c.fly-flown.new.disk) w c.in-Ok.ensures.ends c.in-Ok.ensures.saves.0
-    c.in-Ok.ensures.saves.1 (sym c.fly-flown.ensures.made.keeps.disk.stays.told ∙ told)
+    done_over c.self.inside (put_of c.args.name.now c.args.bytes.now) c.start_put-begun.new.hands
+    (phase_now c.start_put-begun.result.phase.course c.start_put-begun.new.hands.table)
+    c.start_put-begun.result.place
+    c.args.bytes.now c.make_flush-made.new.hands (g.D.Disk.state c.args.disk.now)
+    (g.D.Disk.state c.make_flush-made.new.disk) w c.in-Ok.ensures.ends c.in-Ok.ensures.saves.0
+    c.in-Ok.ensures.saves.1 (sym c.make_flush-made.ensures.made.keeps.disk.stays.told ∙ told)
 
-pub begin_put-begun-requires : goal.begin_put-begun-requires
-begin_put-begun-requires g c =
+pub start_put-begun-requires : goal.start_put-begun-requires
+start_put-begun-requires g c =
     let ks = kept_of c.self.inside in
     let sk = put_served ks c.args.name.now c.args.bytes.now
-    (subst (λ (x : Kept). refused_by x (ask.change (put_of c.args.name.now c.args.bytes.now)) ≡ None)
+    (subst (λ (x : StoreValue). refused_by x (ask.change (put_of c.args.name.now c.args.bytes.now)) ≡ None)
     (sym c.self.view_is) c.requires.served) in
     let unbroken : c.self.inside.broken ≡ false = sk.whole in
     let inv = c.self.invariant in (
@@ -154,9 +160,9 @@ begin_put-begun-requires g c =
                   (
                     (_, may_begin c.self.inside inv unbroken),
                     put_loud c.self.inside inv unbroken c.args.name.now c.args.bytes.now
-                        (subst (λ (x : Kept). is_quiet
+                        (subst (λ (x : StoreValue). is_quiet
                         (charges_of x (put_of c.args.name.now c.args.bytes.now)) ≡ false) (sym c.self.view_is)
-                        c.requires.loud),
+                        c.requires.needs_flush),
                   ),
                 ),
               ),
@@ -166,23 +172,24 @@ begin_put-begun-requires g c =
       ),
     )
 
-pub fly-flown-requires : goal.fly-flown-requires
-fly-flown-requires g c =
+pub make_flush-made-requires : goal.make_flush-made-requires
+make_flush-made-requires g c =
     let ks = kept_of c.self.inside in
     let sk = put_served ks c.args.name.now c.args.bytes.now
-    (subst (λ (x : Kept). refused_by x (ask.change (put_of c.args.name.now c.args.bytes.now)) ≡ None)
+    (subst (λ (x : StoreValue). refused_by x (ask.change (put_of c.args.name.now c.args.bytes.now)) ≡ None)
     (sym c.self.view_is) c.requires.served) in
     let unbroken : c.self.inside.broken ≡ false = sk.whole in
     let inv = c.self.invariant in
-    let begun = c.begin_put-begun.ensures.begun in
+    let begun = c.start_put-begun.ensures.begun in
     let over : IsTrue (g.D.Disk.state c.args.disk.now).tells
     → IsOver g.row.C ks (g.D.Disk.state c.args.disk.now).file =
-    λ told. subst (λ (x : Kept). IsOver g.row.C x (g.D.Disk.state c.args.disk.now).file) (sym c.self.view_is)
-    (c.requires.over (ap (λ (x : Kept). x.is_broken) (sym c.self.view_is) ∙ sk.whole) told) in
+    λ told. subst (λ (x : StoreValue). IsOver g.row.C x (g.D.Disk.state c.args.disk.now).file)
+    (sym c.self.view_is)
+    (c.requires.over (ap (λ (x : StoreValue). x.is_broken) (sym c.self.view_is) ∙ sk.whole) told) in
     let sf = some_flight c.self.inside inv unbroken (put_of c.args.name.now c.args.bytes.now)
-    (parts_of c.begin_put-begun.new.hands) (phase_now c.begin_put-begun.result.phase.course
-    c.begin_put-begun.new.hands.table)
-    c.begin_put-begun.result.place c.args.bytes.now begun sk.named refl sk.fresh
+    (parts_of c.start_put-begun.new.hands) (phase_now c.start_put-begun.result.phase.course
+    c.start_put-begun.new.hands.table)
+    c.start_put-begun.result.place c.args.bytes.now begun sk.named refl sk.fresh
     (g.D.Disk.state c.args.disk.now) over in (
       lit< tt,
       (
@@ -190,12 +197,12 @@ fly-flown-requires g c =
         (
           c.requires.ready,
           (
-            ap (λ (y : Parts). y.buffer) begun.rest ∙ inv.buf,
+            ap (λ (y : HandsValue). y.buffer) begun.rest ∙ inv.buf,
             (
               inv.classes,
               (
                 (parts_of c.self.inside.hands, (put_of c.args.name.now c.args.bytes.now), sf.0, sf.1),
-                c.begin_put-begun.ensures.keeps,
+                c.start_put-begun.ensures.keeps,
               ),
             ),
           ),
@@ -207,26 +214,27 @@ pub invariant_of-self : goal.invariant_of-self
 invariant_of-self g c =
     let t = c.args.self.now in
     let sv = put_served t c.args.name.now c.args.bytes.now c.requires.served in
-    let unbroken : c.self.inside.broken ≡ false = ap (λ (x : Kept). x.is_broken) c.self.view_is ∙ sv.whole in
-    let w : IsFlown c.self.inside (put_of c.args.name.now c.args.bytes.now) c.begin_put-begun.new.hands
-    (phase_now c.begin_put-begun.result.phase.course c.begin_put-begun.new.hands.table)
-    c.begin_put-begun.result.place
-    c.args.bytes.now c.fly-flown.new.hands (g.D.Disk.state c.args.disk.now) (g.D.Disk.state
-    c.fly-flown.new.disk) = record {
+    let unbroken : c.self.inside.broken ≡ false = ap (λ (x : StoreValue). x.is_broken) c.self.view_is
+    ∙ sv.whole in
+    let w : IsFlown c.self.inside (put_of c.args.name.now c.args.bytes.now) c.start_put-begun.new.hands
+    (phase_now c.start_put-begun.result.phase.course c.start_put-begun.new.hands.table)
+    c.start_put-begun.result.place
+    c.args.bytes.now c.make_flush-made.new.hands (g.D.Disk.state c.args.disk.now) (g.D.Disk.state
+    c.make_flush-made.new.disk) = record {
       whole = c.self.invariant;
       unbroken = unbroken;
-      begun = c.begin_put-begun.ensures.begun;
+      begun = c.start_put-begun.ensures.begun;
       name = sv.named;
       object = refl;
-      fresh = omega (arith, sv.fresh, ap (λ (x : Kept). x.in_use.sequence) c.self.view_is);
-      over = λ told. subst (λ (x : Kept). IsOver g.row.C x (g.D.Disk.state c.args.disk.now).file)
+      fresh = omega (arith, sv.fresh, ap (λ (x : StoreValue). x.in_use.sequence) c.self.view_is);
+      over = λ told. subst (λ (x : StoreValue). IsOver g.row.C x (g.D.Disk.state c.args.disk.now).file)
           (sym c.self.view_is) (c.requires.over sv.whole told);
-      left = c.fly-flown.ensures.left;
-      made = c.fly-flown.ensures.made;
+      left = c.make_flush-made.ensures.left;
+      made = c.make_flush-made.ensures.made;
     } in
-    done_whole c.self.inside (put_of c.args.name.now c.args.bytes.now) c.begin_put-begun.new.hands
-    (phase_now c.begin_put-begun.result.phase.course c.begin_put-begun.new.hands.table)
-    c.begin_put-begun.result.place
-    c.args.bytes.now c.fly-flown.new.hands (g.D.Disk.state c.args.disk.now)
-    (g.D.Disk.state c.fly-flown.new.disk) w c.in-Ok.ensures.ends c.in-Ok.ensures.saves.0
+    done_whole c.self.inside (put_of c.args.name.now c.args.bytes.now) c.start_put-begun.new.hands
+    (phase_now c.start_put-begun.result.phase.course c.start_put-begun.new.hands.table)
+    c.start_put-begun.result.place
+    c.args.bytes.now c.make_flush-made.new.hands (g.D.Disk.state c.args.disk.now)
+    (g.D.Disk.state c.make_flush-made.new.disk) w c.in-Ok.ensures.ends c.in-Ok.ensures.saves.0
     c.in-Ok.ensures.saves.1

@@ -1,11 +1,11 @@
 use Rattle.std.proofs.Common.{◌∙◌, ap, arith, rules, true}
-use Rattle.store_core.specs.Connection.{Kept}
+use Rattle.store_core.specs.Connection.{StoreValue}
 use Rattle.std.specs.Vec.{with_items}
 use Rattle.size_class.specs.declared.TheConstants.{SIZE_MAX}
 use Rattle.segment_layout.specs.Layouts.{caps_of, grid_of}
 use Rattle.extent_table.proofs.ExtentLaws.{records_of-few}
 use Rattle.extent_table.proofs.SaveLaws.{records_in_range}
-use Rattle.spot_terms.specs.LaidOut.{shown_book}
+use Rattle.placement_model.specs.LaidOut.{shown_book}
 use Rattle.store_core.specs.Inside.{kept_of}
 use Rattle.store_core.proofs.EffectLaws.{calls_err, calls_ok}
 use Rattle.store_core.proofs.KeepEffectLaws.{keep_done, keep_failed, keep_over, keep_step, kept_view, kept_whole}
@@ -13,13 +13,13 @@ use Rattle.store_core.proofs.store.Store.save_now.Goals as goal
 
 pub save-requires-clause-records : goal.save-requires-clause-records
 save-requires-clause-records g c = records_in_range c.self.inside.hands.table
-    (c.self.invariant.table (ap (λ (x : Kept). x.is_broken) c.self.view_is ∙ c.requires.whole))
+    (c.self.invariant.table (ap (λ (x : StoreValue). x.is_broken) c.self.view_is ∙ c.requires.whole))
 
 pub save-requires-clause-count : goal.save-requires-clause-count
 save-requires-clause-count g c = omega (
   arith,
   records_of-few c.self.inside.hands.table.now,
-  (c.self.invariant.table (ap (λ (x : Kept). x.is_broken) c.self.view_is ∙ c.requires.whole)).now_room,
+  (c.self.invariant.table (ap (λ (x : StoreValue). x.is_broken) c.self.view_is ∙ c.requires.whole)).now_room,
   c.self.invariant.room,
 )
 

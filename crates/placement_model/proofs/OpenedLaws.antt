@@ -1,0 +1,148 @@
+-- What a file opens to once its length is set, and what a header says of its sequence.
+use Rattle.std.specs.Prelude.{◌≡◌, ℕ, suc, ◌+◌, ◌-◌, ◌<◌, ◌≤◌, ◌==◌, nat_le, nat_lt, not, min, if◌then◌else◌, List, [], ◌∷◌, length, slice_index, slice_index_or, Ok}
+use Rattle.std.proofs.Common.{arith, sym, ◌∙◌, ap, subst, inl, inr}
+use Rattle.std.proofs.lemmas.Bool.{cond-true, lt-ltb, leb-false}
+use Rattle.std.specs.Int.{w64, from_le_bytes}
+use Rattle.byte_ranges.specs.Ranges.{SameBelow, bytes_at}
+use Rattle.byte_ranges.proofs.RangeLaws.{bytes_at-within}
+use Rattle.disk_face.specs.Moments.{ResizedImage}
+use Rattle.slot_codec.specs.Choice as choice
+use Rattle.slot_codec.specs.Choice.{InUse, Chosen, slot_in_use, chosen}
+use Rattle.slot_codec.proofs.ChoiceLaws.{chosen_long, chosen_parts, table_chosen}
+use Rattle.slot_codec.proofs.PickLaws.{in_use_parts}
+use Rattle.slot_codec.proofs.StepLaws.{from_ok, guard_ok}
+use Rattle.slot_codec.specs.Reading.{all_in_range, are_zeros, header_of, read_header, worn_from}
+use Rattle.slot_codec.specs.Spelling.{head_len, header_len, slot_at}
+use Rattle.slot_codec.specs.declared.codec.Header.{Header}
+use Rattle.slot_codec.specs.declared.codec.Record.{Record}
+use Rattle.map_model.specs.Maps.{Map}
+use Rattle.segment_layout.specs.Books.{Book}
+use Rattle.table_rules.specs.Tables.{last_end, no_record, nth, end_of_record}
+use Rattle.table_rules.specs.Opening.{OpensBy, placed_table}
+use Rattle.table_rules.specs.Objects.{HasRoomFor, SameObjects}
+use Rattle.table_rules.proofs.OpeningLaws.{carries_on}
+
+-- ---- a length that is set
+
+-- the data part begins within a file that opens
+pub opens_long : (classes most : ℕ) (t : choice.Table) (file : List ℕ) (m : Map) (b : Book)
+    → OpensBy classes most t file m b → head_len t.chosen.block.names ≤ length file
+opens_long classes most t file m b o = chosen_long file t.chosen (table_chosen file t o.read).0
+
+-- each record of a table ends within the file that opens by it
+pub record_within : (classes most : ℕ) (t : choice.Table) (file : List ℕ) (m : Map) (b : Book)
+    → OpensBy classes most t file m b → (i : ℕ) → i < length t.records
+    → head_len t.chosen.block.names + end_of_record (slice_index_or t.records i no_record) ≤ length file
+record_within classes most t file m b o i low =
+    let placed = placed_table classes most file t in
+    let long = chosen_long file t.chosen (table_chosen file t o.read).0 in
+    let r = slice_index_or t.records i no_record in
+    omega (
+      arith,
+      long,
+      o.valid.0.within i (omega (arith, low)),
+      cond-true (nat_lt i (length t.records)) (end_of_record r) (last_end placed placed.header.kind)
+          (lt-ltb i (length t.records) low),
+    )
+
+-- objects that end at or before a position up to which two files are alike
+pub objects_below : (base p : ℕ) (rs : List Record) (a b : List ℕ)
+    → ((i : ℕ) → i < length rs → base + end_of_record (slice_index_or rs i no_record) ≤ p) → p ≤ length a
+    → p ≤ length b → SameBelow p a b → SameObjects base rs a b
+objects_below base p [] a b low in_a in_b same = tt
+objects_below base p (r ∷ rs) a b low in_a in_b same =
+    let here : base + end_of_record r ≤ p = low 0 (omega arith) in (
+      omega (arith, here, in_a),
+      omega (arith, here, in_b),
+      λ i l h. same i (omega (arith, h, here)),
+      objects_below base p rs a b (λ i h. low (suc i) (omega (arith, h))) in_a in_b same,
+    )
+
+-- A file opens as before once its length is set, or is being set, where its table has room in the new length.
+pub opens_resized : (classes most : ℕ) (t : choice.Table) (before image : List ℕ) (m : Map) (b : Book) (n : ℕ)
+    → OpensBy classes most t before m b → ResizedImage n before image → head_len t.chosen.block.names ≤ n
+    → HasRoomFor (placed_table classes most before t) (n - head_len t.chosen.block.names)
+    → OpensBy classes most t image m b
+opens_resized classes most t before image m b n o step low room =
+    let base = head_len t.chosen.block.names in
+    let placed = placed_table classes most before t in
+    let long = chosen_long before t.chosen (table_chosen before t o.read).0 in
+    let p = min n (length before) in
+    let in_image : p ≤ length image = elim step.either
+    as (λ x. p ≤ length image) [ inl e ↦ omega (arith, e) | inr e ↦ omega (arith, e) ] in
+    let long_image : base ≤ length image =
+    elim step.either as (λ x. base ≤ length image) [
+      | inl e ↦ omega (arith, e, long)
+      | inr e ↦ omega
+          (arith, e, low)
+    ] in
+    let same : SameBelow p before image =
+    λ i h. sym (step.bytes i (omega (arith, h)) (omega (arith, h)) (omega (arith, h, in_image))) in
+    let fits : (i : ℕ) → i < length t.records
+    → base + end_of_record (slice_index_or t.records i no_record) ≤ p = λ i h.
+    let r = slice_index_or t.records i no_record in
+    omega (
+      arith,
+      low,
+      record_within classes most t before m b o i h,
+      room i (omega (arith, h)),
+      cond-true (nat_lt i (length t.records)) (end_of_record r) (last_end placed placed.header.kind)
+          (lt-ltb i (length t.records) h),
+    ) in
+    let room_image : HasRoomFor placed (length image - base) =
+    λ i h. elim step.either as (λ x. (if nat_lt i (length t.records) then end_of_record (nth placed i)
+    else last_end placed placed.header.kind) ≤ length image - base) [
+      | inl e ↦ subst (λ x. (if nat_lt i (length t.records) then end_of_record (nth placed i)
+          else last_end placed placed.header.kind) ≤ x - base) (sym e) (o.valid.0.within i h)
+      | inr e ↦ subst (λ x. (if nat_lt i (length t.records) then end_of_record (nth placed i)
+          else last_end placed placed.header.kind) ≤ x - base) (sym e) (room i h)
+    ] in
+    carries_on classes most t before image m b o long_image (λ i h. same i (omega (arith, h, low, long)))
+    room_image (objects_below base p t.records before image fits (omega arith) in_image same)
+
+-- ---- the sequence of a header
+
+pub header_read_is : (names : ℕ) (bytes : List ℕ) (h : Header) → read_header names bytes ≡ Ok h
+    → header_of bytes ≡ h
+unfolding read_header
+header_read_is names bytes h e =
+    let o = header_of bytes in
+    let version = guard_ok (not (slice_index bytes 0 == 1)) _ _ h e in
+    let kind = guard_ok (nat_lt 1 (slice_index bytes 1)) _ _ h version.1 in
+    let zeros = guard_ok (not (are_zeros (bytes_at bytes 3 5))) _ _ h kind.1 in
+    let worn = guard_ok (nat_le (worn_from o.kind) o.sequence) _ _ h zeros.1 in
+    let count = guard_ok (nat_lt names o.count) _ _ h worn.1 in
+    let range = guard_ok (not (all_in_range o)) _ (Ok o) h count.1 in
+    from_ok o h range.1
+
+-- it isn't worn
+fresh_header : (names : ℕ) (bytes : List ℕ) (h : Header) → read_header names bytes ≡ Ok h
+    → (header_of bytes).sequence < worn_from (header_of bytes).kind
+unfolding read_header
+fresh_header names bytes h is =
+    let o = header_of bytes in
+    let version = guard_ok (not (slice_index bytes 0 == 1)) _ _ h is in
+    let kind = guard_ok (nat_lt 1 (slice_index bytes 1)) _ _ h version.1 in
+    let zeros = guard_ok (not (are_zeros (bytes_at bytes 3 5))) _ _ h kind.1 in
+    let worn = guard_ok (nat_le (worn_from o.kind) o.sequence) _ _ h zeros.1 in
+    leb-false (worn_from o.kind) o.sequence worn.0
+
+pub header_fresh : (names : ℕ) (bytes : List ℕ) (h : Header) → read_header names bytes ≡ Ok h
+    → h.sequence < worn_from h.kind
+header_fresh names bytes h e = subst (λ (x : Header). x.sequence < worn_from x.kind)
+    (header_read_is names bytes h e) (fresh_header names bytes h e)
+
+-- it is that of the slot in use
+pub chosen_sequence : (file : List ℕ) (u : InUse) (c : Chosen) → slot_in_use file ≡ Ok u → chosen file ≡ Ok c
+    → c.header.sequence ≡ u.sequence
+chosen_sequence file u c in_use is =
+    let p = chosen_parts file c is in
+    let same : p.in_use ≡ u = from_ok p.in_use u (sym p.slot_read ∙ in_use) in
+    let at = slot_at p.in_use.block.names p.in_use.slot in
+    let read : (header_of (bytes_at file at header_len)).sequence
+    ≡ c.header.sequence = ap (λ (h : Header). h.sequence)
+    (header_read_is p.in_use.block.names (bytes_at file at header_len) c.header p.header_read) in
+    let within : bytes_at (bytes_at file at header_len) 8 8
+    ≡ bytes_at file (at + 8) 8 = bytes_at-within file at header_len 8 8 (omega arith) in
+    sym read ∙ ap (from_le_bytes w64) within ∙ (in_use_parts file p.in_use p.slot_read).sequence
+    ∙ ap (λ (x : InUse). x.sequence) same

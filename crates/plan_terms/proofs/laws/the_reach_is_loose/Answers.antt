@@ -1,5 +1,0 @@
-use Rattle.plan_terms.proofs.NumbersLaws.{reach_is_loose}
-use Rattle.plan_terms.proofs.laws.the_reach_is_loose.Goals as goal
-
-pub returns : goal.returns
-returns c = reach_is_loose
