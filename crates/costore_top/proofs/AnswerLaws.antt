@@ -1,9 +1,8 @@
--- How a layer answers where it stops before it puts any byte, that there is one answer, and which status
--- comes of it.
-use Rattle.std.specs.Prelude.{◌≡◌, ◌≢◌, ◌⊎◌, ℕ, List, [], length, Result, Ok, Err, OnErr, IsTrue, refl}
-use Rattle.std.proofs.Common.{arith, ap, sym, ◌∙◌, subst, inl, inr, append-nil}
+-- That there is one answer, and which status comes of it.
+use Rattle.std.specs.Prelude.{◌≡◌, ◌⊎◌, ℕ, List, length, Result, Ok, Err, refl}
+use Rattle.std.proofs.Common.{ap, sym, ◌∙◌, subst, inl, inr}
 use Rattle.std.specs.FinMap as fin
-use Rattle.disk_face.specs.Streams.{Puts, SinkState}
+use Rattle.disk_face.specs.Streams.{SinkState}
 use Rattle.size_class.specs.declared.TheConstants.{CLASSES, SIZE_MAX}
 use Rattle.slot_codec.proofs.StepLaws.{from_ok}
 use Rattle.slot_codec.specs.Choice as choice
@@ -13,72 +12,18 @@ use Rattle.table_rules.specs.Opening.{Opens, OpensBy, placed_table}
 use Rattle.slot_codec.specs.Spelling.{head_len}
 use Rattle.table_rules.specs.Tables as tables
 use Rattle.table_rules.specs.Rules.{FirstBroken}
-use Rattle.table_rules.proofs.FirstLaws.{first_is_one, valid_breaks_none}
-use Rattle.costore_top.specs.declared.stop.StoreFault.{StoreFault}
-use Rattle.costore_top.specs.declared.stop.StoreFault.TheVariants as store
-use Rattle.costore_top.specs.declared.stop.StopReason.{StopReason}
-use Rattle.costore_top.specs.declared.stop.StopReason.TheVariants as stop
-use Rattle.costore_top.specs.Getting.{IsFirstRefusal, IsObject, IsRefused, StopsAs, fault_of, or_missing}
-use Rattle.costore_top.specs.Texts.{IsTold, check_text, map_text}
-use Rattle.costore_top.specs.Layers.{Answers}
-use Rattle.costore_top.specs.Outcomes.{Ends, EndsBy, IsAnswer, status_at}
-use Rattle.costore_top.specs.Words.{Command, check, format, get, help, map_of, run, version, work}
-
--- a layer stops as it is to, or for want of a device or of memory, before it puts any
-pub stopped : (answer : Result (List ℕ) StopReason → Type 0) (old new : SinkState) (why : StopReason)
-    → new ≡ old
-    → why ≢ stop.Sink → StopsAs answer why → Answers answer old new (Err why)
-stopped answer old new why same no_sink stops = record {
-  bytes = [];
-  ends = ends_of why no_sink stops;
-  puts = λ told. record {
-    all = tt;
-    front = (0, omega arith, ap (λ s. s.given) same ∙ sym (append-nil old.given));
-  };
-}
-  where
-    ends_of : (e : StopReason) → e ≢ stop.Sink → StopsAs answer e → EndsBy answer [] (Err e)
-    ends_of stop.Disk not_sink is = inr refl
-    ends_of stop.Sink not_sink is = absurd (not_sink refl)
-    ends_of stop.NoFile not_sink is = refl
-    ends_of stop.NoMemory not_sink is = refl
-    ends_of stop.Words not_sink is = (is, refl)
-    ends_of (stop.NotStore f) not_sink is = (is, refl)
-    ends_of (stop.Taken n) not_sink is = (is, refl)
-    ends_of stop.Missing not_sink is = (is, refl)
-    ends_of (stop.Line n) not_sink is = (is, refl)
-    ends_of stop.Source not_sink is = (is, refl)
-    ends_of stop.Budget not_sink is = (is, refl)
-
--- a layer puts what it is to answer, unless the sink fails
-pub put_answer : (answer : Result (List ℕ) StopReason → Type 0) (bytes : List ℕ) (old new : SinkState)
-    (end : Result (Unit {0}) StopReason) → answer (Ok bytes) → OnErr end (end ≡ Err stop.Sink)
-    → (IsTrue old.tells → Puts old.given new.given bytes end) → Answers answer old new end
-put_answer answer bytes old new end is only puts = record {
-  bytes = bytes;
-  ends = ends_of end only;
-  puts = puts;
-}
-  where
-    ends_of : (e : Result (Unit {0}) StopReason) → OnErr e (e ≡ Err stop.Sink) → EndsBy answer bytes e
-    ends_of (Ok x) sink = is
-    ends_of (Err e) sink = subst (EndsBy answer bytes) (sym sink) is
-
--- what stops one command as it is to stops another that answers more
-pub stops_more : (answer other : Result (List ℕ) StopReason → Type 0)
-    → ((a : Result (List ℕ) StopReason) → answer a → other a) → (why : StopReason) → StopsAs answer why
-    → StopsAs other why
-stops_more answer other more stop.Disk is = tt
-stops_more answer other more stop.NoMemory is = tt
-stops_more answer other more stop.Sink is = more (Err stop.Sink) is
-stops_more answer other more stop.NoFile is = more (Err stop.NoFile) is
-stops_more answer other more stop.Words is = more (Err stop.Words) is
-stops_more answer other more (stop.NotStore f) is = more (Err (stop.NotStore f)) is
-stops_more answer other more (stop.Taken n) is = more (Err (stop.Taken n)) is
-stops_more answer other more stop.Missing is = more (Err stop.Missing) is
-stops_more answer other more (stop.Line n) is = more (Err (stop.Line n)) is
-stops_more answer other more stop.Source is = more (Err stop.Source) is
-stops_more answer other more stop.Budget is = more (Err stop.Budget) is
+use Rattle.table_rules.proofs.FirstLaws.{first_is_one}
+use Rattle.command_face.specs.declared.stop.StoreFault.{StoreFault}
+use Rattle.command_face.specs.declared.stop.StoreFault.TheVariants as store
+use Rattle.command_face.specs.declared.stop.StopReason.{StopReason}
+use Rattle.command_face.specs.declared.stop.StopReason.TheVariants as stop
+use Rattle.command_face.specs.Refusing.{IsFirstRefusal, IsRefused, fault_of}
+use Rattle.file_commands.specs.Getting.{IsObject, or_missing}
+use Rattle.file_commands.specs.Texts.{IsTold, check_text, map_text}
+use Rattle.command_face.specs.Outcomes.{Ends, EndsBy, status_at}
+use Rattle.costore_top.specs.Answering.{IsAnswer}
+use Rattle.command_face.specs.Mounting.{Command, check, format, get, help, map_of, run, version, work}
+use Rattle.command_face.proofs.UnopenedLaws.{opens_or_not}
 
 -- ---- one answer
 
@@ -102,15 +47,6 @@ one_refusal file (store.Table x) (store.Table y) h k =
 one_stop : (file : List ℕ) (a b : Result (List ℕ) StopReason) → IsRefused file a → IsRefused file b → a ≡ b
 one_stop file a b g h =
     g.same ∙ ap (λ f. Err (stop.NotStore f)) (one_refusal file g.fault h.fault g.first h.first) ∙ sym h.same
-
--- a file that opens isn't refused
-pub opens_or_not : (file : List ℕ) (m : Map) (b : Book) (f : StoreFault) → Opens CLASSES SIZE_MAX file m b
-    → IsFirstRefusal file f → ⊥
-opens_or_not file m b (store.Slot f) o (r, a, is_f) = let read = o.opens.read in absurd (cc)
-opens_or_not file m b (store.Table x) o h =
-    let same : h.table ≡ o.table = from_ok h.table o.table (sym h.read ∙ o.opens.read) in
-    valid_breaks_none (placed_table CLASSES SIZE_MAX file o.table) x.rule x.at o.opens.valid
-    (subst (λ t. FirstBroken (placed_table CLASSES SIZE_MAX file t) x.rule x.at) same h.first)
 
 one_map : (file : List ℕ) (m n : Map) (b c : Book) → Opens CLASSES SIZE_MAX file m b
     → Opens CLASSES SIZE_MAX file n c → m ≡ n
@@ -206,14 +142,3 @@ ends_by_the_answer c file answer status old new is ends =
     subst (λ n. (n ≡ status_at answer) ⊎ IsFree n) (sym ends.same_status)
     (status_by answer ends.bytes (IsAnswer c file) ends.end (λ other h. one_answer c file answer other is h)
     ends.by)
-
--- want of memory stops any command before it puts any
-pub stopped_for_memory : (answer : Result (List ℕ) StopReason → Type 0) (state : SinkState) (why : StopReason)
-    → why ≡ stop.NoMemory → Answers answer state state (Err why)
-stopped_for_memory answer state why is = subst (λ (w : StopReason). Answers answer state state (Err w))
-    (sym is)
-    (record {
-      bytes = [];
-      ends = refl;
-      puts = λ told. record { all = tt; front = (0, omega arith, sym (append-nil state.given)) };
-    })

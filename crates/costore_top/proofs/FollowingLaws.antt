@@ -1,5 +1,5 @@
 -- Each image that a call leaves may be the start of another call.
-use Rattle.std.specs.Prelude.{◌≡◌, ◌⊎◌, ℕ, ◌+◌, ◌-◌, ◌*◌, ◌^◌, ◌<◌, ◌≤◌, max, List, [], ◌∷◌, Ok}
+use Rattle.std.specs.Prelude.{◌≡◌, ℕ, ◌+◌, ◌-◌, ◌^◌, ◌<◌, ◌≤◌, max, List, [], ◌∷◌, Ok}
 use Rattle.std.proofs.Common.{arith, ap, sym, subst, inl, inr}
 use Rattle.std.proofs.Math.Nat.{le-max_left, le-max_right, max-le}
 use Rattle.byte_ranges.specs.Ranges.{bytes_at}
@@ -25,10 +25,11 @@ use Rattle.store_core.specs.Opened.{LeavesRoom, RestsOnFound, RoomOf, SameOnFoun
 use Rattle.store_core.specs.States as store
 use Rattle.store_core.proofs.OpeningLaws.{alike_itself}
 use Rattle.ask_session.specs.Runs.{last_state}
-use Rattle.costore_top.specs.declared.top.Outcome.{Outcome}
+use Rattle.command_face.specs.declared.outcome.Outcome.{Outcome}
 use Rattle.costore_top.specs.Following.{LeavesRoomTwice, MayBegin}
-use Rattle.costore_top.specs.Headline.{IsNextStart, OpensToBeing, OpensToKept, RunHolds, limits_with, most_left}
-use Rattle.costore_top.specs.Working.{WorkHolds}
+use Rattle.command_face.specs.Served.{IsNextStart, OpensToBeing, OpensToKept, limits_with, most_left}
+use Rattle.run_command.specs.Headline.{RunHolds}
+use Rattle.work_command.specs.Working.{WorkHolds}
 
 -- ---- numbers
 

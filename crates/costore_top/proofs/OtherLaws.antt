@@ -1,11 +1,12 @@
 -- Words that ask for requests to be served, and words that don't.
 use Rattle.std.specs.Prelude.{◌≡◌, ◌≢◌, ◌⊎◌, ◌↔◌, ℕ, true, false, Bool, List, IsTrue}
 use Rattle.std.proofs.Common.{ap, arith, refl, subst, sym, ◌∙◌, inl, inr}
-use Rattle.costore_top.specs.Headline.{is_session}
-use Rattle.costore_top.specs.Outcomes.{ServesNothing, serves}
-use Rattle.costore_top.specs.Words.{Command, Means, MeansNone, run, serving_of, work}
+use Rattle.run_command.specs.Headline.{is_session}
+use Rattle.costore_top.specs.Answering.{ServesNothing, serves}
+use Rattle.command_face.specs.Mounting.{Command, run, work}
+use Rattle.costore_top.specs.Words.{Means, MeansNone, serving_of}
 use Rattle.costore_top.specs.declared.words.Serving.{Serving}
-use Rattle.costore_top.specs.Working.{is_working}
+use Rattle.work_command.specs.Working.{is_working}
 use Rattle.costore_top.proofs.WordLists.{means_one}
 
 -- words that ask for requests to be served ask for nothing else

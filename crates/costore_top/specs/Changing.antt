@@ -1,6 +1,6 @@
 -- Which commands may change their file.
 use Rattle.std.specs.Prelude.{Bool, true, false}
-use Rattle.costore_top.specs.Words.{Command, format, run, work}
+use Rattle.command_face.specs.Mounting.{Command, format, run, work}
 
 -- the command may change its file, or make it
 abbrev pub changes : Command → Bool

@@ -1,15 +1,4 @@
 pub mod Words
-pub mod Getting
-pub mod Texts
-pub mod Summaries
-pub mod Worked
-pub mod Faults
-pub mod Outcomes
-pub mod Layers
-pub mod Commands
+pub mod Answering
 pub mod Following
-pub mod Headline
-pub mod Sessions
-pub mod Working
-pub mod Doing
 pub mod Changing

@@ -1,4 +1,4 @@
--- The commands of the program, and how each is spelled.
+-- How each command of the program is spelled.
 use Rattle.std.specs.Prelude.{◌≡◌, ℕ, ◌<◌, ◌≤◌, ◌^◌, List, [], ◌∷◌, length, map, codes}
 use Rattle.std.specs.Fmt.{decimal}
 use Rattle.std.specs.Borrow.{Bor}
@@ -7,20 +7,7 @@ use Rattle.costore_top.specs.declared.words.Asked.{Asked}
 use Rattle.costore_top.specs.declared.words.Asked.TheVariants as asked
 use Rattle.costore_top.specs.declared.words.Serving.{Serving}
 use Rattle.costore_top.specs.declared.words.Serving.TheVariants as serving
-
--- what the program may be asked to do
-pub data Command : Type 0 where
-  -- make a store of a file: the file, the divisor of its buffers, and how many names it has room for
-  format : List ℕ → ℕ → ℕ → Command
-  -- put the object of a name: the file, and the name
-  get : List ℕ → List ℕ → Command
-  check : List ℕ → Command
-  map_of : List ℕ → Command
-  run : List ℕ → Command
-  -- do the jobs of a number: the file, the number, and how many
-  work : List ℕ → ℕ → ℕ → Command
-  help : Command
-  version : Command
+use Rattle.command_face.specs.Mounting.{Command, format, get, check, map_of, run, work, help, version}
 
 -- the words of a command line
 abbrev pub spelled : Command → List (List ℕ)

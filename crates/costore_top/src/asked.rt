@@ -1,21 +1,21 @@
 //! What is asked of the program, but for the fault line.
-ghost use Rattle.std.specs.Prelude.{◌≡◌, ◌≢◌, ◌≤◌, ℕ, List, None, Ok, Err, IfErr, IsTrue, IsFalse, length};
+ghost use Rattle.std.specs.Prelude.{◌≡◌, ◌≢◌, ◌≤◌, ℕ, List, None, Err, IfErr, IsTrue, IsFalse, length};
 ghost use Rattle.disk_face.specs.Frames.{Untouched};
-ghost use Rattle.costore_top.specs.Commands.{Formats, IsDone, IsMounted};
-ghost use Rattle.costore_top.specs.Layers.{Answers, IsCommandReason, KeepsAt, PutsNone};
-ghost use Rattle.costore_top.specs.Words.{Command, command_of, format};
-ghost use Rattle.costore_top.specs.Outcomes.{IsAnswer, makes, mounts, reads, serves};
+ghost use Rattle.command_face.specs.Mounting.{IsMounted, format, makes};
+ghost use Rattle.file_commands.specs.Formatting.{Formats, IsDone};
+ghost use Rattle.command_face.specs.Layers.{Answers, IsCommandReason, KeepsAt, PutsNone};
+ghost use Rattle.costore_top.specs.Words.{command_of};
+ghost use Rattle.costore_top.specs.Answering.{IsAnswer, mounts, reads, serves};
 
-use crate::StopReason;
-use crate::command::{check_from, format_in, get_from, map_from};
-use crate::copy::put_whole;
 use crate::help::{HELP, VERSION};
 use crate::words::Asked;
+use command_face::{StopReason, put_whole};
 use disk_face::{Bay, Mounted, Sink};
+use file_commands::{check_from, format_in, get_from, map_from};
 use std::alloc::Global;
 
 /// Does what is asked, but for the fault line, where no requests are to be served.
-#[tactic(auto, unfolding(crate::specs::Outcomes::IsAnswer))]
+#[tactic(auto, unfolding(crate::specs::Answering::IsAnswer))]
 pub fn do_asked<B: Bay, O: Sink>(
     alloc: Global,
     asked: &Asked,

@@ -1,7 +1,8 @@
 //! Whether a command may change its file.
 ghost use Rattle.std.specs.Prelude.{◌≡◌, IsFalse};
 ghost use Rattle.costore_top.specs.Changing.{changes};
-ghost use Rattle.costore_top.specs.Words.{Command, Means, MeansNone, texts};
+ghost use Rattle.command_face.specs.Mounting.{Command};
+ghost use Rattle.costore_top.specs.Words.{Means, MeansNone, texts};
 
 use crate::words::{Asked, read_words};
 

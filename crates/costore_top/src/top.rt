@@ -1,41 +1,24 @@
 //! The top call: what the program does with its words, its disk and its streams.
-ghost use Rattle.std.specs.Prelude.{◌≡◌, ◌≢◌, ◌⊎◌, ◌↔◌, ◌<◌, ◌≤◌, ℕ, List, None, Ok, Err, IfErr, OnOk, IsTrue, IsFalse, true, length};
-ghost use Rattle.disk_face.specs.Counts.{Rose};
+ghost use Rattle.std.specs.Prelude.{◌≡◌, ◌≢◌, ◌⊎◌, ◌↔◌, ℕ, List, None, Err, IfErr, IsTrue, IsFalse, true, length};
 ghost use Rattle.disk_face.specs.Frames.{Untouched};
-ghost use Rattle.costore_top.specs.Commands.{Formats, IsDone, IsMounted};
-ghost use Rattle.costore_top.specs.Words.{Command, Means, MeansNone, format, run, texts, work};
-ghost use Rattle.costore_top.specs.Getting.{IsRefused};
-ghost use Rattle.costore_top.specs.Headline.{RunPromise, is_session};
-ghost use Rattle.costore_top.specs.Sessions.{NeverOpens, RunAlways};
-ghost use Rattle.costore_top.specs.Working.{WorkPromise, WorkAlways};
-ghost use Rattle.costore_top.specs.Outcomes.{Ends, IsNotRun, ServesNothing, PutsLast, PutsLine, IsAnswer, line_at, makes, mounts, reads, serves, status_at};
-ghost use Rattle.costore_top.specs.Layers.{Answers, IsCommandReason, Keeps, KeepsAt, PutsNone};
-ghost use Rattle.costore_top.specs.Faults.{line_of};
+ghost use Rattle.command_face.specs.Mounting.{IsMounted, Command, format, run, work, makes};
+ghost use Rattle.file_commands.specs.Formatting.{Formats, IsDone};
+ghost use Rattle.costore_top.specs.Words.{Means, MeansNone, texts};
+ghost use Rattle.command_face.specs.Refusing.{IsRefused, NeverOpens};
+ghost use Rattle.run_command.specs.Headline.{RunPromise, is_session};
+ghost use Rattle.run_command.specs.Sessions.{RunAlways};
+ghost use Rattle.work_command.specs.Working.{WorkPromise, WorkAlways};
+ghost use Rattle.command_face.specs.Outcomes.{Ends, PutsLine};
+ghost use Rattle.costore_top.specs.Answering.{IsNotRun, ServesNothing, IsAnswer, mounts, reads, serves};
+ghost use Rattle.command_face.specs.Layers.{Answers, IsCommandReason, Keeps, KeepsAt, PutsNone};
 
-use crate::StopReason;
 use crate::asked::do_asked;
-use crate::fault::fault_line;
-use crate::run::run_file;
 use crate::words::{Serving, read_serving, read_words};
-use crate::work::work_file;
+use command_face::{Outcome, StopReason, finish};
 use disk_face::{Bay, Mounted, Sink, Source};
+use run_command::run_file;
 use std::alloc::Global;
-
-/// How the program ends. The three numbers are of the requests of the input; they are 0 for a command
-/// that serves none of these.
-#[derive(Clone, Copy, Debug, PartialEq, Eq)]
-pub struct Outcome {
-    /// 0 done, 1 faulty words, 2 a faulty request, 3 no file, 4 no store, 5 not an empty file, 6 no
-    /// such object, 7 the disk failed, 8 the source failed, 9 the sink failed, 10 too little memory, 11
-    /// as many requests as one session answers.
-    pub status: u8,
-    /// How many requests were answered.
-    pub done: u64,
-    /// How many of them the last acknowledged checkpoint holds.
-    pub kept_done: u64,
-    /// The disk's turn when that checkpoint was made, or when the file was opened.
-    pub kept_turn: u64,
-}
+use work_command::work_file;
 
 /// The whole program: does what the words of the command line ask, without the program's name, with
 /// the files of a bay that has mounted none. It takes memory for the table of a file, and for the bytes
@@ -166,59 +149,5 @@ fn do_words<B: Bay, O: Sink>(
     match read_words(words) {
         None => Err(StopReason::Words),
         Some(asked) => do_asked(alloc, &asked, bay, output),
-    }
-}
-
-/// Puts the fault line of a command that stopped, and answers the status. Where that put fails, the
-/// status stays.
-pub fn finish<O: Sink>(end: Result<(), StopReason>, output: &mut O) -> Outcome
-    ensures status { result ≡ record { status = status_at end; done = 0; kept_done = 0; kept_turn = 0 } }
-    ensures line { IsTrue (O.state output.old).tells
-        → PutsLast (O.state output.old).given (O.state output.new).given (line_at end)
-        (Rose (O.state output.old).faults (O.state output.new).faults) }
-    ensures told { (O.state output.new).tells ≡ (O.state output.old).tells }
-    ensures later { (O.state output.old).faults ≤ (O.state output.new).faults }
-    ensures calm { OnOk end ((O.state output.new).faults ≡ (O.state output.old).faults) }
-{
-    if let Err(why) = end {
-        tell(why, output);
-    }
-    Outcome {
-        status: status_at(&end),
-        done: 0,
-        kept_done: 0,
-        kept_turn: 0,
-    }
-}
-
-/// Puts the fault line of a reason to stop.
-fn tell<O: Sink>(why: StopReason, output: &mut O)
-    ensures line { IsTrue (O.state output.old).tells
-        → PutsLast (O.state output.old).given (O.state output.new).given (line_of why)
-        (Rose (O.state output.old).faults (O.state output.new).faults) }
-    ensures told { (O.state output.new).tells ≡ (O.state output.old).tells }
-    ensures later { (O.state output.old).faults ≤ (O.state output.new).faults }
-{
-    let line = fault_line(why);
-    let _ = output.put(line.as_slice());
-}
-
-/// The status of a command that ends so.
-fn status_at(end: &Result<(), StopReason>) -> u8
-    ensures { result ≡ status_at end.now }
-{
-    match end {
-        Ok(()) => 0,
-        Err(StopReason::Words) => 1,
-        Err(StopReason::NoFile) => 3,
-        Err(StopReason::NotStore(_)) => 4,
-        Err(StopReason::Taken(_)) => 5,
-        Err(StopReason::Missing) => 6,
-        Err(StopReason::Disk) => 7,
-        Err(StopReason::Sink) => 9,
-        Err(StopReason::NoMemory) => 10,
-        Err(StopReason::Line(_)) => 2,
-        Err(StopReason::Source) => 8,
-        Err(StopReason::Budget) => 11,
     }
 }

@@ -1,7 +1,7 @@
 //! The command that the words of the command line mean.
 ghost use Rattle.std.specs.Prelude.{◌≡◌, ◌≤◌, ◌↔◌, ◌∷◌, [], ℕ, IsTrue, MatchOption};
 ghost use Rattle.std.specs.Fmt.{decimal};
-ghost use Rattle.costore_top.specs.Outcomes.{ServesNothing};
+ghost use Rattle.costore_top.specs.Answering.{ServesNothing};
 ghost use Rattle.costore_top.specs.Words.{Means, MeansNone, texts, command_of, serving_of};
 
 use itoa::Buffer;

@@ -1,7 +1,7 @@
-use Rattle.std.proofs.Common.{arith, ◌≡◌, ap, sym, ◌∙◌, subst}
-use Rattle.std.proofs.lemmas.Grind.{common_steps}
-use Rattle.costore_top.specs.Commands.{Formats, IsDone}
-use Rattle.costore_top.specs.Words.{command_of, format}
+use Rattle.std.proofs.Common.{◌≡◌, ap, sym, ◌∙◌, subst}
+use Rattle.file_commands.specs.Formatting.{Formats, IsDone}
+use Rattle.command_face.specs.Mounting.{format}
+use Rattle.costore_top.specs.Words.{command_of}
 use Rattle.costore_top.proofs.asked.do_asked.Goals as goal
 
 pub format_in-requires-clause-divisor : goal.format_in-requires-clause-divisor

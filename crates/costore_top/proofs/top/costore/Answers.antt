@@ -1,13 +1,15 @@
 -- The end of the command, and what was put before the line that tells it.
 use Rattle.std.proofs.Common.{◌≡◌, ◌≢◌, ◌⊎◌, ap, refl, subst, sym, ◌∙◌}
-use Rattle.costore_top.specs.Commands.{Formats, IsMounted}
-use Rattle.costore_top.specs.Outcomes.{IsAnswer, makes, mounts, reads, serves, status_at}
-use Rattle.costore_top.proofs.Formatting.{disk_by, formats_by, plain_status}
-use Rattle.costore_top.specs.Words.{format, run, texts, work}
-use Rattle.costore_top.specs.Working.{WorkPromise, WorkAlways}
+use Rattle.command_face.specs.Mounting.{IsMounted, makes, format, run, work}
+use Rattle.file_commands.specs.Formatting.{Formats}
+use Rattle.command_face.specs.Outcomes.{status_at}
+use Rattle.costore_top.specs.Answering.{IsAnswer, mounts, reads, serves}
+use Rattle.costore_top.proofs.FormatLaws.{disk_by, formats_by, plain_status}
+use Rattle.costore_top.specs.Words.{texts}
+use Rattle.work_command.specs.Working.{WorkPromise, WorkAlways}
 use Rattle.costore_top.proofs.OtherLaws.{no_other, not_none, not_other, not_run, same_numbers, served, session_not_one, working_not_one, working_plain}
 use Rattle.costore_top.proofs.WordLists.{means_one}
-use Rattle.costore_top.proofs.Statuses.{ended, line_after_none, line_unless}
+use Rattle.costore_top.proofs.EndedLaws.{ended, line_after_none, line_unless}
 use Rattle.costore_top.proofs.top.costore.Goals as goal
 
 pub returns-in-None-clause-ends : goal.returns-in-None-clause-ends

@@ -1,11 +1,11 @@
 use Rattle.std.proofs.Common.{arith, ◌≡◌, Err, IsTrue, subst, sym}
 use Rattle.std.proofs.lemmas.Grind.{common_steps}
 -- What was read is the one command that the words mean.
-use Rattle.costore_top.specs.Words.{command_of, format, texts}
-use Rattle.costore_top.specs.Commands.{IsMounted}
-use Rattle.costore_top.specs.declared.stop.StopReason.TheVariants as stop
-use Rattle.costore_top.specs.Layers.{Answers}
-use Rattle.costore_top.specs.Outcomes.{IsAnswer, mounts}
+use Rattle.command_face.specs.Mounting.{format, IsMounted}
+use Rattle.costore_top.specs.Words.{command_of, texts}
+use Rattle.command_face.specs.declared.stop.StopReason.TheVariants as stop
+use Rattle.command_face.specs.Layers.{Answers}
+use Rattle.costore_top.specs.Answering.{IsAnswer, mounts}
 use Rattle.costore_top.proofs.WordLists.{means_one}
 use Rattle.costore_top.proofs.top.do_words.Goals as goal
 

@@ -1,0 +1,159 @@
+-- A file that opens isn't refused, and one that isn't opened ends a command as its refusal says.
+use Rattle.std.specs.Prelude.{◌≡◌, ◌≢◌, ◌⊎◌, ℕ, List, [], Err, IsTrue, refl, ◌≤◌}
+use Rattle.std.proofs.Common.{arith, sym, ◌∙◌, subst, inl, inr}
+use Rattle.size_class.specs.declared.TheConstants.{CLASSES, SIZE_MAX}
+use Rattle.slot_codec.proofs.StepLaws.{from_ok}
+use Rattle.slot_codec.specs.Choice as choice
+use Rattle.map_model.specs.Maps.{Map}
+use Rattle.segment_layout.specs.Books.{Book}
+use Rattle.table_rules.specs.Opening.{Opens, OpensBy, placed_table}
+use Rattle.table_rules.specs.Rules.{FirstBroken}
+use Rattle.table_rules.proofs.FirstLaws.{valid_breaks_none}
+use Rattle.command_face.specs.declared.stop.StoreFault.{StoreFault}
+use Rattle.command_face.specs.declared.stop.StoreFault.TheVariants as store
+use Rattle.command_face.specs.Refusing.{IsFirstRefusal, IsRefused, stop_of, NeverOpens}
+use Rattle.command_face.specs.Outcomes.{EndsBy, status_of}
+use Rattle.slot_codec.specs.declared.codec.Kind.{Kind}
+use Rattle.slot_codec.specs.declared.codec.Kind.TheVariants as kind
+use Rattle.slot_pair.specs.declared.find.SlotFault.TheVariants as slot
+use Rattle.reopen.specs.Refusals.{RefusesToOpen}
+use Rattle.reopen.specs.declared.fault.OpenFault.{OpenFault}
+use Rattle.reopen.specs.declared.fault.OpenFault.TheVariants as opening
+use Rattle.command_face.specs.Served.{BeginsFrom}
+use Rattle.disk_face.specs.States.{State}
+use Rattle.disk_face.specs.Frames.{AfterMount, Unchanged, Untouched}
+use Rattle.disk_face.proofs.MomentLaws.{Leaves-call}
+use Rattle.store_core.specs.Opened.{IsOpening, RefusesUnchanged}
+
+-- a file that opens isn't refused
+pub opens_or_not : (file : List ℕ) (m : Map) (b : Book) (f : StoreFault) → Opens CLASSES SIZE_MAX file m b
+    → IsFirstRefusal file f → ⊥
+opens_or_not file m b (store.Slot f) o (r, a, is_f) = let read = o.opens.read in absurd (cc)
+opens_or_not file m b (store.Table x) o h =
+    let same : h.table ≡ o.table = from_ok h.table o.table (sym h.read ∙ o.opens.read) in
+    valid_breaks_none (placed_table CLASSES SIZE_MAX file o.table) x.rule x.at o.opens.valid
+    (subst (λ t. FirstBroken (placed_table CLASSES SIZE_MAX file t) x.rule x.at) same h.first)
+
+-- ---- a file that opens isn't refused
+
+-- opening it failed for want of a device or of memory
+pub data WhyUnopened : OpenFault → Type 0 where
+  disk : WhyUnopened (opening.Slot slot.Disk)
+  memory : WhyUnopened opening.NoMemory
+
+pub why_unopened : (t : choice.Table) (m : Map) (b : Book) (file : List ℕ) (why : OpenFault)
+    → OpensBy CLASSES SIZE_MAX t file m b → RefusesToOpen CLASSES file why → WhyUnopened why
+why_unopened t m b file (opening.Slot slot.Disk) o is = disk
+why_unopened t m b file opening.NoMemory o is = memory
+why_unopened t m b file (opening.Slot slot.Short) o is = absurd (let read = o.read in cc)
+why_unopened t m b file (opening.Slot slot.Unformatted) o is = absurd (let read = o.read in cc)
+why_unopened t m b file (opening.Slot slot.NoGate) o is = absurd (let read = o.read in cc)
+why_unopened t m b file (opening.Slot slot.SameSequence) o is = absurd (let read = o.read in cc)
+why_unopened t m b file (opening.Slot (slot.Codec f at)) o is = absurd (let read = o.read in cc)
+why_unopened t m b file (opening.Table broken) o is =
+    absurd (opens_or_not file m b (store.Table broken) (record { table = t; opens = o }) is)
+
+-- a file that isn't opened for what its bytes show never opens
+not_four : (why : OpenFault) → WhyUnopened why → status_of (stop_of why) ≡ 4 → ⊥
+not_four (opening.Slot slot.Disk) disk four = omega (arith, four)
+not_four opening.NoMemory memory four = omega (arith, four)
+not_four (opening.Slot slot.Short) none four = elim none [ ]
+not_four (opening.Slot slot.Unformatted) none four = elim none [ ]
+not_four (opening.Slot slot.NoGate) none four = elim none [ ]
+not_four (opening.Slot slot.SameSequence) none four = elim none [ ]
+not_four (opening.Slot (slot.Codec f at)) none four = elim none [ ]
+not_four (opening.Table broken) none four = elim none [ ]
+
+pub unopened_never : (file : List ℕ) (why : OpenFault) → RefusesToOpen CLASSES file why
+    → status_of (stop_of why) ≡ 4 → NeverOpens file
+unopened_never file why refused four m b opens =
+    not_four why (why_unopened opens.table m b file why opens.opens refused) four
+
+-- the sequence at the start may be the one found
+pub begins_itself : (k : Kind) (found : ℕ) → BeginsFrom k found found
+begins_itself kind.Settled found = refl
+begins_itself kind.Moving found = (omega arith, omega arith)
+
+-- the status of a file that isn't opened
+pub status_unopened : (why : OpenFault) → (status_of (stop_of why) ≡ 4) ⊎ (status_of (stop_of why) ≡ 7)
+    ⊎ (status_of (stop_of why) ≡ 10)
+status_unopened (opening.Slot slot.Disk) = inr (inl refl)
+status_unopened (opening.Slot slot.Short) = inl refl
+status_unopened (opening.Slot slot.Unformatted) = inl refl
+status_unopened (opening.Slot slot.NoGate) = inl refl
+status_unopened (opening.Slot slot.SameSequence) = inl refl
+status_unopened (opening.Slot (slot.Codec f at)) = inl refl
+status_unopened (opening.Table broken) = inl refl
+status_unopened opening.NoMemory = inr (inr refl)
+
+pub not_status : (why : OpenFault) (n : ℕ) → n ≢ 4 → n ≢ 7 → n ≢ 10 → status_of (stop_of why) ≢ n
+not_status why n four seven ten is = elim (status_unopened why) as (λ _. ⊥) [
+  | inl x ↦ four (sym is ∙ x)
+  | inr rest ↦ elim rest as (λ _. ⊥) [ inl x ↦ seven (sym is ∙ x) | inr x ↦ ten (sym is ∙ x) ]
+]
+
+pub disk_by : (why : OpenFault) → status_of (stop_of why) ≡ 7 → why ≡ opening.Slot slot.Disk
+disk_by (opening.Slot slot.Disk) is = refl
+disk_by (opening.Slot slot.Short) is = absurd (omega (arith, is))
+disk_by (opening.Slot slot.Unformatted) is = absurd (omega (arith, is))
+disk_by (opening.Slot slot.NoGate) is = absurd (omega (arith, is))
+disk_by (opening.Slot slot.SameSequence) is = absurd (omega (arith, is))
+disk_by (opening.Slot (slot.Codec f at)) is = absurd (omega (arith, is))
+disk_by (opening.Table broken) is = absurd (omega (arith, is))
+disk_by opening.NoMemory is = absurd (omega (arith, is))
+
+-- a file that was only mounted
+pub mount_untouched : (a b : State) → AfterMount a b → a.faults ≤ b.faults → Untouched a b
+mount_untouched a b mount later = record {
+  same_file = mount.same_file;
+  images = mount.images;
+  since = Leaves-call a.may_leave mount.time mount.images;
+  same_turn = mount.same_turn;
+  later = later;
+  told = mount.told;
+  images_told = mount.images_told;
+}
+
+-- a refusal that isn't the disk's changes nothing
+pub refused_unchanged : (a b : State) (why : OpenFault) → status_of (stop_of why) ≡ 4
+    → RefusesUnchanged a b why
+    → Unchanged a b
+refused_unchanged a b (opening.Slot slot.Disk) four is = absurd (omega (arith, four))
+refused_unchanged a b (opening.Slot slot.Short) four is = is
+refused_unchanged a b (opening.Slot slot.Unformatted) four is = is
+refused_unchanged a b (opening.Slot slot.NoGate) four is = is
+refused_unchanged a b (opening.Slot slot.SameSequence) four is = is
+refused_unchanged a b (opening.Slot (slot.Codec f at)) four is = is
+refused_unchanged a b (opening.Table broken) four is = is
+refused_unchanged a b opening.NoMemory four is = is
+
+-- a refusal ends a command as the first refusal of the file says
+pub refuses : (file : List ℕ) (why : OpenFault) → RefusesToOpen CLASSES file why
+    → EndsBy (IsRefused file) [] (Err (stop_of why))
+refuses file (opening.Slot slot.Disk) is = inr refl
+refuses file (opening.Slot slot.Short) is =
+    (record { fault = store.Slot slot.Short; first = (choice.too_short, is, refl); same = refl }, refl)
+refuses file (opening.Slot slot.Unformatted) is = (
+  record { fault = store.Slot slot.Unformatted; first = (choice.unformatted, is, refl); same = refl },
+  refl,
+)
+refuses file (opening.Slot slot.NoGate) is =
+    (record { fault = store.Slot slot.NoGate; first = (choice.no_gate, is, refl); same = refl }, refl)
+refuses file (opening.Slot slot.SameSequence) is = (
+  record { fault = store.Slot slot.SameSequence; first = (choice.same_sequence, is, refl); same = refl },
+  refl,
+)
+refuses file (opening.Slot (slot.Codec f at)) is = (
+  record { fault = store.Slot (slot.Codec f at); first = (choice.codec f at, is, refl); same = refl },
+  refl,
+)
+refuses file (opening.Table broken) is =
+    (record { fault = store.Table broken; first = is; same = refl }, refl)
+refuses file opening.NoMemory is = refl
+
+-- the file that was mounted is the one that the call began with
+pub never_mounted : (old first z : State) (why : OpenFault) → AfterMount old first
+    → IsOpening CLASSES first z (Err why) → IsTrue old.tells → status_of (stop_of why) ≡ 4
+    → NeverOpens old.file
+never_mounted old first z why mount opening told four = subst NeverOpens (mount.same_file told)
+    (unopened_never first.file why (opening.refused (mount.told ∙ told)) four)

@@ -1,0 +1,50 @@
+-- The lines that the program puts where it stops.
+use Rattle.std.specs.Prelude.{ℕ, List, [], ◌++◌, codes}
+use Rattle.std.specs.Fmt.{decimal}
+use Rattle.slot_codec.specs.declared.codec.CodecFault.{CodecFault}
+use Rattle.slot_codec.specs.declared.codec.CodecFault.TheVariants as codec
+use Rattle.slot_pair.specs.declared.find.SlotFault.{SlotFault}
+use Rattle.slot_pair.specs.declared.find.SlotFault.TheVariants as slot
+use Rattle.command_face.specs.declared.stop.StoreFault.{StoreFault}
+use Rattle.command_face.specs.declared.stop.StoreFault.TheVariants as store
+use Rattle.command_face.specs.declared.stop.StopReason.{StopReason}
+use Rattle.command_face.specs.declared.stop.StopReason.TheVariants as stop
+
+-- the numbers of the faults in bytes
+abbrev pub number_of : CodecFault → ℕ
+number_of codec.Magic = 1
+number_of codec.Params = 2
+number_of codec.Version = 3
+number_of codec.Kind = 4
+number_of codec.Zeros = 5
+number_of codec.Count = 6
+number_of codec.NameBytes = 7
+number_of codec.Order = 8
+number_of codec.Worn = 9
+number_of codec.Range = 10
+
+abbrev pub slot_text : SlotFault → List ℕ
+slot_text slot.Short = codes "slot 1"
+slot_text slot.Unformatted = codes "slot 2"
+slot_text slot.NoGate = codes "slot 3"
+slot_text slot.SameSequence = codes "slot 4"
+slot_text (slot.Codec f at) = codes "codec " ++ decimal (number_of f) ++ codes " at " ++ decimal at
+slot_text slot.Disk = codes "disk"
+
+abbrev pub store_text : StoreFault → List ℕ
+store_text (store.Slot f) = slot_text f
+store_text (store.Table broken) = codes "rule " ++ decimal broken.rule ++ codes " at " ++ decimal broken.at
+
+-- the line of a reason to stop; of the sink's own fault there is none
+abbrev pub line_of : StopReason → List ℕ
+line_of stop.Words = codes "fault words\n"
+line_of stop.NoFile = codes "fault no file\n"
+line_of (stop.NotStore f) = codes "fault store " ++ store_text f ++ codes "\n"
+line_of (stop.Taken n) = codes "fault taken " ++ decimal n ++ codes "\n"
+line_of stop.Missing = codes "fault missing\n"
+line_of stop.Disk = codes "fault disk\n"
+line_of stop.Sink = []
+line_of stop.NoMemory = codes "fault memory\n"
+line_of (stop.Line n) = codes "fault request " ++ decimal n ++ codes "\n"
+line_of stop.Source = codes "fault source\n"
+line_of stop.Budget = codes "fault budget\n"

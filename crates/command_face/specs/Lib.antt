@@ -1,0 +1,7 @@
+pub mod Mounting
+pub mod Refusing
+pub mod Faults
+pub mod Outcomes
+pub mod Layers
+pub mod Lines
+pub mod Served

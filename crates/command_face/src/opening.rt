@@ -1,0 +1,21 @@
+//! Why a file isn't opened, as a reason to stop.
+ghost use Rattle.std.specs.Prelude.{◌≡◌};
+ghost use Rattle.command_face.specs.Refusing.{stop_of};
+ghost use Rattle.command_face.specs.Layers.{IsCommandReason};
+
+use crate::{StopReason, StoreFault};
+use reopen::OpenFault;
+use slot_pair::SlotFault;
+
+/// What a fault in opening is to the command.
+pub fn stop_of(fault: OpenFault) -> StopReason
+    ensures same { result ≡ stop_of fault }
+    ensures plain { IsCommandReason result }
+{
+    match fault {
+        OpenFault::Slot(SlotFault::Disk) => StopReason::Disk,
+        OpenFault::Slot(other) => StopReason::NotStore(StoreFault::Slot(other)),
+        OpenFault::Table(broken) => StopReason::NotStore(StoreFault::Table(broken)),
+        OpenFault::NoMemory => StopReason::NoMemory,
+    }
+}

@@ -1,8 +1,0 @@
-use Rattle.costore_top.proofs.EmptyLaws.{first_opens, none_opens}
-use Rattle.costore_top.proofs.laws.a_formatted_file_is_the_empty_store.Goals as goal
-
-pub returns-clause-opens : goal.returns-clause-opens
-returns-clause-opens c = first_opens
-
-pub returns-clause-none : goal.returns-clause-none
-returns-clause-none c = none_opens

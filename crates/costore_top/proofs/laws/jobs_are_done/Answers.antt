@@ -1,8 +1,0 @@
-use Rattle.costore_top.proofs.DidLaws.{jobs_done}
-use Rattle.costore_top.proofs.laws.jobs_are_done.Goals as goal
-
-pub returns : goal.returns
-returns g c = λ t m b file number count status old new out after opens works so mount there calm
-    sink_calm.
-    jobs_done file number count status (g.B.Disk.state old) (g.B.Disk.state new) (g.O.Sink.state out)
-    (g.O.Sink.state after) (works t m b opens).far.known so.keeps mount there calm sink_calm

@@ -1,5 +1,0 @@
-use Rattle.table_check.proofs.NumberLaws.{grid_small}
-use Rattle.costore_top.proofs.map.push_class.Goals as goal
-
-pub taken-requires : goal.taken-requires
-taken-requires c = record { small = grid_small c.args.header.now c.requires.ranges c.args.c }

@@ -1,4 +1,0 @@
-use Rattle.costore_top.proofs.run.serve_from.Goals as goal
-
-pub returns-in-Ok : goal.returns-in-Ok
-returns-in-Ok g c = c.serve_store.ensures c.args.disk.now c.in-Ok.ensures

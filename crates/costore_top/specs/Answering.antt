@@ -1,0 +1,53 @@
+-- Which commands mount and read a file or serve requests, and what each is to answer.
+use Rattle.std.specs.Prelude.{◌≡◌, ℕ, Bool, true, false, List, Result, Ok, IsFalse}
+use Rattle.command_face.specs.Mounting.{Command, check, format, get, help, map_of, run, version, work}
+use Rattle.costore_top.specs.Words.{Means}
+use Rattle.file_commands.specs.Getting.{IsObject}
+use Rattle.file_commands.specs.Texts.{IsChecked, IsMapped}
+use Rattle.command_face.specs.declared.stop.StopReason.{StopReason}
+use Rattle.costore_top.specs.declared.help.TheConstants.{HELP, VERSION}
+use Rattle.file_commands.specs.Formatting.{format_answer}
+
+-- the command mounts its file, and it makes the file where it isn't there
+abbrev pub mounts : Command → Bool
+mounts (format file k names) = true
+mounts (get file name) = true
+mounts (check file) = true
+mounts (map_of file) = true
+mounts (run file) = true
+mounts (work file number count) = true
+mounts _ = false
+
+-- the command reads the table of its file, for which it takes memory
+abbrev pub reads : Command → Bool
+reads (get file name) = true
+reads (check file) = true
+reads (map_of file) = true
+reads (run file) = true
+reads (work file number count) = true
+reads _ = false
+
+-- the command serves requests, those of its input or those of a number
+abbrev pub serves : Command → Bool
+serves (run file) = true
+serves (work file number count) = true
+serves _ = false
+
+-- the words don't ask for requests to be served
+abbrev pub ServesNothing : List (List ℕ) → Type 0
+ServesNothing words = (c : Command) → Means words c → IsFalse (serves c)
+
+-- the words don't ask for the requests of the input
+abbrev pub IsNotRun : List (List ℕ) → Type 0
+IsNotRun words = (file : List ℕ) → Means words (run file) → ⊥
+
+-- what a command is to answer, against the bytes of its file
+unfoldable pub IsAnswer : Command → List ℕ → Result (List ℕ) StopReason → Type 0
+IsAnswer (format name k names) file answer = answer ≡ format_answer file
+IsAnswer (get name object) file answer = IsObject object file answer
+IsAnswer (check name) file answer = IsChecked file answer
+IsAnswer (map_of name) file answer = IsMapped file answer
+IsAnswer (run name) file answer = ⊥
+IsAnswer (work name number count) file answer = ⊥
+IsAnswer help file answer = answer ≡ Ok HELP.now
+IsAnswer version file answer = answer ≡ Ok VERSION.now

@@ -1,0 +1,76 @@
+-- How a layer answers where it stops before it puts any byte.
+use Rattle.std.specs.Prelude.{◌≡◌, ◌≢◌, ℕ, List, [], Result, Ok, Err, OnErr, IsTrue, refl}
+use Rattle.std.proofs.Common.{arith, ap, sym, ◌∙◌, subst, inr, append-nil}
+use Rattle.disk_face.specs.Streams.{Puts, SinkState}
+use Rattle.command_face.specs.declared.stop.StopReason.{StopReason}
+use Rattle.command_face.specs.declared.stop.StopReason.TheVariants as stop
+use Rattle.file_commands.specs.Getting.{StopsAs}
+use Rattle.command_face.specs.Layers.{Answers}
+use Rattle.command_face.specs.Outcomes.{EndsBy}
+
+-- a layer stops as it is to, or for want of a device or of memory, before it puts any
+pub stopped : (answer : Result (List ℕ) StopReason → Type 0) (old new : SinkState) (why : StopReason)
+    → new ≡ old
+    → why ≢ stop.Sink → StopsAs answer why → Answers answer old new (Err why)
+stopped answer old new why same no_sink stops = record {
+  bytes = [];
+  ends = ends_of why no_sink stops;
+  puts = λ told. record {
+    all = tt;
+    front = (0, omega arith, ap (λ s. s.given) same ∙ sym (append-nil old.given));
+  };
+}
+  where
+    ends_of : (e : StopReason) → e ≢ stop.Sink → StopsAs answer e → EndsBy answer [] (Err e)
+    ends_of stop.Disk not_sink is = inr refl
+    ends_of stop.Sink not_sink is = absurd (not_sink refl)
+    ends_of stop.NoFile not_sink is = refl
+    ends_of stop.NoMemory not_sink is = refl
+    ends_of stop.Words not_sink is = (is, refl)
+    ends_of (stop.NotStore f) not_sink is = (is, refl)
+    ends_of (stop.Taken n) not_sink is = (is, refl)
+    ends_of stop.Missing not_sink is = (is, refl)
+    ends_of (stop.Line n) not_sink is = (is, refl)
+    ends_of stop.Source not_sink is = (is, refl)
+    ends_of stop.Budget not_sink is = (is, refl)
+
+-- a layer puts what it is to answer, unless the sink fails
+pub put_answer : (answer : Result (List ℕ) StopReason → Type 0) (bytes : List ℕ) (old new : SinkState)
+    (end : Result (Unit {0}) StopReason) → answer (Ok bytes) → OnErr end (end ≡ Err stop.Sink)
+    → (IsTrue old.tells → Puts old.given new.given bytes end) → Answers answer old new end
+put_answer answer bytes old new end is only puts = record {
+  bytes = bytes;
+  ends = ends_of end only;
+  puts = puts;
+}
+  where
+    ends_of : (e : Result (Unit {0}) StopReason) → OnErr e (e ≡ Err stop.Sink) → EndsBy answer bytes e
+    ends_of (Ok x) sink = is
+    ends_of (Err e) sink = subst (EndsBy answer bytes) (sym sink) is
+
+-- what stops one command as it is to stops another that answers more
+pub stops_more : (answer other : Result (List ℕ) StopReason → Type 0)
+    → ((a : Result (List ℕ) StopReason) → answer a → other a) → (why : StopReason) → StopsAs answer why
+    → StopsAs other why
+stops_more answer other more stop.Disk is = tt
+stops_more answer other more stop.NoMemory is = tt
+stops_more answer other more stop.Sink is = more (Err stop.Sink) is
+stops_more answer other more stop.NoFile is = more (Err stop.NoFile) is
+stops_more answer other more stop.Words is = more (Err stop.Words) is
+stops_more answer other more (stop.NotStore f) is = more (Err (stop.NotStore f)) is
+stops_more answer other more (stop.Taken n) is = more (Err (stop.Taken n)) is
+stops_more answer other more stop.Missing is = more (Err stop.Missing) is
+stops_more answer other more (stop.Line n) is = more (Err (stop.Line n)) is
+stops_more answer other more stop.Source is = more (Err stop.Source) is
+stops_more answer other more stop.Budget is = more (Err stop.Budget) is
+
+-- want of memory stops any command before it puts any
+pub stopped_for_memory : (answer : Result (List ℕ) StopReason → Type 0) (state : SinkState) (why : StopReason)
+    → why ≡ stop.NoMemory → Answers answer state state (Err why)
+stopped_for_memory answer state why is = subst (λ (w : StopReason). Answers answer state state (Err w))
+    (sym is)
+    (record {
+      bytes = [];
+      ends = refl;
+      puts = λ told. record { all = tt; front = (0, omega arith, sym (append-nil state.given)) };
+    })

@@ -1,0 +1,4 @@
+pub mod Getting
+pub mod Texts
+pub mod Worked
+pub mod Formatting

@@ -1,0 +1,14 @@
+//! The commands that look at a file or make one: `format`, `get`, `check` and `map`.
+#![tactic(auto)]
+
+mod check;
+mod command;
+mod copy;
+mod get;
+mod laws;
+mod lines;
+mod load;
+mod map;
+
+pub use command::{check_from, format_in, get_from, map_from};
+pub use laws::{a_formatted_file_is_the_empty_store, told_of_the_map, worked_texts};

@@ -1,0 +1,402 @@
+-- The headline of the command that serves requests, from how it went.
+use Rattle.std.specs.Prelude.{◌≡◌, ℕ, ◌+◌, ◌<◌, ◌≤◌, true, false, List, length, Result, Ok, Err, IsTrue, refl}
+use Rattle.std.proofs.Common.{arith, ap, sym, ◌∙◌, subst, inl, inr}
+use Rattle.disk_face.specs.Counts.{Rose, counted, last}
+use Rattle.disk_face.specs.States.{IsLawful, State}
+use Rattle.disk_face.specs.Frames.{AfterMount, Unchanged}
+use Rattle.disk_face.specs.Moments.{Leaves, LeftOnly}
+use Rattle.disk_face.specs.Mounts.{is_mounted}
+use Rattle.disk_face.specs.Streams.{SinkState, SourceState}
+use Rattle.disk_face.specs.declared.bay.Mounted.TheVariants.{Absent}
+use Rattle.disk_face.proofs.MomentLaws.{Leaves-call, Leaves-trans, Leaves-weaken}
+use Rattle.size_class.specs.declared.TheConstants.{CLASSES, SIZE_MAX}
+use Rattle.slot_codec.specs.Choice as choice
+use Rattle.slot_codec.specs.declared.codec.SuperBlock.{SuperBlock}
+use Rattle.slot_codec.specs.declared.codec.Kind.TheVariants as kind
+use Rattle.slot_pair.specs.declared.find.SlotFault.TheVariants as slot
+use Rattle.map_model.specs.Maps.{Map}
+use Rattle.map_model.specs.Requests.{Request}
+use Rattle.segment_layout.specs.Books.{Book, book_end}
+use Rattle.table_rules.specs.Opening.{OpensBy}
+use Rattle.store_core.specs.Connection.{StoreValue, state_of}
+use Rattle.store_core.specs.Stores.{IsStore}
+use Rattle.store_core.specs.States as store
+use Rattle.store_core.specs.Opened.{IsFoundImage, IsOpening, LeavesRoom, RestsOnFound, SameOnFound, found_base, state_at}
+use Rattle.store_core.proofs.OpeningLaws.{found_image}
+use Rattle.reopen.specs.declared.fault.OpenFault.{OpenFault}
+use Rattle.reopen.specs.declared.fault.OpenFault.TheVariants as opening
+use Rattle.ask_text.specs.Inputs.{Asks}
+use Rattle.ask_session.specs.Sittings.{Sitting, new_sitting}
+use Rattle.ask_session.specs.Turns.{IsUnserved, is_unserved}
+use Rattle.ask_session.specs.declared.ends.Turn.TheVariants as turn
+use Rattle.ask_session.specs.Runs.{EndsRun, budget}
+use Rattle.ask_session.specs.declared.ends.End.{End}
+use Rattle.ask_session.specs.declared.ends.End.TheVariants as ends
+use Rattle.command_face.specs.Refusing.{stop_of}
+use Rattle.command_face.specs.Served.{IsNextStart, Starts, turn_opened}
+use Rattle.run_command.specs.Headline.{HasMounted, HowFar, RunHolds}
+use Rattle.command_face.specs.Mounting.{mounted, Command}
+use Rattle.command_face.specs.Outcomes.{PutsLast, line_at, status_at}
+use Rattle.run_command.specs.Sessions.{IsServed, IsUnbegun, IsUnopened, Went, RunSteps, ended_as, end_of, outcome_of, unserved}
+use Rattle.command_face.specs.declared.stop.StopReason.{StopReason}
+use Rattle.command_face.specs.declared.stop.StopReason.TheVariants as stop
+use Rattle.run_command.specs.declared.run.Ended.{Ended}
+use Rattle.command_face.specs.declared.outcome.Outcome.{Outcome}
+use Rattle.command_face.proofs.OpeningLaws.{Opened, left_first, left_opening, opened_by, opens_first, rests_first, told_first}
+use Rattle.command_face.proofs.OverLaws.{next_over}
+use Rattle.run_command.proofs.RunLaws.{all_answered, disk_failed, input_ended, line_failed, sink_failed, source_failed}
+use Rattle.run_command.proofs.SettledLaws.{ends_with_layout}
+use Rattle.run_command.proofs.UnservedLaws.{unserved_runs, never_true}
+use Rattle.command_face.proofs.UnopenedLaws.{WhyUnopened, why_unopened, begins_itself}
+use Rattle.command_face.proofs.UnopenedLaws.WhyUnopened.{disk, memory}
+
+-- ---- the whole
+
+module _ {D I O : Type 0} (disk_of : D → State) (source_of : I → SourceState) (sink_of : O → SinkState)
+    (lawful : (d : D) → IsLawful (disk_of d)) (before now : D) (from rest : I) (out mid_out : O)
+    (after : SinkState)
+    (told : IsTrue (disk_of before).tells) (told_source : IsTrue (source_of from).tells)
+    (t : choice.Table) (m : Map) (b : Book) (requests : List Request) (end : List ℕ)
+    (o : OpensBy CLASSES SIZE_MAX t (disk_of before).file m b)
+    (asks : Asks (source_of from).left requests end) where
+  abbrev old : State
+  old = disk_of before
+
+  abbrev z : State
+  z = disk_of now
+
+  -- the line of an end is put behind what the session put
+  abbrev PutsEnd : Result (Unit {0}) StopReason → Type 0
+  PutsEnd ending = IsTrue (sink_of out).tells → PutsLast (sink_of mid_out).given after.given (line_at ending)
+      (Rose (sink_of out).faults after.faults)
+
+  abbrev Runs : Outcome → Type 0
+  Runs x = RunHolds t.chosen.block t m b requests end x old z (source_of from) (source_of rest)
+      (sink_of out) after
+
+  left_before : old.turn < last → RestsOnFound t old
+      → LeftOnly old old.turn (IsFoundImage CLASSES t m b (length old.file))
+  left_before below rests image since =
+      found_image CLASSES t old.file m b o image (rests image ((lawful before).only_now image below since))
+
+  -- ---- no session
+
+  abbrev found_start : store.State
+  found_start = state_at m b t.chosen.header.sequence
+
+  found_starts : Starts t m b found_start
+  found_starts = record {
+    state = refl;
+    sequence = begins_itself t.chosen.header.kind t.chosen.header.sequence;
+  }
+
+  -- the next call finds what this one found
+  next_found : z.file ≡ old.file → (RestsOnFound t old → RestsOnFound t z)
+      → IsNextStart t found_start t.chosen.header.sequence old z
+  next_found same rests = record {
+    table = t;
+    opens = subst (λ (f : List ℕ). OpensBy CLASSES SIZE_MAX t f m b) (sym same) o;
+    block = refl;
+    not_worn = omega arith;
+    exact = λ same. refl;
+    rests = rests;
+  }
+
+  -- the images of a settled file that was only looked at
+  settled_still : z.turn ≡ old.turn → (RestsOnFound t old → Leaves old z old.may_leave) → RestsOnFound t old
+      → z.turn < last → t.chosen.header.kind ≡ kind.Settled → turn_opened t b old ≤ z.turn
+      → LeftOnly z (turn_opened t b old) (λ image. length image ≡ found_base t + book_end t.chosen.block.k b)
+  settled_still same left rests below settled opened image since =
+      let ends = ends_with_layout t m b old o settled (omega (arith, same, below))
+      (omega (arith, same, opened)) in
+      let long = λ (may : old.may_leave image). (rests image may).same_length ∙ ends.same_length in
+      elim ((left rests).each (turn_opened t b old) image (omega (arith, ends.same_turn)) since)
+      as (λ _. length image ≡ found_base t + book_end t.chosen.block.k b) [
+        | inl was ↦ long ((lawful before).only_now image (omega (arith, same, below))
+            (subst (λ (k : ℕ). old.left_since k image) ends.same_turn was))
+        | inr may ↦ long may
+      ]
+
+  module _ (same_source : rest ≡ from) (same_sink : mid_out ≡ out) where
+    line_out : (ending : Result (Unit {0}) StopReason) → PutsEnd ending → IsTrue (sink_of out).tells
+        → PutsLast (sink_of out).given after.given (line_at ending) (Rose (sink_of out).faults after.faults)
+    line_out ending line sink_told = subst (λ (x : O). PutsLast (sink_of x).given after.given (line_at ending)
+        (Rose (sink_of out).faults after.faults)) same_sink (line sink_told)
+
+    -- the disk failed before a session began
+    failed_before : (k : ℕ) → old.turn ≤ z.turn
+        → (LeavesRoom t → RestsOnFound t old → Leaves old z (IsFoundImage CLASSES t m b (length old.file)))
+        → Rose old.faults z.faults → (HasMounted z → k ≡ z.turn) → PutsEnd (Err stop.Disk)
+        → Runs (outcome_of (unserved stop.Disk k))
+    failed_before k later left rose since line =
+        unserved_runs t.chosen.block found_start found_starts (lawful now) left_before later left
+        (λ rests below calm settled opened. absurd (omega (arith, rose, calm.same, calm.below)))
+        requests end (source_of from) (source_of rest) (sink_of out) after 7 k refl refl
+        (λ is. omega (arith, is))
+        since (λ calm has. omega (arith, rose, calm.same, calm.below))
+        (λ calm. absurd (omega (arith, rose, calm.same, calm.below)))
+        (Err stop.Disk) refl tt (line_out (Err stop.Disk) line) (record {
+          known = refl;
+          done = λ is. absurd (omega (arith, is));
+          line = λ is. absurd (omega (arith, is));
+          absent = λ is. absurd (omega (arith, is));
+          disk = λ is. inr refl;
+          sink = λ is. absurd (omega (arith, is));
+          memory = λ is. absurd (omega (arith, is));
+          few = omega arith;
+          limit = (λ is. absurd (omega (arith, is)), λ is. absurd (omega (arith, is)));
+        })
+
+    -- the file isn't there
+    absent : (c : Command) → AfterMount old z → z.last_mount ≡ mounted c Absent → PutsEnd (Err stop.NoFile)
+        → Runs (outcome_of (unserved stop.NoFile 0))
+    absent c mount is line =
+        unserved_runs t.chosen.block found_start found_starts (lawful now) left_before mount.time.later
+        (λ room. left_first t m b old z mount told o)
+        (λ rests below calm settled opened. settled_still mount.same_turn
+        (λ rests. Leaves-call old.may_leave mount.time mount.images) rests below settled opened)
+        requests end (source_of from) (source_of rest) (sink_of out) after 3 0 refl refl
+        (λ is. omega (arith, is))
+        (λ has. absurd (never_true (sym (ap is_mounted is) ∙ has))) (λ calm has. never_true has)
+        (λ calm. next_found (mount.same_file told) (rests_first t m b old z mount told o))
+        (Err stop.NoFile) refl tt (line_out (Err stop.NoFile) line) (record {
+          known = refl;
+          done = λ is. absurd (omega (arith, is));
+          line = λ is. absurd (omega (arith, is));
+          absent = λ is. refl;
+          disk = λ is. absurd (omega (arith, is));
+          sink = λ is. absurd (omega (arith, is));
+          memory = λ is. absurd (omega (arith, is));
+          few = omega arith;
+          limit = (λ is. absurd (omega (arith, is)), λ is. absurd (omega (arith, is)));
+        })
+
+    no_memory : HowFar 10 0 requests end (source_of from) (source_of rest)
+    no_memory = record {
+      known = refl;
+      done = λ is. absurd (omega (arith, is));
+      line = λ is. absurd (omega (arith, is));
+      absent = λ is. absurd (omega (arith, is));
+      disk = λ is. absurd (omega (arith, is));
+      sink = λ is. absurd (omega (arith, is));
+      memory = λ is. (refl, ap source_of same_source);
+      few = omega arith;
+      limit = (λ is. absurd (omega (arith, is)), λ is. absurd (omega (arith, is)));
+    }
+
+    module _ (first : State) (mount : AfterMount old first) (calm_mount : first.faults ≡ old.faults) where
+      -- nothing was changed for want of memory
+      wants_memory : Unchanged first z → PutsEnd (Err stop.NoMemory)
+          → Runs (outcome_of (unserved stop.NoMemory z.turn))
+      wants_memory same line =
+          let file : z.file ≡ old.file = same.same_file (told_first t m b old first mount told o)
+          ∙ mount.same_file told in
+          let still = λ (rests : RestsOnFound t old).
+          Leaves-trans (Leaves-call old.may_leave mount.time mount.images)
+          (Leaves-weaken old.may_leave mount.images same.since) in
+          unserved_runs t.chosen.block found_start found_starts (lawful now) left_before
+          (omega (arith, same.same_turn, mount.same_turn))
+          (λ room rests. Leaves-weaken (IsFoundImage CLASSES t m b (length old.file))
+          (λ image may. found_image CLASSES t old.file m b o image (rests image may)) (still rests))
+          (λ rests below calm settled opened. settled_still
+          (same.same_turn ∙ mount.same_turn) still rests below
+          settled opened)
+          requests end (source_of from) (source_of rest) (sink_of out) after 10 z.turn refl refl
+          (λ is. omega (arith, is)) (λ has. refl) (λ calm has. never_true has)
+          (λ calm. next_found file (λ rests image left. subst (λ (f : List ℕ). SameOnFound t f image)
+          (sym file)
+          (rests image (mount.images image (same.images image left)))))
+          (Err stop.NoMemory) refl tt (line_out (Err stop.NoMemory) line) no_memory
+
+      unopened_by : (e : Ended) (why : OpenFault) → WhyUnopened why → IsOpening CLASSES first z (Err why)
+          → e ≡ unserved (stop_of why) z.turn → PutsEnd e.end → Runs (outcome_of e)
+      unopened_by e (opening.Slot slot.Disk) disk is ended line =
+          subst (λ (y : Ended). Runs (outcome_of y)) (sym ended) (failed_before z.turn
+          (omega (arith, mount.same_turn, is.frame.no_turn_back))
+          (left_opening t m b old first mount told o z (Err (opening.Slot slot.Disk)) is)
+          (omega (arith, calm_mount, is.cause.rose refl)) (λ has. refl)
+          (subst (λ (y : Ended). PutsEnd y.end) ended line))
+      unopened_by e opening.NoMemory memory is ended line =
+          subst (λ (y : Ended). Runs (outcome_of y)) (sym ended) (wants_memory is.unchanged
+          (subst (λ (y : Ended). PutsEnd y.end) ended line))
+      unopened_by e (opening.Slot slot.Short) none is ended line = elim none [ ]
+      unopened_by e (opening.Slot slot.Unformatted) none is ended line = elim none [ ]
+      unopened_by e (opening.Slot slot.NoGate) none is ended line = elim none [ ]
+      unopened_by e (opening.Slot slot.SameSequence) none is ended line = elim none [ ]
+      unopened_by e (opening.Slot (slot.Codec f at)) none is ended line = elim none [ ]
+      unopened_by e (opening.Table broken) none is ended line = elim none [ ]
+
+      unopened : (e : Ended) → IsUnopened first z e → PutsEnd e.end → Runs (outcome_of e)
+      unopened e x line = unopened_by e x.fault (why_unopened t m b first.file x.fault
+          (opens_first t m b old first mount told o)
+          (x.opening.refused (told_first t m b old first mount told o))) x.opening x.ended line
+
+      unbegun : (e : Ended) → IsUnbegun first z e → PutsEnd e.end → Runs (outcome_of e)
+      unbegun e x line =
+          let op : Opened t m b old z x.store =
+          opened_by t m b old first mount told o z x.store calm_mount x.opening in
+          subst (λ (y : Ended). Runs (outcome_of y)) (sym x.ended)
+          (subst (λ (u : SuperBlock). RunHolds u t m b requests end
+          (outcome_of (unserved stop.NoMemory z.turn)) old z
+          (source_of from) (source_of rest) (sink_of out) after) op.block
+          (unserved_runs x.store.in_use.block (state_of x.store z.file)
+          (record { state = op.state; sequence = op.sequence }) (lawful now) left_before op.later op.left
+          (λ rests below calm settled opened image since.
+          (op.rests rests image ((lawful now).only_now image below
+          (subst (λ (k : ℕ). z.left_since k image) (sym (op.turn settled)) since))).same_length
+          ∙ op.over.same_length)
+          requests end (source_of from) (source_of rest) (sink_of out) after 10 z.turn refl refl
+          (λ is. omega (arith, is)) (λ has. refl) (λ calm has. never_true has)
+          (λ calm. next_over t x.store old z x.store.in_use.sequence op.sound op.over op.block (omega arith)
+          op.rests) (Err stop.NoMemory) refl tt (line_out (Err stop.NoMemory)
+          (subst (λ (y : Ended). PutsEnd y.end) x.ended line)) no_memory))
+
+  -- ---- a session
+
+  module _ (first : D) (mount : AfterMount old (disk_of first))
+      (calm_mount : (disk_of first).faults ≡ old.faults)
+      (e : Ended) (s : StoreValue) (mid : D) (opens : IsOpening CLASSES (disk_of first) (disk_of mid) (Ok s))
+      (new : Sitting) (line : PutsEnd e.end) where
+    op : Opened t m b old (disk_of mid) s
+    op = opened_by t m b old (disk_of first) mount told o (disk_of mid) s calm_mount opens
+
+    abbrev s0 : Sitting
+    s0 = new_sitting s (disk_of mid).turn
+
+    module _ (how : End)
+        (y : EndsRun disk_of source_of sink_of CLASSES s0 new mid now from rest out mid_out how)
+        (sound : new.store.is_broken ≡ false → IsStore CLASSES new.store) (ended : e ≡ ended_as how new) where
+      abbrev ending : Result (Unit {0}) StopReason
+      ending = end_of how new.done
+
+      line_now : PutsEnd ending
+      line_now = subst (λ (x : Ended). PutsEnd x.end) ended line
+
+      -- a session that ended between two requests
+      module _ (un : IsUnserved y.sitting new) (unserved_how : is_unserved (turn.Ended how) ≡ true) where
+        sound_mid : IsStore CLASSES y.sitting.store
+        sound_mid = subst (IsStore CLASSES) un.store
+            (sound (ap (λ (k : StoreValue). k.is_broken) un.store ∙ y.ran.unbroken))
+
+        line_mid : IsTrue (sink_of out).tells
+            → PutsLast (sink_of y.mid_sink).given after.given (line_at ending)
+            (Rose (sink_of out).faults after.faults)
+        line_mid sink_told = subst (λ (x : O). PutsLast (sink_of x).given after.given (line_at ending)
+            (Rose (sink_of out).faults after.faults)) (y.same_sink unserved_how) (line_now sink_told)
+
+        carried : (status : ℕ) → status ≡ status_at ending
+            → RunHolds s.in_use.block t m b requests end (record {
+              status = status;
+              done = y.sitting.done;
+              kept_done = y.sitting.kept_done;
+              kept_turn = y.sitting.kept_turn;
+            }) old (disk_of y.mid_disk) (source_of from) (source_of rest) (sink_of out) after
+            → Runs (outcome_of e)
+        carried status is runs =
+            let same : outcome_of e ≡ record {
+              status = status;
+              done = y.sitting.done;
+              kept_done = y.sitting.kept_done;
+              kept_turn = y.sitting.kept_turn;
+            } = ap outcome_of ended ∙ (λ i. record {
+              status = sym is i;
+              done = un.counts.done i;
+              kept_done = un.counts.kept_done i;
+              kept_turn = un.counts.kept_turn i;
+            }) in
+            subst Runs (sym same)
+            (subst (λ (x : D). RunHolds t.chosen.block t m b requests end (record {
+              status = status;
+              done = y.sitting.done;
+              kept_done = y.sitting.kept_done;
+              kept_turn = y.sitting.kept_turn;
+            }) old (disk_of x) (source_of from) (source_of rest) (sink_of out) after)
+            (sym (y.same_disk unserved_how))
+            (subst (λ (u : SuperBlock). RunHolds u t m b requests end (record {
+              status = status;
+              done = y.sitting.done;
+              kept_done = y.sitting.kept_done;
+              kept_turn = y.sitting.kept_turn;
+            }) old (disk_of y.mid_disk) (source_of from) (source_of rest) (sink_of out) after) op.block runs))
+
+    session_by : (how : End)
+        → (y : EndsRun disk_of source_of sink_of CLASSES s0 new mid now from rest out mid_out how)
+        → (new.store.is_broken ≡ false → IsStore CLASSES new.store) → e ≡ ended_as how new
+        → Runs (outcome_of e)
+    session_by ends.End y sound ended =
+        let un = y.last_turn.0 in
+        carried ends.End y sound ended un refl 0 refl
+        (input_ended op (lawful before) (lawful mid) o left_before asks told_source y.ran y.few after
+        (source_of rest)
+        (sound_mid ends.End y sound ended un refl) (Ok tt) tt (line_mid ends.End y sound ended un refl) refl
+        (y.fewer refl) (y.last_turn.1 (y.ran.source_told ∙ told_source)))
+    session_by ends.Line y sound ended =
+        let un = y.last_turn.0 in
+        let begins = y.last_turn.1 (y.ran.source_told ∙ told_source) in
+        let done : y.sitting.done ≤ budget = omega (arith, y.ran.done, y.few) in
+        let numbered : counted new.done 1 ≡ y.sitting.done + 1 = omega (arith, un.counts.done, done) in
+        carried ends.Line y sound ended un refl 2 refl
+        (line_failed op (lawful before) (lawful mid) o left_before asks told_source y.ran y.few after
+        (source_of rest)
+        (sound_mid ends.Line y sound ended un refl) (Err (stop.Line (counted new.done 1))) numbered
+        (line_mid ends.Line y sound ended un refl) refl (y.fewer refl) begins.0 begins.1)
+    session_by ends.Source y sound ended =
+        let un = y.last_turn in
+        carried ends.Source y sound ended un refl 8 refl
+        (source_failed op (lawful before) (lawful mid) o left_before asks told_source y.ran y.few after
+        (source_of rest) (sound_mid ends.Source y sound ended un refl) (Err stop.Source) tt
+        (line_mid ends.Source y sound ended un refl) refl (y.fewer refl))
+    session_by ends.Budget y sound ended =
+        let same : new ≡ y.sitting = y.last_turn.1 in
+        let un : IsUnserved y.sitting new = record {
+          store = ap (λ (x : Sitting). x.store) same;
+          counts = record {
+            done = ap (λ (x : Sitting). x.done) same;
+            kept_done = ap (λ (x : Sitting). x.kept_done) same;
+            kept_turn = ap (λ (x : Sitting). x.kept_turn) same;
+          };
+        } in
+        carried ends.Budget y sound ended un refl 11 refl
+        (all_answered op (lawful before) (lawful mid) o left_before asks told_source y.ran y.few after
+        (source_of rest) (sound_mid ends.Budget y sound ended un refl) (Err stop.Budget) tt
+        (line_mid ends.Budget y sound ended un refl) refl y.last_turn.0)
+    session_by ends.Disk y sound ended =
+        subst (λ (x : Ended). Runs (outcome_of x)) (sym ended)
+        (subst (λ (u : SuperBlock). RunHolds u t m b requests end (outcome_of (ended_as ends.Disk new)) old z
+        (source_of from) (source_of rest) (sink_of out) after) op.block
+        (disk_failed op (lawful before)
+        (lawful mid) o left_before asks told_source y.ran y.few ends.Disk y.last_turn
+        after (Err stop.Disk) tt (y.fewer refl) (line_now ends.Disk y sound ended) refl refl))
+    session_by ends.Sink y sound ended =
+        subst (λ (x : Ended). Runs (outcome_of x)) (sym ended)
+        (subst (λ (u : SuperBlock). RunHolds u t m b requests end (outcome_of (ended_as ends.Sink new)) old z
+        (source_of from) (source_of rest) (sink_of out) after) op.block
+        (sink_failed op (lawful before)
+        (lawful mid) o left_before asks told_source y.ran y.few ends.Sink y.last_turn
+        after (Err stop.Sink) tt (y.fewer refl) (line_now ends.Sink y sound ended) refl refl sound))
+
+  -- ---- all of them
+
+  runs_served : (c : Command) (e : Ended)
+      → IsServed disk_of source_of sink_of c before now from rest out mid_out e
+      → PutsEnd e.end → Runs (outcome_of e)
+  runs_served c e x line = by x.went
+    where
+      by : Went disk_of source_of sink_of x.first now from rest out mid_out e → Runs (outcome_of e)
+      by (inl ((inl is), source, sink)) = unopened source sink (disk_of x.first) x.mount x.calm e is line
+      by (inl ((inr is), source, sink)) = unbegun source sink (disk_of x.first) x.mount x.calm e is line
+      by (inr y) = session_by x.first x.mount x.calm e y.store y.mid y.opening y.new line y.end y.ran y.sound
+          y.ended
+
+  pub headline : (c : Command) (e : Ended)
+      → RunSteps disk_of source_of sink_of c before now from rest out mid_out e
+      → PutsEnd e.end → Runs (outcome_of e)
+  headline c e (inl (is, source, sink)) line = elim is.which as (λ _. Runs (outcome_of e)) [
+    | inl failed ↦ subst (λ (y : Ended). Runs (outcome_of y)) (sym failed.0) (failed_before source sink 0
+        is.mount.time.later (λ room. left_first t m b old z is.mount told o) failed.2
+        (λ has. absurd (never_true (sym (ap is_mounted failed.1) ∙ has)))
+        (subst (λ (y : Ended). PutsEnd y.end) failed.0 line))
+    | inr gone ↦ subst (λ (y : Ended). Runs (outcome_of y)) (sym gone.0) (absent source sink c is.mount gone.1
+        (subst (λ (y : Ended). PutsEnd y.end) gone.0 line))
+  ]
+  headline c e (inr x) line = runs_served c e x line

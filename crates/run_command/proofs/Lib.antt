@@ -1,0 +1,12 @@
+mod RunLists
+mod SessionLemmas
+mod RunLaws
+mod UnservedLaws
+mod SettledLaws
+mod HeadlineLaws
+mod ClauseLaws
+mod WentLaws
+mod CountLaws
+mod ServedLaws
+mod EndLaws
+mod RefusalLaws

@@ -1,0 +1,70 @@
+-- How a session went, from the steps that its functions take.
+use Rattle.std.specs.Prelude.{◌≡◌, ℕ, false, Ok, Err, refl}
+use Rattle.std.proofs.Common.{ap, sym, ◌∙◌, subst, inl, inr}
+use Rattle.disk_face.specs.States.{State}
+use Rattle.disk_face.specs.Streams.{SinkState, SourceState}
+use Rattle.size_class.specs.declared.TheConstants.{CLASSES}
+use Rattle.store_core.specs.Connection.{IsConnected, StoreValue}
+use Rattle.store_core.specs.Opened.{IsOpening}
+use Rattle.store_core.specs.Stores.{IsStore}
+use Rattle.ask_session.specs.Sittings.{Sitting, new_sitting}
+use Rattle.ask_session.specs.Runs.{EndsRun}
+use Rattle.ask_session.specs.declared.ends.End.{End}
+use Rattle.run_command.specs.Sessions.{Went, ended_as, unserved}
+use Rattle.command_face.specs.Refusing.{stop_of}
+use Rattle.command_face.specs.declared.stop.StopReason.TheVariants as stop
+use Rattle.run_command.specs.declared.run.Ended.{Ended}
+use Rattle.reopen.specs.declared.fault.OpenFault.{OpenFault}
+
+-- a store that was opened is over its file
+pub connected_of : (a b : State) (s : StoreValue) → IsOpening CLASSES a b (Ok s) → IsConnected CLASSES s b
+connected_of a b s opening = λ whole told. opening.over (sym opening.frame.stays.told ∙ told)
+
+module _ {D I O : Type 0} (disk_of : D → State) (source_of : I → SourceState) (sink_of : O → SinkState) where
+  pub went_session : (first mid now : D) (from rest : I) (out after : O) (store : StoreValue)
+      (s new : Sitting)
+      (end : End)
+      (turn : ℕ) (e : Ended) → IsOpening CLASSES (disk_of first) (disk_of mid) (Ok store)
+      → s ≡ new_sitting store turn → turn ≡ (disk_of mid).turn
+      → EndsRun disk_of source_of sink_of CLASSES s new mid now from rest out after end
+      → (new.store.is_broken ≡ false → IsStore CLASSES new.store) → e ≡ ended_as end new
+      → Went disk_of source_of sink_of first now from rest out after e
+  went_session first mid now from rest out after store s new end turn e opening is at ran sound ended = inr
+      (record {
+        store = store;
+        mid = mid;
+        new = new;
+        end = end;
+        opening = opening;
+        ran = subst (λ (x : Sitting). EndsRun disk_of source_of sink_of CLASSES x new mid now from rest out
+            after end)
+            (is ∙ ap (λ (n : ℕ). new_sitting store n) at) ran;
+        sound = sound;
+        ended = ended;
+      })
+
+  pub went_unbegun : (first now : D) (from : I) (out : O) (store : StoreValue) (turn : ℕ) (e : Ended)
+      → IsOpening CLASSES (disk_of first) (disk_of now) (Ok store) → turn ≡ (disk_of now).turn
+      → e ≡ unserved stop.NoMemory turn → Went disk_of source_of sink_of first now from from out out e
+  went_unbegun first now from out store turn e opening at is = inl (
+    inr (record {
+      store = store;
+      opening = opening;
+      ended = is ∙ ap (λ (n : ℕ). unserved stop.NoMemory n) at;
+    }),
+    refl,
+    refl,
+  )
+
+  pub went_unopened : (first now : D) (from : I) (out : O) (why : OpenFault) (turn : ℕ) (e : Ended)
+      → IsOpening CLASSES (disk_of first) (disk_of now) (Err why) → turn ≡ (disk_of now).turn
+      → e ≡ unserved (stop_of why) turn → Went disk_of source_of sink_of first now from from out out e
+  went_unopened first now from out why turn e opening at is = inl (
+    inl (record {
+      fault = why;
+      opening = opening;
+      ended = is ∙ ap (λ (n : ℕ). unserved (stop_of why) n) at;
+    }),
+    refl,
+    refl,
+  )

@@ -1,0 +1,336 @@
+-- What holds of the command that serves requests in each way that it may go.
+use Rattle.std.specs.Prelude.{◌≡◌, ◌≢◌, ◌⊎◌, ℕ, ◌≤◌, true, false, List, [], None, Ok, Err, IsTrue, refl}
+use Rattle.std.proofs.Common.{arith, ap, sym, ◌∙◌, subst, inl, inr}
+use Rattle.disk_face.specs.Counts.{Rose}
+use Rattle.disk_face.specs.States.{State}
+use Rattle.disk_face.specs.Frames.{AfterMount, Untouched}
+use Rattle.disk_face.specs.Mounts.{is_mounted}
+use Rattle.disk_face.specs.Streams.{SinkState, SourceState}
+use Rattle.disk_face.specs.declared.bay.Mounted.TheVariants.{Absent, There}
+use Rattle.disk_face.proofs.FrameLaws.{Untouched-then}
+use Rattle.size_class.specs.declared.TheConstants.{CLASSES, SIZE_MAX}
+use Rattle.map_model.specs.Maps.{Map}
+use Rattle.segment_layout.specs.Books.{Book}
+use Rattle.table_rules.specs.Opening.{Opens}
+use Rattle.store_core.specs.Connection.{StoreValue}
+use Rattle.store_core.specs.Opened.{IsOpening}
+use Rattle.reopen.specs.Refusals.{RefusesToOpen}
+use Rattle.reopen.specs.declared.fault.OpenFault.{OpenFault}
+use Rattle.command_face.specs.Mounting.{IsMounted, mounted, run}
+use Rattle.command_face.specs.Refusing.{IsRefused, stop_of}
+use Rattle.run_command.specs.Headline.{HasMounted, IsKeptTurn, is_session}
+use Rattle.ask_session.specs.declared.ends.End.{End}
+use Rattle.ask_session.specs.declared.ends.End.TheVariants as ends
+use Rattle.command_face.specs.Outcomes.{EndsBy, status_at, status_of}
+use Rattle.run_command.specs.Sessions.{IsServed, IsUnserved, KeepsRun, Went, RunSteps, end_of, outcome_of, unserved}
+use Rattle.command_face.specs.declared.stop.StopReason.TheVariants as stop
+use Rattle.run_command.specs.declared.run.Ended.{Ended}
+use Rattle.run_command.proofs.ClauseLaws.{SessionKeeps, session_keeps}
+use Rattle.command_face.proofs.UnopenedLaws.{status_unopened, not_status, disk_by, mount_untouched, refused_unchanged, refuses}
+
+pub not_both : {A : Type 0} → false ≡ true → A
+not_both is = absurd (cc)
+
+-- the devices, the mount, and the turn that is told
+pub record Whole (file : List ℕ) (old z : State) (from rest : SourceState) (out mid_out : SinkState)
+    (same : Type 0)
+    (e : Ended) : Type 0 where
+  pub keeps : KeepsRun old z from rest out mid_out (status_at e.end)
+  pub mounted : IsMounted (run file) z.last_mount (status_at e.end ≡ 7) (status_at e.end ≡ 3)
+  pub turn : IsKeptTurn (outcome_of e) (HasMounted z) old.turn z.turn
+  pub unread : IsUnserved (status_at e.end) → same
+
+module _ (file : List ℕ) (old z : State) (from rest : SourceState) (out mid_out : SinkState)
+    (same : Type 0) where
+  abbrev Is : Ended → Type 0
+  Is e = Whole file old z from rest out mid_out same e
+
+  -- no stream was called
+  no_stream : (status : ℕ) → AfterMount old z → old.faults ≤ z.faults
+      → (status ≡ 7 → Rose old.faults z.faults) → status ≢ 8 → status ≢ 9
+      → rest ≡ from → mid_out ≡ out → KeepsRun old z from rest out mid_out status
+  no_stream status mount later rose eight nine source sink = record {
+    later = later;
+    rose = rose;
+    no_turn_back = mount.time.later;
+    told = mount.told;
+    images_told = mount.images_told;
+    source_later = omega (arith, ap (λ (x : SourceState). x.faults) source);
+    source_rose = λ is. absurd (eight is);
+    sink_later = omega (arith, ap (λ (x : SinkState). x.faults) sink);
+    sink_rose = λ is. absurd (nine is);
+    sink_calm = λ is. ap (λ (x : SinkState). x.faults) sink;
+    sink_told = ap (λ (x : SinkState). x.tells) sink;
+  }
+
+  mount_failed : AfterMount old z → old.faults ≤ z.faults → Rose old.faults z.faults → z.last_mount ≡ None
+      → rest ≡ from → mid_out ≡ out → same → Is (unserved stop.Disk 0)
+  mount_failed mount later rose none source sink is_same = record {
+    keeps = no_stream 7 mount later (λ is. rose) (λ is. omega (arith, is))
+        (λ is. omega (arith, is)) source sink;
+    mounted = record {
+      answer = inl refl;
+      absent = (λ is. absurd (omega (arith, is)), λ is. absurd (let e = sym none ∙ is in cc));
+    };
+    turn = record {
+      unopened = λ is. refl;
+      low = λ has. not_both (sym (ap is_mounted none) ∙ has);
+      high = λ has. omega arith;
+      refused = λ is. absurd (elim is as (λ _. ⊥) [ inl x ↦ omega (arith, x) | inr x ↦ omega (arith, x) ]);
+    };
+    unread = λ is. is_same;
+  }
+
+  file_absent : AfterMount old z → z.faults ≡ old.faults → z.last_mount ≡ mounted (run file) Absent
+      → rest ≡ from → mid_out ≡ out → same → Is (unserved stop.NoFile 0)
+  file_absent mount calm is source sink is_same = record {
+    keeps = no_stream 3 mount (omega (arith, calm)) (λ is. absurd (omega (arith, is)))
+        (λ is. omega (arith, is))
+        (λ is. omega (arith, is)) source sink;
+    mounted = record { answer = inr (inr is); absent = (λ three. is, λ three. refl) };
+    turn = record {
+      unopened = λ is. refl;
+      low = λ has. not_both (sym (ap is_mounted is) ∙ has);
+      high = λ has. omega arith;
+      refused = λ is. absurd (elim is as (λ _. ⊥) [ inl x ↦ omega (arith, x) | inr x ↦ omega (arith, x) ]);
+    };
+    unread = λ is. is_same;
+  }
+
+  module _ (first : State) (mount : AfterMount old first) (calm : first.faults ≡ old.faults)
+      (there : first.last_mount ≡ mounted (run file) There) (e : Ended) where
+    mounted_there : z.last_mount ≡ first.last_mount → status_at e.end ≢ 3
+        → IsMounted (run file) z.last_mount (status_at e.end ≡ 7) (status_at e.end ≡ 3)
+    mounted_there stays three = record {
+      answer = inr (inl (stays ∙ there));
+      absent = (λ is. absurd (three is), λ is. not_both (ap is_mounted (sym is ∙ stays ∙ there)));
+    }
+
+    turn_there : z.last_mount ≡ first.last_mount → first.turn ≤ e.kept_turn → e.kept_turn ≤ z.turn
+        → ((status_at e.end ≡ 4) ⊎ (status_at e.end ≡ 10) → e.kept_turn ≡ z.turn)
+        → IsKeptTurn (outcome_of e) (HasMounted z) old.turn z.turn
+    turn_there stays low high refused = record {
+      unopened = λ is. absurd (is (ap is_mounted (stays ∙ there)));
+      low = λ has. omega (arith, mount.same_turn, low);
+      high = λ has. high;
+      refused = refused;
+    }
+
+    -- a session was begun, after opening at `mid`
+    served : (mid : State) → first.faults ≤ mid.faults → first.turn ≤ mid.turn
+        → mid.tells ≡ first.tells → mid.tells_images ≡ first.tells_images → mid.last_mount ≡ first.last_mount
+        → SessionKeeps mid z from rest out mid_out e.end mid.turn e.kept_turn → Is e
+    served mid later turns told images stays k = record {
+      keeps = record {
+        later = omega (arith, calm, later, k.later);
+        rose = λ is. rose_before old.faults mid.faults z.faults (omega (arith, calm, later)) (k.rose is);
+        no_turn_back = omega (arith, mount.same_turn, turns, k.no_turn_back);
+        told = k.told ∙ told ∙ mount.told;
+        images_told = k.images_told ∙ images ∙ mount.images_told;
+        source_later = k.source_later;
+        source_rose = k.source_rose;
+        sink_later = k.sink_later;
+        sink_rose = k.sink_rose;
+        sink_calm = k.sink_calm;
+        sink_told = k.sink_told;
+      };
+      mounted = mounted_there (k.same_mount ∙ stays) (λ is. k.served (inl is));
+      turn = turn_there (k.same_mount ∙ stays) (omega (arith, turns, k.turn_low)) k.turn_high
+          (λ is. absurd (elim is as (λ _. ⊥) [
+            | inl four ↦ k.served (inr (inl four))
+            | inr ten ↦ k.served (inr (inr ten))
+          ]));
+      unread = λ is. absurd (k.served is);
+    }
+      where
+        rose_before : (a b c : ℕ) → a ≤ b → Rose b c → Rose a c
+        rose_before a b c low rose = omega (arith, low, rose)
+
+    -- no session was begun, though the file was there
+    unserved_there : first.faults ≤ z.faults → first.turn ≤ z.turn → z.tells ≡ first.tells
+        → z.tells_images ≡ first.tells_images → z.last_mount ≡ first.last_mount → e.kept_turn ≡ z.turn
+        → (status_at e.end ≡ 7 → Rose first.faults z.faults) → status_at e.end ≢ 0 → status_at e.end ≢ 3
+        → status_at e.end ≢ 8 → status_at e.end ≢ 9 → rest ≡ from → mid_out ≡ out → same → Is e
+    unserved_there later turns told images stays turn rose zero three eight nine source sink is_same =
+        record {
+          keeps = record {
+            later = omega (arith, calm, later);
+            rose = λ is. subst (λ (n : ℕ). Rose n z.faults) calm (rose is);
+            no_turn_back = omega (arith, mount.same_turn, turns);
+            told = told ∙ mount.told;
+            images_told = images ∙ mount.images_told;
+            source_later = omega (arith, ap (λ (x : SourceState). x.faults) source);
+            source_rose = λ is. absurd (eight is);
+            sink_later = omega (arith, ap (λ (x : SinkState). x.faults) sink);
+            sink_rose = λ is. absurd (nine is);
+            sink_calm = λ is. absurd (zero is);
+            sink_told = ap (λ (x : SinkState). x.tells) sink;
+          };
+          mounted = mounted_there stays three;
+          turn = turn_there stays (omega (arith, turn, turns)) (omega (arith, turn)) (λ is. turn);
+          unread = λ is. is_same;
+        }
+
+module _ {D I O : Type 0} (disk_of : D → State) (source_of : I → SourceState) (sink_of : O → SinkState)
+    (file : List ℕ) (before now : D) (from rest : I) (out mid_out : O) (e : Ended) where
+  abbrev old : State
+  old = disk_of before
+
+  abbrev z : State
+  z = disk_of now
+
+  abbrev Same : Type 0
+  Same = (rest ≡ from) × (mid_out ≡ out)
+
+  abbrev All : Ended → Type 0
+  All x = Whole file old z (source_of from) (source_of rest) (sink_of out) (sink_of mid_out) Same x
+
+  whole_served : IsServed disk_of source_of sink_of (run file) before now from rest out mid_out e → All e
+  whole_served x = by x.went
+    where
+      by : Went disk_of source_of sink_of x.first now from rest out mid_out e → All e
+      by (inl (inl is, source, sink)) =
+          let f = is.opening.frame in
+          let why : e.end ≡ Err (stop_of is.fault) = ap (λ (y : Ended). y.end) is.ended in
+          let status : status_at e.end ≡ status_of (stop_of is.fault) = ap status_at why in
+          unserved_there file old z (source_of from) (source_of rest) (sink_of out) (sink_of mid_out) Same
+          (disk_of x.first) x.mount x.calm x.there e is.opening.cause.later f.no_turn_back f.stays.told
+          f.stays.images_told f.stays.same_mount (ap (λ (y : Ended). y.kept_turn) is.ended)
+          (λ seven. is.opening.cause.rose
+          (ap (λ (y : OpenFault). Err y) (disk_by is.fault (sym status ∙ seven))))
+          (λ n. not_status is.fault 0 (λ y. omega (arith, y)) (λ y. omega (arith, y)) (λ y. omega (arith, y))
+          (sym status ∙ n))
+          (λ n. not_status is.fault 3 (λ y. omega (arith, y)) (λ y. omega (arith, y)) (λ y. omega (arith, y))
+          (sym status ∙ n))
+          (λ n. not_status is.fault 8 (λ y. omega (arith, y)) (λ y. omega (arith, y)) (λ y. omega (arith, y))
+          (sym status ∙ n))
+          (λ n. not_status is.fault 9 (λ y. omega (arith, y)) (λ y. omega (arith, y)) (λ y. omega (arith, y))
+          (sym status ∙ n))
+          (ap source_of source) (ap sink_of sink) (source, sink)
+      by (inl (inr is, source, sink)) =
+          let f = is.opening.frame in
+          let status : status_at e.end ≡ 10 = ap (λ (y : Ended). status_at y.end) is.ended in
+          unserved_there file old z (source_of from) (source_of rest) (sink_of out) (sink_of mid_out) Same
+          (disk_of x.first) x.mount x.calm x.there e is.opening.cause.later f.no_turn_back f.stays.told
+          f.stays.images_told f.stays.same_mount (ap (λ (y : Ended). y.kept_turn) is.ended)
+          (λ n. absurd (omega (arith, n, status))) (λ n. omega (arith, n, status))
+          (λ n. omega (arith, n, status))
+          (λ n. omega (arith, n, status)) (λ n. omega (arith, n, status))
+          (ap source_of source) (ap sink_of sink) (source, sink)
+      by (inr y) =
+          let f = y.opening.frame in
+          served file old z (source_of from) (source_of rest) (sink_of out) (sink_of mid_out) Same
+          (disk_of x.first) x.mount x.calm x.there e (disk_of y.mid) y.opening.cause.later
+          f.no_turn_back f.stays.told f.stays.images_told f.stays.same_mount
+          (subst (λ (w : Ended). SessionKeeps (disk_of y.mid) z (source_of from) (source_of rest)
+          (sink_of out)
+          (sink_of mid_out) w.end (disk_of y.mid).turn w.kept_turn) (sym y.ended)
+          (session_keeps disk_of source_of sink_of y.mid now from rest out mid_out y.store y.new y.end y.ran))
+
+  pub whole : RunSteps disk_of source_of sink_of (run file) before now from rest out mid_out e → All e
+  whole (inl (is, source, sink)) = elim is.which as (λ _. All e) [
+    | inl failed ↦ subst All (sym failed.0)
+        (mount_failed file old z (source_of from) (source_of rest) (sink_of out)
+        (sink_of mid_out) Same is.mount is.later failed.2 failed.1 (ap source_of source) (ap sink_of sink)
+        (source, sink))
+    | inr gone ↦ subst All (sym gone.0)
+        (file_absent file old z (source_of from) (source_of rest) (sink_of out)
+        (sink_of mid_out) Same is.mount gone.2 gone.1 (ap source_of source) (ap sink_of sink) (source, sink))
+  ]
+  whole (inr x) = whole_served x
+
+  -- ---- a file that is refused
+
+  -- it stays as it is
+  pub untouched : RunSteps disk_of source_of sink_of (run file) before now from rest out mid_out e
+      → (status_at e.end ≡ 3) ⊎ (status_at e.end ≡ 4) → Untouched old z
+  untouched (inl (is, source, sink)) status = mount_untouched old z is.mount is.later
+  untouched (inr x) status = by x.went status
+    where
+      by : Went disk_of source_of sink_of x.first now from rest out mid_out e
+          → (status_at e.end ≡ 3) ⊎ (status_at e.end ≡ 4) → Untouched old z
+      by (inl (inl is, source, sink)) (inl three) = absurd (not_status is.fault 3 (λ y. omega (arith, y))
+          (λ y. omega (arith, y)) (λ y. omega (arith, y))
+          (sym (ap (λ (y : Ended). status_at y.end) is.ended) ∙ three))
+      by (inl (inl is, source, sink)) (inr four) = Untouched-then
+          (mount_untouched old (disk_of x.first) x.mount (omega (arith, x.calm)))
+          (refused_unchanged (disk_of x.first) z is.fault
+          (sym (ap (λ (y : Ended). status_at y.end) is.ended) ∙ four) is.opening.unchanged)
+      by (inl (inr is, source, sink)) status =
+          let ten : status_at e.end ≡ 10 = ap (λ (y : Ended). status_at y.end) is.ended in
+          absurd (elim status as (λ _. ⊥) [ inl n ↦ omega (arith, n, ten) | inr n ↦ omega (arith, n, ten) ])
+      by (inr y) status =
+          let k = subst (λ (w : Ended). SessionKeeps (disk_of y.mid) z (source_of from) (source_of rest)
+          (sink_of out) (sink_of mid_out) w.end (disk_of y.mid).turn w.kept_turn) (sym y.ended)
+          (session_keeps disk_of source_of sink_of y.mid now from rest out mid_out y.store y.new y.end y.ran)
+          in
+          absurd (elim status as (λ _. ⊥) [ inl n ↦ k.served (inl n) | inr n ↦ k.served (inr (inl n)) ])
+
+  -- a file that isn't opened ends the command as its first refusal says
+  pub refused_by : IsTrue old.tells → ((m : Map) (b : Book) → Opens CLASSES SIZE_MAX old.file m b → ⊥)
+      → RunSteps disk_of source_of sink_of (run file) before now from rest out mid_out e
+      → EndsBy (IsRefused old.file) [] e.end × (mid_out ≡ out)
+  refused_by told never (inl (is, source, sink)) = (
+    elim is.which as (λ _. EndsBy (IsRefused old.file) [] e.end) [
+      | inl failed ↦ subst (λ (y : Ended). EndsBy (IsRefused old.file) [] y.end) (sym failed.0) (inr refl)
+      | inr gone ↦ subst (λ (y : Ended). EndsBy (IsRefused old.file) [] y.end) (sym gone.0) refl
+    ],
+    sink,
+  )
+  refused_by told never (inr x) = by x.went
+    where
+      told_first : IsTrue (disk_of x.first).tells
+      told_first = x.mount.told ∙ told
+
+      same_file : (disk_of x.first).file ≡ old.file
+      same_file = x.mount.same_file told
+
+      never_opened : (a : State) (s : StoreValue) → IsOpening CLASSES (disk_of x.first) a (Ok s) → ⊥
+      never_opened a s is =
+          let o = is.opened told_first in
+          never o.m o.b (subst (λ (f : List ℕ). Opens CLASSES SIZE_MAX f o.m o.b) same_file
+          (record { table = o.table; opens = o.found }))
+
+      by : Went disk_of source_of sink_of x.first now from rest out mid_out e
+          → EndsBy (IsRefused old.file) [] e.end × (mid_out ≡ out)
+      by (inl (inl is, source, sink)) = (
+        subst (λ (y : Ended). EndsBy (IsRefused old.file) [] y.end) (sym is.ended)
+            (refuses old.file is.fault (subst (λ (f : List ℕ). RefusesToOpen CLASSES f is.fault) same_file
+            (is.opening.refused told_first))),
+        sink,
+      )
+      by (inl (inr is, source, sink)) = absurd (never_opened z is.store is.opening)
+      by (inr y) = absurd (never_opened (disk_of y.mid) y.store y.opening)
+
+  -- ---- the statuses
+
+  abbrev IsKnown : ℕ → Type 0
+  IsKnown status = (is_session status ≡ true) ⊎ (status ≡ 4)
+
+  known_session : (how : End) (done : ℕ) → IsKnown (status_at (end_of how done))
+  known_session ends.End done = inl refl
+  known_session ends.Line done = inl refl
+  known_session ends.Disk done = inl refl
+  known_session ends.Source done = inl refl
+  known_session ends.Sink done = inl refl
+  known_session ends.Budget done = inl refl
+
+  known_unopened : (n : ℕ) → (n ≡ 4) ⊎ (n ≡ 7) ⊎ (n ≡ 10) → IsKnown n
+  known_unopened n (inl four) = inr four
+  known_unopened n (inr (inl seven)) = inl (ap is_session seven)
+  known_unopened n (inr (inr ten)) = inl (ap is_session ten)
+
+  pub known : RunSteps disk_of source_of sink_of (run file) before now from rest out mid_out e
+      → IsKnown (status_at e.end)
+  known (inl (is, source, sink)) = elim is.which as (λ _. IsKnown (status_at e.end)) [
+    | inl failed ↦ inl (ap (λ (y : Ended). is_session (status_at y.end)) failed.0)
+    | inr gone ↦ inl (ap (λ (y : Ended). is_session (status_at y.end)) gone.0)
+  ]
+  known (inr x) = by x.went
+    where
+      by : Went disk_of source_of sink_of x.first now from rest out mid_out e → IsKnown (status_at e.end)
+      by (inl (inl is, source, sink)) = subst (λ (y : Ended). IsKnown (status_at y.end)) (sym is.ended)
+          (known_unopened (status_of (stop_of is.fault)) (status_unopened is.fault))
+      by (inl (inr is, source, sink)) = inl (ap (λ (y : Ended). is_session (status_at y.end)) is.ended)
+      by (inr y) = subst (λ (w : Ended). IsKnown (status_at w.end)) (sym y.ended)
+          (known_session y.end y.new.done)

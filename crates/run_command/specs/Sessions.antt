@@ -1,0 +1,158 @@
+-- How a session over a file went, step by step.
+use Rattle.std.specs.Prelude.{◌≡◌, ◌⊎◌, ◌↔◌, ℕ, ◌≤◌, false, IsTrue, Result, None, Ok, Err}
+use Rattle.disk_face.specs.Counts.{Rose, counted}
+use Rattle.disk_face.specs.Frames.{AfterMount, Untouched}
+use Rattle.disk_face.specs.declared.bay.Mounted.TheVariants.{Absent, There}
+use Rattle.disk_face.specs.States.{State}
+use Rattle.disk_face.specs.Streams.{SinkState, SourceState}
+use Rattle.size_class.specs.declared.TheConstants.{CLASSES}
+use Rattle.store_core.specs.Connection.{StoreValue}
+use Rattle.store_core.specs.Opened.{IsOpening}
+use Rattle.store_core.specs.Stores.{IsStore}
+use Rattle.reopen.specs.declared.fault.OpenFault.{OpenFault}
+use Rattle.ask_session.specs.Sittings.{Sitting, new_sitting}
+use Rattle.ask_session.specs.Runs.{EndsRun, budget}
+use Rattle.ask_session.specs.declared.ends.End.{End}
+use Rattle.ask_session.specs.declared.ends.End.TheVariants as ends
+use Rattle.command_face.specs.Mounting.{Command, mounted}
+use Rattle.command_face.specs.Outcomes.{PutsLine, status_at}
+use Rattle.run_command.specs.Headline.{HasMounted, IsKeptTurn}
+use Rattle.command_face.specs.Refusing.{stop_of, NeverOpens}
+use Rattle.command_face.specs.declared.stop.StopReason.{StopReason}
+use Rattle.command_face.specs.declared.stop.StopReason.TheVariants as stop
+use Rattle.run_command.specs.declared.run.Ended.{Ended}
+use Rattle.command_face.specs.declared.outcome.Outcome.{Outcome}
+
+-- how the program ends where a session ended so, after so many requests were answered
+abbrev pub end_of : End → ℕ → Result (Unit {0}) StopReason
+end_of ends.End done = Ok tt
+end_of ends.Line done = Err (stop.Line (counted done 1))
+end_of ends.Disk done = Err stop.Disk
+end_of ends.Source done = Err stop.Source
+end_of ends.Sink done = Err stop.Sink
+end_of ends.Budget done = Err stop.Budget
+
+-- the end of a session, and its three numbers
+abbrev pub ended_as : End → Sitting → Ended
+ended_as end s = record {
+  end = end_of end s.done;
+  done = s.done;
+  kept_done = s.kept_done;
+  kept_turn = s.kept_turn;
+}
+
+-- no session was begun
+abbrev pub unserved : StopReason → ℕ → Ended
+unserved why turn = record { end = Err why; done = 0; kept_done = 0; kept_turn = turn }
+
+-- the file wasn't opened
+pub record IsUnopened (before now : State) (e : Ended) : Type 0 where
+  pub fault : OpenFault
+  pub opening : IsOpening CLASSES before now (Err fault)
+  pub ended : e ≡ unserved (stop_of fault) now.turn
+
+-- it was opened, and there was no memory for a session
+pub record IsUnbegun (before now : State) (e : Ended) : Type 0 where
+  pub store : StoreValue
+  pub opening : IsOpening CLASSES before now (Ok store)
+  pub ended : e ≡ unserved stop.NoMemory now.turn
+
+-- It was opened, at `mid`, and a session of its store ran to its end.
+pub record HasSession {D I O : Type 0} (disk_of : D → State) (source_of : I → SourceState)
+    (sink_of : O → SinkState)
+    (before now : D) (from rest : I) (out after : O) (e : Ended) : Type 0 where
+  pub store : StoreValue
+  pub mid : D
+  pub new : Sitting
+  pub end : End
+  pub opening : IsOpening CLASSES (disk_of before) (disk_of mid) (Ok store)
+  pub ran : EndsRun disk_of source_of sink_of CLASSES
+      (new_sitting store (disk_of mid).turn) new mid now from rest out
+      after end
+  pub sound : new.store.is_broken ≡ false → IsStore CLASSES new.store
+  pub ended : e ≡ ended_as end new
+
+-- A session over an open file went so; where none was begun, no stream was called.
+abbrev pub Went : {D I O : Type 0} → (D → State) → (I → SourceState) → (O → SinkState) → D → D → I → I → O
+    → O → Ended
+    → Type 0
+Went disk_of source_of sink_of before now from rest out after e =
+    ((IsUnopened (disk_of before) (disk_of now) e ⊎ IsUnbegun (disk_of before) (disk_of now) e)
+    × (rest ≡ from) × (after ≡ out))
+    ⊎ HasSession disk_of source_of sink_of before now from rest out after e
+
+-- The file of a command wasn't mounted: the disk failed, or the file isn't there.
+pub record IsUnmounted (c : Command) (before now : State) (e : Ended) : Type 0 where
+  pub mount : AfterMount before now
+  pub later : before.faults ≤ now.faults
+  pub which : ((e ≡ unserved stop.Disk 0) × (now.last_mount ≡ None) × Rose before.faults now.faults)
+      ⊎ ((e ≡ unserved stop.NoFile 0) × (now.last_mount ≡ mounted c Absent) × (now.faults ≡ before.faults))
+
+-- It was mounted, at `first`, and a session over it went so.
+pub record IsServed {D I O : Type 0} (disk_of : D → State) (source_of : I → SourceState)
+    (sink_of : O → SinkState)
+    (c : Command) (before now : D) (from rest : I) (out after : O) (e : Ended) : Type 0 where
+  pub first : D
+  pub mount : AfterMount (disk_of before) (disk_of first)
+  pub there : (disk_of first).last_mount ≡ mounted c There
+  pub calm : (disk_of first).faults ≡ (disk_of before).faults
+  pub went : Went disk_of source_of sink_of first now from rest out after e
+
+-- A command that serves requests went so; where its file wasn't mounted, no stream was called.
+abbrev pub RunSteps : {D I O : Type 0} → (D → State) → (I → SourceState) → (O → SinkState) → Command → D → D
+    → I → I → O
+    → O → Ended → Type 0
+RunSteps disk_of source_of sink_of c before now from rest out after e =
+    (IsUnmounted c (disk_of before) (disk_of now) e × (rest ≡ from) × (after ≡ out))
+    ⊎ IsServed disk_of source_of sink_of c before now from rest out after e
+
+-- What the command that serves requests does to its devices. No count falls, and a device's own fault comes
+-- only where its count rose; where all is done the sink's didn't. What is told stays told.
+pub record KeepsRun (old new : State) (from rest : SourceState) (out after : SinkState)
+    (status : ℕ) : Type 0 where
+  pub later : old.faults ≤ new.faults
+  pub rose : status ≡ 7 → Rose old.faults new.faults
+  pub no_turn_back : old.turn ≤ new.turn
+  pub told : new.tells ≡ old.tells
+  pub images_told : new.tells_images ≡ old.tells_images
+  pub source_later : from.faults ≤ rest.faults
+  pub source_rose : status ≡ 8 → Rose from.faults rest.faults
+  pub sink_later : out.faults ≤ after.faults
+  pub sink_rose : status ≡ 9 → Rose out.faults after.faults
+  pub sink_calm : status ≡ 0 → after.faults ≡ out.faults
+  pub sink_told : after.tells ≡ out.tells
+
+-- the file wasn't there, or isn't opened, or memory was wanting
+abbrev pub IsUnserved : ℕ → Type 0
+IsUnserved status = (status ≡ 3) ⊎ (status ≡ 4) ⊎ (status ≡ 10)
+
+-- How many requests were answered and are kept. None where no session was begun for want of the file, of a
+-- store or of memory, or where no file was mounted; else at most as many as one session answers, and so many
+-- exactly where it ended for that. Of a disk that tells its content no more are kept than were answered.
+pub record HasCounted (o : Outcome) (told mounted : Type 0) : Type 0 where
+  pub none : IsUnserved o.status ⊎ (mounted → ⊥) → (o.done ≡ 0) × (o.kept_done ≡ 0)
+  pub few : o.done ≤ budget
+  pub limit : (o.status ≡ 11) ↔ (o.done ≡ budget)
+  pub kept : told → o.kept_done ≤ o.done
+
+-- What the command that serves requests does whatever the file and the devices tell. Where no request was
+-- read the input is as it was, and the fault line is all that is put; where the file isn't there or is
+-- refused, it stays as it was. One that opens isn't refused.
+pub record RunAlways (o : Outcome) (old new : State) (from rest : SourceState) (out after : SinkState)
+    (same_input : Type 0) : Type 0 where
+  pub keeps : KeepsRun old new from rest out after o.status
+  pub numbers : HasCounted o (IsTrue old.tells) (HasMounted new)
+  pub turn : IsKeptTurn o (HasMounted new) old.turn new.turn
+  pub unread : IsUnserved o.status → same_input
+  pub untouched : (o.status ≡ 3) ⊎ (o.status ≡ 4) → Untouched old new
+  pub refused : IsTrue old.tells → o.status ≡ 4 → NeverOpens old.file
+  pub line_alone : IsTrue out.tells → IsUnserved o.status → PutsLine o.status out after
+
+-- the status and the numbers of an end
+abbrev pub outcome_of : Ended → Outcome
+outcome_of e = record {
+  status = status_at e.end;
+  done = e.done;
+  kept_done = e.kept_done;
+  kept_turn = e.kept_turn;
+}

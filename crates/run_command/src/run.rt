@@ -1,0 +1,166 @@
+//! The command `run`: a session over a file.
+ghost use Rattle.std.specs.Prelude.{◌≡◌, ◌⊎◌, false, true, None, Ok, IsTrue};
+ghost use Rattle.size_class.specs.declared.TheConstants.{CLASSES};
+ghost use Rattle.store_core.specs.Connection.{IsConnected};
+ghost use Rattle.store_core.specs.Opened.{IsOpening};
+ghost use Rattle.store_core.specs.Stores.{IsStore};
+ghost use Rattle.command_face.specs.Mounting.{IsMounted, run};
+ghost use Rattle.command_face.specs.Refusing.{IsRefused, NeverOpens};
+ghost use Rattle.run_command.specs.Headline.{RunPromise, is_session};
+ghost use Rattle.command_face.specs.Outcomes.{Ends};
+ghost use Rattle.run_command.specs.Sessions.{RunAlways, Went, RunSteps, end_of, ended_as, unserved};
+
+use ask_session::{End, Session};
+use command_face::{Outcome, StopReason, finish, stop_of};
+use disk_face::{Bay, Disk, Mounted, Sink, Source};
+use size_class::CLASSES;
+use std::alloc::Global;
+use store_core::Store;
+
+/// How a command ended that serves requests, but for the fault line, and its three numbers.
+#[derive(Clone, Copy)]
+pub struct Ended {
+    pub end: Result<(), StopReason>,
+    pub done: u64,
+    pub kept_done: u64,
+    pub kept_turn: u64,
+}
+
+/// `run FILE`: serves the requests of the input, and puts the fault line last.
+pub fn run_file<B: Bay, I: Source, O: Sink>(
+    alloc: Global,
+    bay: &mut B,
+    file: &str,
+    input: &mut I,
+    output: &mut O,
+) -> Outcome
+    requires { (B.state bay.old).last_mount ≡ None }
+    ensures headline { IsTrue (B.state bay.old).tells → IsTrue (I.state input.old).tells
+        → RunPromise result (B.state bay.old) (B.state bay.new) (I.state input.old) (I.state input.new)
+        (O.state output.old) (O.state output.new) }
+    ensures refused { IsTrue (B.state bay.old).tells → NeverOpens (B.state bay.old).file
+        → Ends (IsRefused (B.state bay.old).file) result.status (O.state output.old) (O.state output.new) }
+    ensures known { (is_session result.status ≡ true) ⊎ (result.status ≡ 4) }
+    ensures mounted { IsMounted (run file.now) (B.state bay.new).last_mount (result.status ≡ 7)
+        (result.status ≡ 3) }
+    ensures serves { RunAlways result (B.state bay.old) (B.state bay.new) (I.state input.old)
+        (I.state input.new) (O.state output.old) (O.state output.new) (input.new ≡ input.old) }
+{
+    let ended = serve_file(alloc, bay, file, input, output);
+    let outcome = finish(ended.end, output);
+    Outcome {
+        status: outcome.status,
+        done: ended.done,
+        kept_done: ended.kept_done,
+        kept_turn: ended.kept_turn,
+    }
+}
+
+/// Mounts the file, opens it, and serves the requests of the input until the session ends.
+fn serve_file<B: Bay, I: Source, O: Sink>(
+    alloc: Global,
+    bay: &mut B,
+    file: &str,
+    input: &mut I,
+    output: &mut O,
+) -> Ended
+    requires { (B.state bay.old).last_mount ≡ None }
+    ensures { RunSteps B.state I.state O.state (run file.now) bay.old bay.new input.old input.new output.old
+        output.new result }
+{
+    match bay.mount(file, false) {
+        Err(_) => unserved(StopReason::Disk, 0),
+        Ok(Mounted::Absent) => unserved(StopReason::NoFile, 0),
+        // Nothing is made where it isn't asked for.
+        Ok(Mounted::Made) => unreachable!(),
+        Ok(Mounted::There) => serve_from(alloc, bay, input, output),
+    }
+}
+
+/// Opens the file, and serves the requests of the input until the session ends.
+fn serve_from<D: Disk, I: Source, O: Sink>(
+    alloc: Global,
+    disk: &mut D,
+    input: &mut I,
+    output: &mut O,
+) -> Ended
+    requires ready { IsTrue (D.state disk.old).is_ready }
+    ensures { Went D.state I.state O.state disk.old disk.new input.old input.new output.old output.new
+        result }
+{
+    let opened = Store::open(alloc, disk);
+    let turn = disk.turns();
+    match opened {
+        Ok(store) => serve_store(alloc, store, turn, disk, input, output),
+        Err(fault) => unserved(stop_of(fault), turn),
+    }
+}
+
+/// Serves the requests of the input by a store that was opened at this turn.
+fn serve_store<D: Disk, I: Source, O: Sink>(
+    alloc: Global,
+    store: Store<CLASSES>,
+    turn: u64,
+    disk: &mut D,
+    input: &mut I,
+    output: &mut O,
+) -> Ended
+    requires ready { IsTrue (D.state disk.old).is_ready }
+    requires over { IsConnected CLASSES store (D.state disk.old) }
+    requires whole { store.is_broken ≡ false }
+    requires turn { turn ≡ (D.state disk.old).turn }
+    ensures { (first : D) → IsOpening CLASSES (D.state first) (D.state disk.old) (Ok store)
+        → Went D.state I.state O.state first disk.new input.old input.new output.old output.new result }
+{
+    match Session::new(alloc, store, turn) {
+        Ok(mut session) => {
+            let end = session.run(disk, input, output);
+            ended_as(end, session)
+        }
+        Err(_) => unserved(StopReason::NoMemory, turn),
+    }
+}
+
+/// No session was begun.
+fn unserved(why: StopReason, turn: u64) -> Ended
+    ensures { result ≡ unserved why turn }
+{
+    Ended {
+        end: Err(why),
+        done: 0,
+        kept_done: 0,
+        kept_turn: turn,
+    }
+}
+
+/// The end of a session, and its three numbers.
+fn ended_as(end: End, session: Session<CLASSES>) -> Ended
+    ensures ended { result ≡ ended_as end session }
+    ensures sound { session.store.is_broken ≡ false → IsStore CLASSES session.store }
+{
+    let done = session.done();
+    let kept_done = session.kept_done();
+    let kept_turn = session.kept_turn();
+    let store = session.into_store();
+    let _ = store.is_broken();
+    Ended {
+        end: end_of(end, done),
+        done,
+        kept_done,
+        kept_turn,
+    }
+}
+
+/// How the program ends where a session ended so, after so many requests were answered.
+fn end_of(end: End, done: u64) -> Result<(), StopReason>
+    ensures { result ≡ end_of end done }
+{
+    match end {
+        End::End => Ok(()),
+        End::Line => Err(StopReason::Line(done.saturating_add(1))),
+        End::Disk => Err(StopReason::Disk),
+        End::Source => Err(StopReason::Source),
+        End::Sink => Err(StopReason::Sink),
+        End::Budget => Err(StopReason::Budget),
+    }
+}

@@ -1,0 +1,455 @@
+-- What holds of the command that does jobs in each way that it may go.
+use Rattle.std.specs.Prelude.{◌≡◌, ◌≢◌, ◌⊎◌, ℕ, ◌≤◌, ◌||◌, true, false, List, [], ◌++◌, take, None, Ok, Err, Result, OnErr, OnOk, IsTrue, refl}
+use Rattle.std.proofs.Common.{arith, ap, sym, ◌∙◌, subst, inl, inr, append-nil}
+use Rattle.std.proofs.lemmas.Bool.{cases_eq, ne_eqb}
+use Rattle.std.proofs.lemmas.List.{nil_from_length, length-take-le}
+use Rattle.disk_face.specs.Counts.{HasCause, IsCalm, Rose}
+use Rattle.disk_face.specs.States.{State}
+use Rattle.disk_face.specs.Frames.{AfterMount, Untouched}
+use Rattle.disk_face.specs.Mounts.{is_mounted}
+use Rattle.disk_face.specs.Streams.{Puts, SinkState}
+use Rattle.disk_face.specs.Writes.{KeepsDisk}
+use Rattle.disk_face.specs.declared.bay.Mounted.TheVariants.{Absent, There}
+use Rattle.disk_face.proofs.FrameLaws.{Untouched-then}
+use Rattle.size_class.specs.declared.TheConstants.{CLASSES, SIZE_MAX}
+use Rattle.map_model.specs.Maps.{Map}
+use Rattle.segment_layout.specs.Books.{Book}
+use Rattle.table_rules.specs.Opening.{Opens}
+use Rattle.store_core.specs.Connection.{StoreValue}
+use Rattle.store_core.specs.Opened.{IsOpening}
+use Rattle.reopen.specs.Refusals.{RefusesToOpen}
+use Rattle.reopen.specs.declared.fault.OpenFault.{OpenFault}
+use Rattle.work_maker.proofs.ListLaws.{how_many}
+use Rattle.command_face.specs.Mounting.{IsMounted, mounted, Command, work}
+use Rattle.work_command.specs.Doing.{Did, WorkSteps, IsAllDone, IsNotBegun, IsRefusal, IsStopped}
+use Rattle.command_face.specs.Faults.{line_of}
+use Rattle.command_face.specs.Refusing.{IsRefused, stop_of}
+use Rattle.command_face.specs.Outcomes.{Ends, EndsBy, IsFront, PutsLast, PutsLine, line_at, status_at, status_of}
+use Rattle.work_command.specs.Summaries.{summary_text}
+use Rattle.work_command.specs.Working.{KeepsWork, PutsSummary, has_worked, is_working}
+use Rattle.command_face.specs.declared.stop.StopReason.{StopReason}
+use Rattle.command_face.specs.declared.stop.StopReason.TheVariants as stop
+use Rattle.command_face.proofs.StatusLaws.{calm_by, Puts-front}
+use Rattle.command_face.proofs.UnopenedLaws.{disk_by, mount_untouched, not_status, refused_unchanged, refuses, status_unopened}
+
+not_both : {A : Type 0} → false ≡ true → A
+not_both is = absurd (cc)
+
+-- ---- the devices, the mount, and what was put, by the status
+
+pub record Whole (c : Command) (old z : State) (out put : SinkState) (n : ℕ) : Type 0 where
+  pub keeps : KeepsWork old z out put n
+  pub mounted : IsMounted c z.last_mount (n ≡ 7) (n ≡ 3)
+  pub known : (is_working n ≡ true) ⊎ (n ≡ 4)
+  pub nothing : has_worked n ≡ false → put ≡ out
+  pub untouched : (n ≡ 3) ⊎ (n ≡ 4) → Untouched old z
+
+-- no sink was called
+no_sink : (old z : State) (out put : SinkState) (n : ℕ) → old.faults ≤ z.faults
+    → (n ≡ 7 → Rose old.faults z.faults)
+    → old.turn ≤ z.turn → z.tells ≡ old.tells → z.tells_images ≡ old.tells_images → n ≢ 9 → put ≡ out
+    → KeepsWork old z out put n
+no_sink old z out put n later rose turns told images nine same = record {
+  later = later;
+  rose = rose;
+  no_turn_back = turns;
+  told = told;
+  images_told = images;
+  sink_later = omega (arith, ap (λ (x : SinkState). x.faults) same);
+  sink_rose = λ is. absurd (nine is);
+  sink_calm = λ is. ap (λ (x : SinkState). x.faults) same;
+  sink_told = ap (λ (x : SinkState). x.tells) same;
+}
+
+module _ (file : List ℕ) (number count : ℕ) (old z : State) (out put : SinkState) where
+  abbrev All : ℕ → Type 0
+  All n = Whole (work file number count) old z out put n
+
+  mount_failed : AfterMount old z → old.faults ≤ z.faults → Rose old.faults z.faults → z.last_mount ≡ None
+      → put ≡ out
+      → All 7
+  mount_failed mount later rose none same = record {
+    keeps = no_sink old z out put 7 later (λ is. rose) mount.time.later mount.told mount.images_told
+        (λ is. omega (arith, is)) same;
+    mounted = record {
+      answer = inl refl;
+      absent = (λ is. absurd (omega (arith, is)), λ is. absurd (let e = sym none ∙ is in cc));
+    };
+    known = inl refl;
+    nothing = λ is. same;
+    untouched = λ is. mount_untouched old z mount later;
+  }
+
+  file_absent : AfterMount old z → old.faults ≤ z.faults
+      → z.last_mount ≡ mounted (work file number count) Absent
+      → put ≡ out → All 3
+  file_absent mount later is same = record {
+    keeps = no_sink old z out put 3 later (λ n. absurd (omega (arith, n))) mount.time.later mount.told
+        mount.images_told (λ n. omega (arith, n)) same;
+    mounted = record { answer = inr (inr is); absent = (λ three. is, λ three. refl) };
+    known = inl refl;
+    nothing = λ n. same;
+    untouched = λ n. mount_untouched old z mount later;
+  }
+
+  module _ (first : State) (mount : AfterMount old first) (calm : first.faults ≡ old.faults)
+      (there : first.last_mount ≡ mounted (work file number count) There) (frame : KeepsDisk first z)
+      (later : first.faults ≤ z.faults) where
+    mounted_there : (n : ℕ) → n ≢ 3 → IsMounted (work file number count) z.last_mount (n ≡ 7) (n ≡ 3)
+    mounted_there n three = record {
+      answer = inr (inl (frame.stays.same_mount ∙ there));
+      absent = (
+        λ is. absurd (three is),
+        λ is. not_both (ap is_mounted (sym is ∙ frame.stays.same_mount ∙ there)),
+      );
+    }
+
+    -- nothing was put
+    stopped_there : (n : ℕ) → (is_working n ≡ true) ⊎ (n ≡ 4) → n ≢ 3 → n ≢ 9
+        → (n ≡ 7 → Rose first.faults z.faults) → put ≡ out → (n ≡ 4 → Untouched old z) → All n
+    stopped_there n known three nine rose same untouched = record {
+      keeps = no_sink old z out put n (omega (arith, calm, later))
+          (λ is. subst (λ (k : ℕ). Rose k z.faults) calm (rose is))
+          (omega (arith, mount.same_turn, frame.no_turn_back)) (frame.stays.told ∙ mount.told)
+          (frame.stays.images_told ∙ mount.images_told) nine same;
+      mounted = mounted_there n three;
+      known = known;
+      nothing = λ is. same;
+      untouched = λ is. elim is as (λ _. Untouched old z) [ inl x ↦ absurd (three x) | inr x ↦ untouched x ];
+    }
+
+    -- a summary was put, or a front of it
+    put_there : (n : ℕ) → is_working n ≡ true → has_worked n ≡ true → n ≢ 3 → n ≢ 4 → n ≢ 7
+        → out.faults ≤ put.faults → (n ≡ 9 → Rose out.faults put.faults) → (n ≡ 0 → put.faults ≡ out.faults)
+        → put.tells ≡ out.tells → All n
+    put_there n known worked three four seven sink_later rose sink_calm told = record {
+      keeps = record {
+        later = omega (arith, calm, later);
+        rose = λ is. absurd (seven is);
+        no_turn_back = omega (arith, mount.same_turn, frame.no_turn_back);
+        told = frame.stays.told ∙ mount.told;
+        images_told = frame.stays.images_told ∙ mount.images_told;
+        sink_later = sink_later;
+        sink_rose = rose;
+        sink_calm = sink_calm;
+        sink_told = told;
+      };
+      mounted = mounted_there n three;
+      known = inl known;
+      nothing = λ is. absurd (let e : true ≡ false = sym worked ∙ is in cc);
+      untouched = λ is. absurd (elim is as (λ _. ⊥) [ inl x ↦ three x | inr x ↦ four x ]);
+    }
+
+-- the statuses of a file that isn't opened
+known_refusal : (n : ℕ) → (n ≡ 4) ⊎ (n ≡ 7) ⊎ (n ≡ 10) → (is_working n ≡ true) ⊎ (n ≡ 4)
+known_refusal n (inl four) = inr four
+known_refusal n (inr (inl seven)) = inl (ap is_working seven)
+known_refusal n (inr (inr ten)) = inl (ap is_working ten)
+
+module _ {D : Type 0} (disk_of : D → State) (file : List ℕ) (number count : ℕ) (old z : State)
+    (out put : SinkState)
+    (end : Result (Unit {0}) StopReason) where
+  -- the status of this end
+  carried : (e : Result (Unit {0}) StopReason) → end ≡ e → All file number count old z out put (status_at e)
+      → All file number count old z out put (status_at end)
+  carried e is all = subst (λ (x : Result (Unit {0}) StopReason). All file number count old z out put
+      (status_at x)) (sym is) all
+
+  module _ (first : State) (mount : AfterMount old first) (calm : first.faults ≡ old.faults)
+      (there : first.last_mount ≡ mounted (work file number count) There) where
+    refusal : IsRefusal first z end → put ≡ out → All file number count old z out put (status_at end)
+    refusal x same = carried (Err (stop_of x.fault)) x.ended
+        (stopped_there file number count old z out put first mount calm there x.opening.frame
+        x.opening.cause.later
+        (status_of (stop_of x.fault)) (known_refusal (status_of (stop_of x.fault)) (status_unopened x.fault))
+        (not_status x.fault 3 (λ y. omega (arith, y)) (λ y. omega (arith, y)) (λ y. omega (arith, y)))
+        (not_status x.fault 9 (λ y. omega (arith, y)) (λ y. omega (arith, y)) (λ y. omega (arith, y)))
+        (λ seven. x.opening.cause.rose (ap (λ (y : OpenFault). Err y) (disk_by x.fault seven))) same
+        (λ four. Untouched-then (mount_untouched old first mount (omega (arith, calm)))
+        (refused_unchanged first z x.fault four x.opening.unchanged)))
+
+    not_begun : IsNotBegun first z end → put ≡ out → All file number count old z out put (status_at end)
+    not_begun x same = carried (Err stop.NoMemory) x.ended
+        (stopped_there file number count old z out put first mount calm there x.opening.frame
+        x.opening.cause.later 10
+        (inl refl) (λ is. omega (arith, is)) (λ is. omega (arith, is)) (λ is. absurd (omega (arith, is))) same
+        (λ is. absurd (omega (arith, is))))
+
+    -- what the jobs do beside what opening did
+    frame_after : {mid : State} → KeepsDisk first mid → KeepsDisk mid z → KeepsDisk first z
+    frame_after one more = record {
+      no_turn_back = omega (arith, one.no_turn_back, more.no_turn_back);
+      stays = record {
+        ready = more.stays.ready;
+        told = more.stays.told ∙ one.stays.told;
+        images_told = more.stays.images_told ∙ one.stays.images_told;
+        same_mount = more.stays.same_mount ∙ one.stays.same_mount;
+      };
+    }
+
+    rose_before : (a b c : ℕ) → a ≤ b → Rose b c → Rose a c
+    rose_before a b c low rose = omega (arith, low, rose)
+
+    in_job : IsStopped disk_of number count first z end → put ≡ out → All file number count old z out put
+        (status_at end)
+    in_job x same = carried (Err stop.Disk) x.ended
+        (stopped_there file number count old z out put first mount calm there
+        (frame_after x.opening.frame x.stopped.frame) (omega (arith, x.opening.cause.later, x.stopped.later))
+        7 (inl refl)
+        (λ is. omega (arith, is)) (λ is. omega (arith, is))
+        (λ is. rose_before first.faults (disk_of x.mid).faults z.faults x.opening.cause.later x.stopped.rose)
+        same
+        (λ is. absurd (omega (arith, is))))
+
+    summed : IsAllDone disk_of number count first z out put end → All file number count old z out put
+        (status_at end)
+    summed x = by end refl x.only x.cause
+      where
+        frame : KeepsDisk first z
+        frame = frame_after x.opening.frame x.done.ran.frame
+
+        later : first.faults ≤ z.faults
+        later = omega (arith, x.opening.cause.later, x.done.ran.later)
+
+        by : (e : Result (Unit {0}) StopReason) → end ≡ e → OnErr e (e ≡ Err stop.Sink)
+            → HasCause out.faults put.faults e
+            → All file number count old z out put (status_at end)
+        by (Ok y) is only cause = carried (Ok y) is
+            (put_there file number count old z out put first mount calm there frame later 0 refl refl
+            (λ n. omega (arith, n)) (λ n. omega (arith, n)) (λ n. omega (arith, n)) cause.later
+            (λ n. absurd (omega (arith, n))) (λ n. cause.calm) x.told)
+        by (Err why) is only cause = carried (Err stop.Sink) (is ∙ only)
+            (put_there file number count old z out put first mount calm there frame later 9 refl refl
+            (λ n. omega (arith, n)) (λ n. omega (arith, n)) (λ n. omega (arith, n)) cause.later
+            (λ n. cause.rose) (λ n. absurd (omega (arith, n))) x.told)
+
+  pub whole : WorkSteps disk_of (work file number count) number count old z out put end
+      → Whole (work file number count) old z out put (status_at end)
+  whole (inl (is, same)) = elim is.which as (λ _. All file number count old z out put (status_at end)) [
+    | inl failed ↦ carried (Err stop.Disk) failed.0
+        (mount_failed file number count old z out put is.mount is.later failed.2 failed.1 same)
+    | inr gone ↦ carried (Err stop.NoFile) gone.0
+        (file_absent file number count old z out put is.mount is.later gone.1 same)
+  ]
+  whole (inr x) = by x.did
+    where
+      by : Did disk_of number count (disk_of x.first) z out put end → All file number count old z out put
+          (status_at end)
+      by (inl (inl is, same)) = refusal (disk_of x.first) x.mount x.calm x.there is same
+      by (inl (inr (inl is), same)) = not_begun (disk_of x.first) x.mount x.calm x.there is same
+      by (inl (inr (inr is), same)) = in_job (disk_of x.first) x.mount x.calm x.there is same
+      by (inr is) = summed (disk_of x.first) x.mount x.calm x.there is
+
+  -- a file that isn't opened ends the command as its first refusal says
+  pub refused_did : IsTrue old.tells → ((m : Map) (b : Book) → Opens CLASSES SIZE_MAX old.file m b → ⊥)
+      → WorkSteps disk_of (work file number count) number count old z out put end
+      → EndsBy (IsRefused old.file) [] end × (put ≡ out)
+  refused_did told never (inl (is, same)) = (
+    elim is.which as (λ _. EndsBy (IsRefused old.file) [] end) [
+      | inl failed ↦ subst (EndsBy (IsRefused old.file) []) (sym failed.0) (inr refl)
+      | inr gone ↦ subst (EndsBy (IsRefused old.file) []) (sym gone.0) refl
+    ],
+    same,
+  )
+  refused_did told never (inr x) = by x.did
+    where
+      told_there : IsTrue (disk_of x.first).tells
+      told_there = x.mount.told ∙ told
+
+      same_file : (disk_of x.first).file ≡ old.file
+      same_file = x.mount.same_file told
+
+      never_opened : (a : State) (s : StoreValue) → IsOpening CLASSES (disk_of x.first) a (Ok s) → ⊥
+      never_opened a s is =
+          let o = is.opened told_there in
+          never o.m o.b (subst (λ (f : List ℕ). Opens CLASSES SIZE_MAX f o.m o.b) same_file
+          (record { table = o.table; opens = o.found }))
+
+      by : Did disk_of number count (disk_of x.first) z out put end → EndsBy (IsRefused old.file) [] end
+          × (put ≡ out)
+      by (inl (inl is, same)) = (
+        subst (EndsBy (IsRefused old.file) []) (sym is.ended)
+            (refuses old.file is.fault (subst (λ (f : List ℕ). RefusesToOpen CLASSES f is.fault) same_file
+            (is.opening.refused told_there))),
+        same,
+      )
+      by (inl (inr (inl is), same)) = absurd (never_opened z is.store is.opening)
+      by (inl (inr (inr is), same)) = absurd (never_opened (disk_of is.mid) is.store is.opening)
+      by (inr is) = absurd (never_opened (disk_of is.mid) is.store is.opening)
+
+-- ---- what is put
+
+-- after a summary no line is put
+pub no_line : (put after : SinkState) (failed : Type 0) → PutsLast put.given after.given [] failed
+    → after.given ≡ put.given
+no_line put after failed line = line.front.2
+    ∙ ap (λ (xs : List ℕ). put.given ++ xs)
+    (nil_from_length (take line.front.0 [])
+    (omega (arith, length-take-le {A = ℕ} line.front.0 [] line.front.1, line.front.1)))
+    ∙ append-nil put.given
+
+-- a front of a text was put, and no line after it
+text_put : (out put after : SinkState) (text : List ℕ) (e : Result (Unit {0}) StopReason) (failed : Type 0)
+    → Puts out.given put.given text e → after.given ≡ put.given
+    → (after.given ≡ out.given ++ text) ⊎ failed → PutsLast out.given after.given text failed
+text_put out put after text e failed puts same whole = record {
+  front = subst (λ (xs : List ℕ). IsFront out.given xs text) (sym same)
+      (Puts-front out.given put.given text e puts);
+  whole = whole;
+}
+
+module _ {D : Type 0} (disk_of : D → State) (number count : ℕ) (z : State) (out put after : SinkState)
+    (end : Result (Unit {0}) StopReason) (line : IsTrue put.tells
+    → PutsLast put.given after.given (line_at end) (Rose put.faults after.faults)) where
+  -- where all jobs were done a summary is put, or a front of it
+  pub summary_put : {first : State} (x : IsAllDone disk_of number count first z out put end)
+      → IsTrue out.tells → PutsLast out.given after.given (summary_text x.summary) (status_at end ≡ 9)
+  summary_put x told = by end x.only (x.puts told) (line (x.told ∙ told))
+    where
+      text : List ℕ
+      text = summary_text x.summary
+
+      by : (e : Result (Unit {0}) StopReason) → OnErr e (e ≡ Err stop.Sink) → Puts out.given put.given text e
+          → PutsLast put.given after.given (line_at e) (Rose put.faults after.faults)
+          → PutsLast out.given after.given text (status_at e ≡ 9)
+      by (Ok y) only puts ends =
+          let same = no_line put after (Rose put.faults after.faults) ends in
+          text_put out put after text (Ok y) (0 ≡ 9) puts same (inl (same ∙ puts.all))
+      by (Err why) only puts ends =
+          let none = subst (λ (e : Result (Unit {0}) StopReason).
+          PutsLast put.given after.given (line_at e) (Rose put.faults after.faults)) only ends in
+          text_put out put after text (Err why) (status_of why ≡ 9) puts
+          (no_line put after (Rose put.faults after.faults) none)
+          (inr (ap (λ (e : Result (Unit {0}) StopReason). status_at e) only))
+
+  -- the jobs of a command that ends so weren't all done
+  unworked : {A : Type 0} (e : Result (Unit {0}) StopReason) → end ≡ e → has_worked (status_at e) ≡ false
+      → IsTrue (has_worked (status_at end)) → A
+  unworked e is none worked =
+      not_both (sym none ∙ ap (λ (x : Result (Unit {0}) StopReason). has_worked (status_at x)) (sym is)
+      ∙ worked)
+
+  unworked_refusal : (n : ℕ) → (n ≡ 4) ⊎ (n ≡ 7) ⊎ (n ≡ 10) → has_worked n ≡ false
+  unworked_refusal n (inl four) = ap has_worked four
+  unworked_refusal n (inr (inl seven)) = ap has_worked seven
+  unworked_refusal n (inr (inr ten)) = ap has_worked ten
+
+  -- what the summary says on any disk
+  pub summary_of : {c : Command} {old : State} → WorkSteps disk_of c number count old z out put end
+      → IsTrue (has_worked (status_at end)) → PutsSummary count (status_at end) out after
+  summary_of (inl (is, same)) worked = elim is.which as (λ _. PutsSummary count (status_at end) out after) [
+    | inl failed ↦ unworked (Err stop.Disk) failed.0 refl worked
+    | inr gone ↦ unworked (Err stop.NoFile) gone.0 refl worked
+  ]
+  summary_of (inr x) worked = by x.did
+    where
+      by : Did disk_of number count (disk_of x.first) z out put end
+          → PutsSummary count (status_at end) out after
+      by (inl (inl is, same)) = unworked (Err (stop_of is.fault)) is.ended
+          (unworked_refusal (status_of (stop_of is.fault)) (status_unopened is.fault)) worked
+      by (inl (inr (inl is), same)) = unworked (Err stop.NoMemory) is.ended refl worked
+      by (inl (inr (inr is), same)) = unworked (Err stop.Disk) is.ended refl worked
+      by (inr is) = record {
+        summary = is.summary;
+        sums = record {
+          requests = is.done.requests ∙ how_many is.store.in_use.block.names 1 count _;
+          few = is.done.few;
+          moved_row = is.done.new.moved;
+          asked_row = is.done.new.asked;
+          lines = is.done.lines;
+          same = is.done.same;
+        };
+        puts = summary_put is;
+      }
+
+-- a line is put, and nothing else
+pub line_only : (out put after : SinkState) (end : Result (Unit {0}) StopReason)
+    → has_worked (status_at end) ≡ false
+    → put ≡ out → IsTrue out.tells
+    → (IsTrue put.tells → PutsLast put.given after.given (line_at end) (Rose put.faults after.faults))
+    → PutsLine (status_at end) out after
+line_only out put after (Ok x) none same told line = absurd (let e : true ≡ false = none in cc)
+line_only out put after (Err why) none same told line = record {
+  why = why;
+  same_status = refl;
+  line = subst (λ (s : SinkState). PutsLast s.given after.given (line_of why) (Rose s.faults after.faults))
+      same
+      (line (subst (λ (s : SinkState). IsTrue s.tells) (sym same) told));
+}
+
+-- what is kept once the line was put
+pub keeps_line : (old z : State) (out put after : SinkState) (end : Result (Unit {0}) StopReason)
+    → KeepsWork old z out put (status_at end) → put.faults ≤ after.faults
+    → OnOk end (after.faults ≡ put.faults)
+    → after.tells ≡ put.tells → KeepsWork old z out after (status_at end)
+keeps_line old z out put after end keeps later calm told = record {
+  later = keeps.later;
+  rose = keeps.rose;
+  no_turn_back = keeps.no_turn_back;
+  told = keeps.told;
+  images_told = keeps.images_told;
+  sink_later = omega (arith, keeps.sink_later, later);
+  sink_rose = λ n. rose_after out.faults put.faults after.faults (keeps.sink_rose n) later;
+  sink_calm = λ n. calm_by end calm n ∙ keeps.sink_calm n;
+  sink_told = told ∙ keeps.sink_told;
+}
+  where
+    rose_after : (a b c : ℕ) → Rose a b → b ≤ c → Rose a c
+    rose_after a b c rose low = omega (arith, rose, low)
+
+-- ---- completeness
+
+-- of the statuses over a file that opens those are left that no fault has
+pub status_calm : (n : ℕ) → is_working n ≡ true → n ≢ 3 → n ≢ 7 → n ≢ 9 → (n ≡ 0) ⊎ (n ≡ 10)
+status_calm n known three seven nine = elim (cases_eq n 0) as (λ _. (n ≡ 0) ⊎ (n ≡ 10)) [
+  | inl zero ↦ inl zero
+  | inr some ↦ elim (cases_eq n 10) as (λ _. (n ≡ 0) ⊎ (n ≡ 10)) [
+    | inl ten ↦ inr ten
+    | inr other ↦ absurd (none some other)
+  ]
+]
+  where
+    none : n ≢ 0 → n ≢ 10 → ⊥
+    none zero ten =
+        let a = ne_eqb n 0 zero in
+        let b = ne_eqb n 3 three in
+        let c = ne_eqb n 7 seven in
+        let d = ne_eqb n 9 nine in
+        let e = ne_eqb n 10 ten in
+        let f : is_working n ≡ false = (λ i. a i || b i || c i || d i || e i) in
+        let g : true ≡ false = sym known ∙ f in
+        absurd (cc)
+
+-- the jobs are done, or memory is wanting, where no fault came
+pub jobs_done : (file : List ℕ) (number count n : ℕ) (old z : State) (out after : SinkState)
+    → is_working n ≡ true
+    → KeepsWork old z out after n → IsMounted (work file number count) z.last_mount (n ≡ 7) (n ≡ 3)
+    → z.last_mount ≡ mounted (work file number count) There → IsCalm old.faults z.faults
+    → IsCalm out.faults after.faults → (n ≡ 0) ⊎ (n ≡ 10)
+jobs_done file number count n old z out after known keeps mount there calm sink_calm = status_calm n known
+    (λ is. not_both (ap is_mounted (sym (mount.absent.0 is) ∙ there)))
+    (λ is. omega (arith, keeps.rose is, calm.same, calm.below))
+    (λ is. omega (arith, keeps.sink_rose is, sink_calm.same, sink_calm.below))
+
+-- ---- the first refusal
+
+-- the line alone was put, of an end that is to be
+pub ends_by_line : (answer : Result (List ℕ) StopReason → Type 0) (out put after : SinkState)
+    (end : Result (Unit {0}) StopReason) (status : ℕ) → status ≡ status_at end → EndsBy answer [] end
+    → put ≡ out
+    → (IsTrue put.tells → PutsLast put.given after.given (line_at end) (Rose put.faults after.faults))
+    → Ends answer status out after
+ends_by_line answer out put after end status is by same line = record {
+  end = end;
+  bytes = [];
+  same_status = is;
+  by = by;
+  puts = λ told. record {
+    between = out.given;
+    object = (0, omega arith, sym (append-nil out.given));
+    whole = λ done. sym (append-nil out.given);
+    line = subst (λ (s : SinkState). PutsLast s.given after.given (line_at end) (Rose s.faults after.faults))
+        same
+        (line (subst (λ (s : SinkState). IsTrue s.tells) (sym same) told));
+  };
+}

@@ -1,0 +1,59 @@
+-- How the jobs of a number went, from the steps that their functions take.
+use Rattle.std.specs.Prelude.{◌≡◌, ℕ, List, IsTrue, OnErr, Result, Ok, Err}
+use Rattle.std.proofs.Common.{sym, subst, inl, inr, refl}
+use Rattle.disk_face.specs.Counts.{HasCause}
+use Rattle.disk_face.specs.States.{State}
+use Rattle.disk_face.specs.Streams.{Puts, SinkState}
+use Rattle.size_class.specs.declared.TheConstants.{CLASSES}
+use Rattle.store_core.specs.Connection.{StoreValue}
+use Rattle.store_core.specs.Opened.{IsOpening}
+use Rattle.work_session.specs.Works.{HasDone, HasStopped}
+use Rattle.work_session.specs.declared.summary.Summary.{Summary}
+use Rattle.work_command.specs.Doing.{Did, jobs_of}
+use Rattle.work_command.specs.Summaries.{summary_text}
+use Rattle.command_face.specs.declared.stop.StopReason.{StopReason}
+use Rattle.command_face.specs.declared.stop.StopReason.TheVariants as stop
+
+module _ {D : Type 0} (disk_of : D → State) (number count : ℕ) (first mid now : D) (out put : SinkState)
+    (s : StoreValue)
+    (opening : IsOpening CLASSES (disk_of first) (disk_of mid) (Ok s)) where
+  pub did_all : (x : Summary) (text : List ℕ) (end : Result (Unit {0}) StopReason)
+      → HasDone CLASSES s (jobs_of number count s) (disk_of mid) (disk_of now) x → text ≡ summary_text x
+      → (IsTrue out.tells → Puts out.given put.given text end) → OnErr end (end ≡ Err stop.Sink)
+      → put.tells ≡ out.tells → HasCause out.faults put.faults end → Did disk_of number count (disk_of first)
+      (disk_of now) out put end
+  did_all x text end done is puts only told cause = inr (record {
+    store = s;
+    mid = mid;
+    opening = opening;
+    summary = x;
+    done = done;
+    puts = λ sink_told. subst (λ (xs : List ℕ). Puts out.given put.given xs end) is (puts sink_told);
+    only = only;
+    cause = cause;
+    told = told;
+  })
+
+  pub did_stop : HasStopped CLASSES s (jobs_of number count s) (disk_of mid) (disk_of now) → put ≡ out
+      → Did disk_of number count (disk_of first) (disk_of now) out put (Err stop.Disk)
+  did_stop stopped same = inl (
+    inr (inr (record {
+      store = s;
+      mid = mid;
+      opening = opening;
+      stopped = stopped;
+      ended = refl;
+    })),
+    same,
+  )
+
+  pub did_nothing : disk_of now ≡ disk_of mid → put ≡ out → Did disk_of number count (disk_of first)
+      (disk_of now) out put (Err stop.NoMemory)
+  did_nothing still same = inl (
+    inr (inl (record {
+      store = s;
+      opening = subst (λ (x : State). IsOpening CLASSES (disk_of first) x (Ok s)) (sym still) opening;
+      ended = refl;
+    })),
+    same,
+  )

@@ -1,0 +1,5 @@
+mod RefusalLaws
+mod WorkLaws
+mod DoingLemmas
+mod DidLaws
+mod WorkingLaws

@@ -1,0 +1,90 @@
+-- How the jobs of a number over a file went, step by step.
+use Rattle.std.specs.Prelude.{◌≡◌, ◌⊎◌, ℕ, ◌≤◌, List, IsTrue, OnErr, Result, None, Ok, Err}
+use Rattle.disk_face.specs.Counts.{HasCause, Rose}
+use Rattle.disk_face.specs.Frames.{AfterMount}
+use Rattle.disk_face.specs.States.{State}
+use Rattle.disk_face.specs.Streams.{Puts, SinkState}
+use Rattle.disk_face.specs.declared.bay.Mounted.TheVariants.{Absent, There}
+use Rattle.size_class.specs.declared.TheConstants.{CLASSES}
+use Rattle.map_model.specs.Requests.{Request}
+use Rattle.store_core.specs.Connection.{StoreValue}
+use Rattle.store_core.specs.Opened.{IsOpening}
+use Rattle.reopen.specs.declared.fault.OpenFault.{OpenFault}
+use Rattle.work_maker.specs.Jobs.{jobs}
+use Rattle.work_session.specs.Works.{HasDone, HasStopped}
+use Rattle.work_session.specs.declared.summary.Summary.{Summary}
+use Rattle.command_face.specs.Mounting.{Command, mounted}
+use Rattle.command_face.specs.Refusing.{stop_of}
+use Rattle.work_command.specs.Summaries.{summary_text}
+use Rattle.command_face.specs.declared.stop.StopReason.{StopReason}
+use Rattle.command_face.specs.declared.stop.StopReason.TheVariants as stop
+
+-- the jobs of a number for a store
+abbrev pub jobs_of : ℕ → ℕ → StoreValue → List Request
+jobs_of number count s = jobs number count s.in_use.block.names
+
+-- the file wasn't opened
+pub record IsRefusal (before now : State) (end : Result (Unit {0}) StopReason) : Type 0 where
+  pub fault : OpenFault
+  pub opening : IsOpening CLASSES before now (Err fault)
+  pub ended : end ≡ Err (stop_of fault)
+
+-- It was opened, and there was no memory for the jobs.
+pub record IsNotBegun (before now : State) (end : Result (Unit {0}) StopReason) : Type 0 where
+  pub store : StoreValue
+  pub opening : IsOpening CLASSES before now (Ok store)
+  pub ended : end ≡ Err stop.NoMemory
+
+-- It was opened, at `mid`, and the disk failed in a job.
+pub record IsStopped {D : Type 0} (disk_of : D → State) (number count : ℕ) (before now : State)
+    (end : Result (Unit {0}) StopReason) : Type 0 where
+  pub store : StoreValue
+  pub mid : D
+  pub opening : IsOpening CLASSES before (disk_of mid) (Ok store)
+  pub stopped : HasStopped CLASSES store (jobs_of number count store) (disk_of mid) now
+  pub ended : end ≡ Err stop.Disk
+
+-- It was opened, at `mid`, all jobs were done, and their summary was put, unless the sink failed.
+pub record IsAllDone {D : Type 0} (disk_of : D → State) (number count : ℕ) (before now : State)
+    (out after : SinkState) (end : Result (Unit {0}) StopReason) : Type 0 where
+  pub store : StoreValue
+  pub mid : D
+  pub opening : IsOpening CLASSES before (disk_of mid) (Ok store)
+  pub summary : Summary
+  pub done : HasDone CLASSES store (jobs_of number count store) (disk_of mid) now summary
+  pub puts : IsTrue out.tells → Puts out.given after.given (summary_text summary) end
+  pub only : OnErr end (end ≡ Err stop.Sink)
+  pub cause : HasCause out.faults after.faults end
+  pub told : after.tells ≡ out.tells
+
+-- The jobs over an open file went so; but for a summary nothing was put.
+abbrev pub Did : {D : Type 0} → (D → State) → ℕ → ℕ → State → State → SinkState → SinkState
+    → Result (Unit {0}) StopReason
+    → Type 0
+Did disk_of number count before now out after end =
+    ((IsRefusal before now end ⊎ IsNotBegun before now end ⊎ IsStopped disk_of number count before now end)
+    × (after ≡ out))
+    ⊎ IsAllDone disk_of number count before now out after end
+
+-- The file of a command wasn't mounted: the disk failed, or the file isn't there.
+pub record IsNotMounted (c : Command) (before now : State) (end : Result (Unit {0}) StopReason) : Type 0 where
+  pub mount : AfterMount before now
+  pub later : before.faults ≤ now.faults
+  pub which : ((end ≡ Err stop.Disk) × (now.last_mount ≡ None) × Rose before.faults now.faults)
+      ⊎ ((end ≡ Err stop.NoFile) × (now.last_mount ≡ mounted c Absent) × (now.faults ≡ before.faults))
+
+-- It was mounted, at `first`, and the jobs over it went so.
+pub record IsMountedAndDid {D : Type 0} (disk_of : D → State) (c : Command) (number count : ℕ)
+    (before now : State)
+    (out after : SinkState) (end : Result (Unit {0}) StopReason) : Type 0 where
+  pub first : D
+  pub mount : AfterMount before (disk_of first)
+  pub there : (disk_of first).last_mount ≡ mounted c There
+  pub calm : (disk_of first).faults ≡ before.faults
+  pub did : Did disk_of number count (disk_of first) now out after end
+
+-- A command that does jobs went so; where its file wasn't mounted, nothing was put.
+abbrev pub WorkSteps : {D : Type 0} → (D → State) → Command → ℕ → ℕ → State → State → SinkState → SinkState
+    → Result (Unit {0}) StopReason → Type 0
+WorkSteps disk_of c number count before now out after end = (IsNotMounted c before now end × (after ≡ out))
+    ⊎ IsMountedAndDid disk_of c number count before now out after end

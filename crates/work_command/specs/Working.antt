@@ -1,0 +1,162 @@
+-- The headline of `work`: what the jobs of a number do to a file, what is put of them, and what they cost.
+use Rattle.std.specs.Prelude.{◌≡◌, ◌≢◌, ◌⊎◌, ℕ, ◌+◌, ◌-◌, ◌*◌, ◌/◌, ◌^◌, ◌<◌, ◌≤◌, ◌==◌, Bool, true, false, ◌||◌, List, [], length, slice_index, IsTrue}
+use Rattle.disk_face.specs.Counts.{IsCalm, Rose, last}
+use Rattle.disk_face.specs.Frames.{Untouched}
+use Rattle.disk_face.specs.Moments.{LeftOnly}
+use Rattle.disk_face.specs.States as disk
+use Rattle.disk_face.specs.Streams.{SinkState}
+use Rattle.size_class.specs.declared.TheConstants.{CLASSES, SIZE_MAX}
+use Rattle.slot_codec.specs.Choice as choice
+use Rattle.slot_codec.specs.Spelling.{head_len}
+use Rattle.slot_codec.specs.declared.codec.SuperBlock.{SuperBlock}
+use Rattle.slot_codec.specs.declared.codec.Kind.TheVariants as kind
+use Rattle.map_model.specs.Maps.{Map}
+use Rattle.map_model.specs.Requests.{Reply, Request}
+use Rattle.segment_layout.specs.Books.{Book, book_end}
+use Rattle.table_rules.specs.Opening.{OpensBy}
+use Rattle.table_rules.specs.Sequences.{HasSequenceUpTo}
+use Rattle.store_core.specs.States.{State}
+use Rattle.store_core.specs.Opened.{ContinuesFrom, LeavesRoom, RestsOnFound, found_base}
+use Rattle.ask_session.specs.Runs as run
+use Rattle.ask_session.specs.Runs.{last_state}
+use Rattle.work_maker.specs.Jobs.{jobs}
+use Rattle.work_session.specs.Counts.{asked_in, calls_in}
+use Rattle.work_session.specs.Works.{ArePaidLines, CountsOf, LinesOf}
+use Rattle.work_session.specs.declared.summary.Summary.{Summary}
+use Rattle.command_face.specs.Served.{EndsTight, IsNextStart, OpensTo, OpensToBeing, OpensToKept, Ran, Starts, limits_with, most_left}
+use Rattle.command_face.specs.Outcomes.{PutsLast, PutsLine}
+use Rattle.command_face.specs.Refusing.{NeverOpens}
+use Rattle.work_command.specs.Summaries.{summary_text}
+
+-- ---- statuses
+
+-- the statuses over a file that opens
+abbrev pub is_working : ℕ → Bool
+is_working status = (status == 0) || (status == 3) || (status == 7) || (status == 9) || (status == 10)
+
+-- all jobs were done
+abbrev pub has_worked : ℕ → Bool
+has_worked status = (status == 0) || (status == 9)
+
+-- How far the jobs came, by the status: all were done, or the disk failed before, or none was begun.
+pub record HowManyJobs (status n : ℕ) (others : List Request) : Type 0 where
+  pub known : is_working status ≡ true
+  pub all : IsTrue (has_worked status) → others ≡ []
+  pub some : status ≡ 7 → others ≢ []
+  pub none : (status ≡ 3) ⊎ (status ≡ 10) → n ≡ 0
+
+-- ---- once all jobs were done
+
+-- The summary tells how many jobs there were, how they were answered, and what the last state has. Its costs
+-- are those of two rows of bytes by class: what was moved, and what the changes asked for that were done. By
+-- each cost what was moved is paid for by what was asked for, and by the potential of the book found.
+pub record SumsUp (k : ℕ) (b : Book) (start : State) (answered : List Request) (replies : List Reply)
+    (states : List State) (x : Summary) : Type 0 where
+  pub requests : x.requests ≡ length answered
+  pub counts : CountsOf k replies (last_state start states) x
+  pub moved_row : List ℕ
+  pub asked_row : List ℕ
+  pub lines : LinesOf CLASSES moved_row asked_row x
+  pub same : x.moved * 2 ^ (CLASSES - 1) ≡ x.linear.moved
+  pub asked : (c : ℕ) → slice_index asked_row c ≡ asked_in start answered replies states c
+  pub paid : ArePaidLines CLASSES k b.grid x
+
+-- The file is as long as the layout of the last state, and opens to its checkpoint. So does what a crash
+-- leaves then, where the disk rested on the table found.
+pub record HasSaved (u : SuperBlock) (s : State) (rested : Type 0) (new : disk.State) : Type 0 where
+  pub ends : EndsTight u.k (head_len u.names) s new.file
+  pub opens : run.OpensToKept CLASSES s new.file
+  pub safe : rested → (image : List ℕ) → new.may_leave image → run.OpensToKept CLASSES s image
+
+-- All jobs were done: the summary was put, or where the sink failed a front of it. Over a settled file that
+-- ended with its layout the changing calls are at most those of the jobs and those of the bytes moved: one
+-- for the least size of an object of each class, and one for each 65,536 bytes.
+pub record AreDone (u : SuperBlock) (t : choice.Table) (b : Book) (start : State) (requests : List Request)
+    (replies : List Reply) (states : List State) (status : ℕ) (old new : disk.State)
+    (out after : SinkState) : Type 0 where
+  pub summary : Summary
+  pub sums : SumsUp u.k b start requests replies states summary
+  pub puts : IsTrue out.tells → PutsLast out.given after.given (summary_text summary) (status ≡ 9)
+  pub saved : HasSaved u (last_state start states) (RestsOnFound t old) new
+  pub calls : t.chosen.header.kind ≡ kind.Settled
+      → length old.file ≡ found_base t + book_end t.chosen.block.k b
+      → new.turn ≤ old.turn + calls_in start requests replies states
+      + summary.flat.moved / 2 ^ (CLASSES - 1) + summary.moved / 65536
+
+-- ---- the whole
+
+-- What the jobs of a number over a file do that has a superblock, and opens by a table to a map and a book.
+-- The first were done one after another, from the state in which the file is opened. What is said of images
+-- is said of a disk that rested on that table, below the last turn, and of a moving table whose sequence
+-- leaves room for the saves of its flush: at any moment a crash leaves the start, or what stood after a job
+-- that made a checkpoint, or the one that the job makes in which the disk failed; and the start alone
+-- where no job was begun.
+pub record WorkHolds (u : SuperBlock) (t : choice.Table) (m : Map) (b : Book) (number count status : ℕ)
+    (old new : disk.State) (out after : SinkState) : Type 0 where
+  pub start : State
+  pub starts : Starts t m b start
+  pub continues : IsTrue (has_worked status)
+      → ContinuesFrom t.chosen.header.kind t.chosen.header.sequence start.sequence
+  pub n : ℕ
+  pub ran : Ran (limits_with u) start (jobs number count u.names) n
+  pub far : HowManyJobs status n ran.others
+  pub done : IsTrue (has_worked status)
+      → AreDone u t b start ran.answered ran.replies ran.states status old new out after
+  pub crash : LeavesRoom t → RestsOnFound t old → new.turn < last → LeftOnly new old.turn
+      (λ image. OpensToKept start ran.replies ran.states image
+      ⊎ OpensToBeing status (limits_with u) (last_state start ran.states) ran.others image)
+  pub numbered : LeavesRoom t → RestsOnFound t old → new.turn < last
+      → LeftOnly new old.turn (HasSequenceUpTo (most_left u.k t))
+  pub unbegun : (status ≡ 3) ⊎ (status ≡ 10) → LeavesRoom t → RestsOnFound t old → new.turn < last
+      → LeftOnly new old.turn (OpensTo start)
+  pub next_start : IsCalm old.faults new.faults
+      → IsNextStart t (last_state start ran.states) (last_state start ran.states).sequence old new
+  pub reach : (last_state start ran.states).sequence ≤ most_left u.k t
+
+-- So it is of every file that opens.
+abbrev pub WorkPromise : ℕ → ℕ → ℕ → disk.State → disk.State → SinkState → SinkState → Type 0
+WorkPromise number count status old new out after = (t : choice.Table) (m : Map) (b : Book)
+    → OpensBy CLASSES SIZE_MAX t old.file m b
+    → WorkHolds t.chosen.block t m b number count status old new out after
+
+-- ---- whatever is told
+
+-- What jobs do to the devices. No count falls, and a device's own fault comes only where its count rose;
+-- where all is done the sink's didn't. What is told stays told.
+pub record KeepsWork (old new : disk.State) (out after : SinkState) (status : ℕ) : Type 0 where
+  pub later : old.faults ≤ new.faults
+  pub rose : status ≡ 7 → Rose old.faults new.faults
+  pub no_turn_back : old.turn ≤ new.turn
+  pub told : new.tells ≡ old.tells
+  pub images_told : new.tells_images ≡ old.tells_images
+  pub sink_later : out.faults ≤ after.faults
+  pub sink_rose : status ≡ 9 → Rose out.faults after.faults
+  pub sink_calm : status ≡ 0 → after.faults ≡ out.faults
+  pub sink_told : after.tells ≡ out.tells
+
+-- What a summary says whatever the disk tells: how many jobs there were, of which no more were counted, and
+-- costs that are those of two rows of bytes by class, of the bytes moved and of those asked for.
+pub record SumsUpJobs (count : ℕ) (x : Summary) : Type 0 where
+  pub requests : x.requests ≡ count + 1
+  pub few : x.ok + x.kept + x.refused ≤ x.requests
+  pub moved_row : List ℕ
+  pub asked_row : List ℕ
+  pub lines : LinesOf CLASSES moved_row asked_row x
+  pub same : x.moved * 2 ^ (CLASSES - 1) ≡ x.linear.moved
+
+-- The summary of a list of jobs was put, or where the sink failed a front of it.
+pub record PutsSummary (count status : ℕ) (out after : SinkState) : Type 0 where
+  pub summary : Summary
+  pub sums : SumsUpJobs count summary
+  pub puts : IsTrue out.tells → PutsLast out.given after.given (summary_text summary) (status ≡ 9)
+
+-- What `work` does whatever the file and the devices tell. Where all jobs were done their summary is put, and
+-- else the fault line alone; where the file isn't there or is refused, it stays as it was. One that opens
+-- isn't refused.
+pub record WorkAlways (count status : ℕ) (old new : disk.State) (out after : SinkState) : Type 0 where
+  pub known : (is_working status ≡ true) ⊎ (status ≡ 4)
+  pub keeps : KeepsWork old new out after status
+  pub untouched : (status ≡ 3) ⊎ (status ≡ 4) → Untouched old new
+  pub refused : IsTrue old.tells → status ≡ 4 → NeverOpens old.file
+  pub summed : IsTrue (has_worked status) → PutsSummary count status out after
+  pub line_alone : IsTrue out.tells → has_worked status ≡ false → PutsLine status out after

@@ -1,0 +1,35 @@
+//! Laws of jobs in which no device failed, and of what is put of them.
+ghost use Rattle.std.specs.Prelude.{◌≡◌, ◌⊎◌, ◌++◌, List, ℕ, codes};
+ghost use Rattle.disk_face.specs.Counts.{IsCalm};
+ghost use Rattle.disk_face.specs.declared.bay.Mounted.TheVariants.{There};
+ghost use Rattle.slot_codec.specs.Choice as choice;
+ghost use Rattle.segment_layout.specs.Books.{Book};
+ghost use Rattle.map_model.specs.Maps.{Map};
+ghost use Rattle.table_rules.specs.Opening.{OpensBy};
+ghost use Rattle.command_face.specs.Mounting.{IsMounted, mounted, work};
+ghost use Rattle.work_command.specs.Summaries.{eleven_jobs, summary_text};
+ghost use Rattle.work_command.specs.Working.{WorkPromise, WorkAlways};
+
+use disk_face::{Bay, Mounted, Sink};
+use size_class::{CLASSES, SIZE_MAX};
+
+/// What `work` puts of eleven jobs, whose moves weigh as those of three puts of 5, 10 and 100 bytes.
+pub fn worked_summary()
+    ensures { summary_text eleven_jobs
+        ≡ codes "requests 11\nok 4\nkept 3\nread 4096\nrefused 2\nnames 3\nbytes 115\nlength 127\n"
+        ++ codes "moved 325\nlinear 21810380800 7717519360\nflat 566231040 272629760\nseek 58049167360 25165824000\n" }
+{}
+
+/// Where the words are `work FILE NUMBER COUNT`, the mount finds the file, it opens, and no count of
+/// failures rises, all jobs are done or memory is wanting.
+pub fn jobs_are_done<B: Bay, O: Sink>()
+    ensures { (t : choice.Table) (m : Map) (b : Book) (file : List ℕ) (number count status : ℕ) (old new : B)
+        (out after : O) → OpensBy CLASSES SIZE_MAX t (B.state old).file m b
+        → WorkPromise number count status (B.state old) (B.state new) (O.state out) (O.state after)
+        → WorkAlways count status (B.state old) (B.state new) (O.state out) (O.state after)
+        → IsMounted (work file number count) (B.state new).last_mount (status ≡ 7) (status ≡ 3)
+        → (B.state new).last_mount ≡ mounted (work file number count) There
+        → IsCalm (B.state old).faults (B.state new).faults
+        → IsCalm (O.state out).faults (O.state after).faults
+        → (status ≡ 0) ⊎ (status ≡ 10) }
+{}

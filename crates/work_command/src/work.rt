@@ -1,0 +1,113 @@
+//! The command `work`: the jobs of a number over a file, and their summary.
+ghost use Rattle.std.specs.Prelude.{◌≡◌, ◌≤◌, None, Ok, IsTrue};
+ghost use Rattle.size_class.specs.declared.TheConstants.{CLASSES};
+ghost use Rattle.store_core.specs.Connection.{IsConnected};
+ghost use Rattle.store_core.specs.Opened.{IsFresh, IsOpening};
+ghost use Rattle.command_face.specs.Mounting.{IsMounted, work};
+ghost use Rattle.work_command.specs.Doing.{Did, WorkSteps};
+ghost use Rattle.command_face.specs.Refusing.{IsRefused, NeverOpens};
+ghost use Rattle.command_face.specs.Outcomes.{Ends};
+ghost use Rattle.work_command.specs.Working.{WorkPromise, WorkAlways};
+
+use crate::summary::summary_text;
+use command_face::{Outcome, StopReason, finish, put_whole, stop_of};
+use disk_face::{Bay, Disk, Mounted, Sink};
+use size_class::CLASSES;
+use std::alloc::Global;
+use store_core::Store;
+use work_session::{WorkFault, do_work};
+
+/// `work FILE NUMBER COUNT`: does the jobs of a number, and puts their summary, or the fault line alone.
+pub fn work_file<B: Bay, O: Sink>(
+    alloc: Global,
+    bay: &mut B,
+    file: &str,
+    number: u64,
+    count: u64,
+    output: &mut O,
+) -> Outcome
+    requires none { (B.state bay.old).last_mount ≡ None }
+    requires least { 1 ≤ count }
+    requires most { count ≤ 1000000 }
+    ensures works { IsTrue (B.state bay.old).tells → WorkPromise number count result.status (B.state bay.old)
+        (B.state bay.new) (O.state output.old) (O.state output.new) }
+    ensures refused { IsTrue (B.state bay.old).tells → NeverOpens (B.state bay.old).file
+        → Ends (IsRefused (B.state bay.old).file) result.status (O.state output.old) (O.state output.new) }
+    ensures mounted { IsMounted (work file.now number count) (B.state bay.new).last_mount (result.status ≡ 7)
+        (result.status ≡ 3) }
+    ensures keeps { WorkAlways count result.status (B.state bay.old) (B.state bay.new) (O.state output.old)
+        (O.state output.new) }
+    ensures numbers { (result.done ≡ 0) × (result.kept_done ≡ 0) × (result.kept_turn ≡ 0) }
+{
+    let end = work_over(alloc, bay, file, number, count, output);
+    finish(end, output)
+}
+
+/// Mounts the file, opens it, does the jobs, and puts their summary.
+fn work_over<B: Bay, O: Sink>(
+    alloc: Global,
+    bay: &mut B,
+    file: &str,
+    number: u64,
+    count: u64,
+    output: &mut O,
+) -> Result<(), StopReason>
+    requires none { (B.state bay.old).last_mount ≡ None }
+    requires least { 1 ≤ count }
+    requires most { count ≤ 1000000 }
+    ensures { WorkSteps B.state (work file.now number count) number count (B.state bay.old) (B.state bay.new)
+        (O.state output.old) (O.state output.new) result }
+{
+    match bay.mount(file, false) {
+        Err(_) => Err(StopReason::Disk),
+        Ok(Mounted::Absent) => Err(StopReason::NoFile),
+        // Nothing is made where it isn't asked for.
+        Ok(Mounted::Made) => unreachable!(),
+        Ok(Mounted::There) => work_from(alloc, bay, number, count, output),
+    }
+}
+
+/// Opens the file, does the jobs, and puts their summary.
+fn work_from<D: Disk, O: Sink>(
+    alloc: Global,
+    disk: &mut D,
+    number: u64,
+    count: u64,
+    output: &mut O,
+) -> Result<(), StopReason>
+    requires ready { IsTrue (D.state disk.old).is_ready }
+    requires least { 1 ≤ count }
+    requires most { count ≤ 1000000 }
+    ensures { Did D.state number count (D.state disk.old) (D.state disk.new) (O.state output.old)
+        (O.state output.new) result }
+{
+    match Store::open(alloc, disk) {
+        Ok(store) => work_store(alloc, store, disk, number, count, output),
+        Err(fault) => Err(stop_of(fault)),
+    }
+}
+
+/// Does the jobs by a store that was opened, and puts their summary.
+fn work_store<D: Disk, O: Sink>(
+    alloc: Global,
+    store: Store<CLASSES>,
+    disk: &mut D,
+    number: u64,
+    count: u64,
+    output: &mut O,
+) -> Result<(), StopReason>
+    requires ready { IsTrue (D.state disk.old).is_ready }
+    requires over { IsConnected CLASSES store (D.state disk.old) }
+    requires fresh { IsFresh CLASSES store }
+    requires least { 1 ≤ count }
+    requires most { count ≤ 1000000 }
+    ensures { (first : D) → IsOpening CLASSES (D.state first) (D.state disk.old) (Ok store)
+        → Did D.state number count (D.state first) (D.state disk.new) (O.state output.old)
+        (O.state output.new) result }
+{
+    match do_work(alloc, store, disk, number, count) {
+        Ok(summary) => put_whole(output, summary_text(&summary).as_slice()),
+        Err(WorkFault::Disk) => Err(StopReason::Disk),
+        Err(WorkFault::NoMemory) => Err(StopReason::NoMemory),
+    }
+}
