@@ -50,14 +50,14 @@ pub fn ends_by_the_answer()
 {}
 
 /// What a crash leaves at any moment of `run` or `work` may be the start of another call: it opens, by a
-/// table whose sequence leaves room for the saves of an opening, and a disk that has it and is left
-/// alone rests on that table. So is the file where no call of the disk failed. The sequence is below the
-/// limit that requests keep, or an opening raised it by fewer than 2^18. So a call may follow each crash
-/// while the sequence found leaves room twice.
+/// table whose sequence leaves room for the saves of an opening, and a disk that has it and is left alone
+/// rests on that table. So is the file where no call of the disk failed. The sequence is below the limit that
+/// requests keep, or an opening raised it by fewer than 2^18. So a call may follow each crash while the
+/// sequence found leaves room twice.
 pub fn a_crash_may_be_followed_by_a_call<B: Bay, I: Source, O: Sink>()
     ensures run { (t : choice.Table) (m : Map) (b : Book) (requests : List Request) (end : List ℕ)
-        (o : Outcome)
-        (old new : B) (from rest : I) (out after : O) → OpensBy CLASSES SIZE_MAX t (B.state old).file m b
+        (o : Outcome) (old new : B) (from rest : I) (out after : O)
+        → OpensBy CLASSES SIZE_MAX t (B.state old).file m b
         → Asks (I.state from).left requests end
         → RunPromise o (B.state old) (B.state new) (I.state from) (I.state rest) (O.state out) (O.state after)
         → LeavesRoomTwice t → RestsOnFound t (B.state old) → (B.state new).turn < last
@@ -68,8 +68,8 @@ pub fn a_crash_may_be_followed_by_a_call<B: Bay, I: Source, O: Sink>()
         → LeavesRoomTwice t → RestsOnFound t (B.state old) → (B.state new).turn < last
         → LeftOnly (B.state new) (B.state old).turn (MayBegin (most_left t.chosen.block.k t)) }
     ensures calm { (t : choice.Table) (m : Map) (b : Book) (requests : List Request) (end : List ℕ)
-        (o : Outcome)
-        (old new : B) (from rest : I) (out after : O) → OpensBy CLASSES SIZE_MAX t (B.state old).file m b
+        (o : Outcome) (old new : B) (from rest : I) (out after : O)
+        → OpensBy CLASSES SIZE_MAX t (B.state old).file m b
         → Asks (I.state from).left requests end
         → RunPromise o (B.state old) (B.state new) (I.state from) (I.state rest) (O.state out) (O.state after)
         → LeavesRoomTwice t → IsCalm (B.state old).faults (B.state new).faults

@@ -89,8 +89,8 @@ pub record AreDone (u : SuperBlock) (t : choice.Table) (b : Book) (start : State
 -- The first were done one after another, from the state in which the file is opened. What is said of images
 -- is said of a disk that rested on that table, below the last turn, and of a moving table whose sequence
 -- leaves room for the saves of its flush: at any moment a crash leaves the start, or what stood after a job
--- that made a checkpoint, or the one that the job makes in which the disk failed; and the start alone
--- where no job was begun.
+-- that made a checkpoint, or the one that the job makes in which the disk failed; and the start alone where
+-- no job was begun.
 pub record WorkHolds (u : SuperBlock) (t : choice.Table) (m : Map) (b : Book) (number count status : ℕ)
     (old new : disk.State) (out after : SinkState) : Type 0 where
   pub start : State
