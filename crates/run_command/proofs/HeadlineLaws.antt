@@ -44,7 +44,9 @@ use Rattle.run_command.specs.declared.run.Ended.{Ended}
 use Rattle.command_face.specs.declared.outcome.Outcome.{Outcome}
 use Rattle.command_face.proofs.OpeningLaws.{Opened, left_first, left_opening, opened_by, opens_first, rests_first, told_first}
 use Rattle.command_face.proofs.OverLaws.{next_over}
-use Rattle.run_command.proofs.RunLaws.{all_answered, disk_failed, input_ended, line_failed, sink_failed, source_failed}
+use Rattle.run_command.proofs.BetweenLaws.{all_answered, input_ended, line_failed, source_failed}
+use Rattle.run_command.proofs.FailedLaws.{disk_failed}
+use Rattle.run_command.proofs.SinkLaws.{sink_failed}
 use Rattle.run_command.proofs.SettledLaws.{ends_with_layout}
 use Rattle.run_command.proofs.UnservedLaws.{unserved_runs, never_true}
 use Rattle.command_face.proofs.UnopenedLaws.{WhyUnopened, why_unopened, begins_itself}
@@ -132,8 +134,7 @@ module _ {D I O : Type 0} (disk_of : D → State) (source_of : I → SourceState
         unserved_runs t.chosen.block found_start found_starts (lawful now) left_before later left
         (λ rests below calm settled opened. absurd (omega (arith, rose, calm.same, calm.below)))
         requests end (source_of from) (source_of rest) (sink_of out) after 7 k refl refl
-        (λ is. omega (arith, is))
-        since (λ calm has. omega (arith, rose, calm.same, calm.below))
+        (λ is. omega (arith, is)) since (λ calm has. omega (arith, rose, calm.same, calm.below))
         (λ calm. absurd (omega (arith, rose, calm.same, calm.below)))
         (Err stop.Disk) refl tt (line_out (Err stop.Disk) line) (record {
           known = refl;
@@ -199,13 +200,11 @@ module _ {D I O : Type 0} (disk_of : D → State) (source_of : I → SourceState
           (λ room rests. Leaves-weaken (IsFoundImage CLASSES t m b (length old.file))
           (λ image may. found_image CLASSES t old.file m b o image (rests image may)) (still rests))
           (λ rests below calm settled opened. settled_still
-          (same.same_turn ∙ mount.same_turn) still rests below
-          settled opened)
+          (same.same_turn ∙ mount.same_turn) still rests below settled opened)
           requests end (source_of from) (source_of rest) (sink_of out) after 10 z.turn refl refl
           (λ is. omega (arith, is)) (λ has. refl) (λ calm has. never_true has)
           (λ calm. next_found file (λ rests image left. subst (λ (f : List ℕ). SameOnFound t f image)
-          (sym file)
-          (rests image (mount.images image (same.images image left)))))
+          (sym file) (rests image (mount.images image (same.images image left)))))
           (Err stop.NoMemory) refl tt (line_out (Err stop.NoMemory) line) no_memory
 
       unopened_by : (e : Ended) (why : OpenFault) → WhyUnopened why → IsOpening CLASSES first z (Err why)
@@ -364,16 +363,15 @@ module _ {D I O : Type 0} (disk_of : D → State) (source_of : I → SourceState
         subst (λ (x : Ended). Runs (outcome_of x)) (sym ended)
         (subst (λ (u : SuperBlock). RunHolds u t m b requests end (outcome_of (ended_as ends.Disk new)) old z
         (source_of from) (source_of rest) (sink_of out) after) op.block
-        (disk_failed op (lawful before)
-        (lawful mid) o left_before asks told_source y.ran y.few ends.Disk y.last_turn
-        after (Err stop.Disk) tt (y.fewer refl) (line_now ends.Disk y sound ended) refl refl))
+        (disk_failed op (lawful before) (lawful mid) o left_before asks told_source y.ran y.few ends.Disk
+        y.last_turn after (Err stop.Disk) tt (y.fewer refl) (line_now ends.Disk y sound ended) refl refl))
     session_by ends.Sink y sound ended =
         subst (λ (x : Ended). Runs (outcome_of x)) (sym ended)
         (subst (λ (u : SuperBlock). RunHolds u t m b requests end (outcome_of (ended_as ends.Sink new)) old z
         (source_of from) (source_of rest) (sink_of out) after) op.block
-        (sink_failed op (lawful before)
-        (lawful mid) o left_before asks told_source y.ran y.few ends.Sink y.last_turn
-        after (Err stop.Sink) tt (y.fewer refl) (line_now ends.Sink y sound ended) refl refl sound))
+        (sink_failed op (lawful before) (lawful mid) o left_before asks told_source y.ran y.few ends.Sink
+        y.last_turn after (Err stop.Sink) tt (y.fewer refl)
+        (line_now ends.Sink y sound ended) refl refl sound))
 
   -- ---- all of them
 

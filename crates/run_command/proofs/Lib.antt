@@ -1,6 +1,9 @@
 mod RunLists
 mod SessionLemmas
-mod RunLaws
+mod SoFarLaws
+mod BetweenLaws
+mod FailedLaws
+mod SinkLaws
 mod UnservedLaws
 mod SettledLaws
 mod HeadlineLaws

@@ -208,8 +208,8 @@ pub record RunHolds (u : SuperBlock) (t : choice.Table) (m : Map) (b : Book) (re
       ran.replies ran.states ran.others o (HasMounted new) old new
   pub numbered : LeavesRoom t → RestsOnFound t old → new.turn < last
       → LeftOnly new old.turn (HasSequenceUpTo (most_left u.k t))
-  -- what is acknowledged, and the turns since where the disk failed in a request that only reads, or
-  -- before the first
+  -- what is acknowledged, and the turns since where the disk failed in a request that only reads, or before
+  -- the first
   pub acknowledged : IsAcknowledged (limits_with u) start ran.answered ran.replies ran.states o new.turn
   pub failed : o.status ≡ 7 → HasMounted new → (next_is_changing ran.others ≡ true)
       ⊎ (new.turn ≡ counted o.kept_turn (calls_since (limits_with u) 0 start ran.states ran.answered

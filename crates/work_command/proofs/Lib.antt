@@ -2,4 +2,5 @@ mod RefusalLaws
 mod WorkLaws
 mod DoingLemmas
 mod DidLaws
+mod SummaryLaws
 mod WorkingLaws

@@ -27,7 +27,7 @@ use Rattle.command_face.specs.Mounting.{Command}
 use Rattle.work_command.specs.Working.{WorkHolds}
 use Rattle.command_face.specs.declared.stop.StopReason.{StopReason}
 use Rattle.command_face.specs.declared.stop.StopReason.TheVariants as stop
-use Rattle.work_command.proofs.DidLaws.{summary_put}
+use Rattle.work_command.proofs.SummaryLaws.{summary_put}
 use Rattle.command_face.proofs.UnopenedLaws.{WhyUnopened, begins_itself, why_unopened}
 use Rattle.command_face.proofs.UnopenedLaws.WhyUnopened.{disk, memory}
 use Rattle.command_face.proofs.OpeningLaws.{Opened, left_first, left_opening, opened_by, opens_first, rests_first, told_first}

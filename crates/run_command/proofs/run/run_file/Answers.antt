@@ -1,11 +1,10 @@
 use Rattle.std.proofs.Common.{◌≡◌, ◌⊎◌, ◌∙◌, true, ap, sym, subst}
 use Rattle.std.specs.Prelude.{IsTrue}
-use Rattle.command_face.specs.Mounting.{IsMounted}
+use Rattle.command_face.specs.Mounting.{IsMounted, run}
 use Rattle.command_face.specs.Refusing.{IsRefused}
 use Rattle.run_command.specs.Headline.{HasMounted, IsKeptTurn, RunHolds, is_session}
 use Rattle.command_face.specs.Outcomes.{status_at}
 use Rattle.run_command.specs.Sessions.{HasCounted, IsUnserved}
-use Rattle.command_face.specs.Mounting.{run}
 use Rattle.command_face.specs.declared.outcome.Outcome.{Outcome}
 use Rattle.run_command.proofs.CountLaws.{has_counted}
 use Rattle.run_command.proofs.EndLaws.{ends_after, keeps_after, line_after, only_line}

@@ -1,12 +1,12 @@
 -- What the jobs left and put, and the line of their end after it.
 use Rattle.std.proofs.Common.{◌≡◌, ap, subst, sym}
-use Rattle.command_face.specs.Mounting.{IsMounted}
+use Rattle.command_face.specs.Mounting.{IsMounted, work}
 use Rattle.command_face.specs.Refusing.{IsRefused}
 use Rattle.command_face.specs.Outcomes.{status_at}
-use Rattle.command_face.specs.Mounting.{work}
 use Rattle.work_command.specs.Working.{WorkHolds, WorkAlways}
 use Rattle.command_face.specs.declared.outcome.Outcome.{Outcome}
-use Rattle.work_command.proofs.DidLaws.{ends_by_line, keeps_line, line_only, refused_did, summary_of, whole}
+use Rattle.work_command.proofs.DidLaws.{refused_did, whole}
+use Rattle.work_command.proofs.SummaryLaws.{ends_by_line, keeps_line, line_only, summary_of}
 use Rattle.work_command.proofs.RefusalLaws.{never_did}
 use Rattle.work_command.proofs.WorkingLaws.{works}
 use Rattle.work_command.proofs.work.work_file.Goals as goal
