@@ -28,8 +28,8 @@ use Rattle.command_face.specs.Served.{BeginsFrom, most_left, turn_opened}
 pub found_numbered : (t : choice.Table) (m : Map) (b : Book) (longest k : ℕ) (image : List ℕ)
     → IsFoundImage CLASSES t m b longest image → HasSequenceUpTo (most_left k t) image
 found_numbered t m b longest k image is =
-    sequence_wider (most_found t) (most_left k t) image (le-max_left (most_found t)
-    (2 ^ 61 + 2 * k)) is.sequence
+    sequence_wider (most_found t) (most_left k t) image (le-max_left (most_found t) (2 ^ 61 + 2 * k))
+    is.sequence
 
 -- and so do those that requests leave after it
 pub requests_low : (t : choice.Table) (k q : ℕ) → q ≤ most_found t → most_sequence k q ≤ most_left k t

@@ -17,8 +17,6 @@ use Rattle.store_core.proofs.OpeningLaws.{alike_found}
 use Rattle.store_core.proofs.OverLaws.{same_block}
 use Rattle.command_face.specs.Served.{EndsTight, IsNextStart}
 
--- ---- a store over a file
-
 -- its data part is within bounds, now and once it goes back
 pub tight_over : (s : StoreValue) (file : List ℕ) (u : SuperBlock) → IsStore CLASSES s → IsOver CLASSES s file
     → s.in_use.block ≡ u → EndsTight u.k (head_len u.names) (state_of s file) file

@@ -18,6 +18,7 @@ pub data Command : Type 0 where
   help : Command
   version : Command
 
+-- the command makes its file where it isn't there
 abbrev pub makes : Command → Bool
 makes (format file k names) = true
 makes _ = false
@@ -41,8 +42,7 @@ abbrev pub not_there : Command → Mounted
 not_there c = if makes c then Made else Absent
 
 -- The file of a command was mounted unless the disk failed, as its last mount tells; the program says that
--- there is
--- no such file exactly where that mount answered so.
+-- there is no such file exactly where that mount answered so.
 pub record IsMounted (c : Command) (mount : Option Mount) (disk_failed no_file : Type 0) : Type 0 where
   pub answer : disk_failed ⊎ (mount ≡ mounted c There) ⊎ (mount ≡ mounted c (not_there c))
   pub absent : no_file ↔ (mount ≡ mounted c Absent)

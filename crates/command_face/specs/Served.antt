@@ -61,7 +61,7 @@ IsKept (reply ∷ replies) (suc (suc n)) = IsKept replies (suc n)
 abbrev pub OpensTo : State → List ℕ → Type 0
 OpensTo s image = Opens CLASSES SIZE_MAX image s.map s.book
 
--- it makes a checkpoint, and an image opens to that
+-- the request that comes next makes a checkpoint, and an image opens to that
 abbrev pub OpensToNext : Limits → State → List Request → List ℕ → Type 0
 OpensToNext limits s [] image = ⊥
 OpensToNext limits s (r ∷ others) image =
@@ -90,16 +90,16 @@ OpensToKept start replies states image = OpensTo start image
 abbrev pub OpensToBeing : ℕ → Limits → State → List Request → List ℕ → Type 0
 OpensToBeing status limits s others image = IsTrue (has_failed status) × OpensToNext limits s others image
 
--- the greatest sequence that a call leaves over a file with a table: what an opening raises its sequence
--- to, or what requests may
+-- the greatest sequence that a call leaves over a file with a table: what an opening raises its sequence to,
+-- or what requests may
 abbrev pub most_left : ℕ → choice.Table → ℕ
 most_left k t = most_sequence k (most_found t)
 
 -- ---- the next call
 
 -- The next call may begin here: the content opens to the checkpoint of a state, by the same superblock and
--- with a sequence that is no greater, and just this where it is the state's own; and where the disk
--- rested on its table it rests on this one.
+-- with a sequence that is no greater, and just this where it is the state's own; and where the disk rested on
+-- its table it rests on this one.
 pub record IsNextStart (found : choice.Table) (s : State) (sequence : ℕ) (old new : disk.State) : Type 0 where
   pub table : choice.Table
   pub opens : OpensBy CLASSES SIZE_MAX table new.file s.kept s.kept_book

@@ -8,7 +8,7 @@ use Rattle.command_face.specs.declared.stop.StopReason.{StopReason}
 use Rattle.costore_top.specs.declared.help.TheConstants.{HELP, VERSION}
 use Rattle.file_commands.specs.Formatting.{format_answer}
 
--- the command mounts its file, and it makes the file where it isn't there
+-- the command mounts its file
 abbrev pub mounts : Command → Bool
 mounts (format file k names) = true
 mounts (get file name) = true

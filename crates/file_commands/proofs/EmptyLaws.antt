@@ -1,5 +1,5 @@
--- A file with the table of a store that was just formatted opens to the empty map and the empty book,
--- and what is no store opens to nothing.
+-- A file with the table of a store that was just formatted opens to the empty map and the empty book, and
+-- what is no store opens to nothing.
 use Rattle.std.specs.Prelude.{◌≡◌, ℕ, ◌-◌, nat_lt, List, [], length, take, IsErr, refl}
 use Rattle.std.proofs.Common.{arith, sym, ◌∙◌, subst, inl, inr}
 use Rattle.std.proofs.lemmas.Bool.{cond-false, le-ltb}
