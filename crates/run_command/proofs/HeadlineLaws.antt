@@ -370,8 +370,8 @@ module _ {D I O : Type 0} (disk_of : D → State) (source_of : I → SourceState
         (subst (λ (u : SuperBlock). RunHolds u t m b requests end (outcome_of (ended_as ends.Sink new)) old z
         (source_of from) (source_of rest) (sink_of out) after) op.block
         (sink_failed op (lawful before) (lawful mid) o left_before asks told_source y.ran y.few ends.Sink
-        y.last_turn after (Err stop.Sink) tt (y.fewer refl)
-        (line_now ends.Sink y sound ended) refl refl sound))
+        y.last_turn after (Err stop.Sink) tt (y.fewer refl) (line_now ends.Sink y sound ended) refl refl
+        sound))
 
   -- ---- all of them
 
