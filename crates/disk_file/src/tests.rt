@@ -2,6 +2,8 @@ mod bays;
 mod calls;
 mod faulty;
 mod files;
+mod memory;
 mod mounts;
 mod slow;
 mod streams;
+mod told;
