@@ -3,3 +3,4 @@ pub mod Parts
 pub mod Mounted
 pub mod Bays
 pub mod Streams
+pub mod Words

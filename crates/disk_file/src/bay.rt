@@ -1,11 +1,12 @@
 //! A bay of real files.
-ghost use Rattle.std.specs.Prelude.{◌≡◌, ◌≤◌, ◌+◌, ◌<◌, ◌⊎◌, ◌↔◌, None, Some, Ok, refl, [], length, is_ok, is_some, if◌then◌else◌, IfOk, IsErr, IsOk, OnErr, OnOk, IsTrue, IsFalse};
+ghost use Rattle.std.specs.Prelude.{◌≡◌, ◌≤◌, ◌+◌, ◌<◌, ◌⊎◌, ◌↔◌, None, Some, Ok, refl, [], length, is_ok, is_some, if◌then◌else◌, IfOk, IfSome, IsErr, IsOk, OnErr, OnOk, IsTrue, IsFalse};
 ghost use Rattle.byte_ranges.specs.Ranges.{bytes_at, overwritten, resized};
 ghost use Rattle.disk_face.specs.Counts.{HasCause, counted, last};
 ghost use Rattle.disk_face.specs.Frames.{AfterLength, AfterMount, AfterRead, AfterSync, AfterWrite};
 ghost use Rattle.disk_face.specs.Moments.{Only};
 ghost use Rattle.disk_face.specs.Mounts.{is_mounted};
 ghost use Rattle.disk_file.specs.Mounted.{CanMount, HasName, IsAtRest, IsHeld, mount_of};
+ghost use Rattle.disk_file.specs.Words.{AsksFor};
 
 use crate::calls::{resize, sync, write};
 use crate::cause::Cause;
@@ -94,7 +95,7 @@ impl<H: Host> FileBay<H> {
     fn fail(&mut self, cause: Cause) -> DiskFault
         ensures faults { self.new.faults ≡ counted self.old.faults 1 }
         ensures later { self.old.faults ≤ self.new.faults }
-        ensures cause { IsTrue (is_some self.new.cause) }
+        ensures cause { self.new.cause ≡ Some cause }
         ensures host { self.new.host ≡ self.old.host }
         ensures last { self.new.last ≡ self.old.last }
         ensures usage { self.new.usage ≡ self.old.usage }
@@ -172,6 +173,7 @@ impl<H: Host> Disk for FileBay<H> {
         ensures serves { IsFalse (marks_of self.old).may_fail → IsTrue (bay_state self.old).tells
             → pos + length bytes.now ≤ last → IsOk result }
         ensures told { OnErr result (IsTrue (is_some (cause_of self.new))) }
+        ensures room { OnErr result (IfSome (cause_of self.new) (AsksFor (counted pos (length bytes.now)))) }
         ensures bay { SameBay self.old self.new }
     {
         match write(&mut self.host, pos, bytes) {
@@ -193,6 +195,7 @@ impl<H: Host> Disk for FileBay<H> {
             else counted (bay_state self.old).faults 1) }
         ensures serves { IsFalse (marks_of self.old).may_fail → n ≤ (marks_of self.old).room → IsOk result }
         ensures told { OnErr result (IsTrue (is_some (cause_of self.new))) }
+        ensures room { OnErr result (IfSome (cause_of self.new) (AsksFor n)) }
         ensures bay { SameBay self.old self.new }
     {
         match resize(&mut self.host, n) {

@@ -1,11 +1,12 @@
 //! The changing calls of a disk, by the calls of a system.
-ghost use Rattle.std.specs.Prelude.{◌≡◌, ◌⊎◌, ◌+◌, ◌≤◌, length, OnOk, OnErr, IsOk, IsTrue, IsFalse};
+ghost use Rattle.std.specs.Prelude.{◌≡◌, ◌⊎◌, ◌+◌, ◌≤◌, length, OnOk, OnErr, IfErr, IsOk, IsTrue, IsFalse};
 ghost use Rattle.byte_ranges.specs.Ranges.{overwritten, resized};
-ghost use Rattle.disk_face.specs.Counts.{last};
+ghost use Rattle.disk_face.specs.Counts.{counted, last};
 ghost use Rattle.disk_face.specs.Frames.{AfterLength, AfterSync, AfterWrite};
 ghost use Rattle.disk_face.specs.Moments.{Only};
+ghost use Rattle.disk_file.specs.Words.{AsksFor};
 
-use crate::cause::Cause;
+use crate::cause::{Cause, of_change};
 use crate::host::Host;
 use crate::positions::write_whole;
 
@@ -18,6 +19,7 @@ pub fn write<H: Host>(host: &mut H, pos: u64, bytes: &[u8]) -> Result<(), Cause>
         → OnOk result ((H.state host.new).file ≡ overwritten (H.state host.old).file pos bytes.now) }
     ensures serves { IsFalse (H.marks host.old).may_fail → IsTrue (H.state host.old).tells
         → pos + length bytes.now ≤ last → IsOk result }
+    ensures room { IfErr result (AsksFor (counted pos (length bytes.now))) }
     ensures frame { AfterWrite pos (length bytes.now) (H.state host.old) (H.state host.new) }
     ensures marks { H.marks host.new ≡ H.marks host.old }
 {
@@ -35,12 +37,16 @@ pub fn resize<H: Host>(host: &mut H, n: u64) -> Result<(), Cause>
         → OnErr result (((H.state host.new).file ≡ (H.state host.old).file)
         ⊎ ((H.state host.new).file ≡ resized (H.state host.old).file n)) }
     ensures serves { IsFalse (H.marks host.old).may_fail → n ≤ (H.marks host.old).room → IsOk result }
+    ensures room { IfErr result (AsksFor n) }
     ensures frame { AfterLength n (H.state host.old) (H.state host.new) }
     ensures marks { H.marks host.new ≡ H.marks host.old }
 {
     let answer = host.resize(n);
     host.end_call();
-    answer.map_err(Cause::System)
+    match answer {
+        Ok(()) => Ok(()),
+        Err(error) => Err(of_change(error, n, None)),
+    }
 }
 
 /// Syncs the file, unless a sync has failed before.

@@ -16,7 +16,7 @@ mod system;
 mod tests;
 
 pub use bay::FileBay;
-pub use cause::Cause;
+pub use cause::{Cause, NoRoom};
 pub use host::{Host, How, Kind, Use};
 pub use standard::{HeldNumbers, hold_numbers};
 pub use streams::{StdSink, StdSource};

@@ -1,10 +1,11 @@
 //! Reads and writes at positions, of which one call may pass on a part alone.
-ghost use Rattle.std.specs.Prelude.{◌≡◌, ◌+◌, ◌≤◌, length, OnOk, IsOk, IsTrue, IsFalse};
-ghost use Rattle.disk_face.specs.Counts.{last};
+ghost use Rattle.std.specs.Prelude.{◌≡◌, ◌+◌, ◌≤◌, length, OnOk, IfErr, IsOk, IsTrue, IsFalse};
+ghost use Rattle.disk_face.specs.Counts.{counted, last};
 ghost use Rattle.byte_ranges.specs.Ranges.{bytes_at, overwritten};
 ghost use Rattle.disk_file.specs.Parts.{WritesPart};
+ghost use Rattle.disk_file.specs.Words.{AsksFor};
 
-use crate::cause::Cause;
+use crate::cause::{Cause, of_change};
 use crate::host::Host;
 use crate::retries::is_interrupted;
 
@@ -49,9 +50,11 @@ pub fn write_whole<H: Host>(host: &mut H, pos: u64, bytes: &[u8]) -> Result<(), 
     ensures serves { IsFalse (H.marks host.old).may_fail → IsTrue (H.state host.old).tells
         → pos + length bytes.now ≤ length (H.state host.old).file → pos + length bytes.now ≤ last
         → IsOk result }
+    ensures room { IfErr result (AsksFor (counted pos (length bytes.now))) }
     ensures frame { WritesPart pos (length bytes.now) (H.state host.old) (H.state host.new) }
     ensures marks { H.marks host.new ≡ H.marks host.old }
 {
+    let end = pos.saturating_add(bytes.len() as u64);
     let mut written = 0;
     'calls: for call in 0..u64::MAX {
         if written >= bytes.len() {
@@ -64,7 +67,7 @@ pub fn write_whole<H: Host>(host: &mut H, pos: u64, bytes: &[u8]) -> Result<(), 
             Ok(0) => return Err(Cause::NoneTaken),
             Ok(n) => written += n,
             Err(error) if is_interrupted(&error) => {}
-            Err(error) => return Err(Cause::System(error)),
+            Err(error) => return Err(of_change(error, end, Some(at))),
         }
     }
     if written >= bytes.len() {

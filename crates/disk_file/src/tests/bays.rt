@@ -13,14 +13,18 @@ pub fn word(cause: Option<Cause>) -> &'static str {
     match cause {
         None => "none",
         Some(Cause::System(_)) => "system",
+        Some(Cause::NoRoom(_)) => "no room",
+        Some(Cause::NoFolder(_)) => "no folder",
         Some(Cause::NoName) => "no name",
         Some(Cause::LongName) => "long name",
         Some(Cause::Folder) => "folder",
         Some(Cause::Special) => "special",
         Some(Cause::InUse) => "in use",
+        Some(Cause::OwnStream) => "own stream",
         Some(Cause::Ended) => "ended",
         Some(Cause::NoneTaken) => "none taken",
         Some(Cause::Lost) => "lost",
+        Some(Cause::Gone) => "gone",
     }
 }
 

@@ -4,10 +4,11 @@ ghost use Rattle.disk_file.specs.Bays.{bay_state};
 
 use super::bays::{mounts, word};
 use super::faulty::Faulty;
-use crate::FileBay;
 use crate::host::{Host, Kind, Use};
 use crate::positions::{fill, write_whole};
+use crate::{Cause, FileBay};
 use disk_face::{Disk, Mounted};
+use std::io::ErrorKind;
 use std::process::Abort;
 
 /// What is seen where the system's call of a number fails: which changes fail, a 1 for each of `set_len`,
@@ -135,6 +136,40 @@ fn causes<H: Host>(bay: &mut FileBay<H>) -> [&'static str; 3]
     let read = word(bay.cause());
     let _ = bay.write_at(0, b"abcdefgh");
     [sized, read, word(bay.cause())]
+}
+
+/// What is told where there is no room for a change: the number of the system's call that fails, how it
+/// fails, and how much was asked for and had. The calls after the mount are one of a length of sixteen
+/// bytes, and three that write the eight from position 4 on.
+const FULL: &[(u64, ErrorKind, u64, Option<u64>)] = &[
+    (7, ErrorKind::FileTooLarge, 16, None),
+    (8, ErrorKind::StorageFull, 12, Some(4)),
+    (9, ErrorKind::QuotaExceeded, 12, Some(7)),
+    (10, ErrorKind::StorageFull, 12, Some(10)),
+];
+
+#[test]
+fn tells_what_there_was_no_room_for(rt: HostRuntime) {
+    for row in FULL {
+        lacks(&rt, row);
+    }
+}
+
+/// The cause has the word and the numbers of the row.
+fn lacks(rt: &impl Abort, row: &(u64, ErrorKind, u64, Option<u64>)) {
+    let (fails, failing, asked, had) = *row;
+    let mut host = Faulty::new(Some(Kind::File), fails);
+    host.failing = failing;
+    host.len = 1;
+    let mut bay = FileBay::over(host, Use::Changing);
+    mounts(rt, &mut bay, "f", false, Mounted::There);
+    let is_whole = bay.set_len(16).is_ok() && bay.write_at(4, b"abcdefgh").is_ok();
+    assert!(rt; !is_whole);
+    let Some(Cause::NoRoom(room)) = bay.cause() else {
+        panic!(rt; "call {fails}")
+    };
+    assert!(rt; room.error.kind() == failing && room.asked == asked && room.had == had);
+    assert!(rt; Cause::NoRoom(room).word() == "no-room");
 }
 
 #[test]

@@ -16,6 +16,8 @@ pub struct Faulty {
     pub opened: Kind,
     pub held: bool,
     pub fails: u64,
+    /// How the call that fails does so.
+    pub failing: ErrorKind,
     pub stutters: bool,
     pub bytes: [u8; 16],
     pub len: usize,
@@ -54,6 +56,7 @@ impl Faulty {
             opened: Kind::File,
             held: false,
             fails,
+            failing: ErrorKind::Other,
             stutters: false,
             bytes: [7; 16],
             len: 0,
@@ -70,7 +73,7 @@ impl Faulty {
         self.log
             .set(self.log.get().wrapping_mul(16).wrapping_add(digit));
         if number == self.fails {
-            return Err(io::Error::from(ErrorKind::Other));
+            return Err(io::Error::from(self.failing));
         }
         if self.stutters && number % 2 == 1 && (digit == READ || digit == WRITE) {
             return Err(io::Error::from(ErrorKind::Interrupted));
