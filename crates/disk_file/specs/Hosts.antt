@@ -18,12 +18,17 @@ pub record Marks : Type 0 where
   pub kind_at : List ℕ → Option Kind
   -- what is open
   pub opened : Option Kind
-  -- somebody else holds the file
+  -- somebody else holds the file, or a standard stream of the program reads or writes it
   pub in_use : Bool
   -- the lock that is held
   pub lock : Option Use
   -- the folder was synced since the file was made
   pub is_named : Bool
+  -- the file is also what a standard stream of the program reads or writes, of the streams that such a
+  -- use needs
+  pub is_stream : Use → Bool
+  -- the name leads to the file that is open
+  pub leads : List ℕ → Bool
 
 -- which names are there
 abbrev pub names_of : Marks → Names
@@ -42,11 +47,13 @@ can_open how.Change there = is_some there
 can_open how.Make None = true
 can_open how.Make (Some _) = false
 
--- What is told stays told, calls fail as before, and so does somebody else hold the file or not.
+-- What is told stays told, calls fail as before, and so does somebody else hold the file or not, or a
+-- standard stream read or write it.
 pub record SameWorld (old new : Marks) : Type 0 where
   pub told : new.tells ≡ old.tells
   pub same_faults : new.may_fail ≡ old.may_fail
   pub same_use : new.in_use ≡ old.in_use
+  pub same_streams : new.is_stream ≡ old.is_stream
 
 -- The same, and the lock that is held.
 pub record SameHold (old new : Marks) : Type 0 where
@@ -64,4 +71,6 @@ untold_marks = record {
   in_use = false;
   lock = None;
   is_named = false;
+  is_stream = λ _. false;
+  leads = λ _. false;
 }

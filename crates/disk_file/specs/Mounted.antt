@@ -16,7 +16,7 @@ use Rattle.disk_file.specs.declared.host.Use.TheVariants as meant
 abbrev pub mount_of : Option Last → Option Mount
 mount_of None = None
 mount_of (Some last) = Some (record {
-  name = last.name.items;
+  name = last.name.bytes;
   make = last.make;
   answer = last.answer;
 })

@@ -4,7 +4,7 @@ ghost use Rattle.byte_ranges.specs.Ranges.{bytes_at, overwritten, resized};
 ghost use Rattle.disk_face.specs.Counts.{HasCause, counted, last};
 ghost use Rattle.disk_face.specs.Frames.{AfterLength, AfterMount, AfterRead, AfterSync, AfterWrite};
 ghost use Rattle.disk_face.specs.Moments.{Only};
-ghost use Rattle.disk_face.specs.Mounts.{is_mounted};
+ghost use Rattle.disk_face.specs.Mounts.{has_file, is_mounted};
 ghost use Rattle.disk_file.specs.Mounted.{CanMount, HasName, IsAtRest, IsHeld, mount_of};
 ghost use Rattle.disk_file.specs.Words.{AsksFor};
 
@@ -14,16 +14,26 @@ use crate::host::{Host, Use};
 use crate::mounts::find_or_make;
 use crate::positions::fill;
 use crate::system::SystemFile;
-use arrayvec::ArrayVec;
+use arrayvec::ArrayString;
 use disk_face::{Bay, Disk, DiskFault, Mounted};
 use std::fs::{File, Files};
 
 /// A mount that was answered. A name has at most 4,095 bytes, as many as a system takes.
 #[derive(Drop)]
 struct Last {
-    name: ArrayVec<u8, 4095>,
+    name: ArrayString<4095>,
     make: bool,
     answer: Mounted,
+}
+
+/// The name of the file that was mounted last, or nothing.
+fn name_of(last: &Option<Last>) -> &str
+    ensures { IfSome (mount_of last.now) (λ mount. result.now ≡ mount.name) }
+{
+    match last {
+        Some(last) => last.name.as_str(),
+        None => "",
+    }
 }
 
 /// The files of a system. It tells what its system tells: of real files neither content nor images,
@@ -205,7 +215,8 @@ impl<H: Host> Disk for FileBay<H> {
     }
 
     /// Reaches the device, for a change of the length too. After a sync that failed each later one
-    /// fails: the system may have let go of what it could not write, and would say that all is well.
+    /// fails: the system may have let go of what it could not write, and would say that all is well. So does
+    /// one of a file that its name leads to no more: nobody would find what was synced.
     fn sync(&mut self) -> Result<(), DiskFault>
         requires { IsTrue (bay_state self.old).is_ready }
         ensures rests { OnOk result (Only (bay_state self.old).file (bay_state self.new).may_leave) }
@@ -214,13 +225,15 @@ impl<H: Host> Disk for FileBay<H> {
         ensures faults { (bay_state self.new).faults ≡ (if is_ok result then (bay_state self.old).faults
             else counted (bay_state self.old).faults 1) }
         ensures lost { IsTrue (has_lost self.old) → IsErr result }
+        ensures gone { IsTrue (marks_of self.old).tells → IfSome (bay_state self.old).last_mount (λ mount.
+            IsFalse ((marks_of self.old).leads mount.name) → IsErr result) }
         ensures loses { IsErr result ↔ IsTrue (has_lost self.new) }
         ensures serves { IsFalse (marks_of self.old).may_fail → IsFalse (has_lost self.old) → IsOk result }
         ensures told { OnErr result (IsTrue (is_some (cause_of self.new))) }
         ensures marks { marks_of self.new ≡ marks_of self.old }
         ensures usage { use_of self.new ≡ use_of self.old }
     {
-        match sync(&mut self.host, self.has_lost) {
+        match sync(&mut self.host, name_of(&self.last), self.has_lost) {
             Ok(()) => Ok(()),
             Err(cause) => {
                 self.has_lost = true;
@@ -235,7 +248,7 @@ impl<H: Host> Disk for FileBay<H> {
 }
 
 impl<H: Host> Bay for FileBay<H> {
-    ghost use Rattle.disk_file.specs.Hosts.{names_of};
+    ghost use Rattle.disk_file.specs.Hosts.{SameWorld, names_of};
     ghost use Rattle.disk_file.specs.Bays.{bay_state, cause_of, has_lost, marks_of, use_of};
 
     ghost names = { λ bay. names_of (marks_of bay) };
@@ -261,6 +274,8 @@ impl<H: Host> Bay for FileBay<H> {
         ensures names_told { (names_of (marks_of self.new)).tells ≡ (names_of (marks_of self.old)).tells }
         ensures held { IsTrue (marks_of self.old).tells → IfOk result (λ answer.
             IsHeld (use_of self.old) answer (marks_of self.new)) }
+        ensures own { IsTrue (marks_of self.old).tells → IfOk result (λ answer. IsTrue (has_file answer)
+            → IsFalse ((marks_of self.old).is_stream (use_of self.old))) }
         ensures rests { IfOk result (λ answer. IsAtRest (use_of self.old) answer (bay_state self.new)) }
         ensures named { IsTrue (marks_of self.old).tells → IfOk result (λ answer.
             HasName (use_of self.old) answer (bay_state self.new) (marks_of self.new)) }
@@ -269,14 +284,14 @@ impl<H: Host> Bay for FileBay<H> {
         ensures told { OnErr result (IsTrue (is_some (cause_of self.new))) }
         ensures usage { use_of self.new ≡ use_of self.old }
         ensures lost { has_lost self.new ≡ has_lost self.old }
+        ensures world { SameWorld (marks_of self.old) (marks_of self.new) }
     {
         if name.is_empty() {
             return Err(self.fail(Cause::NoName));
         }
-        let mut copy = ArrayVec::new();
-        if copy.try_extend_from_slice(name.as_bytes()).is_err() {
+        let Ok(copy) = ArrayString::from(name) else {
             return Err(self.fail(Cause::LongName));
-        }
+        };
         match find_or_make(&mut self.host, name, self.usage, make) {
             Ok(answer) => {
                 self.last = Some(Last {

@@ -49,11 +49,14 @@ pub fn resize<H: Host>(host: &mut H, n: u64) -> Result<(), Cause>
     }
 }
 
-/// Syncs the file, unless a sync has failed before.
-pub fn sync<H: Host>(host: &mut H, has_lost: bool) -> Result<(), Cause>
+/// Syncs the file, unless a sync has failed before. Where the name leads to it no more, what was synced
+/// can't be found by its name, and that is a fault too.
+pub fn sync<H: Host>(host: &mut H, name: &str, has_lost: bool) -> Result<(), Cause>
     requires { IsTrue (H.state host.old).is_ready }
     ensures rests { OnOk result (Only (H.state host.old).file (H.state host.new).may_leave) }
     ensures lost { IsTrue has_lost → OnOk result ⊥ }
+    ensures gone { IsTrue (H.marks host.old).tells → IsFalse ((H.marks host.old).leads name.now)
+        → OnOk result ⊥ }
     ensures serves { IsFalse (H.marks host.old).may_fail → IsFalse has_lost → IsOk result }
     ensures frame { AfterSync (H.state host.old) (H.state host.new) }
     ensures marks { H.marks host.new ≡ H.marks host.old }
@@ -64,5 +67,8 @@ pub fn sync<H: Host>(host: &mut H, has_lost: bool) -> Result<(), Cause>
     }
     let answer = host.sync_data();
     host.end_call();
+    if answer.is_ok() && !host.leads(name) {
+        return Err(Cause::Gone);
+    }
     answer.map_err(Cause::System)
 }

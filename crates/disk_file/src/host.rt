@@ -73,6 +73,13 @@ pub trait Host {
             → IfOk result (λ kind. (marks self.now).opened ≡ Some kind) }
         ensures serves { IsFalse (marks self.now).may_fail → IsOk result };
 
+    /// Whether the open file is also what a standard stream of the program writes, or, for a use that changes
+    /// it, what one reads. A stream of which the system can't tell is none.
+    fn is_stream(&self, usage: Use) -> bool
+        requires { IsTrue (state self.now).is_ready }
+        ensures stream { IsTrue (marks self.now).tells → result ≡ (marks self.now).is_stream usage }
+        ensures used { IsTrue (marks self.now).tells → IsTrue result → IsTrue (marks self.now).in_use };
+
     /// Takes the lock on the file, without waiting: the only one to change it, or a share to read it.
     fn lock(&mut self, usage: Use) -> io::Result<()>
         requires { IsTrue (state self.old).is_ready }
@@ -90,6 +97,10 @@ pub trait Host {
         ensures frame { SyncsPart (state self.old) (state self.new) }
         ensures marks { marks self.new ≡ marks self.old }
         ensures serves { IsFalse (marks self.old).may_fail → IsOk result };
+
+    /// Whether the folder of a name can be opened, as its sync needs it. It changes nothing.
+    fn see_folder(&self, name: &str) -> io::Result<()>
+        ensures serves { IsFalse (marks self.now).may_fail → IsOk result };
 
     /// Brings the name of the file to the device: syncs the folder that it is in.
     fn sync_folder(&mut self, name: &str) -> io::Result<()>
@@ -150,6 +161,12 @@ pub trait Host {
         ensures frame { SyncsPart (state self.old) (state self.new) }
         ensures marks { marks self.new ≡ marks self.old }
         ensures serves { IsFalse (marks self.old).may_fail → IsOk result };
+
+    /// Whether the name still leads to the open file, or the system can't tell.
+    fn leads(&self, name: &str) -> bool
+        requires { IsTrue (state self.now).is_ready }
+        ensures leads { IsTrue (marks self.now).tells → result ≡ (marks self.now).leads name.now }
+        ensures serves { IsFalse (marks self.now).may_fail → IsTrue result };
 
     /// Takes note that a changing call of a disk has ended. The system isn't asked.
     fn end_call(&mut self)

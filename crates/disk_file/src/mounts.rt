@@ -26,6 +26,8 @@ pub fn find_or_make<H: Host>(
         → IsTrue make × (IsTrue (H.state host.old).tells → (H.state host.new).file ≡ []) }
     ensures absent { result ≡ Ok Mounted.Absent → IsFalse make }
     ensures held { IsTrue (H.marks host.old).tells → IfOk result (λ a. IsHeld usage a (H.marks host.new)) }
+    ensures own { IsTrue (H.marks host.old).tells → IfOk result (λ a. IsTrue (has_file a)
+        → IsFalse ((H.marks host.old).is_stream usage)) }
     ensures rests { IfOk result (λ a. IsAtRest usage a (H.state host.new)) }
     ensures named { IsTrue (H.marks host.old).tells
         → IfOk result (λ a. HasName usage a (H.state host.new) (H.marks host.new)) }
@@ -53,6 +55,8 @@ pub fn find_or_make<H: Host>(
 fn take<H: Host>(host: &mut H, name: &str, usage: Use) -> Result<(), Cause>
     ensures ready { OnOk result (IsTrue (H.state host.new).is_ready) }
     ensures locked { IsTrue (H.marks host.old).tells → OnOk result ((H.marks host.new).lock ≡ Some usage) }
+    ensures own { IsTrue (H.marks host.old).tells → OnOk result
+        (IsFalse ((H.marks host.old).is_stream usage)) }
     ensures rests { usage ≡ Use.Changing → IsTrue (H.state host.new).tells
         → OnOk result (Rests (H.state host.new)) }
     ensures named { IsTrue (H.marks host.old).tells → usage ≡ Use.Changing → IsTrue (H.state host.new).tells
@@ -86,17 +90,19 @@ fn name_if_empty<H: Host>(host: &mut H, name: &str) -> Result<(), Cause>
 {
     let length = host.length().map_err(Cause::System)?;
     if length == 0 {
-        host.sync_folder(name).map_err(Cause::System)?;
+        host.sync_folder(name).map_err(Cause::NoFolder)?;
     }
     Ok(())
 }
 
-/// Makes a file where none is, and brings its name to the device. Who only reads makes none: the
-/// error is that nothing is there.
+/// Makes a file where none is, and brings its name to the device. That needs its folder to be opened, so
+/// where that can't be no file is made. Who only reads makes none: the error is that nothing is there.
 fn make_new<H: Host>(host: &mut H, name: &str, usage: Use, error: Error) -> Result<(), Cause>
     ensures ready { OnOk result (IsTrue (H.state host.new).is_ready) }
     ensures empty { IsTrue (H.state host.old).tells → OnOk result ((H.state host.new).file ≡ []) }
     ensures locked { IsTrue (H.marks host.old).tells → OnOk result ((H.marks host.new).lock ≡ Some usage) }
+    ensures own { IsTrue (H.marks host.old).tells → OnOk result
+        (IsFalse ((H.marks host.old).is_stream usage)) }
     ensures named { IsTrue (H.marks host.old).tells → OnOk result (IsTrue (H.marks host.new).is_named) }
     ensures rests { IsTrue (H.state host.new).tells → OnOk result (Rests (H.state host.new)) }
     ensures serves { IsFalse (H.marks host.old).may_fail → IsTrue (H.marks host.old).tells
@@ -108,20 +114,24 @@ fn make_new<H: Host>(host: &mut H, name: &str, usage: Use, error: Error) -> Resu
     match usage {
         Use::Reading => Err(Cause::System(error)),
         Use::Changing => {
+            host.see_folder(name).map_err(Cause::NoFolder)?;
             open(host, name, How::Make, usage)?;
             settle(host)?;
-            host.sync_folder(name).map_err(Cause::System)
+            host.sync_folder(name).map_err(Cause::NoFolder)
         }
     }
 }
 
 /// Opens a file and takes its lock. What was opened is looked at again: it may not be what had the
-/// name before.
+/// name before. Nor may it be what a standard stream writes, or reads, where it may be changed: what is put
+/// would be written over the store.
 fn open<H: Host>(host: &mut H, name: &str, how: How, usage: Use) -> Result<(), Cause>
     ensures ready { OnOk result (IsTrue (H.state host.new).is_ready) }
     ensures empty { how ≡ How.Make → IsTrue (H.state host.old).tells
         → OnOk result ((H.state host.new).file ≡ []) }
     ensures locked { IsTrue (H.marks host.old).tells → OnOk result ((H.marks host.new).lock ≡ Some usage) }
+    ensures own { IsTrue (H.marks host.old).tells → OnOk result
+        (IsFalse ((H.marks host.old).is_stream usage)) }
     ensures serves { IsFalse (H.marks host.old).may_fail → IsTrue (H.marks host.old).tells
         → IsFalse (H.marks host.old).in_use → IsTrue (can_open how ((H.marks host.old).kind_at name.now))
         → opened_by how ((H.marks host.old).kind_at name.now) ≡ Some Kind.File → IsOk result }
@@ -132,6 +142,9 @@ fn open<H: Host>(host: &mut H, name: &str, how: How, usage: Use) -> Result<(), C
     let kind = host.kind().map_err(Cause::System)?;
     if kind != Kind::File {
         return Err(refused(kind));
+    }
+    if host.is_stream(usage) {
+        return Err(Cause::OwnStream);
     }
     host.lock(usage).map_err(not_held)
 }

@@ -1,18 +1,28 @@
-//! The file of the system: each method makes the one call that it is named for. What they do is trusted.
+//! The file of the system: each method makes the one call that it is named for, and `open` asks what it
+//! opened. What they do is trusted.
 ghost use Rattle.std.specs.Prelude.{◌≡◌, false, is_some, refl, IsTrue, IsFalse};
 ghost use Rattle.std.specs.Fs.{asks_append, asks_create, asks_create_new, asks_read, asks_truncate, asks_write};
 ghost use Rattle.disk_file.specs.Mounted.{untold};
 
 use crate::host::{Host, How, Kind, Use};
+use crate::own::{Node, has_stream, is_same, node_of};
 use std::fs::{self, File, Files, Metadata, OpenOptions, TryLockError};
-use std::io;
+use std::io::{self, ErrorKind};
 use std::os::unix::fs::FileExt;
+
+/// A file that was opened, and what it is.
+#[derive(Drop)]
+struct Opened {
+    file: File,
+    kind: Kind,
+    node: Node,
+}
 
 /// A file of the system, once it is open, and how many calls of a disk have ended.
 #[derive(Drop)]
 pub struct SystemFile<'a, R: Files> {
     rt: &'a R,
-    file: Option<File>,
+    file: Option<Opened>,
     turns: u64,
 }
 
@@ -33,8 +43,15 @@ impl<'a, R: Files> SystemFile<'a, R> {
     fn open_file(&self) -> &File
         requires { IsTrue (is_some self.now.file) }
     {
+        &self.opened().file
+    }
+
+    /// What was opened.
+    fn opened(&self) -> &Opened
+        requires { IsTrue (is_some self.now.file) }
+    {
         match &self.file {
-            Some(file) => file,
+            Some(opened) => opened,
             None => unreachable!(),
         }
     }
@@ -70,6 +87,11 @@ fn kind_of(metadata: &Metadata) -> Kind {
     }
 }
 
+/// Whether an error says that nothing has a name.
+fn leads_nowhere(error: &io::Error) -> bool {
+    matches!(error.kind(), ErrorKind::NotFound | ErrorKind::NotADirectory)
+}
+
 /// The folder that a name is in.
 fn folder_of(name: &str) -> &str {
     match name.rsplit_once('/') {
@@ -101,12 +123,22 @@ impl<R: Files<File = File>> Host for SystemFile<'_, R> {
     }
 
     fn open(&mut self, name: &str, how: How) -> io::Result<()> {
-        self.file = Some(options(how).open(self.rt, name)?);
+        let file = options(how).open(self.rt, name)?;
+        let metadata = file.metadata()?;
+        self.file = Some(Opened {
+            file,
+            kind: kind_of(&metadata),
+            node: node_of(&metadata),
+        });
         Ok(())
     }
 
     fn kind(&self) -> io::Result<Kind> {
-        Ok(kind_of(&self.open_file().metadata()?))
+        Ok(self.opened().kind)
+    }
+
+    fn is_stream(&self, usage: Use) -> bool {
+        has_stream(self.rt, self.opened().node, usage)
     }
 
     fn lock(&mut self, usage: Use) -> io::Result<()> {
@@ -119,6 +151,11 @@ impl<R: Files<File = File>> Host for SystemFile<'_, R> {
 
     fn sync_all(&mut self) -> io::Result<()> {
         self.open_file().sync_all()
+    }
+
+    fn see_folder(&self, name: &str) -> io::Result<()> {
+        let _ = fs::open(self.rt, folder_of(name))?;
+        Ok(())
     }
 
     fn sync_folder(&mut self, name: &str) -> io::Result<()> {
@@ -143,6 +180,13 @@ impl<R: Files<File = File>> Host for SystemFile<'_, R> {
 
     fn sync_data(&mut self) -> io::Result<()> {
         self.open_file().sync_data()
+    }
+
+    fn leads(&self, name: &str) -> bool {
+        match fs::metadata(self.rt, name) {
+            Ok(named) => is_same(node_of(&named), self.opened().node),
+            Err(error) => !leads_nowhere(&error),
+        }
     }
 
     fn end_call(&mut self) {

@@ -41,17 +41,18 @@ macro_rules! rows {
 }
 
 const ROWS: &[Row] = &rows! {
-    7: [1, 0, 0], "system"; [0, 0, 0], "system", true => 5;
-    8: [0, 1, 0], "system"; [0, 0, 0], "system", false => 4;
+    8: [1, 0, 0], "system"; [0, 0, 0], "system", true => 5;
     9: [0, 1, 0], "system"; [0, 0, 0], "system", false => 4;
     10: [0, 1, 0], "system"; [0, 0, 0], "system", false => 4;
-    11: [0, 0, 1], "system"; [0, 0, 1], "lost", true => 4;
-    12: [0, 0, 0], "none"; [1, 0, 0], "system", false => 4;
-    13: [0, 0, 0], "none"; [1, 0, 0], "system", false => 4;
+    11: [0, 1, 0], "system"; [0, 0, 0], "system", false => 4;
+    12: [0, 0, 1], "system"; [0, 0, 1], "lost", true => 4;
+    13: [0, 0, 0], "none"; [0, 0, 0], "none", true => 4;
     14: [0, 0, 0], "none"; [1, 0, 0], "system", false => 4;
-    15: [0, 0, 0], "none"; [0, 1, 0], "system", true => 4;
-    16: [0, 0, 0], "none"; [0, 0, 1], "system", true => 4;
-    17: [0, 0, 0], "none"; [0, 0, 0], "none", true => 4;
+    15: [0, 0, 0], "none"; [1, 0, 0], "system", false => 4;
+    16: [0, 0, 0], "none"; [1, 0, 0], "system", false => 4;
+    17: [0, 0, 0], "none"; [0, 1, 0], "system", true => 4;
+    18: [0, 0, 0], "none"; [0, 0, 1], "system", true => 4;
+    19: [0, 0, 0], "none"; [0, 0, 0], "none", true => 4;
 };
 
 /// A call of the system that fails is a fault of the call that made it, and of no other but a sync
@@ -116,6 +117,19 @@ fn failed_reads<D: Disk>(disk: &mut D, out: &mut [u8; 8]) -> [u8; 3]
     [read, len, sync]
 }
 
+/// A sync of a file that its name leads to no more is a fault, and so is each later one.
+#[test]
+fn syncs_no_file_that_is_gone(rt: HostRuntime) {
+    let mut host = Faulty::new(Some(Kind::File), 0);
+    host.strays = true;
+    let mut bay = FileBay::over(host, Use::Changing);
+    mounts(&rt, &mut bay, "f", false, Mounted::There);
+    assert!(rt; bay.sync().is_err());
+    assert_eq!(rt; word(bay.cause()), "gone");
+    assert!(rt; bay.sync().is_err());
+    assert_eq!(rt; word(bay.cause()), "lost");
+}
+
 /// A read past the end and a write past what the system takes are faults with their causes.
 #[test]
 fn tells_why_a_part_is_missing(rt: HostRuntime) {
@@ -142,10 +156,10 @@ fn causes<H: Host>(bay: &mut FileBay<H>) -> [&'static str; 3]
 /// fails, and how much was asked for and had. The calls after the mount are one of a length of sixteen
 /// bytes, and three that write the eight from position 4 on.
 const FULL: &[(u64, ErrorKind, u64, Option<u64>)] = &[
-    (7, ErrorKind::FileTooLarge, 16, None),
-    (8, ErrorKind::StorageFull, 12, Some(4)),
-    (9, ErrorKind::QuotaExceeded, 12, Some(7)),
-    (10, ErrorKind::StorageFull, 12, Some(10)),
+    (8, ErrorKind::FileTooLarge, 16, None),
+    (9, ErrorKind::StorageFull, 12, Some(4)),
+    (10, ErrorKind::QuotaExceeded, 12, Some(7)),
+    (11, ErrorKind::StorageFull, 12, Some(10)),
 ];
 
 #[test]

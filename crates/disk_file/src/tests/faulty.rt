@@ -15,6 +15,10 @@ pub struct Faulty {
     /// What an opened file turns out to be.
     pub opened: Kind,
     pub held: bool,
+    /// Whether a standard stream has the file.
+    pub streams: bool,
+    /// Whether the name leads elsewhere.
+    pub strays: bool,
     pub fails: u64,
     /// How the call that fails does so.
     pub failing: ErrorKind,
@@ -48,6 +52,12 @@ pub const RESIZE: u64 = 10;
 
 pub const SYNC_DATA: u64 = 11;
 
+pub const SEE_FOLDER: u64 = 12;
+
+pub const IS_STREAM: u64 = 13;
+
+pub const LEADS: u64 = 14;
+
 impl Faulty {
     /// A system in which something stands under the name `f`, or nothing.
     pub fn new(kind: Option<Kind>, fails: u64) -> Faulty {
@@ -55,6 +65,8 @@ impl Faulty {
             kind,
             opened: Kind::File,
             held: false,
+            streams: false,
+            strays: false,
             fails,
             failing: ErrorKind::Other,
             stutters: false,
@@ -131,6 +143,10 @@ impl Host for Faulty {
         Ok(self.opened)
     }
 
+    fn is_stream(&self, _usage: Use) -> bool {
+        self.call(IS_STREAM).is_ok() && self.streams
+    }
+
     fn lock(&mut self, _usage: Use) -> io::Result<()> {
         self.call(LOCK)?;
         if self.held {
@@ -141,6 +157,10 @@ impl Host for Faulty {
 
     fn sync_all(&mut self) -> io::Result<()> {
         self.call(SYNC_ALL)
+    }
+
+    fn see_folder(&self, _name: &str) -> io::Result<()> {
+        self.call(SEE_FOLDER)
     }
 
     fn sync_folder(&mut self, _name: &str) -> io::Result<()> {
@@ -174,6 +194,10 @@ impl Host for Faulty {
 
     fn sync_data(&mut self) -> io::Result<()> {
         self.call(SYNC_DATA)
+    }
+
+    fn leads(&self, _name: &str) -> bool {
+        self.call(LEADS).is_err() || !self.strays
     }
 
     fn end_call(&mut self) {

@@ -2,9 +2,9 @@
 ghost use Rattle.std.specs.Prelude.{◌≡◌, None, IsTrue, IsFalse};
 ghost use Rattle.disk_file.specs.Bays.{bay_state};
 
-use super::bays::{mounts, refuses};
-use crate::host::Host;
-use crate::{FileBay, hold_numbers};
+use super::bays::{mounts, refuses, word};
+use crate::host::{Host, Use};
+use crate::{FileBay, hold_numbers, is_own_stream};
 use disk_face::{Bay, Disk, DiskFault, Mounted};
 use std::alloc::{AllocError, Global};
 use std::fs::{self, File, Files};
@@ -17,6 +17,10 @@ const NAME: &str = "scratch_of_disk_file/f";
 const STORE_NAME: &str = "scratch_store_of_disk_file";
 
 const HELD_NAME: &str = "scratch_held_of_disk_file";
+
+const GONE_NAME: &str = "scratch_gone_of_disk_file";
+
+const OTHER_NAME: &str = "scratch_other_of_disk_file";
 
 const READ_NAME: &str = "scratch_read_of_disk_file";
 
@@ -185,4 +189,40 @@ fn changes_nothing<H: Host>(rt: &impl Abort, bay: &mut FileBay<H>)
     assert!(rt; bay.len() == Ok(4));
     assert!(rt; bay.write_at(0, b"lost").is_err());
     assert!(rt; bay.set_len(0).is_err());
+}
+
+/// What becomes of the name of a file that is mounted: it is removed, or another file gets it.
+const GONE: &[bool] = &[false, true];
+
+/// A sync of a file that was removed, or renamed over, fails.
+#[test]
+fn syncs_no_file_that_is_gone(rt: HostRuntime) {
+    for is_replaced in GONE {
+        fs::write(&rt, GONE_NAME, b"kept".as_slice()).expect(&rt, "a file");
+        goes(&rt, &mut FileBay::new(&rt), *is_replaced);
+    }
+    assert!(rt; !is_own_stream(&rt, GONE_NAME, Use::Changing));
+    left(&rt, GONE_NAME, b"other");
+}
+
+/// Mounts the file and syncs it, before and after its name goes.
+fn goes<H: Host>(rt: &(impl Abort + Files<File = File>), bay: &mut FileBay<H>, is_replaced: bool)
+    requires none { (bay_state bay.old).last_mount ≡ None }
+    requires untold { IsFalse (bay_state bay.old).tells }
+{
+    mounts(rt, bay, GONE_NAME, false, Mounted::There);
+    bay.sync().expect(rt, "a sync");
+    loses_name(rt, is_replaced);
+    assert!(rt; bay.sync().is_err());
+    assert_eq!(rt; word(bay.cause()), "gone");
+}
+
+/// Removes the file, or gives its name to another.
+fn loses_name(rt: &(impl Abort + Files<File = File>), is_replaced: bool) {
+    if is_replaced {
+        fs::write(rt, OTHER_NAME, b"other".as_slice()).expect(rt, "a file");
+        fs::rename(rt, OTHER_NAME, GONE_NAME).expect(rt, "a file");
+    } else {
+        fs::remove_file(rt, GONE_NAME).expect(rt, "a file");
+    }
 }

@@ -90,6 +90,7 @@ impl Host for Memory {
       opened = if host.is_open then Some kind.File else None;
       lock = host.lock;
       is_named = host.is_named;
+      leads = λ _. true;
     } };
 
     ghost lawful = { λ host. record {
@@ -123,12 +124,20 @@ impl Host for Memory {
         Ok(Kind::File)
     }
 
+    fn is_stream(&self, _usage: Use) -> bool {
+        false
+    }
+
     fn lock(&mut self, usage: Use) -> io::Result<()> {
         self.lock = Some(usage);
         Ok(())
     }
 
     fn sync_all(&mut self) -> io::Result<()> {
+        Ok(())
+    }
+
+    fn see_folder(&self, _name: &str) -> io::Result<()> {
         Ok(())
     }
 
@@ -163,6 +172,10 @@ impl Host for Memory {
 
     fn sync_data(&mut self) -> io::Result<()> {
         Ok(())
+    }
+
+    fn leads(&self, _name: &str) -> bool {
+        true
     }
 
     fn end_call(&mut self) {

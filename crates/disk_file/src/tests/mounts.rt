@@ -33,11 +33,11 @@ macro_rules! rows {
 }
 
 const MOUNTS: &[Row] = &rows! {
-    Some(Kind::File), 4, Changing, true => Some(Mounted::There), 0x12_3457;
-    Some(Kind::File), 4, Changing, false => Some(Mounted::There), 0x12_3457;
-    Some(Kind::File), 0, Changing, true => Some(Mounted::There), 0x123_4576;
-    Some(Kind::File), 0, Reading, false => Some(Mounted::There), 0x1234;
-    None, 0, Changing, true => Some(Mounted::Made), 0x12_3456;
+    Some(Kind::File), 4, Changing, true => Some(Mounted::There), 0x123_d457;
+    Some(Kind::File), 4, Changing, false => Some(Mounted::There), 0x123_d457;
+    Some(Kind::File), 0, Changing, true => Some(Mounted::There), 0x123d_4576;
+    Some(Kind::File), 0, Reading, false => Some(Mounted::There), 0x1_23d4;
+    None, 0, Changing, true => Some(Mounted::Made), 0x1c23_d456;
     None, 0, Changing, false => Some(Mounted::Absent), 0x1;
     None, 0, Reading, true => None, 0x1;
     Some(Kind::Folder), 0, Changing, true => None, 0x1;
@@ -72,39 +72,44 @@ fn mounted(host: Faulty, usage: Use, make: bool) -> (Option<Mounted>, &'static s
     (answer, word(bay.cause()), bay.host().log.get(), bay.turns())
 }
 
-/// Which call of a mount that makes a file fails, and the calls up to there.
-const LOGS: &[(u64, u64)] = &[
-    (1, 0x1),
-    (2, 0x12),
-    (3, 0x123),
-    (4, 0x1234),
-    (5, 0x1_2345),
-    (6, 0x12_3456),
+/// Which call of a mount that makes a file fails, the cause, and the calls up to there. The fifth, that asks
+/// for the standard streams, can't fail.
+const LOGS: &[(u64, &str, u64)] = &[
+    (1, "system", 0x1),
+    (2, "no folder", 0x1c),
+    (3, "system", 0x1c2),
+    (4, "system", 0x1c23),
+    (6, "system", 0x1c_23d4),
+    (7, "system", 0x1c2_3d45),
+    (8, "no folder", 0x1c23_d456),
 ];
 
 /// Each call of a mount that makes a file fails in turn, and nothing is asked after that.
 #[test]
 fn fails_to_mount(rt: HostRuntime) {
-    for (call, log) in LOGS {
+    for (call, cause, log) in LOGS {
         let host = Faulty::new(None, *call);
-        fails(&rt, host, Use::Changing, true, ("system", *log));
+        fails(&rt, host, Use::Changing, true, (cause, *log));
     }
 }
 
 /// What a bay may mean to do.
 const USES: &[Use] = &[Use::Reading, Use::Changing];
 
-/// A mount of a file that is held or that turns out to be a pipe fails, whatever the bay means to do, and
-/// nothing is asked after that.
+/// A mount of a file that is held, that turns out to be a pipe, or that a standard stream has fails, whatever
+/// the bay means to do, and nothing is asked after that.
 #[test]
 fn fails_to_mount_what_it_opened(rt: HostRuntime) {
     for usage in USES {
         let mut held = Faulty::new(Some(Kind::File), 0);
         held.held = true;
-        fails(&rt, held, *usage, false, ("in use", 0x1234));
+        fails(&rt, held, *usage, false, ("in use", 0x1_23d4));
         let mut swapped = Faulty::new(Some(Kind::File), 0);
         swapped.opened = Kind::Other;
         fails(&rt, swapped, *usage, false, ("special", 0x123));
+        let mut own = Faulty::new(Some(Kind::File), 0);
+        own.streams = true;
+        fails(&rt, own, *usage, false, ("own stream", 0x123d));
     }
 }
 

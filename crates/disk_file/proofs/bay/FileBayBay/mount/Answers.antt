@@ -5,11 +5,11 @@ use Rattle.disk_file.proofs.bay.FileBayBay.mount.Goals as goal
 pub returns-then-is_empty : goal.returns-then-is_empty
 returns-then-is_empty g c = grind (arith, common_steps)
 
-pub returns-then-is_err : goal.returns-then-is_err
-returns-then-is_err g c = grind (arith, common_steps)
+pub returns-in_default : goal.returns-in_default
+returns-in_default g c = grind (arith, common_steps)
 
-pub returns-in-Ok : goal.returns-in-Ok
-returns-in-Ok g c = grind (arith, common_steps)
+pub returns-in-Ok-find_or_make : goal.returns-in-Ok-find_or_make
+returns-in-Ok-find_or_make g c = grind (arith, common_steps)
 
 pub returns-in-Err : goal.returns-in-Err
 returns-in-Err g c = grind (arith, common_steps)
