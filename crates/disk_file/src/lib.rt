@@ -19,7 +19,7 @@ mod tests;
 pub use bay::FileBay;
 pub use cause::{Cause, NoRoom};
 pub use host::{Host, How, Kind, Use};
-pub use own::is_own_stream;
+pub use own::{is_own_errors, is_own_stream};
 pub use standard::{HeldNumbers, hold_numbers};
 pub use streams::{StdSink, StdSource};
 pub use system::SystemFile;

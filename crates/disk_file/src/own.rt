@@ -42,6 +42,14 @@ pub fn is_own_stream<R: Files>(rt: &R, name: &str, usage: Use) -> bool {
     }
 }
 
+/// Whether the file of a name is also what standard error writes. Then nothing is to be said there either.
+pub fn is_own_errors<R: Files>(rt: &R, name: &str) -> bool {
+    match fs::metadata(rt, name) {
+        Ok(file) => file.is_file() && is_at(rt, ERRORS, node_of(&file)),
+        Err(_) => false,
+    }
+}
+
 /// Whether a standard stream has a file, of the streams that matter to a use of it.
 pub fn has_stream<R: Files>(rt: &R, file: Node, usage: Use) -> bool {
     is_at(rt, OUTPUT, file)
