@@ -24,8 +24,7 @@ pub record Marks : Type 0 where
   pub lock : Option Use
   -- the folder was synced since the file was made
   pub is_named : Bool
-  -- the file is also what a standard stream of the program reads or writes, of the streams that such a
-  -- use needs
+  -- the file is also what a standard stream of the program reads or writes, of those that matter to a use
   pub is_stream : Use → Bool
   -- the name leads to the file that is open
   pub leads : List ℕ → Bool

@@ -55,8 +55,8 @@ pub fn find_or_make<H: Host>(
 fn take<H: Host>(host: &mut H, name: &str, usage: Use) -> Result<(), Cause>
     ensures ready { OnOk result (IsTrue (H.state host.new).is_ready) }
     ensures locked { IsTrue (H.marks host.old).tells → OnOk result ((H.marks host.new).lock ≡ Some usage) }
-    ensures own { IsTrue (H.marks host.old).tells → OnOk result
-        (IsFalse ((H.marks host.old).is_stream usage)) }
+    ensures own { IsTrue (H.marks host.old).tells
+        → OnOk result (IsFalse ((H.marks host.old).is_stream usage)) }
     ensures rests { usage ≡ Use.Changing → IsTrue (H.state host.new).tells
         → OnOk result (Rests (H.state host.new)) }
     ensures named { IsTrue (H.marks host.old).tells → usage ≡ Use.Changing → IsTrue (H.state host.new).tells
@@ -101,8 +101,8 @@ fn make_new<H: Host>(host: &mut H, name: &str, usage: Use, error: Error) -> Resu
     ensures ready { OnOk result (IsTrue (H.state host.new).is_ready) }
     ensures empty { IsTrue (H.state host.old).tells → OnOk result ((H.state host.new).file ≡ []) }
     ensures locked { IsTrue (H.marks host.old).tells → OnOk result ((H.marks host.new).lock ≡ Some usage) }
-    ensures own { IsTrue (H.marks host.old).tells → OnOk result
-        (IsFalse ((H.marks host.old).is_stream usage)) }
+    ensures own { IsTrue (H.marks host.old).tells
+        → OnOk result (IsFalse ((H.marks host.old).is_stream usage)) }
     ensures named { IsTrue (H.marks host.old).tells → OnOk result (IsTrue (H.marks host.new).is_named) }
     ensures rests { IsTrue (H.state host.new).tells → OnOk result (Rests (H.state host.new)) }
     ensures serves { IsFalse (H.marks host.old).may_fail → IsTrue (H.marks host.old).tells
@@ -130,8 +130,8 @@ fn open<H: Host>(host: &mut H, name: &str, how: How, usage: Use) -> Result<(), C
     ensures empty { how ≡ How.Make → IsTrue (H.state host.old).tells
         → OnOk result ((H.state host.new).file ≡ []) }
     ensures locked { IsTrue (H.marks host.old).tells → OnOk result ((H.marks host.new).lock ≡ Some usage) }
-    ensures own { IsTrue (H.marks host.old).tells → OnOk result
-        (IsFalse ((H.marks host.old).is_stream usage)) }
+    ensures own { IsTrue (H.marks host.old).tells
+        → OnOk result (IsFalse ((H.marks host.old).is_stream usage)) }
     ensures serves { IsFalse (H.marks host.old).may_fail → IsTrue (H.marks host.old).tells
         → IsFalse (H.marks host.old).in_use → IsTrue (can_open how ((H.marks host.old).kind_at name.now))
         → opened_by how ((H.marks host.old).kind_at name.now) ≡ Some Kind.File → IsOk result }

@@ -1,5 +1,4 @@
-//! Whether a file is also what a standard stream reads or writes. That is told by the system, so it is
-//! trusted.
+//! Whether a file is also what a standard stream reads or writes. The system tells that, so it is trusted.
 use crate::host::Use;
 use std::fs::{self, Files, Metadata};
 use std::os::unix::fs::MetadataExt;

@@ -153,8 +153,8 @@ fn causes<H: Host>(bay: &mut FileBay<H>) -> [&'static str; 3]
 }
 
 /// What is told where there is no room for a change: the number of the system's call that fails, how it
-/// fails, and how much was asked for and had. The calls after the mount are one of a length of sixteen
-/// bytes, and three that write the eight from position 4 on.
+/// fails, and how much was asked for and had. The calls after the mount are one of a length of sixteen bytes,
+/// and three that write the eight from position 4 on.
 const FULL: &[(u64, ErrorKind, u64, Option<u64>)] = &[
     (8, ErrorKind::FileTooLarge, 16, None),
     (9, ErrorKind::StorageFull, 12, Some(4)),

@@ -79,8 +79,10 @@ impl Host for Memory {
     ghost use Rattle.disk_file.specs.declared.host.Kind.TheVariants as kind;
     ghost use Rattle.disk_file.specs.Mounted.{untold};
 
-    ghost state = { λ host. record
-        (untold host.turns host.is_open) { tells = true; file = host.bytes.items } };
+    ghost state = { λ host. record (untold host.turns host.is_open) {
+      tells = true;
+      file = host.bytes.items;
+    } };
 
     ghost marks = { λ host. record untold_marks {
       tells = true;
