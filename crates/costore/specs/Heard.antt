@@ -1,6 +1,7 @@
 -- What is seen of a sink that keeps what was put last.
 use Rattle.std.specs.Prelude.{ℕ, List}
 use Rattle.costore.specs.declared.heard.Heard.{Heard}
+use Rattle.costore.specs.declared.tally.Tally.{Tally}
 
 module _ {O : Type 0} where
   -- the sink inside
@@ -10,3 +11,7 @@ module _ {O : Type 0} where
   -- the bytes of the last put, where they are no more than it has room for
   abbrev pub line_of : Heard O → List ℕ
   line_of heard = heard.line.items
+
+  -- what is counted of what was put
+  abbrev pub tally_of : Heard O → Tally
+  tally_of heard = heard.tally

@@ -1,30 +1,35 @@
-//! A sink that keeps what was put last.
+//! A sink that keeps what was put last, and counts the replies of a session.
 ghost use Rattle.std.specs.Prelude.{◌≡◌, ◌≤◌, [], length, IsTrue};
 ghost use Rattle.disk_face.specs.Counts.{HasCause};
 ghost use Rattle.disk_face.specs.Streams.{Puts};
+ghost use Rattle.costore.specs.Tallies.{Hears};
 
+use crate::tally::Tally;
 use arrayvec::ArrayVec;
 use disk_face::{Sink, SinkFault};
 
 /// Passes all on to a sink, and keeps the bytes of the last put where they are at most 128, as those of
-/// a fault line are.
+/// a fault line are. Beside that it counts what is put as the replies of a session.
 #[derive(Drop)]
 pub struct Heard<O: Sink> {
     sink: O,
     line: ArrayVec<u8, 128>,
+    tally: Tally,
 }
 
 impl<O: Sink> Heard<O> {
-    ghost use Rattle.costore.specs.Heard.{line_of, sink_of};
+    ghost use Rattle.costore.specs.Heard.{line_of, sink_of, tally_of};
 
     /// Round a sink; nothing was put.
     pub fn new(sink: O) -> Heard<O>
         ensures sink { sink_of result ≡ sink }
         ensures line { line_of result ≡ [] }
+        ensures tally { tally_of result ≡ record { unkept = 0; due = 0; lines = 0 } }
     {
         Heard {
             sink,
             line: ArrayVec::new(),
+            tally: Tally::new(),
         }
     }
 
@@ -41,10 +46,18 @@ impl<O: Sink> Heard<O> {
     {
         self.line.as_slice()
     }
+
+    /// How many requests were answered `ok` since the last that was answered `ok kept`, where what was put
+    /// are the replies of a session. A reply counts whether or not the sink took it.
+    pub fn unkept(&self) -> u64
+        ensures { result ≡ (tally_of self.now).unkept }
+    {
+        self.tally.unkept
+    }
 }
 
 impl<O: Sink> Sink for Heard<O> {
-    ghost use Rattle.costore.specs.Heard.{line_of, sink_of};
+    ghost use Rattle.costore.specs.Heard.{line_of, sink_of, tally_of};
 
     ghost state = { λ heard. O.state heard.sink };
 
@@ -55,7 +68,9 @@ impl<O: Sink> Sink for Heard<O> {
         ensures cause { HasCause (O.state (sink_of self.old)).faults (O.state (sink_of self.new)).faults
             result }
         ensures line { length bytes.now ≤ 128 → line_of self.new ≡ bytes.now }
+        ensures tally { Hears bytes.now (tally_of self.old) (tally_of self.new) }
     {
+        self.tally.hear(bytes);
         self.line.clear();
         let _ = self.line.try_extend_from_slice(bytes);
         self.sink.put(bytes)

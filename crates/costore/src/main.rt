@@ -1,20 +1,30 @@
 //! The program: `costore` over the real file system and the standard streams.
 #![tactic(auto)]
 
+mod failed;
 mod heard;
+mod own;
+mod refused;
+mod shown;
+mod tally;
+mod unkept;
 mod why;
+mod wrong;
 
 ghost use Rattle.std.specs.Prelude.{◌≡◌, ◌≢◌, [], IsErr, IsOk, IfOk};
 ghost use Rattle.std.specs.IoError.{error_kind};
 ghost use Rattle.std.specs.Process.{exit_status};
 
 use costore_top::{Outcome, costore, may_change};
-use disk_file::{FileBay, StdSink, StdSource, hold_numbers};
+use disk_file::{Cause, FileBay, StdSink, StdSource, Use, hold_numbers, is_own_stream};
+use failed::Failed;
 use heard::Heard;
+use own::is_standard_error;
 use std::alloc::{AllocError, Global};
 use std::env;
 use std::io::{self, ErrorKind};
 use std::process::ExitCode;
+use unkept::Unkept;
 use why::Why;
 
 /// The status of a disk that failed: the numbers of the standard streams couldn't be held, and so no
@@ -27,6 +37,9 @@ const DONE: u8 = 0;
 /// The status of a call that found no object of a name.
 const MISSING: u8 = 6;
 
+/// The status of an output that took not all bytes.
+const SINK_FAULT: u8 = 9;
+
 /// The status where there is no memory for the words.
 const NO_MEMORY: u8 = 10;
 
@@ -34,46 +47,90 @@ fn main(rt: HostRuntime) -> ExitCode {
     let _held = match hold_numbers(&rt) {
         Ok(held) => held,
         Err(error) => {
-            let _ = eprintln!(&rt; "costore: /dev/null: {error}");
+            let why = Failed("/dev/null", Some(Cause::System(error)));
+            let _ = eprintln!(&rt; "costore: {why}");
             return ExitCode::from(DISK_FAULT);
         }
     };
     match run(&rt) {
         Ok(outcome) => ended(&outcome),
         Err(AllocError) => {
-            let _ = eprintln!(&rt; "costore: there is too little memory for the words");
+            let _ = eprintln!(&rt; "costore: memory: there is too little for the words");
             ExitCode::from(NO_MEMORY)
         }
     }
 }
 
-/// Does what the command line asks, with a file that is only read where the words ask for no more.
+/// Does what the command line asks, with a file that is only read where the words ask for no more, and that
+/// no standard stream writes.
 fn run(rt: &HostRuntime) -> Result<Outcome, AllocError> {
+    let mut are_text = true;
     let words = match env::args(rt) {
         Ok(args) => args.skip(1).collect(rt.alloc())?,
-        Err(error) => unread(rt.alloc(), &error)?,
+        Err(error) => {
+            are_text = false;
+            unread(rt.alloc(), &error)?
+        }
     };
     let texts: Vec<&str> = words.iter().map(|word| word.as_str()).collect(rt.alloc())?;
-    let mut bay = if may_change(&texts) {
+    let usage = if may_change(&texts) {
+        Use::Changing
+    } else {
+        Use::Reading
+    };
+    if is_own_stream(rt, file_of(&texts), usage) {
+        return Ok(refuse_own(rt, file_of(&texts)));
+    }
+    Ok(call(rt, &texts, are_text))
+}
+
+/// Calls the program, and says on standard error how it went.
+fn call(rt: &HostRuntime, texts: &[&str], are_text: bool) -> Outcome {
+    let mut bay = if may_change(texts) {
         FileBay::new(rt)
     } else {
         FileBay::reading(rt)
     };
     let mut input = StdSource::new(rt.stdin());
     let mut output = Heard::new(StdSink::new(rt.stdout()));
-    let outcome = costore(rt.alloc(), &texts, &mut bay, &mut input, &mut output);
+    let outcome = costore(rt.alloc(), texts, &mut bay, &mut input, &mut output);
     tell(
         rt,
         Why {
             status: outcome.status,
-            file: texts.get(1).copied().unwrap_or(""),
+            words: &*texts,
+            are_text,
+            file: file_of(texts),
             line: output.line(),
             disk: bay.cause(),
             input: input.cause(),
             output: output.sink().cause(),
         },
     );
-    Ok(outcome)
+    if serves(texts) {
+        tell_unkept(rt, file_of(texts), &outcome, output.unkept());
+    }
+    if asks_for_help(texts) {
+        put_page(rt);
+    }
+    outcome
+}
+
+/// Refuses a file that is also what a standard stream reads or writes: nothing is put to it, and so no
+/// fault line either, and the line on standard error only where that isn't the file.
+fn refuse_own(rt: &HostRuntime, file: &str) -> Outcome
+    ensures { result ≡ record { status = 7; done = 0; kept_done = 0; kept_turn = 0 } }
+{
+    if !is_standard_error(rt, file) {
+        let why = Failed(file, Some(Cause::OwnStream));
+        let _ = eprintln!(rt; "costore: {why}");
+    }
+    Outcome {
+        status: DISK_FAULT,
+        done: 0,
+        kept_done: 0,
+        kept_turn: 0,
+    }
 }
 
 /// Puts a line on standard error, but where the call ended well or found no object of a name. Where
@@ -82,6 +139,44 @@ fn tell(rt: &HostRuntime, why: Why<'_>) {
     if why.status != DONE && why.status != MISSING {
         let _ = eprintln!(rt; "costore: {why}");
     }
+}
+
+/// Puts a line on standard error where a session did what no acknowledged checkpoint holds: so many
+/// requests were answered `ok` since. Where the disk or the output failed, one that wasn't
+/// acknowledged may hold it.
+fn tell_unkept(rt: &HostRuntime, file: &str, outcome: &Outcome, requests: u64) {
+    if requests > 0 {
+        let unkept = Unkept {
+            file,
+            requests,
+            since: outcome.kept_done,
+            may_be_kept: outcome.status == DISK_FAULT || outcome.status == SINK_FAULT,
+        };
+        let _ = eprintln!(rt; "costore: {unkept}");
+    }
+}
+
+/// The file that words name, or nothing.
+fn file_of<'a>(words: &[&'a str]) -> &'a str {
+    words.get(1).copied().unwrap_or("")
+}
+
+/// Whether words ask for a session.
+fn serves(words: &[&str]) -> bool {
+    words.get(0).copied() == Some("run")
+}
+
+/// Whether words that are no command ask for the page on the commands.
+fn asks_for_help(words: &[&str]) -> bool {
+    words.len() == 1 && (words[0] == "-h" || words[0] == "help")
+}
+
+/// Puts the page of `--help` on standard error.
+fn put_page(rt: &HostRuntime) {
+    let mut bay = FileBay::reading(rt);
+    let mut input = StdSource::new(rt.stdin());
+    let mut page = StdSink::new(rt.stderr());
+    let _ = costore(rt.alloc(), &["--help"], &mut bay, &mut input, &mut page);
 }
 
 /// The words of a command line that couldn't be read: where one isn't text there are none, and so no
