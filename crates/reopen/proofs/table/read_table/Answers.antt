@@ -19,6 +19,3 @@ returns-in-Err-load_records-clause-refused g c = λ told.
 
 pub returns-in_default : goal.returns-in_default
 returns-in_default g c = grind (arith, common_steps)
-
-pub returns-in_default-length_of : goal.returns-in_default-length_of
-returns-in_default-length_of g c = grind (arith, common_steps)

@@ -1,0 +1,16 @@
+use Rattle.std.proofs.Common.{ap, sym, ◌∙◌}
+use Rattle.extent_table.specs.Kept.{kept_in}
+use Rattle.extent_table.specs.Entries.{entry_of}
+use Rattle.extent_table.specs.Parts.{name_of}
+use Rattle.extent_table.proofs.EntriesLemmas.{read_some, read_none}
+use Rattle.extent_table.proofs.SeenLemmas.{seen}
+use Rattle.extent_table.proofs.entry.bytes_of.Goals as goal
+
+pub returns-in-Some : goal.returns-in-Some
+returns-in-Some c = c.as_bytes.ensures.value
+    ∙ sym (ap name_of (seen c.entries.inside c.entries.view_is c.args.key
+    ∙ ap (entry_of (kept_in c.entries.inside.kept.items c.args.key)) (read_some c.get.ensures c.in-Some.is)))
+
+pub returns-in-None : goal.returns-in-None
+returns-in-None c = sym (ap name_of (seen c.entries.inside c.entries.view_is c.args.key
+    ∙ ap (entry_of (kept_in c.entries.inside.kept.items c.args.key)) (read_none c.get.ensures c.in-None.is)))
