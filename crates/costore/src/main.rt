@@ -3,7 +3,6 @@
 
 mod failed;
 mod heard;
-mod own;
 mod refused;
 mod shown;
 mod tally;
@@ -16,10 +15,11 @@ ghost use Rattle.std.specs.IoError.{error_kind};
 ghost use Rattle.std.specs.Process.{exit_status};
 
 use costore_top::{Outcome, costore, may_change};
-use disk_file::{Cause, FileBay, StdSink, StdSource, Use, hold_numbers, is_own_stream};
+use disk_file::{
+    Cause, FileBay, StdSink, StdSource, Use, hold_numbers, is_own_errors, is_own_stream,
+};
 use failed::Failed;
 use heard::Heard;
-use own::is_standard_error;
 use std::alloc::{AllocError, Global};
 use std::env;
 use std::io::{self, ErrorKind};
@@ -121,7 +121,7 @@ fn call(rt: &HostRuntime, texts: &[&str], are_text: bool) -> Outcome {
 fn refuse_own(rt: &HostRuntime, file: &str) -> Outcome
     ensures { result ≡ record { status = 7; done = 0; kept_done = 0; kept_turn = 0 } }
 {
-    if !is_standard_error(rt, file) {
+    if !is_own_errors(rt, file) {
         let why = Failed(file, Some(Cause::OwnStream));
         let _ = eprintln!(rt; "costore: {why}");
     }
