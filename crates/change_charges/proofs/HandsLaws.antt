@@ -45,6 +45,7 @@ use Rattle.change_charges.proofs.ReachLaws.{all_end, kept_end, reach_low, reach_
 abbrev pub begun_header : ℕ → ℕ → ℕ → List ℕ → List (List ℕ) → Header
 begun_header b wall slack caps grid =
     record {
+      version = 1;
       kind = Moving;
       boundary = b;
       sequence = 0;

@@ -12,7 +12,7 @@ use Rattle.map_model.specs.Maps.{Map}
 use Rattle.map_model.specs.Requests.{Change, changed}
 use Rattle.map_model.specs.Weights.{same_name}
 use Rattle.map_model.proofs.MapLaws.{name_order, same_name-is}
-use Rattle.segment_layout.specs.Books.{Book, Charged, Names, entered_at, below_class, buffered_after, charge_all, charge_change, found_room, is_new_buffered, is_quiet, item_of, new_item, next_book, old_item, reshaped, some_size, trigger, volumes}
+use Rattle.segment_layout.specs.Books.{Book, Charged, Names, entered_at, below_class, buffered_after, charge_all, charge_change, digests_after, found_room, is_new_buffered, is_quiet, item_of, new_item, next_book, old_item, reshaped, some_size, trigger, volumes}
 use Rattle.segment_layout.specs.Shapes.{boundary_of, buffer_for, buffer_start, settled_caps, settled_grid, start_of}
 use Rattle.segment_layout.proofs.ChargeLaws.{room_of_buffer}
 use Rattle.segment_layout.proofs.ChargingLaws.{last_found}
@@ -95,6 +95,7 @@ module _ (classes size_max : ℕ) (caps : List ℕ) (grid kept_grid : List (List
     caps = settled_caps b caps (volumes (changed c m));
     grid = settled_grid b after;
     buffered = below_class b (changed c m) names;
+    digests = digests_after c book.digests;
   }
   unfolding next_book
   next_is =
@@ -105,6 +106,7 @@ module _ (classes size_max : ℕ) (caps : List ℕ) (grid kept_grid : List (List
         caps = shape.caps;
         grid = shape.grid;
         buffered = if shape.quiet then ns else below_class shape.boundary (changed c m) ns;
+        digests = digests_after c book.digests;
       } in
       result) same_charges
       ∙ (λ i.
@@ -113,11 +115,13 @@ module _ (classes size_max : ℕ) (caps : List ℕ) (grid kept_grid : List (List
         caps = if l.needs_flush i then caps else settled_caps d caps (volumes (changed c m));
         grid = if l.needs_flush i then charged.grid else settled_grid d charged.grid;
         buffered = if l.needs_flush i then names else below_class d (changed c m) names;
+        digests = digests_after c book.digests;
       })
       ∙ (λ i. record {
         caps = settled_caps (same_boundary i) caps (volumes (changed c m));
         grid = settled_grid (same_boundary i) (sym l.after_is i);
         buffered = below_class (same_boundary i) (changed c m) names;
+        digests = digests_after c book.digests;
       })
     where
       same_boundary : boundary_of charged.grid (trigger charged) ≡ b

@@ -1,5 +1,5 @@
 -- Why a file isn't opened, as a command says it.
-use Rattle.std.specs.Prelude.{◌≡◌, List, ℕ, Result, Err}
+use Rattle.std.specs.Prelude.{◌≡◌, ◌⊎◌, List, ℕ, Result, Err}
 use Rattle.slot_codec.specs.Choice.{SlotRefusal, table_of}
 use Rattle.slot_codec.specs.Choice as choice
 use Rattle.slot_pair.specs.declared.find.SlotFault.{SlotFault}
@@ -11,6 +11,8 @@ use Rattle.table_rules.specs.Opening.{Opens}
 use Rattle.reopen.specs.Refusals.{BreaksFirst}
 use Rattle.reopen.specs.declared.fault.OpenFault.{OpenFault}
 use Rattle.reopen.specs.declared.fault.OpenFault.TheVariants as opening
+use Rattle.store_core.specs.Plain as plain
+use Rattle.store_core.specs.Plain.{IsPlain}
 use Rattle.command_face.specs.declared.stop.StoreFault.{StoreFault}
 use Rattle.command_face.specs.declared.stop.StoreFault.TheVariants as store
 use Rattle.command_face.specs.declared.stop.StopReason.{StopReason}
@@ -44,6 +46,17 @@ stop_of (opening.Slot f) = stop.NotStore (store.Slot f)
 stop_of (opening.Table broken) = stop.NotStore (store.Table broken)
 stop_of opening.NoMemory = stop.NoMemory
 
--- no map and no book is what the file opens to
-abbrev pub NeverOpens : List ℕ → Type 0
-NeverOpens file = (m : Map) (b : Book) → Opens CLASSES SIZE_MAX file m b → ⊥
+-- no map and no book of version 1 is what the file opens to
+abbrev pub NeverServed : List ℕ → Type 0
+NeverServed file = (m : Map) (b : Book) → IsPlain b → Opens CLASSES SIZE_MAX file m b → ⊥
+
+-- What a command that serves requests is to answer of a file that opens by a table of version 2: the fault of
+-- its version.
+pub record IsOfAnotherVersion (file : List ℕ) (answer : Result (List ℕ) StopReason) : Type 0 where
+  pub fault : OpenFault
+  pub unserved : plain.IsUnserved CLASSES file fault
+  pub same : answer ≡ Err (stop_of fault)
+
+-- What it is to answer of a file that it doesn't serve: the first refusal, or the fault of the version.
+abbrev pub IsRefusedService : List ℕ → Result (List ℕ) StopReason → Type 0
+IsRefusedService file answer = IsRefused file answer ⊎ IsOfAnotherVersion file answer

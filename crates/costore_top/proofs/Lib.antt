@@ -3,4 +3,5 @@ mod EndedLaws
 mod FormatLaws
 mod WordLists
 mod OtherLaws
+mod PlainStates
 mod FollowingLaws

@@ -4,7 +4,7 @@ ghost use Rattle.disk_face.specs.Frames.{Untouched};
 ghost use Rattle.command_face.specs.Mounting.{IsMounted, Command, format, run, work, makes};
 ghost use Rattle.file_commands.specs.Formatting.{Formats, IsDone};
 ghost use Rattle.costore_top.specs.Words.{Means, MeansNone, texts};
-ghost use Rattle.command_face.specs.Refusing.{IsRefused, NeverOpens};
+ghost use Rattle.command_face.specs.Refusing.{IsRefusedService, NeverServed};
 ghost use Rattle.run_command.specs.Headline.{RunPromise, is_session};
 ghost use Rattle.run_command.specs.Sessions.{RunAlways};
 ghost use Rattle.work_command.specs.Working.{WorkPromise, WorkAlways};
@@ -75,10 +75,12 @@ pub fn costore<B: Bay, I: Source, O: Sink>(
     ensures numbers { IsNotRun (texts words.now)
         → (result.done ≡ 0) × (result.kept_done ≡ 0) × (result.kept_turn ≡ 0) }
 
-    // A file that doesn't open ends these two calls as its first refusal says.
+    // A file that doesn't open ends these two calls as its first refusal says, and one of version 2 by the
+    // fault of its version.
     ensures refused { (c : Command) → Means (texts words.now) c → IsTrue (serves c)
-        → IsTrue (B.state bay.old).tells → NeverOpens (B.state bay.old).file
-        → Ends (IsRefused (B.state bay.old).file) result.status (O.state output.old) (O.state output.new) }
+        → IsTrue (B.state bay.old).tells → NeverServed (B.state bay.old).file
+        → Ends (IsRefusedService (B.state bay.old).file) result.status (O.state output.old)
+        (O.state output.new) }
 
     // `run` serves the requests of the input. Of a file that opens, and a disk and an input that tell, this
     // is the headline.

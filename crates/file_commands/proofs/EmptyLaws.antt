@@ -42,6 +42,7 @@ none_under k data_len header = record {
 -- the first header, by its words
 abbrev zero_header : Header
 zero_header = record {
+  version = 1;
   kind = Settled;
   boundary = 0;
   sequence = 1;

@@ -5,6 +5,7 @@ use Rattle.std.specs.FinMap as fin
 use Rattle.size_class.specs.declared.TheConstants.{CLASSES, SIZE_MAX}
 use Rattle.slot_codec.specs.Spelling.{head_len}
 use Rattle.slot_codec.specs.declared.codec.Record.{Record}
+use Rattle.segment_layout.specs.Books.{with_digests}
 use Rattle.table_rules.specs.Opening.{placed_table}
 use Rattle.table_rules.specs.Tables.{book_of, end_of_record}
 use Rattle.extent_table.specs.declared.spot.Spot.{Spot}
@@ -22,8 +23,8 @@ pub given_at : (name file : List ℕ) (x : Loaded CLASSES) (found : Option Spot)
     → IsGiven name file (or_missing (option_map (object_at (head_len x.block.names) file) found))
 given_at name file x found keeps from is = record {
   map = read_at (head_len x.block.names) file x.table.now;
-  book = book_of (placed_table CLASSES SIZE_MAX file (table_seen x));
-  opens = record { table = table_seen x; opens = from.opens };
+  book = with_digests from.digests (book_of (placed_table CLASSES SIZE_MAX file (table_seen x from.digests)));
+  opens = record { table = table_seen x from.digests; opens = from.opens };
   same = ap or_missing (sym (
       get-read_at (head_len x.block.names) file x.table.now keeps.is_table.now_named name
       ∙ ap (option_map (object_at (head_len x.block.names) file)) is));
@@ -37,6 +38,7 @@ lies_in_file name file x s keeps from is =
     let base = head_len x.block.names in
     let within = by_name (λ (r : Record). base + end_of_record r ≤ length file) x.table.now
     keeps.is_table.now_named
-    (record_within CLASSES SIZE_MAX (table_seen x) file (read_at base file x.table.now)
-    (book_of (placed_table CLASSES SIZE_MAX file (table_seen x))) from.opens) name s is in
+    (record_within CLASSES SIZE_MAX (table_seen x from.digests) file (read_at base file x.table.now)
+    (with_digests from.digests (book_of (placed_table CLASSES SIZE_MAX file (table_seen x from.digests))))
+    from.opens) name s is in
     omega (arith, within)

@@ -1,5 +1,6 @@
 mod Pieces
 mod GettingLaws
+mod LooksLaws
 mod AnswerLaws
 mod EmptyLaws
 mod Formatting

@@ -11,8 +11,7 @@ use Rattle.byte_ranges.proofs.RangeLaws.{length-bytes_at}
 use Rattle.slot_codec.specs.Choice as choice
 use Rattle.slot_codec.specs.Spelling.{head_len}
 use Rattle.slot_codec.specs.declared.codec.Record.{Record}
-use Rattle.slot_codec.proofs.ChoiceLaws.{table_chosen}
-use Rattle.slot_codec.proofs.RecordsLaws.{read_records_rise}
+use Rattle.slot_codec.proofs.RecordsLaws.{table_rises}
 use Rattle.slot_codec.proofs.RollLaws.{RiseFrom, name_lt-trans}
 use Rattle.map_model.specs.Maps.{Map, name_cmp, volume}
 use Rattle.map_model.proofs.MapLaws.{name_order, names_differ}
@@ -67,7 +66,7 @@ module _ (base : ℕ) (file : List ℕ) where
 module _ (classes most : ℕ) (t : choice.Table) (file : List ℕ) (m : Map) (b : Book)
     (o : OpensBy classes most t file m b) where
   rise : RiseFrom None t.records
-  rise = read_records_rise _ _ _ None t.records (table_chosen file t o.read).1
+  rise = table_rises file t o.read
 
   entries : fin.entries m ≡ map (entry_of (head_len t.chosen.block.names) file) t.records
   entries = ap fin.entries o.same_map ∙ entries_are (head_len t.chosen.block.names) file t.records rise

@@ -9,6 +9,7 @@ use Rattle.size_class.specs.declared.TheConstants.{CLASSES, SIZE_MAX}
 use Rattle.slot_codec.specs.Choice as choice
 use Rattle.slot_codec.specs.Spelling.{head_len}
 use Rattle.slot_codec.specs.declared.codec.Record.{Record}
+use Rattle.segment_layout.specs.Books.{with_digests}
 use Rattle.table_rules.specs.Opening.{placed_table}
 use Rattle.table_rules.specs.Tables.{book_of, size_sum}
 use Rattle.extent_table.specs.declared.spot.Spot.{Spot}
@@ -69,12 +70,12 @@ records_volume x keeps = records_sum (λ (r : Record). r.size) x.table.now keeps
     ∙ sym (volume_of-weights x.table.now)
 
 -- a text of the table that was read is the one that is to be told
-pub told_of : (text : choice.Table → ℕ → List ℕ) (file : List ℕ) (x : Loaded CLASSES) → IsLoadedFrom file x
-    → IsTold text file (Ok (text (table_seen x) (length file)))
+pub told_of : (text : choice.Table → ℕ → List ℕ) (file : List ℕ) (x : Loaded CLASSES)
+    (from : IsLoadedFrom file x) → IsTold text file (Ok (text (table_seen x from.digests) (length file)))
 told_of text file x from = inl (record {
-  table = table_seen x;
+  table = table_seen x from.digests;
   map = read_at (head_len x.block.names) file x.table.now;
-  book = book_of (placed_table CLASSES SIZE_MAX file (table_seen x));
+  book = with_digests from.digests (book_of (placed_table CLASSES SIZE_MAX file (table_seen x from.digests)));
   opens = from.opens;
   same = refl;
 })

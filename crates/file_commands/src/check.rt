@@ -1,5 +1,5 @@
 //! The command `check`: one line about the file.
-ghost use Rattle.std.specs.Prelude.{◌≡◌, ◌≢◌, ◌≤◌, Ok, Err, IfOk, IfErr, IsTrue, length};
+ghost use Rattle.std.specs.Prelude.{◌≡◌, ◌≢◌, ◌≤◌, None, Ok, Err, IfOk, IfErr, IsTrue, length};
 ghost use Rattle.disk_face.specs.Frames.{Unchanged};
 ghost use Rattle.reopen.specs.Loads.{KeepsLoaded, table_seen};
 ghost use Rattle.file_commands.specs.Getting.{StopsAs};
@@ -48,14 +48,16 @@ fn store_line<D: Disk>(alloc: Global, disk: &mut D) -> Result<ArrayVec<u8, 4096>
     ensures plain { IfErr result IsCommandReason }
 {
     let loaded = load(alloc, disk)?;
-    let length = length_of(disk).map_err(|_| StopReason::Disk)?;
+    let Ok(length) = length_of(disk) else {
+        return Err(StopReason::Disk);
+    };
     Ok(line_of(&loaded, length))
 }
 
 /// The line about the file of a table, which has this length.
 fn line_of(loaded: &Loaded<CLASSES>, length: u64) -> ArrayVec<u8, 4096>
     requires loaded { KeepsLoaded loaded.now }
-    ensures { result.items ≡ check_text (table_seen loaded.now) length }
+    ensures { result.items ≡ check_text (table_seen loaded.now None) length }
 {
     let data = length.saturating_sub(head_len(loaded.block.names));
     let count = loaded.table.count();

@@ -1,5 +1,5 @@
 //! The command `map`: the segments of the file, and where its objects stand.
-ghost use Rattle.std.specs.Prelude.{◌≡◌, ◌≢◌, ◌+◌, ◌^◌, ◌<◌, ◌≤◌, ◌++◌, Err, IfErr, IsTrue, OnErr, flat_map, sum};
+ghost use Rattle.std.specs.Prelude.{◌≡◌, ◌≢◌, ◌+◌, ◌^◌, ◌<◌, ◌≤◌, ◌++◌, None, Err, IfErr, IsTrue, OnErr, flat_map, sum};
 ghost use Rattle.arrayvec.specs.ArrayVec.{array_vec_len};
 ghost use Rattle.byte_ranges.specs.Lists.{below};
 ghost use Rattle.disk_face.specs.Counts.{HasCause};
@@ -46,7 +46,7 @@ pub fn map<D: Disk, O: Sink>(alloc: Global, disk: &mut D, output: &mut O) -> Res
 fn put_map<O: Sink>(loaded: &Loaded<CLASSES>, output: &mut O) -> Result<(), StopReason>
     requires loaded { KeepsLoaded loaded.now }
     ensures put { IsTrue (O.state output.old).tells
-        → Puts (O.state output.old).given (O.state output.new).given (map_text (table_seen loaded.now))
+        → Puts (O.state output.old).given (O.state output.new).given (map_text (table_seen loaded.now None))
         result }
     ensures only { OnErr result (result ≡ Err StopReason.Sink) }
     ensures told { (O.state output.new).tells ≡ (O.state output.old).tells }

@@ -33,7 +33,8 @@ pub(crate) fn settle_mid_flush<D: Disk, const C: usize>(
     hands: &mut Hands<C>,
 ) -> Result<(), DiskFault>
     requires ready { IsTrue (D.state disk.old).is_ready }
-    requires room { 40960 ≤ vec_len hands.old.buf }
+    requires room { 57344 ≤ vec_len hands.old.buf }
+    requires version { header.now.version ≡ 1 }
     requires fresh { hands.old.slots.sequence + 1 < worn_from header.now.kind }
     requires ranges { IsTrue (all_in_range header.now) }
     requires table { IsTable hands.old.table }

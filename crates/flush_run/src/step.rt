@@ -36,7 +36,8 @@ pub(crate) fn free_target<D: Disk, const C: usize>(
     hands: &mut Hands<C>,
 ) -> Result<bool, DiskFault>
     requires ready { IsTrue (D.state disk.old).is_ready }
-    requires room { 40960 ≤ vec_len hands.old.buf }
+    requires room { 57344 ≤ vec_len hands.old.buf }
+    requires version { header.now.version ≡ 1 }
     requires fresh { hands.old.slots.sequence < 2 ^ 62 - 1 }
     requires ranges { IsTrue (all_in_range header.now) }
     requires table { IsTable hands.old.table }

@@ -41,7 +41,12 @@ pub by_name : (P : Record → Type 0) (spots : Spots) → AreNamed spots
 by_name P spots named each q x is = let at = record_at spots named q x is in subst P at.2 (each at.0 at.1)
 
 pub spot_is : (spots : Spots) (r : Record) (s : SpotOf spots r) → r ≡ record_of (r.name, s.spot)
-spot_is spots r s = λ i. record { name = r.name; place = s.same_place i; size = s.same_size i }
+spot_is spots r s = λ i. record {
+  name = r.name;
+  place = s.same_place i;
+  size = s.same_size i;
+  digest = s.same_digest i;
+}
 
 -- a name of a map with one more is that one, or was there
 pub inserted : (spots : Spots) (name q : List ℕ) (s x : Spot) → fin.get (fin.insert spots name s) q ≡ Some x
@@ -71,11 +76,7 @@ each_inserted P spots name s named is new old i low =
     let o = spot_of_record all (AreNamed-insert spots name s named is) i low in
     subst P (sym (spot_is all r o)) (elim (inserted spots name r.name s o.spot o.is)
     as (λ x. P (record_of (r.name, o.spot))) [
-      | inl here ↦ subst P (λ k. record {
-        name = sym here.0 k;
-        place = (sym here.1 k).place;
-        size = (sym here.1 k).size;
-      }) new
+      | inl here ↦ subst P (λ k. record_of (sym here.0 k, sym here.1 k)) new
       | inr there ↦ by_name P spots named old r.name o.spot there.1
     ])
 

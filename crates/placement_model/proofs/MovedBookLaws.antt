@@ -1,5 +1,5 @@
 -- The book of a moving table stays when an object of its suffix stands elsewhere.
-use Rattle.std.specs.Prelude.{◌≡◌, ℕ, ◌≤◌, nat_lt, Bool, true, false, not, ◌&&◌, List, sum_by, Some, IsSome, refl}
+use Rattle.std.specs.Prelude.{◌≡◌, ℕ, ◌≤◌, nat_lt, Bool, true, false, not, ◌&&◌, List, sum_by, Some, IsSome, refl, None}
 use Rattle.std.proofs.Common.{arith, sym, ◌∙◌, ap, subst, inl, inr}
 use Rattle.std.proofs.lemmas.Bool.{cases_Bool, cond-true, cond-false, le-ltb}
 use Rattle.std.proofs.lemmas.Grind.{same_number_lists}
@@ -104,4 +104,5 @@ module _ (classes size_max k len : ℕ) (header : Header) (spots : Spots) (named
     caps = settled_caps (table_boundary before) header.caps (same_volumes i);
     grid = settled_grid (table_boundary before) header.used;
     buffered = same_buffered high i;
+    digests = None;
   }

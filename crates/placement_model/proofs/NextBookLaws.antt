@@ -95,6 +95,7 @@ pub suffix_book : (b : ℕ) (t : PlacedTable) (spots : Spots) (m : Map) (names :
       caps = settled_caps b t.header.caps (volumes m);
       grid = settled_grid b t.header.used;
       buffered = below_class b m names;
+      digests = None;
     }
 suffix_book b t spots m names full long fits named records has are vols =
     let caps : settled_caps b (settled_caps b t.header.caps zero_row) (volumes_of_sizes (sizes t.records))
@@ -107,4 +108,4 @@ suffix_book b t spots m names full long fits named records has are vols =
     ≡ below_class b m names = ap (λ rs.
     set.from_list (map (λ (r : Record). r.name) (filter (is_buffered (suffix_at b t)) rs))) records
     ∙ suffix_buffered b t spots m names full fits named has are in
-    λ i. record { caps = caps i; grid = grid i; buffered = buffered i }
+    λ i. record { caps = caps i; grid = grid i; buffered = buffered i; digests = None }

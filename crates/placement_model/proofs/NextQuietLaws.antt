@@ -192,7 +192,12 @@ module _ (classes size_max k : ℕ) (caps : List ℕ) (grid : List (List ℕ)) (
     -- the next book of a quiet change
     quiet_book : (c : Change) (charged : Charged) → charge_change k objects book c ≡ charged
         → is_quiet charged ≡ true → (next_book k objects book c).book
-        ≡ record { caps = caps; grid = charged.grid; buffered = buffered_after book c charged }
+        ≡ record {
+          caps = caps;
+          grid = charged.grid;
+          buffered = buffered_after book c charged;
+          digests = None;
+        }
     unfolding next_book
     quiet_book c charged same quiet =
         ap (λ (x : Charged).
@@ -202,6 +207,7 @@ module _ (classes size_max k : ℕ) (caps : List ℕ) (grid : List (List ℕ)) (
           caps = shape.caps;
           grid = shape.grid;
           buffered = if shape.quiet then names else below_class shape.boundary (changed c objects) names;
+          digests = None;
         } in
         result) same
         ∙ (λ i.
@@ -211,6 +217,7 @@ module _ (classes size_max k : ℕ) (caps : List ℕ) (grid : List (List ℕ)) (
           caps = if quiet i then caps else settled_caps b caps (volumes (changed c objects));
           grid = if quiet i then charged.grid else settled_grid b charged.grid;
           buffered = if quiet i then names else below_class b (changed c objects) names;
+          digests = None;
         })
 
     -- A removal: its book is that of the spots without the name.
@@ -228,6 +235,7 @@ module _ (classes size_max k : ℕ) (caps : List ℕ) (grid : List (List ℕ)) (
           caps = caps;
           grid = sym q.after_is i;
           buffered = sym (chosen-remove (is_buffered table) spots name h.named) i;
+          digests = None;
         })
 
     -- A put: its book is that of the spots with the new one.
@@ -254,4 +262,5 @@ module _ (classes size_max k : ℕ) (caps : List ℕ) (grid : List (List ℕ)) (
           grid = sym q.after_is i;
           buffered = (ap (λ x. if x then set.insert rest name else rest) in_buffer
               ∙ sym (chosen-insert (is_buffered table) spots name s h.named is)) i;
+          digests = None;
         })

@@ -1,19 +1,12 @@
--- What a file opens to once its length is set, and what a header says of its sequence.
+-- What a file opens to once its length is set.
 use Rattle.std.specs.Prelude.{◌≡◌, ℕ, suc, ◌+◌, ◌-◌, ◌<◌, ◌≤◌, ◌==◌, nat_le, nat_lt, not, min, if◌then◌else◌, List, [], ◌∷◌, length, slice_index, slice_index_or, Ok}
 use Rattle.std.proofs.Common.{arith, sym, ◌∙◌, ap, subst, inl, inr}
 use Rattle.std.proofs.lemmas.Bool.{cond-true, lt-ltb, leb-false}
-use Rattle.std.specs.Int.{w64, from_le_bytes}
-use Rattle.byte_ranges.specs.Ranges.{SameBelow, bytes_at}
-use Rattle.byte_ranges.proofs.RangeLaws.{bytes_at-within}
+use Rattle.byte_ranges.specs.Ranges.{SameBelow}
 use Rattle.disk_face.specs.Moments.{ResizedImage}
 use Rattle.slot_codec.specs.Choice as choice
-use Rattle.slot_codec.specs.Choice.{InUse, Chosen, slot_in_use, chosen}
-use Rattle.slot_codec.proofs.ChoiceLaws.{chosen_long, chosen_parts, table_chosen}
-use Rattle.slot_codec.proofs.PickLaws.{in_use_parts}
-use Rattle.slot_codec.proofs.StepLaws.{from_ok, guard_ok}
-use Rattle.slot_codec.specs.Reading.{all_in_range, are_zeros, header_of, read_header, worn_from}
-use Rattle.slot_codec.specs.Spelling.{head_len, header_len, slot_at}
-use Rattle.slot_codec.specs.declared.codec.Header.{Header}
+use Rattle.slot_codec.proofs.ChoiceLaws.{chosen_long, table_chosen}
+use Rattle.slot_codec.specs.Spelling.{head_len}
 use Rattle.slot_codec.specs.declared.codec.Record.{Record}
 use Rattle.map_model.specs.Maps.{Map}
 use Rattle.segment_layout.specs.Books.{Book}
@@ -99,50 +92,3 @@ opens_resized classes most t before image m b n o step low room =
     ] in
     carries_on classes most t before image m b o long_image (λ i h. same i (omega (arith, h, low, long)))
     room_image (objects_below base p t.records before image fits (omega arith) in_image same)
-
--- ---- the sequence of a header
-
-pub header_read_is : (names : ℕ) (bytes : List ℕ) (h : Header) → read_header names bytes ≡ Ok h
-    → header_of bytes ≡ h
-unfolding read_header
-header_read_is names bytes h e =
-    let o = header_of bytes in
-    let version = guard_ok (not (slice_index bytes 0 == 1)) _ _ h e in
-    let kind = guard_ok (nat_lt 1 (slice_index bytes 1)) _ _ h version.1 in
-    let zeros = guard_ok (not (are_zeros (bytes_at bytes 3 5))) _ _ h kind.1 in
-    let worn = guard_ok (nat_le (worn_from o.kind) o.sequence) _ _ h zeros.1 in
-    let count = guard_ok (nat_lt names o.count) _ _ h worn.1 in
-    let range = guard_ok (not (all_in_range o)) _ (Ok o) h count.1 in
-    from_ok o h range.1
-
--- it isn't worn
-fresh_header : (names : ℕ) (bytes : List ℕ) (h : Header) → read_header names bytes ≡ Ok h
-    → (header_of bytes).sequence < worn_from (header_of bytes).kind
-unfolding read_header
-fresh_header names bytes h is =
-    let o = header_of bytes in
-    let version = guard_ok (not (slice_index bytes 0 == 1)) _ _ h is in
-    let kind = guard_ok (nat_lt 1 (slice_index bytes 1)) _ _ h version.1 in
-    let zeros = guard_ok (not (are_zeros (bytes_at bytes 3 5))) _ _ h kind.1 in
-    let worn = guard_ok (nat_le (worn_from o.kind) o.sequence) _ _ h zeros.1 in
-    leb-false (worn_from o.kind) o.sequence worn.0
-
-pub header_fresh : (names : ℕ) (bytes : List ℕ) (h : Header) → read_header names bytes ≡ Ok h
-    → h.sequence < worn_from h.kind
-header_fresh names bytes h e = subst (λ (x : Header). x.sequence < worn_from x.kind)
-    (header_read_is names bytes h e) (fresh_header names bytes h e)
-
--- it is that of the slot in use
-pub chosen_sequence : (file : List ℕ) (u : InUse) (c : Chosen) → slot_in_use file ≡ Ok u → chosen file ≡ Ok c
-    → c.header.sequence ≡ u.sequence
-chosen_sequence file u c in_use is =
-    let p = chosen_parts file c is in
-    let same : p.in_use ≡ u = from_ok p.in_use u (sym p.slot_read ∙ in_use) in
-    let at = slot_at p.in_use.block.names p.in_use.slot in
-    let read : (header_of (bytes_at file at header_len)).sequence
-    ≡ c.header.sequence = ap (λ (h : Header). h.sequence)
-    (header_read_is p.in_use.block.names (bytes_at file at header_len) c.header p.header_read) in
-    let within : bytes_at (bytes_at file at header_len) 8 8
-    ≡ bytes_at file (at + 8) 8 = bytes_at-within file at header_len 8 8 (omega arith) in
-    sym read ∙ ap (from_le_bytes w64) within ∙ (in_use_parts file p.in_use p.slot_read).sequence
-    ∙ ap (λ (x : InUse). x.sequence) same

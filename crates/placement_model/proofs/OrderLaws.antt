@@ -8,7 +8,7 @@ use Rattle.std.specs.declared.cmp.Ordering.{Ordering}
 use Rattle.std.specs.declared.cmp.Ordering.TheVariants.{Less, Equal, Greater}
 use Rattle.std.specs.FinMap as fin
 use Rattle.std.specs.FinMap.Entries.{find, put, is_sorted, by_order, below_all}
-use Rattle.slot_codec.specs.Choice.{rises}
+use Rattle.slot_codec.specs.Choice.{plain, rises}
 use Rattle.slot_codec.specs.Names.{IsName, name_cmp}
 use Rattle.slot_codec.specs.declared.codec.Record.{Record}
 use Rattle.map_model.proofs.MapLaws.{name_order, same_name-is, same_name-itself}
@@ -91,7 +91,7 @@ behind_all (Some before) spots name upto up q s there = elim (upto q s there) [
 -- one record more, whose name comes behind the last one
 pub set_more : (spots : Spots) (last : Option (List ℕ)) (done : List Record) (r : Record)
     → SetSoFar spots last done → IsName r.name → rises last r.name ≡ true
-    → SetSoFar (fin.insert spots r.name (spot_of r)) (Some r.name) (done ++ r ∷ [])
+    → SetSoFar (fin.insert spots r.name (spot_of r)) (Some r.name) (done ++ plain r ∷ [])
 set_more spots last done r h is up =
     let below : (q : List ℕ) (s : Spot) → fin.get spots q ≡ Some s
     → name_cmp q r.name ≡ Less = behind_all last spots r.name h.upto up in
@@ -109,7 +109,7 @@ set_more spots last done r h is up =
       ];
       records = records_of-all (fin.insert spots r.name (spot_of r)) named ∙ ap (map record_of) entries
           ∙ map-append record_of (fin.entries spots) ((r.name, spot_of r) ∷ [])
-          ∙ ap (λ rs. rs ++ r ∷ []) (sym (records_of-all spots h.named) ∙ h.records);
+          ∙ ap (λ rs. rs ++ plain r ∷ []) (sym (records_of-all spots h.named) ∙ h.records);
       count = omega (
         arith,
         fin.len-entries (fin.insert spots r.name (spot_of r)),
@@ -117,6 +117,6 @@ set_more spots last done r h is up =
         length-append (fin.entries spots) ((r.name, spot_of r) ∷ []),
         fin.len-entries spots,
         h.count,
-        length-append done (r ∷ []),
+        length-append done (plain r ∷ []),
       );
     }

@@ -11,6 +11,7 @@ use Rattle.std.specs.FinMap as fin
 use Rattle.std.specs.FinMap.Entries.{find, below_all}
 use Rattle.byte_ranges.specs.Ranges.{SameOutside, bytes_at, overwritten}
 use Rattle.byte_ranges.proofs.RangeLaws.{bytes_at-same, within_below, within_above, overwritten-outside, bytes_at-overwritten}
+use Rattle.slot_codec.specs.Spelling.{digest_len, zeros}
 use Rattle.slot_codec.specs.Names.{IsName}
 use Rattle.slot_codec.specs.declared.codec.Record.{Record}
 use Rattle.map_model.specs.Maps.{Map, name_cmp}
@@ -227,6 +228,7 @@ pub record SpotOf (spots : Spots) (r : Record) : Type 0 where
   pub is : fin.get spots r.name ≡ Some spot
   pub same_place : r.place ≡ spot.place
   pub same_size : r.size ≡ spot.size
+  pub same_digest : r.digest ≡ zeros digest_len
 
 pub spot_of_record : (spots : Spots) → AreNamed spots → (i : ℕ) → i < length (records_of spots)
     → SpotOf spots (slice_index_or (records_of spots) i no_record)
@@ -244,6 +246,7 @@ spot_of_record spots named i within =
           ∙ by_name;
       same_place = ap (λ (x : Record). x.place) (sym found.2);
       same_size = ap (λ (x : Record). x.size) (sym found.2);
+      same_digest = ap (λ (x : Record). x.digest) (sym found.2);
     }
 
 -- an entry that is found stands somewhere

@@ -1,5 +1,5 @@
 -- A table that is laid out anew is valid where its layout ends, and has the book of its moving table.
-use Rattle.std.specs.Prelude.{◌≡◌, ℕ, ◌+◌, ◌<◌, ◌≤◌, ◌^◌, nat_lt, Bool, List, [], ◌∷◌, true, false, not, ◌&&◌, cond, length, map, take, filter, slice_index_or, suc, refl}
+use Rattle.std.specs.Prelude.{◌≡◌, ℕ, ◌+◌, ◌<◌, ◌≤◌, ◌^◌, nat_lt, Bool, List, [], ◌∷◌, true, false, not, ◌&&◌, cond, length, map, take, filter, slice_index_or, suc, refl, None}
 use Rattle.std.specs.FinSet as set
 use Rattle.std.proofs.Common.{arith, sym, ◌∙◌, ap, inl, inr}
 use Rattle.std.proofs.lemmas.Bool.{cases_lt, cases_Bool, cond-true, cond-false, and_from, lt-ltb, ltb-true}
@@ -186,4 +186,5 @@ module _ (b : ℕ) (t : PlacedTable) (h : HasFullRows t) (fits : b ≤ t.classes
         caps = caps i;
         grid = grid i;
         buffered = set.from_list (map (λ (r : Record). r.name) (buffered i));
+        digests = None;
       }

@@ -1,5 +1,5 @@
 -- The book of a settled table is the one that shows its capacities and its grid as they are.
-use Rattle.std.specs.Prelude.{◌≡◌, ℕ, ◌<◌, ◌≤◌, List, [], length, slice_index, refl}
+use Rattle.std.specs.Prelude.{◌≡◌, ℕ, ◌<◌, ◌≤◌, List, [], length, slice_index, refl, None}
 use Rattle.std.proofs.Common.{arith, sym, ◌∙◌, ap, inl, inr}
 use Rattle.std.proofs.lemmas.Bool.{cases_lt}
 use Rattle.std.proofs.lemmas.List.{ext_get_or}
@@ -76,4 +76,5 @@ module _ (classes size_max k : ℕ) (caps : List ℕ) (grid : List (List ℕ)) (
     caps = caps_stay i;
     grid = grid_stays i;
     buffered = (shown_book classes size_max k caps grid spots).buffered;
+    digests = None;
   }

@@ -1,5 +1,5 @@
 -- Spots that a layout holds: the settled table that it makes of them is valid.
-use Rattle.std.specs.Prelude.{ℕ, ◌^◌, ◌<◌, ◌≤◌, List, map, filter}
+use Rattle.std.specs.Prelude.{ℕ, ◌^◌, ◌<◌, ◌≤◌, List, map, filter, None}
 use Rattle.std.specs.FinSet as set
 use Rattle.size_class.specs.Classes.{IsGrid, IsRow, width}
 use Rattle.slot_codec.specs.declared.codec.Record.{Record}
@@ -20,7 +20,8 @@ pub record IsLaidOut (classes size_max k : ℕ) (caps : List ℕ) (grid : List (
     pub named : AreNamed spots
     pub valid : IsValid (settled_table classes size_max k caps grid spots)
 
--- Their book: the capacities, the grid, and the names that stand outside their payload segments.
+-- Their book, without digests: the capacities, the grid, and the names that stand outside their payload
+-- segments.
 abbrev pub shown_book : ℕ → ℕ → ℕ → List ℕ → List (List ℕ) → Spots → Book
 shown_book classes size_max k caps grid spots =
     let t = settled_table classes size_max k caps grid spots in
@@ -28,4 +29,5 @@ shown_book classes size_max k caps grid spots =
       caps = caps;
       grid = grid;
       buffered = set.from_list (map (λ (r : Record). r.name) (filter (is_buffered t) t.records));
+      digests = None;
     }

@@ -1,5 +1,5 @@
 //! The books of these tables.
-ghost use Rattle.std.specs.Prelude.{◌≡◌, ℕ, Bool, if◌then◌else◌, ◌/◌, ◌^◌, ◌<◌, ◌≤◌, List, length, Some};
+ghost use Rattle.std.specs.Prelude.{◌≡◌, ℕ, Bool, if◌then◌else◌, ◌/◌, ◌^◌, ◌<◌, ◌≤◌, List, length, Some, None};
 ghost use Rattle.std.specs.FinMap as fin;
 ghost use Rattle.std.specs.FinSet as set;
 ghost use Rattle.slot_codec.specs.Names.{IsName};
@@ -39,6 +39,7 @@ pub fn a_flush_has_the_next_book()
           caps = settled_caps b t.header.caps (volumes m);
           grid = settled_grid b t.header.used;
           buffered = below_class b m names;
+          digests = None;
         } }
 {}
 

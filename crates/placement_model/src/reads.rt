@@ -6,7 +6,7 @@ ghost use Rattle.slot_codec.specs.Names.{IsName};
 ghost use Rattle.extent_table.specs.declared.spot.Spot.{Spot};
 ghost use Rattle.extent_table.specs.Extents.{Spots, record_of, records_of, volume_of};
 ghost use Rattle.placement_model.specs.Weights.{weight_at, weights};
-ghost use Rattle.slot_codec.specs.Choice.{Chosen, InUse, chosen, rises, slot_in_use};
+ghost use Rattle.slot_codec.specs.Choice.{Chosen, InUse, chosen, plain, rises, slot_in_use};
 ghost use Rattle.slot_codec.specs.Reading.{read_header, worn_from};
 ghost use Rattle.slot_codec.specs.declared.codec.Header.{Header};
 ghost use Rattle.slot_codec.specs.declared.codec.Record.{Record};
@@ -58,7 +58,7 @@ pub fn records_are_set_in_order()
     ensures none { SetSoFar fin.empty None [] }
     ensures more { (spots : Spots) (last : Option (List ℕ)) (done : List Record) (r : Record)
         → SetSoFar spots last done → IsName r.name → rises last r.name ≡ true
-        → SetSoFar (fin.insert spots r.name (spot_of r)) (Some r.name) (done ++ r ∷ []) }
+        → SetSoFar (fin.insert spots r.name (spot_of r)) (Some r.name) (done ++ plain r ∷ []) }
 {}
 
 /// The sequence of the slot in use is that of its header, which isn't worn.

@@ -1,9 +1,9 @@
 -- Reading one record more, and refusals that go on.
-use Rattle.std.specs.Prelude.{◌≡◌, refl, ℕ, suc, ◌+◌, ◌-◌, ◌<◌, List, [], ◌∷◌, ◌++◌, length, take, drop, Option, Some, Result, Ok, Err, IfErr, OnOk}
+use Rattle.std.specs.Prelude.{◌≡◌, refl, ℕ, suc, ◌+◌, ◌-◌, ◌<◌, List, [], ◌∷◌, ◌++◌, length, map, take, drop, Option, Some, Result, Ok, Err, IfErr, OnOk}
 use Rattle.std.proofs.Common.{arith, ap, ◌∙◌, sym, subst}
 use Rattle.std.proofs.lemmas.List.{take_all, append_assoc, length-drop}
 use Rattle.byte_ranges.specs.Lists.{◌>>=◌}
-use Rattle.slot_codec.specs.Choice.{SlotRefusal, first_record, placed_at, read_records, record_after}
+use Rattle.slot_codec.specs.Choice.{SlotRefusal, first_record, placed_at, plain, read_records, record_after}
 use Rattle.slot_codec.specs.Spelling.{record_len}
 use Rattle.slot_codec.specs.declared.codec.Record.{Record}
 use Rattle.slot_codec.specs.declared.codec.CodecFault.{CodecFault}
@@ -31,100 +31,108 @@ refuses_by_on r f (refusal.Rule number at) h = h
 refuses_by_on r f refusal.NoMemory h = h
 
 -- what the next record's bytes say, at their position
-pub next_read : (text : List ℕ) (at : ℕ) (before : Option (List ℕ)) (r : Record)
-    → Ok r ≡ record_after (take record_len text) before → first_record text at before ≡ Ok r
-next_read text at before r is = ap (λ said. placed_at at said) (sym is)
+pub next_read : (version : ℕ) (text : List ℕ) (at : ℕ) (before : Option (List ℕ)) (r : Record)
+    → Ok r ≡ record_after version (take (record_len version) text) before
+    → first_record version text at before ≡ Ok r
+next_read version text at before r is = ap (λ said. placed_at at said) (sym is)
 
-pub next_refused : (text : List ℕ) (at : ℕ) (before : Option (List ℕ)) (f : CodecFault)
-    → Err f ≡ record_after (take record_len text) before
-    → Refuses (first_record text at before) (fault.Codec f at)
-next_refused text at before f is = ap (λ said. placed_at at said) (sym is)
+pub next_refused : (version : ℕ) (text : List ℕ) (at : ℕ) (before : Option (List ℕ)) (f : CodecFault)
+    → Err f ≡ record_after version (take (record_len version) text) before
+    → Refuses (first_record version text at before) (fault.Codec f at)
+next_refused version text at before f is = ap (λ said. placed_at at said) (sym is)
 
 -- after the first record, the others
-rest_of : ℕ → List ℕ → ℕ → Record → Result (List Record) SlotRefusal
-rest_of n text at r = read_records n (drop record_len text) (at + record_len) (Some r.name)
+rest_of : ℕ → ℕ → List ℕ → ℕ → Record → Result (List Record) SlotRefusal
+rest_of version n text at r =
+    read_records version n (drop (record_len version) text) (at + record_len version) (Some r.name)
 
-then_rest : ℕ → List ℕ → ℕ → Record → Result (List Record) SlotRefusal
-then_rest n text at r = rest_of n text at r >>= λ rest. Ok (r ∷ rest)
+then_rest : ℕ → ℕ → List ℕ → ℕ → Record → Result (List Record) SlotRefusal
+then_rest version n text at r = rest_of version n text at r >>= λ rest. Ok (r ∷ rest)
 
-one_step : (n : ℕ) (text : List ℕ) (at : ℕ) (before : Option (List ℕ))
-    → read_records (suc n) text at before ≡ (first_record text at before >>= then_rest n text at)
+one_step : (version n : ℕ) (text : List ℕ) (at : ℕ) (before : Option (List ℕ))
+    → read_records version (suc n) text at before
+    ≡ (first_record version text at before >>= then_rest version n text at)
 unfolding then_rest rest_of
-one_step n text at before = refl
+one_step version n text at before = refl
 
-read_step : (count : ℕ) (text : List ℕ) (at : ℕ) (before : Option (List ℕ)) → 0 < count
-    → read_records count text at before ≡ (first_record text at before >>= then_rest (count - 1) text at)
-read_step count text at before some =
+read_step : (version count : ℕ) (text : List ℕ) (at : ℕ) (before : Option (List ℕ)) → 0 < count
+    → read_records version count text at before
+    ≡ (first_record version text at before >>= then_rest version (count - 1) text at)
+read_step version count text at before some =
     let e : count ≡ suc (count - 1) = omega (arith, some) in
-    ap (λ n. read_records n text at before) e ∙ one_step (count - 1) text at before
+    ap (λ n. read_records version n text at before) e ∙ one_step version (count - 1) text at before
 
-read_step-good : (count : ℕ) (text : List ℕ) (at : ℕ) (before : Option (List ℕ)) (r : Record) → 0 < count
-    → first_record text at before ≡ Ok r
-    → read_records count text at before ≡ (rest_of (count - 1) text at r >>= λ rest. Ok (r ∷ rest))
+read_step-good : (version count : ℕ) (text : List ℕ) (at : ℕ) (before : Option (List ℕ)) (r : Record)
+    → 0 < count → first_record version text at before ≡ Ok r
+    → read_records version count text at before
+    ≡ (rest_of version (count - 1) text at r >>= λ rest. Ok (r ∷ rest))
 unfolding then_rest
-read_step-good count text at before r some good = read_step count text at before some
-    ∙ ap (λ x. x >>= then_rest (count - 1) text at) good
+read_step-good version count text at before r some good = read_step version count text at before some
+    ∙ ap (λ x. x >>= then_rest version (count - 1) text at) good
 
-pub read_step-bad : (count : ℕ) (text : List ℕ) (at : ℕ) (before : Option (List ℕ)) (why : SlotFault)
-    → 0 < count → Refuses (first_record text at before) why → Refuses (read_records count text at before) why
-read_step-bad count text at before why some bad =
-    subst (λ x. Refuses x why) (sym (read_step count text at before some))
-    (refuses_on (first_record text at before) (then_rest (count - 1) text at) why bad)
+pub read_step-bad : (version count : ℕ) (text : List ℕ) (at : ℕ) (before : Option (List ℕ)) (why : SlotFault)
+    → 0 < count → Refuses (first_record version text at before) why
+    → Refuses (read_records version count text at before) why
+read_step-bad version count text at before why some bad =
+    subst (λ x. Refuses x why) (sym (read_step version count text at before some))
+    (refuses_on (first_record version text at before) (then_rest version (count - 1) text at) why bad)
 
 behind_one : (old : List Record) (r : Record) (rest : Result (List Record) SlotRefusal)
-    → behind old (rest >>= λ rs. Ok (r ∷ rs)) ≡ behind (old ++ (r ∷ [])) rest
-behind_one old r (Ok rs) = ap Ok (sym (append_assoc old (r ∷ []) rs))
+    → behind old (rest >>= λ rs. Ok (r ∷ rs)) ≡ behind (old ++ (plain r ∷ [])) rest
+behind_one old r (Ok rs) = ap Ok (sym (append_assoc old (plain r ∷ []) (map plain rs)))
 behind_one old r (Err e) = refl
 
--- the text behind the first record
-behind_first : (text : List ℕ) → take (length text - record_len) (drop record_len text) ≡ drop record_len text
-behind_first text = let h : length (drop record_len text)
-    ≡ length text - record_len = length-drop record_len text in
-    take_all (length text - record_len) (drop record_len text) (omega (arith, h))
+-- the text behind the first bytes
+behind_first : (l : ℕ) (text : List ℕ) → take (length text - l) (drop l text) ≡ drop l text
+behind_first l text = let h : length (drop l text) ≡ length text - l = length-drop l text in
+    take_all (length text - l) (drop l text) (omega (arith, h))
 
-others : ℕ → List ℕ → ℕ → Record → Result (List Record) SlotRefusal
-others count text at r = read_records (count - 1) (take (length text - record_len) (drop record_len text))
-    (at + record_len) (Some r.name)
+-- what is read of the others, which have so many bytes each, behind a name
+others : (version l count : ℕ) → List ℕ → ℕ → List ℕ → Result (List Record) SlotRefusal
+others version l count text at name =
+    read_records version (count - 1) (take (length text - l) (drop l text)) (at + l) (Some name)
 
-rest_of_others : (count : ℕ) (text : List ℕ) (at : ℕ) (r : Record)
-    → rest_of (count - 1) text at r ≡ others count text at r
+rest_of_others : (version l count : ℕ) → l ≡ record_len version → (text : List ℕ) (at : ℕ) (r : Record)
+    → rest_of version (count - 1) text at r ≡ others version l count text at r.name
 unfolding rest_of others
-rest_of_others count text at r = ap (λ t. read_records (count - 1) t (at + record_len) (Some r.name))
-    (sym (behind_first text))
+rest_of_others version l count len text at r =
+    ap (λ k. read_records version (count - 1) (drop k text) (at + k) (Some r.name)) (sym len)
+    ∙ ap (λ t. read_records version (count - 1) t (at + l) (Some r.name)) (sym (behind_first l text))
 
-whole : (count : ℕ) (text : List ℕ) (at : ℕ) (before : Option (List ℕ)) (r : Record) → 0 < count
-    → first_record text at before ≡ Ok r
-    → read_records count text at before ≡ (others count text at r >>= λ rest. Ok (r ∷ rest))
-whole count text at before r some good = read_step-good count text at before r some good
-    ∙ ap (λ x. x >>= λ rest. Ok (r ∷ rest)) (rest_of_others count text at r)
+whole : (version l count : ℕ) → l ≡ record_len version → (text : List ℕ) (at : ℕ)
+    (before : Option (List ℕ)) (r : Record) → 0 < count → first_record version text at before ≡ Ok r
+    → read_records version count text at before
+    ≡ (others version l count text at r.name >>= λ rest. Ok (r ∷ rest))
+whole version l count len text at before r some good =
+    read_step-good version count text at before r some good
+    ∙ ap (λ x. x >>= λ rest. Ok (r ∷ rest)) (rest_of_others version l count len text at r)
 
--- reading goes on after the name of the record that was read
-goes_on : ℕ → List ℕ → ℕ → List ℕ → Result (List Record) SlotRefusal
-goes_on count text at name = read_records (count - 1) (take (length text - record_len) (drop record_len text))
-    (at + record_len) (Some name)
+pub read_more : (version l count : ℕ) → l ≡ record_len version → (text : List ℕ) (at : ℕ)
+    (before : Option (List ℕ)) (r : Record)
+    (old new : List Record) (name : List ℕ) → 0 < count → first_record version text at before ≡ Ok r
+    → new ≡ old ++ (plain r ∷ []) → name ≡ r.name
+    → behind old (read_records version count text at before)
+    ≡ behind new (read_records version (count - 1) (take (length text - l) (drop l text)) (at + l)
+    (Some name))
+unfolding others
+read_more version l count len text at before r old new name some good more named =
+    ap (behind old) (whole version l count len text at before r some good)
+    ∙ behind_one old r (others version l count text at r.name)
+    ∙ ap (λ rs. behind rs (others version l count text at r.name)) (sym more)
+    ∙ ap (λ n. behind new (others version l count text at n)) (sym named)
 
-pub read_more : (count : ℕ) (text : List ℕ) (at : ℕ) (before : Option (List ℕ)) (r : Record)
-    (old new : List Record) (name : List ℕ) → 0 < count → first_record text at before ≡ Ok r
-    → new ≡ old ++ (r ∷ []) → name ≡ r.name
-    → behind old (read_records count text at before)
-    ≡ behind new (read_records (count - 1) (take (length text - record_len) (drop record_len text))
-    (at + record_len) (Some name))
-unfolding others goes_on
-read_more count text at before r old new name some good more named =
-    ap (behind old) (whole count text at before r some good) ∙ behind_one old r (others count text at r)
-    ∙ ap (λ rs. behind rs (others count text at r)) (sym more)
-    ∙ ap (λ n. behind new (goes_on count text at n)) (sym named)
-
-pub refused_more : (count : ℕ) (text : List ℕ) (at : ℕ) (before : Option (List ℕ)) (r : Record)
-    (name : List ℕ) (why : Refusal) → 0 < count → first_record text at before ≡ Ok r → name ≡ r.name
-    → RefusesBy (read_records (count - 1) (take (length text - record_len) (drop record_len text))
-    (at + record_len) (Some name)) why → RefusesBy (read_records count text at before) why
-unfolding others goes_on
-refused_more count text at before r name why some good named bad =
-    let here : RefusesBy (others count text at r) why =
-    subst (λ n. RefusesBy (goes_on count text at n) why) named bad in
-    subst (λ x. RefusesBy x why) (sym (whole count text at before r some good))
-    (refuses_by_on (others count text at r) (λ rest. Ok (r ∷ rest)) why here)
+pub refused_more : (version l count : ℕ) → l ≡ record_len version → (text : List ℕ) (at : ℕ)
+    (before : Option (List ℕ)) (r : Record)
+    (name : List ℕ) (why : Refusal) → 0 < count → first_record version text at before ≡ Ok r → name ≡ r.name
+    → RefusesBy (read_records version (count - 1) (take (length text - l) (drop l text)) (at + l)
+    (Some name)) why
+    → RefusesBy (read_records version count text at before) why
+unfolding others
+refused_more version l count len text at before r name why some good named bad =
+    let here : RefusesBy (others version l count text at r.name) why =
+    subst (λ n. RefusesBy (others version l count text at n) why) named bad in
+    subst (λ x. RefusesBy x why) (sym (whole version l count len text at before r some good))
+    (refuses_by_on (others version l count text at r.name) (λ rest. Ok (r ∷ rest)) why here)
 
 -- from a clause of an answer to another
 pub on_err : {A E : Type 0} (result : Result A E) (P Q : E → Type 0) → ((e : E) → P e → Q e) → IfErr result P

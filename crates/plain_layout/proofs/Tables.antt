@@ -1,19 +1,22 @@
 -- From the parts of a table to the table.
-use Rattle.std.specs.Prelude.{◌≡◌, refl, ℕ, List, Result, Ok}
-use Rattle.std.proofs.Common.{ap, sym, subst, ◌∙◌}
+use Rattle.std.specs.Prelude.{◌≡◌, refl, ℕ, ◌==◌, List, [], map, Option, None, Result, Ok, is_some}
+use Rattle.std.proofs.Common.{ap, inl, inr, sym, subst, ◌∙◌}
+use Rattle.std.proofs.lemmas.Bool.{cases_Bool, cond-true, cond-false}
 use Rattle.byte_ranges.specs.Lists.{◌>>=◌}
-use Rattle.slot_codec.specs.Choice.{SlotRefusal, Chosen, Table, slot_in_use, chosen, records_of, table_of}
+use Rattle.slot_codec.specs.Choice.{SlotRefusal, Chosen, Table, slot_in_use, chosen, digests_in, plain, records_of, table_of, table_with}
 use Rattle.slot_codec.specs.declared.codec.Record.{Record}
-use Rattle.slot_pair.specs.Finding.{Refuses}
+use Rattle.slot_codec.proofs.StepLaws.{bind_ok, from_ok}
+use Rattle.slot_pair.specs.Finding.{Refuses, chosen_of}
 use Rattle.slot_pair.specs.declared.find.SlotFault.{SlotFault}
-use Rattle.plain_layout.specs.Refusals.{RefusesBy}
-use Rattle.plain_layout.specs.Opened.{RefusesToOpen}
+use Rattle.plain_layout.specs.Refusals.{RefusesBy, behind}
+use Rattle.plain_layout.specs.Opened.{IsReadFrom, RefusesToOpen}
+use Rattle.plain_layout.specs.declared.opened.Opened.{Opened}
 use Rattle.plain_layout.specs.declared.opened.Refusal.{Refusal}
 use Rattle.plain_layout.specs.declared.opened.Refusal.TheVariants as refusal
 use Rattle.plain_layout.proofs.Reading.{refuses_on, refuses_by_on}
 
 with_records : Chosen → List Record → Result Table SlotRefusal
-with_records c rs = Ok (record { chosen = c; records = rs })
+with_records c rs = Ok (table_with c rs)
 
 of_chosen : List ℕ → Chosen → Result Table SlotRefusal
 of_chosen file c = records_of file c >>= with_records c
@@ -49,8 +52,26 @@ no_table classes size_max file (refusal.Slot f) h = h
 no_table classes size_max file (refusal.Rule number at) h = absurd h
 no_table classes size_max file refusal.NoMemory h = h
 
+-- there are digests in version 2 alone
+has_digests : (version : ℕ) (rs : List Record) → is_some (digests_in version rs) ≡ (version == 2)
+has_digests version rs = elim (cases_Bool (version == 2)) [
+  | inl is ↦ ap is_some (cond-true (version == 2) _ None is) ∙ sym is
+  | inr other ↦ ap is_some (cond-false (version == 2) _ None other) ∙ sym other
+]
+
 -- the table
-pub a_table : (file : List ℕ) (c : Chosen) (rs : List Record) → chosen file ≡ Ok c → records_of file c ≡ Ok rs
-    → table_of file ≡ Ok (record { chosen = c; records = rs })
+pub a_table : (file : List ℕ) (o : Opened) → chosen file ≡ Ok (chosen_of o.found o.table.header)
+    → behind [] (records_of file (chosen_of o.found o.table.header)) ≡ Ok o.table.records.items
+    → IsReadFrom file o
 unfolding with_records
-a_table file c rs h good = by_records file c h ∙ ap (λ x. x >>= with_records c) good
+a_table file o h good =
+    let c = chosen_of o.found o.table.header in
+    let read = bind_ok (records_of file c) (λ rest. Ok (map plain rest)) o.table.records.items good in
+    let same : map plain read.0 ≡ o.table.records.items = from_ok
+    (map plain read.0) o.table.records.items read.2 in
+    record {
+      digests = digests_in o.table.header.version read.0;
+      digested = has_digests o.table.header.version read.0;
+      read = by_records file c h ∙ ap (λ x. x >>= with_records c) read.1
+          ∙ ap (λ rs. Ok (record (table_with c read.0) { records = rs })) same;
+    }

@@ -1,16 +1,37 @@
 -- A file that was opened, and why one isn't.
-use Rattle.std.specs.Prelude.{◌≡◌, ℕ, List, Ok}
+use Rattle.std.specs.Prelude.{◌≡◌, ℕ, ◌==◌, List, Option, Ok, is_some}
 use Rattle.slot_codec.specs.Choice as choice
 use Rattle.slot_pair.specs.Finding.{Refuses, chosen_of}
-use Rattle.table_rules.specs.Opening.{placed_table}
+use Rattle.slot_codec.specs.Spelling.{head_len}
+use Rattle.segment_layout.specs.Books.{with_digests}
+use Rattle.table_rules.specs.Opening.{OpensBy, placed_table}
 use Rattle.table_rules.specs.Rules.{FirstBroken}
+use Rattle.table_rules.specs.Tables.{book_of, map_of}
+use Rattle.plain_layout.specs.Plain.{placed}
 use Rattle.plain_layout.specs.declared.opened.Opened.{Opened}
 use Rattle.plain_layout.specs.declared.opened.Refusal.{Refusal}
 use Rattle.plain_layout.specs.declared.opened.Refusal.TheVariants as refusal
 
--- the table that was read
-abbrev pub table_seen : Opened → choice.Table
-table_seen o = record { chosen = chosen_of o.found o.table.header; records = o.table.records.items }
+-- the table that was read, with digests
+abbrev pub table_seen : Opened → Option choice.Digests → choice.Table
+table_seen o digests = record {
+  chosen = chosen_of o.found o.table.header;
+  records = o.table.records.items;
+  digests = digests;
+}
+
+-- The file's table was read, whose digests are there in version 2 alone.
+pub record IsReadFrom (file : List ℕ) (o : Opened) : Type 0 where
+  pub digests : Option choice.Digests
+  pub digested : is_some digests ≡ (o.table.header.version == 2)
+  pub read : choice.table_of file ≡ Ok (table_seen o digests)
+
+-- The file opens by that table, to the map and the book that it gives.
+pub record IsOpenedFrom (classes size_max : ℕ) (file : List ℕ) (o : Opened) : Type 0 where
+  pub table : IsReadFrom file o
+  pub opens : OpensBy classes size_max (table_seen o table.digests) file
+      (map_of (head_len o.found.block.names) file o.table.records.items)
+      (with_digests table.digests (book_of (placed o.table)))
 
 -- the file's table breaks this rule first, and there
 pub record BreaksFirst (classes size_max : ℕ) (file : List ℕ) (number at : ℕ) : Type 0 where

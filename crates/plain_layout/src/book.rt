@@ -110,8 +110,7 @@ impl Book {
     }
 
     /// Charges items in turn.
-    #[tactic(auto, using(crate::proofs::ChargeSteps::charged_next, crate::proofs::ChargeSteps::grid_next,
-        crate::proofs::ChargeSteps::last_next))]
+    #[tactic(auto, using(crate::proofs::ChargeSteps::charged_next, crate::proofs::ChargeSteps::grid_next, crate::proofs::ChargeSteps::last_next))]
     pub fn charge_all(&mut self, items: &[u64]) -> Charged
         requires divisor { 1 ≤ self.old.k }
         ensures quiet { result.quiet ≡ is_quiet

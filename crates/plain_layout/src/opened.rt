@@ -1,13 +1,13 @@
 //! Opening a file: its table, and whether that keeps the rules.
-ghost use Rattle.std.specs.Prelude.{◌≡◌, ◌≤◌, ◌<◌, ◌^◌, Ok, Err, IfOk, IfErr, IsTrue, length};
+ghost use Rattle.std.specs.Prelude.{◌≡◌, ◌≤◌, ◌<◌, ◌^◌, [], None, Ok, Err, IfOk, IfErr, IsTrue, length};
 ghost use Rattle.disk_face.specs.Frames.{Unchanged};
 ghost use Rattle.plain_layout.specs.Plain.{placed};
-ghost use Rattle.plain_layout.specs.Opened.{RefusesToOpen, table_seen};
-ghost use Rattle.plain_layout.specs.Refusals.{RefusesBy};
-ghost use Rattle.table_rules.specs.Opening.{Opens, placed_table};
-ghost use Rattle.table_rules.specs.Tables.{book_of, map_of};
+ghost use Rattle.plain_layout.specs.Opened.{IsOpenedFrom, IsReadFrom, RefusesToOpen, table_seen};
+ghost use Rattle.plain_layout.specs.Refusals.{RefusesBy, behind};
+ghost use Rattle.table_rules.specs.Opening.{placed_table};
 ghost use Rattle.slot_codec.specs.Choice.{chosen, records_of, slot_in_use, table_of};
-ghost use Rattle.slot_codec.specs.Spelling.{head_len};
+ghost use Rattle.slot_codec.specs.Spelling.{cap, head_len};
+ghost use Rattle.slot_codec.specs.Reading.{is_version};
 ghost use Rattle.slot_codec.specs.Readable.{IsSuperBlock};
 ghost use Rattle.slot_pair.specs.Finding.{HasDiskCause, chosen_of, in_use_of};
 ghost use Rattle.table_rules.specs.Rules.{IsValid};
@@ -15,7 +15,7 @@ ghost use Rattle.table_rules.specs.Rules.{IsValid};
 use crate::Table;
 use crate::record_list::add_records;
 use disk_face::{Disk, length_of, read};
-use slot_codec::{HEADER_LEN, Header, RECORD_LEN, Record, head_len};
+use slot_codec::{HEADER_LEN, Header, Record, head_len, record_len};
 use slot_pair::{Found, SlotFault, choose, read_chosen_header, slot_at};
 use std::alloc::Global;
 
@@ -46,13 +46,10 @@ pub fn open<D: Disk>(
     requires ready { IsTrue (D.state disk.old).is_ready }
     requires tells { IsTrue (D.state disk.old).tells }
     ensures slot { IfOk result (λ o. slot_in_use (D.state disk.old).file ≡ Ok (in_use_of o.found)) }
-    ensures read { IfOk result (λ o. table_of (D.state disk.old).file ≡ Ok (table_seen o)) }
     ensures placed { IfOk result (λ o. placed o.table
-        ≡ placed_table classes size_max (D.state disk.old).file (table_seen o)) }
+        ≡ placed_table classes size_max (D.state disk.old).file (table_seen o None)) }
     ensures valid { IfOk result (λ o. IsValid (placed o.table)) }
-    ensures opens { IfOk result (λ o. Opens classes size_max (D.state disk.old).file
-        (map_of (head_len o.found.block.names) (D.state disk.old).file o.table.records.items)
-        (book_of (placed o.table))) }
+    ensures opens { IfOk result (IsOpenedFrom classes size_max (D.state disk.old).file) }
     ensures divisor { IfOk result (λ o. (2 ≤ o.table.k) × (o.table.k ≤ 64)) }
     ensures refused { IfErr result (RefusesToOpen classes size_max (D.state disk.old).file) }
     ensures cause { HasDiskCause (Refusal.Slot SlotFault.Disk) (D.state disk.old).faults
@@ -76,9 +73,9 @@ fn read_table<D: Disk>(
     requires ready { IsTrue (D.state disk.old).is_ready }
     requires tells { IsTrue (D.state disk.old).tells }
     ensures slot { IfOk result (λ o. slot_in_use (D.state disk.old).file ≡ Ok (in_use_of o.found)) }
-    ensures read { IfOk result (λ o. table_of (D.state disk.old).file ≡ Ok (table_seen o)) }
+    ensures read { IfOk result (IsReadFrom (D.state disk.old).file) }
     ensures placed { IfOk result (λ o. placed o.table
-        ≡ placed_table classes size_max (D.state disk.old).file (table_seen o)) }
+        ≡ placed_table classes size_max (D.state disk.old).file (table_seen o None)) }
     ensures divisor { IfOk result (λ o. (2 ≤ o.table.k) × (o.table.k ≤ 64)) }
     ensures refused { IfErr result (RefusesBy (table_of (D.state disk.old).file)) }
     ensures cause { HasDiskCause (Refusal.Slot SlotFault.Disk) (D.state disk.old).faults
@@ -108,7 +105,7 @@ fn read_table<D: Disk>(
     Ok(Opened { found, table })
 }
 
-/// The records of the slot in use.
+/// The records of the slot in use, without their digests.
 fn records_of<D: Disk>(
     alloc: Global,
     disk: &mut D,
@@ -119,10 +116,11 @@ fn records_of<D: Disk>(
     requires tells { IsTrue (D.state disk.old).tells }
     requires block { IsSuperBlock found.now.block }
     requires slot { found.now.slot ≤ 1 }
-    requires count { header.now.count ≤ found.now.block.names }
+    requires version { IsTrue (is_version header.now.version) }
+    requires count { header.now.count ≤ cap found.now.block.names header.now.version }
     requires long { head_len found.now.block.names ≤ length (D.state disk.old).file }
-    ensures read { IfOk result (λ rs. records_of (D.state disk.old).file (chosen_of found.now header.now)
-        ≡ Ok rs.items) }
+    ensures read { IfOk result (λ rs. behind []
+        (records_of (D.state disk.old).file (chosen_of found.now header.now)) ≡ Ok rs.items) }
     ensures refused { IfErr result (RefusesBy
         (records_of (D.state disk.old).file (chosen_of found.now header.now))) }
     ensures cause { HasDiskCause (Refusal.Slot SlotFault.Disk) (D.state disk.old).faults
@@ -130,13 +128,22 @@ fn records_of<D: Disk>(
     ensures frame { Unchanged (D.state disk.old) (D.state disk.new) }
 {
     let at = slot_at(found.block.names, found.slot) + HEADER_LEN as u64;
-    let Ok(mut text) = vec![in alloc; 0u8; RECORD_LEN * header.count as usize] else {
+    let len = record_len(header.version);
+    let Ok(mut text) = vec![in alloc; 0u8; len * header.count as usize] else {
         return Err(Refusal::NoMemory);
     };
     if read(disk, at, &mut text).is_err() {
         return Err(Refusal::Slot(SlotFault::Disk));
     }
     let mut records = Vec::new(alloc);
-    add_records(&text, header.count, at, &None, &mut records)?;
+    add_records(
+        &text,
+        header.version,
+        len,
+        header.count,
+        at,
+        &None,
+        &mut records,
+    )?;
     Ok(records)
 }

@@ -1,43 +1,64 @@
 //! The records of a table.
-ghost use Rattle.std.specs.Prelude.{◌≡◌, ◌≢◌, ◌+◌, ◌*◌, ◌≤◌, ◌<◌, ◌^◌, Ok, IfOk, IfErr, OnOk, length};
-ghost use Rattle.slot_codec.specs.Choice.{read_records};
+ghost use Rattle.std.specs.Prelude.{◌≡◌, ◌≢◌, ◌+◌, ◌*◌, ◌≤◌, ◌<◌, ◌^◌, Ok, IfOk, IfErr, IsTrue, OnOk, length};
+ghost use Rattle.slot_codec.specs.Choice.{plain, read_records};
+ghost use Rattle.slot_codec.specs.Reading.{is_version};
+ghost use Rattle.slot_codec.specs.Spelling.{record_len};
 ghost use Rattle.plain_layout.specs.Refusals.{RefusesBy, behind};
 
 use crate::Refusal;
-use slot_codec::{Name, RECORD_LEN, Record, read_record_after};
+use slot_codec::{DIGEST_LEN, Name, Record, read_record_after};
 use slot_pair::SlotFault;
 
-/// Adds the records that a text says which stands at a position, after a name.
+/// Adds the records that a text of a version says which stands at a position, after a name, without
+/// their digests. Each has `len` bytes.
 pub fn add_records(
     text: &[u8],
+    version: u8,
+    len: usize,
     count: u64,
     at: u64,
     before: &Option<Name>,
     records: &mut Vec<Record>,
 ) -> Result<(), Refusal>
-    requires long { RECORD_LEN * count ≤ length text.now }
-    requires small { at + RECORD_LEN * count < 2 ^ 64 }
-    ensures read { OnOk result (behind records.old.items (read_records count text.now at before.now)
+    requires version { IsTrue (is_version version) }
+    requires len { len ≡ record_len version }
+    requires long { len * count ≤ length text.now }
+    requires small { at + len * count < 2 ^ 64 }
+    ensures read { OnOk result (behind records.old.items (read_records version count text.now at before.now)
         ≡ Ok records.new.items) }
-    ensures refused { IfErr result (RefusesBy (read_records count text.now at before.now)) }
+    ensures refused { IfErr result (RefusesBy (read_records version count text.now at before.now)) }
     ensures only { IfErr result (λ why. why ≢ Refusal.Slot SlotFault.Disk) }
 {
     if count == 0 {
         return Ok(());
     }
-    let record = match read_record_after(text, before.as_ref()) {
+    let record = match read_record_after(text, version, before.as_ref()) {
         Ok(record) => record,
         Err(fault) => return Err(Refusal::Slot(SlotFault::Codec(fault, at))),
     };
     let name = record.name.copied();
-    if records.push(record).is_err() {
+    if records.push(plain(record)).is_err() {
         return Err(Refusal::NoMemory);
     }
     add_records(
-        &text[RECORD_LEN..],
+        &text[len..],
+        version,
+        len,
         count - 1,
-        at + RECORD_LEN as u64,
+        at + len as u64,
         &Some(name),
         records,
     )
+}
+
+/// A record without its digest.
+fn plain(record: Record) -> Record
+    ensures { result ≡ plain «record» }
+{
+    Record {
+        name: record.name,
+        place: record.place,
+        size: record.size,
+        digest: [0; DIGEST_LEN],
+    }
 }

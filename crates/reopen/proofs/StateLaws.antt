@@ -1,9 +1,11 @@
 -- The state of a table that was read and checked.
-use Rattle.std.specs.Prelude.{◌≡◌, ℕ, List, Ok}
-use Rattle.std.proofs.Common.{ap, subst, refl}
+use Rattle.std.specs.Prelude.{◌≡◌, ℕ, ◌==◌, List, Option, None, Ok, is_some}
+use Rattle.std.proofs.Common.{ap, inl, inr, subst, sym, refl, ◌∙◌}
+use Rattle.std.proofs.lemmas.Bool.{cases_Bool, cond-true, cond-false}
 use Rattle.size_class.specs.declared.TheConstants.{SIZE_MAX}
 use Rattle.slot_codec.specs.Choice as choice
 use Rattle.slot_codec.proofs.ChoiceLaws.{table_from}
+use Rattle.slot_codec.specs.declared.codec.Record.{Record}
 use Rattle.slot_pair.specs.Finding.{chosen_of, in_use_of}
 use Rattle.segment_layout.specs.Layouts.{caps_of, divisor_of, grid_of}
 use Rattle.segment_layout.specs.declared.layout.Layout.{Layout}
@@ -50,6 +52,7 @@ keeps_loaded r layout read divisor caps used valid = record {
   sequence = read.is_found.same_sequence;
   fresh = read.is_found.fresh;
   in_range = read.is_found.ranges;
+  version = read.is_found.version;
   is_table = read.is_table;
   count = read.count;
   kept = read.kept;
@@ -61,18 +64,34 @@ keeps_loaded r layout read divisor caps used valid = record {
   valid = valid;
 }
 
+-- the table with these digests, of which a table was read
+abbrev table_read : TableRead → Option choice.Digests → choice.Table
+table_read r digests =
+    record { chosen = chosen_of r.found r.header; records = records_of r.table.now; digests = digests }
+
+-- the digests of the file
+abbrev digests_read : (file : List ℕ) (r : TableRead) → IsReadFrom file r → Option choice.Digests
+digests_read file r read = choice.digests_in r.header.version read.records.records
+
 -- the table that was read is that of the file
-table_is : (file : List ℕ) (r : TableRead) → IsReadFrom file r
-    → choice.table_of file
-    ≡ Ok (record { chosen = chosen_of r.found r.header; records = records_of r.table.now })
-table_is file r read = table_from file
-    (record { chosen = chosen_of r.found r.header; records = records_of r.table.now }) read.is_found.read
-    read.records
+table_is : (file : List ℕ) (r : TableRead) (read : IsReadFrom file r)
+    → choice.table_of file ≡ Ok (table_read r (digests_read file r read))
+table_is file r read =
+    table_from file (chosen_of r.found r.header) read.records.records read.is_found.read read.records.read
+    ∙ ap (λ rs. Ok (record (table_read r (digests_read file r read)) { records = rs })) read.records.same
+
+-- there are digests in version 2 alone
+has_digests : (version : ℕ) (records : List Record)
+    → is_some (choice.digests_in version records) ≡ (version == 2)
+has_digests version records = elim (cases_Bool (version == 2)) [
+  | inl is ↦ ap is_some (cond-true (version == 2) _ None is) ∙ sym is
+  | inr other ↦ ap is_some (cond-false (version == 2) _ None other) ∙ sym other
+]
 
 -- and the table that was checked is the file's as its rules see it
-placed_is : (C : ℕ) (file : List ℕ) (r : TableRead) → IsReadFrom file r
+placed_is : (C : ℕ) (file : List ℕ) (r : TableRead) (read : IsReadFrom file r)
     → laid C SIZE_MAX r.found.block.k r.data_len r.header r.table.now ≡ placed_table C SIZE_MAX file
-    (record { chosen = chosen_of r.found r.header; records = records_of r.table.now })
+    (table_read r (digests_read file r read))
 placed_is C file r read = ap (λ n. laid C SIZE_MAX r.found.block.k n r.header r.table.now) read.behind
 
 pub loaded_from : {C : ℕ} (file : List ℕ) (r : TableRead) (layout : Layout C) → IsReadFrom file r
@@ -80,6 +99,8 @@ pub loaded_from : {C : ℕ} (file : List ℕ) (r : TableRead) (layout : Layout C
     → IsLoadedFrom file (loaded_with r layout)
 loaded_from {C} file r layout read valid = record {
   in_use = read.is_found.slot;
+  digests = digests_read file r read;
+  digested = has_digests r.header.version read.records.records;
   opens = record {
     read = table_is file r read;
     valid = subst IsValid (placed_is C file r read) valid;
@@ -92,7 +113,7 @@ pub breaks_first : (C : ℕ) (file : List ℕ) (r : TableRead) (broken : TableFa
     → FirstBroken (laid C SIZE_MAX r.found.block.k r.data_len r.header r.table.now) broken.rule broken.at
     → BreaksFirst C file broken
 breaks_first C file r broken read first = record {
-  table = record { chosen = chosen_of r.found r.header; records = records_of r.table.now };
+  table = table_read r (digests_read file r read);
   read = table_is file r read;
   first = subst (λ t. FirstBroken t broken.rule broken.at) (placed_is C file r read) first;
 }

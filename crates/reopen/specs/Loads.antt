@@ -1,14 +1,15 @@
 -- What a state that was read says, and of which file it is the state.
-use Rattle.std.specs.Prelude.{◌≡◌, ℕ, ◌<◌, ◌≤◌, List, Ok, IsTrue}
+use Rattle.std.specs.Prelude.{◌≡◌, ℕ, ◌<◌, ◌≤◌, ◌==◌, List, Option, Ok, IsTrue, is_some}
 use Rattle.std.specs.FinMap as fin
 use Rattle.size_class.specs.declared.TheConstants.{SIZE_MAX}
 use Rattle.slot_codec.specs.Choice as choice
-use Rattle.slot_codec.specs.Reading.{all_in_range, worn_from}
+use Rattle.slot_codec.specs.Reading.{all_in_range, is_version, worn_from}
 use Rattle.slot_codec.specs.Readable.{IsSuperBlock}
 use Rattle.slot_codec.specs.Spelling.{head_len}
 use Rattle.slot_codec.specs.declared.codec.Kind.{Kind}
 use Rattle.slot_codec.specs.declared.codec.Kind.TheVariants as kind
 use Rattle.segment_layout.specs.Layouts.{caps_of, divisor_of, grid_of}
+use Rattle.segment_layout.specs.Books.{with_digests}
 use Rattle.table_rules.specs.Opening.{OpensBy, placed_table}
 use Rattle.table_rules.specs.Rules.{IsValid}
 use Rattle.table_rules.specs.Tables.{book_of}
@@ -27,12 +28,13 @@ abbrev pub kind_of : {C : ℕ} → State C → Kind
 kind_of (state.Still x) = kind.Settled
 kind_of (state.Moving x) = kind.Moving
 
--- the table that was read
-abbrev pub table_seen : {C : ℕ} → Loaded C → choice.Table
-table_seen x =
+-- the table that was read, with digests
+abbrev pub table_seen : {C : ℕ} → Loaded C → Option choice.Digests → choice.Table
+table_seen x digests =
     record {
       chosen = record { block = x.block; slot = x.slots.slot; header = x.header };
       records = records_of x.table.now;
+      digests = digests;
     }
 
 -- What holds whatever the disk tells: the numbers are in range and belong together, what stands now is what
@@ -44,6 +46,7 @@ pub record KeepsLoaded {C : ℕ} (x : Loaded C) : Type 0 where
   pub sequence : x.slots.sequence ≡ x.header.sequence
   pub fresh : x.header.sequence < worn_from x.header.kind
   pub in_range : IsTrue (all_in_range x.header)
+  pub version : IsTrue (is_version x.header.version)
   pub is_table : IsTable x.table
   pub count : fin.len x.table.now ≡ x.header.count
   pub kept : x.table.kept ≡ x.table.now
@@ -59,12 +62,15 @@ pub record KeepsState {C : ℕ} (s : State C) : Type 0 where
   pub same_kind : (loaded_of s).header.kind ≡ kind_of s
   pub loaded : KeepsLoaded (loaded_of s)
 
--- The slot in use is that of the file. By the table, the file opens to the map that it gives where the
--- objects stand, and to the table's book.
+-- The slot in use is that of the file. By the table, with the digests that the file has in version 2, the
+-- file opens to the map that it gives where the objects stand, and to the table's book.
 pub record IsLoadedFrom {C : ℕ} (file : List ℕ) (x : Loaded C) : Type 0 where
   pub in_use : choice.slot_in_use file ≡ Ok x.slots
-  pub opens : OpensBy C SIZE_MAX (table_seen x) file (read_at (head_len x.block.names) file x.table.now)
-      (book_of (placed_table C SIZE_MAX file (table_seen x)))
+  pub digests : Option choice.Digests
+  pub digested : is_some digests ≡ (x.header.version == 2)
+  pub opens : OpensBy C SIZE_MAX (table_seen x digests) file
+      (read_at (head_len x.block.names) file x.table.now)
+      (with_digests digests (book_of (placed_table C SIZE_MAX file (table_seen x digests))))
 
 abbrev pub IsStateOf : {C : ℕ} → List ℕ → State C → Type 0
 IsStateOf file s = IsLoadedFrom file (loaded_of s)

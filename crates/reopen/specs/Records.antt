@@ -1,44 +1,70 @@
 -- Records that are read and set one after another.
-use Rattle.std.specs.Prelude.{◌≡◌, ℕ, ◌+◌, ◌-◌, ◌*◌, ◌≤◌, List, ◌++◌, drop, Option, None, Result, Ok, IsTrue}
+use Rattle.std.specs.Prelude.{◌≡◌, ℕ, ◌+◌, ◌-◌, ◌*◌, ◌≤◌, List, [], ◌++◌, drop, map, Option, None, Result, Ok, IsTrue}
 use Rattle.std.specs.FinMap as fin
 use Rattle.byte_ranges.specs.Ranges.{bytes_at}
 use Rattle.byte_ranges.specs.Lists.{◌>>=◌}
 use Rattle.disk_face.specs.Frames.{Unchanged}
 use Rattle.disk_face.specs.States.{State}
-use Rattle.slot_codec.specs.Choice.{SlotRefusal, read_records}
-use Rattle.slot_codec.specs.Spelling.{record_len}
+use Rattle.slot_codec.specs.Choice.{SlotRefusal, plain, read_records}
 use Rattle.slot_codec.specs.declared.codec.Record.{Record}
 use Rattle.extent_table.specs.Extents.{Extents, Spots, records_of}
 use Rattle.placement_model.specs.Orders.{SetSoFar}
 
--- the records of spots that were set, then n records of a text that stands at a position, behind a name
-unfoldable pub all_records : Spots → ℕ → List ℕ → ℕ → Option (List ℕ) → Result (List Record) SlotRefusal
-all_records spots n text at before = read_records n text at before >>= λ rest. Ok (records_of spots ++ rest)
+-- Records are read, and without their digests they are those of some spots.
+pub record AreSet (expected : Result (List Record) SlotRefusal) (spots : Spots) : Type 0 where
+  pub records : List Record
+  pub read : expected ≡ Ok records
+  pub same : map plain records ≡ records_of spots
 
--- Of n records of a text, the first i were set: whatever stands behind the text, all records are the same as
--- before.
-pub record SetThrough (text : List ℕ) (at n i : ℕ) (before last : Option (List ℕ)) (old now : Extents)
-    : Type 0
+-- records that were read, then n records of a text in a version that stands at a position, behind a name
+unfoldable pub all_records : ℕ → List Record → ℕ → List ℕ → ℕ → Option (List ℕ)
+    → Result (List Record) SlotRefusal
+all_records version done n text at before = read_records version n text at before >>= λ rest. Ok
+    (done ++ rest)
+
+-- Of n records of a text in a version, each of which has so many bytes, the first i were read and set:
+-- whatever was read before and stands behind the text, all records are the same as before.
+pub record SetThrough (version len : ℕ) (text : List ℕ) (at n i : ℕ) (before last : Option (List ℕ))
+    (old now : Extents) : Type 0
   where
     pub set : SetSoFar now.now last (records_of now.now)
     pub count : fin.len now.now ≡ fin.len old.now + i
     pub kept : now.kept ≡ old.kept
     pub names : now.names ≡ old.names
-    pub read : (m : ℕ) (more : List ℕ) → all_records old.now (n + m) (text ++ more) at before
-        ≡ all_records now.now (n - i + m) (drop (record_len * i) text ++ more) (at + record_len * i) last
+    pub done : List Record
+    pub same : records_of now.now ≡ records_of old.now ++ map plain done
+    pub read : (front : List Record) (m : ℕ) (more : List ℕ)
+        → all_records version front (n + m) (text ++ more) at before
+        ≡ all_records version (front ++ done) (n - i + m) (drop (len * i) text ++ more) (at + len * i) last
+
+-- The records of a text in a version were read and set, whatever was read before and stands behind it.
+pub record SetPiece (version len : ℕ) (text : List ℕ) (at n : ℕ) (before last : Option (List ℕ))
+    (old now : Spots) : Type 0
+  where
+    pub done : List Record
+    pub same : records_of now ≡ records_of old ++ map plain done
+    pub read : (front : List Record) (m : ℕ) (more : List ℕ)
+        → all_records version front (n + m) (text ++ more) at before
+        ≡ all_records version (front ++ done) m more (at + len * n) last
+
+-- Of the records that stand in a file at a position, in a version and of so many bytes each, the first were
+-- read, and without their digests they are those of some spots.
+pub record ReadSoFar (version len : ℕ) (file : List ℕ) (at count done : ℕ) (last : Option (List ℕ))
+    (spots : Spots) : Type 0 where
+  pub records : List Record
+  pub same : map plain records ≡ records_of spots
+  pub read : read_records version count (bytes_at file at (len * count)) at None
+      ≡ all_records version records (count - done) (bytes_at file (at + len * done) (len * (count - done)))
+      (at + len * done) last
 
 -- Of the records that stand on a disk at a position, the first were read and set.
-pub record ReadThrough (at count done : ℕ) (last : Option (List ℕ)) (old now : Extents) (first later : State)
-    : Type 0 where
+pub record ReadThrough (version len at count done : ℕ) (last : Option (List ℕ)) (old now : Extents)
+    (first later : State) : Type 0 where
   pub few : done ≤ count
   pub set : SetSoFar now.now last (records_of now.now)
   pub counted : fin.len now.now ≡ done
   pub kept : now.kept ≡ old.kept
   pub names : now.names ≡ old.names
-  pub read : IsTrue first.tells
-      → all_records fin.empty count (bytes_at first.file at (record_len * count)) at None
-      ≡ all_records now.now (count - done)
-      (bytes_at first.file (at + record_len * done) (record_len * (count - done))) (at + record_len * done)
-      last
+  pub read : IsTrue first.tells → ReadSoFar version len first.file at count done last now.now
   pub frame : Unchanged first later
   pub calm : later.faults ≡ first.faults

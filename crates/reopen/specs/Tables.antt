@@ -2,13 +2,14 @@
 use Rattle.std.specs.Prelude.{◌≡◌, ℕ, ◌-◌, ◌<◌, ◌≤◌, List, Ok, IsTrue, length, vec_capacity}
 use Rattle.std.specs.FinMap as fin
 use Rattle.slot_codec.specs.Choice as choice
-use Rattle.slot_codec.specs.Reading.{all_in_range, worn_from}
+use Rattle.slot_codec.specs.Reading.{all_in_range, is_version, worn_from}
 use Rattle.slot_codec.specs.Readable.{IsSuperBlock}
-use Rattle.slot_codec.specs.Spelling.{head_len}
+use Rattle.slot_codec.specs.Spelling.{cap, head_len}
 use Rattle.slot_codec.specs.declared.codec.Header.{Header}
 use Rattle.slot_pair.specs.Finding.{chosen_of, in_use_of}
 use Rattle.slot_pair.specs.declared.find.Found.{Found}
-use Rattle.extent_table.specs.Extents.{IsTable, records_of}
+use Rattle.extent_table.specs.Extents.{IsTable}
+use Rattle.reopen.specs.Records.{AreSet}
 use Rattle.reopen.specs.declared.table.TableRead.{TableRead}
 
 -- The numbers of a slot and its header are in range, and the slot has the header's sequence.
@@ -17,7 +18,8 @@ pub record IsFound (found : Found) (header : Header) : Type 0 where
   pub slot : found.slot ≤ 1
   pub same_sequence : found.sequence ≡ header.sequence
   pub fresh : header.sequence < worn_from header.kind
-  pub count : header.count ≤ found.block.names
+  pub version : IsTrue (is_version header.version)
+  pub count : header.count ≤ cap found.block.names header.version
   pub ranges : IsTrue (all_in_range header)
 
 -- They are the slot in use of a file, and its header.
@@ -35,8 +37,9 @@ pub record IsRead (r : TableRead) : Type 0 where
   pub names : r.table.names ≡ r.found.block.names
   pub room : r.found.block.names ≤ vec_capacity r.order
 
--- They are the records of a file's table, and the data part is what the file has behind its head.
+-- They are the records of a file's table, without their digests, and the data part is what the file has
+-- behind its head.
 pub record IsReadFrom (file : List ℕ) (r : TableRead) : Type 0 where
   pub is_found : IsFoundIn file r.found r.header
-  pub records : choice.records_of file (chosen_of r.found r.header) ≡ Ok (records_of r.table.now)
+  pub records : AreSet (choice.records_of file (chosen_of r.found r.header)) r.table.now
   pub behind : r.data_len ≡ length file - head_len r.found.block.names

@@ -3,17 +3,18 @@ ghost use Rattle.std.specs.Prelude.{◌≡◌, ◌+◌, ◌*◌, ◌≤◌, Ok, 
 ghost use Rattle.std.specs.FinMap as fin;
 ghost use Rattle.disk_face.specs.Frames.{Unchanged};
 ghost use Rattle.slot_codec.specs.Choice.{chosen, records_of, table_of};
-ghost use Rattle.slot_codec.specs.Spelling.{head_len};
+ghost use Rattle.slot_codec.specs.Spelling.{head_len, record_len};
 ghost use Rattle.slot_pair.specs.Finding.{HasDiskCause, Refuses, chosen_of};
 ghost use Rattle.extent_table.specs.Extents as extents;
+ghost use Rattle.reopen.specs.Records.{AreSet};
 ghost use Rattle.reopen.specs.Refusals.{RefusesBy};
 ghost use Rattle.reopen.specs.Tables.{IsFound, IsFoundIn, IsRead, IsReadFrom};
 
 use crate::OpenFault;
-use crate::records::{BYTES_A_READ, set_all};
+use crate::records::{RECORDS_A_READ, set_all};
 use disk_face::{Disk, length_of};
 use extent_table::{BulkLoad, Table};
-use slot_codec::{HEADER_LEN, Header, head_len};
+use slot_codec::{HEADER_LEN, Header, head_len, record_len};
 use slot_pair::{Found, SlotFault, choose, read_chosen_header, slot_at};
 use std::alloc::Global;
 
@@ -53,7 +54,7 @@ pub(crate) fn read_table<D: Disk>(alloc: Global, disk: &mut D) -> Result<TableRe
         Ok(found) => found,
         Err(fault) => return Err(OpenFault::Slot(fault)),
     };
-    let Some(mut room) = room_for(alloc, found.block.names) else {
+    let Some(mut room) = room_for(alloc, found.block.names, header.version) else {
         return Err(OpenFault::NoMemory);
     };
     if let Err(fault) = load_records(disk, &found, &header, &mut room.load, &mut room.buf) {
@@ -102,12 +103,12 @@ fn load_records<D: Disk>(
     requires found { IsFound found.now header.now }
     requires long { IsTrue (D.state disk.old).tells
         → head_len found.now.block.names ≤ length (D.state disk.old).file }
-    requires room { BYTES_A_READ ≤ length buf.old }
+    requires room { record_len header.now.version * 512 ≤ length buf.old }
     requires empty { load.old.now ≡ fin.empty }
     requires names { load.old.names ≡ found.now.block.names }
     ensures records { IsTrue (D.state disk.old).tells
-        → OnOk result (records_of (D.state disk.old).file (chosen_of found.now header.now)
-        ≡ Ok (extents.records_of load.new.now)) }
+        → OnOk result (AreSet (records_of (D.state disk.old).file (chosen_of found.now header.now))
+        load.new.now) }
     ensures refused { IsTrue (D.state disk.old).tells
         → IfErr result (Refuses (records_of (D.state disk.old).file (chosen_of found.now header.now))) }
     ensures count { OnOk result (fin.len load.new.now ≡ header.now.count) }
@@ -116,20 +117,20 @@ fn load_records<D: Disk>(
     ensures frame { Unchanged (D.state disk.old) (D.state disk.new) }
 {
     let at = slot_at(found.block.names, found.slot) + HEADER_LEN as u64;
-    set_all(disk, at, header.count, load, buf)
+    set_all(disk, at, header.version, header.count, load, buf)
 }
 
-/// The memory that opening takes, for `names` names.
-fn room_for(alloc: Global, names: u64) -> Option<Room>
+/// The memory that opening takes, for `names` names and a table of a version.
+fn room_for(alloc: Global, names: u64, version: u8) -> Option<Room>
     requires { names ≤ 65536 }
     ensures load { IfSome result (λ room. room.load ≡ extents.empty_extents names) }
-    ensures buf { IfSome result (λ room. vec_len room.buf ≡ BYTES_A_READ) }
+    ensures buf { IfSome result (λ room. vec_len room.buf ≡ record_len version * 512) }
     ensures order { IfSome result (λ room. names ≤ vec_capacity room.order) }
 {
     let Ok(load) = BulkLoad::with_room(alloc, names) else {
         return None;
     };
-    let Ok(buf) = vec![in alloc; 0u8; BYTES_A_READ] else {
+    let Ok(buf) = vec![in alloc; 0u8; record_len(version) * RECORDS_A_READ as usize] else {
         return None;
     };
     let Ok(order) = Vec::with_capacity(alloc, names as usize) else {

@@ -19,6 +19,7 @@ use Rattle.map_model.specs.Requests.{Request}
 use Rattle.segment_layout.specs.Books.{Book, book_end}
 use Rattle.table_rules.specs.Opening.{OpensBy}
 use Rattle.store_core.specs.Connection.{StoreValue, state_of}
+use Rattle.store_core.specs.Plain.{IsPlain}
 use Rattle.store_core.specs.Stores.{IsStore}
 use Rattle.store_core.specs.States as store
 use Rattle.store_core.specs.Opened.{IsFoundImage, IsOpening, LeavesRoom, RestsOnFound, SameOnFound, found_base, state_at}
@@ -59,7 +60,7 @@ module _ {D I O : Type 0} (disk_of : D → State) (source_of : I → SourceState
     (after : SinkState)
     (told : IsTrue (disk_of before).tells) (told_source : IsTrue (source_of from).tells)
     (t : choice.Table) (m : Map) (b : Book) (requests : List Request) (end : List ℕ)
-    (o : OpensBy CLASSES SIZE_MAX t (disk_of before).file m b)
+    (plain : IsPlain b) (o : OpensBy CLASSES SIZE_MAX t (disk_of before).file m b)
     (asks : Asks (source_of from).left requests end) where
   abbrev old : State
   old = disk_of before
@@ -226,7 +227,7 @@ module _ {D I O : Type 0} (disk_of : D → State) (source_of : I → SourceState
       unopened_by e (opening.Table broken) none is ended line = elim none [ ]
 
       unopened : (e : Ended) → IsUnopened first z e → PutsEnd e.end → Runs (outcome_of e)
-      unopened e x line = unopened_by e x.fault (why_unopened t m b first.file x.fault
+      unopened e x line = unopened_by e x.fault (why_unopened t m b first.file x.fault plain
           (opens_first t m b old first mount told o)
           (x.opening.refused (told_first t m b old first mount told o))) x.opening x.ended line
 

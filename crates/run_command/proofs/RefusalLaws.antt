@@ -3,7 +3,7 @@ use Rattle.std.specs.Prelude.{◌≡◌, ℕ, List, IsTrue}
 use Rattle.std.proofs.Common.{arith, ap, sym, ◌∙◌, inl, inr}
 use Rattle.disk_face.specs.States.{State}
 use Rattle.disk_face.specs.Streams.{SinkState, SourceState}
-use Rattle.command_face.specs.Refusing.{NeverOpens}
+use Rattle.command_face.specs.Refusing.{NeverServed}
 use Rattle.command_face.specs.Outcomes.{status_at}
 use Rattle.run_command.specs.Sessions.{Went, RunSteps}
 use Rattle.command_face.specs.Mounting.{run}
@@ -15,15 +15,15 @@ module _ {D I O : Type 0} (disk_of : D → State) (source_of : I → SourceState
     (file : List ℕ) (before now : D) (from rest : I) (out mid_out : O) (e : Ended)
     (told : IsTrue (disk_of before).tells) (four : status_at e.end ≡ 4) where
   pub never_ran : RunSteps disk_of source_of sink_of (run file) before now from rest out mid_out e
-      → NeverOpens (disk_of before).file
-  never_ran (inl (is, source, sink)) = elim is.which as (λ _. NeverOpens (disk_of before).file) [
+      → NeverServed (disk_of before).file
+  never_ran (inl (is, source, sink)) = elim is.which as (λ _. NeverServed (disk_of before).file) [
     | inl failed ↦ absurd (omega (arith, four, ap (λ (y : Ended). status_at y.end) failed.0))
     | inr gone ↦ absurd (omega (arith, four, ap (λ (y : Ended). status_at y.end) gone.0))
   ]
   never_ran (inr x) = by x.went
     where
       by : Went disk_of source_of sink_of x.first now from rest out mid_out e
-          → NeverOpens (disk_of before).file
+          → NeverServed (disk_of before).file
       by (inl (inl is, source, sink)) = never_mounted (disk_of before) (disk_of x.first) (disk_of now)
           is.fault x.mount is.opening told (sym (ap (λ (y : Ended). status_at y.end) is.ended) ∙ four)
       by (inl (inr is, source, sink)) =

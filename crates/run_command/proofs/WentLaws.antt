@@ -9,15 +9,12 @@ use Rattle.disk_face.specs.Streams.{SinkState, SourceState}
 use Rattle.disk_face.specs.declared.bay.Mounted.TheVariants.{Absent, There}
 use Rattle.disk_face.proofs.FrameLaws.{Untouched-then}
 use Rattle.size_class.specs.declared.TheConstants.{CLASSES, SIZE_MAX}
-use Rattle.map_model.specs.Maps.{Map}
-use Rattle.segment_layout.specs.Books.{Book}
 use Rattle.table_rules.specs.Opening.{Opens}
 use Rattle.store_core.specs.Connection.{StoreValue}
-use Rattle.store_core.specs.Opened.{IsOpening}
-use Rattle.reopen.specs.Refusals.{RefusesToOpen}
+use Rattle.store_core.specs.Opened.{IsOpening, RefusesStore}
 use Rattle.reopen.specs.declared.fault.OpenFault.{OpenFault}
 use Rattle.command_face.specs.Mounting.{IsMounted, mounted, run}
-use Rattle.command_face.specs.Refusing.{IsRefused, stop_of}
+use Rattle.command_face.specs.Refusing.{IsRefusedService, NeverServed, stop_of}
 use Rattle.run_command.specs.Headline.{HasMounted, IsKeptTurn, is_session}
 use Rattle.ask_session.specs.declared.ends.End.{End}
 use Rattle.ask_session.specs.declared.ends.End.TheVariants as ends
@@ -26,7 +23,7 @@ use Rattle.run_command.specs.Sessions.{IsServed, IsUnserved, KeepsRun, Went, Run
 use Rattle.command_face.specs.declared.stop.StopReason.TheVariants as stop
 use Rattle.run_command.specs.declared.run.Ended.{Ended}
 use Rattle.run_command.proofs.ClauseLaws.{SessionKeeps, session_keeps}
-use Rattle.command_face.proofs.UnopenedLaws.{status_unopened, not_status, disk_by, mount_untouched, refused_unchanged, refuses}
+use Rattle.command_face.proofs.UnopenedLaws.{status_unopened, not_status, disk_by, mount_untouched, opened_plain, refused_unchanged, refuses_service}
 
 pub not_both : {A : Type 0} → false ≡ true → A
 not_both is = absurd (cc)
@@ -266,14 +263,15 @@ module _ {D I O : Type 0} (disk_of : D → State) (source_of : I → SourceState
           in
           absurd (elim status as (λ _. ⊥) [ inl n ↦ k.served (inl n) | inr n ↦ k.served (inr (inl n)) ])
 
-  -- a file that isn't opened ends the command as its first refusal says
-  pub refused_by : IsTrue old.tells → ((m : Map) (b : Book) → Opens CLASSES SIZE_MAX old.file m b → ⊥)
+  -- a file that isn't served ends the command as its first refusal says, or as its version does
+  pub refused_by : IsTrue old.tells → NeverServed old.file
       → RunSteps disk_of source_of sink_of (run file) before now from rest out mid_out e
-      → EndsBy (IsRefused old.file) [] e.end × (mid_out ≡ out)
+      → EndsBy (IsRefusedService old.file) [] e.end × (mid_out ≡ out)
   refused_by told never (inl (is, source, sink)) = (
-    elim is.which as (λ _. EndsBy (IsRefused old.file) [] e.end) [
-      | inl failed ↦ subst (λ (y : Ended). EndsBy (IsRefused old.file) [] y.end) (sym failed.0) (inr refl)
-      | inr gone ↦ subst (λ (y : Ended). EndsBy (IsRefused old.file) [] y.end) (sym gone.0) refl
+    elim is.which as (λ _. EndsBy (IsRefusedService old.file) [] e.end) [
+      | inl failed ↦ subst (λ (y : Ended). EndsBy (IsRefusedService old.file) [] y.end) (sym failed.0)
+          (inr refl)
+      | inr gone ↦ subst (λ (y : Ended). EndsBy (IsRefusedService old.file) [] y.end) (sym gone.0) refl
     ],
     sink,
   )
@@ -288,15 +286,16 @@ module _ {D I O : Type 0} (disk_of : D → State) (source_of : I → SourceState
       never_opened : (a : State) (s : StoreValue) → IsOpening CLASSES (disk_of x.first) a (Ok s) → ⊥
       never_opened a s is =
           let o = is.opened told_first in
-          never o.m o.b (subst (λ (f : List ℕ). Opens CLASSES SIZE_MAX f o.m o.b) same_file
+          never o.m o.b (opened_plain (disk_of x.first) a s told_first is)
+          (subst (λ (f : List ℕ). Opens CLASSES SIZE_MAX f o.m o.b) same_file
           (record { table = o.table; opens = o.found }))
 
       by : Went disk_of source_of sink_of x.first now from rest out mid_out e
-          → EndsBy (IsRefused old.file) [] e.end × (mid_out ≡ out)
+          → EndsBy (IsRefusedService old.file) [] e.end × (mid_out ≡ out)
       by (inl (inl is, source, sink)) = (
-        subst (λ (y : Ended). EndsBy (IsRefused old.file) [] y.end) (sym is.ended)
-            (refuses old.file is.fault (subst (λ (f : List ℕ). RefusesToOpen CLASSES f is.fault) same_file
-            (is.opening.refused told_first))),
+        subst (λ (y : Ended). EndsBy (IsRefusedService old.file) [] y.end) (sym is.ended)
+            (refuses_service old.file is.fault (subst (λ (f : List ℕ). RefusesStore CLASSES f is.fault)
+            same_file (is.opening.refused told_first))),
         sink,
       )
       by (inl (inr is, source, sink)) = absurd (never_opened z is.store is.opening)

@@ -18,6 +18,7 @@ use Rattle.segment_layout.specs.Bounds.{Loose}
 use Rattle.table_rules.specs.Opening.{OpensBy}
 use Rattle.table_rules.specs.Sequences.{HasSequenceUpTo}
 use Rattle.store_core.specs.States.{Limits, State, served}
+use Rattle.store_core.specs.Plain.{IsPlain}
 use Rattle.store_core.specs.Opened.{ContinuesFrom, LeavesRoom, RestsOnFound}
 use Rattle.ask_text.specs.Inputs.{Asks}
 use Rattle.ask_text.specs.Replies.{reply_text}
@@ -224,10 +225,10 @@ pub record RunHolds (u : SuperBlock) (t : choice.Table) (m : Map) (b : Book) (re
       + (if o.status == 9 then next_saves (limits_with u) (last_state start ran.states) ran.others else 0)
       ≤ most_left u.k t
 
--- The headline: so it is of every file that opens, and of every input.
+-- The headline: so it is of every file of version 1 that opens, and of every input.
 abbrev pub RunPromise : Outcome → disk.State → disk.State → SourceState → SourceState → SinkState → SinkState
     → Type 0
 RunPromise o old new from rest out after =
     (t : choice.Table) (m : Map) (b : Book) (requests : List Request) (end : List ℕ)
-    → OpensBy CLASSES SIZE_MAX t old.file m b → Asks from.left requests end
+    → IsPlain b → OpensBy CLASSES SIZE_MAX t old.file m b → Asks from.left requests end
     → RunHolds t.chosen.block t m b requests end o old new from rest out after

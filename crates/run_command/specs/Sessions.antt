@@ -17,7 +17,7 @@ use Rattle.ask_session.specs.declared.ends.End.TheVariants as ends
 use Rattle.command_face.specs.Mounting.{Command, mounted}
 use Rattle.command_face.specs.Outcomes.{PutsLine, status_at}
 use Rattle.run_command.specs.Headline.{HasMounted, IsKeptTurn}
-use Rattle.command_face.specs.Refusing.{stop_of, NeverOpens}
+use Rattle.command_face.specs.Refusing.{stop_of, NeverServed}
 use Rattle.command_face.specs.declared.stop.StopReason.{StopReason}
 use Rattle.command_face.specs.declared.stop.StopReason.TheVariants as stop
 use Rattle.run_command.specs.declared.run.Ended.{Ended}
@@ -137,7 +137,7 @@ pub record HasCounted (o : Outcome) (told mounted : Type 0) : Type 0 where
 
 -- What the command that serves requests does whatever the file and the devices tell. Where no request was
 -- read the input is as it was, and the fault line is all that is put; where the file isn't there or is
--- refused, it stays as it was. One that opens isn't refused.
+-- refused, it stays as it was. One of version 1 that opens isn't refused.
 pub record RunAlways (o : Outcome) (old new : State) (from rest : SourceState) (out after : SinkState)
     (same_input : Type 0) : Type 0 where
   pub keeps : KeepsRun old new from rest out after o.status
@@ -145,7 +145,7 @@ pub record RunAlways (o : Outcome) (old new : State) (from rest : SourceState) (
   pub turn : IsKeptTurn o (HasMounted new) old.turn new.turn
   pub unread : IsUnserved o.status → same_input
   pub untouched : (o.status ≡ 3) ⊎ (o.status ≡ 4) → Untouched old new
-  pub refused : IsTrue old.tells → o.status ≡ 4 → NeverOpens old.file
+  pub refused : IsTrue old.tells → o.status ≡ 4 → NeverServed old.file
   pub line_alone : IsTrue out.tells → IsUnserved o.status → PutsLine o.status out after
 
 -- the status and the numbers of an end

@@ -5,7 +5,7 @@ ghost use Rattle.store_core.specs.Connection.{IsConnected};
 ghost use Rattle.store_core.specs.Opened.{IsOpening};
 ghost use Rattle.store_core.specs.Stores.{IsStore};
 ghost use Rattle.command_face.specs.Mounting.{IsMounted, run};
-ghost use Rattle.command_face.specs.Refusing.{IsRefused, NeverOpens};
+ghost use Rattle.command_face.specs.Refusing.{IsRefusedService, NeverServed};
 ghost use Rattle.run_command.specs.Headline.{RunPromise, is_session};
 ghost use Rattle.command_face.specs.Outcomes.{Ends};
 ghost use Rattle.run_command.specs.Sessions.{RunAlways, Went, RunSteps, end_of, ended_as, unserved};
@@ -38,8 +38,9 @@ pub fn run_file<B: Bay, I: Source, O: Sink>(
     ensures headline { IsTrue (B.state bay.old).tells → IsTrue (I.state input.old).tells
         → RunPromise result (B.state bay.old) (B.state bay.new) (I.state input.old) (I.state input.new)
         (O.state output.old) (O.state output.new) }
-    ensures refused { IsTrue (B.state bay.old).tells → NeverOpens (B.state bay.old).file
-        → Ends (IsRefused (B.state bay.old).file) result.status (O.state output.old) (O.state output.new) }
+    ensures refused { IsTrue (B.state bay.old).tells → NeverServed (B.state bay.old).file
+        → Ends (IsRefusedService (B.state bay.old).file) result.status (O.state output.old)
+        (O.state output.new) }
     ensures known { (is_session result.status ≡ true) ⊎ (result.status ≡ 4) }
     ensures mounted { IsMounted (run file.now) (B.state bay.new).last_mount (result.status ≡ 7)
         (result.status ≡ 3) }

@@ -12,7 +12,7 @@ use Rattle.map_model.specs.Requests.{Change, changed}
 use Rattle.map_model.specs.Weights.{weights, weight, same_name}
 use Rattle.map_model.proofs.MapLaws.{weights-remove, same_name-itself, name_order}
 use Rattle.segment_layout.specs.Shapes.{boundary_of, settled_caps, settled_grid}
-use Rattle.segment_layout.specs.Books.{Book, Charged, charge_one, charge_all, charge_change, item_of, old_item, new_item, found_room, is_new_buffered, buffered_after, below_class, is_quiet, trigger, next_book, volumes}
+use Rattle.segment_layout.specs.Books.{Book, Charged, charge_one, charge_all, charge_change, item_of, old_item, new_item, found_room, is_new_buffered, buffered_after, below_class, digests_after, is_quiet, trigger, next_book, volumes}
 use Rattle.segment_layout.specs.Balance.{IsBalanced}
 use Rattle.segment_layout.proofs.BalanceLaws.{HoldsBelow, bytes_in, bytes_in-other, filled_by_settling, holds_by_settling}
 use Rattle.segment_layout.specs.Balance.{IsFilled}
@@ -255,10 +255,18 @@ quiet_next : (k : ℕ) (m : Map) (book : Book) (c : Change) (charged : Charged) 
       caps = book.caps;
       grid = charged.grid;
       buffered = buffered_after book c charged;
+      digests = digests_after c book.digests;
     })
 quiet_next k m book c charged h quiet =
     let names = buffered_after book c charged in
-    balanced_from k (changed c m) (record { caps = book.caps; grid = charged.grid; buffered = names })
+    balanced_from k (changed c m)
+    (record {
+      caps = book.caps;
+      grid = charged.grid;
+      buffered = names;
+      digests = digests_after c
+          book.digests;
+    })
     h.filled
     (subst (λ limit. HoldsBelow limit book.caps charged.grid (λ d. weights (in_payload names d) (changed c m))
     (λ d. weights (in_buffers names d) (changed c m))) (quiet_limit charged quiet) h.holds)
@@ -270,6 +278,7 @@ flushed_next : (k : ℕ) (m : Map) (book : Book) (c : Change) (charged : Charged
       caps = settled_caps b book.caps (volumes (changed c m));
       grid = settled_grid b charged.grid;
       buffered = below_class b (changed c m) (buffered_after book c charged);
+      digests = digests_after c book.digests;
     }))
 flushed_next k m book c charged h =
     let b = boundary_of charged.grid (trigger charged) in
@@ -301,6 +310,7 @@ balanced_next k m book c b =
       caps = if q then book.caps else settled_caps from book.caps (volumes after);
       grid = if q then charged.grid else settled_grid from charged.grid;
       buffered = if q then names else below_class from after names;
+      digests = digests_after c book.digests;
     })) [
       | true ↦ λ quiet. quiet_next k m book c charged kept quiet
       | false ↦ λ _. flushed_next k m book c charged kept

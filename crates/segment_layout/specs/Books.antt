@@ -1,21 +1,59 @@
--- The book of a map: its segments, what its buffers have taken, and which names stand in buffers.
-use Rattle.std.specs.Prelude.{ℕ, ◌==◌, nat_lt, min, Bool, true, false, ◌&&◌, if◌then◌else◌, List, [], ◌∷◌, ◌++◌, length, map, filter, fold, drop, ◌-◌, sum_by, Option, Some, None}
+-- The book of a map: its segments, what its buffers have taken, which names stand in buffers, and in version
+-- 2 the digests of its objects.
+use Rattle.std.specs.Prelude.{ℕ, ◌==◌, nat_lt, min, Bool, true, false, ◌&&◌, if◌then◌else◌, List, [], ◌∷◌, ◌++◌, length, map, filter, fold, drop, ◌-◌, sum_by, not, bytes_eq, Option, Some, None, option_map}
 use Rattle.std.specs.List.{list_all}
 use Rattle.std.specs.FinMap as fin
 use Rattle.std.specs.FinSet as set
+use Rattle.sha2.specs.Sha256.{sha256}
 use Rattle.byte_ranges.specs.Lists.{below}
 use Rattle.size_class.specs.Classes.{width, class_of, zero_row, zero_grid}
 use Rattle.map_model.specs.Maps.{Map, name_cmp}
 use Rattle.map_model.specs.Requests.{Change, changed}
 use Rattle.segment_layout.specs.Shapes.{end_of, buffer_for, with_entry, boundary_of, settled_caps, settled_grid}
 
+-- Digests are there in version 2 alone: one for each name, the SHA-256 of its object as it was put.
 pub record Book : Type 0 where
   pub caps : List ℕ
   pub grid : List (List ℕ)
   pub buffered : set.FinSet name_cmp
+  pub digests : Option Map
 
 abbrev pub empty_book : Book
-empty_book = record { caps = zero_row; grid = zero_grid; buffered = set.empty }
+empty_book = record { caps = zero_row; grid = zero_grid; buffered = set.empty; digests = None }
+
+-- the version of the tables that have a book
+abbrev pub version_of : Book → ℕ
+version_of book = of book.digests
+  where
+    of : Option Map → ℕ
+    of None = 1
+    of (Some digests) = 2
+
+-- the same book with these digests
+abbrev pub with_digests : Option Map → Book → Book
+with_digests digests book = record book { digests = digests }
+
+-- the digests of all objects of a map
+abbrev pub digests_of : Map → Map
+digests_of m = fin.from_sorted (map (λ e. (e.0, sha256 e.1)) (fin.entries m))
+
+-- what a change does to digests: a put gives its name the SHA-256 of its object, a del takes the name's out
+abbrev pub digests_after : Change → Option Map → Option Map
+digests_after c digests =
+    option_map (changed (record { name = c.name; object = option_map sha256 c.object })) digests
+
+-- a digest isn't that of an object
+abbrev pub differs : Option (List ℕ) → Option (List ℕ) → Bool
+differs (Some digest) (Some object) = not (bytes_eq digest (sha256 object))
+differs _ _ = false
+
+-- the book has a digest for a name that isn't the SHA-256 of its object
+abbrev pub is_damaged : Book → Map → List ℕ → Bool
+is_damaged book m name = of book.digests
+  where
+    of : Option Map → Bool
+    of None = false
+    of (Some digests) = differs (fin.get digests name) (fin.get m name)
 
 -- where its layout ends
 abbrev pub book_end : ℕ → Book → ℕ
@@ -140,6 +178,7 @@ next_book k m book c =
         caps = shape.caps;
         grid = shape.grid;
         buffered = if shape.quiet then names else below_class shape.boundary (changed c m) names;
+        digests = digests_after c book.digests;
       };
     }
 

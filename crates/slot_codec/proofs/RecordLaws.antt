@@ -1,34 +1,36 @@
 -- A record has one spelling, and reading is its inverse.
-use Rattle.std.proofs.Common.{◌≡◌, ◌↔◌, ℕ, ◌+◌, ◌-◌, ◌<◌, ◌≤◌, ◌^◌, true, false, not, ◌&&◌, ◌||◌, List, [], ◌∷◌, ◌++◌, length, take, refl, sym, ap, ◌∙◌, arith, drop-cons, length-append}
-use Rattle.std.proofs.lemmas.Bool.{and_from, and_parts, le-ltb, lt-ltb, ltb-false, ltb-true, not-false, not_from_true, or_from, or_parts}
-use Rattle.std.proofs.lemmas.List.{take_all, length-replicate}
+use Rattle.std.proofs.Common.{◌≡◌, ◌↔◌, ℕ, ◌+◌, ◌-◌, ◌*◌, ◌<◌, ◌≤◌, ◌^◌, ◌==◌, Bool, true, false, not, ◌&&◌, ◌||◌, inl, inr, List, [], ◌∷◌, ◌++◌, length, take, refl, sym, ap, ◌∙◌, subst, arith, drop-cons, length-append}
+use Rattle.std.proofs.lemmas.Bool.{and_from, and_parts, le-ltb, lt-ltb, ltb-false, ltb-true, not-false, not_from_true, or_from, or_parts, cases_Bool, cond-true, cond-false}
+use Rattle.std.proofs.lemmas.List.{append-nil, take_all, length-replicate}
 use Rattle.std.specs.Prelude.{nat_lt, slice_index, Ok}
 use Rattle.byte_ranges.specs.Ranges.{bytes_at}
 use Rattle.byte_ranges.proofs.RangeLaws.{length-bytes_at}
 use Rattle.slot_codec.specs.Names.{is_name, IsName}
 use Rattle.slot_codec.proofs.NameLemmas.{name_short}
 use Rattle.slot_codec.proofs.PartLaws.{StandsAt, bytes_at-more, number_spelled, same_joined, stands_bytes, stands_index, stands_left, stands_number, stands_right, stands_whole, zeros_are_zeros, zeros_spelled}
-use Rattle.slot_codec.specs.Readable.{IsRecord}
-use Rattle.slot_codec.specs.Reading.{are_zeros, is_in_range, number_at, read_record, record_of}
-use Rattle.slot_codec.specs.Spelling.{AreBytes, number, record_bytes, zeros}
+use Rattle.slot_codec.proofs.CapLaws.{record_len-long, record_len-low, record_len-short}
+use Rattle.slot_codec.specs.Readable.{IsDigest, IsRecord}
+use Rattle.slot_codec.specs.Reading.{are_zeros, digest_at, is_in_range, number_at, read_record, record_of}
+use Rattle.slot_codec.specs.Spelling.{AreBytes, digest_bytes, number, record_bytes, record_len, zeros}
 use Rattle.slot_codec.proofs.StepLaws.{from_ok, guard_from, guard_ok}
 use Rattle.slot_codec.specs.declared.codec.Record.{Record}
 use Rattle.slot_codec.specs.declared.codec.CodecFault.TheVariants as fault
 
 -- what bytes have that are read as a record
-pub record RecordParts (bytes : List ℕ) (r : Record) : Type 0 where
+pub record RecordParts (version : ℕ) (bytes : List ℕ) (r : Record) : Type 0 where
   pub len : slice_index bytes 0 ≡ length r.name
   pub name : bytes_at bytes 1 (slice_index bytes 0) ≡ r.name
   pub padding : are_zeros (bytes_at bytes (1 + length r.name) (63 - length r.name)) ≡ true
   pub place : number_at bytes 64 ≡ r.place
   pub size : number_at bytes 72 ≡ r.size
+  pub digest : digest_at version bytes ≡ r.digest
   pub fits : IsRecord r
 
 -- what is read as a record is in range
-pub record_fits : (bytes : List ℕ) (r : Record) → read_record bytes ≡ Ok r → IsRecord r
+pub record_fits : (version : ℕ) (bytes : List ℕ) (r : Record) → read_record version bytes ≡ Ok r → IsRecord r
 unfolding read_record
-record_fits bytes r h =
-    let o = record_of bytes in
+record_fits version bytes r h =
+    let o = record_of version bytes in
     let a = guard_ok (nat_lt 63 (slice_index bytes 0) || not (is_name o.name)) _ _ r h in
     let b = guard_ok (not (are_zeros (bytes_at bytes (1 + length o.name) (63 - length o.name)))) _ _ r a.1 in
     let c = guard_ok (not (is_in_range o.place && is_in_range o.size)) _ _ r b.1 in
@@ -41,25 +43,26 @@ record_fits bytes r h =
     } in
     rw (← from_ok o r c.1) fits
 
-pub record_parts : (bytes : List ℕ) (r : Record) → length bytes ≡ 80 → read_record bytes ≡ Ok r
-    → RecordParts bytes r
+pub record_parts : (version : ℕ) (bytes : List ℕ) (r : Record) → 80 ≤ length bytes
+    → read_record version bytes ≡ Ok r → RecordParts version bytes r
 unfolding read_record
-record_parts bytes r long h =
-    let o = record_of bytes in
+record_parts version bytes r long h =
+    let o = record_of version bytes in
     let a = guard_ok (nat_lt 63 (slice_index bytes 0) || not (is_name o.name)) _ _ r h in
     let b = guard_ok (not (are_zeros (bytes_at bytes (1 + length o.name) (63 - length o.name)))) _ _ r a.1 in
     let c = guard_ok (not (is_in_range o.place && is_in_range o.size)) _ _ r b.1 in
     let named = or_parts (nat_lt 63 (slice_index bytes 0)) (not (is_name o.name)) a.0 in
     let short : slice_index bytes 0 ≤ 63 = ltb-false 63 (slice_index bytes 0) named.0 in
     let same : o ≡ r = from_ok o r c.1 in
-    let parts : RecordParts bytes o =
+    let parts : RecordParts version bytes o =
     record {
       len = sym (length-bytes_at bytes 1 (slice_index bytes 0) (omega (arith, short, long)));
       name = refl;
       padding = not-false _ b.0;
       place = refl;
       size = refl;
-      fits = rw same (record_fits bytes r h);
+      digest = refl;
+      fits = rw same (record_fits version bytes r h);
     }
     in
     rw (← same) parts
@@ -67,11 +70,30 @@ record_parts bytes r long h =
 first_byte : (bytes : List ℕ) → 0 < length bytes → bytes_at bytes 0 1 ≡ slice_index bytes 0 ∷ []
 first_byte bytes h = ap (take 1) (drop-cons bytes 0 0 h)
 
+-- what stands behind the first 80 bytes is the spelling of the digest
+digest_spelled : (version : ℕ) (bytes digest : List ℕ) → length bytes ≡ record_len version
+    → digest_at version bytes ≡ digest → bytes ≡ bytes_at bytes 0 80 ++ digest_bytes version digest
+unfolding digest_at
+digest_spelled version bytes digest len is =
+    elim (cases_Bool (version == 2)) [
+      | inl two ↦
+          let whole : length bytes ≤ 112 = omega (arith, len, record_len-long version two) in
+          let behind : bytes_at bytes 80 32 ≡ digest =
+          sym (cond-true (version == 2) (bytes_at bytes 80 32) (zeros 32) two) ∙ is in
+          sym (take_all 112 bytes whole) ∙ sym (bytes_at-more bytes 0 80 32)
+          ∙ ap (λ xs. bytes_at bytes 0 80 ++ xs) (behind ∙ sym (cond-true (version == 2) digest [] two))
+      | inr other ↦
+          let whole : length bytes ≤ 80 = omega (arith, len, record_len-short version other) in
+          sym (take_all 80 bytes whole) ∙ sym (append-nil (bytes_at bytes 0 80))
+          ∙ ap (λ xs. bytes_at bytes 0 80 ++ xs) (sym (cond-false (version == 2) digest [] other))
+    ]
+
 -- what is read as a record is its spelling
-pub record_spelled : (bytes : List ℕ) (r : Record) → length bytes ≡ 80 → AreBytes bytes
-    → read_record bytes ≡ Ok r → bytes ≡ record_bytes r
-record_spelled bytes r long are h =
-    let p = record_parts bytes r long h in
+pub record_spelled : (version : ℕ) (bytes : List ℕ) (r : Record) → length bytes ≡ record_len version
+    → AreBytes bytes → read_record version bytes ≡ Ok r → bytes ≡ record_bytes version r
+record_spelled version bytes r len are h =
+    let long : 80 ≤ length bytes = omega (arith, len, record_len-low version) in
+    let p = record_parts version bytes r long h in
     let n = length r.name in
     let short : n ≤ 63 = name_short r.name p.fits.named in
     let name : bytes_at bytes 1 n ≡ r.name = ap (bytes_at bytes 1) (sym p.len) ∙ p.name in
@@ -94,20 +116,46 @@ record_spelled bytes r long are h =
     ap (bytes_at bytes 0) e ∙ sym (bytes_at-more bytes 0 (1 + n) (63 - n))
     ∙ ap (λ k. bytes_at bytes 0 (1 + n) ++ bytes_at bytes k (63 - n)) (sym f))
     in
-    sym (take_all 80 bytes (omega (arith, long)))
-    ∙ sym (bytes_at-more bytes 0 72 8)
+    let short : bytes_at bytes 0 80
+    ≡ (n ∷ r.name) ++ zeros (63 - n) ++ number r.place ++ number r.size =
+    sym (bytes_at-more bytes 0 72 8)
     ∙ ap (λ x. x ++ bytes_at bytes 72 8) (sym (bytes_at-more bytes 0 64 8))
     ∙ ap (λ x. x ++ bytes_at bytes 64 8 ++ bytes_at bytes 72 8) named
     ∙ same_joined _ _ _ _ (n ∷ r.name) (zeros (63 - n)) (number r.place) (number r.size) front padding place
     size
+    in
+    digest_spelled version bytes r.digest len p.digest
+    ∙ ap (λ xs. xs ++ digest_bytes version r.digest) short
+
+-- the digest that is read, by what is known of the bytes
+pub digest_fits : (version : ℕ) (bytes : List ℕ) → length bytes ≡ record_len version
+    → IsDigest version (digest_at version bytes)
+unfolding digest_at
+digest_fits version bytes len =
+    elim (cases_Bool (version == 2)) [
+      | inl two ↦
+          let is : digest_at version bytes
+          ≡ bytes_at bytes 80 32 = cond-true (version == 2) (bytes_at bytes 80 32) (zeros 32) two in
+          record {
+            len = ap length is ∙ length-bytes_at bytes 80 32
+                (omega (arith, len, record_len-long version two));
+            plain = λ other. let no : true ≡ false = sym two ∙ other in cc;
+          }
+      | inr other ↦
+          let is : digest_at version bytes
+          ≡ zeros 32 = cond-false (version == 2) (bytes_at bytes 80 32) (zeros 32) other in
+          record { len = ap length is; plain = λ _. is }
+    ]
 
 -- and what has these parts is read
-pub record_from_parts : (bytes : List ℕ) (r : Record) → RecordParts bytes r → read_record bytes ≡ Ok r
+pub record_from_parts : (version : ℕ) (bytes : List ℕ) (r : Record) → RecordParts version bytes r
+    → read_record version bytes ≡ Ok r
 unfolding read_record
-record_from_parts bytes r p =
+record_from_parts version bytes r p =
     let name = p.name in
     let place = p.place in
     let size = p.size in
+    let digest = p.digest in
     let short : nat_lt 63 (slice_index bytes 0)
     ≡ false = le-ltb 63 _ (omega (arith, p.len, name_short r.name p.fits.named)) in
     let named : is_name (bytes_at bytes 1 (slice_index bytes 0)) ≡ true = ap is_name name ∙ p.fits.named in
@@ -120,12 +168,26 @@ record_from_parts bytes r p =
     guard_from _ fault.NameBytes _ (or_from _ _ short (not_from_true _ named))
     ∙ guard_from _ fault.Zeros _ (not_from_true _ padding)
     ∙ guard_from _ fault.Range _ (not_from_true _ (and_from _ _ place_low size_low))
-    ∙ λ i. Ok (record { name = name i; place = place i; size = size i })
+    ∙ λ i. Ok (record { name = name i; place = place i; size = size i; digest = digest i })
+
+-- what has the spelling of a digest behind a record has the digest
+digest_stands : (version : ℕ) (bytes digest : List ℕ) → IsDigest version digest
+    → StandsAt bytes 80 (digest_bytes version digest) → digest_at version bytes ≡ digest
+unfolding digest_at
+digest_stands version bytes digest fits all =
+    elim (cases_Bool (version == 2)) [
+      | inl two ↦
+          let is : digest_bytes version digest ≡ digest = cond-true (version == 2) digest [] two in
+          cond-true (version == 2) (bytes_at bytes 80 32) (zeros 32) two
+          ∙ stands_bytes bytes 80 32 digest fits.len (subst (StandsAt bytes 80) is all)
+      | inr other ↦ cond-false (version == 2) (bytes_at bytes 80 32) (zeros 32) other
+          ∙ sym (fits.plain other)
+    ]
 
 -- what has the spelling of a record at its start has these parts
-pub record_stands : (bytes : List ℕ) (r : Record) → IsRecord r → StandsAt bytes 0 (record_bytes r)
-    → RecordParts bytes r
-record_stands bytes r fits all =
+pub record_stands : (version : ℕ) (bytes : List ℕ) (r : Record) → IsRecord r → IsDigest version r.digest
+    → StandsAt bytes 0 (record_bytes version r) → RecordParts version bytes r
+record_stands version bytes r fits digested whole =
     let n = length r.name in
     let short : n ≤ 63 = name_short r.name fits.named in
     let front = n ∷ r.name in
@@ -134,6 +196,10 @@ record_stands bytes r fits all =
     (arith, short, length-append front (zeros (63 - n)), length-replicate {A = ℕ} (63 - n) 0) in
     let placed : length (named ++ number r.place)
     ≡ 72 = omega (arith, padded, length-append named (number r.place)) in
+    let sized : length (named ++ number r.place ++ number r.size)
+    ≡ 80 = omega (arith, placed, length-append (named ++ number r.place) (number r.size)) in
+    let all = stands_left bytes 0 (named ++ number r.place ++ number r.size) (digest_bytes version r.digest)
+    whole in
     let three = stands_left bytes 0 (named ++ number r.place) (number r.size) all in
     let two = stands_left bytes 0 named (number r.place) three in
     let one = stands_left bytes 0 front (zeros (63 - n)) two in
@@ -151,31 +217,65 @@ record_stands bytes r fits all =
           (stands_right bytes 0 64 named (number r.place) (omega (arith, padded)) three);
       size = stands_number bytes 72 r.size (omega (arith, fits.size))
           (stands_right bytes 0 72 (named ++ number r.place) (number r.size) (omega (arith, placed)) all);
+      digest = digest_stands version bytes r.digest digested
+          (stands_right bytes 0 80 (named ++ number r.place ++ number r.size)
+          (digest_bytes version r.digest) (omega (arith, sized)) whole);
       fits = fits;
     }
 
 -- the spelling of a record in range is read as it
-pub record_read : (r : Record) → IsRecord r → read_record (record_bytes r) ≡ Ok r
-record_read r fits = record_from_parts (record_bytes r) r
-    (record_stands (record_bytes r) r fits (stands_whole (record_bytes r)))
+pub record_read : (version : ℕ) (r : Record) → IsRecord r → IsDigest version r.digest
+    → read_record version (record_bytes version r) ≡ Ok r
+record_read version r fits digested = record_from_parts version (record_bytes version r) r
+    (record_stands version (record_bytes version r) r fits digested (stands_whole (record_bytes version r)))
 
 -- the length of a record's spelling
-pub length-record_bytes : (r : Record) → IsName r.name → length (record_bytes r) ≡ 80
-length-record_bytes r named =
+length-digest_bytes : (version : ℕ) (digest : List ℕ) → length digest ≡ 32
+    → 80 + length (digest_bytes version digest) ≡ record_len version
+length-digest_bytes version digest len =
+    elim (cases_Bool (version == 2)) [
+      | inl two ↦ omega (
+        arith,
+        ap length (cond-true (version == 2) digest [] two),
+        len,
+        record_len-long version two,
+      )
+      | inr other ↦ omega (
+        arith,
+        ap length (cond-false (version == 2) digest [] other),
+        record_len-short version other,
+      )
+    ]
+
+pub length-record_bytes : (version : ℕ) (r : Record) → IsName r.name → length r.digest ≡ 32
+    → length (record_bytes version r) ≡ record_len version
+length-record_bytes version r named digested =
     let n = length r.name in
     let front = n ∷ r.name in
     let padded = front ++ zeros (63 - n) in
     let short : n ≤ 63 = name_short r.name named in
     let long : length padded ≡ 64 = omega
     (arith, short, length-append front (zeros (63 - n)), length-replicate {A = ℕ} (63 - n) 0) in
-    length-append (padded ++ number r.place) (number r.size)
-    ∙ ap (λ k. k + 8) (length-append padded (number r.place) ∙ ap (λ k. k + 8) long)
+    let placed : length (padded ++ number r.place)
+    ≡ 72 = omega (arith, long, length-append padded (number r.place)) in
+    let sized : length (padded ++ number r.place ++ number r.size)
+    ≡ 80 = omega (arith, placed, length-append (padded ++ number r.place) (number r.size)) in
+    length-append (padded ++ number r.place ++ number r.size) (digest_bytes version r.digest)
+    ∙ ap (λ k. k + length (digest_bytes version r.digest)) sized
+    ∙ length-digest_bytes version r.digest digested
 
 -- bytes are read as a record exactly where they are the spelling of one in range
-pub record_exact : (bytes : List ℕ) (r : Record) → length bytes ≡ 80 → AreBytes bytes
-    → (read_record bytes ≡ Ok r) ↔ (IsRecord r × (bytes ≡ record_bytes r))
-record_exact bytes r long are = (
-  λ h. ((record_parts bytes r long h).fits, record_spelled bytes r long are h),
-  λ s. ap read_record s.1
-      ∙ record_read r s.0,
+pub record_exact : (version : ℕ) (bytes : List ℕ) (r : Record) → length bytes ≡ record_len version
+    → AreBytes bytes → (read_record version bytes ≡ Ok r)
+    ↔ (IsRecord r × IsDigest version r.digest × (bytes ≡ record_bytes version r))
+record_exact version bytes r len are = (
+  λ h.
+      let p = record_parts version bytes r (omega (arith, len, record_len-low version)) h in (
+        p.fits,
+        subst (IsDigest version) p.digest
+            (digest_fits version bytes len),
+        record_spelled version bytes r len are h,
+      ),
+  λ s. ap (read_record version) s.2
+      ∙ record_read version r s.0 s.1,
 )

@@ -6,6 +6,7 @@ use Rattle.byte_ranges.specs.Ranges.{SameBelow, SameOutside, SameWithin, bytes_a
 use Rattle.byte_ranges.proofs.RangeLaws.{bytes_at-same}
 use Rattle.slot_codec.specs.Choice.{Chosen, InUse, chosen, is_open, placed_at, records_at, records_text, sequence_at, slot_in_use}
 use Rattle.slot_codec.proofs.ChoiceLaws.{by_slot, chosen_long, chosen_of, chosen_parts, in_use_slot}
+use Rattle.slot_codec.proofs.CapLaws.{records_fit}
 use Rattle.slot_codec.proofs.HeaderLaws.{header_read, header_tests}
 use Rattle.slot_codec.proofs.PickLaws.{InUseParts, in_use_from, in_use_parts}
 use Rattle.slot_codec.specs.Readable.{IsHeader}
@@ -209,8 +210,10 @@ chosen_kept a b c v h in_b same in_use block slot =
     ∙ read_a
     in
     let few = (header_tests n (bytes_at a (slot_at n c.slot) header_len) c.header read_a).count in
-    let text = part_kept n c.slot (records_at c) (record_len * c.header.count) a b low in_a in_b same
-    (omega arith) (omega (arith, few)) in
+    let fit = records_fit n c.header.version c.header.count few in
+    let text = part_kept n c.slot (records_at c)
+    (record_len c.header.version * c.header.count) a b low in_a in_b
+    same (omega arith) (omega (arith, fit)) in
     let again : chosen_of v c.header ≡ c =
     λ i. record { block = block i; slot = slot i; header = c.header } in
     (chosen_from b v c.header in_use read_b ∙ ap (λ x. Ok x) again, text)

@@ -1,10 +1,11 @@
 -- The slot in use of a whole file, and its table, or the first refusal.
-use Rattle.std.specs.Prelude.{ℕ, zero, suc, ◌+◌, ◌*◌, ◌==◌, nat_lt, Bool, true, false, not, if◌then◌else◌, List, [], ◌∷◌, length, take, drop, slice_index, Option, Some, None, Result, Ok, Err}
+use Rattle.std.specs.Prelude.{ℕ, zero, suc, ◌+◌, ◌*◌, ◌==◌, nat_lt, Bool, true, false, not, if◌then◌else◌, List, [], ◌∷◌, length, map, take, drop, slice_index, Option, Some, None, Result, Ok, Err}
+use Rattle.std.specs.FinMap as fin
 use Rattle.std.specs.Ordering.{is_lt}
 use Rattle.byte_ranges.specs.Ranges.{bytes_at}
 use Rattle.byte_ranges.specs.Lists.{◌>>=◌}
 use Rattle.slot_codec.specs.Names.{name_cmp}
-use Rattle.slot_codec.specs.Spelling.{gate_open, slot_at, gate_at, format_gate_at, head_len, superblock_len, header_len, record_len}
+use Rattle.slot_codec.specs.Spelling.{gate_open, slot_at, gate_at, format_gate_at, head_len, superblock_len, header_len, record_len, digest_len, zeros}
 use Rattle.slot_codec.specs.Reading.{number_at, read_superblock, read_header, read_record}
 use Rattle.slot_codec.specs.declared.codec.SuperBlock.{SuperBlock}
 use Rattle.slot_codec.specs.declared.codec.Header.{Header}
@@ -80,22 +81,24 @@ abbrev pub rises : Option (List ℕ) → List ℕ → Bool
 rises None name = true
 rises (Some before) name = is_lt (name_cmp before name)
 
--- the record that 80 bytes say, behind that of a name
-abbrev pub record_after : List ℕ → Option (List ℕ) → Result Record CodecFault
-record_after bytes before =
-    read_record bytes >>= λ r.
+-- the record that bytes say in a version, behind that of a name
+abbrev pub record_after : ℕ → List ℕ → Option (List ℕ) → Result Record CodecFault
+record_after version bytes before =
+    read_record version bytes >>= λ r.
     if not (rises before r.name) then Err fault.Order else Ok r
 
 -- the first record of a text that stands at a position, behind that of a name
-abbrev pub first_record : List ℕ → ℕ → Option (List ℕ) → Result Record SlotRefusal
-first_record text at before = placed_at at (record_after (take record_len text) before)
+abbrev pub first_record : ℕ → List ℕ → ℕ → Option (List ℕ) → Result Record SlotRefusal
+first_record version text at before =
+    placed_at at (record_after version (take (record_len version) text) before)
 
 -- n records of a text that stands at a position, behind that of a name
-abbrev pub read_records : ℕ → List ℕ → ℕ → Option (List ℕ) → Result (List Record) SlotRefusal
-read_records zero text at before = Ok []
-read_records (suc n) text at before =
-    first_record text at before >>= λ r.
-    read_records n (drop record_len text) (at + record_len) (Some r.name) >>= λ rest.
+abbrev pub read_records : ℕ → ℕ → List ℕ → ℕ → Option (List ℕ) → Result (List Record) SlotRefusal
+read_records version zero text at before = Ok []
+read_records version (suc n) text at before =
+    first_record version text at before >>= λ r.
+    read_records version n (drop (record_len version) text) (at + record_len version)
+    (Some r.name) >>= λ rest.
     Ok (r ∷ rest)
 
 -- where the records of the slot in use stand, and their bytes
@@ -103,18 +106,46 @@ abbrev pub records_at : Chosen → ℕ
 records_at c = slot_at c.block.names c.slot + header_len
 
 abbrev pub records_text : List ℕ → Chosen → List ℕ
-records_text file c = bytes_at file (records_at c) (record_len * c.header.count)
+records_text file c = bytes_at file (records_at c) (record_len c.header.version * c.header.count)
 
--- the table of a file: its slot and header, and its records in order
+abbrev pub records_of : List ℕ → Chosen → Result (List Record) SlotRefusal
+records_of file c = read_records c.header.version c.header.count (records_text file c) (records_at c) None
+
+-- ---- the table
+
+-- byte strings by the names of objects
+abbrev pub Digests : Type 0
+Digests = fin.FinMap name_cmp (List ℕ)
+
+-- The table of a file: its slot and header, and in order its records without their digests. In version 2 it
+-- has a digest for each name.
 pub record Table : Type 0 where
   pub chosen : Chosen
   pub records : List Record
+  pub digests : Option Digests
 
-abbrev pub records_of : List ℕ → Chosen → Result (List Record) SlotRefusal
-records_of file c = read_records c.header.count (records_text file c) (records_at c) None
+-- a record without its digest
+abbrev pub plain : Record → Record
+plain r = record r { digest = zeros digest_len }
+
+abbrev pub digest_entry : Record → List ℕ × List ℕ
+digest_entry r = (r.name, r.digest)
+
+-- in version 2, the digests of records by their names
+abbrev pub digests_in : ℕ → List Record → Option Digests
+digests_in version records =
+    if version == 2 then Some (fin.from_entries (map digest_entry records)) else None
+
+-- the table of a slot in use with these records
+abbrev pub table_with : Chosen → List Record → Table
+table_with c records = record {
+  chosen = c;
+  records = map plain records;
+  digests = digests_in c.header.version records;
+}
 
 unfoldable pub table_of : List ℕ → Result Table SlotRefusal
 table_of file =
     chosen file >>= λ c.
     records_of file c >>= λ records.
-    Ok (record { chosen = c; records = records })
+    Ok (table_with c records)

@@ -18,9 +18,12 @@ pub use laws::{
     a_closed_slot_may_hold_anything, a_header_has_one_spelling, a_newer_slot_takes_over,
     a_record_has_one_spelling, a_superblock_has_one_spelling, a_table_has_one_spelling,
     a_table_is_kept_beside_a_changed_slot, an_older_slot_may_stay_open, names_of_a_table_rise,
-    the_slot_lies_below_the_data, too_short_for_a_table,
+    records_fit_a_slot, the_slot_lies_below_the_data, too_short_for_a_table,
 };
-pub use lengths::{GATE_OPEN, HEADER_LEN, RECORD_LEN, SUPERBLOCK_LEN, head_len, slot_len};
+pub use lengths::{
+    DIGEST_LEN, GATE_OPEN, HEADER_LEN, RECORD_LEN, SUPERBLOCK_LEN, cap, head_len, record_len,
+    slot_len,
+};
 pub use name::Name;
 pub use read::{read_record, read_record_after, read_superblock};
 pub use roll::Roll;

@@ -19,7 +19,7 @@ use Rattle.slot_codec.proofs.StepLaws.{from_ok}
 use Rattle.slot_codec.proofs.SuperBlockLaws.{superblock_read}
 use Rattle.slot_codec.specs.declared.codec.SuperBlock.{SuperBlock}
 use Rattle.slot_codec.specs.declared.codec.Header.{Header}
-use Rattle.slot_pair.specs.Formats.{HasFirstTable, HasOneMore, IsNoStore, IsNoStoreOrEmpty, IsUnfinished, block_for, first_bytes, first_header, first_in_use, first_slot, first_table, formatted_file, unsealed_file, with_first_slot}
+use Rattle.slot_pair.specs.Formats.{HasFirstTable, HasOneMore, IsNoStore, IsNoStoreOrEmpty, IsUnfinished, block_for, first_bytes, first_chosen, first_header, first_in_use, first_slot, first_table, formatted_file, unsealed_file, with_first_slot}
 
 -- a file that is no store, by what a store has
 no_store : (file : List ℕ) → ((c : Chosen) → chosen file ≡ Ok c → ⊥) → IsNoStore file
@@ -159,6 +159,7 @@ slot_written front names len =
 first_fits : (names : ℕ) → IsHeader names first_header
 unfolding first_header
 first_fits names = record {
+  version = refl;
   boundary = omega arith;
   sequence = lit< tt;
   count = omega arith;
@@ -263,7 +264,7 @@ sequence_stands : (file : List ℕ) (at : ℕ) (h : Header) → h.sequence < 2 ^
 sequence_stands file at h low all =
     let caps = flat_map number h.caps in
     let used = flat_map (flat_map number) h.used in
-    let padded = (1 ∷ kind_code h.kind ∷ h.boundary ∷ []) ++ zeros 5 in
+    let padded = (h.version ∷ kind_code h.kind ∷ h.boundary ∷ []) ++ zeros 5 in
     let to_count = padded ++ number h.sequence in
     let to_wall = to_count ++ number h.count in
     let to_slack = to_wall ++ number h.wall in
@@ -308,7 +309,7 @@ formatted_has_first k names fits =
     (formatted_pieces k names).first in
     let choice = chosen_written file (first_in_use k names) first_header in_use
     (omega (arith, fits.names_high)) (first_fits names) header in
-    record { in_use = in_use; chosen = choice; table = table_from file (first_table k names) choice refl }
+    record { in_use = in_use; chosen = choice; table = table_from file (first_chosen k names) [] choice refl }
 
 -- a file that begins as one that was formatted, but for its last byte
 unsealed_begins : (k names : ℕ) → SameBelow superblock_len (superblock_bytes (block_for k names))

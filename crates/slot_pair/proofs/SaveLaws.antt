@@ -10,11 +10,11 @@ use Rattle.slot_codec.proofs.PartLaws.{stands_left, stands_number, stands_right,
 use Rattle.slot_codec.proofs.PickLaws.{in_use_parts}
 use Rattle.slot_codec.specs.Readable.{AreInRange, IsHeader}
 use Rattle.slot_codec.specs.Reading.{number_at}
-use Rattle.slot_codec.proofs.RecordsLaws.{records_of-written}
-use Rattle.slot_codec.specs.Rolls.{IsRoll}
+use Rattle.slot_codec.proofs.RecordsLaws.{table_of-written}
+use Rattle.slot_codec.specs.Rolls.{HaveDigests, IsRoll}
 use Rattle.slot_codec.proofs.SlotLaws.{SameButSlot-below, SameButSlot-trans, SameButSlot-written, chosen_kept, chosen_written, other_closed, other_newer, other_older}
 use Rattle.slot_codec.specs.Slots.{SameButSlot}
-use Rattle.slot_codec.specs.Spelling.{gate_at, gate_open, head_len, header_bytes, header_len, kind_code, number, record_len, slot_at, slot_len, zeros}
+use Rattle.slot_codec.specs.Spelling.{gate_at, gate_open, head_len, header_bytes, header_len, kind_code, number, record_len, room_len, slot_at, slot_len, zeros}
 use Rattle.slot_codec.proofs.StepLaws.{from_ok}
 use Rattle.slot_codec.specs.declared.codec.Header.{Header}
 use Rattle.slot_codec.specs.declared.codec.Record.{Record}
@@ -22,12 +22,12 @@ use Rattle.slot_codec.specs.declared.codec.SuperBlock.{SuperBlock}
 use Rattle.slot_pair.specs.Saves.{HasTable, IsAlikeBelow, IsSaved, KeepsTable, closing_at, closing_len, next_chosen, next_header, next_in_use}
 
 -- the data part starts behind both slots
-slot_end : (names slot : ℕ) → slot ≤ 1 → slot_at names slot + slot_len names ≤ head_len names
+pub slot_end : (names slot : ℕ) → slot ≤ 1 → slot_at names slot + slot_len names ≤ head_len names
 slot_end names zero low = omega arith
 slot_end names (suc zero) low = omega arith
 slot_end names (suc (suc n)) low = absurd (omega (arith, low))
 
-other_low : (slot : ℕ) → 1 - slot ≤ 1
+pub other_low : (slot : ℕ) → 1 - slot ≤ 1
 other_low slot = omega arith
 
 -- what is written within the other slot is outside the data part
@@ -192,14 +192,14 @@ closing_beside u file image same closed = record {
 }
 
 -- and while header and records are written
-pub body_beside : (u : InUse) (file middle image : List ℕ) (n : ℕ) → n ≤ u.block.names
-    → IsBeside u file middle → SameOutside (slot_at u.block.names (1 - u.slot)) (header_len + record_len * n)
+pub body_beside : (u : InUse) (file middle image : List ℕ) (n : ℕ) → n ≤ room_len u.block.names
+    → IsBeside u file middle → SameOutside (slot_at u.block.names (1 - u.slot)) (header_len + n)
     middle image → IsBeside u file image
 body_beside u file middle image n few was same =
     let at = slot_at u.block.names (1 - u.slot) in
     record {
       same = SameOutside-trans at (slot_len u.block.names) file middle image was.same
-          (SameOutside-wider at (header_len + record_len * n) at (slot_len u.block.names) middle image
+          (SameOutside-wider at (header_len + n) at (slot_len u.block.names) middle image
           (omega arith) (omega (arith, few)) same);
       closed = ap (λ x. x == gate_open) (sym
           (same.above (gate_at u.block.names (1 - u.slot)) (omega (arith, few)))) ∙ was.closed;
@@ -234,7 +234,7 @@ pub record IsFilled (u : InUse) (h : Header) (rs : List Record) (file image : Li
 
 -- what stands below the gate stays while the gate is written
 pub gate_filled : (u : InUse) (h : Header) (rs : List Record) (file middle image : List ℕ)
-    → head_len u.block.names ≤ length file → length rs ≤ u.block.names
+    → head_len u.block.names ≤ length file → record_len h.version * length rs ≤ room_len u.block.names
     → SameOutside (slot_at u.block.names (1 - u.slot)) (slot_len u.block.names) file middle
     → HasTable (slot_at u.block.names (1 - u.slot)) (next_header u h (length rs)) rs middle
     → SameOutside (gate_at u.block.names (1 - u.slot)) 1 middle image → IsFilled u h rs file image
@@ -253,7 +253,8 @@ gate_filled u h rs file middle image long few was table same =
           (SameOutside-wider gate 1 at (slot_len names) middle image (omega arith) (omega arith) same);
       table = record {
         header = kept at header_len (omega arith) ∙ table.header;
-        records = kept (at + header_len) (record_len * length rs) (omega (arith, few)) ∙ table.records;
+        records = kept (at + header_len) (record_len h.version * length rs) (omega (arith, few))
+            ∙ table.records;
       };
     }
 
@@ -261,7 +262,7 @@ gate_filled u h rs file middle image long few was table same =
 header_sequence : (h : Header) → h.sequence < 2 ^ 64 → number_at (header_bytes h) 8 ≡ h.sequence
 header_sequence h fresh =
     let b = header_bytes h in
-    let to_padding = (1 ∷ kind_code h.kind ∷ h.boundary ∷ []) ++ zeros 5 in
+    let to_padding = (h.version ∷ kind_code h.kind ∷ h.boundary ∷ []) ++ zeros 5 in
     let to_sequence = to_padding ++ number h.sequence in
     let to_count = to_sequence ++ number h.count in
     let to_wall = to_count ++ number h.wall in
@@ -295,10 +296,14 @@ filled_in_use u h rs file image in_use fresh f gate =
 -- And its table is the one that was written, where its header isn't refused.
 pub filled_saved : (u : InUse) (h : Header) (rs : List Record) (file image : List ℕ) → slot_in_use file ≡ Ok u
     → u.block.names ≤ 65536 → IsHeader u.block.names (next_header u h (length rs)) → IsRoll rs → AreInRange rs
-    → IsFilled u h rs file image → slot_in_use image ≡ Ok (next_in_use u)
+    → HaveDigests rs → IsFilled u h rs file image → slot_in_use image ≡ Ok (next_in_use u)
     → IsSaved (next_chosen u h (length rs)) rs image
-filled_saved u h rs file image in_use names fits roll ranges f now = record {
-  slot = chosen_written image (next_in_use u) (next_header u h (length rs)) now (omega (arith, names)) fits
-      f.table.header;
-  read = records_of-written image (next_chosen u h (length rs)) rs refl roll ranges f.table.records;
-}
+filled_saved u h rs file image in_use names fits roll ranges digests f now =
+    let slot = chosen_written image (next_in_use u) (next_header u h (length rs)) now
+    (omega (arith, names)) fits
+    f.table.header in
+    record {
+      slot = slot;
+      table = table_of-written image (next_chosen u h (length rs)) rs slot refl roll ranges digests
+          f.table.records;
+    }

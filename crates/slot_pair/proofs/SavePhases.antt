@@ -6,11 +6,12 @@ use Rattle.disk_face.specs.Moments.{Rests}
 use Rattle.disk_face.proofs.MomentLaws.{Leaves-trans, Leaves-weaken}
 use Rattle.disk_face.specs.States.{State}
 use Rattle.slot_codec.specs.Choice.{Chosen, InUse, chosen, is_open, slot_in_use}
+use Rattle.slot_codec.proofs.CapLaws.{records_fit}
 use Rattle.slot_codec.proofs.ChoiceLaws.{in_use_long}
 use Rattle.slot_codec.specs.Readable.{AreInRange, IsHeader}
-use Rattle.slot_codec.specs.Reading.{all_in_range, worn_from}
-use Rattle.slot_codec.specs.Rolls.{IsRoll}
-use Rattle.slot_codec.specs.Spelling.{gate_at, head_len, header_len, record_len, slot_at}
+use Rattle.slot_codec.specs.Reading.{all_in_range, is_version, worn_from}
+use Rattle.slot_codec.specs.Rolls.{HaveDigests, IsRoll}
+use Rattle.slot_codec.specs.Spelling.{cap, gate_at, head_len, header_len, record_len, room_len, slot_at}
 use Rattle.slot_codec.specs.declared.codec.Header.{Header}
 use Rattle.slot_codec.specs.declared.codec.Record.{Record}
 use Rattle.slot_pair.proofs.SaveLaws.{IsBeside, IsFilled, alike-refl, beside_data, beside_keeps, body_beside, closing_beside, closing_data, closing_keeps, filled_in_use, filled_saved, gate_filled}
@@ -23,15 +24,18 @@ pub record Begins (u : InUse) (h : Header) (rs : List Record) (a : State) : Type
   pub in_use : slot_in_use a.file ≡ Ok u
   pub names : u.block.names ≤ 65536
   pub sequence : u.sequence < 2 ^ 62 - 1
-  pub few : length rs ≤ u.block.names
+  pub few : length rs ≤ cap u.block.names h.version
+  pub version : IsTrue (is_version h.version)
   pub whole : IsWhole h
   pub numbers : IsTrue (all_in_range h)
   pub roll : IsRoll rs
   pub ranges : AreInRange rs
+  pub digests : HaveDigests rs
 
 header_fits : {u : InUse} {h : Header} {rs : List Record} {a : State} → Begins u h rs a
     → u.sequence + 1 < worn_from h.kind → IsHeader u.block.names (next_header u h (length rs))
 header_fits b fresh = record {
+  version = b.version;
   boundary = b.whole.boundary;
   sequence = fresh;
   count = b.few;
@@ -40,6 +44,11 @@ header_fits b fresh = record {
   used_full = b.whole.used_full;
   rows_full = b.whole.rows_full;
 }
+
+-- the records lie within the slot's bytes for them
+records_inside : {u : InUse} {h : Header} {rs : List Record} {a : State} → Begins u h rs a
+    → record_len h.version * length rs ≤ room_len u.block.names
+records_inside {u} {h} {rs} b = records_fit u.block.names h.version (length rs) b.few
 
 -- while the gate is written, the table is the old one or the new one
 opening_either : {u : InUse} {old : Chosen} {h : Header} {rs : List Record} {a : State}
@@ -52,13 +61,15 @@ opening_either {u} {old} {h} {rs} {a} middle image b is fresh beside table same 
     by_gate (is_open image (gate_at u.block.names (1 - u.slot))) refl
   where
     filled : IsFilled u h rs a.file image
-    filled = gate_filled u h rs a.file middle image (in_use_long a.file u b.in_use) b.few beside.same table
+    filled = gate_filled u h rs a.file middle image (in_use_long a.file u b.in_use)
+        (records_inside b) beside.same table
         same
 
     by_gate : (x : Bool) → is_open image (gate_at u.block.names (1 - u.slot)) ≡ x
         → HasOldOrNewTable u old h rs a.file image
     by_gate true gate = inr (filled_saved u h rs a.file image b.in_use b.names (header_fits b fresh) b.roll
-        b.ranges filled (filled_in_use u h rs a.file image b.in_use (omega (arith, b.sequence)) filled gate))
+        b.ranges b.digests filled (filled_in_use u h rs a.file image b.in_use
+        (omega (arith, b.sequence)) filled gate))
     by_gate false gate = inl (beside_keeps u old a.file image b.in_use is
         (record { same = filled.same; closed = gate }))
 
@@ -116,13 +127,14 @@ module _ {u : InUse} {h : Header} {rs : List Record} {a b : State} where
       → SameOutside (gate_at u.block.names (1 - u.slot)) 1 b.file image → IsFilled u h rs a.file image
   opening_filled written image same =
       let k = written.closed in
-      gate_filled u h rs a.file b.file image (in_use_long a.file u k.begins.in_use) k.begins.few k.beside.same
+      gate_filled u h rs a.file b.file image (in_use_long a.file u k.begins.in_use)
+      (records_inside k.begins) k.beside.same
       written.table same
 
 module _ {u : InUse} {h : Header} {rs : List Record} {a b c : State} where
   -- header and records are being written
   left_within : IsClosed u h rs a b
-      → WritesWithin (slot_at u.block.names (1 - u.slot)) (header_len + record_len * length rs) b c
+      → WritesWithin (slot_at u.block.names (1 - u.slot)) (header_len + record_len h.version * length rs) b c
       → SaveLeaves u h rs a c
   left_within closed w = record {
     data_part = beside_data u a.file c.file (now c.file (w.others closed.told)).same;
@@ -133,39 +145,45 @@ module _ {u : InUse} {h : Header} {rs : List Record} {a b c : State} where
   }
     where
       now : (image : List ℕ) → SameOutside (slot_at u.block.names (1 - u.slot))
-          (header_len + record_len * length rs) b.file image → IsBeside u a.file image
-      now image same = body_beside u a.file b.file image (length rs) closed.begins.few closed.beside same
+          (header_len + record_len h.version * length rs) b.file image → IsBeside u a.file image
+      now image same = body_beside u a.file b.file image (record_len h.version * length rs)
+          (records_inside closed.begins)
+          closed.beside same
 
       left : (old : Chosen) → chosen a.file ≡ Ok old → (image : List ℕ)
-          → IsRewritten b.may_leave (slot_at u.block.names (1 - u.slot)) (header_len + record_len * length rs)
+          → IsRewritten b.may_leave (slot_at u.block.names (1 - u.slot))
+          (header_len + record_len h.version * length rs)
           image → LeavesEither u old h rs a.may_leave a.file image
       left old is image re =
           let beside = now image (subst (λ x.
-          SameOutside (slot_at u.block.names (1 - u.slot)) (header_len + record_len * length rs) x image)
+          SameOutside (slot_at u.block.names (1 - u.slot)) (header_len
+          + record_len h.version * length rs) x image)
           (closed.rests re.0 re.1) re.2) in
           with_data u old h rs a.may_leave a.file image (beside_data u a.file image beside.same)
           (inl (beside_keeps u old a.file image closed.begins.in_use is beside))
 
   -- at the place of the slot
   pub left_filling : {at : ℕ} → at ≡ slot_at u.block.names (1 - u.slot) → IsClosed u h rs a b
-      → WritesWithin at (header_len + record_len * length rs) b c → SaveLeaves u h rs a c
+      → WritesWithin at (header_len + record_len h.version * length rs) b c → SaveLeaves u h rs a c
   left_filling here closed w =
-      left_within closed (subst (λ x. WritesWithin x (header_len + record_len * length rs) b c) here w)
+      left_within closed (subst (λ x. WritesWithin x (header_len
+      + record_len h.version * length rs) b c) here w)
 
   -- they are written
   pub is_written : {at n : ℕ} → at ≡ slot_at u.block.names (1 - u.slot) → n ≡ length rs → IsClosed u h rs a b
-      → WritesWithin at (header_len + record_len * length rs) b c
+      → WritesWithin at (header_len + record_len h.version * length rs) b c
       → (IsTrue b.tells → HasTable at (next_header u h n) rs c.file) → (IsTrue b.tells → Rests c)
       → IsWritten u h rs a c
   is_written {at} {n} here count closed w table rests =
       let slot = slot_at u.block.names (1 - u.slot) in
-      let within : WritesWithin slot (header_len + record_len * length rs) b c =
-      subst (λ x. WritesWithin x (header_len + record_len * length rs) b c) here w in
+      let within : WritesWithin slot (header_len + record_len h.version * length rs) b c =
+      subst (λ x. WritesWithin x (header_len + record_len h.version * length rs) b c) here w in
       record {
         closed = record {
           begins = closed.begins;
           left = left_within closed within;
-          beside = body_beside u a.file b.file c.file (length rs) closed.begins.few closed.beside
+          beside = body_beside u a.file b.file c.file (record_len h.version * length rs)
+              (records_inside closed.begins) closed.beside
               (within.others closed.told);
           told = subst IsTrue (sym w.stays.told) closed.told;
           rests = rests closed.told;
@@ -215,5 +233,5 @@ module _ {u : InUse} {h : Header} {rs : List Record} {a b c : State} where
   opened_saved written w gate fresh =
       let k = written.closed in
       filled_saved u h rs a.file c.file k.begins.in_use k.begins.names (header_fits k.begins fresh)
-      k.begins.roll k.begins.ranges (opening_filled written c.file (w.others k.told))
+      k.begins.roll k.begins.ranges k.begins.digests (opening_filled written c.file (w.others k.told))
       (opened_in_use written w gate)

@@ -1,8 +1,8 @@
 -- What a file is formatted to, and what stands there before it is whole.
-use Rattle.std.specs.Prelude.{◌≡◌, ◌⊎◌, ℕ, ◌+◌, ◌-◌, ◌*◌, ◌<◌, ◌≤◌, false, List, [], ◌∷◌, ◌++◌, length, replicate, IsErr, Ok}
+use Rattle.std.specs.Prelude.{◌≡◌, ◌⊎◌, ℕ, ◌+◌, ◌-◌, ◌*◌, ◌<◌, ◌≤◌, false, List, [], ◌∷◌, ◌++◌, length, replicate, IsErr, None, Ok}
 use Rattle.byte_ranges.specs.Ranges.{SameBelow, overwritten, resized}
 use Rattle.slot_codec.specs.Choice as choice
-use Rattle.slot_codec.specs.Spelling.{gate_at, gate_open, head_len, header_bytes, record_len, slot_len, superblock_bytes, superblock_len, zeros}
+use Rattle.slot_codec.specs.Spelling.{gate_at, gate_open, head_len, header_bytes, room_len, slot_len, superblock_bytes, superblock_len, zeros}
 use Rattle.slot_codec.specs.declared.codec.SuperBlock.{SuperBlock}
 use Rattle.slot_codec.specs.declared.codec.Header.{Header}
 use Rattle.slot_codec.specs.declared.codec.Kind.TheVariants.{Settled}
@@ -15,6 +15,7 @@ block_for k names = record { k = k; names = names }
 unfoldable pub first_header : Header
 first_header =
     record {
+      version = 1;
       kind = Settled;
       boundary = 0;
       sequence = 1;
@@ -27,7 +28,7 @@ first_header =
 
 -- the open slot of that header, without records
 unfoldable pub first_slot : ℕ → List ℕ
-first_slot names = header_bytes first_header ++ zeros (record_len * names) ++ gate_open ∷ []
+first_slot names = header_bytes first_header ++ zeros (room_len names) ++ gate_open ∷ []
 
 -- all bytes but the last: the superblock, that slot, and a slot that was never written
 unfoldable pub unsealed_file : ℕ → ℕ → List ℕ
@@ -56,7 +57,7 @@ abbrev pub first_chosen : ℕ → ℕ → choice.Chosen
 first_chosen k names = record { block = block_for k names; slot = 0; header = first_header }
 
 abbrev pub first_table : ℕ → ℕ → choice.Table
-first_table k names = record { chosen = first_chosen k names; records = [] }
+first_table k names = record { chosen = first_chosen k names; records = []; digests = None }
 
 -- the table of a file is that of a store that was just formatted
 pub record HasFirstTable (k names : ℕ) (file : List ℕ) : Type 0 where

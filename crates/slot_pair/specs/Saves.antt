@@ -34,10 +34,10 @@ pub record KeepsTable (c : choice.Chosen) (file image : List ℕ) : Type 0 where
   pub same_slot : choice.chosen image ≡ Ok c
   pub same_records : choice.records_text image c ≡ choice.records_text file c
 
--- a file has this slot in use with this header, and these records
+-- a file has this slot in use with this header, and the table of these records
 pub record IsSaved (c : choice.Chosen) (records : List Record) (image : List ℕ) : Type 0 where
   pub slot : choice.chosen image ≡ Ok c
-  pub read : choice.records_of image c ≡ Ok records
+  pub table : choice.table_of image ≡ Ok (choice.table_with c records)
 
 -- What a save may leave at any moment, from images that had `may_leave`: the old table beside what an
 -- old image, or the content, has from the data on; or the new table beside what the content has there.
@@ -92,7 +92,8 @@ closing_len u = if u.other_open then 1 else 8
 -- a header, and behind it records, stand at a position
 pub record HasTable (at : ℕ) (h : Header) (rs : List Record) (file : List ℕ) : Type 0 where
   pub header : bytes_at file at header_len ≡ header_bytes h
-  pub records : bytes_at file (at + header_len) (record_len * length rs) ≡ flat_map record_bytes rs
+  pub records : bytes_at file (at + header_len) (record_len h.version * length rs)
+      ≡ flat_map (record_bytes h.version) rs
 
 -- what the types of a header's fields say of it
 pub record IsWhole (h : Header) : Type 0 where

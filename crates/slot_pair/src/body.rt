@@ -1,6 +1,7 @@
 //! Writing the body of a slot: a header, and the records behind it.
 ghost use Rattle.std.specs.Prelude.{◌≡◌, ◌+◌, ◌*◌, ◌/◌, ◌^◌, ◌<◌, ◌≤◌, OnOk, IsTrue, drop, flat_map, length, take};
 ghost use Rattle.byte_ranges.specs.Ranges.{bytes_at};
+ghost use Rattle.slot_codec.specs.Reading.{is_version};
 ghost use Rattle.slot_codec.specs.Spelling.{header_bytes, header_len, record_bytes, record_len};
 ghost use Rattle.disk_face.specs.Counts.{HasCause, counted};
 ghost use Rattle.disk_face.specs.Frames.{Calls};
@@ -9,7 +10,7 @@ ghost use Rattle.slot_pair.specs.Saves.{HasTable};
 ghost use Rattle.disk_face.specs.Writes.{WritesWithin};
 
 use disk_face::{Disk, DiskFault};
-use slot_codec::{HEADER_LEN, Header, RECORD_LEN, Roll, write_header, write_record};
+use slot_codec::{HEADER_LEN, Header, Roll, record_len, write_header, write_record};
 
 /// How many records one write has at most.
 const RECORDS_A_WRITE: u64 = 512;
@@ -23,14 +24,17 @@ pub fn write_table<D: Disk, R: Roll>(
     buf: &mut [u8],
 ) -> Result<(), DiskFault>
     requires ready { IsTrue (D.state disk.old).is_ready }
-    requires room { 40960 ≤ length buf.old }
-    requires fits { at + header_len + record_len * length (R.records roll.now) < 2 ^ 63 }
+    requires version { IsTrue (is_version header.now.version) }
+    requires room { 57344 ≤ length buf.old }
+    requires fits { at + header_len + record_len header.now.version * length (R.records roll.now) < 2 ^ 63 }
     requires within { IsTrue (D.state disk.old).tells
-        → at + header_len + record_len * length (R.records roll.now) ≤ length (D.state disk.old).file }
+        → at + header_len + record_len header.now.version * length (R.records roll.now)
+        ≤ length (D.state disk.old).file }
     ensures table { IsTrue (D.state disk.old).tells
         → OnOk result (HasTable at header.now (R.records roll.now) (D.state disk.new).file) }
     ensures rests { IsTrue (D.state disk.old).tells → OnOk result (Rests (D.state disk.new)) }
-    ensures writes { WritesWithin at (header_len + record_len * length (R.records roll.now))
+    ensures writes { WritesWithin at (header_len + record_len header.now.version * length
+        (R.records roll.now))
         (D.state disk.old) (D.state disk.new) }
     ensures calls { Calls (2 + (length (R.records roll.now) + 511) / 512) (D.state disk.old)
         (D.state disk.new) result }
@@ -48,19 +52,22 @@ fn put_table<D: Disk, R: Roll>(
     buf: &mut [u8],
 ) -> Result<(), DiskFault>
     requires ready { IsTrue (D.state disk.old).is_ready }
-    requires room { 40960 ≤ length buf.old }
-    requires fits { at + header_len + record_len * length (R.records roll.now) < 2 ^ 63 }
+    requires version { IsTrue (is_version header.now.version) }
+    requires room { 57344 ≤ length buf.old }
+    requires fits { at + header_len + record_len header.now.version * length (R.records roll.now) < 2 ^ 63 }
     requires within { IsTrue (D.state disk.old).tells
-        → at + header_len + record_len * length (R.records roll.now) ≤ length (D.state disk.old).file }
+        → at + header_len + record_len header.now.version * length (R.records roll.now)
+        ≤ length (D.state disk.old).file }
     ensures table { IsTrue (D.state disk.old).tells
         → OnOk result (HasTable at header.now (R.records roll.now) (D.state disk.new).file) }
-    ensures writes { WritesWithin at (header_len + record_len * length (R.records roll.now))
+    ensures writes { WritesWithin at (header_len + record_len header.now.version * length
+        (R.records roll.now))
         (D.state disk.old) (D.state disk.new) }
     ensures calls { Calls (1 + (length (R.records roll.now) + 511) / 512) (D.state disk.old)
         (D.state disk.new) result }
 {
     put_header(disk, at, header, buf)?;
-    put_records(disk, at + HEADER_LEN as u64, roll, buf)
+    put_records(disk, at + HEADER_LEN as u64, header.version, roll, buf)
 }
 
 /// Writes a header at a position.
@@ -87,18 +94,49 @@ fn put_header<D: Disk>(
 fn put_records<D: Disk, R: Roll>(
     disk: &mut D,
     at: u64,
+    version: u8,
     roll: &R,
     buf: &mut [u8],
 ) -> Result<(), DiskFault>
     requires ready { IsTrue (D.state disk.old).is_ready }
-    requires room { 40960 ≤ length buf.old }
-    requires fits { at + record_len * length (R.records roll.now) < 2 ^ 63 }
+    requires version { IsTrue (is_version version) }
+    requires room { 57344 ≤ length buf.old }
+    requires fits { at + record_len version * length (R.records roll.now) < 2 ^ 63 }
     requires within { IsTrue (D.state disk.old).tells
-        → at + record_len * length (R.records roll.now) ≤ length (D.state disk.old).file }
+        → at + record_len version * length (R.records roll.now) ≤ length (D.state disk.old).file }
     ensures records { IsTrue (D.state disk.old).tells
-        → OnOk result (bytes_at (D.state disk.new).file at (record_len * length (R.records roll.now))
-        ≡ flat_map record_bytes (R.records roll.now)) }
-    ensures writes { WritesWithin at (record_len * length (R.records roll.now)) (D.state disk.old)
+        → OnOk result (bytes_at (D.state disk.new).file at (record_len version * length (R.records roll.now))
+        ≡ flat_map (record_bytes version) (R.records roll.now)) }
+    ensures writes { WritesWithin at (record_len version * length (R.records roll.now)) (D.state disk.old)
+        (D.state disk.new) }
+    ensures calls { Calls ((length (R.records roll.now) + 511) / 512) (D.state disk.old) (D.state disk.new)
+        result }
+{
+    put_pieces(disk, at, version, record_len(version), roll, buf)
+}
+
+/// Writes the records at a position, each of which takes `len` bytes.
+fn put_pieces<D: Disk, R: Roll>(
+    disk: &mut D,
+    at: u64,
+    version: u8,
+    len: usize,
+    roll: &R,
+    buf: &mut [u8],
+) -> Result<(), DiskFault>
+    requires ready { IsTrue (D.state disk.old).is_ready }
+    requires version { IsTrue (is_version version) }
+    requires len { len ≡ record_len version }
+    requires low { 80 ≤ len }
+    requires short { len ≤ 112 }
+    requires room { 57344 ≤ length buf.old }
+    requires fits { at + len * length (R.records roll.now) < 2 ^ 63 }
+    requires within { IsTrue (D.state disk.old).tells
+        → at + len * length (R.records roll.now) ≤ length (D.state disk.old).file }
+    ensures records { IsTrue (D.state disk.old).tells
+        → OnOk result (bytes_at (D.state disk.new).file at (len * length (R.records roll.now))
+        ≡ flat_map (record_bytes version) (R.records roll.now)) }
+    ensures writes { WritesWithin at (len * length (R.records roll.now)) (D.state disk.old)
         (D.state disk.new) }
     ensures calls { Calls ((length (R.records roll.now) + 511) / 512) (D.state disk.old) (D.state disk.new)
         result }
@@ -107,11 +145,8 @@ fn put_records<D: Disk, R: Roll>(
     'pieces: for piece in 0..(count + 511) / RECORDS_A_WRITE {
         let first = RECORDS_A_WRITE * piece;
         let n = (count - first).min(RECORDS_A_WRITE);
-        spell_records(roll, first, n, buf);
-        disk.write_at(
-            at + RECORD_LEN as u64 * first,
-            &buf[..RECORD_LEN * n as usize],
-        )?;
+        spell_records(roll, version, len, first, n, buf);
+        disk.write_at(at + len as u64 * first, &buf[..len * n as usize])?;
     }
     Ok(())
 }
@@ -126,17 +161,21 @@ fn spell_header(header: &Header, out: &mut [u8]) -> usize
     HEADER_LEN
 }
 
-/// Spells `n` records from record `first` on.
-fn spell_records<R: Roll>(roll: &R, first: u64, n: u64, out: &mut [u8])
-    requires fits { first + n < 2 ^ 63 }
+/// Spells `n` records from record `first` on, each of which takes `len` bytes.
+fn spell_records<R: Roll>(roll: &R, version: u8, len: usize, first: u64, n: u64, out: &mut [u8])
+    requires version { IsTrue (is_version version) }
+    requires len { len ≡ record_len version }
+    requires short { len ≤ 112 }
+    requires few { n ≤ 512 }
     requires some { first + n ≤ length (R.records roll.now) }
-    requires room { record_len * n ≤ length out.old }
-    ensures { take (record_len * n) out.new
-        ≡ flat_map record_bytes (take n (drop first (R.records roll.now))) }
+    requires fits { first + n < 2 ^ 63 }
+    requires room { len * n ≤ length out.old }
+    ensures { take (len * n) out.new
+        ≡ flat_map (record_bytes version) (take n (drop first (R.records roll.now))) }
 {
     'records: for i in 0..n {
         let record = roll.nth(first + i);
-        let at = RECORD_LEN * i as usize;
-        write_record(&record, &mut out[at..at + RECORD_LEN]);
+        let at = len * i as usize;
+        write_record(&record, version, &mut out[at..at + len]);
     }
 }

@@ -4,8 +4,8 @@ ghost use Rattle.disk_face.specs.Frames.{Calls, Unchanged};
 ghost use Rattle.disk_face.specs.Moments.{Rests};
 ghost use Rattle.slot_codec.specs.Choice.{chosen, slot_in_use};
 ghost use Rattle.slot_codec.specs.Readable.{AreInRange, IsSuperBlock};
-ghost use Rattle.slot_codec.specs.Reading.{all_in_range, worn_from};
-ghost use Rattle.slot_codec.specs.Spelling.{head_len};
+ghost use Rattle.slot_codec.specs.Reading.{all_in_range, is_version, worn_from};
+ghost use Rattle.slot_codec.specs.Spelling.{cap, head_len, slot_at};
 ghost use Rattle.slot_pair.specs.Finding.{HasDiskCause, Refuses, chosen_header, in_use_of};
 ghost use Rattle.slot_pair.specs.Saves.{IsSaved, SaveLeaves, next_chosen, next_in_use, save_calls};
 ghost use Rattle.disk_face.specs.Writes.{KeepsDisk};
@@ -79,9 +79,17 @@ impl SlotPair {
         self.found.sequence
     }
 
+    /// Where the slot in use begins, in bytes from the start of the file.
+    pub fn place(&self) -> u64
+        ensures { result ≡ slot_at self.now.block.names self.now.slot }
+    {
+        slot_at(self.found.block.names, self.found.slot)
+    }
+
     /// Saves the next checkpoint into the slot that isn't in use, and answers its sequence, which is
     /// one greater than the pair's. Its header is the one given, but for the sequence and the count;
-    /// its records are those of the roll, in order. `buf` has at least 40,960 bytes. The changing
+    /// its records are those of the roll, in order, with their digests in version 2. `buf` has at least
+    /// 57,344 bytes, those of 512 records of version 2. The changing
     /// calls come in a fixed order: the other gate is closed where it is open, else zeros are written
     /// over the sequence behind it; sync; the header; the records, up to 512 in one write; sync; the
     /// gate is opened; sync. Before the first sync a crash leaves the old table beside an old data
@@ -95,11 +103,12 @@ impl SlotPair {
         buf: &mut [u8],
     ) -> Result<u64, DiskFault>
         requires ready { IsTrue (D.state disk.old).is_ready }
-        requires room { 40960 ≤ length buf.old }
+        requires room { 57344 ≤ length buf.old }
         requires fresh { self.old.sequence < 2 ^ 62 - 1 }
+        requires version { IsTrue (is_version header.now.version) }
         requires ranges { IsTrue (all_in_range header.now) }
         requires records { AreInRange (R.records roll.now) }
-        requires count { length (R.records roll.now) ≤ self.old.block.names }
+        requires count { length (R.records roll.now) ≤ cap self.old.block.names header.now.version }
         requires long { IsTrue (D.state disk.old).tells
             → head_len self.old.block.names ≤ length (D.state disk.old).file }
         requires in_use { IsTrue (D.state disk.old).tells

@@ -31,7 +31,8 @@ use Rattle.flush_run.specs.FlushFrames.{IsMidFlush, FlushFrame, IsOldOrNew, Leav
 use Rattle.flush_run.specs.Parts.{HandsValue}
 use Rattle.flush_run.specs.Runs.{CanResume}
 use Rattle.reopen.specs.declared.state.Loaded.{Loaded}
-use Rattle.reopen.specs.Loads.{IsLoadedFrom, KeepsLoaded, table_seen}
+use Rattle.reopen.specs.Loads.{KeepsLoaded}
+use Rattle.store_core.specs.Plain.{IsPlainFrom, plain_seen}
 use Rattle.store_core.specs.Opened.{IsFoundImage, LeavesRoom, RestsOnFound, RoomOf, most_by}
 use Rattle.store_core.specs.Resuming.{PacksAgain, StartsAgain}
 use Rattle.store_core.proofs.MovingLaws.{again, book_saved, hands_again, numbers, same_divisor, whole}
@@ -120,9 +121,9 @@ module _ {C : ℕ} (x : Loaded C) (loads : KeepsLoaded x) (moving : x.header.kin
 
   -- ---- the disk that it was read from
 
-  module _ (first : disk.State) (from : IsLoadedFrom first.file x) where
+  module _ (first : disk.State) (from : IsPlainFrom first.file x) where
     abbrev t : choice.Table
-    t = table_seen x
+    t = plain_seen x
 
     abbrev n : ℕ
     n = length first.file - head_len x.block.names
@@ -189,7 +190,7 @@ module _ {C : ℕ} (x : Loaded C) (loads : KeepsLoaded x) (moving : x.header.kin
       }
 
   -- where the disk tells nothing, it may go on too
-  pub some_again : (first : disk.State) → (IsTrue first.tells → IsLoadedFrom first.file x)
+  pub some_again : (first : disk.State) → (IsTrue first.tells → IsPlainFrom first.file x)
       → (f : FlushFrame) × CanResume C f y p first
   some_again first from = elim (cases_Bool first.tells) as (λ _. (f : FlushFrame) × CanResume C f y p first) [
     | inl told ↦ (
@@ -209,21 +210,21 @@ module _ {C : ℕ} (x : Loaded C) (loads : KeepsLoaded x) (moving : x.header.kin
 
   module _ (first last : disk.State) (most : ℕ) (few_most : most ≤ x.header.sequence + (2 ^ 18 - 1))
       (left : (f : FlushFrame) → CanResume C f y p first → IsTrue first.tells
-      → LeavesOldOrNew f most first last) (told : IsTrue first.tells) (from : IsLoadedFrom first.file x) where
-    room_is : LeavesRoom (table_seen x) → x.header.sequence + 2 ^ 19 ≤ 2 ^ 62
+      → LeavesOldOrNew f most first last) (told : IsTrue first.tells) (from : IsPlainFrom first.file x) where
+    room_is : LeavesRoom (plain_seen x) → x.header.sequence + 2 ^ 19 ≤ 2 ^ 62
     room_is leaves = subst (λ z. RoomOf z x.header.sequence) moving leaves
 
-    pub content_again : LeavesRoom (table_seen x)
-        → IsFoundImage C (table_seen x) (m first from) (b first from) (length first.file) last.file
+    pub content_again : LeavesRoom (plain_seen x)
+        → IsFoundImage C (plain_seen x) (m first from) (b first from) (length first.file) last.file
     content_again leaves =
-        let given : IsTrue false → RestsOnFound (table_seen x) first =
+        let given : IsTrue false → RestsOnFound (plain_seen x) first =
         λ e. absurd (let z : false ≡ true = e in cc) in
         found_again first from true false given (λ _. room_is leaves) most few_most last.file
         (left _ (can_told first from true false given (λ _. room_is leaves)) told refl).1
 
-    pub left_again : LeavesRoom (table_seen x) → RestsOnFound (table_seen x) first
-        → Leaves first last (IsFoundImage C (table_seen x) (m first from) (b first from) (length first.file))
-    left_again leaves rests = Leaves-weaken (IsFoundImage C (table_seen x) (m first from) (b first from)
+    pub left_again : LeavesRoom (plain_seen x) → RestsOnFound (plain_seen x) first
+        → Leaves first last (IsFoundImage C (plain_seen x) (m first from) (b first from) (length first.file))
+    left_again leaves rests = Leaves-weaken (IsFoundImage C (plain_seen x) (m first from) (b first from)
         (length first.file))
         (found_again first from true true (λ _. rests) (λ _. room_is leaves) most few_most)
         ((left _ (can_told first from true true (λ _. rests) (λ _. room_is leaves)) told refl).0 refl)

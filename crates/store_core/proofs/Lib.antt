@@ -1,6 +1,9 @@
 pub mod PieceLaws
 pub mod StateLaws
 pub mod StepLaws
+pub mod PlainLaws
+mod PlainLemmas
+mod VersionLaws
 pub mod StoreLaws
 pub mod ReadingLaws
 pub mod LineLaws

@@ -34,7 +34,7 @@ use Rattle.placement_model.specs.Laid.{laid, moving_header}
 use Rattle.placement_model.proofs.EnterLaws.{by_name}
 use Rattle.placement_model.proofs.GoneLaws.{apart_by_name}
 use Rattle.placement_model.proofs.GuardLaws.{freed_nothing}
-use Rattle.placement_model.proofs.LaidLaws.{valid_numbered}
+use Rattle.store_core.proofs.VersionLaws.{valid_as}
 use Rattle.placement_model.proofs.LaidOutLaws.{class_in_use}
 use Rattle.placement_model.proofs.QuietLaws.{IsGrid-wider}
 use Rattle.flush_model.specs.declared.item.Item.{Item}
@@ -162,12 +162,20 @@ module _ {C : ℕ} (x : Loaded C) (loads : KeepsLoaded x) (moving : x.header.kin
     abbrev saved : Header
     saved = moving_header b wall slack caps grid
 
-    saved_is : x.header ≡ record saved { sequence = x.header.sequence; count = x.header.count }
+    saved_is : x.header ≡ record saved {
+      version = x.header.version;
+      sequence = x.header.sequence;
+      count = x.header.count;
+    }
     saved_is = header_is ∙ (λ i. record h { caps = sym caps_stay i; used = sym grid_stays i })
 
     valid_saved : IsValid (laid C SIZE_MAX k n saved now)
-    valid_saved = valid_numbered 0 0
-        (laid C SIZE_MAX k n (record saved { sequence = x.header.sequence; count = x.header.count }) now)
+    valid_saved = valid_as 1 0 0
+        (laid C SIZE_MAX k n (record saved {
+          version = x.header.version;
+          sequence = x.header.sequence;
+          count = x.header.count;
+        }) now)
         (subst (λ (y : Header). IsValid (laid C SIZE_MAX k n y now)) saved_is
         (subst (λ q. IsValid (laid C SIZE_MAX q n x.header now)) same_k v))
 

@@ -1,6 +1,6 @@
 -- What opening finds in a file, and that each image that is alike on its table opens to the same.
 use Rattle.std.specs.Prelude.{◌≡◌, ℕ, ◌+◌, ◌-◌, ◌≤◌, ◌<◌, List, length, slice_index_or, Ok, Err, IfOk, IfErr, IsTrue, Result, refl}
-use Rattle.std.proofs.Common.{arith, ap, sym, ◌∙◌, subst}
+use Rattle.std.proofs.Common.{arith, ap, inl, sym, ◌∙◌, subst}
 use Rattle.byte_ranges.specs.Ranges.{SameBelow, SameWithin}
 use Rattle.disk_face.specs.States as disk
 use Rattle.disk_face.specs.Frames.{Unchanged}
@@ -19,7 +19,7 @@ use Rattle.table_rules.proofs.SequenceLaws.{sequence_of_table}
 use Rattle.slot_pair.specs.Finding.{HasDiskCause}
 use Rattle.slot_pair.specs.declared.find.SlotFault.TheVariants as slot
 use Rattle.map_model.specs.Maps.{Map}
-use Rattle.segment_layout.specs.Books.{Book}
+use Rattle.segment_layout.specs.Books.{Book, with_digests}
 use Rattle.table_rules.specs.Objects.{HasRoomFor}
 use Rattle.table_rules.specs.Opening.{Opens, OpensBy, placed_table}
 use Rattle.table_rules.specs.Tables.{book_of, map_of, no_record}
@@ -30,11 +30,10 @@ use Rattle.placement_model.proofs.OpenedLaws.{opens_long, record_within}
 use Rattle.placement_model.proofs.ReadLaws.{record_at, spot_of_record}
 use Rattle.flush_run.specs.Calls.{piece_calls}
 use Rattle.flush_run.proofs.CallLaws.{calls_none, calls_wider}
-use Rattle.reopen.specs.Refusals.{RefusesToOpen}
 use Rattle.reopen.specs.declared.fault.OpenFault.{OpenFault}
 use Rattle.reopen.specs.declared.fault.OpenFault.TheVariants as fault
 use Rattle.store_core.specs.Connection.{IsOver, StoreValue, SameOnTable, base_of, state_of}
-use Rattle.store_core.specs.Opened.{HasOpenCalls, IsFoundImage, IsOpened, IsOpening, OpensFound, RefusesUnchanged, RestsOnFound, SameOnFound, found_base, MostCallsOf, most_by, most_found, state_at}
+use Rattle.store_core.specs.Opened.{HasOpenCalls, IsFoundImage, IsOpened, IsOpening, OpensFound, RefusesStore, RefusesUnchanged, RestsOnFound, SameOnFound, found_base, MostCallsOf, most_by, most_found, state_at}
 use Rattle.store_core.specs.Stores.{IsStore}
 use Rattle.store_core.proofs.OverLaws.{by_index, head_is}
 
@@ -56,7 +55,8 @@ found_one classes t u file m n b c o p =
       same_table = same;
       same_map = o.same_map ∙ (λ i. map_of (head_len (same i).chosen.block.names) file (same i).records)
           ∙ sym p.same_map;
-      same_book = o.same_book ∙ (λ i. book_of (placed_table classes SIZE_MAX file (same i)))
+      same_book = o.same_book
+          ∙ (λ i. with_digests (same i).digests (book_of (placed_table classes SIZE_MAX file (same i))))
           ∙ sym p.same_book;
     }
 
@@ -202,7 +202,7 @@ no_memory classes a ready =
       opened = λ told. tt;
       over = λ told. tt;
       fresh = tt;
-      refused = λ told. tt;
+      refused = λ told. inl tt;
       found = λ told t m b o. stops_unchanged same told o fault.NoMemory;
       unchanged = same;
       closed = λ told none. same;
@@ -222,7 +222,7 @@ refuses_same a m (fault.Table broken) same = same
 refuses_same a m fault.NoMemory same = same
 
 pub refused_reading : {T : Type 0} (classes : ℕ) (a m : disk.State) (why : OpenFault) → Unchanged a m
-    → (IsTrue a.tells → RefusesToOpen classes a.file why)
+    → (IsTrue a.tells → RefusesStore classes a.file why)
     → HasDiskCause {T = T} (fault.Slot slot.Disk) a.faults m.faults (Err why)
     → IsOpening classes a m (Err why)
 refused_reading classes a m why same refused cause = record {
@@ -270,7 +270,7 @@ module _ {classes : ℕ} {a m d : disk.State} (same : Unchanged a m) (calm : m.f
         (next.opened (still_tells told));
     over = λ told. next.over (still_tells told);
     fresh = next.fresh;
-    refused = λ told. subst (λ f. IfErr result (RefusesToOpen classes f)) (same.same_file told)
+    refused = λ told. subst (λ f. IfErr result (RefusesStore classes f)) (same.same_file told)
         (next.refused (still_tells told));
     found = λ told t n b o. opens_then same told o (next.found (still_tells told) t n b
         (subst (λ f. OpensBy classes SIZE_MAX t f n b) (sym (same.same_file told)) o));

@@ -37,7 +37,8 @@ use Rattle.flush_run.specs.Hands.{HandsMatchPlan}
 use Rattle.flush_run.proofs.LaidPlaceLaws.{new_cap}
 use Rattle.reopen.specs.declared.fault.OpenFault.TheVariants as fault_of
 use Rattle.reopen.specs.declared.state.Loaded.{Loaded}
-use Rattle.reopen.specs.Loads.{IsLoadedFrom, KeepsLoaded, table_seen}
+use Rattle.reopen.specs.Loads.{KeepsLoaded}
+use Rattle.store_core.specs.Plain.{IsPlainFrom, plain_seen}
 use Rattle.store_core.specs.Connection.{StoreValue, opened_store}
 use Rattle.store_core.specs.Flushed.{IsFlushed}
 use Rattle.store_core.specs.Opened.{ContinuesFrom, IsFresh, IsOpened, IsOpening, LeavesAlone, MostCallsOf, MovesOn, OpenCallsOf, OpensFound}
@@ -51,7 +52,7 @@ use Rattle.store_core.proofs.OpeningLaws.{found_by, found_one}
 module _ {C : ℕ} (x : Loaded C) (loads : KeepsLoaded x) (moving : x.header.kind ≡ kind.Moving) (few : C ≤ 32)
     (wide : SIZE_MAX < 2 ^ C) (y : HandsValue) (starts : StartsAgain x y) (p : PlanState)
     (packs : PacksAgain x p) (first last : disk.State)
-    (from : IsTrue first.tells → IsLoadedFrom first.file x)
+    (from : IsTrue first.tells → IsPlainFrom first.file x)
     (hands : Hands C) (left : (f : FlushFrame) → CanResume C f y p first → IsTrue first.tells
     → LeavesOldOrNew f (hands.slots.sequence + 1) first last)
     (made : HasRun p.numbers.boundary p.items first last y (parts_of hands))
@@ -149,8 +150,8 @@ module _ {C : ℕ} (x : Loaded C) (loads : KeepsLoaded x) (moving : x.header.kin
           (subst (λ z. CallsSoFar first.turn last.turn z (cells_of hands.ledger.moved) more
           (hands.slots.sequence - y.in_use.sequence + saves) (fin.len y.table.now)) starts.moved calls))
 
-      again_most : MostCallsOf x.header.kind (table_seen x) f.new_map first.turn last.turn
-      again_most = subst (λ z. MostCallsOf z (table_seen x) f.new_map first.turn last.turn) (sym moving)
+      again_most : MostCallsOf x.header.kind (plain_seen x) f.new_map first.turn last.turn
+      again_most = subst (λ z. MostCallsOf z (plain_seen x) f.new_map first.turn last.turn) (sym moving)
           (record {
             moved = cells_of hands.ledger.moved;
             saves = hands.slots.sequence - x.header.sequence;
@@ -159,7 +160,7 @@ module _ {C : ℕ} (x : Loaded C) (loads : KeepsLoaded x) (moving : x.header.kin
             calls = calls_are (piece_calls + 2) 1 made.most;
           })
 
-      again_alone : LeavesAlone (table_seen x) f.new_book first last
+      again_alone : LeavesAlone (plain_seen x) f.new_book first last
       again_alone settled low = absurd (let e : kind.Moving ≡ kind.Settled = sym moving ∙ settled in cc)
 
     -- the disk failed
@@ -169,9 +170,9 @@ module _ {C : ℕ} (x : Loaded C) (loads : KeepsLoaded x) (moving : x.header.kin
       opened = λ told. tt;
       over = λ told. tt;
       fresh = tt;
-      refused = λ told. tt;
+      refused = λ told. inl tt;
       found = λ told t m b o.
-          found_by (found_one C (table_seen x) t first.file _ m _ b (from told).opens o) (record {
+          found_by (found_one C (plain_seen x) t first.file _ m _ b (from told).opens o) (record {
             content = content_again x loads moving few wide y starts p packs first last
                 (hands.slots.sequence + 1) few_most
                 left told
@@ -185,7 +186,7 @@ module _ {C : ℕ} (x : Loaded C) (loads : KeepsLoaded x) (moving : x.header.kin
             alone = again_alone told;
           });
       unchanged = tt;
-      closed = λ told none. absurd (none _ _ (record { table = table_seen x; opens = (from told).opens }));
+      closed = λ told none. absurd (none _ _ (record { table = plain_seen x; opens = (from told).opens }));
       frame = made.keeps.disk;
       cause = record { later = cause.later; rose = λ is. cause.rose; calm = λ other. absurd (other refl) };
     }
@@ -271,7 +272,7 @@ module _ {C : ℕ} (x : Loaded C) (loads : KeepsLoaded x) (moving : x.header.kin
 
         again_opened : IsOpened C first.file last.file s
         again_opened = record {
-          table = table_seen x;
+          table = plain_seen x;
           m = here.new_map;
           b = here.new_book;
           found = (from told).opens;
@@ -299,7 +300,7 @@ module _ {C : ℕ} (x : Loaded C) (loads : KeepsLoaded x) (moving : x.header.kin
                 (cells_of hands.ledger.moved) 2 n (fin.len y.table.now)) (omega arith) calls));
           }
 
-          again_found : OpensFound C (table_seen x) here.new_map here.new_book first last (Ok s)
+          again_found : OpensFound C (plain_seen x) here.new_map here.new_book first last (Ok s)
           again_found = record {
             content = content_again x loads moving few wide y starts p packs first last
                 (hands.slots.sequence + 1) few_most
@@ -311,7 +312,7 @@ module _ {C : ℕ} (x : Loaded C) (loads : KeepsLoaded x) (moving : x.header.kin
             rests = λ rests. ended_rests hands here last told_ends names_now block_now s is_flushed base_now
                 still_told;
             calls = subst (λ z. OpenCallsOf z
-                (table_seen x) here.new_map here.new_book first.file first.turn last.turn s)
+                (plain_seen x) here.new_map here.new_book first.file first.turn last.turn s)
                 (sym moving) moves_on;
             most = again_most told;
             alone = again_alone told;
@@ -326,10 +327,10 @@ module _ {C : ℕ} (x : Loaded C) (loads : KeepsLoaded x) (moving : x.header.kin
             (base_now told) (still_told told);
         fresh = again_fresh;
         refused = λ told. tt;
-        found = λ told t m b o. found_by (found_one C (table_seen x) t first.file _ m _ b (from told).opens o)
+        found = λ told t m b o. found_by (found_one C (plain_seen x) t first.file _ m _ b (from told).opens o)
             (again_found told calls);
         unchanged = tt;
-        closed = λ told none. absurd (none _ _ (record { table = table_seen x; opens = (from told).opens }));
+        closed = λ told none. absurd (none _ _ (record { table = plain_seen x; opens = (from told).opens }));
         frame = made.keeps.disk;
         cause = record { later = cause.later; rose = λ is. absurd (cc); calm = λ other. cause.calm };
       }

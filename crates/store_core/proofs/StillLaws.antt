@@ -24,7 +24,8 @@ use Rattle.extent_table.specs.Extents.{Spots}
 use Rattle.placement_model.specs.Reads.{read_at}
 use Rattle.reopen.specs.declared.fault.OpenFault.TheVariants as fault_of
 use Rattle.reopen.specs.declared.state.Loaded.{Loaded}
-use Rattle.reopen.specs.Loads.{IsLoadedFrom, KeepsLoaded, table_seen}
+use Rattle.reopen.specs.Loads.{KeepsLoaded}
+use Rattle.store_core.specs.Plain.{IsPlainFrom, plain_seen}
 use Rattle.store_core.specs.Connection.{StoreValue, RestsOnTable, SameOnTable, base_of, opened_store}
 use Rattle.store_core.specs.Opened.{ContinuesFrom, IsCut, IsFoundImage, IsOpened, IsOpening, OpenCallsOf, OpensFound, LeavesAlone, MostCallsOf, RestsOnFound, found_base, most_found, turn_after_cut}
 use Rattle.table_rules.proofs.SequenceLaws.{sequence_of_table}
@@ -60,13 +61,13 @@ module _ {C : ℕ} (x : Loaded C) (loads : KeepsLoaded x) (still : x.header.kind
 
   -- ---- the disk
 
-  module _ (first last : disk.State) (from : IsTrue first.tells → IsLoadedFrom first.file x)
+  module _ (first last : disk.State) (from : IsTrue first.tells → IsPlainFrom first.file x)
       (short : IsTrue first.tells → length first.file ≤ len → Unchanged first last)
       (frame : KeepsDisk first last)
     where
       -- the layout ends there by the book found
-      found_end : found_base (table_seen x) + book_end x.block.k (book_of (placed_table C SIZE_MAX first.file
-          (table_seen x))) ≡ len
+      found_end : found_base (plain_seen x) + book_end x.block.k (book_of (placed_table C SIZE_MAX first.file
+          (plain_seen x))) ≡ len
       found_end = omega (
         arith,
         ap (λ (b : Book). book_end x.block.k b) (book_is x loads still few wide (length first.file - base)),
@@ -78,7 +79,7 @@ module _ {C : ℕ} (x : Loaded C) (loads : KeepsLoaded x) (still : x.header.kind
       module _ {T E : Type 0} {result : Result T E} (told : IsTrue first.tells)
           (cut : IsTrue first.tells → len < length first.file → IsCut len first last result) where
         abbrev u : choice.Table
-        u = table_seen x
+        u = plain_seen x
 
         abbrev found_map : Map
         found_map = read_at base first.file now
@@ -140,9 +141,9 @@ module _ {C : ℕ} (x : Loaded C) (loads : KeepsLoaded x) (still : x.header.kind
         opened = λ told. tt;
         over = λ told. tt;
         fresh = tt;
-        refused = λ told. tt;
+        refused = λ told. inl tt;
         found = λ told t m b o.
-            found_by (found_one C (table_seen x) t first.file _ m _ b (from told).opens o) (record {
+            found_by (found_one C (plain_seen x) t first.file _ m _ b (from told).opens o) (record {
               content = λ room. still_content told cut;
               left = λ room rests. still_left told cut rests;
               rests = λ rests. tt;
@@ -151,7 +152,7 @@ module _ {C : ℕ} (x : Loaded C) (loads : KeepsLoaded x) (still : x.header.kind
               alone = still_alone told cut;
             });
         unchanged = tt;
-        closed = λ told none. absurd (none _ _ (record { table = table_seen x; opens = (from told).opens }));
+        closed = λ told none. absurd (none _ _ (record { table = plain_seen x; opens = (from told).opens }));
         frame = frame;
         cause = record { later = cause.later; rose = λ is. cause.rose; calm = λ other. absurd (other refl) };
       }
@@ -164,11 +165,11 @@ module _ {C : ℕ} (x : Loaded C) (loads : KeepsLoaded x) (still : x.header.kind
         done_map = read_at base first.file now
 
         abbrev done_book : Book
-        done_book = book_of (placed_table C SIZE_MAX first.file (table_seen x))
+        done_book = book_of (placed_table C SIZE_MAX first.file (plain_seen x))
 
         record Ends : Type 0 where
           slot : choice.slot_in_use last.file ≡ Ok x.slots
-          opens : OpensBy C SIZE_MAX (table_seen x) last.file done_map done_book
+          opens : OpensBy C SIZE_MAX (plain_seen x) last.file done_map done_book
           long : length last.file ≡ len
 
         ends : Ends
@@ -182,7 +183,7 @@ module _ {C : ℕ} (x : Loaded C) (loads : KeepsLoaded x) (still : x.header.kind
               let same = sym ((short told not).same_file told) in
               record {
                 slot = subst (λ f. choice.slot_in_use f ≡ Ok x.slots) same (from told).in_use;
-                opens = subst (λ f. OpensBy C SIZE_MAX (table_seen x) f done_map done_book) same
+                opens = subst (λ f. OpensBy C SIZE_MAX (plain_seen x) f done_map done_book) same
                     (from told).opens;
                 long = omega (
                   arith,
@@ -194,23 +195,23 @@ module _ {C : ℕ} (x : Loaded C) (loads : KeepsLoaded x) (still : x.header.kind
               }
         ]
 
-        done_rests : RestsOnFound (table_seen x) first → RestsOnTable (base_of s) now last
+        done_rests : RestsOnFound (plain_seen x) first → RestsOnTable (base_of s) now last
         done_rests rests = elim (cases_lt len (length first.file))
             as (λ _. RestsOnTable (base_of s) now last) [
               | inl longer ↦ λ image left. subst (SameOnTable (base_of s) now last.file)
                   (sym ((cut told longer).only image left)) (same_itself (base_of s) now last.file)
-              | inr not ↦ λ image left. found_spots (table_seen x) now (base_of s) last.file image refl
+              | inr not ↦ λ image left. found_spots (plain_seen x) now (base_of s) last.file image refl
                   loads.is_table.now_named (sym (same_base x loads still few wide))
                   (still_rests (short told not) told (from told).opens rests image left)
             ]
 
-        done_end : found_base (table_seen x) + book_end x.block.k done_book ≡ len
+        done_end : found_base (plain_seen x) + book_end x.block.k done_book ≡ len
         done_end = found_end
 
         done_turn : last.turn
-            ≡ turn_after_cut (found_base (table_seen x) + book_end x.block.k done_book) first.file first.turn
+            ≡ turn_after_cut (found_base (plain_seen x) + book_end x.block.k done_book) first.file first.turn
         done_turn =
-            let far = found_base (table_seen x) + book_end x.block.k done_book in
+            let far = found_base (plain_seen x) + book_end x.block.k done_book in
             elim (cases_lt len (length first.file))
             as (λ _. last.turn ≡ turn_after_cut far first.file first.turn) [
               | inl longer ↦ (cut told longer).all
@@ -221,12 +222,12 @@ module _ {C : ℕ} (x : Loaded C) (loads : KeepsLoaded x) (still : x.header.kind
                   (le-ltb far (length first.file) (omega (arith, done_end, not))))
             ]
 
-        done_found : OpensFound C (table_seen x) done_map done_book first last (Ok s)
+        done_found : OpensFound C (plain_seen x) done_map done_book first last (Ok s)
         done_found = record {
           content = λ room. still_content told cut;
           left = λ room rests. still_left told cut rests;
           rests = done_rests;
-          calls = subst (λ y. OpenCallsOf y (table_seen x) done_map done_book first.file first.turn last.turn
+          calls = subst (λ y. OpenCallsOf y (plain_seen x) done_map done_book first.file first.turn last.turn
               s) (sym still) done_turn;
           most = still_most told cut;
           alone = still_alone told cut;
@@ -234,7 +235,7 @@ module _ {C : ℕ} (x : Loaded C) (loads : KeepsLoaded x) (still : x.header.kind
 
         done_opened : IsOpened C first.file last.file s
         done_opened = record {
-          table = table_seen x;
+          table = plain_seen x;
           m = done_map;
           b = done_book;
           found = (from told).opens;
@@ -256,10 +257,10 @@ module _ {C : ℕ} (x : Loaded C) (loads : KeepsLoaded x) (still : x.header.kind
         fresh = still_fresh x loads still few wide;
         refused = λ told. tt;
         found = λ told t m b o.
-            found_by (found_one C (table_seen x) t first.file _ m _ b (from told).opens o)
+            found_by (found_one C (plain_seen x) t first.file _ m _ b (from told).opens o)
             (done_found y cut told);
         unchanged = tt;
-        closed = λ told none. absurd (none _ _ (record { table = table_seen x; opens = (from told).opens }));
+        closed = λ told none. absurd (none _ _ (record { table = plain_seen x; opens = (from told).opens }));
         frame = frame;
         cause = record { later = cause.later; rose = λ is. absurd (cc); calm = λ other. cause.calm };
       }
@@ -267,7 +268,7 @@ module _ {C : ℕ} (x : Loaded C) (loads : KeepsLoaded x) (still : x.header.kind
   -- ---- where the length to cut to is said in other words
 
   module _ (at : ℕ) (is : at ≡ len) (first last : disk.State)
-      (from : IsTrue first.tells → IsLoadedFrom first.file x)
+      (from : IsTrue first.tells → IsPlainFrom first.file x)
       (short : IsTrue first.tells → length first.file ≤ at → Unchanged first last)
       (frame : KeepsDisk first last)
     where

@@ -36,7 +36,8 @@ use Rattle.placement_model.proofs.QuietLaws.{IsGrid-wider}
 use Rattle.placement_model.proofs.RiseLaws.{CellsRise-itself}
 use Rattle.placement_model.proofs.ShownLaws.{book_shown}
 use Rattle.reopen.specs.declared.state.Loaded.{Loaded}
-use Rattle.reopen.specs.Loads.{IsLoadedFrom, KeepsLoaded, table_seen}
+use Rattle.reopen.specs.Loads.{KeepsLoaded}
+use Rattle.store_core.specs.Plain.{IsPlainFrom, plain_seen}
 use Rattle.store_core.specs.Connection.{IsOver, StoreValue, base_of, kept_map, opened_store, state_of}
 use Rattle.store_core.specs.Opened.{IsFoundImage, IsFresh, SameOnFound, most_found, state_at}
 use Rattle.store_core.specs.Stores.{IsStore}
@@ -145,7 +146,7 @@ module _ {C : ℕ} (x : Loaded C) (loads : KeepsLoaded x) (still : x.header.kind
   -- ---- over a file
 
   module _ (file : List ℕ) (m : Map) (b : Book) (slot : choice.slot_in_use file ≡ Ok x.slots)
-      (o : OpensBy C SIZE_MAX (table_seen x) file m b) (long : length file ≡ len) where
+      (o : OpensBy C SIZE_MAX (plain_seen x) file m b) (long : length file ≡ len) where
     map_is : kept_map s file ≡ m
     map_is = ap (λ n. read_at n file now) same_base ∙ sym o.same_map
 
@@ -154,12 +155,12 @@ module _ {C : ℕ} (x : Loaded C) (loads : KeepsLoaded x) (still : x.header.kind
 
     pub still_over : IsOver C s file
     still_over = record {
-      table = table_seen x;
+      table = plain_seen x;
       checkpoint = record {
         slot = slot;
         records = refl;
-        opens = subst (λ (n : Map). OpensBy C SIZE_MAX (table_seen x) file n s.kept_book) (sym map_is)
-            (subst (λ (c : Book). OpensBy C SIZE_MAX (table_seen x) file m c) (sym book_same) o);
+        opens = subst (λ (n : Map). OpensBy C SIZE_MAX (plain_seen x) file n s.kept_book) (sym map_is)
+            (subst (λ (c : Book). OpensBy C SIZE_MAX (plain_seen x) file m c) (sym book_same) o);
       };
       same_length = omega (arith, long, same_base, book_ends);
     }
@@ -175,9 +176,9 @@ module _ {C : ℕ} (x : Loaded C) (loads : KeepsLoaded x) (still : x.header.kind
 
   -- ---- the file that it was read from
 
-  module _ (file : List ℕ) (from : IsLoadedFrom file x) where
+  module _ (file : List ℕ) (from : IsPlainFrom file x) where
     abbrev t : choice.Table
-    t = table_seen x
+    t = plain_seen x
 
     abbrev m : Map
     m = read_at base file now

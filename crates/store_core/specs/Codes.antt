@@ -1,11 +1,11 @@
 -- How the value of a store is stored: as the tuple of its parts.
-use Rattle.std.specs.Prelude.{ℕ, Bool, List, refl}
+use Rattle.std.specs.Prelude.{ℕ, Bool, List, Option, refl}
 use Rattle.std.specs.FinMap as fin
 use Rattle.std.specs.FinSet as set
-use Rattle.std.specs.Coded.{Coded, code_by, coded×, coded_ℕ, coded_list, coded_bool}
+use Rattle.std.specs.Coded.{Coded, code_by, coded×, coded_ℕ, coded_list, coded_bool, coded_option}
 use Rattle.slot_codec.specs.Choice as choice
 use Rattle.slot_codec.specs.declared.codec.SuperBlock.{SuperBlock}
-use Rattle.map_model.specs.Maps.{name_cmp}
+use Rattle.map_model.specs.Maps.{Map, name_cmp}
 use Rattle.segment_layout.specs.Books.{Book}
 use Rattle.extent_table.specs.Extents.{Spots, spot_code}
 use Rattle.store_core.specs.Connection.{StoreValue}
@@ -14,10 +14,12 @@ abbrev pub spots_code : Coded Spots
 spots_code = fin.code (coded_list coded_ℕ) spot_code
 
 abbrev pub book_code : Coded Book
-book_code = code_by (List ℕ × (List (List ℕ) × set.FinSet name_cmp))
-    (coded× (coded_list coded_ℕ) (coded× (coded_list (coded_list coded_ℕ)) (set.code (coded_list coded_ℕ))))
-    (λ b. (b.caps, (b.grid, b.buffered))) (λ p. record { caps = p.0; grid = p.1.0; buffered = p.1.1 })
-    (λ _. refl)
+book_code = code_by (List ℕ × (List (List ℕ) × (set.FinSet name_cmp × Option Map)))
+    (coded× (coded_list coded_ℕ) (coded× (coded_list (coded_list coded_ℕ))
+    (coded× (set.code (coded_list coded_ℕ)) (coded_option (fin.code (coded_list coded_ℕ)
+    (coded_list coded_ℕ))))))
+    (λ b. (b.caps, (b.grid, (b.buffered, b.digests))))
+    (λ p. record { caps = p.0; grid = p.1.0; buffered = p.1.1.0; digests = p.1.1.1 }) (λ _. refl)
 
 abbrev pub block_code : Coded SuperBlock
 block_code = code_by (ℕ × ℕ) (coded× coded_ℕ coded_ℕ) (λ b. (b.k, b.names))

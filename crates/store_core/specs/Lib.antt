@@ -13,5 +13,6 @@ pub mod Reads
 pub mod Lines
 pub mod Flushing
 pub mod Flushes
+pub mod Plain
 pub mod Opened
 pub mod Resuming

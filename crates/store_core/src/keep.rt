@@ -97,6 +97,7 @@ pub(crate) fn header_of<const C: usize>(layout: &Layout<C>) -> Header
     ensures ranges { IsTrue (all_in_range result) }
 {
     Header {
+        version: 1,
         kind: Kind::Settled,
         boundary: 0,
         sequence: 0,

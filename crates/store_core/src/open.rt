@@ -8,8 +8,10 @@ ghost use Rattle.slot_codec.specs.declared.codec.Kind.TheVariants as kind;
 ghost use Rattle.flush_run.specs.Parts.{parts_of};
 ghost use Rattle.flush_run.specs.Shelved.{items_now, phase_now};
 ghost use Rattle.flush_plan.specs.Packs.{KeepsPacking};
-ghost use Rattle.reopen.specs.Loads.{IsLoadedFrom, KeepsLoaded};
+ghost use Rattle.reopen.specs.Loads.{KeepsLoaded, loaded_of};
+ghost use Rattle.slot_codec.specs.Spelling.{slot_at};
 ghost use Rattle.store_core.specs.Opened.{IsCut, IsOpening};
+ghost use Rattle.store_core.specs.Plain.{IsPlainFrom};
 ghost use Rattle.store_core.specs.Resuming.{PacksAgain, StartsAgain};
 
 use crate::Store;
@@ -21,25 +23,44 @@ use flush_run::{Halted, Hands, TableShelf, resume};
 use held_guard::Guard;
 use reopen::{Loaded, OpenFault, State, read_state};
 use size_class::SIZE_MAX;
-use slot_codec::head_len;
+use slot_codec::{CodecFault, head_len};
 use slot_pair::SlotFault;
 use std::alloc::Global;
 
 impl<const C: usize> Store<C> {
     /// Opens a file: the store has the map that the file opens to, as it stands and as its last
-    /// checkpoint. A file that is longer than its layout is cut, and a flush that was interrupted goes on
-    /// to its end, in which at most one save comes before each move, and one at the end. All memory is
-    /// taken before anything is changed.
+    /// checkpoint. Over a file of version 2 no store is opened. A file that is longer than its layout is
+    /// cut, and a flush that was interrupted goes on to its end, in which at most one save comes before
+    /// each move, and one at the end. All memory is taken before anything is changed.
     pub fn open<D: Disk>(alloc: Global, disk: &mut D) -> Result<Store<C>, OpenFault>
         requires ready { IsTrue (D.state disk.old).is_ready }
         requires fits { C ≤ 32 }
         requires wide { SIZE_MAX < 2 ^ C }
         ensures { IsOpening C (D.state disk.old) (D.state disk.new) result }
     {
-        match read_state(alloc, disk)? {
+        let state = read_state(alloc, disk)?;
+        let (version, at) = header_of(&state);
+        if version == 2 {
+            return Err(OpenFault::Slot(SlotFault::Codec(CodecFault::Version, at)));
+        }
+        match state {
             State::Still(found) => open_still(alloc, disk, found),
             State::Moving(found) => open_moving(alloc, disk, found),
         }
+    }
+}
+
+/// The version of a file's table, and where its header stands.
+fn header_of<const C: usize>(state: &State<C>) -> (u8, u64)
+    requires ranges { IsSuperBlock (loaded_of state.now).block }
+    requires same_block { (loaded_of state.now).slots.block ≡ (loaded_of state.now).block }
+    requires slot { (loaded_of state.now).slots.slot ≤ 1 }
+    ensures version { result.0 ≡ (loaded_of state.now).header.version }
+    ensures place { result.1 ≡ slot_at (loaded_of state.now).block.names (loaded_of state.now).slots.slot }
+{
+    match state {
+        State::Still(found) => (found.header.version, found.slots.place()),
+        State::Moving(found) => (found.header.version, found.slots.place()),
     }
 }
 
@@ -54,7 +75,7 @@ fn open_still<D: Disk, const C: usize>(
     requires wide { SIZE_MAX < 2 ^ C }
     requires loads { KeepsLoaded found }
     requires still { found.header.kind ≡ kind.Settled }
-    requires from { IsTrue (D.state disk.old).tells → IsLoadedFrom (D.state disk.old).file found }
+    requires from { IsTrue (D.state disk.old).tells → IsPlainFrom (D.state disk.old).file found }
     ensures { IsOpening C (D.state disk.old) (D.state disk.new) result }
 {
     let Loaded {
@@ -101,7 +122,7 @@ fn open_moving<D: Disk, const C: usize>(
     requires wide { SIZE_MAX < 2 ^ C }
     requires loads { KeepsLoaded found }
     requires moving { found.header.kind ≡ kind.Moving }
-    requires from { IsTrue (D.state disk.old).tells → IsLoadedFrom (D.state disk.old).file found }
+    requires from { IsTrue (D.state disk.old).tells → IsPlainFrom (D.state disk.old).file found }
     ensures { IsOpening C (D.state disk.old) (D.state disk.new) result }
 {
     let Ok(memory) = take_memory(alloc, found.block.names) else {
@@ -121,7 +142,7 @@ fn go_on<D: Disk, const C: usize>(
     requires wide { SIZE_MAX < 2 ^ C }
     requires loads { KeepsLoaded found }
     requires moving { found.header.kind ≡ kind.Moving }
-    requires from { IsTrue (D.state disk.old).tells → IsLoadedFrom (D.state disk.old).file found }
+    requires from { IsTrue (D.state disk.old).tells → IsPlainFrom (D.state disk.old).file found }
     requires none { memory.guard.spans ≡ [] }
     requires guard_room { memory.guard.room ≡ found.block.names }
     requires buffer { vec_len memory.buf ≡ 65536 }

@@ -8,7 +8,7 @@ use Rattle.slot_codec.specs.Choice as choice
 use Rattle.slot_codec.specs.declared.codec.SuperBlock.{SuperBlock}
 use Rattle.map_model.specs.Maps.{Map}
 use Rattle.map_model.specs.Requests.{Change, changed}
-use Rattle.segment_layout.specs.Books.{Book, Charged, is_quiet, new_item, next_book, trigger}
+use Rattle.segment_layout.specs.Books.{Book, Charged, is_quiet, new_item, next_book, trigger, with_digests}
 use Rattle.segment_layout.specs.Shapes.{boundary_of}
 use Rattle.placement_model.specs.Reads.{EndWithin, read_at}
 use Rattle.table_rules.specs.Opening.{Opens, placed_table}
@@ -36,7 +36,8 @@ pub one_book : {classes size_max : ℕ} {file : List ℕ} {m n : Map} {b c : Boo
 one_book {classes} {size_max} {file} x y =
     let one : x.table ≡ y.table =
     (let both : Ok x.table ≡ Ok y.table = sym x.opens.read ∙ y.opens.read in cc) in
-    x.opens.same_book ∙ ap (λ (t : choice.Table). book_of (placed_table classes size_max file t)) one
+    x.opens.same_book
+    ∙ ap (λ (t : choice.Table). with_digests t.digests (book_of (placed_table classes size_max file t))) one
     ∙ sym y.opens.same_book
 
 -- What a change did to a store's ledger, by the map that a file gives where the objects stood.

@@ -1,9 +1,9 @@
 -- The live bytes of a table's first records, by class.
-use Rattle.std.specs.Prelude.{◌≡◌, ℕ, ◌<◌, ◌&&◌, Bool, List, [], length, filter, slice_index}
+use Rattle.std.specs.Prelude.{◌≡◌, ℕ, ◌<◌, ◌&&◌, Bool, List, length, filter, slice_index}
 use Rattle.size_class.specs.Classes.{width, cell, row}
 use Rattle.slot_codec.specs.declared.codec.Record.{Record}
 use Rattle.extent_table.specs.declared.spot.Spot.{Spot}
-use Rattle.table_rules.specs.Tables.{PlacedTable, is_of, lies_in_buffer, lies_in_payload, size_sum}
+use Rattle.table_rules.specs.Tables.{PlacedTable, is_of, lies_in_buffer, lies_in_payload, no_record, size_sum}
 
 -- which records count for a class in its payload segment, and in buffer j
 abbrev pub in_payload : PlacedTable → ℕ → Record → Bool
@@ -14,7 +14,7 @@ in_buffer t j c r = is_of c r && lies_in_buffer t j r
 
 -- a record of a spot, whatever its name
 abbrev pub at_spot : Spot → Record
-at_spot s = record { name = []; place = s.place; size = s.size }
+at_spot s = record no_record { place = s.place; size = s.size }
 
 -- a grid has 32 rows of 32
 abbrev pub IsFull : List (List ℕ) → Type 0

@@ -12,27 +12,28 @@ use Rattle.std.specs.FinMap as fin
 use Rattle.std.specs.FinMap.Entries.{find}
 use Rattle.std.specs.FinSet as set
 use Rattle.std.proofs.lemmas.List.{get_or_past, length-map, map-id}
-use Rattle.byte_ranges.specs.Lists.{◌>>=◌, below}
+use Rattle.byte_ranges.specs.Lists.{below}
 use Rattle.byte_ranges.proofs.ListLaws.{length-map_below, map_below-index}
 use Rattle.byte_ranges.specs.Ranges.{bytes_at}
 use Rattle.byte_ranges.proofs.RangeLaws.{length-bytes_at}
 use Rattle.size_class.specs.Classes.{width, IsGrid, IsRow}
 use Rattle.slot_codec.specs.Choice as choice
 use Rattle.slot_codec.proofs.ChoiceLaws.{table_chosen, chosen_long, chosen_parts}
-use Rattle.slot_codec.specs.Spelling.{head_len, record_len, slot_at, header_len}
-use Rattle.slot_codec.specs.Reading.{read_record, read_header, header_of, number_at, numbers_at, are_zeros, worn_from, all_in_range}
+use Rattle.slot_codec.proofs.HeaderLaws.{header_tests}
+use Rattle.slot_codec.proofs.RecordsLaws.{table_rises}
+use Rattle.slot_codec.proofs.RollLaws.{RiseFrom}
+use Rattle.slot_codec.specs.Spelling.{head_len, slot_at, header_len}
+use Rattle.slot_codec.specs.Reading.{header_of, number_at, numbers_at}
 use Rattle.slot_codec.specs.declared.codec.Header.{Header}
-use Rattle.slot_codec.specs.declared.codec.CodecFault.TheVariants as fault
 use Rattle.table_rules.specs.Opening.{OpensBy, placed_table}
 use Rattle.slot_codec.specs.declared.codec.Record.{Record}
-use Rattle.slot_codec.specs.declared.codec.CodecFault.{CodecFault}
 use Rattle.map_model.specs.Maps.{Map, name_cmp}
 use Rattle.map_model.specs.Weights.{Entry, weights, weight, same_name}
 use Rattle.map_model.proofs.MapLaws.{weights-insert, weights-empty, same_name-itself, name_order, sum_by-map}
 use Rattle.map_model.specs.Requests.{Change}
 use Rattle.segment_layout.specs.Bounds.{Tight}
 use Rattle.segment_layout.proofs.TightLaws.{tight_over}
-use Rattle.segment_layout.specs.Books.{Book, book_end, book_after, map_after, volumes_of_sizes}
+use Rattle.segment_layout.specs.Books.{Book, book_end, book_after, map_after, volumes_of_sizes, with_digests}
 use Rattle.segment_layout.specs.Balance.{IsBalanced}
 use Rattle.table_rules.specs.Tables.{PlacedTable, table_boundary, end_of_record, last_end, no_record, sizes, map_of, book_of, HasFullRows, is_buffered}
 use Rattle.segment_layout.proofs.SumLaws.{sum_by_same_places}
@@ -233,79 +234,35 @@ balanced_of_table t base file h p fits named lie =
 
 -- ---- the table of a file
 
-bind_ok : {A B E : Type 0} (r : Result A E) (f : A → Result B E) (y : B) → (r >>= f) ≡ Ok y
-    → (x : A) × (r ≡ Ok x) × (f x ≡ Ok y)
-bind_ok (Ok x) f y h = (x, refl, h)
-bind_ok (Err e) f y h = cc
-
-guard_ok : {A E : Type 0} (b : Bool) (e : E) (z : Result A E) (y : A) → cond b (Err e) z ≡ Ok y
-    → (b ≡ false) × (z ≡ Ok y)
-guard_ok true e z y h = cc
-guard_ok false e z y h = (refl, h)
-
--- each record's name is greater than the one before
-abbrev Rise : Option (List ℕ) → List Record → Type 0
-Rise before [] = Unit {0}
-Rise before (r ∷ rs) = (choice.rises before r.name ≡ true) × Rise (Some r.name) rs
-
-placed_ok : {A : Type 0} (at : ℕ) (said : Result A CodecFault) (x : A) → choice.placed_at at said ≡ Ok x
-    → said ≡ Ok x
-placed_ok at (Ok y) x h = cc
-placed_ok at (Err e) x h = cc
-
-read_rise : (n : ℕ) (text : List ℕ) (at : ℕ) (before : Option (List ℕ)) (rs : List Record)
-    → choice.read_records n text at before ≡ Ok rs → Rise before rs
-read_rise zero text at before rs is =
-    let e : [] ≡ rs = cc in
-    subst (Rise before) e tt
-read_rise (suc n) text at before rs is =
-    let first = bind_ok (choice.first_record text at before)
-    (λ r. choice.read_records n (drop record_len text) (at + record_len) (Some r.name) >>= λ rest.
-    Ok (r ∷ rest)) rs is in
-    let r = first.0 in
-    let more = bind_ok (choice.read_records n (drop record_len text) (at + record_len) (Some r.name))
-    (λ rest. Ok (r ∷ rest)) rs first.2 in
-    let read = bind_ok (read_record (take record_len text))
-    (λ s. cond (not (choice.rises before s.name)) (Err fault.Order) (Ok s))
-    r (placed_ok at (choice.record_after (take record_len text) before) r first.1) in
-    let order = guard_ok (not (choice.rises before read.0.name)) _ (Ok read.0) r read.2 in
-    let same : read.0 ≡ r = let e = order.1 in cc in
-    let whole : r ∷ more.0 ≡ rs = let e = more.2 in cc in
-    subst (Rise before) whole (
-      subst (λ s. choice.rises before s.name ≡ true) same
-          (not-false (choice.rises before read.0.name) order.0),
-      read_rise n (drop record_len text) (at + record_len) (Some r.name) more.0 more.1,
-    )
-
 is_less : (o : Ordering) → is_lt o ≡ true → o ≡ Less
 is_less Less h = refl
 is_less Equal h = cc
 is_less Greater h = cc
 
 -- what rises from a name rises from a lesser one
-rise_from : (q a : List ℕ) (rs : List Record) → name_cmp q a ≡ Less → Rise (Some a) rs → Rise (Some q) rs
+rise_from : (q a : List ℕ) (rs : List Record) → name_cmp q a ≡ Less → RiseFrom (Some a) rs
+    → RiseFrom (Some q) rs
 rise_from q a [] less h = tt
 rise_from q a (r ∷ rs) less h = (
-  ap is_lt
-      (name_order.trans q a r.name less (is_less (name_cmp a r.name) h.0)),
-  h.1,
+  h.0,
+  ap is_lt (name_order.trans q a r.name less (is_less (name_cmp a r.name) h.1)),
+  h.2,
 )
 
-rise_absent : (q : List ℕ) (rs : List Record) → Rise (Some q) rs → IsAbsent q rs
+rise_absent : (q : List ℕ) (rs : List Record) → RiseFrom (Some q) rs → IsAbsent q rs
 rise_absent q [] h = tt
 rise_absent q (r ∷ rs) h =
-    let less : name_cmp q r.name ≡ Less = is_less (name_cmp q r.name) h.0 in
-    (ap is_eq less, rise_absent q rs (rise_from q r.name rs less h.1))
+    let less : name_cmp q r.name ≡ Less = is_less (name_cmp q r.name) h.1 in
+    (ap is_eq less, rise_absent q rs (rise_from q r.name rs less h.2))
 
-rise_names : (before : Option (List ℕ)) (rs : List Record) → Rise before rs → HaveDistinctNames rs
+rise_names : (before : Option (List ℕ)) (rs : List Record) → RiseFrom before rs → HaveDistinctNames rs
 rise_names before [] h = tt
-rise_names before (r ∷ rs) h = (rise_absent r.name rs h.1, rise_names (Some r.name) rs h.1)
+rise_names before (r ∷ rs) h = (rise_absent r.name rs h.2, rise_names (Some r.name) rs h.2)
 
 -- the names of a file's records differ
 pub file_names : (file : List ℕ) (t : choice.Table) → choice.table_of file ≡ Ok t
     → HaveDistinctNames t.records
-file_names file t is = rise_names None t.records
-    (read_rise t.chosen.header.count _ _ None t.records (table_chosen file t is).1)
+file_names file t is = rise_names None t.records (table_rises file t is)
 
 length-below : (n : ℕ) → length (below n) ≡ n
 length-below n = sym (length-map (below n) (λ (x : ℕ). x)) ∙ length-map_below (λ x. x) n
@@ -342,19 +299,6 @@ header_tables bytes =
       },
     )
 
-read_is : (names : ℕ) (bytes : List ℕ) (header : Header) → read_header names bytes ≡ Ok header
-    → header_of bytes ≡ header
-unfolding read_header
-read_is names bytes header is =
-    let version = guard_ok (not (slice_index bytes 0 == 1)) _ _ header is in
-    let kind = guard_ok (nat_lt 1 (slice_index bytes 1)) _ _ header version.1 in
-    let zeros = guard_ok (not (are_zeros (bytes_at bytes 3 5))) _ _ header kind.1 in
-    let worn = guard_ok (nat_le (worn_from (header_of bytes).kind) (header_of bytes).sequence) _ _ header
-    zeros.1 in
-    let count = guard_ok (nat_lt names (header_of bytes).count) _ _ header worn.1 in
-    let range = guard_ok (not (all_in_range (header_of bytes))) _ (Ok (header_of bytes)) header count.1 in
-    let e = range.1 in cc
-
 -- the lists of numbers of a file's header are whole
 pub file_header : (file : List ℕ) (t : choice.Table) → choice.table_of file ≡ Ok t
     → (length t.chosen.header.caps ≡ width) × IsGrid width t.chosen.header.used
@@ -363,7 +307,22 @@ file_header file t is =
     let u = parts.in_use in
     let bytes = bytes_at file (slot_at u.block.names u.slot) header_len in
     subst (λ (h : Header). (length h.caps ≡ width) × IsGrid width h.used)
-    (read_is u.block.names bytes t.chosen.header parts.header_read) (header_tables bytes)
+    (header_tests u.block.names bytes t.chosen.header parts.header_read).of (header_tables bytes)
+
+-- digests have no part in it
+balanced_with : (k : ℕ) (m : Map) (digests : Option Map) (book : Book) → IsBalanced k m book
+    → IsBalanced k m (with_digests digests book)
+balanced_with k m digests book b = record {
+  caps_full = b.caps_full;
+  grid_full = b.grid_full;
+  rows = b.rows;
+  lower = b.lower;
+  entry = b.entry;
+  full = b.full;
+  payload = b.payload;
+  buffers = b.buffers;
+  balance = b.balance;
+}
 
 pub balanced_of_file : (classes size_max : ℕ) (t : choice.Table) (file : List ℕ) (m : Map) (book : Book)
     → classes ≤ width → OpensBy classes size_max t file m book → IsBalanced t.chosen.block.k m book
@@ -386,7 +345,8 @@ balanced_of_file classes size_max t file m book few opens =
     balanced_of_table placed base file tables opens.valid.0.places
     (bound_fits placed tables opens.valid.0) (file_names file t opens.read) lie in
     subst (λ n. IsBalanced t.chosen.block.k n book) (sym opens.same_map)
-    (subst (IsBalanced t.chosen.block.k (map_of base file t.records)) (sym opens.same_book) made)
+    (subst (IsBalanced t.chosen.block.k (map_of base file t.records)) (sym opens.same_book)
+    (balanced_with t.chosen.block.k (map_of base file t.records) t.digests (book_of placed) made))
 
 pub tight_of_file : (classes size_max : ℕ) (t : choice.Table) (file : List ℕ) (m : Map) (book : Book)
     (cs : List Change) → classes ≤ width → OpensBy classes size_max t file m book

@@ -1,6 +1,6 @@
 -- A file stands for what another stands for, if it is the same below the data part and where the objects are.
 use Rattle.std.specs.Prelude.{◌≡◌, ℕ, ◌+◌, ◌-◌, ◌≤◌, nat_lt, if◌then◌else◌, List, [], ◌∷◌, length, refl}
-use Rattle.std.proofs.Common.{arith, sym, ◌∙◌, subst, inl, inr}
+use Rattle.std.proofs.Common.{arith, ap, sym, ◌∙◌, subst, inl, inr}
 use Rattle.std.specs.FinMap as fin
 use Rattle.byte_ranges.specs.Ranges.{SameBelow, SameWithin, SameOutside, bytes_at}
 use Rattle.byte_ranges.proofs.RangeLaws.{within_below, within_above, bytes_at-same}
@@ -11,7 +11,7 @@ use Rattle.slot_codec.specs.declared.codec.Kind.{Kind}
 use Rattle.slot_codec.specs.declared.codec.Kind.TheVariants.{Settled, Moving}
 use Rattle.slot_codec.specs.declared.codec.Record.{Record}
 use Rattle.map_model.specs.Maps.{Map}
-use Rattle.segment_layout.specs.Books.{Book}
+use Rattle.segment_layout.specs.Books.{Book, with_digests}
 use Rattle.table_rules.specs.Tables.{PlacedTable, map_of, book_of, nth, end_of_record, last_end}
 use Rattle.table_rules.specs.Opening.{OpensBy, placed_table}
 use Rattle.table_rules.specs.Objects.{SameObjects, HasRoomFor, AllApart}
@@ -92,8 +92,8 @@ carries_on classes size_max t a b m book o long same room objects =
       valid = valid_longer (placed_table classes size_max a t) (length b - head_len t.chosen.block.names) room
           o.valid;
       same_map = o.same_map ∙ sym (same_map_of (head_len t.chosen.block.names) t.records a b objects);
-      same_book = o.same_book ∙ sym (book_longer (placed_table classes size_max a t)
-          (length b - head_len t.chosen.block.names));
+      same_book = o.same_book ∙ ap (with_digests t.digests)
+          (sym (book_longer (placed_table classes size_max a t) (length b - head_len t.chosen.block.names)));
     }
 
 pub AllApart-longer : (base at n len more : ℕ) (rs : List Record) → len ≤ more → AllApart base at n len rs

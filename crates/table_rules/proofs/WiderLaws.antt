@@ -1,5 +1,5 @@
 -- A table that is valid among some classes is valid among more, and its book is the same.
-use Rattle.std.specs.Prelude.{◌≡◌, ◌⊎◌, ℕ, suc, ◌^◌, ◌<◌, ◌≤◌, ◌==◌, nat_lt, Bool, not, ◌&&◌, cond, if◌then◌else◌, List, [], ◌∷◌, length, filter, map, slice_index, slice_index_or, refl}
+use Rattle.std.specs.Prelude.{◌≡◌, ◌⊎◌, ℕ, suc, ◌^◌, ◌<◌, ◌≤◌, ◌==◌, nat_lt, Bool, not, ◌&&◌, cond, if◌then◌else◌, List, [], ◌∷◌, length, filter, map, slice_index, slice_index_or, None, refl}
 use Rattle.std.proofs.Common.{arith, sym, ◌∙◌, ap, subst, inl, inr}
 use Rattle.std.proofs.lemmas.Bool.{cases_lt, cases_Bool, cond-false, and_parts, and_from, lt-ltb, le-ltb, ltb-true, eqb-true}
 use Rattle.std.proofs.lemmas.List.{ext_get_or, get_or_past}
@@ -14,7 +14,7 @@ use Rattle.slot_codec.specs.declared.codec.Record.{Record}
 use Rattle.map_model.specs.Maps.{Map}
 use Rattle.map_model.proofs.MapLaws.{sum_by-map}
 use Rattle.segment_layout.specs.Shapes.{settled_caps, settled_grid}
-use Rattle.segment_layout.specs.Books.{Book, volumes_of_sizes}
+use Rattle.segment_layout.specs.Books.{Book, volumes_of_sizes, with_digests}
 use Rattle.table_rules.specs.Tables.{PlacedTable, boundary_of_kind, table_boundary, nth, no_record, sizes, is_of, is_lower, lies_in_payload, lies_in_buffer, live_in_buffer, end_of_record, last_end, book_of, HasFullRows, is_buffered}
 use Rattle.table_rules.specs.Opening.{HasNoneFrom, Opens, OpensAsBefore, OpensBy, placed_table}
 use Rattle.segment_layout.proofs.SumLaws.{sum_by_same_places}
@@ -215,6 +215,7 @@ module _ (n s : ℕ) (t : PlacedTable) (h : HasFullRows t) (p : KeepsPlaces t) (
         caps = same_caps i;
         grid = same_grid i;
         buffered = set.from_list (map (λ r. r.name) (names i));
+        digests = None;
       }
 
   same_last_end : (kind : Kind) → boundary_of_kind t.classes kind t.header.boundary ≡ table_boundary t
@@ -319,7 +320,13 @@ more_classes few many size_max more t file m book low wide small larger o =
     let placed = placed_table few size_max file t in
     let tables = full_rows few size_max t file m book (omega arith) o in
     let valid = wider_valid many more placed tables low wide small larger o.valid in
-    record { read = o.read; valid = valid.0; same_map = o.same_map; same_book = o.same_book ∙ sym valid.1 }
+    record {
+      read = o.read;
+      valid = valid.0;
+      same_map = o.same_map;
+      same_book = o.same_book
+          ∙ ap (with_digests t.digests) (sym valid.1);
+    }
 
 -- ---- the classes that a table doesn't have
 

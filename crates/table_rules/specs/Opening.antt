@@ -4,7 +4,7 @@ use Rattle.size_class.specs.Classes.{cell}
 use Rattle.slot_codec.specs.Spelling.{head_len}
 use Rattle.slot_codec.specs.Choice as choice
 use Rattle.map_model.specs.Maps.{Map}
-use Rattle.segment_layout.specs.Books.{Book}
+use Rattle.segment_layout.specs.Books.{Book, with_digests}
 use Rattle.table_rules.specs.Tables.{PlacedTable, map_of, book_of}
 use Rattle.table_rules.specs.Rules.{IsValid}
 
@@ -26,7 +26,7 @@ pub record OpensBy (classes size_max : ℕ) (t : choice.Table) (file : List ℕ)
     pub read : choice.table_of file ≡ Ok t
     pub valid : IsValid (placed_table classes size_max file t)
     pub same_map : m ≡ map_of (head_len t.chosen.block.names) file t.records
-    pub same_book : b ≡ book_of (placed_table classes size_max file t)
+    pub same_book : b ≡ with_digests t.digests (book_of (placed_table classes size_max file t))
 
 -- The file opens to this map and this book.
 pub record Opens (classes size_max : ℕ) (file : List ℕ) (m : Map) (b : Book) : Type 0 where

@@ -1,11 +1,12 @@
 -- A table against the layout that its header gives: where its records lie, the sums that its rules speak
 -- of, and the map and the book that it gives.
-use Rattle.std.specs.Prelude.{◌≡◌, ◌⊎◌, ℕ, ◌+◌, ◌-◌, ◌<◌, ◌≤◌, ◌==◌, nat_le, nat_lt, Bool, not, ◌&&◌, List, [], length, map, filter, take, sum_by, slice_index_or, IsTrue}
+use Rattle.std.specs.Prelude.{◌≡◌, ◌⊎◌, ℕ, ◌+◌, ◌-◌, ◌<◌, ◌≤◌, ◌==◌, nat_le, nat_lt, Bool, not, ◌&&◌, List, [], length, map, filter, take, sum_by, slice_index_or, IsTrue, None}
 use Rattle.std.specs.FinSet as set
 use Rattle.std.specs.FinMap as fin
 use Rattle.byte_ranges.specs.Lists.{counting_from}
 use Rattle.byte_ranges.specs.Ranges.{bytes_at}
 use Rattle.size_class.specs.Classes.{width, class_of, cell, IsGrid}
+use Rattle.slot_codec.specs.Spelling.{digest_len, zeros}
 use Rattle.slot_codec.specs.declared.codec.Kind.{Kind}
 use Rattle.slot_codec.specs.declared.codec.Kind.TheVariants.{Settled, Moving}
 use Rattle.slot_codec.specs.declared.codec.Header.{Header}
@@ -16,8 +17,8 @@ use Rattle.segment_layout.specs.Books.{Book, volumes_of_sizes}
 
 -- ---- the table
 
--- A table, as its rules see it: how many classes and how large an object there may be, the divisor k,
--- the length of the data part, the numbers of the header, and the records in order.
+-- A table, as its rules see it, which see no digest: how many classes and how large an object there may be,
+-- the divisor k, the length of the data part, the numbers of the header, and the records in order.
 pub record PlacedTable : Type 0 where
   pub classes : ℕ
   pub size_max : ℕ
@@ -27,7 +28,7 @@ pub record PlacedTable : Type 0 where
   pub records : List Record
 
 abbrev pub no_record : Record
-no_record = record { name = []; place = 0; size = 0 }
+no_record = record { name = []; place = 0; size = 0; digest = zeros digest_len }
 
 abbrev pub nth : PlacedTable → ℕ → Record
 nth t i = slice_index_or t.records i no_record
@@ -139,11 +140,13 @@ map_of base file rs = fin.from_entries (map (λ r. (r.name, bytes_at file (base 
 abbrev pub is_buffered : PlacedTable → Record → Bool
 is_buffered t r = is_lower t r && not (lies_in_payload t (class_of r.size) r)
 
--- the book: below the boundary the header's numbers, and from it on those of a layout of the records' sizes
+-- the book, without digests: below the boundary the header's numbers, and from it on those of a layout of
+-- the records' sizes
 abbrev pub book_of : PlacedTable → Book
 book_of t =
     record {
       caps = settled_caps (table_boundary t) t.header.caps (volumes_of_sizes (sizes t.records));
       grid = settled_grid (table_boundary t) t.header.used;
       buffered = set.from_list (map (λ r. r.name) (filter (is_buffered t) t.records));
+      digests = None;
     }

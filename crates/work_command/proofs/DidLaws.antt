@@ -15,17 +15,16 @@ use Rattle.map_model.specs.Maps.{Map}
 use Rattle.segment_layout.specs.Books.{Book}
 use Rattle.table_rules.specs.Opening.{Opens}
 use Rattle.store_core.specs.Connection.{StoreValue}
-use Rattle.store_core.specs.Opened.{IsOpening}
-use Rattle.reopen.specs.Refusals.{RefusesToOpen}
+use Rattle.store_core.specs.Opened.{IsOpening, RefusesStore}
 use Rattle.reopen.specs.declared.fault.OpenFault.{OpenFault}
 use Rattle.command_face.specs.Mounting.{IsMounted, mounted, Command, work}
 use Rattle.work_command.specs.Doing.{Did, WorkSteps, IsAllDone, IsNotBegun, IsRefusal, IsStopped}
-use Rattle.command_face.specs.Refusing.{IsRefused, stop_of}
+use Rattle.command_face.specs.Refusing.{IsRefusedService, NeverServed, stop_of}
 use Rattle.command_face.specs.Outcomes.{EndsBy, status_at, status_of}
 use Rattle.work_command.specs.Working.{KeepsWork, has_worked, is_working}
 use Rattle.command_face.specs.declared.stop.StopReason.{StopReason}
 use Rattle.command_face.specs.declared.stop.StopReason.TheVariants as stop
-use Rattle.command_face.proofs.UnopenedLaws.{disk_by, mount_untouched, not_status, refused_unchanged, refuses, status_unopened}
+use Rattle.command_face.proofs.UnopenedLaws.{disk_by, mount_untouched, not_status, opened_plain, refused_unchanged, refuses_service, status_unopened}
 
 pub not_both : {A : Type 0} → false ≡ true → A
 not_both is = absurd (cc)
@@ -235,14 +234,14 @@ module _ {D : Type 0} (disk_of : D → State) (file : List ℕ) (number count : 
       by (inl (inr (inr is), same)) = in_job (disk_of x.first) x.mount x.calm x.there is same
       by (inr is) = summed (disk_of x.first) x.mount x.calm x.there is
 
-  -- a file that isn't opened ends the command as its first refusal says
-  pub refused_did : IsTrue old.tells → ((m : Map) (b : Book) → Opens CLASSES SIZE_MAX old.file m b → ⊥)
+  -- a file that isn't served ends the command as its first refusal says, or as its version does
+  pub refused_did : IsTrue old.tells → NeverServed old.file
       → WorkSteps disk_of (work file number count) number count old z out put end
-      → EndsBy (IsRefused old.file) [] end × (put ≡ out)
+      → EndsBy (IsRefusedService old.file) [] end × (put ≡ out)
   refused_did told never (inl (is, same)) = (
-    elim is.which as (λ _. EndsBy (IsRefused old.file) [] end) [
-      | inl failed ↦ subst (EndsBy (IsRefused old.file) []) (sym failed.0) (inr refl)
-      | inr gone ↦ subst (EndsBy (IsRefused old.file) []) (sym gone.0) refl
+    elim is.which as (λ _. EndsBy (IsRefusedService old.file) [] end) [
+      | inl failed ↦ subst (EndsBy (IsRefusedService old.file) []) (sym failed.0) (inr refl)
+      | inr gone ↦ subst (EndsBy (IsRefusedService old.file) []) (sym gone.0) refl
     ],
     same,
   )
@@ -257,15 +256,17 @@ module _ {D : Type 0} (disk_of : D → State) (file : List ℕ) (number count : 
       never_opened : (a : State) (s : StoreValue) → IsOpening CLASSES (disk_of x.first) a (Ok s) → ⊥
       never_opened a s is =
           let o = is.opened told_there in
-          never o.m o.b (subst (λ (f : List ℕ). Opens CLASSES SIZE_MAX f o.m o.b) same_file
+          never o.m o.b (opened_plain (disk_of x.first) a s told_there is)
+          (subst (λ (f : List ℕ). Opens CLASSES SIZE_MAX f o.m o.b) same_file
           (record { table = o.table; opens = o.found }))
 
-      by : Did disk_of number count (disk_of x.first) z out put end → EndsBy (IsRefused old.file) [] end
+      by : Did disk_of number count (disk_of x.first) z out put end
+          → EndsBy (IsRefusedService old.file) [] end
           × (put ≡ out)
       by (inl (inl is, same)) = (
-        subst (EndsBy (IsRefused old.file) []) (sym is.ended)
-            (refuses old.file is.fault (subst (λ (f : List ℕ). RefusesToOpen CLASSES f is.fault) same_file
-            (is.opening.refused told_there))),
+        subst (EndsBy (IsRefusedService old.file) []) (sym is.ended)
+            (refuses_service old.file is.fault (subst (λ (f : List ℕ). RefusesStore CLASSES f is.fault)
+            same_file (is.opening.refused told_there))),
         same,
       )
       by (inl (inr (inl is), same)) = absurd (never_opened z is.store is.opening)

@@ -4,7 +4,7 @@ use Rattle.std.proofs.Common.{arith, ap, sym, ◌∙◌, inl, inr}
 use Rattle.disk_face.specs.States.{State}
 use Rattle.disk_face.specs.Streams.{SinkState}
 use Rattle.work_command.specs.Doing.{Did, WorkSteps}
-use Rattle.command_face.specs.Refusing.{NeverOpens}
+use Rattle.command_face.specs.Refusing.{NeverServed}
 use Rattle.command_face.specs.Outcomes.{status_at}
 use Rattle.command_face.specs.Mounting.{work}
 use Rattle.command_face.specs.declared.stop.StopReason.{StopReason}
@@ -15,14 +15,14 @@ module _ {D : Type 0} (disk_of : D → State) (file : List ℕ) (number count : 
     (out put : SinkState) (end : Result (Unit {0}) StopReason) (told : IsTrue old.tells)
     (four : status_at end ≡ 4) where
   pub never_did : WorkSteps disk_of (work file number count) number count old z out put end
-      → NeverOpens old.file
-  never_did (inl (is, same)) = elim is.which as (λ _. NeverOpens old.file) [
+      → NeverServed old.file
+  never_did (inl (is, same)) = elim is.which as (λ _. NeverServed old.file) [
     | inl failed ↦ absurd (omega (arith, four, ap status_at failed.0))
     | inr gone ↦ absurd (omega (arith, four, ap status_at gone.0))
   ]
   never_did (inr x) = by x.did
     where
-      by : Did disk_of number count (disk_of x.first) z out put end → NeverOpens old.file
+      by : Did disk_of number count (disk_of x.first) z out put end → NeverServed old.file
       by (inl (inl is, same)) = never_mounted old (disk_of x.first) z is.fault x.mount is.opening told
           (sym (ap status_at is.ended) ∙ four)
       by (inl (inr (inl is), same)) = absurd (omega (arith, four, ap status_at is.ended))
@@ -30,6 +30,6 @@ module _ {D : Type 0} (disk_of : D → State) (file : List ℕ) (number count : 
       by (inr is) = done end four is.only
         where
           done : (e : Result (Unit {0}) StopReason) → status_at e ≡ 4 → OnErr e (e ≡ Err stop.Sink)
-              → NeverOpens old.file
+              → NeverServed old.file
           done (Ok y) n only = absurd (omega (arith, n))
           done (Err why) n only = absurd (omega (arith, n, ap status_at only))

@@ -18,6 +18,7 @@ use Rattle.store_core.specs.States as store
 use Rattle.store_core.specs.Opened.{IsFoundImage, IsOpening, LeavesRoom, RestsOnFound, SameOnFound, state_at}
 use Rattle.reopen.specs.declared.fault.OpenFault.{OpenFault}
 use Rattle.reopen.specs.declared.fault.OpenFault.TheVariants as opening
+use Rattle.store_core.specs.Plain.{IsPlain}
 use Rattle.work_command.specs.Doing.{Did, WorkSteps, IsAllDone, IsNotBegun, IsRefusal, IsStopped}
 use Rattle.command_face.specs.Refusing.{stop_of}
 use Rattle.command_face.specs.Served.{IsNextStart, Starts}
@@ -35,7 +36,7 @@ use Rattle.work_command.proofs.WorkLaws.{all_done, in_a_job, none_begun, none_do
 
 module _ (t : choice.Table) (m : Map) (b : Book) (old : State) (lawful : IsLawful old)
     (told : IsTrue old.tells)
-    (o : OpensBy CLASSES SIZE_MAX t old.file m b)
+    (plain : IsPlain b) (o : OpensBy CLASSES SIZE_MAX t old.file m b)
     {D : Type 0} (disk_of : D → State) (number count : ℕ) (z : State) (out put after : SinkState) where
   abbrev Works : ℕ → Type 0
   Works n = WorkHolds t.chosen.block t m b number count n old z out after
@@ -115,7 +116,7 @@ module _ (t : choice.Table) (m : Map) (b : Book) (old : State) (lawful : IsLawfu
 
       refusal : IsRefusal first z end → Works (status_at end)
       refusal x = carried (Err (stop_of x.fault)) x.ended
-          (unopened_by x.fault (why_unopened t m b first.file x.fault
+          (unopened_by x.fault (why_unopened t m b first.file x.fault plain
           (opens_first t m b old first mount told o)
           (x.opening.refused (told_first t m b old first mount told o))) x.opening)
 

@@ -16,6 +16,7 @@ use Rattle.segment_layout.specs.Books.{Book, book_end}
 use Rattle.table_rules.specs.Opening.{OpensBy}
 use Rattle.table_rules.specs.Sequences.{HasSequenceUpTo}
 use Rattle.store_core.specs.States.{State}
+use Rattle.store_core.specs.Plain.{IsPlain}
 use Rattle.store_core.specs.Opened.{ContinuesFrom, LeavesRoom, RestsOnFound, found_base}
 use Rattle.ask_session.specs.Runs as run
 use Rattle.ask_session.specs.Runs.{last_state}
@@ -25,7 +26,7 @@ use Rattle.work_session.specs.Works.{ArePaidLines, CountsOf, LinesOf}
 use Rattle.work_session.specs.declared.summary.Summary.{Summary}
 use Rattle.command_face.specs.Served.{EndsTight, IsNextStart, OpensTo, OpensToBeing, OpensToKept, Ran, Starts, limits_with, most_left}
 use Rattle.command_face.specs.Outcomes.{PutsLast, PutsLine}
-use Rattle.command_face.specs.Refusing.{NeverOpens}
+use Rattle.command_face.specs.Refusing.{NeverServed}
 use Rattle.work_command.specs.Summaries.{summary_text}
 
 -- ---- statuses
@@ -113,10 +114,10 @@ pub record WorkHolds (u : SuperBlock) (t : choice.Table) (m : Map) (b : Book) (n
       → IsNextStart t (last_state start ran.states) (last_state start ran.states).sequence old new
   pub reach : (last_state start ran.states).sequence ≤ most_left u.k t
 
--- So it is of every file that opens.
+-- So it is of every file of version 1 that opens.
 abbrev pub WorkPromise : ℕ → ℕ → ℕ → disk.State → disk.State → SinkState → SinkState → Type 0
 WorkPromise number count status old new out after = (t : choice.Table) (m : Map) (b : Book)
-    → OpensBy CLASSES SIZE_MAX t old.file m b
+    → IsPlain b → OpensBy CLASSES SIZE_MAX t old.file m b
     → WorkHolds t.chosen.block t m b number count status old new out after
 
 -- ---- whatever is told
@@ -157,6 +158,6 @@ pub record WorkAlways (count status : ℕ) (old new : disk.State) (out after : S
   pub known : (is_working status ≡ true) ⊎ (status ≡ 4)
   pub keeps : KeepsWork old new out after status
   pub untouched : (status ≡ 3) ⊎ (status ≡ 4) → Untouched old new
-  pub refused : IsTrue old.tells → status ≡ 4 → NeverOpens old.file
+  pub refused : IsTrue old.tells → status ≡ 4 → NeverServed old.file
   pub summed : IsTrue (has_worked status) → PutsSummary count status out after
   pub line_alone : IsTrue out.tells → has_worked status ≡ false → PutsLine status out after

@@ -6,6 +6,7 @@ ghost use Rattle.slot_codec.specs.Choice as choice;
 ghost use Rattle.segment_layout.specs.Books.{Book};
 ghost use Rattle.map_model.specs.Maps.{Map};
 ghost use Rattle.table_rules.specs.Opening.{OpensBy};
+ghost use Rattle.store_core.specs.Plain.{IsPlain};
 ghost use Rattle.command_face.specs.Mounting.{IsMounted, mounted, work};
 ghost use Rattle.work_command.specs.Summaries.{eleven_jobs, summary_text};
 ghost use Rattle.work_command.specs.Working.{WorkPromise, WorkAlways};
@@ -21,11 +22,11 @@ pub fn worked_summary()
         ++ codes "seek 58049167360 25165824000\n" }
 {}
 
-/// Where the words are `work FILE NUMBER COUNT`, the mount finds the file, it opens, and no count of
-/// failures rises, all jobs are done or memory is wanting.
+/// Where the words are `work FILE NUMBER COUNT`, the mount finds the file, it opens to a book of version 1,
+/// and no count of failures rises, all jobs are done or memory is wanting.
 pub fn jobs_are_done<B: Bay, O: Sink>()
     ensures { (t : choice.Table) (m : Map) (b : Book) (file : List ℕ) (number count status : ℕ) (old new : B)
-        (out after : O) → OpensBy CLASSES SIZE_MAX t (B.state old).file m b
+        (out after : O) → IsPlain b → OpensBy CLASSES SIZE_MAX t (B.state old).file m b
         → WorkPromise number count status (B.state old) (B.state new) (O.state out) (O.state after)
         → WorkAlways count status (B.state old) (B.state new) (O.state out) (O.state after)
         → IsMounted (work file number count) (B.state new).last_mount (status ≡ 7) (status ≡ 3)

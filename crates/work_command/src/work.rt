@@ -5,7 +5,7 @@ ghost use Rattle.store_core.specs.Connection.{IsConnected};
 ghost use Rattle.store_core.specs.Opened.{IsFresh, IsOpening};
 ghost use Rattle.command_face.specs.Mounting.{IsMounted, work};
 ghost use Rattle.work_command.specs.Doing.{Did, WorkSteps};
-ghost use Rattle.command_face.specs.Refusing.{IsRefused, NeverOpens};
+ghost use Rattle.command_face.specs.Refusing.{IsRefusedService, NeverServed};
 ghost use Rattle.command_face.specs.Outcomes.{Ends};
 ghost use Rattle.work_command.specs.Working.{WorkPromise, WorkAlways};
 
@@ -31,8 +31,9 @@ pub fn work_file<B: Bay, O: Sink>(
     requires most { count ≤ 1000000 }
     ensures works { IsTrue (B.state bay.old).tells → WorkPromise number count result.status (B.state bay.old)
         (B.state bay.new) (O.state output.old) (O.state output.new) }
-    ensures refused { IsTrue (B.state bay.old).tells → NeverOpens (B.state bay.old).file
-        → Ends (IsRefused (B.state bay.old).file) result.status (O.state output.old) (O.state output.new) }
+    ensures refused { IsTrue (B.state bay.old).tells → NeverServed (B.state bay.old).file
+        → Ends (IsRefusedService (B.state bay.old).file) result.status (O.state output.old)
+        (O.state output.new) }
     ensures mounted { IsMounted (work file.now number count) (B.state bay.new).last_mount (result.status ≡ 7)
         (result.status ≡ 3) }
     ensures keeps { WorkAlways count result.status (B.state bay.old) (B.state bay.new) (O.state output.old)

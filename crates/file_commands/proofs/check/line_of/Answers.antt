@@ -1,4 +1,5 @@
 use Rattle.std.proofs.Common.{◌∙◌, ◌++◌, ap, arith, rules, sym}
+use Rattle.std.specs.Prelude.{None}
 use Rattle.reopen.specs.Loads.{table_seen}
 use Rattle.file_commands.proofs.TextLaws.{check_line, records_count, records_volume}
 use Rattle.file_commands.proofs.check.line_of.Goals as goal
@@ -6,8 +7,9 @@ use Rattle.file_commands.proofs.check.line_of.Goals as goal
 pub returns : goal.returns
 returns c =
     let x = c.args.loaded.now in
-    check_line (table_seen x) c.args.length c.count-count.result c.volume.result c.saturating_sub-data.result
-    c.push.new.piece.items c.push_three.new.piece.items c.push_three-2.new.piece.items
+    check_line (table_seen x None) c.args.length c.count-count.result c.volume.result
+    c.saturating_sub-data.result c.push.new.piece.items c.push_three.new.piece.items
+    c.push_three-2.new.piece.items
     c.push-2.new.piece.items
     (c.count-count.ensures.value ∙ sym (records_count x c.requires.loaded))
     (c.volume.ensures ∙ sym (records_volume x c.requires.loaded))

@@ -1,6 +1,7 @@
 use Rattle.std.proofs.Common.{arith, refl, sym, subst, ◌∙◌, ap}
 use Rattle.flush_model.specs.Phases.{IsLaidWhole, moved_by}
 use Rattle.flush_plan.specs.Lays.{KeepsLaying, Lay}
+use Rattle.slot_codec.specs.declared.codec.Header.{Header}
 use Rattle.flush_run.specs.Loops.{MidLay, LaysPaid}
 use Rattle.flush_run.specs.Parts.{parts_of}
 use Rattle.flush_run.proofs.LeftLaws.{left_then, left_wider, none_of, source_within, still_told, target_within, told_before}
@@ -36,12 +37,15 @@ free_target-requires g c =
         (
           omega (arith, i.made.keeps.buffer, c.requires.buffer),
           (
-            lay_fresh i start step,
+            ap (λ (h : Header). h.version) c.requires.moving,
             (
-              c.requires.ranges,
+              lay_fresh i start step,
               (
-                (i.all c.requires.start.0 start).lays.goes.hands.table,
-                (lay_names i start step, (λ told. lay_head i start told, λ told. lay_slot i start told)),
+                c.requires.ranges,
+                (
+                  (i.all c.requires.start.0 start).lays.goes.hands.table,
+                  (lay_names i start step, (λ told. lay_head i start told, λ told. lay_slot i start told)),
+                ),
               ),
             ),
           ),

@@ -2,6 +2,7 @@ use Rattle.std.proofs.Common.{arith, refl, sym, subst, ap, ◌∙◌}
 use Rattle.flush_model.specs.Phases.{lifted_in}
 use Rattle.flush_model.specs.Phases.{IsPackedWhole, moved_by}
 use Rattle.flush_plan.specs.Packs.{KeepsPacking, Pack}
+use Rattle.slot_codec.specs.declared.codec.Header.{Header}
 use Rattle.flush_run.specs.Loops.{MidPack, PacksPaid}
 use Rattle.flush_run.specs.Parts.{parts_of}
 use Rattle.flush_run.proofs.LeftLaws.{left_then, left_wider, none_of, source_within, still_told, target_within, told_before}
@@ -37,12 +38,15 @@ free_target-requires g c =
         (
           omega (arith, i.made.keeps.buffer, c.requires.buffer),
           (
-            pack_fresh i start step,
+            ap (λ (h : Header). h.version) c.requires.moving,
             (
-              c.requires.ranges,
+              pack_fresh i start step,
               (
-                (i.all c.requires.start.0 start).packs.goes.hands.table,
-                (pack_names i start step, (λ told. pack_head i start told, λ told. pack_slot i start told)),
+                c.requires.ranges,
+                (
+                  (i.all c.requires.start.0 start).packs.goes.hands.table,
+                  (pack_names i start step, (λ told. pack_head i start told, λ told. pack_slot i start told)),
+                ),
               ),
             ),
           ),

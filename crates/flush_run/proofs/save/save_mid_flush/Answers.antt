@@ -1,4 +1,6 @@
-use Rattle.std.proofs.Common.{arith, subst, sym}
+use Rattle.std.proofs.Common.{ap, arith, subst, sym}
+use Rattle.slot_codec.proofs.CapLaws.{cap-one}
+use Rattle.slot_codec.specs.Spelling.{cap}
 use Rattle.slot_pair.specs.Saves.{next_in_use}
 use Rattle.extent_table.proofs.ExtentLaws.{records_of-few}
 use Rattle.extent_table.proofs.SaveLaws.{records_in_range}
@@ -15,6 +17,8 @@ save-requires-clause-count g c = omega (
   records_of-few c.args.hands.now.table.now,
   c.requires.table.now_room,
   c.requires.names,
+  ap (cap c.args.hands.now.slots.block.names) c.requires.version,
+  cap-one c.args.hands.now.slots.block.names,
 )
 
 pub returns-in_err-save-clause-left : goal.returns-in_err-save-clause-left

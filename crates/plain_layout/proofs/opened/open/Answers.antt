@@ -1,4 +1,5 @@
 use Rattle.std.proofs.Common.{rules, subst, refl, ap}
+use Rattle.segment_layout.specs.Books.{with_digests}
 use Rattle.plain_layout.specs.Plain.{placed}
 use Rattle.table_rules.specs.Tables.{book_of}
 use Rattle.plain_layout.specs.Opened.{table_seen}
@@ -15,8 +16,8 @@ returns-in_err-opened-clause-refused g c =
 pub returns-in-Some-clause-refused : goal.returns-in-Some-clause-refused
 returns-in-Some-clause-refused g c =
     record {
-      table = table_seen c.in_ok-opened.opened;
-      read = c.in_ok-opened.ensures.read;
+      table = table_seen c.in_ok-opened.opened c.in_ok-opened.ensures.read.digests;
+      read = c.in_ok-opened.ensures.read.read;
       first = subst (λ t. FirstBroken t c.in-Some.number c.in-Some.at) c.in_ok-opened.ensures.placed
           c.in-Some.ensures.first;
     }
@@ -26,11 +27,11 @@ returns-in-None-clause-opens g c =
     let o = c.in_ok-opened in
     let valid : IsValid (placed o.opened.table) = c.in-None.ensures.valid.0 refl in
     record {
-      table = table_seen o.opened;
+      table = o.ensures.read;
       opens = record {
-        read = o.ensures.read;
+        read = o.ensures.read.read;
         valid = subst IsValid o.ensures.placed valid;
         same_map = refl;
-        same_book = ap book_of o.ensures.placed;
+        same_book = ap (λ t. with_digests o.ensures.read.digests (book_of t)) o.ensures.placed;
       };
     }

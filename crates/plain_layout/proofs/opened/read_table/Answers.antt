@@ -42,5 +42,4 @@ returns-clause-read g c =
     let same_last = c.length_of.ensures.frame.same_file told_later in
     let good = rw same at (c.in-Ok-read_chosen_header.ensures.header told) in
     let read = rw same at (rw same_later at (rw same_last at c.in_ok-records.ensures.read)) in
-    a_table (g.D.Disk.state c.args.disk.now).file (chosen_of c.in-Ok.found c.in-Ok-read_chosen_header.header)
-    c.in_ok-records.records.items good read
+    a_table (g.D.Disk.state c.args.disk.now).file _ good read

@@ -1,7 +1,7 @@
 use Rattle.std.proofs.Common.{◌≡◌, ◌⊎◌, ◌∙◌, true, ap, sym, subst}
 use Rattle.std.specs.Prelude.{IsTrue}
 use Rattle.command_face.specs.Mounting.{IsMounted, run}
-use Rattle.command_face.specs.Refusing.{IsRefused}
+use Rattle.command_face.specs.Refusing.{IsRefusedService}
 use Rattle.run_command.specs.Headline.{HasMounted, IsKeptTurn, RunHolds, is_session}
 use Rattle.command_face.specs.Outcomes.{status_at}
 use Rattle.run_command.specs.Sessions.{HasCounted, IsUnserved}
@@ -14,7 +14,7 @@ use Rattle.run_command.proofs.WentLaws.{known, refused_by, untouched, whole}
 use Rattle.run_command.proofs.run.run_file.Goals as goal
 
 pub returns-clause-headline : goal.returns-clause-headline
-returns-clause-headline g c = λ told source t m b requests end o asks.
+returns-clause-headline g c = λ told source t m b requests end plain o asks.
     let e = c.serve_file-ended.result in
     let status : c.finish-outcome.result.status ≡ status_at e.end =
     ap (λ (x : Outcome). x.status) c.finish-outcome.ensures.status in
@@ -32,7 +32,7 @@ returns-clause-headline g c = λ told source t m b requests end o asks.
     (headline g.B.Disk.state g.I.Source.state g.O.Sink.state g.met.B.Disk.lawful c.args.bay.now
     c.serve_file-ended.new.bay c.args.input.now c.serve_file-ended.new.input c.args.output.now
     c.serve_file-ended.new.output (g.O.Sink.state c.finish-outcome.new.output) told source t m b requests end
-    o asks (run c.args.file.now) e c.serve_file-ended.ensures
+    plain o asks (run c.args.file.now) e c.serve_file-ended.ensures
     (line_after (g.B.Disk.state c.args.bay.now) (g.B.Disk.state c.serve_file-ended.new.bay)
     (g.I.Source.state c.args.input.now) (g.I.Source.state c.serve_file-ended.new.input)
     (g.O.Sink.state c.args.output.now) (g.O.Sink.state c.serve_file-ended.new.output)
@@ -55,7 +55,7 @@ returns-clause-refused g c = λ told never.
     (g.O.Sink.state c.args.output.now) (g.O.Sink.state c.serve_file-ended.new.output)
     (g.O.Sink.state c.finish-outcome.new.output) e.end c.finish-outcome.result.status status w.keeps
     c.finish-outcome.ensures.line (ap g.O.Sink.state refused.1)
-    (IsRefused (g.B.Disk.state c.args.bay.now).file) refused.0
+    (IsRefusedService (g.B.Disk.state c.args.bay.now).file) refused.0
 
 pub returns-clause-known : goal.returns-clause-known
 returns-clause-known g c =

@@ -1,7 +1,10 @@
-use Rattle.std.proofs.Common.{◌∙◌, IsTrue, Ok, ap, arith, sym}
+use Rattle.std.proofs.Common.{◌∙◌, ◌-◌, ◌≤◌, IsTrue, Ok, ap, arith, length, subst, sym}
 use Rattle.std.proofs.lemmas.Grind.{common_steps}
 use Rattle.slot_codec.specs.Choice.{InUse}
+use Rattle.slot_codec.proofs.CapLaws.{records_fit}
+use Rattle.slot_codec.specs.Spelling.{cap, head_len}
 use Rattle.slot_pair.specs.Finding.{in_use_of}
+use Rattle.slot_pair.proofs.SaveLaws.{other_low, slot_end}
 use Rattle.slot_pair.proofs.SavePhases.{Begins, IsClosed, IsWritten, is_closed, is_written, left_closing, left_filling, left_opening, opened_in_use, opened_saved}
 use Rattle.slot_pair.proofs.pair.SlotPair.save.Given.{Over}
 use Rattle.slot_pair.proofs.pair.SlotPair.save.Goals as goal
@@ -18,11 +21,18 @@ begun g c told =
       in_use = c.requires.in_use told ∙ ap (λ x. Ok x) (sym view);
       names = c.self.invariant.0.names_high;
       sequence = omega (arith, c.requires.fresh, ap (λ (u : InUse). u.sequence) view);
-      few = omega (arith, c.requires.count, ap (λ (u : InUse). u.block.names) view);
+      few = omega (
+        arith,
+        c.requires.count,
+        ap
+            (λ (u : InUse). cap u.block.names c.args.header.now.version) view,
+      );
+      version = c.requires.version;
       whole = c.header_is_whole.ensures;
       numbers = c.requires.ranges;
       roll = g.met.R.Roll.in_order c.args.roll.now;
       ranges = c.requires.records;
+      digests = g.met.R.Roll.digested c.args.roll.now;
     }
 
 -- the other slot is closed
@@ -80,6 +90,41 @@ returns-clause-saved g c = λ told.
     rw (← c.self.view_is) (opened_saved (written g at.In_ok-write_table is) c.open_gate.ensures.writes
     c.in_ok-open_gate.ensures.opened)
 
+-- the records that are written lie within the slot's bytes for them
+pub write_table-requires-clause-fits : goal.write_table-requires-clause-fits
+write_table-requires-clause-fits g c =
+    let u = in_use_of c.self.inside.found in
+    let v = c.args.header.now.version in
+    let rs = g.R.Roll.records c.args.roll.now in
+    let few : length rs ≤ cap u.block.names v =
+    omega (arith, c.requires.count, ap (λ (x : InUse). cap x.block.names v) c.self.view_is) in
+    omega (
+      arith,
+      records_fit u.block.names v (length rs) few,
+      slot_end u.block.names (1 - u.slot) (other_low u.slot),
+      c.slot_at.ensures,
+      c.self.invariant.0.names_high,
+    )
+
+pub write_table-requires-clause-within : goal.write_table-requires-clause-within
+write_table-requires-clause-within g c = λ told.
+    let u = in_use_of c.self.inside.found in
+    let v = c.args.header.now.version in
+    let rs = g.R.Roll.records c.args.roll.now in
+    let at_first : IsTrue (g.D.Disk.state c.args.disk.now).tells =
+    subst IsTrue c.close_other.ensures.writes.stays.told told in
+    let few : length rs ≤ cap u.block.names v =
+    omega (arith, c.requires.count, ap (λ (x : InUse). cap x.block.names v) c.self.view_is) in
+    omega (
+      arith,
+      records_fit u.block.names v (length rs) few,
+      slot_end u.block.names (1 - u.slot) (other_low u.slot),
+      c.slot_at.ensures,
+      c.requires.long at_first,
+      ap (λ (x : InUse). head_len x.block.names) c.self.view_is,
+      (c.close_other.ensures.writes.others at_first).same_length,
+    )
+
 pub close_other-requires : goal.close_other-requires
 close_other-requires g c = grind (arith, common_steps)
 
@@ -109,9 +154,6 @@ returns-in_err-close_other-clause-frame g c = grind (arith, common_steps)
 
 pub slot_at-requires : goal.slot_at-requires
 slot_at-requires g c = grind (arith, common_steps)
-
-pub write_table-requires : goal.write_table-requires
-write_table-requires g c = grind (arith, common_steps)
 
 pub returns-in_err-write_table-clause-answer : goal.returns-in_err-write_table-clause-answer
 returns-in_err-write_table-clause-answer g c = grind (arith, common_steps)
@@ -148,9 +190,6 @@ returns-in_err-open_gate-clause-pair g c = grind (arith, common_steps)
 
 pub returns-in_err-open_gate-clause-same_pair : goal.returns-in_err-open_gate-clause-same_pair
 returns-in_err-open_gate-clause-same_pair g c = grind (arith, common_steps)
-
-pub returns-in_err-open_gate-clause-calls : goal.returns-in_err-open_gate-clause-calls
-returns-in_err-open_gate-clause-calls g c = grind (arith, common_steps)
 
 pub returns-in_err-open_gate-clause-in_use : goal.returns-in_err-open_gate-clause-in_use
 returns-in_err-open_gate-clause-in_use g c = grind (arith, common_steps)

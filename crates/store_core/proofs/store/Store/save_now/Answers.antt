@@ -2,6 +2,9 @@ use Rattle.std.proofs.Common.{◌∙◌, ap, arith, rules, true}
 use Rattle.store_core.specs.Connection.{StoreValue}
 use Rattle.std.specs.Vec.{with_items}
 use Rattle.size_class.specs.declared.TheConstants.{SIZE_MAX}
+use Rattle.slot_codec.specs.Spelling.{cap}
+use Rattle.slot_codec.specs.declared.codec.Header.{Header}
+use Rattle.slot_codec.proofs.CapLaws.{cap-one}
 use Rattle.segment_layout.specs.Layouts.{caps_of, grid_of}
 use Rattle.extent_table.proofs.ExtentLaws.{records_of-few}
 use Rattle.extent_table.proofs.SaveLaws.{records_in_range}
@@ -16,12 +19,17 @@ save-requires-clause-records g c = records_in_range c.self.inside.hands.table
     (c.self.invariant.table (ap (λ (x : StoreValue). x.is_broken) c.self.view_is ∙ c.requires.whole))
 
 pub save-requires-clause-count : goal.save-requires-clause-count
-save-requires-clause-count g c = omega (
-  arith,
-  records_of-few c.self.inside.hands.table.now,
-  (c.self.invariant.table (ap (λ (x : StoreValue). x.is_broken) c.self.view_is ∙ c.requires.whole)).now_room,
-  c.self.invariant.room,
-)
+save-requires-clause-count g c =
+    let names = c.self.inside.hands.slots.block.names in
+    omega (
+      arith,
+      records_of-few c.self.inside.hands.table.now,
+      (c.self.invariant.table (ap (λ (x : StoreValue). x.is_broken) c.self.view_is
+          ∙ c.requires.whole)).now_room,
+      c.self.invariant.room,
+      ap (λ (h : Header). cap names h.version) c.header_of-next.ensures.header,
+      cap-one names,
+    )
 
 pub returns-in-Err-clause-kept : goal.returns-in-Err-clause-kept
 returns-in-Err-clause-kept g c =

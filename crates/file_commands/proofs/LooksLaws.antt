@@ -1,0 +1,34 @@
+-- A step that looks at a file, and then asks for its length.
+use Rattle.std.specs.Prelude.{◌≡◌, Result, Ok, Err, refl}
+use Rattle.std.proofs.Common.{◌∙◌, arith, subst}
+use Rattle.disk_face.specs.Counts.{HasCause, Rose}
+use Rattle.disk_face.specs.Frames.{Unchanged}
+use Rattle.disk_face.specs.States.{State}
+use Rattle.disk_face.proofs.FrameLaws.{Unchanged-trans}
+use Rattle.command_face.specs.Layers.{Looks}
+use Rattle.command_face.specs.declared.stop.StopReason.TheVariants as stop
+
+module _ {T U A E : Type 0} (a b d : State) (x : T) (looks : Looks a b (Ok x)) (same : Unchanged b d) where
+  -- both were answered
+  pub looks_ok : (y : U) (n : A) → HasCause {T = A} {E = E} b.faults d.faults (Ok n) → Looks a d (Ok y)
+  looks_ok y n h = record {
+    only = tt;
+    cause = record {
+      later = omega (arith, looks.cause.later, h.later);
+      rose = λ is. absurd (cc);
+      calm = λ other. h.calm ∙ looks.cause.calm (λ is. absurd (cc));
+    };
+    frame = Unchanged-trans looks.frame same;
+  }
+
+  -- the length wasn't, since the disk failed
+  pub looks_failed : (e : E) → HasCause {T = A} {E = E} b.faults d.faults (Err e) → Looks {T = U} a d (Err stop.Disk)
+  looks_failed e h = record {
+    only = (λ is. absurd (cc), λ is. absurd (cc), λ is. absurd (cc));
+    cause = record {
+      later = omega (arith, looks.cause.later, h.later);
+      rose = λ is. subst (λ n. Rose n d.faults) (looks.cause.calm (λ ok. absurd (cc))) h.rose;
+      calm = λ other. absurd (other refl);
+    };
+    frame = Unchanged-trans looks.frame same;
+  }
