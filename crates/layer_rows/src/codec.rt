@@ -4,8 +4,9 @@ ghost use Rattle.std.specs.Prelude.{◌≡◌, length};
 
 use crate::rows::try_holds;
 use slot_codec::{
-    CodecFault, HEADER_LEN, Header, Kind, RECORD_LEN, Record, SUPERBLOCK_LEN, SuperBlock,
-    read_header, read_record, read_superblock, write_header, write_record, write_superblock,
+    CodecFault, DIGEST_LEN, HEADER_LEN, Header, Kind, RECORD_LEN, Record, SUPERBLOCK_LEN,
+    SuperBlock, read_header, read_record, read_superblock, write_header, write_record,
+    write_superblock,
 };
 
 /// A position, the byte that is put there, and the fault of what is then read; none where it is read whole.
@@ -21,7 +22,8 @@ const SUPERBLOCKS: &[Row] = &[
 
 const HEADERS: &[Row] = &[
     (0, 1, None),
-    (0, 2, Some(CodecFault::Version)),
+    (0, 2, None),
+    (0, 3, Some(CodecFault::Version)),
     (1, 2, Some(CodecFault::Kind)),
     (7, 1, Some(CodecFault::Zeros)),
     (15, 0x40, Some(CodecFault::Worn)),
@@ -35,6 +37,22 @@ const RECORDS: &[Row] = &[
     (1, 0x20, Some(CodecFault::NameBytes)),
     (63, 1, Some(CodecFault::Zeros)),
     (70, 1, Some(CodecFault::Range)),
+];
+
+/// In version 2 there is room for 11 records.
+const FEWER: &[Row] = &[
+    (16, 11, None),
+    (16, 12, Some(CodecFault::Count)),
+    (0, 0, Some(CodecFault::Version)),
+];
+
+/// In version 2 the digest ends a record, and may be any 32 bytes.
+const DIGESTED: &[Row] = &[
+    (80, 0xFF, None),
+    (111, 0xFF, None),
+    (0, 64, Some(CodecFault::NameBytes)),
+    (2, 1, Some(CodecFault::Zeros)),
+    (79, 1, Some(CodecFault::Range)),
 ];
 
 /// Puts a byte at a position, if the bytes have it.
@@ -83,15 +101,16 @@ fn a_superblock_is_read_or_its_first_fault(rt: HostRuntime) {
     }
 }
 
-/// The header of the file.
-fn settled_header() -> Header {
+/// The header of the file, in a version and with a count.
+fn settled_header(version: u8, count: u64) -> Header {
     let mut caps = [0; 32];
     caps[2] = 5;
     Header {
+        version,
         kind: Kind::Settled,
         boundary: 0,
         sequence: 1,
-        count: 1,
+        count,
         wall: 0,
         slack: 0,
         caps,
@@ -99,10 +118,10 @@ fn settled_header() -> Header {
     }
 }
 
-/// The header of the file as bytes, but for one byte.
-fn header_bytes(at: usize, byte: u8) -> [u8; HEADER_LEN] {
+/// The header of the file as bytes, in a version, but for one byte.
+fn header_bytes(version: u8, at: usize, byte: u8) -> [u8; HEADER_LEN] {
     let mut bytes = [0u8; HEADER_LEN];
-    bytes[0] = 1;
+    bytes[0] = version;
     bytes[8] = 1;
     bytes[16] = 1;
     bytes[56] = 5;
@@ -118,11 +137,13 @@ fn written_header(header: &Header) -> [u8; HEADER_LEN] {
 }
 
 /// Whether a header is read and written again, or has this fault.
-fn is_header(at: usize, byte: u8, fault: Option<CodecFault>) -> bool {
-    let bytes = header_bytes(at, byte);
+fn is_header(version: u8, at: usize, byte: u8, fault: Option<CodecFault>) -> bool {
+    let bytes = header_bytes(version, at, byte);
     match read_header(&bytes, 16) {
         Ok(header) => {
-            fault.is_none() && header == settled_header() && written_header(&header) == bytes
+            fault.is_none()
+                && header == settled_header(bytes[0], bytes[16] as u64)
+                && written_header(&header) == bytes
         }
         Err(found) => Some(found) == fault,
     }
@@ -131,7 +152,14 @@ fn is_header(at: usize, byte: u8, fault: Option<CodecFault>) -> bool {
 #[test]
 fn a_header_is_read_or_its_first_fault(rt: HostRuntime) {
     for (at, byte, fault) in HEADERS {
-        try_holds(&rt, is_header(*at, *byte, *fault), &(at, byte));
+        try_holds(&rt, is_header(1, *at, *byte, *fault), &(at, byte));
+    }
+}
+
+#[test]
+fn version_2_has_room_for_fewer_records(rt: HostRuntime) {
+    for (at, byte, fault) in FEWER {
+        try_holds(&rt, is_header(2, *at, *byte, *fault), &(at, byte));
     }
 }
 
@@ -146,9 +174,10 @@ fn record_bytes(at: usize, byte: u8) -> [u8; RECORD_LEN] {
 }
 
 /// What is written of a record.
+#[tactic(auto, unfolding(slot_codec::specs::Spelling::record_len))]
 fn written_record(record: &Record) -> [u8; RECORD_LEN] {
     let mut out = [0xFF; RECORD_LEN];
-    write_record(record, &mut out);
+    write_record(record, 1, &mut out);
     out
 }
 
@@ -158,10 +187,16 @@ fn is_object(record: &Record) -> bool {
 }
 
 /// Whether a record is read and written again, or has this fault.
+#[tactic(auto, unfolding(slot_codec::specs::Spelling::record_len))]
 fn is_record(at: usize, byte: u8, fault: Option<CodecFault>) -> bool {
     let bytes = record_bytes(at, byte);
-    match read_record(&bytes) {
-        Ok(record) => fault.is_none() && is_object(&record) && written_record(&record) == bytes,
+    match read_record(&bytes, 1) {
+        Ok(record) => {
+            fault.is_none()
+                && is_object(&record)
+                && record.digest == [0; DIGEST_LEN]
+                && written_record(&record) == bytes
+        }
         Err(found) => Some(found) == fault,
     }
 }
@@ -170,5 +205,49 @@ fn is_record(at: usize, byte: u8, fault: Option<CodecFault>) -> bool {
 fn a_record_is_read_or_its_first_fault(rt: HostRuntime) {
     for (at, byte, fault) in RECORDS {
         try_holds(&rt, is_record(*at, *byte, *fault), &(at, byte));
+    }
+}
+
+/// How long a record of version 2 is.
+const DIGESTED_LEN: usize = RECORD_LEN + DIGEST_LEN;
+
+/// The record of the file as bytes of version 2, but for one byte. Byte `i` of its digest is `128 + i`.
+fn digested_bytes(at: usize, byte: u8) -> [u8; DIGESTED_LEN] {
+    let mut bytes = [0u8; DIGESTED_LEN];
+    bytes[..RECORD_LEN].copy_from_slice(&record_bytes(1, b'a'));
+    'digest: for i in 0..DIGEST_LEN {
+        bytes[RECORD_LEN + i] = 128 + i as u8;
+    }
+    put(&mut bytes, at, byte);
+    bytes
+}
+
+/// What is written of a record in version 2.
+#[tactic(auto, unfolding(slot_codec::specs::Spelling::record_len))]
+fn written_digested(record: &Record) -> [u8; DIGESTED_LEN] {
+    let mut out = [0xFF; DIGESTED_LEN];
+    write_record(record, 2, &mut out);
+    out
+}
+
+/// Whether a record of version 2 is read and written again, or has this fault.
+#[tactic(auto, unfolding(slot_codec::specs::Spelling::record_len))]
+fn is_digested(at: usize, byte: u8, fault: Option<CodecFault>) -> bool {
+    let bytes = digested_bytes(at, byte);
+    match read_record(&bytes, 2) {
+        Ok(record) => {
+            fault.is_none()
+                && is_object(&record)
+                && record.digest.as_slice() == &bytes[RECORD_LEN..]
+                && written_digested(&record) == bytes
+        }
+        Err(found) => Some(found) == fault,
+    }
+}
+
+#[test]
+fn a_record_of_version_2_ends_with_its_digest(rt: HostRuntime) {
+    for (at, byte, fault) in DIGESTED {
+        try_holds(&rt, is_digested(*at, *byte, *fault), &(at, byte));
     }
 }

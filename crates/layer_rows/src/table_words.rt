@@ -37,6 +37,7 @@ pub(crate) const FEWER: Limits = (21, 1_048_576);
 /// The header of a table.
 pub(crate) fn header_of(words: &TableWords) -> Header {
     let bare = Header {
+        version: 1,
         kind: words.kind,
         boundary: words.boundary,
         sequence: 1,
@@ -97,6 +98,7 @@ fn records_of(alloc: Global, objects: &[(u8, u64, u64)]) -> Result<Vec<Record>, 
                 name,
                 place: *place,
                 size: *size,
+                digest: [0; 32],
             })?;
         }
     }

@@ -73,7 +73,8 @@ const HEADS: &[Row] = &rows! {
     SETTLED 19608, [(19602, 0)] => "fault store slot 2\n";
     SETTLED 19608, [(9832, 0)] => "fault store slot 3\n";
     SETTLED 19608, [(72, 8), (9833, 1), (9841, 8), (19601, 0xA5)] => "fault store slot 4\n";
-    SETTLED 19608, [(64, 2)] => "fault store codec 3 at 64\n";
+    SETTLED 19608, [(64, 0)] => "fault store codec 3 at 64\n";
+    SETTLED 19608, [(64, 3)] => "fault store codec 3 at 64\n";
     SETTLED 19608, [(65, 2)] => "fault store codec 4 at 64\n";
     SETTLED 19608, [(67, 1)] => "fault store codec 5 at 64\n";
     // The sequence 2^62.

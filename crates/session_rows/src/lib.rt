@@ -8,6 +8,8 @@ mod answers;
 #[cfg(test)]
 mod cases;
 #[cfg(test)]
+mod digested;
+#[cfg(test)]
 mod eleven;
 #[cfg(test)]
 mod failing_calls;

@@ -60,7 +60,7 @@ const NO_SLOT: [Row; 11] = rows! {
         "two open slots of one sequence": 19608, [(9833, 1), (9841, 1), (19601, 0xA5)]
             => Some(Refusal::Slot(SlotFault::SameSequence));
         "an empty table of a greater sequence": 19608, [(9833, 1), (9841, 2), (19601, 0xA5)] => None;
-        "another version": 19608, [(64, 2)] => Some(Refusal::Slot(SlotFault::Codec(CodecFault::Version, 64)));
+        "another version": 19608, [(64, 3)] => Some(Refusal::Slot(SlotFault::Codec(CodecFault::Version, 64)));
         "a byte behind a name": 19608, [(8554, 1)]
             => Some(Refusal::Slot(SlotFault::Codec(CodecFault::Zeros, 8552)));
         "one name twice": 19608, [(80, 2), (8632, 1), (8633, b'a')]

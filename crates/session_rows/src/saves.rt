@@ -1,17 +1,21 @@
 //! Saving a table of names, and every image that a crash may leave of it.
+ghost use Rattle.std.specs.Prelude.{IsTrue};
+ghost use Rattle.slot_codec.specs.Reading.{all_in_range, is_version};
+
 use crate::answers::{got, try_bytes, try_holds, try_number};
 use crate::images::{CHOICES, image_at};
 use disk_face::Disk;
 use disk_mem::{Choice, MemDisk};
 use extent_table::{Spot, Table, a_table_can_be_saved};
 use row_vectors::runs::run;
-use slot_codec::{HEADER_LEN, Header, Kind, Name, RECORD_LEN, read_header, read_record};
+use slot_codec::{HEADER_LEN, Header, Kind, Name, RECORD_LEN, cap, read_header, read_record};
 use slot_pair::SlotPair;
 use std::alloc::Global;
 use std::process::Abort;
 
 /// The settled header of a table whose class 2 has a capacity of 5.
 const HEADER: &Header = &Header {
+    version: 1,
     kind: Kind::Settled,
     boundary: 0,
     sequence: 0,
@@ -45,15 +49,36 @@ fn table_of(rt: &impl Abort, alloc: Global, objects: &[Object]) -> Table {
     table
 }
 
-/// Saves a table on a disk that is a store, and answers the sequence.
+/// Saves a table on a disk that is a store, under the header of these tests, and answers the sequence.
 fn save(rt: &impl Abort, alloc: Global, disk: &mut MemDisk, table: &Table) -> u64 {
+    save_table(rt, alloc, disk, HEADER, table)
+}
+
+/// Whether files have tables of a version.
+fn is_known(version: u8) -> bool
+    ensures { IsTrue result → IsTrue (is_version version) }
+{
+    version == 1 || version == 2
+}
+
+/// Saves a table under a header on a disk that is a store, and answers the sequence.
+fn save_table(
+    rt: &impl Abort,
+    alloc: Global,
+    disk: &mut MemDisk,
+    header: &Header,
+    table: &Table,
+) -> u64
+    requires { IsTrue (all_in_range header.now) }
+{
     let found = SlotPair::find(disk).expect(rt, "a store");
     let mut pair = SlotPair::of(&found);
-    let mut buf = vec![in alloc; 0u8; 40_960].expect(rt, "memory");
+    let mut buf = vec![in alloc; 0u8; 57_344].expect(rt, "memory");
     a_table_can_be_saved();
-    assert!(rt; table.count() <= found.block.names);
+    assert!(rt; is_known(header.version));
+    assert!(rt; table.count() <= cap(found.block.names, header.version));
     assert!(rt; pair.sequence() < 1 << 61);
-    pair.save(disk, HEADER, table, &mut buf)
+    pair.save(disk, header, table, &mut buf)
         .expect(rt, "a save")
 }
 
@@ -175,11 +200,12 @@ fn leaves_the_old_table_or_the_new_one(rt: HostRuntime) {
 }
 
 /// A record of a file of 19,603 bytes.
+#[tactic(auto, unfolding(slot_codec::specs::Spelling::record_len))]
 fn try_record(rt: &impl Abort, disk: &mut MemDisk, at: u64, (name, place, size): Object) {
     let mut bytes = [0u8; RECORD_LEN];
     assert!(rt; disk.len().expect(rt, "a length") == 19603 && at < 19_000);
     disk.read_at(at, &mut bytes).expect(rt, "a read");
-    let record = read_record(&bytes).expect(rt, "a record");
+    let record = read_record(&bytes, 1).expect(rt, "a record");
     try_bytes(rt, record.name.as_bytes(), name.as_bytes(), &at);
     try_number(rt, record.place, place, &name);
     try_number(rt, record.size, size, &name);

@@ -22,10 +22,13 @@ const BYTES: [(CodecFault, &str); 10] = [
         CodecFault::Params,
         "the divisor or the number of names is out of range",
     ),
-    (CodecFault::Version, "the version isn't 1"),
+    (CodecFault::Version, "the version is neither 1 nor 2"),
     (CodecFault::Kind, "the kind is neither settled nor moving"),
     (CodecFault::Zeros, "a byte that must be zero isn't"),
-    (CodecFault::Count, "there are more records than names"),
+    (
+        CodecFault::Count,
+        "there are more records than the slot has room for",
+    ),
     (
         CodecFault::NameBytes,
         "the name isn't 1 to 63 bytes of printable ASCII",
@@ -56,7 +59,7 @@ const SLOTS: [(SlotFault, &str); 6] = [
     (SlotFault::SameSequence, "both slots have one sequence"),
     (
         SlotFault::Codec(CodecFault::Version, 64),
-        "the version isn't 1, at 64",
+        "the version is neither 1 nor 2, at 64",
     ),
     (SlotFault::Disk, "the disk failed"),
 ];

@@ -1,13 +1,13 @@
 //! A checkpoint as it stands in a file: saving it, and telling whether a file opens to it.
 ghost use Rattle.std.specs.Prelude.{◌≡◌, ◌≤◌, IsTrue, length};
-ghost use Rattle.slot_codec.specs.Reading.{all_in_range};
+ghost use Rattle.slot_codec.specs.Reading.{all_in_range, is_version};
 
 use disk_face::{Disk, length_of};
 use disk_mem::MemDisk;
 use extent_table::{Spot, Table, a_table_can_be_saved};
 use plain_layout::open;
 use size_class::{CLASSES, SIZE_MAX};
-use slot_codec::{Header, Name, SuperBlock};
+use slot_codec::{Header, Name, SuperBlock, cap};
 use slot_pair::SlotPair;
 use std::alloc::Global;
 use std::process::Abort;
@@ -111,6 +111,13 @@ fn add(rt: &impl Abort, table: &mut Table, object: &Object) {
     table.set(&name, Spot { place, size });
 }
 
+/// Whether files have tables of a version.
+fn is_known(version: u8) -> bool
+    ensures { IsTrue result → IsTrue (is_version version) }
+{
+    version == 1 || version == 2
+}
+
 /// Saves a table in a file that is a store.
 fn save_table<D: Disk>(rt: &impl Abort, alloc: Global, disk: &mut D, header: &Header, table: &Table)
     requires ready { IsTrue (D.state disk.old).is_ready }
@@ -121,9 +128,10 @@ fn save_table<D: Disk>(rt: &impl Abort, alloc: Global, disk: &mut D, header: &He
 {
     let found = SlotPair::find(disk).expect(rt, "a store");
     let mut pair = SlotPair::of(&found);
-    let mut buf = vec![in alloc; 0u8; 40_960].expect(rt, "memory");
+    let mut buf = vec![in alloc; 0u8; 57_344].expect(rt, "memory");
     a_table_can_be_saved();
-    assert!(rt; table.count() <= found.block.names);
+    assert!(rt; is_known(header.version));
+    assert!(rt; table.count() <= cap(found.block.names, header.version));
     assert!(rt; pair.sequence() < 1 << 61);
     pair.save(disk, header, table, &mut buf)
         .expect(rt, "a save");

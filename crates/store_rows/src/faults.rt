@@ -57,6 +57,7 @@ fn try_worn(rt: &impl Abort, alloc: Global, trial: &mut Trial<MemDisk>) {
 fn worn_kept() -> Checkpoint {
     Checkpoint {
         header: Header {
+            version: 1,
             sequence: 1 << 61,
             ..worked::ONE.header
         },

@@ -94,6 +94,7 @@ fn looks_after(step: &Step, turns: u64) -> Looks {
 pub fn checkpoint_after(step: &Step) -> Checkpoint {
     Checkpoint {
         header: Header {
+            version: 1,
             kind: Kind::Settled,
             boundary: 0,
             sequence: step.sequence,

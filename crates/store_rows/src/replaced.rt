@@ -44,6 +44,7 @@ fn flushes_for_a_put_that_finds_room(rt: HostRuntime) {
 fn two_kept() -> Checkpoint {
     Checkpoint {
         header: Header {
+            version: 1,
             sequence: 3,
             ..TWO.header
         },

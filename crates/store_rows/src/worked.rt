@@ -18,6 +18,7 @@ pub const HUNDRED: &[u8] =
 /// One object of 100 bytes, in class 6, whose buffer has 11 bytes.
 pub const ONE: Checkpoint = Checkpoint {
     header: Header {
+        version: 1,
         kind: Kind::Settled,
         boundary: 0,
         sequence: 2,
@@ -44,6 +45,7 @@ pub const ONE_KEPT: &Checkpoint = &ONE;
 /// The same object, and one of 4 bytes that stands in its buffer.
 pub const TWO: Checkpoint = Checkpoint {
     header: Header {
+        version: 1,
         kind: Kind::Settled,
         boundary: 0,
         sequence: 2,

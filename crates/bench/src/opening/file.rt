@@ -5,7 +5,7 @@ ghost use Rattle.slot_codec.specs.Reading.{all_in_range};
 use crate::numbered::scrambled;
 use disk_face::Disk;
 use extent_table::{Spot, Table, a_table_can_be_saved};
-use slot_codec::{CodecFault, HEADER_LEN, Header, Name, read_header};
+use slot_codec::{CodecFault, HEADER_LEN, Header, Name, cap, read_header};
 use slot_pair::SlotPair;
 use std::alloc::Global;
 use std::test::Fail;
@@ -58,9 +58,12 @@ fn saved<D: Disk>(alloc: Global, disk: &mut D, header: &Header, table: &Table) -
 {
     let found = SlotPair::find(disk)?;
     let mut pair = SlotPair::of(&found);
-    let mut buf = vec![in alloc; 0u8; 40_960]?;
+    let mut buf = vec![in alloc; 0u8; 57_344]?;
     a_table_can_be_saved();
-    if found.block.names < table.count() || 1 << 61 < pair.sequence() {
+    if header.version != 1
+        || cap(found.block.names, 1) < table.count()
+        || 1 << 61 < pair.sequence()
+    {
         return Err("room for the names")?;
     }
     pair.save(disk, header, table, &mut buf)?;

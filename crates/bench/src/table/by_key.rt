@@ -60,11 +60,12 @@ fn sum_in_order(table: &Table) -> u64 {
 }
 
 /// The sum of a byte of each record, after it is written.
+#[tactic(auto, unfolding(slot_codec::specs::Spelling::record_len))]
 fn sum_of_records<R: Roll>(roll: &R) -> u64 {
     let mut sum = 0u64;
     let mut out = [0; 80];
     for n in 0..roll.count() {
-        write_record(&roll.nth(n), &mut out);
+        write_record(&roll.nth(n), 1, &mut out);
         sum = sum.wrapping_add(u64::from(out[(n % 80) as usize]));
     }
     sum

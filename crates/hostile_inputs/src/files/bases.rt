@@ -32,7 +32,24 @@ const BELOW: [Change; 6] = [(66, 7), (80, 1), (88, 111), (96, 0), (152, 100), (8
 /// The other slot is open too, with a table of no object and sequence 2.
 const TWO_SLOTS: [Change; 3] = [(9833, 1), (9841, 2), (19_601, 0xA5)];
 
-const BASES: [Base; 6] = [
+/// The table is one of version 2. Its digest of `a` begins and ends as the SHA-256 of `hello`.
+const DIGESTED: [Change; 3] = [(64, 2), (8632, 0x2C), (8663, 0x24)];
+
+/// Both objects of class 6 in a table of version 2, whose second record stands 112 bytes behind the first.
+const TWO_DIGESTED: [Change; 8] = [
+    (64, 2),
+    (80, 2),
+    (120, 0),
+    (152, 200),
+    (8624, 100),
+    (8664, 1),
+    (8665, b'b'),
+    (8728, 100),
+];
+
+const SECOND_SIZE: [Change; 1] = [(8736, 100)];
+
+const BASES: [Base; 9] = [
     Base {
         length: 19_608,
         first: &[],
@@ -63,9 +80,24 @@ const BASES: [Base; 6] = [
         first: &TWO_SLOTS,
         then: &[],
     },
+    Base {
+        length: 19_608,
+        first: &DIGESTED,
+        then: &[],
+    },
+    Base {
+        length: 19_825,
+        first: &TWO_DIGESTED,
+        then: &SECOND_SIZE,
+    },
+    Base {
+        length: 19_608,
+        first: &DIGESTED,
+        then: &TWO_SLOTS,
+    },
 ];
 
 /// One of the files, as a word draws it.
 pub fn drawn_base(words: &mut Drawn) -> Base {
-    BASES[words.below(6) as usize]
+    BASES[words.below(9) as usize]
 }

@@ -37,6 +37,9 @@ enum Part {
     Behind,
     Place,
     Size,
+    /// A byte of the first record's digest in version 2, or of the second record.
+    Digest,
+    Later,
     /// The gate of a slot, or the format gate.
     Gate,
     /// The length of the file.
@@ -44,7 +47,7 @@ enum Part {
 }
 
 /// The parts that are drawn. Those on which rules depend stand here more often.
-const PARTS: [Part; 36] = [
+const PARTS: [Part; 40] = [
     Part::Mark,
     Part::Block,
     Part::Divisor,
@@ -79,6 +82,10 @@ const PARTS: [Part; 36] = [
     Part::Size,
     Part::Size,
     Part::Size,
+    Part::Digest,
+    Part::Later,
+    Part::Later,
+    Part::Later,
     Part::Gate,
     Part::Length,
 ];
@@ -91,7 +98,7 @@ const LONGEST: u64 = 30_000;
 
 /// Spoils a part of a file; what lies behind its end is left.
 pub fn spoil(bytes: &mut Vec<u8>, words: &mut Drawn) -> Result<(), AllocError> {
-    let part = PARTS[words.below(36) as usize];
+    let part = PARTS[words.below(40) as usize];
     if part == Part::Length {
         let length = value(bytes.len() as u64, words).min(LONGEST);
         return bytes.resize(length as usize, 0);
@@ -150,6 +157,8 @@ fn place(part: Part, words: &mut Drawn) -> usize
         Part::Behind => 8554 + 80 * below(4, words),
         Part::Place => 8616 + 80 * below(4, words),
         Part::Size => 8624 + 80 * below(4, words),
+        Part::Digest => 8632 + below(32, words),
+        Part::Later => 8664 + below(80, words),
         Part::Gate => gate(below(3, words)),
         Part::Length => 0,
     }

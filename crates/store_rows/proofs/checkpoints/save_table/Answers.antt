@@ -4,6 +4,7 @@ use Rattle.std.specs.FinMap as fin
 use Rattle.extent_table.proofs.ExtentLaws.{records_of-few}
 use Rattle.extent_table.proofs.SaveLaws.{records_in_range}
 use Rattle.slot_codec.specs.Choice.{InUse}
+use Rattle.slot_codec.specs.Spelling.{cap}
 use Rattle.store_rows.proofs.checkpoints.save_table.Goals as goal
 
 pub save-requires-clause-records : goal.save-requires-clause-records
@@ -11,9 +12,11 @@ save-requires-clause-records g c = records_in_range c.args.table.now c.count.ens
 
 pub save-requires-clause-count : goal.save-requires-clause-count
 save-requires-clause-count g c =
-    let few : fin.len c.args.table.now.now
-    ≤ c.expect-found.result.block.names = grind (arith, c.count.ensures.value) in
-    let same : c.of-pair.result.block.names
-    ≡ c.expect-found.result.block.names = ap (λ (u : InUse). u.block.names) c.of-pair.ensures in
-    let fits : fin.len c.args.table.now.now ≤ c.of-pair.result.block.names = omega (arith, few, same) in
+    let found = c.expect-found.result.block.names in
+    let names = c.of-pair.result.block.names in
+    let v = c.args.header.now.version in
+    let few : fin.len c.args.table.now.now ≤ cap found v = grind
+    (arith, c.count.ensures.value, c.cap.ensures) in
+    let same : cap names v ≡ cap found v = ap (λ (u : InUse). cap u.block.names v) c.of-pair.ensures in
+    let fits : fin.len c.args.table.now.now ≤ cap names v = omega (arith, few, same) in
     le_trans (records_of-few c.args.table.now.now) fits

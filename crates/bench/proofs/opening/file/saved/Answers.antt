@@ -1,7 +1,8 @@
-use Rattle.std.proofs.Common.{◌≤◌, length, ap, arith}
+use Rattle.std.proofs.Common.{◌≡◌, ◌≤◌, length, ap, arith, subst, sym}
 use Rattle.extent_table.proofs.ExtentLaws.{records_of-few}
 use Rattle.extent_table.specs.Extents.{records_of}
 use Rattle.slot_codec.specs.Choice.{InUse}
+use Rattle.slot_codec.specs.Spelling.{cap}
 use Rattle.bench.proofs.opening.file.saved.Goals as goal
 
 -- src/file.rt:73:5
@@ -12,12 +13,15 @@ save-requires-clause-records g c = c.a_table_can_be_saved.ensures.ranges c.args.
 -- src/file.rt:73:5
 pub save-requires-clause-count : goal.save-requires-clause-count
 save-requires-clause-count g c =
-    let few : length (records_of c.args.table.now.now) ≤ c.of-pair.result.block.names =
+    let version = c.args.header.now.version in
+    let one : version ≡ 1 = omega (arith, c.if-header-ne1.false) in
+    let fits : length (records_of c.args.table.now.now) ≤ cap c.of-pair.result.block.names 1 =
     omega (
       arith,
       records_of-few c.args.table.now.now,
       c.count.ensures.value,
-      c.if-found-count.false,
-      ap (λ (u : InUse). u.block.names) c.of-pair.ensures,
+      c.if-cap-count.false,
+      c.cap.ensures,
+      ap (λ (u : InUse). cap u.block.names 1) c.of-pair.ensures,
     ) in
-    few
+    subst (λ n. length (records_of c.args.table.now.now) ≤ cap c.of-pair.result.block.names n) (sym one) fits
