@@ -1,14 +1,12 @@
 //! What a line asks for.
-ghost use Rattle.std.specs.Prelude.{◌≡◌, ◌<◌, ◌↔◌, IsTrue, ◌++◌, ℕ, MatchOption, IfErr, IfOk, Ok, codes, nat_eq};
+ghost use Rattle.std.specs.Prelude.{◌≡◌, ◌<◌, ◌++◌, ℕ, MatchOption, IfErr, IfOk, Ok, codes, nat_eq};
 ghost use Rattle.std.specs.Fmt.{decimal};
 ghost use Rattle.std.specs.List.{position};
 ghost use Rattle.ask_text.specs.declared.ask.Ask.{Ask};
 ghost use Rattle.ask_text.specs.Asks.{AsksFor, AsksForNothing, IsBare};
 ghost use Rattle.ask_text.specs.Words.{IsWord};
 
-use crate::Word;
-use itoa::Buffer;
-use std::str;
+use crate::{Word, number};
 use thiserror::Error;
 
 /// What a line asks for.
@@ -89,13 +87,10 @@ fn put_of(words: &[u8]) -> Result<Ask, LineFault>
     let Some(name) = Word::new(&words[..at]) else {
         return Err(LineFault);
     };
-    let Some(size) = number(&words[at + 1..]) else {
+    let Some(size) = size(&words[at + 1..]) else {
         return Err(LineFault);
     };
-    Ok(Ask::Put {
-        name,
-        size: u64::from(size),
-    })
+    Ok(Ask::Put { name, size })
 }
 
 /// The word with these bytes.
@@ -113,28 +108,16 @@ fn first_blank(bytes: &[u8]) -> Option<usize>
     bytes.iter().position(|byte| b' ' == *byte)
 }
 
-/// The number below 2^32 that bytes spell: decimal digits without a sign or a leading zero.
-fn number(bytes: &[u8]) -> Option<u32>
+/// The size below 2^32 that bytes spell.
+fn size(bytes: &[u8]) -> Option<u64>
     ensures { MatchOption result ((n : ℕ) → n < 4294967296 → bytes.now ≡ decimal n → ⊥)
         (λ n. (n < 4294967296) × (bytes.now ≡ decimal n)) }
 {
-    let Ok(text) = str::from_utf8(bytes) else {
+    let Some(n) = number(bytes) else {
         return None;
     };
-    let Ok(n) = text.parse::<u32>() else {
+    if n >= 1 << 32 {
         return None;
-    };
-    let mut digits = Buffer::new();
-    if are_same(digits.format(n).as_bytes(), bytes) {
-        Some(n)
-    } else {
-        None
     }
-}
-
-/// Whether these are the same bytes.
-fn are_same(bytes: &[u8], others: &[u8]) -> bool
-    ensures { IsTrue result ↔ (bytes.now ≡ others.now) }
-{
-    bytes == others
+    Some(n)
 }

@@ -2,10 +2,12 @@
 #![tactic(auto)]
 
 mod ask;
+mod digits;
 mod laws;
 mod reply;
 mod word;
 
 pub use ask::{Ask, LineFault, read_ask};
+pub use digits::number;
 pub use reply::{Reply, Word5, write_reply};
 pub use word::Word;

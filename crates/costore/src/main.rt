@@ -1,15 +1,6 @@
 //! The program: `costore` over the real file system and the standard streams.
 #![tactic(auto)]
 
-mod failed;
-mod heard;
-mod refused;
-mod shown;
-mod tally;
-mod unkept;
-mod why;
-mod wrong;
-
 ghost use Rattle.std.specs.Prelude.{◌≡◌, ◌≢◌, [], IsErr, IsOk, IfOk};
 ghost use Rattle.std.specs.IoError.{error_kind};
 ghost use Rattle.std.specs.Process.{exit_status};
@@ -18,14 +9,11 @@ use costore_top::{Outcome, costore, may_change};
 use disk_file::{
     Cause, FileBay, StdSink, StdSource, Use, hold_numbers, is_own_errors, is_own_stream,
 };
-use failed::Failed;
-use heard::Heard;
+use error_lines::{Failed, Heard, Unkept, Why};
 use std::alloc::{AllocError, Global};
 use std::env;
 use std::io::{self, ErrorKind};
 use std::process::ExitCode;
-use unkept::Unkept;
-use why::Why;
 
 /// The status of a disk that failed: the numbers of the standard streams couldn't be held, and so no
 /// file may be opened.

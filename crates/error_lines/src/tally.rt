@@ -3,10 +3,9 @@ ghost use Rattle.std.specs.Prelude.{◌≡◌, ◌<◌, ◌^◌, ◌++◌, ◌�
 ghost use Rattle.std.specs.Fmt.{decimal};
 ghost use Rattle.ask_text.specs.Replies.{IsTold, first_line};
 ghost use Rattle.ask_text.specs.declared.reply.Reply.{Reply};
-ghost use Rattle.costore.specs.Tallies.{lines_in};
+ghost use Rattle.error_lines.specs.Tallies.{lines_in};
 
-use itoa::Buffer;
-use std::str;
+use ask_text::number;
 
 /// How many requests were answered `ok` since the last `ok kept`, and what is still due of a reply that
 /// is longer than its first line: such bytes may look like a reply, and are none.
@@ -22,7 +21,7 @@ pub struct Tally {
 }
 
 impl Tally {
-    ghost use Rattle.costore.specs.Tallies.{Hears, IsBetween, tallied};
+    ghost use Rattle.error_lines.specs.Tallies.{Hears, IsBetween, tallied};
 
     /// Nothing was put.
     pub fn new() -> Tally
@@ -99,32 +98,6 @@ fn number_of(line: &[u8]) -> Option<u64>
         Some(n) => Some(n),
         None => None,
     }
-}
-
-/// The number below 2^64 that bytes spell: decimal digits without a sign or a leading zero.
-fn number(bytes: &[u8]) -> Option<u64>
-    ensures { MatchOption result ((n : ℕ) → n < 2 ^ 64 → bytes.now ≡ decimal n → ⊥)
-        (λ n. bytes.now ≡ decimal n) }
-{
-    let Ok(text) = str::from_utf8(bytes) else {
-        return None;
-    };
-    let Ok(n) = text.parse::<u64>() else {
-        return None;
-    };
-    let mut digits = Buffer::new();
-    if are_same(digits.format(n).as_bytes(), bytes) {
-        Some(n)
-    } else {
-        None
-    }
-}
-
-/// Whether these are the same bytes.
-fn are_same(bytes: &[u8], others: &[u8]) -> bool
-    ensures { IsTrue result ↔ (bytes.now ≡ others.now) }
-{
-    bytes == others
 }
 
 /// How many newlines there are among the bytes.

@@ -2,7 +2,7 @@
 ghost use Rattle.std.specs.Prelude.{◌≡◌, ◌≤◌, [], length, IsTrue};
 ghost use Rattle.disk_face.specs.Counts.{HasCause};
 ghost use Rattle.disk_face.specs.Streams.{Puts};
-ghost use Rattle.costore.specs.Tallies.{Hears};
+ghost use Rattle.error_lines.specs.Tallies.{Hears};
 
 use crate::tally::Tally;
 use arrayvec::ArrayVec;
@@ -18,7 +18,7 @@ pub struct Heard<O: Sink> {
 }
 
 impl<O: Sink> Heard<O> {
-    ghost use Rattle.costore.specs.Heard.{line_of, sink_of, tally_of};
+    ghost use Rattle.error_lines.specs.Heard.{line_of, sink_of, tally_of};
 
     /// Round a sink; nothing was put.
     pub fn new(sink: O) -> Heard<O>
@@ -57,7 +57,7 @@ impl<O: Sink> Heard<O> {
 }
 
 impl<O: Sink> Sink for Heard<O> {
-    ghost use Rattle.costore.specs.Heard.{line_of, sink_of, tally_of};
+    ghost use Rattle.error_lines.specs.Heard.{line_of, sink_of, tally_of};
 
     ghost state = { λ heard. O.state heard.sink };
 

@@ -1,0 +1,18 @@
+//! What is said on standard error: how a call of the program ended, by a stable word and in words for
+//! people, and how much of a session no checkpoint holds.
+#![tactic(auto)]
+
+mod failed;
+mod heard;
+mod refused;
+mod shown;
+mod tally;
+mod unkept;
+mod why;
+mod wrong;
+
+pub use failed::Failed;
+pub use heard::Heard;
+pub use tally::Tally;
+pub use unkept::Unkept;
+pub use why::Why;
