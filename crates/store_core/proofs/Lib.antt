@@ -19,7 +19,6 @@ pub mod QuietLaws
 pub mod EffectLaws
 pub mod RefusedLaws
 pub mod OpenedLaws
-pub mod HeaderLaws
 pub mod KeepLaws
 pub mod KeepEffectLaws
 pub mod FlushedLaws

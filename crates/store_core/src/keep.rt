@@ -1,18 +1,14 @@
 //! Keeping what stands now as the checkpoint.
 ghost use Rattle.std.specs.Prelude.{◌≡◌, ◌<◌, ◌≤◌, ◌^◌, ◌||◌, false, [], IfSome, IsNone, IsSome, IsTrue, None, OnOk};
-ghost use Rattle.slot_codec.specs.Reading.{all_in_range};
-ghost use Rattle.segment_layout.specs.Layouts.{caps_of, grid_of};
 ghost use Rattle.extent_table.specs.Extents.{IsTable};
-ghost use Rattle.placement_model.specs.Laid as laid;
 ghost use Rattle.map_model.specs.Requests as ask;
 
 use crate::plan::WORN_FROM;
 use crate::{Done, Refusal, Store};
 use disk_face::{Disk, DiskFault};
 use extent_table::Table;
+use flush_run::settled_header;
 use held_guard::Guard;
-use segment_layout::Layout;
-use slot_codec::{Header, Kind};
 
 impl<const C: usize> Store<C> {
     ghost use Rattle.store_core.specs.Answers.{done_reply, is_disk_fault, refused_by, reply_of};
@@ -61,7 +57,7 @@ impl<const C: usize> Store<C> {
         ensures over { IsConnected C self.new (D.state disk.new) }
         ensures broken { self.new.is_broken ≡ is_disk_fault result }
     {
-        let next = header_of(&self.hands.layout);
+        let next = settled_header(&self.hands.layout);
         let hands = &mut self.hands;
         match hands.slots.save(disk, &next, &hands.table, &mut hands.buf) {
             Ok(_) => {
@@ -88,23 +84,4 @@ fn keep_spots(table: &mut Table, guard: &mut Guard)
 {
     table.keep();
     guard.clear();
-}
-
-/// The header of a settled table of a layout; a save gives it its sequence and its count.
-pub(crate) fn header_of<const C: usize>(layout: &Layout<C>) -> Header
-    requires fits { C ≤ 32 }
-    ensures header { result ≡ laid.settled_header (caps_of layout.now) (grid_of layout.now) }
-    ensures ranges { IsTrue (all_in_range result) }
-{
-    Header {
-        version: 1,
-        kind: Kind::Settled,
-        boundary: 0,
-        sequence: 0,
-        count: 0,
-        wall: 0,
-        slack: 0,
-        caps: layout.caps().cells(),
-        used: layout.used().cells(),
-    }
 }

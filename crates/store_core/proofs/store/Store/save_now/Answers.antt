@@ -27,7 +27,7 @@ save-requires-clause-count g c =
       (c.self.invariant.table (ap (λ (x : StoreValue). x.is_broken) c.self.view_is
           ∙ c.requires.whole)).now_room,
       c.self.invariant.room,
-      ap (λ (h : Header). cap names h.version) c.header_of-next.ensures.header,
+      ap (λ (h : Header). cap names h.version) c.settled_header-next.ensures.header,
       cap-one names,
     )
 
@@ -36,7 +36,7 @@ returns-in-Err-clause-kept g c =
     let same = c.in-Err.ensures.same_pair in
     keep_failed c.self.inside c.args.self.now c.self.view_is c.self.invariant c.requires.whole
     c.requires.fresh
-    c.header_of-next.result c.header_of-next.ensures.header c.requires.over c.save.ensures.left
+    c.settled_header-next.result c.settled_header-next.ensures.header c.requires.over c.save.ensures.left
     c.save.ensures.frame _ _
     (λ i. record (kept_of c.self.inside) {
       in_use = same i;
@@ -57,7 +57,7 @@ invariant_of-self g c = kept_whole c.self.inside c.self.invariant c.keep_spots.n
 pub returns-in-Ok-clause-kept : goal.returns-in-Ok-clause-kept
 returns-in-Ok-clause-kept g c =
     keep_done c.self.inside c.args.self.now c.self.view_is c.self.invariant c.requires.whole c.requires.fresh
-    c.header_of-next.result c.header_of-next.ensures.header c.requires.over c.save.ensures.left
+    c.settled_header-next.result c.settled_header-next.ensures.header c.requires.over c.save.ensures.left
     c.save.ensures.frame c.in-Ok.ensures.saved c.in-Ok.ensures.in_use _
     (kept_view c.self.inside c.self.invariant c.keep_spots.new.table c.keep_spots.new.guard c.save.new.self
     (with_items c.self.inside.hands.buf c.save.new.buf) c.in-Ok.ensures.pair c.keep_spots.ensures.now
@@ -67,7 +67,7 @@ returns-in-Ok-clause-kept g c =
 pub returns-in-Ok-clause-step : goal.returns-in-Ok-clause-step
 returns-in-Ok-clause-step g c =
     keep_step c.self.inside c.args.self.now c.self.view_is c.self.invariant c.requires.whole c.requires.fresh
-    c.header_of-next.result c.header_of-next.ensures.header c.requires.over c.save.ensures.left
+    c.settled_header-next.result c.settled_header-next.ensures.header c.requires.over c.save.ensures.left
     c.save.ensures.frame c.in-Ok.ensures.saved c.in-Ok.ensures.in_use _
     (kept_view c.self.inside c.self.invariant c.keep_spots.new.table c.keep_spots.new.guard c.save.new.self
     (with_items c.self.inside.hands.buf c.save.new.buf) c.in-Ok.ensures.pair c.keep_spots.ensures.now
@@ -76,7 +76,7 @@ returns-in-Ok-clause-step g c =
 pub returns-in-Ok-clause-over : goal.returns-in-Ok-clause-over
 returns-in-Ok-clause-over g c unbroken =
     keep_over c.self.inside c.args.self.now c.self.view_is c.self.invariant c.requires.whole c.requires.fresh
-    c.header_of-next.result c.header_of-next.ensures.header c.requires.over c.save.ensures.left
+    c.settled_header-next.result c.settled_header-next.ensures.header c.requires.over c.save.ensures.left
     c.save.ensures.frame c.in-Ok.ensures.saved c.in-Ok.ensures.in_use _
     (kept_view c.self.inside c.self.invariant c.keep_spots.new.table c.keep_spots.new.guard c.save.new.self
     (with_items c.self.inside.hands.buf c.save.new.buf) c.in-Ok.ensures.pair c.keep_spots.ensures.now
