@@ -1,13 +1,14 @@
 -- Live bytes of one record more.
-use Rattle.std.specs.Prelude.{◌≡◌, ℕ, zero, suc, ◌+◌, ◌-◌, ◌*◌, ◌^◌, ◌<◌, ◌≤◌, ◌&&◌, Bool, true, false, cond, List, [], ◌∷◌, length, filter, take, sum_by, sum, map, slice_index, slice_index_or, replicate, refl}
-use Rattle.std.proofs.Common.{arith, ap, sym, ◌∙◌, inl, inr, add-zero}
-use Rattle.std.proofs.lemmas.Bool.{cases_Bool, cond-true, cond-false}
-use Rattle.std.proofs.lemmas.List.{get_or-replicate, map-append}
+use Rattle.std.specs.Prelude.{◌≡◌, ℕ, zero, suc, ◌+◌, ◌-◌, ◌*◌, ◌^◌, ◌<◌, ◌≤◌, ◌==◌, ◌&&◌, nat_lt, Bool, true, false, cond, List, [], ◌∷◌, length, filter, take, sum_by, sum, map, slice_index, slice_index_or, replicate, refl}
+use Rattle.std.proofs.Common.{arith, ap, set, sym, ◌∙◌, inl, inr, add-zero}
+use Rattle.std.proofs.lemmas.Bool.{and_from, cases_Bool, cond-true, cond-false, eqb-false, eqb-true, lt-ltb}
+use Rattle.std.proofs.lemmas.Grind.{get_or-set_at}
+use Rattle.std.proofs.lemmas.List.{get_or-replicate, get_or-set_other, length-set, map-append}
 use Rattle.std.proofs.lemmas.List.Elements.{filter_more}
 use Rattle.std.proofs.lemmas.List.Sums.{sum_by-append, sum_by-cons}
 use Rattle.byte_ranges.specs.Lists.{below, counting_from, sum_below}
 use Rattle.byte_ranges.proofs.ListLaws.{zeros_at}
-use Rattle.size_class.specs.Classes.{width, cell}
+use Rattle.size_class.specs.Classes.{class_of, width, cell}
 use Rattle.slot_codec.specs.declared.codec.Record.{Record}
 use Rattle.table_rules.specs.Tables.{PlacedTable, is_of, lies_in_buffer, lies_in_payload, no_record, size_sum}
 use Rattle.extent_table.specs.declared.spot.Spot.{Spot}
@@ -175,6 +176,62 @@ module _ (rs : List Record) (n : ℕ) (low : n < length rs) (volumes : List ℕ)
       → (c : ℕ) → c < width → slice_index volumes c ≤ 65535 * (2 ^ 48 - 1)
   volumes_small few small c wide =
       omega (arith, so_far.each c wide, size_sum-small (λ r. is_of c r) rs n (omega arith) small)
+
+  volumes_more : (more : List ℕ) → length more ≡ width
+      → ((c : ℕ) → c < width → slice_index more c ≡ slice_index volumes c
+      + cond (is_of c (slice_index_or rs n no_record)) (slice_index_or rs n no_record).size 0)
+      → VolumesSoFar (take (n + 1) rs) more
+  volumes_more more long each = record {
+    long = long;
+    each = λ c wide. omega (
+      arith,
+      each c wide,
+      so_far.each c wide,
+      size_sum_more (λ r. is_of c r) rs n low,
+    );
+  }
+
+  -- a record of no bytes adds none
+  pub volumes_same : (slice_index_or rs n no_record).size ≡ 0 → VolumesSoFar (take (n + 1) rs) volumes
+  volumes_same none =
+      let r = slice_index_or rs n no_record in
+      volumes_more volumes so_far.long (λ c wide. omega (arith, none_of (is_of c r) r.size none))
+    where
+      none_of : (b : Bool) (size : ℕ) → size ≡ 0 → cond b size 0 ≡ 0
+      none_of true size is = is
+      none_of false size is = refl
+
+  -- one with bytes adds its own to those of its class
+  pub volumes_added : (d size : ℕ) → d ≡ class_of (slice_index_or rs n no_record).size
+      → size ≡ (slice_index_or rs n no_record).size → 0 < size → d < width
+      → VolumesSoFar (take (n + 1) rs) (set volumes d (slice_index volumes d + size))
+  volumes_added d size class same some wide =
+      let r = slice_index_or rs n no_record in
+      let has : nat_lt 0 r.size ≡ true = lt-ltb 0 r.size (omega (arith, some, same)) in
+      let sum = slice_index volumes d + size in
+      volumes_more (set volumes d sum) (length-set volumes d sum ∙ so_far.long)
+      (λ c low_c. elim (cases_Bool (class_of r.size == c)) [
+        | inl is ↦
+            let e : c ≡ d = sym (class ∙ eqb-true (class_of r.size) c is) in
+            let of_class : is_of c r ≡ true = and_from (nat_lt 0 r.size) (class_of r.size == c) has is in
+            let read : slice_index (set volumes d sum) c ≡ sum =
+            get_or-set_at volumes d c sum 0 e (omega (arith, wide, so_far.long)) in
+            let same_place : slice_index volumes d ≡ slice_index volumes c = ap (slice_index volumes) (sym e) in
+            omega (arith, read, same_place, same, ap (λ b. cond b r.size 0) of_class)
+        | inr other ↦
+            let apart : c ≡ d → ⊥ = λ e. eqb-false (class_of r.size) c other (sym (e ∙ class)) in
+            let of_other : is_of c r ≡ false = ap (λ b. nat_lt 0 r.size && b) other ∙ with_false (nat_lt 0 r.size)
+            in
+            omega (
+              arith,
+              get_or-set_other volumes d c sum 0 apart,
+              ap (λ b. cond b r.size 0) of_other,
+            )
+      ])
+    where
+      with_false : (b : Bool) → (b && false) ≡ false
+      with_false true = refl
+      with_false false = refl
 
 -- a sum over the classes from a boundary on, with one class more
 pub from_next : (f : ℕ → ℕ) (b c : ℕ) → b ≤ c

@@ -5,7 +5,6 @@ ghost use Rattle.extent_table.specs.Extents.{IsTable, records_of};
 ghost use Rattle.table_check.specs.Placed.{ranked};
 
 use extent_table::{Spot, Table};
-use slot_codec::Roll;
 
 /// How many records there are, at most 65,536.
 pub(crate) fn count(table: &Table) -> u64
@@ -13,8 +12,7 @@ pub(crate) fn count(table: &Table) -> u64
     ensures few { result ≤ 65536 }
     ensures table { IsTable table.now }
 {
-    let _live = Table::count(table);
-    Roll::count(table)
+    table.count()
 }
 
 /// Where the object of a rank by name stands; behind the last one, no bytes at place 0.
@@ -25,11 +23,8 @@ pub(crate) fn spot_at(table: &Table, rank: u64) -> Spot
     ensures small { result.size < 2 ^ 48 }
 {
     if rank < count(table) {
-        let record = Roll::nth(table, rank);
-        Spot {
-            place: record.place,
-            size: record.size,
-        }
+        let (_, _, spot) = table.in_order(rank);
+        spot
     } else {
         Spot { place: 0, size: 0 }
     }
