@@ -2,18 +2,17 @@
 use Rattle.std.specs.Prelude.{◌≡◌, refl, ℕ, ◌+◌, ◌-◌, ◌*◌, ◌≤◌, List, [], ◌++◌, map, Option, None, IsTrue}
 use Rattle.std.specs.FinMap as fin
 use Rattle.std.proofs.Common.{arith, ap, ◌∙◌, sym, subst}
-use Rattle.std.proofs.lemmas.List.{map-append}
 use Rattle.byte_ranges.specs.Ranges.{bytes_at}
 use Rattle.byte_ranges.proofs.RangeLaws.{bytes_at-append}
 use Rattle.disk_face.specs.Frames.{Unchanged}
 use Rattle.disk_face.specs.States.{State}
 use Rattle.disk_face.proofs.FrameLaws.{Unchanged-trans}
 use Rattle.disk_face.proofs.MomentLaws.{Leaves-none}
-use Rattle.slot_codec.specs.Choice.{plain, read_records}
+use Rattle.slot_codec.specs.Choice.{read_records}
 use Rattle.slot_codec.specs.declared.codec.Record.{Record}
 use Rattle.slot_pair.specs.Finding.{Refuses}
 use Rattle.slot_pair.specs.declared.find.SlotFault.{SlotFault}
-use Rattle.extent_table.specs.Extents.{Extents, Spots, records_of}
+use Rattle.extent_table.specs.Extents.{Extents, Spots, records_of, with_digest}
 use Rattle.placement_model.specs.Orders.{SetSoFar}
 use Rattle.placement_model.proofs.OrderLaws.{set_none}
 use Rattle.reopen.specs.Records.{AreSet, ReadSoFar, ReadThrough, SetPiece, all_records}
@@ -51,7 +50,7 @@ read_none version l at count old d ready empty =
           let place : at ≡ at + l * 0 = omega arith in
           record {
             records = [];
-            same = sym (ap records_of empty ∙ set_none.records);
+            same = ap (map (with_digest old.digests)) (ap records_of empty ∙ set_none.records);
             read = sym (all_from_none version count (bytes_at d.file at (l * count)) at None)
                 ∙ ap (λ k. all_records version [] k (bytes_at d.file at (l * k)) at None) all
                 ∙ ap (λ p. all_records version [] (count - 0)
@@ -76,7 +75,7 @@ next_piece version l done file at left n before few =
 
 -- one piece more
 read_on : (version l : ℕ) (file : List ℕ) (at count done n : ℕ) (last after : Option (List ℕ))
-    (old new : Spots)
+    (old new : Extents)
     → done + n ≤ count → ReadSoFar version l file at count done last old
     → SetPiece version l (bytes_at file (at + l * done) (l * n)) (at + l * done) n last after old new
     → ReadSoFar version l file at count (done + n) after new
@@ -90,8 +89,7 @@ read_on version l file at count done n last after old new few t piece =
     let records = t.records ++ piece.done in
     record {
       records = records;
-      same = map-append plain t.records piece.done ∙ ap (λ rs. rs ++ map plain piece.done) t.same
-          ∙ sym piece.same;
+      same = piece.same ∙ ap (λ rs. rs ++ piece.done) t.same;
       read = t.read ∙ next_piece version l t.records file p left n last (omega (arith, few))
           ∙ piece.read t.records (left - n) more
           ∙ ap (λ k. all_records version records k (bytes_at file (p + l * n) (l * k)) (p + l * n) after)
@@ -106,7 +104,7 @@ pub read_more : (version l at count done n : ℕ) (last after : Option (List ℕ
     → new.kept ≡ now.kept → new.names ≡ now.names
     → (IsTrue current.tells → SetPiece version l (bytes_at current.file (at + l * done) (l * n))
     (at + l * done)
-    n last after now.now new.now)
+    n last after now new)
     → Unchanged current next → next.faults ≡ current.faults
     → ReadThrough version l at count (done + n) after old new first next
 read_more version l at count done n last after old now new first current next few t set counted kept names
@@ -120,10 +118,10 @@ read_more version l at count done n last after old now new first current next fe
       names = names ∙ t.names;
       read = λ told.
           let told' : IsTrue current.tells = subst IsTrue (sym t.frame.stays.told) told in
-          read_on version l first.file at count done n last after now.now new.now few (t.read told)
+          read_on version l first.file at count done n last after now new few (t.read told)
           (subst (λ (file : List ℕ). SetPiece version l (bytes_at file (at + l * done) (l * n))
           (at + l * done) n
-          last after now.now new.now) (t.frame.same_file told) (piece told'));
+          last after now new) (t.frame.same_file told) (piece told'));
       frame = Unchanged-trans t.frame frame;
       calm = calm ∙ t.calm;
     }
@@ -153,7 +151,7 @@ read_refused version l at count done n last old now first current why few t told
 pub read_all : (version l at count done : ℕ) (last : Option (List ℕ)) (old now : Extents)
     (first current : State) → count ≤ done → ReadThrough version l at count done last old now first current
     → IsTrue first.tells
-    → AreSet (read_records version count (bytes_at first.file at (l * count)) at None) now.now
+    → AreSet (read_records version count (bytes_at first.file at (l * count)) at None) now
 read_all version l at count done last old now first current end t told =
     let none : count - done ≡ 0 = omega (arith, end) in
     let p = at + l * done in

@@ -1,9 +1,9 @@
 -- One record more is read and set.
-use Rattle.std.specs.Prelude.{◌≡◌, refl, ℕ, suc, ◌+◌, ◌-◌, ◌*◌, ◌<◌, ◌≤◌, true, not, if◌then◌else◌, List, [], ◌∷◌, ◌++◌, length, map, take, drop, Option, Some, Result, Ok, Err}
+use Rattle.std.specs.Prelude.{◌≡◌, refl, ℕ, suc, ◌+◌, ◌-◌, ◌*◌, ◌<◌, ◌≤◌, true, not, if◌then◌else◌, List, [], ◌∷◌, ◌++◌, length, take, drop, Option, Some, Result, Ok, Err}
 use Rattle.std.specs.FinMap as fin
 use Rattle.std.proofs.Common.{arith, ap, ◌∙◌, sym, subst, length-append}
 use Rattle.std.proofs.lemmas.Bool.{not-false}
-use Rattle.std.proofs.lemmas.List.{append_assoc, append-nil, drop-append-le, drop-drop, drop_all, length-drop, length-take-le, map-append, take-append-drop, take_at}
+use Rattle.std.proofs.lemmas.List.{append_assoc, append-nil, drop-append-le, drop-drop, drop_all, length-drop, length-take-le, take-append-drop, take_at}
 use Rattle.std.proofs.Math.Nat.{mul-le-mul_left}
 use Rattle.byte_ranges.specs.Ranges.{bytes_at}
 use Rattle.byte_ranges.specs.Lists.{◌>>=◌}
@@ -11,14 +11,15 @@ use Rattle.slot_codec.specs.Choice as choice
 use Rattle.slot_codec.specs.Choice.{SlotRefusal, first_record, placed_at, plain, read_records, record_after, rises}
 use Rattle.slot_codec.specs.Names.{IsName}
 use Rattle.slot_codec.specs.Reading.{read_record}
-use Rattle.slot_codec.specs.Spelling.{record_len}
+use Rattle.slot_codec.specs.Spelling.{digest_len, record_len}
 use Rattle.slot_codec.proofs.StepLaws.{bind_ok, from_ok, guard_ok}
 use Rattle.slot_codec.specs.declared.codec.Record.{Record}
 use Rattle.slot_codec.specs.declared.codec.CodecFault.{CodecFault}
 use Rattle.slot_codec.specs.declared.codec.CodecFault.TheVariants as codec
 use Rattle.slot_pair.specs.Finding.{Refuses}
 use Rattle.slot_pair.specs.declared.find.SlotFault.TheVariants as fault
-use Rattle.extent_table.specs.Extents.{Extents, Spots, records_of}
+use Rattle.extent_table.specs.Extents.{Extents, Spots, records_of, rolled}
+use Rattle.extent_table.proofs.RollLaws.{rolled-push}
 use Rattle.placement_model.specs.Orders.{SetSoFar, spot_of}
 use Rattle.placement_model.proofs.OrderLaws.{set_more}
 use Rattle.reopen.specs.Records.{SetPiece, SetThrough, all_records}
@@ -98,7 +99,7 @@ through_none version l text at n before old set = record {
   kept = refl;
   names = refl;
   done = [];
-  same = sym (append-nil (records_of old.now));
+  same = sym (append-nil (rolled old.now old.digests));
   read = λ front m more.
       let count : n + m ≡ n - 0 + m = omega arith in
       let place : at ≡ at + l * 0 = omega arith in
@@ -157,9 +158,11 @@ pub through_more : (version l : ℕ) → l ≡ record_len version → (text : Li
     (before last : Option (List ℕ)) (old now new : Extents)
     (r : Record) → i < n → length text ≡ l * n → SetThrough version l text at n i before last old now
     → record_after version (bytes_at text (l * i) l) last ≡ Ok r → IsName r.name
-    → new.now ≡ fin.insert now.now r.name (spot_of r) → new.kept ≡ now.kept → new.names ≡ now.names
+    → length r.digest ≡ digest_len → new.now ≡ fin.insert now.now r.name (spot_of r)
+    → new.digests ≡ fin.insert now.digests r.name r.digest → new.kept ≡ now.kept → new.names ≡ now.names
     → SetThrough version l text at n (i + 1) before (Some r.name) old new
-through_more version l len text at n i before last old now new r low long t read is inserted kept names =
+through_more version l len text at n i before last old now new r low long t read is whole inserted digested
+    kept names =
     let more = set_more now.now last (records_of now.now) r t.set is
     (rises_after version (bytes_at text (l * i) l) last r read) in
     let spots = fin.insert now.now r.name (spot_of r) in
@@ -177,10 +180,8 @@ through_more version l len text at n i before last old now new r low long t read
       kept = kept ∙ t.kept;
       names = names ∙ t.names;
       done = t.done ++ r ∷ [];
-      same = ap records_of inserted ∙ more.records
-          ∙ ap (λ rs. rs ++ plain r ∷ []) t.same
-          ∙ append_assoc (records_of old.now) (map plain t.done) (plain r ∷ [])
-          ∙ ap (λ rs. records_of old.now ++ rs) (sym (map-append plain t.done (r ∷ [])));
+      same = (λ j. rolled (inserted j) (digested j)) ∙ rolled-push now.now now.digests r whole more.records
+          ∙ ap (λ rs. rs ++ r ∷ []) t.same ∙ append_assoc (rolled old.now old.digests) t.done (r ∷ []);
       read = λ front m others.
           let left = drop (l * i) text ++ others in
           let k = n - (i + 1) + m in
@@ -220,7 +221,7 @@ through_refused version l len text at n i before last old now f p low long t rea
 -- after the last record, what stands behind the text is still to be read
 pub through_all : (version l : ℕ) (text : List ℕ) (at n : ℕ) (before last : Option (List ℕ))
     (old now : Extents) → length text ≡ l * n → SetThrough version l text at n n before last old now
-    → SetPiece version l text at n before last old.now now.now
+    → SetPiece version l text at n before last old now
 through_all version l text at n before last old now long t = record {
   done = t.done;
   same = t.same;

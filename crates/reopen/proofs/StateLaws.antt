@@ -1,18 +1,17 @@
 -- The state of a table that was read and checked.
-use Rattle.std.specs.Prelude.{◌≡◌, ℕ, ◌==◌, List, Option, None, Ok, is_some}
-use Rattle.std.proofs.Common.{ap, inl, inr, subst, sym, refl, ◌∙◌}
-use Rattle.std.proofs.lemmas.Bool.{cases_Bool, cond-true, cond-false}
+use Rattle.std.specs.Prelude.{◌≡◌, ℕ, List, map, Ok}
+use Rattle.std.proofs.Common.{ap, subst, sym, refl, ◌∙◌}
 use Rattle.size_class.specs.declared.TheConstants.{SIZE_MAX}
 use Rattle.slot_codec.specs.Choice as choice
 use Rattle.slot_codec.proofs.ChoiceLaws.{table_from}
-use Rattle.slot_codec.specs.declared.codec.Record.{Record}
 use Rattle.slot_pair.specs.Finding.{chosen_of, in_use_of}
 use Rattle.segment_layout.specs.Layouts.{caps_of, divisor_of, grid_of}
 use Rattle.segment_layout.specs.declared.layout.Layout.{Layout}
 use Rattle.table_rules.specs.Opening.{placed_table}
 use Rattle.table_rules.specs.Rules.{FirstBroken, IsValid}
 use Rattle.table_check.specs.declared.fault.TableFault.{TableFault}
-use Rattle.extent_table.specs.Extents.{records_of}
+use Rattle.extent_table.specs.Extents.{IsTable, digests_seen, records_of}
+use Rattle.extent_table.proofs.RollLaws.{rolled-plain, rolled-seen}
 use Rattle.placement_model.specs.Laid.{laid}
 use Rattle.reopen.specs.Loads.{IsLoadedFrom, KeepsLoaded}
 use Rattle.reopen.specs.Refusals.{BreaksFirst}
@@ -56,7 +55,9 @@ keeps_loaded r layout read divisor caps used valid = record {
   is_table = read.is_table;
   count = read.count;
   kept = read.kept;
+  kept_digests = read.kept_digests;
   room = read.names;
+  cap = read.cap;
   divisor = divisor;
   caps = caps;
   used = used;
@@ -64,56 +65,48 @@ keeps_loaded r layout read divisor caps used valid = record {
   valid = valid;
 }
 
--- the table with these digests, of which a table was read
-abbrev table_read : TableRead → Option choice.Digests → choice.Table
-table_read r digests =
-    record { chosen = chosen_of r.found r.header; records = records_of r.table.now; digests = digests }
-
--- the digests of the file
-abbrev digests_read : (file : List ℕ) (r : TableRead) → IsReadFrom file r → Option choice.Digests
-digests_read file r read = choice.digests_in r.header.version read.records.records
+-- the table that was read, with its digests in version 2
+abbrev table_read : TableRead → choice.Table
+table_read r = record {
+  chosen = chosen_of r.found r.header;
+  records = records_of r.table.now;
+  digests = digests_seen r.header.version r.table.digests;
+}
 
 -- the table that was read is that of the file
-table_is : (file : List ℕ) (r : TableRead) (read : IsReadFrom file r)
-    → choice.table_of file ≡ Ok (table_read r (digests_read file r read))
-table_is file r read =
+table_is : (file : List ℕ) (r : TableRead) → IsTable r.table → IsReadFrom file r
+    → choice.table_of file ≡ Ok (table_read r)
+table_is file r table read =
+    let plain = ap (map choice.plain) (sym read.records.same) ∙ rolled-plain r.table.now r.table.digests in
+    let digests = ap (choice.digests_in r.header.version) (sym read.records.same)
+    ∙ rolled-seen r.header.version r.table table in
     table_from file (chosen_of r.found r.header) read.records.records read.is_found.read read.records.read
-    ∙ ap (λ rs. Ok (record (table_read r (digests_read file r read)) { records = rs })) read.records.same
-
--- there are digests in version 2 alone
-has_digests : (version : ℕ) (records : List Record)
-    → is_some (choice.digests_in version records) ≡ (version == 2)
-has_digests version records = elim (cases_Bool (version == 2)) [
-  | inl is ↦ ap is_some (cond-true (version == 2) _ None is) ∙ sym is
-  | inr other ↦ ap is_some (cond-false (version == 2) _ None other) ∙ sym other
-]
+    ∙ λ i. Ok (record { chosen = chosen_of r.found r.header; records = plain i; digests = digests i })
 
 -- and the table that was checked is the file's as its rules see it
-placed_is : (C : ℕ) (file : List ℕ) (r : TableRead) (read : IsReadFrom file r)
+placed_is : (C : ℕ) (file : List ℕ) (r : TableRead) → IsReadFrom file r
     → laid C SIZE_MAX r.found.block.k r.data_len r.header r.table.now ≡ placed_table C SIZE_MAX file
-    (table_read r (digests_read file r read))
+    (table_read r)
 placed_is C file r read = ap (λ n. laid C SIZE_MAX r.found.block.k n r.header r.table.now) read.behind
 
-pub loaded_from : {C : ℕ} (file : List ℕ) (r : TableRead) (layout : Layout C) → IsReadFrom file r
-    → IsValid (laid C SIZE_MAX r.found.block.k r.data_len r.header r.table.now)
+pub loaded_from : {C : ℕ} (file : List ℕ) (r : TableRead) (layout : Layout C) → IsTable r.table
+    → IsReadFrom file r → IsValid (laid C SIZE_MAX r.found.block.k r.data_len r.header r.table.now)
     → IsLoadedFrom file (loaded_with r layout)
-loaded_from {C} file r layout read valid = record {
+loaded_from {C} file r layout table read valid = record {
   in_use = read.is_found.slot;
-  digests = digests_read file r read;
-  digested = has_digests r.header.version read.records.records;
   opens = record {
-    read = table_is file r read;
+    read = table_is file r table read;
     valid = subst IsValid (placed_is C file r read) valid;
     same_map = refl;
     same_book = refl;
   };
 }
 
-pub breaks_first : (C : ℕ) (file : List ℕ) (r : TableRead) (broken : TableFault) → IsReadFrom file r
-    → FirstBroken (laid C SIZE_MAX r.found.block.k r.data_len r.header r.table.now) broken.rule broken.at
+pub breaks_first : (C : ℕ) (file : List ℕ) (r : TableRead) (broken : TableFault) → IsTable r.table
+    → IsReadFrom file r → FirstBroken (laid C SIZE_MAX r.found.block.k r.data_len r.header r.table.now) broken.rule broken.at
     → BreaksFirst C file broken
-breaks_first C file r broken read first = record {
-  table = table_read r (digests_read file r read);
-  read = table_is file r read;
+breaks_first C file r broken table read first = record {
+  table = table_read r;
+  read = table_is file r table read;
   first = subst (λ t. FirstBroken t broken.rule broken.at) (placed_is C file r read) first;
 }

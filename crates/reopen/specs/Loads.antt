@@ -1,11 +1,11 @@
 -- What a state that was read says, and of which file it is the state.
-use Rattle.std.specs.Prelude.{◌≡◌, ℕ, ◌<◌, ◌≤◌, ◌==◌, List, Option, Ok, IsTrue, is_some}
+use Rattle.std.specs.Prelude.{◌≡◌, ℕ, ◌<◌, ◌≤◌, List, Option, Ok, IsTrue}
 use Rattle.std.specs.FinMap as fin
 use Rattle.size_class.specs.declared.TheConstants.{SIZE_MAX}
 use Rattle.slot_codec.specs.Choice as choice
 use Rattle.slot_codec.specs.Reading.{all_in_range, is_version, worn_from}
 use Rattle.slot_codec.specs.Readable.{IsSuperBlock}
-use Rattle.slot_codec.specs.Spelling.{head_len}
+use Rattle.slot_codec.specs.Spelling.{cap, head_len}
 use Rattle.slot_codec.specs.declared.codec.Kind.{Kind}
 use Rattle.slot_codec.specs.declared.codec.Kind.TheVariants as kind
 use Rattle.segment_layout.specs.Layouts.{caps_of, divisor_of, grid_of}
@@ -13,7 +13,7 @@ use Rattle.segment_layout.specs.Books.{with_digests}
 use Rattle.table_rules.specs.Opening.{OpensBy, placed_table}
 use Rattle.table_rules.specs.Rules.{IsValid}
 use Rattle.table_rules.specs.Tables.{book_of}
-use Rattle.extent_table.specs.Extents.{IsTable, records_of}
+use Rattle.extent_table.specs.Extents.{IsTable, digests_seen, records_of}
 use Rattle.placement_model.specs.Laid.{laid}
 use Rattle.placement_model.specs.Reads.{read_at}
 use Rattle.reopen.specs.declared.state.Loaded.{Loaded}
@@ -28,6 +28,10 @@ abbrev pub kind_of : {C : ℕ} → State C → Kind
 kind_of (state.Still x) = kind.Settled
 kind_of (state.Moving x) = kind.Moving
 
+-- the digests of the table that was read: none in version 1
+abbrev pub digests_loaded : {C : ℕ} → Loaded C → Option choice.Digests
+digests_loaded x = digests_seen x.header.version x.table.digests
+
 -- the table that was read, with digests
 abbrev pub table_seen : {C : ℕ} → Loaded C → Option choice.Digests → choice.Table
 table_seen x digests =
@@ -38,7 +42,8 @@ table_seen x digests =
     }
 
 -- What holds whatever the disk tells: the numbers are in range and belong together, what stands now is what
--- was kept, and the table keeps the rules of its kind in a data part of some length.
+-- was kept, as many names may be live as a table of its version has records, and the table keeps the rules of
+-- its kind in a data part of some length.
 pub record KeepsLoaded {C : ℕ} (x : Loaded C) : Type 0 where
   pub ranges : IsSuperBlock x.block
   pub same_block : x.slots.block ≡ x.block
@@ -50,7 +55,9 @@ pub record KeepsLoaded {C : ℕ} (x : Loaded C) : Type 0 where
   pub is_table : IsTable x.table
   pub count : fin.len x.table.now ≡ x.header.count
   pub kept : x.table.kept ≡ x.table.now
+  pub kept_digests : x.table.kept_digests ≡ x.table.digests
   pub room : x.table.names ≡ x.block.names
+  pub cap : x.table.cap ≡ cap x.block.names x.header.version
   pub divisor : divisor_of x.layout ≡ x.block.k
   pub caps : caps_of x.layout ≡ x.header.caps
   pub used : grid_of x.layout ≡ x.header.used
@@ -62,15 +69,14 @@ pub record KeepsState {C : ℕ} (s : State C) : Type 0 where
   pub same_kind : (loaded_of s).header.kind ≡ kind_of s
   pub loaded : KeepsLoaded (loaded_of s)
 
--- The slot in use is that of the file. By the table, with the digests that the file has in version 2, the
--- file opens to the map that it gives where the objects stand, and to the table's book.
+-- The slot in use is that of the file. By the table that was read, with its digests in version 2, the file
+-- opens to the map that it gives where the objects stand, and to the table's book.
 pub record IsLoadedFrom {C : ℕ} (file : List ℕ) (x : Loaded C) : Type 0 where
   pub in_use : choice.slot_in_use file ≡ Ok x.slots
-  pub digests : Option choice.Digests
-  pub digested : is_some digests ≡ (x.header.version == 2)
-  pub opens : OpensBy C SIZE_MAX (table_seen x digests) file
+  pub opens : OpensBy C SIZE_MAX (table_seen x (digests_loaded x)) file
       (read_at (head_len x.block.names) file x.table.now)
-      (with_digests digests (book_of (placed_table C SIZE_MAX file (table_seen x digests))))
+      (with_digests (digests_loaded x)
+      (book_of (placed_table C SIZE_MAX file (table_seen x (digests_loaded x)))))
 
 abbrev pub IsStateOf : {C : ℕ} → List ℕ → State C → Type 0
 IsStateOf file s = IsLoadedFrom file (loaded_of s)

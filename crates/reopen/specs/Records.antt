@@ -1,20 +1,20 @@
 -- Records that are read and set one after another.
-use Rattle.std.specs.Prelude.{◌≡◌, ℕ, ◌+◌, ◌-◌, ◌*◌, ◌≤◌, List, [], ◌++◌, drop, map, Option, None, Result, Ok, IsTrue}
+use Rattle.std.specs.Prelude.{◌≡◌, ℕ, ◌+◌, ◌-◌, ◌*◌, ◌≤◌, List, ◌++◌, drop, Option, None, Result, Ok, IsTrue}
 use Rattle.std.specs.FinMap as fin
 use Rattle.byte_ranges.specs.Ranges.{bytes_at}
 use Rattle.byte_ranges.specs.Lists.{◌>>=◌}
 use Rattle.disk_face.specs.Frames.{Unchanged}
 use Rattle.disk_face.specs.States.{State}
-use Rattle.slot_codec.specs.Choice.{SlotRefusal, plain, read_records}
+use Rattle.slot_codec.specs.Choice.{SlotRefusal, read_records}
 use Rattle.slot_codec.specs.declared.codec.Record.{Record}
-use Rattle.extent_table.specs.Extents.{Extents, Spots, records_of}
+use Rattle.extent_table.specs.Extents.{Extents, records_of, rolled}
 use Rattle.placement_model.specs.Orders.{SetSoFar}
 
--- Records are read, and without their digests they are those of some spots.
-pub record AreSet (expected : Result (List Record) SlotRefusal) (spots : Spots) : Type 0 where
+-- Records are read, and they are those of a table, with their digests.
+pub record AreSet (expected : Result (List Record) SlotRefusal) (now : Extents) : Type 0 where
   pub records : List Record
   pub read : expected ≡ Ok records
-  pub same : map plain records ≡ records_of spots
+  pub same : rolled now.now now.digests ≡ records
 
 -- records that were read, then n records of a text in a version that stands at a position, behind a name
 unfoldable pub all_records : ℕ → List Record → ℕ → List ℕ → ℕ → Option (List ℕ)
@@ -32,27 +32,27 @@ pub record SetThrough (version len : ℕ) (text : List ℕ) (at n i : ℕ) (befo
     pub kept : now.kept ≡ old.kept
     pub names : now.names ≡ old.names
     pub done : List Record
-    pub same : records_of now.now ≡ records_of old.now ++ map plain done
+    pub same : rolled now.now now.digests ≡ rolled old.now old.digests ++ done
     pub read : (front : List Record) (m : ℕ) (more : List ℕ)
         → all_records version front (n + m) (text ++ more) at before
         ≡ all_records version (front ++ done) (n - i + m) (drop (len * i) text ++ more) (at + len * i) last
 
 -- The records of a text in a version were read and set, whatever was read before and stands behind it.
 pub record SetPiece (version len : ℕ) (text : List ℕ) (at n : ℕ) (before last : Option (List ℕ))
-    (old now : Spots) : Type 0
+    (old now : Extents) : Type 0
   where
     pub done : List Record
-    pub same : records_of now ≡ records_of old ++ map plain done
+    pub same : rolled now.now now.digests ≡ rolled old.now old.digests ++ done
     pub read : (front : List Record) (m : ℕ) (more : List ℕ)
         → all_records version front (n + m) (text ++ more) at before
         ≡ all_records version (front ++ done) m more (at + len * n) last
 
 -- Of the records that stand in a file at a position, in a version and of so many bytes each, the first were
--- read, and without their digests they are those of some spots.
+-- read, and they are those of a table.
 pub record ReadSoFar (version len : ℕ) (file : List ℕ) (at count done : ℕ) (last : Option (List ℕ))
-    (spots : Spots) : Type 0 where
+    (now : Extents) : Type 0 where
   pub records : List Record
-  pub same : map plain records ≡ records_of spots
+  pub same : rolled now.now now.digests ≡ records
   pub read : read_records version count (bytes_at file at (len * count)) at None
       ≡ all_records version records (count - done) (bytes_at file (at + len * done) (len * (count - done)))
       (at + len * done) last
@@ -65,6 +65,6 @@ pub record ReadThrough (version len at count done : ℕ) (last : Option (List �
   pub counted : fin.len now.now ≡ done
   pub kept : now.kept ≡ old.kept
   pub names : now.names ≡ old.names
-  pub read : IsTrue first.tells → ReadSoFar version len first.file at count done last now.now
+  pub read : IsTrue first.tells → ReadSoFar version len first.file at count done last now
   pub frame : Unchanged first later
   pub calm : later.faults ≡ first.faults

@@ -28,18 +28,20 @@ pub record IsFoundIn (file : List ℕ) (found : Found) (header : Header) : Type 
   pub read : choice.chosen file ≡ Ok (chosen_of found header)
   pub long : head_len found.block.names ≤ length file
 
--- As many records as the header says were set in a table with room for all names, and kept.
+-- As many records as the header says were set in a table with room for all names, and kept. From now on as
+-- many names may be live as a table of that version has records.
 pub record IsRead (r : TableRead) : Type 0 where
   pub is_found : IsFound r.found r.header
   pub is_table : IsTable r.table
   pub count : fin.len r.table.now ≡ r.header.count
   pub kept : r.table.kept ≡ r.table.now
+  pub kept_digests : r.table.kept_digests ≡ r.table.digests
   pub names : r.table.names ≡ r.found.block.names
+  pub cap : r.table.cap ≡ cap r.found.block.names r.header.version
   pub room : r.found.block.names ≤ vec_capacity r.order
 
--- They are the records of a file's table, without their digests, and the data part is what the file has
--- behind its head.
+-- They are the records of a file's table, and the data part is what the file has behind its head.
 pub record IsReadFrom (file : List ℕ) (r : TableRead) : Type 0 where
   pub is_found : IsFoundIn file r.found r.header
-  pub records : AreSet (choice.records_of file (chosen_of r.found r.header)) r.table.now
+  pub records : AreSet (choice.records_of file (chosen_of r.found r.header)) r.table
   pub behind : r.data_len ≡ length file - head_len r.found.block.names

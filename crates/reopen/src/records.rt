@@ -40,7 +40,7 @@ pub(crate) fn set_all<D: Disk>(
     requires empty { load.old.now ≡ fin.empty }
     requires names { count ≤ load.old.names }
     ensures read { IsTrue (D.state disk.old).tells → OnOk result (AreSet (read_records version count
-        (bytes_at (D.state disk.old).file at (record_len version * count)) at None) load.new.now) }
+        (bytes_at (D.state disk.old).file at (record_len version * count)) at None) load.new) }
     ensures refused { IsTrue (D.state disk.old).tells → IfErr result (Refuses (read_records version count
         (bytes_at (D.state disk.old).file at (record_len version * count)) at None)) }
     ensures count { OnOk result (fin.len load.new.now ≡ count) }
@@ -71,7 +71,7 @@ fn set_pieces<D: Disk>(
     requires empty { load.old.now ≡ fin.empty }
     requires names { count ≤ load.old.names }
     ensures read { IsTrue (D.state disk.old).tells → OnOk result (AreSet (read_records version count
-        (bytes_at (D.state disk.old).file at (len * count)) at None) load.new.now) }
+        (bytes_at (D.state disk.old).file at (len * count)) at None) load.new) }
     ensures refused { IsTrue (D.state disk.old).tells → IfErr result (Refuses (read_records version count
         (bytes_at (D.state disk.old).file at (len * count)) at None)) }
     ensures count { OnOk result (fin.len load.new.now ≡ count) }
@@ -116,7 +116,7 @@ fn set_piece<D: Disk>(
     ensures kept { OnOk result (load.new.kept ≡ load.old.kept) }
     ensures names { OnOk result (load.new.names ≡ load.old.names) }
     ensures read { IsTrue (D.state disk.old).tells → OnOk result (SetPiece version len
-        (bytes_at (D.state disk.old).file at (len * n)) at n last.old last.new load.old.now load.new.now) }
+        (bytes_at (D.state disk.old).file at (len * n)) at n last.old last.new load.old load.new) }
     ensures refused { IsTrue (D.state disk.old).tells → IfErr result (λ why. (front : List Record) (m : ℕ)
         (more : List ℕ) → Refuses (all_records version front (n + m)
         (bytes_at (D.state disk.old).file at (len * n) ++ more) at last.old) why) }
@@ -163,7 +163,7 @@ fn set_records(
             place: record.place,
             size: record.size,
         };
-        load.push(&record.name, spot);
+        load.push(&record.name, spot, record.digest);
         *last = Some(record.name);
     }
     Ok(())
@@ -184,6 +184,7 @@ fn record_at(
     ensures value { result ≡ record_after version (bytes_at text.now at len) before.now }
     ensures named { IfOk result (λ r. IsName r.name) }
     ensures ranges { IfOk result (λ r. (r.place < 2 ^ 48) × (r.size < 2 ^ 48)) }
+    ensures digested { IfOk result (λ r. length r.digest ≡ 32) }
 {
     read_record_after(&text[at..at + len], version, before.as_ref())
 }

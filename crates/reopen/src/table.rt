@@ -14,7 +14,7 @@ use crate::OpenFault;
 use crate::records::{RECORDS_A_READ, set_all};
 use disk_face::{Disk, length_of};
 use extent_table::{BulkLoad, Table};
-use slot_codec::{HEADER_LEN, Header, head_len, record_len};
+use slot_codec::{HEADER_LEN, Header, cap, head_len, record_len};
 use slot_pair::{Found, SlotFault, choose, read_chosen_header, slot_at};
 use std::alloc::Global;
 
@@ -65,6 +65,7 @@ pub(crate) fn read_table<D: Disk>(alloc: Global, disk: &mut D) -> Result<TableRe
     };
     let mut table = room.load.into_table();
     table.keep();
+    table.narrow(cap(found.block.names, header.version));
     Ok(TableRead {
         found,
         header,
@@ -108,7 +109,7 @@ fn load_records<D: Disk>(
     requires names { load.old.names ≡ found.now.block.names }
     ensures records { IsTrue (D.state disk.old).tells
         → OnOk result (AreSet (records_of (D.state disk.old).file (chosen_of found.now header.now))
-        load.new.now) }
+        load.new) }
     ensures refused { IsTrue (D.state disk.old).tells
         → IfErr result (Refuses (records_of (D.state disk.old).file (chosen_of found.now header.now))) }
     ensures count { OnOk result (fin.len load.new.now ≡ header.now.count) }

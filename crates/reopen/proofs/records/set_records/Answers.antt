@@ -26,7 +26,8 @@ records-preserved c =
     through_more c.args.version c.args.len c.requires.len c.args.text.now c.args.at c.args.n c.records.i
     c.args.last.now c.records.last
     c.args.load.now c.records.load c.push.new.self c.in-Ok.record (omega arith) c.requires.long
-    c.records.invariant said c.in-Ok.ensures.named c.push.ensures.now c.push.ensures.kept c.push.ensures.names
+    c.records.invariant said c.in-Ok.ensures.named c.in-Ok.ensures.digested c.push.ensures.now
+    c.push.ensures.digests c.push.ensures.kept c.push.ensures.names
 
 pub push-requires-clause-behind : goal.push-requires-clause-behind
 push-requires-clause-behind c =

@@ -10,8 +10,8 @@ returns-in-Ok-clause-opened g c = λ told.
     let said = c.state_of.ensures in
     let is = is_loaded _ r c.in-Ok.layout said.block said.slots said.header said.table said.layout in
     subst (λ x. IsLoadedFrom (g.D.Disk.state c.args.disk.now).file x) (sym is)
-    (loaded_from (g.D.Disk.state c.args.disk.now).file r c.in-Ok.layout (c.in_ok-found.ensures.told told)
-    c.in-Ok.ensures.valid)
+    (loaded_from (g.D.Disk.state c.args.disk.now).file r c.in-Ok.layout c.in_ok-found.ensures.read.is_table
+    (c.in_ok-found.ensures.told told) c.in-Ok.ensures.valid)
 
 pub returns-in-Ok-clause-state : goal.returns-in-Ok-clause-state
 returns-in-Ok-clause-state g c =
@@ -28,7 +28,8 @@ returns-in-Ok-clause-state g c =
 
 pub returns-in-Err-clause-refused : goal.returns-in-Err-clause-refused
 returns-in-Err-clause-refused g c = λ told. breaks_first g.row.C (g.D.Disk.state c.args.disk.now).file
-    c.in_ok-found.field-0 c.in-Err.fault (c.in_ok-found.ensures.told told) c.in-Err.ensures.broken
+    c.in_ok-found.field-0 c.in-Err.fault c.in_ok-found.ensures.read.is_table
+    (c.in_ok-found.ensures.told told) c.in-Err.ensures.broken
 
 pub returns-in_err-found : goal.returns-in_err-found
 returns-in_err-found g c = grind (arith, common_steps)

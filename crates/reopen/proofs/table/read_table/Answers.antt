@@ -1,6 +1,9 @@
-use Rattle.std.proofs.Common.{arith, IsTrue, subst, sym}
+use Rattle.std.proofs.Common.{ap, arith, IsTrue, subst, sym}
 use Rattle.std.proofs.lemmas.Grind.{common_steps}
+use Rattle.disk_face.proofs.FrameLaws.{Unchanged-trans}
+use Rattle.slot_codec.proofs.CapLaws.{cap-low}
 use Rattle.slot_pair.specs.Finding.{chosen_of}
+use Rattle.extent_table.specs.Extents.{Extents}
 use Rattle.reopen.proofs.TableLaws.{no_header, no_records}
 use Rattle.reopen.proofs.table.read_table.Goals as goal
 
@@ -19,3 +22,21 @@ returns-in-Err-load_records-clause-refused g c = λ told.
 
 pub returns-in_default : goal.returns-in_default
 returns-in_default g c = grind (arith, common_steps)
+
+pub narrow-requires-clause-low : goal.narrow-requires-clause-low
+narrow-requires-clause-low g c =
+    let found = c.in-Ok.found.0 in
+    omega (
+      arith,
+      cap-low found.block.names c.in-Ok.found.1.version,
+      c.cap.ensures,
+      c.keep.ensures.names,
+      ap (λ (e : Extents). e.names) c.into_table-table.ensures,
+      c.in_default-load_records.ensures.names,
+      ap (λ (e : Extents). e.names) c.in-Some.ensures.load,
+    )
+
+pub returns-clause-frame : goal.returns-clause-frame
+returns-clause-frame g c =
+    Unchanged-trans (Unchanged-trans c.find_header.ensures.frame c.load_records.ensures.frame)
+    c.length_of.ensures.frame
