@@ -40,6 +40,7 @@ pub record IsWithout (name : List ℕ) (e after : Extents) : Type 0 where
   pub kept : after.kept ≡ e.kept
   pub keys : after.keys ≡ fin.remove e.keys name
   pub names : after.names ≡ e.names
+  pub cap : after.cap ≡ e.cap
   pub table : IsTable after
 
 -- the table with a name, whose object stands at a spot
@@ -48,6 +49,7 @@ pub record IsWith (name : List ℕ) (spot : Spot) (key : ℕ) (e after : Extents
   pub kept : after.kept ≡ e.kept
   pub keys : after.keys ≡ fin.insert e.keys name key
   pub names : after.names ≡ e.names
+  pub cap : after.cap ≡ e.cap
   pub table : IsTable after
 
 -- A flush from class b on may begin, or wait for a pending object alone: each object stands in a segment, of

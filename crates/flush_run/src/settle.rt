@@ -6,7 +6,7 @@ ghost use Rattle.slot_codec.specs.Choice.{slot_in_use};
 ghost use Rattle.slot_codec.specs.Reading.{all_in_range, worn_from};
 ghost use Rattle.slot_codec.specs.Spelling.{head_len};
 ghost use Rattle.slot_pair.specs.Saves.{next_in_use, save_calls};
-ghost use Rattle.extent_table.specs.Extents.{IsTable, records_of};
+ghost use Rattle.extent_table.specs.Extents.{IsTable, records_of, with_now_kept};
 ghost use Rattle.flush_run.specs.FlushFrames.{IsMidFlush, FlushFrame, LeavesOldOrNew};
 ghost use Rattle.flush_run.specs.Saves.{IsSaveable};
 ghost use Rattle.segment_layout.specs.Layouts.{caps_of, grid_of};
@@ -57,7 +57,7 @@ pub(crate) fn settle_mid_flush<D: Disk, const C: usize>(
     ensures pair { OnOk result (hands.new.slots ≡ next_in_use hands.old.slots) }
     ensures same_pair { OnErr result ((hands.old.slots.sequence ≤ hands.new.slots.sequence)) }
     ensures one { hands.new.slots.sequence ≤ hands.old.slots.sequence + 1 }
-    ensures table { OnOk result (hands.new.table ≡ record hands.old.table { kept = hands.old.table.now }) }
+    ensures table { OnOk result (hands.new.table ≡ with_now_kept hands.old.table) }
     ensures guard { OnOk result (hands.new.guard.spans ≡ []) }
     ensures calls { Calls (save_calls (length (records_of hands.old.table.now)) + 2) (D.state disk.old)
         (D.state disk.new) result }

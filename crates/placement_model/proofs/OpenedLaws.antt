@@ -1,7 +1,7 @@
 -- What a file opens to once its length is set.
-use Rattle.std.specs.Prelude.{◌≡◌, ℕ, suc, ◌+◌, ◌-◌, ◌<◌, ◌≤◌, ◌==◌, nat_le, nat_lt, not, min, if◌then◌else◌, List, [], ◌∷◌, length, slice_index, slice_index_or, Ok}
-use Rattle.std.proofs.Common.{arith, sym, ◌∙◌, ap, subst, inl, inr}
-use Rattle.std.proofs.lemmas.Bool.{cond-true, lt-ltb, leb-false}
+use Rattle.std.specs.Prelude.{ℕ, suc, ◌+◌, ◌-◌, ◌<◌, ◌≤◌, nat_lt, min, if◌then◌else◌, List, [], ◌∷◌, length, slice_index_or}
+use Rattle.std.proofs.Common.{arith, sym, subst, inl, inr}
+use Rattle.std.proofs.lemmas.Bool.{cond-true, lt-ltb}
 use Rattle.byte_ranges.specs.Ranges.{SameBelow}
 use Rattle.disk_face.specs.Moments.{ResizedImage}
 use Rattle.slot_codec.specs.Choice as choice

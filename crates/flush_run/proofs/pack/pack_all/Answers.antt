@@ -149,6 +149,15 @@ returns-in_err-move_one-clause-made g c =
     c.in_err-move_one.ensures.unmoved
     (λ name. ap (λ (e : Extents). size_in e.now name) table ∙ ap (λ (x : Spots). size_in x name) t.spots)
 
+pub returns-in_err-move_one-clause-lifted : goal.returns-in_err-move_one-clause-lifted
+returns-in_err-move_one-clause-lifted g c d =
+    let t = c.free_target.ensures in
+    let table = c.in_err-move_one.ensures.table in
+    ap (λ p. lifted_in p d) (phase_same c.moves.packs.course c.next.new.self.course c.moves.hands.table
+    c.move_one.new.hands.table c.next.ensures.course
+    (ap (λ (e : Extents). e.now) table ∙ t.spots) (ap (λ (e : Extents). e.keys) table ∙ t.keeps.keys))
+    ∙ c.moves.invariant.lifted d
+
 pub returns-in_err-move_one-clause-most : goal.returns-in_err-move_one-clause-most
 returns-in_err-move_one-clause-most g c =
     let i = c.moves.invariant in

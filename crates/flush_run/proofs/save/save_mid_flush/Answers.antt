@@ -1,21 +1,22 @@
-use Rattle.std.proofs.Common.{ap, arith, subst, sym}
+use Rattle.std.proofs.Common.{ap, arith, rules, subst, sym}
+use Rattle.disk_face.specs.Frames.{Calls}
 use Rattle.slot_codec.proofs.CapLaws.{cap-one}
 use Rattle.slot_codec.specs.Spelling.{cap}
-use Rattle.slot_pair.specs.Saves.{next_in_use}
-use Rattle.extent_table.proofs.ExtentLaws.{records_of-few}
-use Rattle.extent_table.proofs.SaveLaws.{records_in_range}
+use Rattle.slot_pair.specs.Saves.{next_in_use, save_calls}
+use Rattle.extent_table.proofs.RollLaws.{rolled-few}
+use Rattle.extent_table.proofs.SaveLaws.{rolled_in_range}
 use Rattle.flush_run.specs.FlushFrames.{MidFlush}
 use Rattle.flush_run.proofs.HeldLaws.{save_mid_flush, save_mid_flush-done, save_mid_flush-opened}
+use Rattle.flush_run.proofs.RolledLaws.{rolled_count, rolled_left, rolled_saved}
 use Rattle.flush_run.proofs.save.save_mid_flush.Goals as goal
 
 pub save-requires-clause-records : goal.save-requires-clause-records
-save-requires-clause-records g c = records_in_range c.args.hands.now.table c.requires.table
+save-requires-clause-records g c = rolled_in_range c.args.hands.now.table c.requires.table
 
 pub save-requires-clause-count : goal.save-requires-clause-count
 save-requires-clause-count g c = omega (
   arith,
-  records_of-few c.args.hands.now.table.now,
-  c.requires.table.now_room,
+  rolled-few c.args.hands.now.table c.requires.table,
   c.requires.names,
   ap (cap c.args.hands.now.slots.block.names) c.requires.version,
   cap-one c.args.hands.now.slots.block.names,
@@ -23,27 +24,56 @@ save-requires-clause-count g c = omega (
 
 pub returns-in_err-save-clause-left : goal.returns-in_err-save-clause-left
 returns-in_err-save-clause-left g c f told s was fresh =
-    save_mid_flush f _ _ _ _ s (c.save.ensures.left told) was fresh
+    let e = c.args.hands.now.table in
+    save_mid_flush f _ _ _ _ s (rolled_left c.args.hands.now.slots c.args.header.now e.now e.digests
+    c.requires.version (c.save.ensures.left told)) was fresh
+
+pub returns-in_err-save-clause-calls : goal.returns-in_err-save-clause-calls
+returns-in_err-save-clause-calls g c =
+    let e = c.args.hands.now.table in
+    let calls = subst (λ n. Calls (save_calls n) (g.D.Disk.state c.args.disk.now)
+    (g.D.Disk.state c.save.new.disk) c.save.result) (rolled_count e.now e.digests) c.save.ensures.calls in
+    search rules
+
+pub returns-clause-calls : goal.returns-clause-calls
+returns-clause-calls g c =
+    let e = c.args.hands.now.table in
+    let calls = subst (λ n. Calls (save_calls n) (g.D.Disk.state c.args.disk.now)
+    (g.D.Disk.state c.save.new.disk) c.save.result) (rolled_count e.now e.digests) c.save.ensures.calls in
+    search rules
 
 pub returns-clause-left : goal.returns-clause-left
-returns-clause-left g c f told s was fresh = save_mid_flush f _ _ _ _ s (c.save.ensures.left told) was fresh
+returns-clause-left g c f told s was fresh =
+    let e = c.args.hands.now.table in
+    save_mid_flush f _ _ _ _ s (rolled_left c.args.hands.now.slots c.args.header.now e.now e.digests
+    c.requires.version (c.save.ensures.left told)) was fresh
 
 pub returns-clause-flies : goal.returns-clause-flies
 returns-clause-flies g c f told s was =
     let d = g.D.Disk.state c.save.new.disk in
     let u = c.args.hands.now.slots in
-    let now = c.args.hands.now.table.now in
+    let e = c.args.hands.now.table in
+    let one = c.requires.version in
     let saved =
-    save_mid_flush-done f _ _ _ _ s (c.save.ensures.left told) (c.in_ok-save.ensures.saved told)
+    save_mid_flush-done f _ _ _ _ s
+    (rolled_left u c.args.header.now e.now e.digests one (c.save.ensures.left told))
+    (λ fresh. rolled_saved u c.args.header.now e.now e.digests one d.file
+    (c.in_ok-save.ensures.saved told fresh))
     (c.in_ok-save.ensures.in_use told) (c.in_ok-save.ensures.rests told) was
     in
     subst (λ v. MidFlush f v c.keep.new.self.now c.keep.new.self.kept d.file d.may_leave)
     (sym c.in_ok-save.ensures.pair)
     (subst (λ k. MidFlush f (next_in_use u) c.keep.new.self.now k d.file d.may_leave)
     (sym c.keep.ensures.kept)
-    (subst (λ n. MidFlush f (next_in_use u) n now d.file d.may_leave) (sym c.keep.ensures.now) saved))
+    (subst (λ n. MidFlush f (next_in_use u) n e.now d.file d.may_leave) (sym c.keep.ensures.now) saved))
 
 pub returns-clause-opened : goal.returns-clause-opened
 returns-clause-opened g c f told fresh s was =
-    save_mid_flush-opened f _ _ _ _ s (c.save.ensures.left told) (c.in_ok-save.ensures.saved told fresh)
+    let d = g.D.Disk.state c.save.new.disk in
+    let u = c.args.hands.now.slots in
+    let e = c.args.hands.now.table in
+    let one = c.requires.version in
+    save_mid_flush-opened f _ _ _ _ s
+    (rolled_left u c.args.header.now e.now e.digests one (c.save.ensures.left told))
+    (rolled_saved u c.args.header.now e.now e.digests one d.file (c.in_ok-save.ensures.saved told fresh))
     (c.in_ok-save.ensures.in_use told) (c.in_ok-save.ensures.rests told) was
