@@ -19,6 +19,7 @@ use Rattle.store_core.specs.declared.answers.Done.{Done}
 use Rattle.store_core.specs.Answers.{AnswersChange, done_reply, facts_at, refusal_for, refused_by, reply_of}
 use Rattle.store_core.specs.Answers as store
 use Rattle.store_core.specs.Changes.{IsQuietChange, NothingChanged}
+use Rattle.store_core.specs.Changing.{IsChange}
 use Rattle.store_core.specs.Connection.{IsConnected, StoreValue, RestsOnTable, base_of, limits_of, state_of}
 use Rattle.store_core.specs.Flushes.{IsFlush}
 use Rattle.store_core.specs.Keeps.{AnswersKeep, KeepsNow}
@@ -288,42 +289,34 @@ module _ {classes : ℕ} (s new : StoreValue) (c : Change) (a d : disk.State) (r
 
 -- a put or a del
 pub change_answers : {classes : ℕ} (s new : StoreValue) (c : Change) (a d : disk.State)
-    (result : Result Done Refusal)
-    → IsSound classes s a → AnswersChange (is_quiet (charges_of s c)) (refused_by s (ask.change c)) result
-    → (IsSome (refused_by s (ask.change c)) → NothingChanged s new a d)
-    → (IsNone (refused_by s (ask.change c)) → is_quiet (charges_of s c) ≡ true
-    → IsQuietChange classes c s new a d result)
-    → (IsNone (refused_by s (ask.change c)) → is_quiet (charges_of s c) ≡ false
-    → IsFlush classes c s new a d result)
+    (result : Result Done Refusal) → IsSound classes s a → IsChange classes c s new a d result
     → (s.is_broken ≡ false → IsTrue a.tells → IfSome (reply_of done_reply result) (λ reply. Step (limits_of s)
     (state_of s a.file) (ask.change c) reply (state_of new d.file)))
-    → IsConnected classes new d → new.is_broken ≡ (s.is_broken || store.is_disk_fault result)
     → Answers classes (ask.change c) s new a d (answer_change result)
-change_answers {classes} s new c a d result h answer refused quiet flush step over broken =
+change_answers {classes} s new c a d result h x step =
     by (refusal (limits_of s) (facts_at s (ask.change c)) (ask.change c)) refl
   where
     broken_now : new.is_broken ≡ store.is_disk_fault result
-    broken_now = broken ∙ ap (λ (b : Bool). b || store.is_disk_fault result) h.whole
+    broken_now = x.broken ∙ ap (λ (b : Bool). b || store.is_disk_fault result) h.whole
+
+    answer_at : (o : Option Refused) → refusal (limits_of s) (facts_at s (ask.change c)) (ask.change c) ≡ o
+        → AnswersChange (is_quiet (charges_of s c)) (option_map refusal_for o) result
+    answer_at o is = subst (λ (y : Option Refusal). AnswersChange (is_quiet (charges_of s c)) y result)
+        (refused_is s (ask.change c) o h.whole is) x.answer
 
     by_quiet : (q : Bool) → is_quiet (charges_of s c) ≡ q
         → refusal (limits_of s) (facts_at s (ask.change c)) (ask.change c) ≡ None
         → IsMade classes (ask.change c) s new a d result
-    by_quiet true q is = quiet_made s new c a d result h is
-        (subst (λ (o : Option Refusal). AnswersChange (is_quiet (charges_of s c)) o result)
-        (refused_is s (ask.change c) None h.whole is) answer) (step h.whole) over broken_now q
-        (quiet (none_is _ (refused_is s (ask.change c) None h.whole is)) q)
-    by_quiet false q is = flush_made s new c a d result h is
-        (subst (λ (o : Option Refusal). AnswersChange (is_quiet (charges_of s c)) o result)
-        (refused_is s (ask.change c) None h.whole is) answer) (step h.whole) over broken_now q
-        (flush (none_is _ (refused_is s (ask.change c) None h.whole is)) q)
+    by_quiet true q is = quiet_made s new c a d result h is (answer_at None is) (step h.whole) x.over
+        broken_now q (x.quiet (none_is _ (refused_is s (ask.change c) None h.whole is)) q)
+    by_quiet false q is = flush_made s new c a d result h is (answer_at None is) (step h.whole) x.over
+        broken_now q (x.flush (none_is _ (refused_is s (ask.change c) None h.whole is)) q)
 
     by : (o : Option Refused) → refusal (limits_of s) (facts_at s (ask.change c)) (ask.change c) ≡ o
         → Answers classes (ask.change c) s new a d (answer_change result)
     by None is = is_made s new (ask.change c) a d result (by_quiet (is_quiet (charges_of s c)) refl is)
-    by (Some w) is = refused_change s new (ask.change c) w a d result h is
-        (subst (λ (o : Option Refusal). AnswersChange (is_quiet (charges_of s c)) o result)
-        (refused_is s (ask.change c) (Some w) h.whole is) answer)
-        (refused (subst (λ (o : Option Refusal). IsSome o) (sym (refused_is s (ask.change c)
+    by (Some w) is = refused_change s new (ask.change c) w a d result h is (answer_at (Some w) is)
+        (x.refused (subst (λ (o : Option Refusal). IsSome o) (sym (refused_is s (ask.change c)
         (Some w) h.whole is)) refl))
 
 -- ---- keep

@@ -13,6 +13,7 @@ use Rattle.store_core.specs.Answers.{AnswersNumber, facts_at, refusal_for, refus
 use Rattle.slot_codec.specs.Names.{is_name}
 use Rattle.store_core.specs.Connection.{StoreValue, base_of, limits_of, state_of}
 use Rattle.store_core.specs.States.{Served, accepted, object_in, refusal, unchanged}
+use Rattle.store_core.proofs.ChangingLaws.{unchanged_itself}
 use Rattle.store_core.proofs.StoreLaws.{kept_lies, now_lies}
 use Rattle.store_core.proofs.StepLaws.{list_step, served_by}
 use Rattle.store_core.specs.Lines.{lines_of, listing_of}
@@ -26,7 +27,7 @@ use Rattle.ask_session.specs.ReplyLines.{Answers, answer_of}
 use Rattle.ask_session.specs.Serving.{HasDiskCause, HasSinkCause, IsServingFault, PutsText, Replies, acknowledges, calls_of, is_changing, is_disk, is_disk_fault, reply_at, served_at}
 use Rattle.ask_session.proofs.AnswerLaws.{on_ok, refused_head, refused_is}
 use Rattle.ask_session.proofs.PutLaws.{not_empty_behind, puts_as, puts_cut, puts_then}
-use Rattle.ask_session.proofs.ServingLaws.{IsSound, StaysAt, refusal_at, unchanged_itself}
+use Rattle.ask_session.proofs.ServingLaws.{IsSound, StaysAt, refusal_at}
 use Rattle.ask_session.proofs.ReplyLaws.{PutsAnswer, sink_calm, sink_serving, answers_replies, reads_replies, object_size, live_if}
 
 -- ---- replies that are an object

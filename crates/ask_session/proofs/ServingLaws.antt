@@ -4,7 +4,7 @@ use Rattle.std.proofs.Common.{arith, ap, sym, ◌∙◌, subst, inl}
 use Rattle.disk_face.specs.Counts.{last}
 use Rattle.disk_face.specs.States as disk
 use Rattle.disk_face.specs.Frames.{Unchanged}
-use Rattle.disk_face.proofs.MomentLaws.{Leaves-none, Leaves-weaken}
+use Rattle.disk_face.proofs.MomentLaws.{Leaves-weaken}
 use Rattle.map_model.specs.Requests as ask
 use Rattle.map_model.specs.Requests.{Refused, Reply, Request}
 use Rattle.segment_layout.specs.Books.{book_end}
@@ -52,16 +52,6 @@ kept_is_serving s r file image h over is = record {
 }
 
 -- ---- nothing changed
-
-pub unchanged_itself : (a : disk.State) → IsTrue a.is_ready → Unchanged a a
-unchanged_itself a ready = record {
-  same_file = λ told. refl;
-  images = λ image may. may;
-  since = Leaves-none a a.may_leave;
-  same_turn = refl;
-  later = omega arith;
-  stays = record { ready = ready; told = refl; images_told = refl; same_mount = refl };
-}
 
 -- the state stays, and no checkpoint is made
 pub record StaysAt (s : StoreValue) (file : List ℕ) (r : Request) : Type 0 where

@@ -18,6 +18,7 @@ pub mod OverLaws
 pub mod QuietLaws
 pub mod EffectLaws
 pub mod RefusedLaws
+pub mod ChangingLaws
 pub mod OpenedLaws
 pub mod KeepLaws
 pub mod KeepEffectLaws

@@ -1,12 +1,12 @@
 -- States whose books are of version 1 are left for such states.
-use Rattle.std.specs.Prelude.{◌≡◌, ℕ, Bool, true, false, cond, List, [], ◌∷◌, Option, Some, None, refl}
-use Rattle.std.proofs.Common.{ap, inl, inr, sym, subst, ◌∙◌}
+use Rattle.std.specs.Prelude.{ℕ, Bool, true, false, cond, Option, Some, None, refl}
+use Rattle.std.proofs.Common.{ap, sym, subst}
 use Rattle.map_model.specs.Maps.{Map}
 use Rattle.map_model.specs.Requests as ask
 use Rattle.map_model.specs.Requests.{Change, Refused, Reply, Request, changed}
 use Rattle.segment_layout.specs.Books.{Book, digests_after, next_book}
 use Rattle.store_core.specs.Plain.{IsPlain}
-use Rattle.store_core.specs.States.{Chain, Limits, Served, State, accepted, facts_of, refusal, served, served_change}
+use Rattle.store_core.specs.States.{Limits, Served, State, accepted, facts_of, refusal, served, served_change}
 use Rattle.store_core.proofs.StepLaws.{served_as, served_by}
 
 -- the book of what stands, and that of the checkpoint

@@ -13,6 +13,7 @@ pub mod Reads
 pub mod Lines
 pub mod Flushing
 pub mod Flushes
+pub mod Changing
 pub mod Plain
 pub mod Opened
 pub mod Resuming

@@ -1,6 +1,5 @@
 //! Putting and removing objects.
-ghost use Rattle.std.specs.Prelude.{◌≡◌, ◌||◌, true, false, IfSome, IsNone, IsSome, IsTrue, None};
-ghost use Rattle.segment_layout.specs.Books.{is_quiet};
+ghost use Rattle.std.specs.Prelude.{◌≡◌, false, IfSome, IsTrue, None};
 ghost use Rattle.map_model.specs.Requests as ask;
 
 use crate::{Done, Refusal, Store};
@@ -8,11 +7,11 @@ use disk_face::Disk;
 use slot_codec::Name;
 
 impl<const C: usize> Store<C> {
-    ghost use Rattle.store_core.specs.Answers.{AnswersChange, done_reply, is_disk_fault, refused_by, reply_of};
-    ghost use Rattle.store_core.specs.Changes.{IsQuietChange, NothingChanged};
+    ghost use Rattle.store_core.specs.Answers.{done_reply, refused_by, reply_of};
+    ghost use Rattle.store_core.specs.Changing.{IsChange};
     ghost use Rattle.store_core.specs.Connection.{IsConnected, limits_of, state_of};
-    ghost use Rattle.store_core.specs.Flushes.{IsFlush, ServesChange};
-    ghost use Rattle.store_core.specs.Quiet.{charges_of, del_of, put_of};
+    ghost use Rattle.store_core.specs.Flushes.{ServesChange};
+    ghost use Rattle.store_core.specs.Quiet.{del_of, put_of};
     ghost use Rattle.store_core.specs.States.{Step};
 
     /// Puts an object under a name, in place of the one that it has. Where there is room in the buffers
@@ -23,24 +22,12 @@ impl<const C: usize> Store<C> {
     pub fn put<D: Disk>(&mut self, disk: &mut D, name: &[u8], bytes: &[u8]) -> Result<Done, Refusal>
         requires ready { IsTrue (D.state disk.old).is_ready }
         requires over { IsConnected C self.old (D.state disk.old) }
-        ensures answer { AnswersChange (is_quiet (charges_of self.old (put_of name.now bytes.now)))
-            (refused_by self.old (ask.change (put_of name.now bytes.now))) result }
-        ensures refused { IsSome (refused_by self.old (ask.change (put_of name.now bytes.now)))
-            → NothingChanged self.old self.new (D.state disk.old) (D.state disk.new) }
-        ensures quiet { IsNone (refused_by self.old (ask.change (put_of name.now bytes.now)))
-            → is_quiet (charges_of self.old (put_of name.now bytes.now)) ≡ true
-            → IsQuietChange C (put_of name.now bytes.now) self.old self.new (D.state disk.old)
-            (D.state disk.new) result }
-        ensures flush { IsNone (refused_by self.old (ask.change (put_of name.now bytes.now)))
-            → is_quiet (charges_of self.old (put_of name.now bytes.now)) ≡ false
-            → IsFlush C (put_of name.now bytes.now) self.old self.new (D.state disk.old)
+        ensures change { IsChange C (put_of name.now bytes.now) self.old self.new (D.state disk.old)
             (D.state disk.new) result }
         ensures step { self.old.is_broken ≡ false → IsTrue (D.state disk.old).tells
             → IfSome (reply_of done_reply result) (λ reply. Step (limits_of self.old)
             (state_of self.old (D.state disk.old).file) (ask.change (put_of name.now bytes.now)) reply
             (state_of self.new (D.state disk.new).file)) }
-        ensures over { IsConnected C self.new (D.state disk.new) }
-        ensures broken { self.new.is_broken ≡ (self.old.is_broken || is_disk_fault result) }
     {
         match self.accept_put(name, bytes) {
             Ok(name) => self.put_accepted(disk, &name, bytes),
@@ -55,28 +42,16 @@ impl<const C: usize> Store<C> {
     pub fn del<D: Disk>(&mut self, disk: &mut D, name: &[u8]) -> Result<Done, Refusal>
         requires ready { IsTrue (D.state disk.old).is_ready }
         requires over { IsConnected C self.old (D.state disk.old) }
-        ensures answer { AnswersChange (is_quiet (charges_of self.old (del_of name.now)))
-            (refused_by self.old (ask.change (del_of name.now))) result }
-        ensures refused { IsSome (refused_by self.old (ask.change (del_of name.now)))
-            → NothingChanged self.old self.new (D.state disk.old) (D.state disk.new) }
-        ensures quiet { IsNone (refused_by self.old (ask.change (del_of name.now)))
-            → is_quiet (charges_of self.old (del_of name.now)) ≡ true
-            → IsQuietChange C (del_of name.now) self.old self.new (D.state disk.old)
-            (D.state disk.new) result }
-        ensures flush { IsNone (refused_by self.old (ask.change (del_of name.now)))
-            → is_quiet (charges_of self.old (del_of name.now)) ≡ false
-            → IsFlush C (del_of name.now) self.old self.new (D.state disk.old)
+        ensures change { IsChange C (del_of name.now) self.old self.new (D.state disk.old)
             (D.state disk.new) result }
         ensures step { self.old.is_broken ≡ false → IsTrue (D.state disk.old).tells
             → IfSome (reply_of done_reply result) (λ reply. Step (limits_of self.old)
             (state_of self.old (D.state disk.old).file) (ask.change (del_of name.now)) reply
             (state_of self.new (D.state disk.new).file)) }
-        ensures over { IsConnected C self.new (D.state disk.new) }
-        ensures broken { self.new.is_broken ≡ (self.old.is_broken || is_disk_fault result) }
     {
         match self.accept_del(name) {
             Ok(name) => self.del_accepted(disk, &name),
-            Err(why) => Err(why),
+            Err(refusal) => Err(refusal),
         }
     }
 

@@ -19,13 +19,14 @@ use Rattle.store_core.specs.declared.answers.Refusal.{Refusal}
 use Rattle.store_core.specs.declared.answers.Done.{Done}
 use Rattle.store_core.specs.Answers.{AnswersChange, facts_at, is_disk_fault, refusal_for, refused_by}
 use Rattle.store_core.specs.Changes.{ChangesQuietly}
+use Rattle.store_core.specs.Changing.{IsChange}
 use Rattle.store_core.specs.Connection.{StoreValue, limits_of}
 use Rattle.store_core.specs.Flushes.{ChangesByFlush, IsFlush}
 use Rattle.store_core.specs.Quiet.{charges_of}
 use Rattle.store_core.specs.States.{refusal}
 use Rattle.store_core.specs.Stores.{IsStore}
 use Rattle.store_core.proofs.ReadingLaws.{whole_if_served}
-use Rattle.store_costs.specs.Calls.{IsChange, IsSound}
+use Rattle.store_costs.specs.Calls.{IsSound}
 use Rattle.store_costs.specs.Paid.{HasOpenLedger, HasPaid, MovesNothing, StepIsPaidFor}
 use Rattle.store_costs.proofs.MadeLaws.{IsNext, flush_divisor, flush_grid, flush_next, next_has_paid, next_pays, quiet_divisor, quiet_grid, quiet_next}
 use Rattle.store_costs.proofs.WeighedLaws.{in_zeros, zeros}

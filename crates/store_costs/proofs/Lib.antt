@@ -4,4 +4,3 @@ pub mod MadeLaws
 pub mod ChangeLaws
 pub mod OtherLaws
 pub mod SessionLaws
-pub mod CallLaws

@@ -1,10 +1,8 @@
 //! What the calls of a store cost: laws of its values before and after, for each cost by class at once.
 #![tactic(auto)]
 
-mod calls;
 mod laws;
 
-pub use calls::{paid_back, paid_del, paid_keep, paid_put};
 pub use laws::{
     a_put_is_paid_for, a_session_of_a_store_is_paid_for, a_store_is_weighed,
     other_calls_move_nothing, tables_that_are_no_costs,

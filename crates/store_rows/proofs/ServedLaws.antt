@@ -8,6 +8,7 @@ use Rattle.size_class.specs.declared.TheConstants.{CLASSES}
 use Rattle.store_core.specs.declared.answers.Refusal.{Refusal}
 use Rattle.store_core.specs.declared.answers.Done.{Done}
 use Rattle.store_core.specs.Changes.{IsQuietChange, NothingChanged}
+use Rattle.store_core.specs.Changing.{IsChange}
 use Rattle.store_core.specs.Connection.{IsConnected, IsOver, StoreValue}
 use Rattle.store_core.specs.Flushes.{IsFlush}
 use Rattle.store_core.specs.Keeps.{KeepsNow}
@@ -21,19 +22,18 @@ served_on old new before now served stays over = record {
   over = over;
 }
 
--- after a change that is refused, quiet, or made with a flush
-pub served_after : (refused : Option Refusal) (is_quiet : Bool) (c : Change) (old new : StoreValue)
-    (before now : disk.State) (result : Result Done Refusal) → IsServed old before
-    → (IsSome refused → NothingChanged old new before now)
-    → (IsNone refused → is_quiet ≡ true → IsQuietChange CLASSES c old new before now result)
-    → (IsNone refused → is_quiet ≡ false → IsFlush CLASSES c old new before now result)
-    → IsConnected CLASSES new now → IsServed new now
-served_after (Some why) is_quiet c old new before now result served is_refused quiet flush over =
-    served_on old new before now served (is_refused (search rules)).same_disk.stays over
-served_after None true c old new before now result served is_refused quiet flush over =
-    served_on old new before now served (quiet (search rules) (search rules)).frame.stays over
-served_after None false c old new before now result served is_refused quiet flush over =
-    served_on old new before now served (flush (search rules) (search rules)).frame.stays over
+-- after a put or a removal, whatever comes of it
+pub served_after : (c : Change) (old new : StoreValue) (before now : disk.State) (result : Result Done Refusal)
+    → IsServed old before → IsChange CLASSES c old new before now result → IsServed new now
+served_after c old new before now result served x =
+    served_on old new before now served (stays _ _ x.refused x.quiet x.flush) x.over
+  where
+    stays : (refused : Option Refusal) (is_quiet : Bool) → (IsSome refused → NothingChanged old new before now)
+        → (IsNone refused → is_quiet ≡ true → IsQuietChange CLASSES c old new before now result)
+        → (IsNone refused → is_quiet ≡ false → IsFlush CLASSES c old new before now result) → Stays before now
+    stays (Some why) is_quiet is_refused quiet flush = (is_refused (search rules)).same_disk.stays
+    stays None true is_refused quiet flush = (quiet (search rules) (search rules)).frame.stays
+    stays None false is_refused quiet flush = (flush (search rules) (search rules)).frame.stays
 
 -- after a checkpoint is saved, or refused
 pub served_kept : (refused : Option Refusal) (old new : StoreValue) (before now : disk.State)

@@ -17,6 +17,7 @@ use Rattle.store_core.specs.declared.answers.Done.{Done}
 use Rattle.store_core.specs.Answers.{AnswersChange, AnswersNumber, AnswersRead, done_reply, refusal_for, refused_by, reply_of, size_at}
 use Rattle.store_core.specs.Answers as store
 use Rattle.store_core.specs.Changes.{NothingChanged}
+use Rattle.store_core.specs.Changing.{IsChange}
 use Rattle.store_core.specs.Connection.{IsConnected, StoreValue, base_of, limits_of, state_of}
 use Rattle.store_core.specs.Keeps.{AnswersKeep, kept_now}
 use Rattle.store_core.specs.Quiet.{charges_of}
@@ -26,7 +27,7 @@ use Rattle.store_core.specs.Stores.{IsStore}
 use Rattle.store_core.proofs.StepLaws.{always}
 use Rattle.store_core.proofs.StoreLaws.{small_if_there}
 use Rattle.segment_layout.specs.Books.{is_quiet}
-use Rattle.store_costs.specs.Calls.{IsChange, IsKeep}
+use Rattle.store_costs.specs.Calls.{IsKeep}
 use Rattle.store_costs.proofs.ChangeLaws.{same_moves_nothing}
 use Rattle.store_costs.proofs.OtherLaws.{keep_moves_nothing}
 use Rattle.ask_text.specs.Replies.{reply_line_of, told_for}
@@ -101,7 +102,7 @@ change_does {classes} s new c a d result h short x step sound = record {
 }
   where
     y : Answers classes (ask.change c) s new a d (answer_change result)
-    y = change_answers s new c a d result h x.answer x.refused x.quiet x.flush step x.over x.broken
+    y = change_answers s new c a d result h x step
 
     now_sound : OnOk (answer_change result) (IsStore classes new)
     now_sound = sound_if (ask.change c) new (answer_change result) y.serves.broken sound

@@ -21,5 +21,4 @@ returns g c = subst (λ (x : Result Reply End). Answers g.row.C (ask.change (del
       ready = c.requires.ready;
       fits = (g.met.D.Disk.lawful c.args.disk.now).turn_fits;
     })
-    c.del.ensures.answer c.del.ensures.refused c.del.ensures.quiet c.del.ensures.flush c.del.ensures.step
-    c.del.ensures.over c.del.ensures.broken)
+    c.del.ensures.change c.del.ensures.step)

@@ -3,7 +3,7 @@ use Rattle.slot_codec.specs.Names.{is_name}
 use Rattle.store_core.specs.Quiet.{put_of}
 use Rattle.map_model.specs.Requests as ask
 use Rattle.ask_session.proofs.AnswerLaws.{long_is_refused, name_is_refused, refused_head}
-use Rattle.ask_session.proofs.ServingLaws.{unchanged_itself}
+use Rattle.store_core.proofs.ChangingLaws.{unchanged_itself}
 use Rattle.ask_session.proofs.changes.serve_long.Goals as goal
 
 pub returns-else-is_name : goal.returns-else-is_name

@@ -22,5 +22,4 @@ returns g c = subst (λ (x : Result Reply End). Answers g.row.C (ask.change
       ready = c.requires.ready;
       fits = (g.met.D.Disk.lawful c.args.disk.now).turn_fits;
     })
-    c.put.ensures.answer c.put.ensures.refused c.put.ensures.quiet c.put.ensures.flush c.put.ensures.step
-    c.put.ensures.over c.put.ensures.broken)
+    c.put.ensures.change c.put.ensures.step)

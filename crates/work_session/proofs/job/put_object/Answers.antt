@@ -25,12 +25,4 @@ returns g c = subst (λ (x : Result Reply End). Does g.row.C (ask.change
       fits = (g.met.D.Disk.lawful c.args.disk.now).turn_fits;
     })
     (put_short c.args.name.now c.args.object.now c.requires.short)
-    (record {
-      answer = c.put-answer.ensures.answer;
-      refused = c.put-answer.ensures.refused;
-      quiet = c.put-answer.ensures.quiet;
-      flush = c.put-answer.ensures.flush;
-      over = c.put-answer.ensures.over;
-      broken = c.put-answer.ensures.broken;
-    })
-    c.put-answer.ensures.step c.is_sound.ensures)
+    c.put-answer.ensures.change c.put-answer.ensures.step c.is_sound.ensures)

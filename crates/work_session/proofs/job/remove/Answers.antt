@@ -24,12 +24,4 @@ returns g c = subst (λ (x : Result Reply End). Does g.row.C (ask.change
       fits = (g.met.D.Disk.lawful c.args.disk.now).turn_fits;
     })
     (del_short c.args.name.now)
-    (record {
-      answer = c.del-answer.ensures.answer;
-      refused = c.del-answer.ensures.refused;
-      quiet = c.del-answer.ensures.quiet;
-      flush = c.del-answer.ensures.flush;
-      over = c.del-answer.ensures.over;
-      broken = c.del-answer.ensures.broken;
-    })
-    c.del-answer.ensures.step c.is_sound.ensures)
+    c.del-answer.ensures.change c.del-answer.ensures.step c.is_sound.ensures)
