@@ -17,6 +17,7 @@ pub mod InsideLaws
 pub mod OverLaws
 pub mod QuietLaws
 pub mod EffectLaws
+pub mod ReadLaws
 pub mod RefusedLaws
 pub mod ChangingLaws
 pub mod OpenedLaws

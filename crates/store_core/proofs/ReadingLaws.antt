@@ -12,6 +12,7 @@ use Rattle.store_core.specs.declared.answers.Refusal.TheVariants as why
 use Rattle.store_core.specs.Answers.{AnswersRead, AnswersSpot, facts_at, refusal_for, refused_by}
 use Rattle.store_core.specs.Connection.{StoreValue, limits_of}
 use Rattle.store_core.specs.Stores.{IsStore}
+use Rattle.store_core.specs.Readings.{spot_read}
 use Rattle.store_core.specs.Reads.{GivesObject}
 use Rattle.store_core.specs.States.{object_in, refusal}
 
@@ -28,18 +29,17 @@ whole_if_served true o is = absurd (cc)
 whole_if_served false o is = refl
 
 -- An object is found among the places of now or of the last checkpoint, by a store that isn't broken.
-pub record IsFound (classes : ℕ) (s : StoreValue) (r : Request) (spots : Spots) (name : List ℕ)
-    (x : Spot) : Type 0 where
+pub record IsFound (classes : ℕ) (s : StoreValue) (r : Request) (x : Spot) : Type 0 where
   pub served : refused_by s r ≡ None
   pub whole : s.is_broken ≡ false
-  pub there : fin.get spots name ≡ Some x
+  pub there : spot_read s r ≡ Some x
   pub sound : IsStore classes s
 
-pub is_found : {classes : ℕ} (s : StoreValue) (r : Request) (spots : Spots) (name : List ℕ) (x : Spot)
-    → AnswersSpot (refused_by s r) (fin.get spots name) (Ok x) → (s.is_broken ≡ false → IsStore classes s)
-    → IsFound classes s r spots name x
-is_found s r spots name x answer sound =
-    let found = found_spot (refused_by s r) (fin.get spots name) x answer in
+pub is_found : {classes : ℕ} (s : StoreValue) (r : Request) (x : Spot)
+    → AnswersSpot (refused_by s r) (spot_read s r) (Ok x) → (s.is_broken ≡ false → IsStore classes s)
+    → IsFound classes s r x
+is_found s r x answer sound =
+    let found = found_spot (refused_by s r) (spot_read s r) x answer in
     let whole = whole_if_served s.is_broken
     (option_map refusal_for (refusal (limits_of s) (facts_at s r) r)) found.0 in
     record { served = found.0; whole = whole; there = found.1; sound = sound whole }

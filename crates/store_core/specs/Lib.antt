@@ -10,6 +10,7 @@ pub mod Changes
 pub mod Keeps
 pub mod Flushed
 pub mod Reads
+pub mod Readings
 pub mod Lines
 pub mod Flushing
 pub mod Flushes

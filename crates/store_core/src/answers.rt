@@ -30,6 +30,15 @@ pub enum Refusal {
     Sink,
 }
 
+/// Which of its two maps a store reads.
+#[derive(Clone, Copy, Debug, PartialEq, Eq)]
+pub enum Moment {
+    /// What stands now.
+    Now,
+    /// What stood at the last checkpoint.
+    Kept,
+}
+
 /// A change was done: whether a checkpoint was saved with it.
 #[derive(Clone, Copy, Debug, PartialEq, Eq)]
 pub struct Done {

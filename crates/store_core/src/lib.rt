@@ -21,5 +21,5 @@ mod reads;
 mod removal;
 mod store;
 
-pub use answers::{Done, Gauge, Refusal, Stat};
+pub use answers::{Done, Gauge, Moment, Refusal, Stat};
 pub use store::Store;

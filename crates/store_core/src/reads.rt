@@ -1,18 +1,18 @@
 //! Reading objects, of now and of the last checkpoint.
-ghost use Rattle.std.specs.Prelude.{◌≡◌, false, ◌+◌, ◌≤◌, IsTrue, IfSome, None, length};
+ghost use Rattle.std.specs.Prelude.{◌≡◌, false, ◌+◌, ◌≤◌, IsTrue, None, length};
 ghost use Rattle.std.specs.FinMap as fin;
 ghost use Rattle.disk_face.specs.Frames.{Unchanged};
 ghost use Rattle.extent_table.specs.Extents.{IsInRange};
 ghost use Rattle.placement_model.specs.Reads.{object_at};
 ghost use Rattle.map_model.specs.Requests as ask;
-ghost use Rattle.store_core.specs.Answers.{AnswersName, AnswersNumber, AnswersRead, AnswersSpot, refused_by, reply_of, size_at};
-ghost use Rattle.store_core.specs.Connection.{IsConnected, base_of, limits_of, state_of};
+ghost use Rattle.store_core.specs.Answers.{AnswersName, AnswersNumber, AnswersRead, AnswersSpot, refused_by, size_at};
+ghost use Rattle.store_core.specs.Connection.{IsConnected, base_of};
 ghost use Rattle.store_core.specs.Stores.{IsStore};
+ghost use Rattle.store_core.specs.Readings.{IsRead, asks_for, spot_read};
 ghost use Rattle.store_core.specs.Reads.{GivesObject, HasDiskCause, HasSinkCause};
-ghost use Rattle.store_core.specs.States.{Step, object_in};
 
 use crate::copy::put_bytes;
-use crate::{Refusal, Store};
+use crate::{Moment, Refusal, Store};
 use disk_face::{Disk, Sink};
 use extent_table::Spot;
 use slot_codec::Name;
@@ -23,7 +23,7 @@ impl<const C: usize> Store<C> {
         ensures { AnswersNumber (refused_by self.now (ask.get name.now))
             (size_at (fin.get self.now.now name.now)) result }
     {
-        Ok(self.find(name)?.size)
+        self.size_of(Moment::Now, name)
     }
 
     /// The size of an object of the last checkpoint.
@@ -31,7 +31,15 @@ impl<const C: usize> Store<C> {
         ensures { AnswersNumber (refused_by self.now (ask.old name.now))
             (size_at (fin.get self.now.kept name.now)) result }
     {
-        Ok(self.find_old(name)?.size)
+        self.size_of(Moment::Kept, name)
+    }
+
+    /// The size of an object of now or of the last checkpoint.
+    pub fn size_of(&self, moment: Moment, name: &[u8]) -> Result<u64, Refusal>
+        ensures { AnswersNumber (refused_by self.now (asks_for moment name.now))
+            (size_at (spot_read self.now (asks_for moment name.now))) result }
+    {
+        Ok(self.find(moment, name)?.size)
     }
 
     /// Puts the bytes of an object. At Ok all of them were put, and the answer is how many they are; at
@@ -44,24 +52,10 @@ impl<const C: usize> Store<C> {
     ) -> Result<u64, Refusal>
         requires ready { IsTrue (D.state disk.old).is_ready }
         requires over { IsConnected C self.old (D.state disk.old) }
-        ensures answer { AnswersRead (refused_by self.old (ask.get name.now))
-            (size_at (fin.get self.old.now name.now)) result }
-        ensures gives { IsTrue (O.state sink.old).tells → GivesObject (refused_by self.old (ask.get name.now))
-            (D.state disk.old).tells (object_in (state_of self.old (D.state disk.old).file).map name.now)
-            (O.state sink.old).given (O.state sink.new).given result }
-        ensures step { self.old.is_broken ≡ false → IsTrue (D.state disk.old).tells → IfSome (reply_of
-            (λ n. ask.found (object_in (state_of self.old (D.state disk.old).file).map name.now)) result)
-            (λ reply. Step (limits_of self.old) (state_of self.old (D.state disk.old).file) (ask.get name.now)
-            reply (state_of self.new (D.state disk.new).file)) }
-        ensures store { self.new ≡ self.old }
-        ensures frame { Unchanged (D.state disk.old) (D.state disk.new) }
-        ensures disk_cause { HasDiskCause (D.state disk.old) (D.state disk.new) result }
-        ensures sink_cause { HasSinkCause (O.state sink.old) (O.state sink.new) result }
+        ensures { IsRead (ask.get name.now) self.old self.new (D.state disk.old) (D.state disk.new)
+            (O.state sink.old) (O.state sink.new) result }
     {
-        match self.find(name) {
-            Ok(spot) => self.put_object(disk, spot, sink),
-            Err(refusal) => Err(refusal),
-        }
+        self.read(Moment::Now, disk, name, sink)
     }
 
     /// Puts the bytes that an object had at the last checkpoint, as `get` does those of now.
@@ -73,21 +67,26 @@ impl<const C: usize> Store<C> {
     ) -> Result<u64, Refusal>
         requires ready { IsTrue (D.state disk.old).is_ready }
         requires over { IsConnected C self.old (D.state disk.old) }
-        ensures answer { AnswersRead (refused_by self.old (ask.old name.now))
-            (size_at (fin.get self.old.kept name.now)) result }
-        ensures gives { IsTrue (O.state sink.old).tells → GivesObject (refused_by self.old (ask.old name.now))
-            (D.state disk.old).tells (object_in (state_of self.old (D.state disk.old).file).kept name.now)
-            (O.state sink.old).given (O.state sink.new).given result }
-        ensures step { self.old.is_broken ≡ false → IsTrue (D.state disk.old).tells → IfSome (reply_of
-            (λ n. ask.found (object_in (state_of self.old (D.state disk.old).file).kept name.now)) result)
-            (λ reply. Step (limits_of self.old) (state_of self.old (D.state disk.old).file) (ask.old name.now)
-            reply (state_of self.new (D.state disk.new).file)) }
-        ensures store { self.new ≡ self.old }
-        ensures frame { Unchanged (D.state disk.old) (D.state disk.new) }
-        ensures disk_cause { HasDiskCause (D.state disk.old) (D.state disk.new) result }
-        ensures sink_cause { HasSinkCause (O.state sink.old) (O.state sink.new) result }
+        ensures { IsRead (ask.old name.now) self.old self.new (D.state disk.old) (D.state disk.new)
+            (O.state sink.old) (O.state sink.new) result }
     {
-        match self.find_old(name) {
+        self.read(Moment::Kept, disk, name, sink)
+    }
+
+    /// Puts the bytes of an object of now or of the last checkpoint, as `get` and `old` do.
+    pub fn read<D: Disk, O: Sink>(
+        &mut self,
+        moment: Moment,
+        disk: &mut D,
+        name: &[u8],
+        sink: &mut O,
+    ) -> Result<u64, Refusal>
+        requires ready { IsTrue (D.state disk.old).is_ready }
+        requires over { IsConnected C self.old (D.state disk.old) }
+        ensures { IsRead (asks_for moment name.now) self.old self.new (D.state disk.old) (D.state disk.new)
+            (O.state sink.old) (O.state sink.new) result }
+    {
+        match self.find(moment, name) {
             Ok(spot) => self.put_object(disk, spot, sink),
             Err(refusal) => Err(refusal),
         }
@@ -124,24 +123,17 @@ impl<const C: usize> Store<C> {
         Ok(spot.size)
     }
 
-    /// Where an object stands.
-    fn find(&self, name: &[u8]) -> Result<Spot, Refusal>
-        ensures answer { AnswersSpot (refused_by self.now (ask.get name.now)) (fin.get self.now.now name.now)
-            result }
+    /// Where an object of now or of the last checkpoint stands.
+    fn find(&self, moment: Moment, name: &[u8]) -> Result<Spot, Refusal>
+        ensures answer { AnswersSpot (refused_by self.now (asks_for moment name.now))
+            (spot_read self.now (asks_for moment name.now)) result }
         ensures sound { self.now.is_broken ≡ false → IsStore C self.now }
     {
         let name = self.name_of(name)?;
-        self.hands.table.get(&name).ok_or(Refusal::Missing)
-    }
-
-    /// Where an object of the last checkpoint stood.
-    fn find_old(&self, name: &[u8]) -> Result<Spot, Refusal>
-        ensures answer { AnswersSpot (refused_by self.now (ask.old name.now)) (fin.get self.now.kept name.now)
-            result }
-        ensures sound { self.now.is_broken ≡ false → IsStore C self.now }
-    {
-        let name = self.name_of(name)?;
-        self.hands.table.old(&name).ok_or(Refusal::Missing)
+        match moment {
+            Moment::Now => self.hands.table.get(&name).ok_or(Refusal::Missing),
+            Moment::Kept => self.hands.table.old(&name).ok_or(Refusal::Missing),
+        }
     }
 
     /// The name of these bytes.

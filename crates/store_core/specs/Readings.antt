@@ -1,0 +1,48 @@
+-- What a read of an object does, of now or of the last checkpoint.
+use Rattle.std.specs.Prelude.{◌≡◌, ℕ, false, List, [], Option, None, Result, IfSome, IsTrue}
+use Rattle.std.specs.FinMap as fin
+use Rattle.disk_face.specs.States as disk
+use Rattle.disk_face.specs.Frames.{Unchanged}
+use Rattle.disk_face.specs.Streams.{SinkState}
+use Rattle.map_model.specs.Requests as ask
+use Rattle.map_model.specs.Requests.{Request}
+use Rattle.extent_table.specs.declared.spot.Spot.{Spot}
+use Rattle.store_core.specs.declared.answers.Refusal.{Refusal}
+use Rattle.store_core.specs.declared.answers.Moment.{Moment}
+use Rattle.store_core.specs.declared.answers.Moment.TheVariants as moment
+use Rattle.store_core.specs.Answers.{AnswersRead, refused_by, reply_of, size_at}
+use Rattle.store_core.specs.Connection.{StoreValue, limits_of, state_of}
+use Rattle.store_core.specs.Reads.{GivesObject, HasDiskCause, HasSinkCause}
+use Rattle.store_core.specs.States.{State, Step, object_in}
+
+-- the request for the object of a name
+abbrev pub asks_for : Moment → List ℕ → Request
+asks_for moment.Now name = ask.get name
+asks_for moment.Kept name = ask.old name
+
+-- where the object stands that a request reads
+abbrev pub spot_read : StoreValue → Request → Option Spot
+spot_read s (ask.get name) = fin.get s.now name
+spot_read s (ask.old name) = fin.get s.kept name
+spot_read s _ = None
+
+-- and its bytes
+abbrev pub object_read : State → Request → List ℕ
+object_read s (ask.get name) = object_in s.map name
+object_read s (ask.old name) = object_in s.kept name
+object_read s _ = []
+
+-- A read answers the size of the object, or the first refusal that applies, and gives its bytes to the sink, or
+-- a front of them where a device failed. It changes neither the store nor the disk.
+pub record IsRead (r : Request) (old new : StoreValue) (before now : disk.State) (out after : SinkState)
+    (result : Result ℕ Refusal) : Type 0 where
+  pub answer : AnswersRead (refused_by old r) (size_at (spot_read old r)) result
+  pub gives : IsTrue out.tells → GivesObject (refused_by old r) before.tells
+      (object_read (state_of old before.file) r) out.given after.given result
+  pub step : old.is_broken ≡ false → IsTrue before.tells
+      → IfSome (reply_of (λ n. ask.found (object_read (state_of old before.file) r)) result)
+      (λ reply. Step (limits_of old) (state_of old before.file) r reply (state_of new now.file))
+  pub store : new ≡ old
+  pub frame : Unchanged before now
+  pub disk_cause : HasDiskCause before now result
+  pub sink_cause : HasSinkCause out after result
