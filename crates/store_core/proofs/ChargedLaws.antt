@@ -106,15 +106,6 @@ module _ {classes : ℕ} {kept_grid : List (List ℕ)} {x0 : HandsValue} (may : 
         (sym ch.quiet ∙ ap (λ y. is_quiet y) all_same ∙ loud_here)
         (ch.class_is ∙ ap (λ y. trigger y) all_same) ch.boundary
 
-    pub here_loud : is_quiet (charged_by x.divisor x.caps x.grid o size) ≡ false
-    here_loud = ap (λ y. is_quiet y) all_same ∙ loud_here
-
-    pub divisor_here : k2 ≡ k
-    divisor_here = ch.divisor ∙ divisor ∙ may.divisor
-
-    pub caps_here : caps2 ≡ x0.caps
-    caps_here = ch.caps_are ∙ caps
-
     pub places_here : PlacesNew k x0.caps (between k x0.caps x0.grid old) size after place
     places_here = subst (λ (m : List (List ℕ)). PlacesNew k x0.caps m size after place)
         (λ i. between ((divisor ∙ may.divisor) i) (caps i) (grid i) (o_is i))

@@ -33,6 +33,8 @@ pub mod FlushLaws
 pub mod MadeFlushLaws
 pub mod FlushDoneLaws
 pub mod ServeLaws
+pub mod CopyChargesLaws
+pub mod FlushChangeLaws
 pub mod OpeningLaws
 pub mod StillStoreLaws
 pub mod StillLaws

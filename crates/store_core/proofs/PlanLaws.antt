@@ -1,14 +1,13 @@
 -- What is known of a put or a removal that is served and quiet.
 use Rattle.std.specs.Prelude.{◌≡◌, ◌⊎◌, ℕ, ◌^◌, ◌<◌, ◌≤◌, nat_le, nat_lt, Bool, true, false, not, ◌&&◌, if◌then◌else◌, List, [], ◌∷◌, ◌++◌, length, Option, Some, None, option_map, is_some, Ok, IsSome, refl}
-use Rattle.std.proofs.Common.{ap, sym, ◌∙◌, subst, inl, inr}
+use Rattle.std.proofs.Common.{subst, inl, inr}
 use Rattle.std.proofs.lemmas.Bool.{leb-false, ltb-false}
 use Rattle.std.specs.FinMap as fin
 use Rattle.size_class.specs.declared.TheConstants.{SIZE_MAX}
 use Rattle.slot_codec.specs.Names.{IsName, is_name}
 use Rattle.map_model.specs.Requests as ask
 use Rattle.map_model.specs.Requests.{Change, Refused}
-use Rattle.std.proofs.lemmas.List.{append-nil}
-use Rattle.segment_layout.specs.Books.{charge_all, is_quiet, some_size}
+use Rattle.segment_layout.specs.Books.{some_size}
 use Rattle.extent_table.specs.declared.spot.Spot.{Spot}
 use Rattle.placement_model.specs.Quiet.{QuietTo, gone_items}
 use Rattle.placement_model.proofs.QuietLaws.{quiet_then}
@@ -16,8 +15,8 @@ use Rattle.store_core.specs.declared.answers.Refusal.{Refusal}
 use Rattle.store_core.specs.declared.answers.Refusal.TheVariants as why
 use Rattle.store_core.specs.Answers.{facts_at, refusal_for, refused_by}
 use Rattle.store_core.specs.Connection.{StoreValue, limits_of}
-use Rattle.store_core.specs.Plans.{AcceptsName, IsDelPlan, IsPutPlan}
-use Rattle.store_core.specs.Quiet.{IsCharged, charges_of, del_of, put_of}
+use Rattle.store_core.specs.Plans.{AcceptsName}
+use Rattle.store_core.specs.Quiet.{IsCharged, del_of, put_of}
 use Rattle.store_core.specs.States.{first_refusal, object_tests, refusal, worn_test}
 use Rattle.store_core.proofs.ReadingLaws.{whole_if_served}
 
@@ -125,68 +124,3 @@ pub charged_quietly : (s : StoreValue) (name object : List ℕ) (grid : List (Li
 charged_quietly s name object grid place c = quiet_then s.in_use.block.k s.book.caps s.book.grid c.mid grid
     (gone_items s.in_use.block.k s.book.caps (fin.get s.now name)) (some_size (length object)) c.gone
     c.placed.charged
-
--- the plans, from what was charged on a copy of the layout
-pub put_planned : (s : StoreValue) (name object n : List ℕ) (k k' : ℕ) (caps caps' : List ℕ)
-    (grid after : List (List ℕ)) (o : Option Spot) (place : ℕ)
-    → refused_by s (ask.change (put_of name object)) ≡ None → n ≡ name → k ≡ s.in_use.block.k
-    → caps ≡ s.book.caps → grid ≡ s.book.grid → o ≡ fin.get s.now n
-    → IsCharged k caps grid o (length object) after place → k' ≡ k → caps' ≡ caps
-    → IsPutPlan s name object n k' caps' after (record { place = place; size = length object })
-put_planned s name object n k k' caps caps' grid after o place served same ks cs gs os charged k'k c'c =
-    record {
-      served = served;
-      same_name = same;
-      size = refl;
-      divisor = k'k ∙ ks;
-      same_caps = c'c ∙ cs;
-      charged = (let at : o ≡ fin.get s.now name = os ∙ ap (fin.get s.now) same in
-          subst (λ x. IsCharged s.in_use.block.k s.book.caps s.book.grid x (length object) after place) at
-          (subst (λ g. IsCharged s.in_use.block.k s.book.caps g o (length object) after place) gs
-          (subst (λ x. IsCharged s.in_use.block.k x grid o (length object) after place) cs
-          (subst (λ x. IsCharged x caps grid o (length object) after place) ks charged))));
-    }
-
-pub del_planned : (s : StoreValue) (name n : List ℕ) (k k' : ℕ) (caps caps' : List ℕ)
-    (grid after : List (List ℕ)) (o : Option Spot) → refused_by s (ask.change (del_of name)) ≡ None
-    → n ≡ name → k ≡ s.in_use.block.k → caps ≡ s.book.caps → grid ≡ s.book.grid → o ≡ fin.get s.now n
-    → QuietTo k caps grid (gone_items k caps o) after → k' ≡ k → caps' ≡ caps
-    → IsDelPlan s name n k' caps' after
-del_planned s name n k k' caps caps' grid after o served same ks cs gs os charged k'k c'c = record {
-  served = served;
-  same_name = same;
-  divisor = k'k ∙ ks;
-  same_caps = c'c ∙ cs;
-  charged = (let at : o ≡ fin.get s.now name = os ∙ ap (fin.get s.now) same in
-      subst (λ x. QuietTo s.in_use.block.k s.book.caps s.book.grid (gone_items s.in_use.block.k s.book.caps x)
-      after) at (subst (λ g. QuietTo s.in_use.block.k s.book.caps g (gone_items s.in_use.block.k s.book.caps
-      o) after) gs (subst (λ x. QuietTo s.in_use.block.k x grid (gone_items s.in_use.block.k x o) after) cs
-      (subst (λ x. QuietTo x caps grid (gone_items x caps o) after) ks charged))));
-}
-
--- where a charge found no room on that copy, the change isn't quiet
-pub put_unplanned : (s : StoreValue) (name object : List ℕ) (k : ℕ) (caps : List ℕ) (grid : List (List ℕ))
-    (o : Option Spot) → k ≡ s.in_use.block.k → caps ≡ s.book.caps → grid ≡ s.book.grid
-    → o ≡ fin.get s.now name
-    → is_quiet (charge_all k caps grid (gone_items k caps o ++ some_size (length object))) ≡ false
-    → is_quiet (charges_of s (put_of name object)) ≡ false
-put_unplanned s name object k caps grid o ks cs gs os needs_flush =
-    sym (λ i. is_quiet (charge_all (ks i) (cs i) (gs i) (gone_items (ks i) (cs i) (os i)
-    ++ some_size (length object)))) ∙ needs_flush
-
-pub del_unplanned : (s : StoreValue) (name : List ℕ) (k : ℕ) (caps : List ℕ) (grid : List (List ℕ))
-    (o : Option Spot)
-    → k ≡ s.in_use.block.k → caps ≡ s.book.caps → grid ≡ s.book.grid → o ≡ fin.get s.now name
-    → is_quiet (charge_all k caps grid (gone_items k caps o)) ≡ false
-    → is_quiet (charges_of s (del_of name)) ≡ false
-del_unplanned s name k caps grid o ks cs gs os needs_flush =
-    ap (λ xs. is_quiet (charge_all s.in_use.block.k s.book.caps s.book.grid xs))
-    (append-nil (gone_items s.in_use.block.k s.book.caps (fin.get s.now name)))
-    ∙ sym (λ i. is_quiet (charge_all (ks i) (cs i) (gs i) (gone_items (ks i) (cs i) (os i)))) ∙ needs_flush
-
-pub del_quiet : (s : StoreValue) (name : List ℕ) (grid : List (List ℕ))
-    → QuietTo s.in_use.block.k s.book.caps s.book.grid
-    (gone_items s.in_use.block.k s.book.caps (fin.get s.now name)) grid
-    → is_quiet (charges_of s (del_of name)) ≡ true
-del_quiet s name grid quiet = ap (λ xs. is_quiet (charge_all s.in_use.block.k s.book.caps s.book.grid xs))
-    (append-nil (gone_items s.in_use.block.k s.book.caps (fin.get s.now name))) ∙ quiet.quiet

@@ -13,6 +13,7 @@ pub mod Reads
 pub mod Readings
 pub mod Lines
 pub mod Flushing
+pub mod Charges
 pub mod Flushes
 pub mod Changing
 pub mod Plain

@@ -1,6 +1,6 @@
 -- Changes that make no checkpoint. What is charged depends on where objects stand and on their sizes, so it
 -- is known on a disk that tells nothing too.
-use Rattle.std.specs.Prelude.{◌≡◌, ◌<◌, ◌^◌, All, false, ℕ, nat_lt, if◌then◌else◌, List, [], ◌++◌, ◌+◌, length, fold, min, Option, Some, None, slice_index, slice_set}
+use Rattle.std.specs.Prelude.{◌<◌, ◌^◌, All, ℕ, nat_lt, if◌then◌else◌, List, [], ◌++◌, ◌+◌, length, fold, min, Option, Some, None, slice_index, slice_set}
 use Rattle.std.specs.FinMap as fin
 use Rattle.disk_face.specs.Counts.{last}
 use Rattle.size_class.specs.Classes.{class_of}
@@ -8,7 +8,7 @@ use Rattle.held_guard.specs.Freed.{Freed}
 use Rattle.span_math.specs.declared.span.Span.{Span}
 use Rattle.span_math.specs.Spans.{IsApart}
 use Rattle.map_model.specs.Requests.{Change}
-use Rattle.segment_layout.specs.Books.{Charged, charge_all, is_quiet, new_item, some_size}
+use Rattle.segment_layout.specs.Books.{Charged, charge_all, new_item, some_size}
 use Rattle.extent_table.specs.declared.spot.Spot.{Spot}
 use Rattle.placement_model.specs.Held.{IsSpanOf}
 use Rattle.placement_model.specs.Quiet.{PlacedTo, QuietTo, gone_items}
@@ -32,17 +32,6 @@ pub record IsCharged (k : ℕ) (caps : List ℕ) (grid : List (List ℕ)) (old :
   pub mid : List (List ℕ)
   pub gone : QuietTo k caps grid (gone_items k caps old) mid
   pub placed : PlacedTo k caps mid size after place
-
--- a new object finds a place, or no room
-abbrev pub PlacesNew : ℕ → List ℕ → List (List ℕ) → ℕ → List (List ℕ) → Option ℕ → Type 0
-PlacesNew k caps grid size after (Some place) = PlacedTo k caps grid size after place
-PlacesNew k caps grid size after None = is_quiet (charge_all k caps grid (some_size size)) ≡ false
-
--- a put finds a place, or one of its charges finds no room
-abbrev pub FindsPlace : ℕ → List ℕ → List (List ℕ) → Option Spot → ℕ → List (List ℕ) → Option ℕ → Type 0
-FindsPlace k caps grid old size after (Some place) = IsCharged k caps grid old size after place
-FindsPlace k caps grid old size after None =
-    is_quiet (charge_all k caps grid (gone_items k caps old ++ some_size size)) ≡ false
 
 -- a row that counts bytes by class, once an object's are added: it stays at the last value of its type
 abbrev pub added : List ℕ → ℕ → List ℕ

@@ -1,19 +1,19 @@
 //! What a change does in the table and the layout before its flush. The disk has no part in it.
-ghost use Rattle.std.specs.Prelude.{◌≡◌, ◌⊎◌, ◌+◌, ◌<◌, ◌≤◌, ◌^◌, ℕ, List, IfSome, IsSome, None, length};
+ghost use Rattle.std.specs.Prelude.{◌≡◌, ◌+◌, ◌<◌, ◌≤◌, ◌^◌, ℕ, List, [], true, false, None, length};
 ghost use Rattle.std.specs.FinMap as fin;
 ghost use Rattle.size_class.specs.Classes.{class_of as class_of_size};
-ghost use Rattle.slot_codec.specs.Names.{IsName};
 ghost use Rattle.segment_layout.specs.Layouts.{caps_of, divisor_of, grid_of};
 ghost use Rattle.extent_table.specs.Extents.{Extents};
 ghost use Rattle.flush_run.specs.Parts.{parts_of};
 ghost use Rattle.flush_run.specs.Shelved.{items_now, phase_now};
 ghost use Rattle.change_charges.specs.Starts.{IsWith};
+ghost use Rattle.store_core.specs.Charges.{CanPut, ChargesParts, change_of};
 ghost use Rattle.store_core.specs.Flushing.{CanStartAt, IsBegun, NeedsFlushAt, IsStarted, MayBegin, StartsPlaced, StartsWaiting, TakesOut};
 ghost use Rattle.store_core.specs.Quiet.{del_of, put_of};
 ghost use Rattle.flush_plan.specs.Lifts.{KeepsLifting};
 
 use crate::held::{add_gone, add_size, free_spot};
-use change_charges::charge_change;
+use crate::plan::Charged;
 use extent_table::{Spot, Table};
 use flush_model::Item;
 use flush_plan::{Lifting, numbers};
@@ -29,51 +29,81 @@ pub(crate) struct StartedFlush<const C: usize> {
     pub(crate) place: u64,
 }
 
-/// Makes a put that isn't quiet in the table and the layout. A new object that found no room stands
-/// where the flush reaches to.
-pub(crate) fn start_put<const C: usize>(
+/// Makes a change that isn't quiet in the table and the layout, as it was charged: a put, or where no
+/// object comes, and there are no bytes, a removal.
+pub(crate) fn start_change<const C: usize>(
     hands: &mut Hands<C>,
     name: &Name,
     bytes: &[u8],
+    comes: bool,
+    charged: &Charged<C>,
 ) -> StartedFlush<C>
     requires fits { C ≤ 32 }
     requires wide { SIZE_MAX < 2 ^ C }
-    requires named { IsName name.now }
-    requires small { length bytes.now ≤ SIZE_MAX }
-    requires room { IsSome (fin.get hands.old.table.now name.now)
-        ⊎ (fin.len hands.old.table.now < hands.old.table.names) }
+    requires nothing { comes ≡ false → bytes.now ≡ [] }
+    requires can { CanPut (parts_of hands.old) name.now bytes.now comes }
     requires before { (kept_grid : List (List ℕ)) × MayBegin C kept_grid (parts_of hands.old) }
+    requires charged { ChargesParts (parts_of hands.old) name.now (length bytes.now) charged.now.layout
+        charged.now.outcome }
+    requires needs_flush { NeedsFlushAt (parts_of hands.old) name.now (length bytes.now) }
+    ensures begun { IsBegun C (parts_of hands.old) (change_of name.now bytes.now comes) (parts_of hands.new)
+        (phase_now result.phase.course hands.new.table) result.place }
+    ensures keeps { KeepsLifting C result.phase (items_now result.phase.course hands.new.table) }
+{
+    if comes {
+        start_put(hands, name, bytes, charged)
+    } else {
+        start_del(hands, name, charged)
+    }
+}
+
+/// Makes a put. A new object that found no room stands where the flush reaches to.
+fn start_put<const C: usize>(
+    hands: &mut Hands<C>,
+    name: &Name,
+    bytes: &[u8],
+    charged: &Charged<C>,
+) -> StartedFlush<C>
+    requires fits { C ≤ 32 }
+    requires wide { SIZE_MAX < 2 ^ C }
+    requires can { CanPut (parts_of hands.old) name.now bytes.now true }
+    requires before { (kept_grid : List (List ℕ)) × MayBegin C kept_grid (parts_of hands.old) }
+    requires charged { ChargesParts (parts_of hands.old) name.now (length bytes.now) charged.now.layout
+        charged.now.outcome }
     requires needs_flush { NeedsFlushAt (parts_of hands.old) name.now (length bytes.now) }
     ensures begun { IsBegun C (parts_of hands.old) (put_of name.now bytes.now) (parts_of hands.new)
         (phase_now result.phase.course hands.new.table) result.place }
     ensures keeps { KeepsLifting C result.phase (items_now result.phase.course hands.new.table) }
 {
     let size = bytes.len() as u64;
-    let old = hands.table.get(name);
     take_out(hands, name);
     add_size(&mut hands.ledger, size);
-    let outcome = charge_change(&mut hands.layout, old, size);
-    let boundary = hands.layout.boundary(outcome.class);
-    match outcome.place {
+    hands.layout = charged.layout;
+    let boundary = hands.layout.boundary(charged.outcome.class);
+    match charged.outcome.place {
         Some(place) => start_placed(hands, name, boundary, Spot { place, size }),
         None => start_waiting(hands, name, boundary, size),
     }
 }
 
-/// Makes a removal that isn't quiet in the table and the layout.
-pub(crate) fn start_del<const C: usize>(hands: &mut Hands<C>, name: &Name) -> StartedFlush<C>
+/// Makes a removal.
+fn start_del<const C: usize>(
+    hands: &mut Hands<C>,
+    name: &Name,
+    charged: &Charged<C>,
+) -> StartedFlush<C>
     requires fits { C ≤ 32 }
     requires wide { SIZE_MAX < 2 ^ C }
     requires before { (kept_grid : List (List ℕ)) × MayBegin C kept_grid (parts_of hands.old) }
+    requires charged { ChargesParts (parts_of hands.old) name.now 0 charged.now.layout charged.now.outcome }
     requires needs_flush { NeedsFlushAt (parts_of hands.old) name.now 0 }
     ensures begun { IsBegun C (parts_of hands.old) (del_of name.now) (parts_of hands.new)
         (phase_now result.phase.course hands.new.table) result.place }
     ensures keeps { KeepsLifting C result.phase (items_now result.phase.course hands.new.table) }
 {
-    let old = hands.table.get(name);
     take_out(hands, name);
-    let outcome = charge_change(&mut hands.layout, old, 0);
-    let b = hands.layout.boundary(outcome.class);
+    hands.layout = charged.layout;
+    let b = hands.layout.boundary(charged.outcome.class);
     StartedFlush {
         phase: start_lifting(&hands.table, &hands.layout, b),
         place: 0,

@@ -2,8 +2,10 @@
 ghost use Rattle.std.specs.Prelude.{◌≡◌, false, IfSome, IsTrue, None};
 ghost use Rattle.map_model.specs.Requests as ask;
 
+use crate::plan::PutPlan;
 use crate::{Done, Refusal, Store};
 use disk_face::Disk;
+use extent_table::Spot;
 use slot_codec::Name;
 
 impl<const C: usize> Store<C> {
@@ -68,9 +70,15 @@ impl<const C: usize> Store<C> {
         ensures { ServesChange C (put_of name.now bytes.now) self.old self.new (D.state disk.old)
             (D.state disk.new) result }
     {
-        match self.plan_put(name, bytes) {
-            Some(plan) => self.put_planned(disk, name, plan, bytes),
-            None => self.put_flushed(disk, name, bytes),
+        let size = bytes.len() as u64;
+        let charged = self.charge(name, size);
+        match charged.place() {
+            Some(place) => {
+                let spot = Spot { place, size };
+                let layout = charged.layout;
+                self.put_planned(disk, name, PutPlan { layout, spot }, bytes)
+            }
+            None => self.flush_change(disk, name, bytes, true, &charged),
         }
     }
 
@@ -82,12 +90,13 @@ impl<const C: usize> Store<C> {
         ensures { ServesChange C (del_of name.now) self.old self.new (D.state disk.old) (D.state disk.new)
             result }
     {
-        match self.plan_del(name) {
-            Some(layout) => {
-                self.leave(name, layout);
+        let charged = self.charge(name, 0);
+        match charged.place() {
+            Some(_) => {
+                self.leave(name, charged.layout);
                 Ok(Done { kept: false })
             }
-            None => self.del_flushed(disk, name),
+            None => self.flush_change(disk, name, &[], false, &charged),
         }
     }
 }

@@ -1,6 +1,6 @@
 //! The device calls of a change that isn't quiet: the file grows, the new object is written, and the
 //! flush is made.
-ghost use Rattle.std.specs.Prelude.{◌≡◌, ◌+◌, ◌-◌, ◌*◌, ◌<◌, ◌≤◌, ◌^◌, ℕ, false, IsTrue, None, OnOk, vec_len};
+ghost use Rattle.std.specs.Prelude.{◌≡◌, ◌+◌, ◌-◌, ◌*◌, ◌<◌, ◌≤◌, ◌^◌, ℕ, [], false, length, IsTrue, None, OnOk, vec_len};
 ghost use Rattle.std.specs.FinMap as fin;
 ghost use Rattle.disk_face.specs.Counts.{HasCause};
 ghost use Rattle.size_class.specs.Rows.{cells_of};
@@ -15,7 +15,8 @@ ghost use Rattle.flush_run.specs.Shelved.{items_now, phase_now};
 ghost use Rattle.flush_plan.specs.Lifts.{KeepsLifting};
 ghost use Rattle.store_core.specs.Flushing.{CanMakeFlush, HasMadeFlush, BeforeChange, flight_of};
 
-use crate::begin::{StartedFlush, start_put};
+use crate::begin::{StartedFlush, start_change};
+use crate::plan::Charged;
 use crate::quiet::write_new;
 use crate::{Done, Refusal, Store};
 use disk_face::{Disk, DiskFault};
@@ -23,33 +24,33 @@ use flush_run::{Halted, Hands, run};
 use slot_codec::Name;
 
 impl<const C: usize> Store<C> {
-    ghost use Rattle.store_core.specs.Answers.{AnswersChange, is_disk_fault, refused_by};
-    ghost use Rattle.store_core.specs.Connection.{IsConnected, limits_of, state_of};
-    ghost use Rattle.store_core.specs.Flushes.{IsFlush};
-    ghost use Rattle.store_core.specs.Quiet.{charges_of, put_of};
-    ghost use Rattle.store_core.specs.States.{Step};
+    ghost use Rattle.store_core.specs.Answers.{refused_by};
+    ghost use Rattle.store_core.specs.Charges.{ChargesStore, change_of};
+    ghost use Rattle.store_core.specs.Connection.{IsConnected};
+    ghost use Rattle.store_core.specs.Flushes.{ServesChange};
+    ghost use Rattle.store_core.specs.Quiet.{charges_of};
 
-    /// Makes a put that isn't quiet.
-    pub(crate) fn put_flushed<D: Disk>(
+    /// Makes a change that isn't quiet, as it was charged: puts an object, or where none comes, and there are
+    /// no bytes, removes a name.
+    pub(crate) fn flush_change<D: Disk>(
         &mut self,
         disk: &mut D,
         name: &Name,
         bytes: &[u8],
+        comes: bool,
+        charged: &Charged<C>,
     ) -> Result<Done, Refusal>
         requires ready { IsTrue (D.state disk.old).is_ready }
         requires over { IsConnected C self.old (D.state disk.old) }
-        requires served { refused_by self.old (ask.change (put_of name.now bytes.now)) ≡ None }
-        requires needs_flush { is_quiet (charges_of self.old (put_of name.now bytes.now)) ≡ false }
-        ensures answer { AnswersChange false None result }
-        ensures flush { IsFlush C (put_of name.now bytes.now) self.old self.new (D.state disk.old)
+        requires nothing { comes ≡ false → bytes.now ≡ [] }
+        requires served { refused_by self.old (ask.change (change_of name.now bytes.now comes)) ≡ None }
+        requires charged { ChargesStore self.old name.now (length bytes.now) charged.now.layout
+            charged.now.outcome }
+        requires needs_flush { is_quiet (charges_of self.old (change_of name.now bytes.now comes)) ≡ false }
+        ensures { ServesChange C (change_of name.now bytes.now comes) self.old self.new (D.state disk.old)
             (D.state disk.new) result }
-        ensures step { IsTrue (D.state disk.old).tells → OnOk result (Step (limits_of self.old)
-            (state_of self.old (D.state disk.old).file) (ask.change (put_of name.now bytes.now)) ask.kept
-            (state_of self.new (D.state disk.new).file)) }
-        ensures over { IsConnected C self.new (D.state disk.new) }
-        ensures broken { self.new.is_broken ≡ is_disk_fault result }
     {
-        let begun = start_put(&mut self.hands, name, bytes);
+        let begun = start_change(&mut self.hands, name, bytes, comes, charged);
         let made = make_flush(disk, begun, &mut self.hands, bytes);
         self.kept_layout = self.hands.layout;
         match made {

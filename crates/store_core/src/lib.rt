@@ -5,7 +5,6 @@
 mod answers;
 mod begin;
 mod change;
-mod charges;
 mod copy;
 mod flush;
 mod held;
@@ -18,7 +17,6 @@ mod open;
 mod plan;
 mod quiet;
 mod reads;
-mod removal;
 mod store;
 
 pub use answers::{Done, Gauge, Moment, Refusal, Stat};

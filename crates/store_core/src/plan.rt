@@ -1,11 +1,10 @@
-//! Whether a put or a removal is served, and whether it is quiet. Nothing changes yet.
-ghost use Rattle.std.specs.Prelude.{◌≡◌, ◌<◌, ◌≤◌, ◌^◌, true, false, IfSome, IsNone, IsSome, None, Ok, Err};
-ghost use Rattle.segment_layout.specs.Books.{is_quiet};
-ghost use Rattle.segment_layout.specs.Layouts.{caps_of, divisor_of, grid_of};
+//! Whether a put or a removal is served, and what it charges. Nothing changes yet.
+ghost use Rattle.std.specs.Prelude.{◌≡◌, ◌<◌, ◌≤◌, ◌^◌, false, Ok, Err};
 ghost use Rattle.map_model.specs.Requests as ask;
+ghost use Rattle.store_core.specs.Charges.{ChargesStore, quiet_place};
 
-use crate::charges::{charge_gone, charge_put};
 use crate::{Refusal, Store};
+use change_charges::{ChargeResult, charge_change};
 use extent_table::Spot;
 use segment_layout::Layout;
 use size_class::SIZE_MAX;
@@ -21,48 +20,44 @@ pub(crate) struct PutPlan<const C: usize> {
     pub(crate) spot: Spot,
 }
 
-impl<const C: usize> Store<C> {
-    ghost use Rattle.store_core.specs.Answers.{refused_by};
-    ghost use Rattle.store_core.specs.Plans.{AcceptsName, IsDelPlan, IsPutPlan};
-    ghost use Rattle.store_core.specs.Quiet.{charges_of, del_of, put_of};
-    ghost use Rattle.store_core.specs.Stores.{IsStore};
+/// What a change charges, tried on a copy of the layout: the layout then, and what came of it.
+#[derive(Drop)]
+pub(crate) struct Charged<const C: usize> {
+    pub(crate) layout: Layout<C>,
+    pub(crate) outcome: ChargeResult,
+}
 
-    /// What a put leaves of the layout, if it is quiet.
-    pub(crate) fn plan_put(&self, name: &Name, bytes: &[u8]) -> Option<PutPlan<C>>
-        requires served { refused_by self.now (ask.change (put_of name.now bytes.now)) ≡ None }
-        ensures plan { IfSome result (λ plan. IsPutPlan self.now name.now bytes.now name.now
-            (divisor_of plan.layout) (caps_of plan.layout) (grid_of plan.layout) plan.spot) }
-        ensures quiet { IsSome result → is_quiet (charges_of self.now (put_of name.now bytes.now)) ≡ true }
-        ensures needs_flush { IsNone result → is_quiet (charges_of self.now (put_of name.now bytes.now))
-            ≡ false }
-        ensures sound { IsStore C self.now }
+impl<const C: usize> Charged<C> {
+    /// Where the object of a quiet change stands, 0 where none comes. None where a charge found no room.
+    pub(crate) fn place(&self) -> Option<u64>
+        ensures { result ≡ quiet_place self.now.outcome }
     {
-        let size = bytes.len() as u64;
-        let mut layout = self.hands.layout;
-        match charge_put(&mut layout, self.hands.table.get(name), size) {
-            Some(place) => Some(PutPlan {
-                layout,
-                spot: Spot { place, size },
-            }),
-            None => None,
-        }
-    }
-
-    /// What a removal leaves of the layout, if it is quiet.
-    pub(crate) fn plan_del(&self, name: &Name) -> Option<Layout<C>>
-        requires served { refused_by self.now (ask.change (del_of name.now)) ≡ None }
-        ensures plan { IfSome result (λ layout. IsDelPlan self.now name.now name.now
-            (divisor_of layout) (caps_of layout) (grid_of layout)) }
-        ensures quiet { IsSome result → is_quiet (charges_of self.now (del_of name.now)) ≡ true }
-        ensures needs_flush { IsNone result → is_quiet (charges_of self.now (del_of name.now)) ≡ false }
-        ensures sound { IsStore C self.now }
-    {
-        let mut layout = self.hands.layout;
-        if charge_gone(&mut layout, self.hands.table.get(name)) {
-            Some(layout)
+        if self.outcome.gone {
+            self.outcome.place
         } else {
             None
         }
+    }
+}
+
+impl<const C: usize> Store<C> {
+    ghost use Rattle.store_core.specs.Answers.{refused_by};
+    ghost use Rattle.store_core.specs.Plans.{AcceptsName};
+    ghost use Rattle.store_core.specs.Quiet.{del_of, put_of};
+    ghost use Rattle.store_core.specs.Stores.{IsStore};
+
+    /// Charges a change on a copy of the layout: the object that a name has, and a new one of `size` bytes,
+    /// which is 0 where none comes.
+    pub(crate) fn charge(&self, name: &Name, size: u64) -> Charged<C>
+        requires whole { self.now.is_broken ≡ false }
+        requires small { size ≤ SIZE_MAX }
+        ensures charges { ChargesStore self.now name.now size result.layout result.outcome }
+        ensures sound { IsStore C self.now }
+    {
+        let old = self.hands.table.get(name);
+        let mut layout = self.hands.layout;
+        let outcome = charge_change(&mut layout, old, size);
+        Charged { layout, outcome }
     }
 
     /// The name of a put that is served.

@@ -1,21 +1,68 @@
-use Rattle.std.proofs.Common.{inl, refl, rules}
+use Rattle.std.proofs.Common.{◌∙◌, arith, inl, refl, rules, sym}
 use Rattle.segment_layout.specs.Layouts.{caps_of, divisor_of, grid_of}
 use Rattle.store_core.specs.Quiet.{del_of}
+use Rattle.store_core.proofs.CopyChargesLaws.{charged_gone, charged_loud, charged_quiet, del_plan}
 use Rattle.store_core.proofs.EffectLaws.{no_effects}
 use Rattle.store_core.proofs.PlanLaws.{del_served}
 use Rattle.store_core.proofs.QuietLaws.{del_step, del_value}
-use Rattle.store_core.proofs.ServeLaws.{serves_flushed, serves_quietly}
+use Rattle.store_core.proofs.ServeLaws.{serves_quietly}
 use Rattle.store_core.proofs.store.Store.del_accepted.Goals as goal
+
+pub charge-charged-requires : goal.charge-charged-requires
+charge-charged-requires g c =
+    (omega arith, (omega arith, ((del_served c.args.self.now c.args.name.now c.requires.served).whole,
+    omega arith)))
+
+pub leave-requires : goal.leave-requires
+leave-requires g c =
+    let charges = c.charge-charged.ensures.charges in (
+      omega arith,
+      (
+        omega arith,
+        (
+          (del_served c.args.self.now c.args.name.now c.requires.served).whole,
+          (
+            charges.divisor,
+            (charges.same_caps, charged_gone charges c.in-Some.field-0 (sym c.place.ensures ∙ c.in-Some.is)),
+          ),
+        ),
+      ),
+    )
+
+pub flush_change-requires : goal.flush_change-requires
+flush_change-requires g c = (
+  omega arith,
+  (
+    omega arith,
+    (
+      c.requires.ready,
+      (
+        c.requires.over,
+        (
+          λ none. refl,
+          (
+            c.requires.served,
+            (
+              c.charge-charged.ensures.charges,
+              charged_loud c.charge-charged.ensures.charges (sym c.place.ensures ∙ c.in-None.is),
+            ),
+          ),
+        ),
+      ),
+    ),
+  ),
+)
 
 pub returns-in-Some : goal.returns-in-Some
 returns-in-Some g c =
     let t = c.args.self.now in
     let name = c.args.name.now in
-    let layout = c.in-Some.layout in
-    let p = c.in-Some.ensures.plan in
+    let layout = c.charge-charged.result.layout in
+    let p = del_plan c.in-Some.field-0 (sym c.place.ensures ∙ c.in-Some.is) c.charge-charged.ensures.charges c.requires.served in
     let served = del_served t name c.requires.served in
-    let h = c.plan_del.ensures.sound in
-    serves_quietly (c.in-Some.ensures.quiet refl) (inl refl)
+    let h = c.charge-charged.ensures.sound in
+    serves_quietly (charged_quiet c.charge-charged.ensures.charges c.in-Some.field-0
+    (sym c.place.ensures ∙ c.in-Some.is)) (inl refl)
     (no_effects (del_of name) t c.leave.new.self (g.D.Disk.state c.args.disk.now) _ h
     (c.requires.over served.whole) c.requires.ready (g.met.D.Disk.lawful c.args.disk.now).turn_fits refl
     (del_value t h name name (divisor_of layout) (caps_of layout) (grid_of layout) p c.leave.new.self
@@ -26,6 +73,4 @@ returns-in-Some g c =
     (search rules) (search rules)
 
 pub returns-in-None : goal.returns-in-None
-returns-in-None g c = serves_flushed (c.in-None.ensures.needs_flush refl) c.del_flushed.ensures.answer
-    c.del_flushed.ensures.flush c.del_flushed.ensures.step c.del_flushed.ensures.over
-    c.del_flushed.ensures.broken
+returns-in-None g c = c.flush_change.ensures

@@ -1,0 +1,46 @@
+use Rattle.std.proofs.Common.{◌∙◌, ap, lit<, subst}
+use Rattle.std.specs.FinMap as fin
+use Rattle.store_core.specs.Charges.{ChargesStore}
+use Rattle.store_core.specs.Connection.{StoreValue}
+use Rattle.store_core.proofs.CopyChargesLaws.{charged_here}
+use Rattle.store_core.proofs.InsideLaws.{opened}
+use Rattle.store_core.proofs.StoreLaws.{small_if_there}
+use Rattle.store_core.proofs.store.Store.charge.Goals as goal
+
+pub charge_change-outcome-requires : goal.charge_change-outcome-requires
+charge_change-outcome-requires g c =
+    let s = c.args.self.now in
+    let name = c.args.name.now in (
+      lit< tt,
+      (
+        c.self.invariant.classes,
+        (
+          c.self.invariant.wide,
+          (
+            small_if_there s (opened c.self.inside s c.self.view_is c.self.invariant c.requires.whole).store name
+                c.get-old.result (c.get-old.ensures ∙ ap (λ (x : StoreValue). fin.get x.now name) c.self.view_is),
+            c.requires.small,
+          ),
+        ),
+      ),
+    )
+
+pub returns-clause-charges : goal.returns-clause-charges
+returns-clause-charges g c =
+    let cc = c.charge_change-outcome in
+    subst (λ (x : StoreValue). ChargesStore x c.args.name.now c.args.size cc.new.layout cc.result)
+    c.self.view_is
+    (charged_here c.self.invariant.divisor c.get-old.ensures (record {
+      same_grid = cc.ensures.grid;
+      gone_found = cc.ensures.gone;
+      new_place = cc.ensures.place;
+      quiet = cc.ensures.quiet;
+      least = cc.ensures.class;
+      in_use = cc.ensures.in_use;
+      divisor = cc.ensures.divisor;
+      same_caps = cc.ensures.caps;
+    }))
+
+pub returns-clause-sound : goal.returns-clause-sound
+returns-clause-sound g c = (opened c.self.inside c.args.self.now c.self.view_is c.self.invariant
+    c.requires.whole).store

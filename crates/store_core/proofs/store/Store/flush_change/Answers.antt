@@ -1,0 +1,116 @@
+use Rattle.std.specs.Prelude.{◌≡◌, None, false, length}
+use Rattle.std.proofs.Common.{◌∙◌, ap, lit<, subst, sym}
+use Rattle.segment_layout.specs.Books.{is_quiet}
+use Rattle.flush_run.specs.Parts.{HandsValue}
+use Rattle.flush_run.specs.Shelved.{phase_now}
+use Rattle.map_model.specs.Requests as ask
+use Rattle.store_core.specs.Answers.{refused_by}
+use Rattle.store_core.specs.Charges.{ChargesStore, change_of}
+use Rattle.store_core.specs.Connection.{StoreValue}
+use Rattle.store_core.specs.Quiet.{charges_of}
+use Rattle.store_core.proofs.CopyChargesLaws.{bytes_of_change, can_put, change_loud, charges_parts}
+use Rattle.store_core.proofs.FlushChangeLaws.{flush_can_run, flush_done, flush_done_whole, flush_failed, is_served}
+use Rattle.store_core.proofs.FlushLaws.{may_begin}
+use Rattle.store_core.proofs.store.Store.flush_change.Goals as goal
+
+pub start_change-begun-requires : goal.start_change-begun-requires
+start_change-begun-requires g c =
+    let s = c.self.inside in
+    let inv = c.self.invariant in
+    let name = c.args.name.now in
+    let bytes = c.args.bytes.now in
+    let comes = c.args.comes in
+    let change = change_of name bytes comes in
+    let unbroken : s.broken ≡ false = ap (λ (x : StoreValue). x.is_broken) c.self.view_is
+    ∙ (is_served c.args.self.now change c.requires.served).whole in (
+      lit< tt,
+      (
+        lit< tt,
+        (
+          lit< tt,
+          (
+            inv.classes,
+            (
+              inv.wide,
+              (
+                c.requires.nothing,
+                (
+                  can_put s inv unbroken name bytes comes c.requires.nothing
+                      (subst (λ (x : StoreValue). refused_by x (ask.change change) ≡ None)
+                      (sym c.self.view_is) c.requires.served),
+                  (
+                    (_, may_begin s inv unbroken),
+                    (
+                      charges_parts s inv unbroken name bytes
+                          (subst (λ (x : StoreValue). ChargesStore x name (length bytes)
+                          c.args.charged.now.layout c.args.charged.now.outcome) (sym c.self.view_is)
+                          c.requires.charged),
+                      change_loud s inv unbroken name bytes comes c.requires.nothing
+                          (subst (λ (x : StoreValue). is_quiet (charges_of x change) ≡ false)
+                          (sym c.self.view_is) c.requires.needs_flush),
+                    ),
+                  ),
+                ),
+              ),
+            ),
+          ),
+        ),
+      ),
+    )
+
+pub make_flush-made-requires : goal.make_flush-made-requires
+make_flush-made-requires g c =
+    let begun = c.start_change-begun.ensures.begun in (
+      lit< tt,
+      (
+        lit< tt,
+        (
+          c.requires.ready,
+          (
+            ap (λ (y : HandsValue). y.buffer) begun.rest ∙ c.self.invariant.buf,
+            (
+              c.self.invariant.classes,
+              (
+                flush_can_run c.self.inside c.args.self.now c.self.view_is c.self.invariant _ c.requires.served
+                    (g.D.Disk.state c.args.disk.now) c.requires.over c.start_change-begun.new.hands _ _
+                    c.args.bytes.now begun
+                    (bytes_of_change c.args.name.now c.args.bytes.now c.args.comes c.requires.nothing),
+                c.start_change-begun.ensures.keeps,
+              ),
+            ),
+          ),
+        ),
+      ),
+    )
+
+pub returns-in-Ok : goal.returns-in-Ok
+returns-in-Ok g c = flush_done c.self.inside c.args.self.now c.self.view_is c.self.invariant
+    (change_of c.args.name.now c.args.bytes.now c.args.comes) c.requires.served
+    (g.D.Disk.state c.args.disk.now) c.requires.over c.start_change-begun.new.hands
+    (phase_now c.start_change-begun.result.phase.course c.start_change-begun.new.hands.table)
+    c.start_change-begun.result.place c.args.bytes.now c.start_change-begun.ensures.begun
+    (bytes_of_change c.args.name.now c.args.bytes.now c.args.comes c.requires.nothing)
+    c.make_flush-made.new.hands (g.D.Disk.state c.make_flush-made.new.disk) c.make_flush-made.ensures.left
+    c.make_flush-made.ensures.made c.requires.needs_flush c.in-Ok.ensures.ends c.in-Ok.ensures.saves.0
+    c.in-Ok.ensures.saves.1 c.in-Ok.ensures.calls c.in-Ok.ensures.cause
+
+pub returns-in-Err : goal.returns-in-Err
+returns-in-Err g c = flush_failed c.self.inside c.args.self.now c.self.view_is c.self.invariant
+    (change_of c.args.name.now c.args.bytes.now c.args.comes) c.requires.served
+    (g.D.Disk.state c.args.disk.now) c.requires.over c.start_change-begun.new.hands
+    (phase_now c.start_change-begun.result.phase.course c.start_change-begun.new.hands.table)
+    c.start_change-begun.result.place c.args.bytes.now c.start_change-begun.ensures.begun
+    (bytes_of_change c.args.name.now c.args.bytes.now c.args.comes c.requires.nothing)
+    c.make_flush-made.new.hands (g.D.Disk.state c.make_flush-made.new.disk) c.make_flush-made.ensures.left
+    c.make_flush-made.ensures.made c.requires.needs_flush _ c.in-Err.ensures.cause
+
+pub invariant_of-self : goal.invariant_of-self
+invariant_of-self g c = flush_done_whole c.self.inside c.args.self.now c.self.view_is c.self.invariant
+    (change_of c.args.name.now c.args.bytes.now c.args.comes) c.requires.served
+    (g.D.Disk.state c.args.disk.now) c.requires.over c.start_change-begun.new.hands
+    (phase_now c.start_change-begun.result.phase.course c.start_change-begun.new.hands.table)
+    c.start_change-begun.result.place c.args.bytes.now c.start_change-begun.ensures.begun
+    (bytes_of_change c.args.name.now c.args.bytes.now c.args.comes c.requires.nothing)
+    c.make_flush-made.new.hands (g.D.Disk.state c.make_flush-made.new.disk) c.make_flush-made.ensures.left
+    c.make_flush-made.ensures.made c.requires.needs_flush c.in-Ok.ensures.ends c.in-Ok.ensures.saves.0
+    c.in-Ok.ensures.saves.1
