@@ -8,11 +8,14 @@ use Rattle.disk_face.specs.Streams.{SinkState}
 use Rattle.map_model.specs.Requests as ask
 use Rattle.map_model.specs.Requests.{Refused, Request}
 use Rattle.extent_table.specs.declared.spot.Spot.{Spot}
+use Rattle.store_core.specs.declared.answers.Moment.{Moment}
+use Rattle.store_core.specs.declared.answers.Moment.TheVariants as moment
 use Rattle.store_core.specs.declared.answers.Refusal.{Refusal}
 use Rattle.store_core.specs.Answers.{AnswersNumber, facts_at, refusal_for, refused_by, size_at}
 use Rattle.slot_codec.specs.Names.{is_name}
 use Rattle.store_core.specs.Connection.{StoreValue, base_of, limits_of, state_of}
-use Rattle.store_core.specs.States.{Served, accepted, object_in, refusal, unchanged}
+use Rattle.store_core.specs.Readings.{asks_for, object_read, spot_read}
+use Rattle.store_core.specs.States.{Limits, Served, State, accepted, object_in, refusal, unchanged}
 use Rattle.store_core.proofs.ChangingLaws.{unchanged_itself}
 use Rattle.store_core.proofs.StoreLaws.{kept_lies, now_lies}
 use Rattle.store_core.proofs.StepLaws.{list_step, served_by}
@@ -23,12 +26,13 @@ use Rattle.ask_text.specs.declared.reply.Reply as text
 use Rattle.ask_text.specs.declared.reply.Reply.TheVariants as head
 use Rattle.ask_session.specs.declared.ends.End.{End}
 use Rattle.ask_session.specs.declared.ends.End.TheVariants as ends
+use Rattle.ask_session.specs.Putting.{PutsAnswer}
 use Rattle.ask_session.specs.ReplyLines.{Answers, answer_of}
 use Rattle.ask_session.specs.Serving.{HasDiskCause, HasSinkCause, IsServingFault, PutsText, Replies, acknowledges, calls_of, is_changing, is_disk, is_disk_fault, reply_at, served_at}
 use Rattle.ask_session.proofs.AnswerLaws.{on_ok, refused_head, refused_is}
 use Rattle.ask_session.proofs.PutLaws.{not_empty_behind, puts_as, puts_cut, puts_then}
 use Rattle.ask_session.proofs.ServingLaws.{IsSound, StaysAt, refusal_at}
-use Rattle.ask_session.proofs.ReplyLaws.{PutsAnswer, sink_calm, sink_serving, answers_replies, reads_replies, object_size, live_if}
+use Rattle.ask_session.proofs.ReplyLaws.{sink_calm, sink_serving, answers_replies, reads_replies, object_size, live_if}
 
 -- ---- replies that are an object
 
@@ -244,14 +248,14 @@ get_long s a name size h answer told =
     (live_if (is_name name) (fin.contains_key s.now name) (served_is s (ask.get name) h.whole served.0))
     ∙ sym served.1
 
-pub old_served : {classes : ℕ} (s : StoreValue) (a : disk.State) (name : List ℕ) → IsSound classes s a
+old_served : {classes : ℕ} (s : StoreValue) (a : disk.State) (name : List ℕ) → IsSound classes s a
     → refused_by s (ask.old name) ≡ None → IsTrue a.tells
     → served_at s a.file (ask.old name)
     ≡ unchanged (state_of s a.file) (ask.found (object_in (state_of s a.file).kept name))
 old_served s a name h is told = served_by (limits_of s) (state_of s a.file) (ask.old name) None
     (refusal_at s a.file (ask.old name) h.sound ∙ served_is s (ask.old name) h.whole is)
 
-pub old_long : {classes : ℕ} (s : StoreValue) (a : disk.State) (name : List ℕ) (size : ℕ)
+old_long : {classes : ℕ} (s : StoreValue) (a : disk.State) (name : List ℕ) (size : ℕ)
     → IsSound classes s a
     → AnswersNumber (refused_by s (ask.old name)) (size_at (fin.get s.kept name)) (Ok size) → IsTrue a.tells
     → length (object_in (state_of s a.file).kept name) ≡ size
@@ -260,3 +264,28 @@ old_long s a name size h answer told =
     object_size (base_of s) a.file s.kept name h.sound.kept.named (kept_lies s a.file h.sound (h.over told))
     (live_if (is_name name) (fin.contains_key s.kept name) (served_is s (ask.old name) h.whole served.0))
     ∙ sym served.1
+
+-- ---- an object of now or of the last checkpoint
+
+pub asks_only : (m : Moment) (name : List ℕ) → is_changing (asks_for m name) ≡ false
+asks_only moment.Now name = refl
+asks_only moment.Kept name = refl
+
+pub calls_none : (limits : Limits) (t : State) (m : Moment) (name : List ℕ)
+    → calls_of limits t (asks_for m name) ≡ 0
+calls_none limits t moment.Now name = refl
+calls_none limits t moment.Kept name = refl
+
+pub object_served : {classes : ℕ} (s : StoreValue) (a : disk.State) (m : Moment) (name : List ℕ)
+    → IsSound classes s a → refused_by s (asks_for m name) ≡ None → IsTrue a.tells
+    → served_at s a.file (asks_for m name)
+    ≡ unchanged (state_of s a.file) (ask.found (object_read (state_of s a.file) (asks_for m name)))
+object_served s a moment.Now name h is told = get_served s a name h is told
+object_served s a moment.Kept name h is told = old_served s a name h is told
+
+pub object_long : {classes : ℕ} (s : StoreValue) (a : disk.State) (m : Moment) (name : List ℕ) (size : ℕ)
+    → IsSound classes s a
+    → AnswersNumber (refused_by s (asks_for m name)) (size_at (spot_read s (asks_for m name))) (Ok size)
+    → IsTrue a.tells → length (object_read (state_of s a.file) (asks_for m name)) ≡ size
+object_long s a moment.Now name size h answer told = get_long s a name size h answer told
+object_long s a moment.Kept name size h answer told = old_long s a name size h answer told

@@ -24,6 +24,7 @@ use Rattle.ask_text.specs.declared.reply.Reply as text
 use Rattle.ask_text.specs.declared.reply.Reply.TheVariants as head
 use Rattle.ask_session.specs.declared.ends.End.{End}
 use Rattle.ask_session.specs.declared.ends.End.TheVariants as ends
+use Rattle.ask_session.specs.Putting.{PutsAnswer}
 use Rattle.ask_session.specs.ReplyLines.{Answers, fault_of, is_kept}
 use Rattle.ask_session.specs.Serving.{HasDiskCause, HasSinkCause, IsServingFault, PutsText, Replies, Serves, acknowledges, is_changing, is_disk, is_disk_fault, is_sink, is_sink_fault, reply_at}
 use Rattle.ask_session.proofs.PutLaws.{puts_as, puts_none}
@@ -75,18 +76,6 @@ unsaid : (result : Result Bool End) → IfOk result (λ kept. kept ≡ false) �
 unsaid (Err end) kept is = absurd (cc)
 unsaid (Ok answer) kept is = absurd (let e : Ok false ≡ Ok true = ap (λ (b : Bool). Ok b) (sym kept)
     ∙ is in cc)
-
--- What is put of an answer.
-pub record PutsAnswer (out after : SinkState) (answer : Result text.Reply End)
-    (result : Result Bool End) : Type 0 where
-  pub put : IsTrue out.tells → IfOk answer (λ x. PutsText (first_line x) out.given after.given result)
-  pub kept : IfOk answer (λ x. IfOk result (λ kept. kept ≡ is_kept x))
-  pub only : IfOk answer (λ x. IfErr result (λ end. end ≡ ends.Sink))
-  pub cause : IfOk answer (λ x. HasSinkCause out after result)
-  pub ended : IfErr answer (λ end. result ≡ Err end)
-  pub same : OnErr answer (after.given ≡ out.given)
-  pub faults : OnErr answer (after.faults ≡ out.faults)
-  pub told : after.tells ≡ out.tells
 
 pub sink_calm : {T : Type 0} (result : Result T End) → IfErr result (λ end. end ≡ ends.Sink)
     → is_disk_fault result ≡ false

@@ -1,6 +1,7 @@
 pub mod Inputs
 pub mod Serving
 pub mod ReplyLines
+pub mod Putting
 pub mod Sittings
 pub mod Inside
 pub mod Turns

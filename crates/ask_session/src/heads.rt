@@ -1,6 +1,7 @@
 //! The first lines of replies.
-ghost use Rattle.std.specs.Prelude.{◌≡◌, false, codes, IfErr, IfOk, IsTrue, OnErr, Ok, Err};
+ghost use Rattle.std.specs.Prelude.{◌≡◌, false, codes, IfErr, IfOk, IsTrue};
 ghost use Rattle.ask_text.specs.Replies.{first_line};
+ghost use Rattle.ask_session.specs.Putting.{PutsAnswer};
 ghost use Rattle.ask_session.specs.ReplyLines.{answer_of, done_reply_line, fault_of, is_kept};
 ghost use Rattle.ask_session.specs.Serving.{HasSinkCause, PutsText};
 
@@ -50,15 +51,7 @@ pub(crate) fn put_end<O: Sink>(output: &mut O) -> Result<bool, End>
 
 /// Puts a reply that is one line, and answers whether it acknowledges a checkpoint.
 pub(crate) fn put_answer<O: Sink>(output: &mut O, answer: Result<Reply, End>) -> Result<bool, End>
-    ensures put { IsTrue (O.state output.old).tells → IfOk answer (λ head. PutsText (first_line head)
-        (O.state output.old).given (O.state output.new).given result) }
-    ensures kept { IfOk answer (λ head. IfOk result (λ kept. kept ≡ is_kept head)) }
-    ensures only { IfOk answer (λ head. IfErr result (λ end. end ≡ End.Sink)) }
-    ensures cause { IfOk answer (λ head. HasSinkCause (O.state output.old) (O.state output.new) result) }
-    ensures ended { IfErr answer (λ end. result ≡ Err end) }
-    ensures same { OnErr answer ((O.state output.new).given ≡ (O.state output.old).given) }
-    ensures faults { OnErr answer ((O.state output.new).faults ≡ (O.state output.old).faults) }
-    ensures told { (O.state output.new).tells ≡ (O.state output.old).tells }
+    ensures { PutsAnswer (O.state output.old) (O.state output.new) answer result }
 {
     match answer {
         Ok(head) => put_head(output, &head),

@@ -5,7 +5,7 @@ ghost use Rattle.map_model.specs.Requests as ask;
 ghost use Rattle.store_core.specs.Answers.{refused_by};
 ghost use Rattle.store_core.specs.Connection.{IsConnected, state_of};
 ghost use Rattle.store_core.specs.Lines.{lines_of, listing_of};
-ghost use Rattle.store_core.specs.States.{object_in};
+ghost use Rattle.store_core.specs.Readings.{asks_for, object_read};
 ghost use Rattle.store_core.specs.Stores.{IsStore};
 ghost use Rattle.ask_session.specs.Serving.{HasDiskCause, HasSinkCause, IsServingFault, PutsText, Replies};
 
@@ -13,11 +13,12 @@ use crate::End;
 use crate::heads::{answer_of, fault_of, put_answer, put_end, say};
 use ask_text::Reply;
 use disk_face::{Disk, Sink};
-use store_core::Store;
+use store_core::{Moment, Store};
 
-/// Serves a get.
-pub(crate) fn serve_get<const C: usize, D: Disk, O: Sink>(
+/// Serves a get, of what stands now, or an old, of what stood at the last checkpoint.
+pub(crate) fn serve_object<const C: usize, D: Disk, O: Sink>(
     store: &mut Store<C>,
+    moment: Moment,
     disk: &mut D,
     name: &[u8],
     output: &mut O,
@@ -26,35 +27,12 @@ pub(crate) fn serve_get<const C: usize, D: Disk, O: Sink>(
     requires over { IsConnected C store.old (D.state disk.old) }
     requires whole { store.old.is_broken ≡ false }
     requires sound { IsStore C store.old }
-    ensures { Replies C (ask.get name.now) store.old store.new (D.state disk.old) (D.state disk.new)
+    ensures { Replies C (asks_for moment name.now) store.old store.new (D.state disk.old) (D.state disk.new)
         (O.state output.old) (O.state output.new) result }
 {
-    match store.size(name) {
+    match store.size_of(moment, name) {
         Ok(size) => match say(output, &Reply::Data { size }) {
-            Ok(()) => give(store, disk, name, output),
-            Err(end) => Err(end),
-        },
-        Err(why) => put_answer(output, answer_of(why)),
-    }
-}
-
-/// Serves an old.
-pub(crate) fn serve_old<const C: usize, D: Disk, O: Sink>(
-    store: &mut Store<C>,
-    disk: &mut D,
-    name: &[u8],
-    output: &mut O,
-) -> Result<bool, End>
-    requires ready { IsTrue (D.state disk.old).is_ready }
-    requires over { IsConnected C store.old (D.state disk.old) }
-    requires whole { store.old.is_broken ≡ false }
-    requires sound { IsStore C store.old }
-    ensures { Replies C (ask.old name.now) store.old store.new (D.state disk.old) (D.state disk.new)
-        (O.state output.old) (O.state output.new) result }
-{
-    match store.old_size(name) {
-        Ok(size) => match say(output, &Reply::Data { size }) {
-            Ok(()) => give_old(store, disk, name, output),
+            Ok(()) => give(store, moment, disk, name, output),
             Err(end) => Err(end),
         },
         Err(why) => put_answer(output, answer_of(why)),
@@ -101,15 +79,16 @@ fn put_list<const C: usize, O: Sink>(store: &Store<C>, output: &mut O) -> Result
 /// Puts the bytes of an object, and a newline.
 fn give<const C: usize, D: Disk, O: Sink>(
     store: &mut Store<C>,
+    moment: Moment,
     disk: &mut D,
     name: &[u8],
     output: &mut O,
 ) -> Result<bool, End>
     requires ready { IsTrue (D.state disk.old).is_ready }
     requires over { IsConnected C store.old (D.state disk.old) }
-    requires served { refused_by store.old (ask.get name.now) ≡ None }
-    ensures puts { IsTrue (D.state disk.old).tells → IsTrue (O.state output.old).tells
-        → PutsText (object_in (state_of store.old (D.state disk.old).file).map name.now ++ codes "\n")
+    requires served { refused_by store.old (asks_for moment name.now) ≡ None }
+    ensures puts { IsTrue (D.state disk.old).tells → IsTrue (O.state output.old).tells → PutsText
+        (object_read (state_of store.old (D.state disk.old).file) (asks_for moment name.now) ++ codes "\n")
         (O.state output.old).given (O.state output.new).given result }
     ensures kept { IfOk result (λ kept. kept ≡ false) }
     ensures only { IfErr result IsServingFault }
@@ -118,33 +97,7 @@ fn give<const C: usize, D: Disk, O: Sink>(
     ensures disk_cause { HasDiskCause (D.state disk.old).faults (D.state disk.new).faults result }
     ensures sink_cause { HasSinkCause (O.state output.old) (O.state output.new) result }
 {
-    match store.get(disk, name, output) {
-        Ok(_) => put_end(output),
-        Err(why) => Err(fault_of(why)),
-    }
-}
-
-/// Puts the bytes of an object of the last checkpoint, and a newline.
-fn give_old<const C: usize, D: Disk, O: Sink>(
-    store: &mut Store<C>,
-    disk: &mut D,
-    name: &[u8],
-    output: &mut O,
-) -> Result<bool, End>
-    requires ready { IsTrue (D.state disk.old).is_ready }
-    requires over { IsConnected C store.old (D.state disk.old) }
-    requires served { refused_by store.old (ask.old name.now) ≡ None }
-    ensures puts { IsTrue (D.state disk.old).tells → IsTrue (O.state output.old).tells
-        → PutsText (object_in (state_of store.old (D.state disk.old).file).kept name.now ++ codes "\n")
-        (O.state output.old).given (O.state output.new).given result }
-    ensures kept { IfOk result (λ kept. kept ≡ false) }
-    ensures only { IfErr result IsServingFault }
-    ensures store { store.new ≡ store.old }
-    ensures frame { Unchanged (D.state disk.old) (D.state disk.new) }
-    ensures disk_cause { HasDiskCause (D.state disk.old).faults (D.state disk.new).faults result }
-    ensures sink_cause { HasSinkCause (O.state output.old) (O.state output.new) result }
-{
-    match store.old(disk, name, output) {
+    match store.read(moment, disk, name, output) {
         Ok(_) => put_end(output),
         Err(why) => Err(fault_of(why)),
     }

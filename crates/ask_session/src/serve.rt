@@ -14,11 +14,11 @@ ghost use Rattle.ask_session.specs.Serving.{Replies};
 use crate::End;
 use crate::changes::{serve_back, serve_del, serve_keep, serve_long, serve_put, serve_stat};
 use crate::heads::put_answer;
-use crate::reads::{serve_get, serve_list, serve_old};
+use crate::reads::{serve_list, serve_object};
 use ask_text::{Ask, Reply};
 use disk_face::{Disk, Sink};
 use size_class::SIZE_MAX;
-use store_core::Store;
+use store_core::{Moment, Store};
 
 /// Serves the request that a line asks for, with its object in the front of `body`, and puts its reply:
 /// whether that acknowledges a checkpoint.
@@ -44,8 +44,8 @@ pub(crate) fn serve<const C: usize, D: Disk, O: Sink>(
                 serve_sized(store, disk, name.as_bytes(), *size, body),
             )
         }
-        Ask::Get { name } => serve_get(store, disk, name.as_bytes(), output),
-        Ask::Old { name } => serve_old(store, disk, name.as_bytes(), output),
+        Ask::Get { name } => serve_object(store, Moment::Now, disk, name.as_bytes(), output),
+        Ask::Old { name } => serve_object(store, Moment::Kept, disk, name.as_bytes(), output),
         Ask::Del { name } => put_answer(output, serve_del(store, disk, name.as_bytes())),
         Ask::Keep => put_answer(output, serve_keep(store, disk)),
         Ask::Back => put_answer(output, serve_back(store, disk)),

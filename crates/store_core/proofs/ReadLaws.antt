@@ -27,8 +27,8 @@ use Rattle.store_core.proofs.StoreLaws.{kept_lies, now_lies}
 
 -- ---- what is found, at each moment
 
-pub found_in_range : {classes : ℕ} (s : StoreValue) → IsStore classes s → (m : Moment) (name : List ℕ) (x : Spot)
-    → spot_read s (asks_for m name) ≡ Some x → IsInRange x
+pub found_in_range : {classes : ℕ} (s : StoreValue) → IsStore classes s → (m : Moment) (name : List ℕ)
+    (x : Spot) → spot_read s (asks_for m name) ≡ Some x → IsInRange x
 found_in_range s h moment.Now name x there = h.now_in_range name x there
 found_in_range s h moment.Kept name x there = h.kept_in_range name x there
 
@@ -42,7 +42,8 @@ found_object : {classes : ℕ} (s : StoreValue) (file : List ℕ) → IsStore cl
     (name : List ℕ) (x : Spot) → spot_read s (asks_for m name) ≡ Some x
     → object_read (state_of s file) (asks_for m name) ≡ object_at (base_of s) file x
 found_object s file h moment.Now name x there = object_there (base_of s) file s.now name x h.now.named there
-found_object s file h moment.Kept name x there = object_there (base_of s) file s.kept name x h.kept.named there
+found_object s file h moment.Kept name x there =
+    object_there (base_of s) file s.kept name x h.kept.named there
 
 read_serves : (limits : Limits) (t : State) (m : Moment) (name : List ℕ)
     → accepted limits t (asks_for m name) ≡ unchanged t (ask.found (object_read t (asks_for m name)))
@@ -126,7 +127,10 @@ module _ (s : StoreValue) (a : disk.State) (m : Moment) (name : List ℕ) where
             (read_serves (limits_of s) (state_of s a.file) m name) answered;
         store = refl;
         frame = unchanged_itself a ready;
-        disk_cause = record { rose = λ fault. absurd (failed why.Disk is refl (Err x) refl fault); calm = tt };
+        disk_cause = record {
+          rose = λ fault. absurd (failed why.Disk is refl (Err x) refl fault);
+          calm = tt;
+        };
         sink_cause = record {
           rose = λ fault. absurd (failed why.Sink is refl (Err x) refl fault);
           calm = tt;

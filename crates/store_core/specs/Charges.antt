@@ -1,5 +1,5 @@
--- What a put or a removal charges, tried on a copy of the layout, and what it is then: quiet, or one that needs a
--- flush.
+-- What a put or a removal charges, tried on a copy of the layout, and what it is then: quiet, or one that
+-- needs a flush.
 use Rattle.std.specs.Prelude.{◌≡◌, ◌⊎◌, ℕ, ◌<◌, ◌≤◌, Bool, true, false, ◌&&◌, if◌then◌else◌, is_some, IsSome, List, length, Option, Some, None}
 use Rattle.std.specs.FinMap as fin
 use Rattle.size_class.specs.declared.TheConstants.{SIZE_MAX}
@@ -14,8 +14,8 @@ use Rattle.change_charges.specs.Charging.{PlacesNew, between, charged_by, gone_c
 use Rattle.change_charges.specs.declared.charge.ChargeResult.{ChargeResult}
 use Rattle.store_core.specs.Connection.{StoreValue}
 
--- An old object and a new one of a size were charged, each whether or not the other found room: the layout after
--- has the grid that they leave.
+-- An old object and a new one of a size were charged, each whether or not the other found room: the layout
+-- after has the grid that they leave.
 pub record IsChargedBy {C : ℕ} (k : ℕ) (caps : List ℕ) (grid : List (List ℕ)) (old : Option Spot) (size : ℕ)
     (after : Layout C) (r : ChargeResult) : Type 0 where
   pub same_grid : grid_of after ≡ (charged_by k caps grid old size).grid

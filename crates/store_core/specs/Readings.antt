@@ -32,8 +32,8 @@ object_read s (ask.get name) = object_in s.map name
 object_read s (ask.old name) = object_in s.kept name
 object_read s _ = []
 
--- A read answers the size of the object, or the first refusal that applies, and gives its bytes to the sink, or
--- a front of them where a device failed. It changes neither the store nor the disk.
+-- A read answers the size of the object, or the first refusal that applies, and gives its bytes to the sink,
+-- or a front of them where a device failed. It changes neither the store nor the disk.
 pub record IsRead (r : Request) (old new : StoreValue) (before now : disk.State) (out after : SinkState)
     (result : Result ℕ Refusal) : Type 0 where
   pub answer : AnswersRead (refused_by old r) (size_at (spot_read old r)) result

@@ -23,12 +23,14 @@ served_on old new before now served stays over = record {
 }
 
 -- after a put or a removal, whatever comes of it
-pub served_after : (c : Change) (old new : StoreValue) (before now : disk.State) (result : Result Done Refusal)
-    → IsServed old before → IsChange CLASSES c old new before now result → IsServed new now
+pub served_after : (c : Change) (old new : StoreValue) (before now : disk.State)
+    (result : Result Done Refusal) → IsServed old before → IsChange CLASSES c old new before now result
+    → IsServed new now
 served_after c old new before now result served x =
     served_on old new before now served (stays _ _ x.refused x.quiet x.flush) x.over
   where
-    stays : (refused : Option Refusal) (is_quiet : Bool) → (IsSome refused → NothingChanged old new before now)
+    stays : (refused : Option Refusal) (is_quiet : Bool)
+        → (IsSome refused → NothingChanged old new before now)
         → (IsNone refused → is_quiet ≡ true → IsQuietChange CLASSES c old new before now result)
         → (IsNone refused → is_quiet ≡ false → IsFlush CLASSES c old new before now result) → Stays before now
     stays (Some why) is_quiet is_refused quiet flush = (is_refused (search rules)).same_disk.stays

@@ -10,7 +10,7 @@ use Rattle.ask_session.proofs.reads.give.Goals as goal
 pub returns-in-Ok-clause-puts : goal.returns-in-Ok-clause-puts
 returns-in-Ok-clause-puts g c told sink =
     let first = ((c.in-Ok.ensures.gives sink).front (none_is _ c.requires.served) told).all in
-    let still : IsTrue (g.O.Sink.state c.get.new.sink).tells = grind
+    let still : IsTrue (g.O.Sink.state c.read.new.sink).tells = grind
     (arith, c.in-Ok.ensures.sink_cause.told) in
     puts_then _ (10 ∷ []) _ _ _ c.put_end.result (λ fault none. absurd (cc)) first
     (c.put_end.ensures.put still)
@@ -27,12 +27,12 @@ returns-in-Err g c =
       store = c.in-Err.ensures.store;
       frame = c.in-Err.ensures.frame;
       disk_cause = subst (λ (x : End). HasDiskCause {T = Bool} (g.D.Disk.state c.args.disk.now).faults
-          (g.D.Disk.state c.get.new.disk).faults (Err x)) (sym c.fault_of.ensures)
+          (g.D.Disk.state c.read.new.disk).faults (Err x)) (sym c.fault_of.ensures)
           (fault_disk _ _ c.in-Err.why served answer (g.D.Disk.state c.args.disk.now)
-          (g.D.Disk.state c.get.new.disk)
+          (g.D.Disk.state c.read.new.disk)
           c.in-Err.ensures.disk_cause c.in-Err.ensures.frame.later);
       sink_cause = subst (λ (x : End). HasSinkCause {T = Bool} (g.O.Sink.state c.args.output.now)
-          (g.O.Sink.state c.get.new.sink) (Err x)) (sym c.fault_of.ensures)
+          (g.O.Sink.state c.read.new.sink) (Err x)) (sym c.fault_of.ensures)
           (fault_sink _ _ c.in-Err.why served answer (g.O.Sink.state c.args.output.now)
-          (g.O.Sink.state c.get.new.sink) c.in-Err.ensures.sink_cause);
+          (g.O.Sink.state c.read.new.sink) c.in-Err.ensures.sink_cause);
     }

@@ -18,16 +18,7 @@ returns-in-Keep g c r asked body =
     (g.D.Disk.state c.serve_keep.new.disk) (g.O.Sink.state c.args.output.now)
     (g.O.Sink.state c.put_answer-in-Keep.new.output) c.serve_keep.result
     c.put_answer-in-Keep.result c.serve_keep.ensures
-    (record {
-      put = c.put_answer-in-Keep.ensures.put;
-      kept = c.put_answer-in-Keep.ensures.kept;
-      only = c.put_answer-in-Keep.ensures.only;
-      cause = c.put_answer-in-Keep.ensures.cause;
-      ended = c.put_answer-in-Keep.ensures.ended;
-      same = c.put_answer-in-Keep.ensures.same;
-      faults = c.put_answer-in-Keep.ensures.faults;
-      told = c.put_answer-in-Keep.ensures.told;
-    }))
+    c.put_answer-in-Keep.ensures)
 
 pub returns-in-Back : goal.returns-in-Back
 returns-in-Back g c r asked body =
@@ -40,16 +31,7 @@ returns-in-Back g c r asked body =
     (g.D.Disk.state c.serve_back.new.disk) (g.O.Sink.state c.args.output.now)
     (g.O.Sink.state c.put_answer-in-Back.new.output) c.serve_back.result
     c.put_answer-in-Back.result c.serve_back.ensures
-    (record {
-      put = c.put_answer-in-Back.ensures.put;
-      kept = c.put_answer-in-Back.ensures.kept;
-      only = c.put_answer-in-Back.ensures.only;
-      cause = c.put_answer-in-Back.ensures.cause;
-      ended = c.put_answer-in-Back.ensures.ended;
-      same = c.put_answer-in-Back.ensures.same;
-      faults = c.put_answer-in-Back.ensures.faults;
-      told = c.put_answer-in-Back.ensures.told;
-    }))
+    c.put_answer-in-Back.ensures)
 
 pub returns-in-Stat : goal.returns-in-Stat
 returns-in-Stat g c r asked body =
@@ -62,16 +44,7 @@ returns-in-Stat g c r asked body =
     (g.D.Disk.state c.serve_stat.new.disk) (g.O.Sink.state c.args.output.now)
     (g.O.Sink.state c.put_answer-in-Stat.new.output) c.serve_stat.result
     c.put_answer-in-Stat.result c.serve_stat.ensures
-    (record {
-      put = c.put_answer-in-Stat.ensures.put;
-      kept = c.put_answer-in-Stat.ensures.kept;
-      only = c.put_answer-in-Stat.ensures.only;
-      cause = c.put_answer-in-Stat.ensures.cause;
-      ended = c.put_answer-in-Stat.ensures.ended;
-      same = c.put_answer-in-Stat.ensures.same;
-      faults = c.put_answer-in-Stat.ensures.faults;
-      told = c.put_answer-in-Stat.ensures.told;
-    }))
+    c.put_answer-in-Stat.ensures)
 
 pub returns-in-Del : goal.returns-in-Del
 returns-in-Del g c r asked body =
@@ -87,16 +60,7 @@ returns-in-Del g c r asked body =
     (g.D.Disk.state c.args.disk.now) (g.D.Disk.state c.serve_del.new.disk) (g.O.Sink.state c.args.output.now)
     (g.O.Sink.state c.put_answer-in-Del.new.output) c.serve_del.result
     c.put_answer-in-Del.result c.serve_del.ensures
-    (record {
-      put = c.put_answer-in-Del.ensures.put;
-      kept = c.put_answer-in-Del.ensures.kept;
-      only = c.put_answer-in-Del.ensures.only;
-      cause = c.put_answer-in-Del.ensures.cause;
-      ended = c.put_answer-in-Del.ensures.ended;
-      same = c.put_answer-in-Del.ensures.same;
-      faults = c.put_answer-in-Del.ensures.faults;
-      told = c.put_answer-in-Del.ensures.told;
-    }))
+    c.put_answer-in-Del.ensures)
 
 pub returns-in-Put : goal.returns-in-Put
 returns-in-Put g c r asked body =
@@ -113,13 +77,4 @@ returns-in-Put g c r asked body =
     (g.O.Sink.state c.args.output.now)
     (g.O.Sink.state c.put_answer.new.output) c.serve_sized.result c.put_answer.result
     (c.serve_sized.ensures p.object p.long p.held)
-    (record {
-      put = c.put_answer.ensures.put;
-      kept = c.put_answer.ensures.kept;
-      only = c.put_answer.ensures.only;
-      cause = c.put_answer.ensures.cause;
-      ended = c.put_answer.ensures.ended;
-      same = c.put_answer.ensures.same;
-      faults = c.put_answer.ensures.faults;
-      told = c.put_answer.ensures.told;
-    }))
+    c.put_answer.ensures)

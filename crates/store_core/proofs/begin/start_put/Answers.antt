@@ -28,13 +28,15 @@ start_placed-requires g c =
                 (c.requires.can.room refl),
             (
               placed_ends may c.args.name.now (parts_of c.take_out.new.hands) c.take_out.ensures
-                  c.requires.can.named c.args.bytes.now c.requires.can.small (cells_of c.add_size.new.ledger.moved)
+                  c.requires.can.named c.args.bytes.now c.requires.can.small
+                  (cells_of c.add_size.new.ledger.moved)
                   (cells_of c.add_size.new.ledger.asked) c.add_size.ensures.moved c.add_size.ensures.asked
                   _ refl (divisor_of layout) (caps_of layout)
                   (grid_of layout) r.gone r.place r.class
                   c.boundary-boundary.result ch c.requires.needs_flush c.in-Some.place c.in-Some.is,
               placed_ready may c.args.name.now (parts_of c.take_out.new.hands) c.take_out.ensures
-                  c.requires.can.named c.args.bytes.now c.requires.can.small (cells_of c.add_size.new.ledger.moved)
+                  c.requires.can.named c.args.bytes.now c.requires.can.small
+                  (cells_of c.add_size.new.ledger.moved)
                   (cells_of c.add_size.new.ledger.asked) c.add_size.ensures.moved c.add_size.ensures.asked
                   _ refl (divisor_of layout) (caps_of layout)
                   (grid_of layout) r.gone r.place r.class
@@ -60,7 +62,8 @@ start_waiting-requires g c =
             c.requires.wide,
             (
               waiting_some may c.args.name.now (parts_of c.take_out.new.hands) c.take_out.ensures
-                  c.requires.can.named c.args.bytes.now c.requires.can.small (cells_of c.add_size.new.ledger.moved)
+                  c.requires.can.named c.args.bytes.now c.requires.can.small
+                  (cells_of c.add_size.new.ledger.moved)
                   (cells_of c.add_size.new.ledger.asked) c.add_size.ensures.moved c.add_size.ensures.asked
                   _ refl (divisor_of layout) (caps_of layout)
                   (grid_of layout) r.gone r.place r.class
@@ -71,14 +74,16 @@ start_waiting-requires g c =
                   waiting_high may c.args.name.now (parts_of c.take_out.new.hands) c.take_out.ensures
                       c.requires.can.named c.args.bytes.now c.requires.can.small
                       (cells_of c.add_size.new.ledger.moved) (cells_of c.add_size.new.ledger.asked)
-                      c.add_size.ensures.moved c.add_size.ensures.asked _ refl (divisor_of layout) (caps_of layout)
+                      c.add_size.ensures.moved c.add_size.ensures.asked _ refl (divisor_of layout)
+                      (caps_of layout)
                       (grid_of layout) r.gone r.place r.class
                       c.boundary-boundary.result ch c.requires.needs_flush c.in-None.is,
                   (
                     waiting_new may c.args.name.now (parts_of c.take_out.new.hands) c.take_out.ensures
                         c.requires.can.named c.args.bytes.now c.requires.can.small
                         (cells_of c.add_size.new.ledger.moved) (cells_of c.add_size.new.ledger.asked)
-                        c.add_size.ensures.moved c.add_size.ensures.asked _ refl (divisor_of layout) (caps_of layout)
+                        c.add_size.ensures.moved c.add_size.ensures.asked _ refl (divisor_of layout)
+                        (caps_of layout)
                         (grid_of layout) r.gone r.place r.class
                         c.boundary-boundary.result ch c.requires.needs_flush c.in-None.is,
                     (
@@ -87,7 +92,8 @@ start_waiting-requires g c =
                       waiting_ready may c.args.name.now (parts_of c.take_out.new.hands) c.take_out.ensures
                           c.requires.can.named c.args.bytes.now c.requires.can.small
                           (cells_of c.add_size.new.ledger.moved) (cells_of c.add_size.new.ledger.asked)
-                          c.add_size.ensures.moved c.add_size.ensures.asked _ refl (divisor_of layout) (caps_of layout)
+                          c.add_size.ensures.moved c.add_size.ensures.asked _ refl (divisor_of layout)
+                          (caps_of layout)
                           (grid_of layout) r.gone r.place r.class
                           c.boundary-boundary.result ch c.requires.needs_flush c.in-None.is,
                     ),
@@ -107,8 +113,10 @@ returns-in-Some-clause-begun g c =
     let r = c.args.charged.now.outcome in
     let ch = charges_after c.take_out.ensures c.requires.charged c.boundary-boundary.ensures.same in
     placed_begun may c.args.name.now (parts_of c.take_out.new.hands) c.take_out.ensures
-    c.requires.can.named c.args.bytes.now c.requires.can.small (cells_of c.add_size.new.ledger.moved)
-    (cells_of c.add_size.new.ledger.asked) c.add_size.ensures.moved c.add_size.ensures.asked _ refl (divisor_of layout) (caps_of layout) (grid_of layout)
+    c.requires.can.named c.args.bytes.now c.requires.can.small
+    (cells_of c.add_size.new.ledger.moved)
+    (cells_of c.add_size.new.ledger.asked) c.add_size.ensures.moved c.add_size.ensures.asked _ refl
+    (divisor_of layout) (caps_of layout) (grid_of layout)
     r.gone r.place r.class c.boundary-boundary.result ch c.requires.needs_flush
     c.in-Some.place c.in-Some.is (parts_of c.start_placed.new.hands) _
     c.start_placed.result.place c.start_placed.ensures.place c.start_placed.ensures.starts
@@ -120,8 +128,10 @@ returns-in-None-clause-begun g c =
     let r = c.args.charged.now.outcome in
     let ch = charges_after c.take_out.ensures c.requires.charged c.boundary-boundary.ensures.same in
     waiting_begun may c.args.name.now (parts_of c.take_out.new.hands) c.take_out.ensures
-    c.requires.can.named c.args.bytes.now c.requires.can.small (cells_of c.add_size.new.ledger.moved)
-    (cells_of c.add_size.new.ledger.asked) c.add_size.ensures.moved c.add_size.ensures.asked _ refl (divisor_of layout) (caps_of layout) (grid_of layout)
+    c.requires.can.named c.args.bytes.now c.requires.can.small
+    (cells_of c.add_size.new.ledger.moved)
+    (cells_of c.add_size.new.ledger.asked) c.add_size.ensures.moved c.add_size.ensures.asked _ refl
+    (divisor_of layout) (caps_of layout) (grid_of layout)
     r.gone r.place r.class c.boundary-boundary.result ch c.requires.needs_flush
     c.in-None.is (parts_of c.start_waiting.new.hands) _
     c.start_waiting.result.place c.start_waiting.ensures.starts

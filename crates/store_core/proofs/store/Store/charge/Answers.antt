@@ -17,8 +17,10 @@ charge_change-outcome-requires g c =
         (
           c.self.invariant.wide,
           (
-            small_if_there s (opened c.self.inside s c.self.view_is c.self.invariant c.requires.whole).store name
-                c.get-old.result (c.get-old.ensures ∙ ap (λ (x : StoreValue). fin.get x.now name) c.self.view_is),
+            small_if_there s
+                (opened c.self.inside s c.self.view_is c.self.invariant c.requires.whole).store name
+                c.get-old.result
+                (c.get-old.ensures ∙ ap (λ (x : StoreValue). fin.get x.now name) c.self.view_is),
             c.requires.small,
           ),
         ),

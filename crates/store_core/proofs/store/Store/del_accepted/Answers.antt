@@ -58,7 +58,8 @@ returns-in-Some g c =
     let t = c.args.self.now in
     let name = c.args.name.now in
     let layout = c.charge-charged.result.layout in
-    let p = del_plan c.in-Some.field-0 (sym c.place.ensures ∙ c.in-Some.is) c.charge-charged.ensures.charges c.requires.served in
+    let p = del_plan c.in-Some.field-0 (sym c.place.ensures ∙ c.in-Some.is)
+    c.charge-charged.ensures.charges c.requires.served in
     let served = del_served t name c.requires.served in
     let h = c.charge-charged.ensures.sound in
     serves_quietly (charged_quiet c.charge-charged.ensures.charges c.in-Some.field-0

@@ -71,8 +71,9 @@ make_flush-made-requires g c =
             (
               c.self.invariant.classes,
               (
-                flush_can_run c.self.inside c.args.self.now c.self.view_is c.self.invariant _ c.requires.served
-                    (g.D.Disk.state c.args.disk.now) c.requires.over c.start_change-begun.new.hands _ _
+                flush_can_run c.self.inside c.args.self.now c.self.view_is c.self.invariant _
+                    c.requires.served (g.D.Disk.state c.args.disk.now) c.requires.over
+                    c.start_change-begun.new.hands _ _
                     c.args.bytes.now begun
                     (bytes_of_change c.args.name.now c.args.bytes.now c.args.comes c.requires.nothing),
                 c.start_change-begun.ensures.keeps,

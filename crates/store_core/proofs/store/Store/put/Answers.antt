@@ -12,14 +12,16 @@ returns-in-Ok-clause-change g c =
     let is = accepted _ _ _ c.in-Ok.ensures.answer in
     change_served (put_of c.args.name.now c.args.bytes.now) c.args.self.now c.put_accepted.new.self
     (g.D.Disk.state c.args.disk.now) (g.D.Disk.state c.put_accepted.new.disk) c.put_accepted.result is.0
-    (subst (λ (n : List ℕ). ServesChange g.row.C (put_of n c.args.bytes.now) c.args.self.now c.put_accepted.new.self
-    (g.D.Disk.state c.args.disk.now) (g.D.Disk.state c.put_accepted.new.disk) c.put_accepted.result) is.1
+    (subst (λ (n : List ℕ). ServesChange g.row.C (put_of n c.args.bytes.now) c.args.self.now
+    c.put_accepted.new.self (g.D.Disk.state c.args.disk.now) (g.D.Disk.state c.put_accepted.new.disk)
+    c.put_accepted.result) is.1
     c.put_accepted.ensures)
 
 pub returns-in-Ok-clause-step : goal.returns-in-Ok-clause-step
 returns-in-Ok-clause-step g c whole told =
-    (subst (λ (n : List ℕ). ServesChange g.row.C (put_of n c.args.bytes.now) c.args.self.now c.put_accepted.new.self
-    (g.D.Disk.state c.args.disk.now) (g.D.Disk.state c.put_accepted.new.disk) c.put_accepted.result)
+    (subst (λ (n : List ℕ). ServesChange g.row.C (put_of n c.args.bytes.now) c.args.self.now
+    c.put_accepted.new.self (g.D.Disk.state c.args.disk.now) (g.D.Disk.state c.put_accepted.new.disk)
+    c.put_accepted.result)
     (accepted _ _ _ c.in-Ok.ensures.answer).1 c.put_accepted.ensures).step told
 
 pub returns-in-Err-clause-change : goal.returns-in-Err-clause-change

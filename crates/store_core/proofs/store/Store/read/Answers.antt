@@ -37,6 +37,6 @@ returns-in-Ok g c =
     c.put_object.ensures.disk_cause c.put_object.ensures.sink_cause
 
 pub returns-in-Err : goal.returns-in-Err
-returns-in-Err g c = read_refused c.args.self.now (g.D.Disk.state c.args.disk.now) c.args.moment c.args.name.now
-    c.in-Err.refusal c.in-Err.ensures.answer c.in-Err.ensures.sound c.requires.ready
+returns-in-Err g c = read_refused c.args.self.now (g.D.Disk.state c.args.disk.now) c.args.moment
+    c.args.name.now c.in-Err.refusal c.in-Err.ensures.answer c.in-Err.ensures.sound c.requires.ready
     (g.O.Sink.state c.args.sink.now)
