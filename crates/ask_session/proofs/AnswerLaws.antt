@@ -31,7 +31,8 @@ use Rattle.ask_text.specs.Replies.{reply_line_of, rest_of, told_for}
 use Rattle.ask_text.specs.declared.reply.Reply.TheVariants as head
 use Rattle.ask_session.specs.ReplyLines.{Answers, answer_change, answer_of, done_reply_line}
 use Rattle.ask_session.specs.Serving.{IsServingImage, calls_of, is_changing, served_at}
-use Rattle.ask_session.proofs.ServingLaws.{IsSound, kept_is_serving, refusal_at, refused_stays, same_length_loose, serves_same}
+use Rattle.ask_session.specs.Ready.{CanServe}
+use Rattle.ask_session.proofs.ServingLaws.{kept_is_serving, refusal_at, refused_stays, same_length_loose, serves_same}
 
 -- ---- refused
 
@@ -53,7 +54,7 @@ refused_answer ask.worn = refl
 
 -- the head that is answered for a refusal
 pub refused_head : {classes : ℕ} (s : StoreValue) (r : Request) (w : Refused) (a d : disk.State)
-    → IsSound classes s a
+    → CanServe classes s a
     → refusal (limits_of s) (facts_at s r) r ≡ Some w → Unchanged a d
     → Answers classes r s s a d (Ok (head.Refused (told_for w)))
 refused_head s r w a d h is same = record {
@@ -67,7 +68,7 @@ refused_head s r w a d h is same = record {
 
 -- a change that is refused
 refused_change : {classes : ℕ} (s new : StoreValue) (r : Request) (w : Refused) (a d : disk.State)
-    (result : Result Done Refusal) → IsSound classes s a → refusal (limits_of s) (facts_at s r) r ≡ Some w
+    (result : Result Done Refusal) → CanServe classes s a → refusal (limits_of s) (facts_at s r) r ≡ Some w
     → result ≡ Err (refusal_for w) → NothingChanged s new a d
     → Answers classes r s new a d (answer_change result)
 refused_change {classes} s new r w a d result h is answer same =
@@ -221,7 +222,7 @@ flushed_at s file c found quiet = subst (IsFlushed s file c)
     (flushed_change s file c quiet)
 
 module _ {classes : ℕ} (s new : StoreValue) (c : Change) (a d : disk.State) (result : Result Done Refusal)
-    (h : IsSound classes s a) (accepted : refusal (limits_of s) (facts_at s (ask.change c)) (ask.change c)
+    (h : CanServe classes s a) (accepted : refusal (limits_of s) (facts_at s (ask.change c)) (ask.change c)
     ≡ None)
     (answer : (result ≡ Ok (record { kept = not (is_quiet (charges_of s c)) })) ⊎ (result ≡ Err why.Disk))
     (step : IsTrue a.tells → IfSome (reply_of done_reply result) (λ reply. Step (limits_of s)
@@ -289,7 +290,7 @@ module _ {classes : ℕ} (s new : StoreValue) (c : Change) (a d : disk.State) (r
 
 -- a put or a del
 pub change_answers : {classes : ℕ} (s new : StoreValue) (c : Change) (a d : disk.State)
-    (result : Result Done Refusal) → IsSound classes s a → IsChange classes c s new a d result
+    (result : Result Done Refusal) → CanServe classes s a → IsChange classes c s new a d result
     → (s.is_broken ≡ false → IsTrue a.tells → IfSome (reply_of done_reply result) (λ reply. Step (limits_of s)
     (state_of s a.file) (ask.change c) reply (state_of new d.file)))
     → Answers classes (ask.change c) s new a d (answer_change result)
@@ -322,7 +323,7 @@ change_answers {classes} s new c a d result h x step =
 -- ---- keep
 
 keep_made : {classes : ℕ} (s new : StoreValue) (a d : disk.State) (result : Result Done Refusal)
-    → IsSound classes s a → refusal (limits_of s) (facts_at s ask.keep) ask.keep ≡ None
+    → CanServe classes s a → refusal (limits_of s) (facts_at s ask.keep) ask.keep ≡ None
     → (result ≡ Ok (record { kept = true })) ⊎ (result ≡ Err why.Disk)
     → (IsTrue a.tells → IfSome (reply_of done_reply result) (λ reply. Step (limits_of s)
     (state_of s a.file) ask.keep reply (state_of new d.file)))
@@ -367,7 +368,7 @@ keep_made {classes} s new a d result h is answer step over broken k = record {
         (refusal_at s a.file ask.keep h.sound ∙ is)
 
 pub keep_answers : {classes : ℕ} (s new : StoreValue) (a d : disk.State) (result : Result Done Refusal)
-    → IsSound classes s a → AnswersKeep (refused_by s ask.keep) result
+    → CanServe classes s a → AnswersKeep (refused_by s ask.keep) result
     → (IsSome (refused_by s ask.keep) → NothingChanged s new a d)
     → (IsNone (refused_by s ask.keep) → KeepsNow classes s new a d result)
     → (s.is_broken ≡ false → IsTrue a.tells → IfSome (reply_of done_reply result) (λ reply. Step (limits_of s)

@@ -31,13 +31,14 @@ use Rattle.ask_session.specs.ReplyLines.{Answers, answer_of}
 use Rattle.ask_session.specs.Serving.{HasDiskCause, HasSinkCause, IsServingFault, PutsText, Replies, acknowledges, calls_of, is_changing, is_disk, is_disk_fault, reply_at, served_at}
 use Rattle.ask_session.proofs.AnswerLaws.{on_ok, refused_head, refused_is}
 use Rattle.ask_session.proofs.PutLaws.{not_empty_behind, puts_as, puts_cut, puts_then}
-use Rattle.ask_session.proofs.ServingLaws.{IsSound, StaysAt, refusal_at}
+use Rattle.ask_session.specs.Ready.{CanServe}
+use Rattle.ask_session.proofs.ServingLaws.{StaysAt, refusal_at}
 use Rattle.ask_session.proofs.ReplyLaws.{sink_calm, sink_serving, answers_replies, reads_replies, object_size, live_if}
 
 -- ---- replies that are an object
 
 -- the first line and the object of a read that isn't refused
-module _ {classes : ℕ} (r : Request) (s : StoreValue) (a : disk.State) (h : IsSound classes s a)
+module _ {classes : ℕ} (r : Request) (s : StoreValue) (a : disk.State) (h : CanServe classes s a)
     (object : List ℕ)
     (size : ℕ) (asks : is_changing r ≡ false)
     (is : IsTrue a.tells → served_at s a.file r ≡ unchanged (state_of s a.file) (ask.found object))
@@ -102,7 +103,7 @@ module _ {classes : ℕ} (r : Request) (s : StoreValue) (a : disk.State) (h : Is
 -- ---- lists
 
 -- the first line and the lines of a list
-module _ {classes : ℕ} (s : StoreValue) (a : disk.State) (h : IsSound classes s a) (count : ℕ)
+module _ {classes : ℕ} (s : StoreValue) (a : disk.State) (h : CanServe classes s a) (count : ℕ)
     (is : count ≡ fin.len s.now) where
   list_stays : IsTrue a.tells → StaysAt s a.file ask.list
   list_stays told = record {
@@ -219,7 +220,7 @@ answer_is ask.worn = refl
 -- a refusal that is put
 pub refused_replies : {classes : ℕ} (r : Request) (s : StoreValue) (a : disk.State) (out after : SinkState)
     (x : Refusal)
-    (answer : Result text.Reply End) (result : Result Bool End) → IsSound classes s a
+    (answer : Result text.Reply End) (result : Result Bool End) → CanServe classes s a
     → refused_by s r ≡ Some x
     → answer ≡ answer_of x → PutsAnswer out after answer result → Replies classes r s s a a out after result
 refused_replies {classes} r s a out after x answer result h is same puts =
@@ -231,7 +232,7 @@ refused_replies {classes} r s a out after x answer result h is same puts =
     (refused_head s r w.0 a a h w.1 (unchanged_itself a h.ready))) puts
 
 -- the object of a get
-pub get_served : {classes : ℕ} (s : StoreValue) (a : disk.State) (name : List ℕ) → IsSound classes s a
+pub get_served : {classes : ℕ} (s : StoreValue) (a : disk.State) (name : List ℕ) → CanServe classes s a
     → refused_by s (ask.get name) ≡ None → IsTrue a.tells
     → served_at s a.file (ask.get name)
     ≡ unchanged (state_of s a.file) (ask.found (object_in (state_of s a.file).map name))
@@ -239,7 +240,7 @@ get_served s a name h is told = served_by (limits_of s) (state_of s a.file) (ask
     (refusal_at s a.file (ask.get name) h.sound ∙ served_is s (ask.get name) h.whole is)
 
 pub get_long : {classes : ℕ} (s : StoreValue) (a : disk.State) (name : List ℕ) (size : ℕ)
-    → IsSound classes s a
+    → CanServe classes s a
     → AnswersNumber (refused_by s (ask.get name)) (size_at (fin.get s.now name)) (Ok size) → IsTrue a.tells
     → length (object_in (state_of s a.file).map name) ≡ size
 get_long s a name size h answer told =
@@ -248,7 +249,7 @@ get_long s a name size h answer told =
     (live_if (is_name name) (fin.contains_key s.now name) (served_is s (ask.get name) h.whole served.0))
     ∙ sym served.1
 
-old_served : {classes : ℕ} (s : StoreValue) (a : disk.State) (name : List ℕ) → IsSound classes s a
+old_served : {classes : ℕ} (s : StoreValue) (a : disk.State) (name : List ℕ) → CanServe classes s a
     → refused_by s (ask.old name) ≡ None → IsTrue a.tells
     → served_at s a.file (ask.old name)
     ≡ unchanged (state_of s a.file) (ask.found (object_in (state_of s a.file).kept name))
@@ -256,7 +257,7 @@ old_served s a name h is told = served_by (limits_of s) (state_of s a.file) (ask
     (refusal_at s a.file (ask.old name) h.sound ∙ served_is s (ask.old name) h.whole is)
 
 old_long : {classes : ℕ} (s : StoreValue) (a : disk.State) (name : List ℕ) (size : ℕ)
-    → IsSound classes s a
+    → CanServe classes s a
     → AnswersNumber (refused_by s (ask.old name)) (size_at (fin.get s.kept name)) (Ok size) → IsTrue a.tells
     → length (object_in (state_of s a.file).kept name) ≡ size
 old_long s a name size h answer told =
@@ -277,14 +278,14 @@ calls_none limits t moment.Now name = refl
 calls_none limits t moment.Kept name = refl
 
 pub object_served : {classes : ℕ} (s : StoreValue) (a : disk.State) (m : Moment) (name : List ℕ)
-    → IsSound classes s a → refused_by s (asks_for m name) ≡ None → IsTrue a.tells
+    → CanServe classes s a → refused_by s (asks_for m name) ≡ None → IsTrue a.tells
     → served_at s a.file (asks_for m name)
     ≡ unchanged (state_of s a.file) (ask.found (object_read (state_of s a.file) (asks_for m name)))
 object_served s a moment.Now name h is told = get_served s a name h is told
 object_served s a moment.Kept name h is told = old_served s a name h is told
 
 pub object_long : {classes : ℕ} (s : StoreValue) (a : disk.State) (m : Moment) (name : List ℕ) (size : ℕ)
-    → IsSound classes s a
+    → CanServe classes s a
     → AnswersNumber (refused_by s (asks_for m name)) (size_at (spot_read s (asks_for m name))) (Ok size)
     → IsTrue a.tells → length (object_read (state_of s a.file) (asks_for m name)) ≡ size
 object_long s a moment.Now name size h answer told = get_long s a name size h answer told

@@ -1,5 +1,5 @@
 -- Replies to requests, by what was answered and put.
-use Rattle.std.specs.Prelude.{◌≡◌, ◌⊎◌, ℕ, ◌+◌, ◌≤◌, Bool, true, false, not, ◌&&◌, is_some, List, [], ◌∷◌, ◌++◌, codes, length, Option, Some, None, Result, Ok, Err, IfErr, IfOk, IsTrue, OnErr, refl}
+use Rattle.std.specs.Prelude.{◌≡◌, ◌⊎◌, ℕ, ◌+◌, ◌≤◌, Bool, true, false, not, ◌&&◌, is_some, List, [], ◌∷◌, ◌++◌, codes, length, Option, Some, None, Result, Ok, Err, IfErr, IfOk, IsTrue, refl}
 use Rattle.std.proofs.Common.{arith, ap, sym, ◌∙◌, subst, inl, inr, append-nil}
 use Rattle.std.specs.FinMap as fin
 use Rattle.disk_face.specs.Counts.{Rose}
@@ -28,7 +28,8 @@ use Rattle.ask_session.specs.Putting.{PutsAnswer}
 use Rattle.ask_session.specs.ReplyLines.{Answers, fault_of, is_kept}
 use Rattle.ask_session.specs.Serving.{HasDiskCause, HasSinkCause, IsServingFault, PutsText, Replies, Serves, acknowledges, is_changing, is_disk, is_disk_fault, is_sink, is_sink_fault, reply_at}
 use Rattle.ask_session.proofs.PutLaws.{puts_as, puts_none}
-use Rattle.ask_session.proofs.ServingLaws.{IsSound, StaysAt, serves_same}
+use Rattle.ask_session.specs.Ready.{CanServe}
+use Rattle.ask_session.proofs.ServingLaws.{StaysAt, serves_same}
 
 -- what is served depends on the disk's fault alone
 pub serves_as : {T U : Type 0} {classes : ℕ} (r : Request) (s new : StoreValue) (a d : disk.State)
@@ -141,7 +142,7 @@ answers_replies {classes} r s new a d out after (Err end) result h p =
 -- ---- reads
 
 pub reads_replies : {classes : ℕ} (r : Request) (s : StoreValue) (a d : disk.State) (out after : SinkState)
-    (result : Result Bool End) → IsSound classes s a → is_changing r ≡ false → Unchanged a d
+    (result : Result Bool End) → CanServe classes s a → is_changing r ≡ false → Unchanged a d
     → (IsTrue a.tells → StaysAt s a.file r) → (IsTrue a.tells → acknowledges (reply_at s a.file r) ≡ false)
     → IfOk result (λ kept. kept ≡ false)
     → (IsTrue a.tells → IsTrue out.tells

@@ -1,7 +1,6 @@
 -- What serving a request does, by what the calls of the store do.
-use Rattle.std.specs.Prelude.{◌≡◌, ℕ, ◌+◌, ◌-◌, ◌≤◌, false, ◌&&◌, List, length, Some, Result, IsTrue, refl}
+use Rattle.std.specs.Prelude.{◌≡◌, ℕ, ◌+◌, ◌-◌, false, ◌&&◌, List, length, Some, Result, IsTrue, refl}
 use Rattle.std.proofs.Common.{arith, ap, sym, ◌∙◌, subst, inl}
-use Rattle.disk_face.specs.Counts.{last}
 use Rattle.disk_face.specs.States as disk
 use Rattle.disk_face.specs.Frames.{Unchanged}
 use Rattle.disk_face.proofs.MomentLaws.{Leaves-weaken}
@@ -19,15 +18,8 @@ use Rattle.store_core.proofs.StepLaws.{facts_same, served_by}
 use Rattle.store_core.proofs.OverLaws.{kept_image}
 use Rattle.store_core.proofs.OpenedLaws.{tight_now}
 use Rattle.ask_session.specs.declared.ends.End.{End}
+use Rattle.ask_session.specs.Ready.{CanServe}
 use Rattle.ask_session.specs.Serving.{IsServingImage, Serves, calls_of, is_changing, is_disk_fault, reply_at, served_at}
-
--- A store that isn't broken, over a disk that is ready.
-pub record IsSound (classes : ℕ) (s : StoreValue) (a : disk.State) : Type 0 where
-  pub whole : s.is_broken ≡ false
-  pub sound : IsStore classes s
-  pub over : IsTrue a.tells → IsOver classes s a.file
-  pub ready : IsTrue a.is_ready
-  pub fits : a.turn ≤ last
 
 -- ---- images
 
@@ -70,7 +62,7 @@ same_step s file r stays = record {
 
 pub serves_same : {T : Type 0} {classes : ℕ} (s : StoreValue) (r : Request) (a d : disk.State)
     (result : Result T End)
-    → IsSound classes s a → Unchanged a d → (IsTrue a.tells → StaysAt s a.file r)
+    → CanServe classes s a → Unchanged a d → (IsTrue a.tells → StaysAt s a.file r)
     → (is_changing r && is_disk_fault result) ≡ false → Serves classes r s s a d result
 serves_same {T} {classes} s r a d result h same stays calm = record {
   step = λ told calm. subst (λ (x : List ℕ). Step (limits_of s) (state_of s a.file) r (reply_at s a.file r)

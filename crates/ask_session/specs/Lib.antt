@@ -1,5 +1,6 @@
 pub mod Inputs
 pub mod Serving
+pub mod Ready
 pub mod ReplyLines
 pub mod Putting
 pub mod Sittings

@@ -1,11 +1,10 @@
 //! Requests whose reply is one line.
-ghost use Rattle.std.specs.Prelude.{◌≡◌, ◌<◌, ◌≤◌, ℕ, List, false, length, Some, IsTrue};
+ghost use Rattle.std.specs.Prelude.{◌≡◌, ◌<◌, ℕ, List, length};
 ghost use Rattle.size_class.specs.declared.TheConstants.{SIZE_MAX};
 ghost use Rattle.slot_codec.specs.Names.{is_name};
 ghost use Rattle.map_model.specs.Requests as ask;
-ghost use Rattle.store_core.specs.Connection.{IsConnected};
-ghost use Rattle.store_core.specs.Stores.{IsStore};
 ghost use Rattle.store_core.specs.Quiet.{del_of, put_of};
+ghost use Rattle.ask_session.specs.Ready.{CanServe};
 ghost use Rattle.ask_session.specs.ReplyLines.{Answers, answer_change};
 
 use crate::End;
@@ -22,10 +21,7 @@ pub(crate) fn serve_put<const C: usize, D: Disk>(
     name: &[u8],
     object: &[u8],
 ) -> Result<Reply, End>
-    requires ready { IsTrue (D.state disk.old).is_ready }
-    requires over { IsConnected C store.old (D.state disk.old) }
-    requires whole { store.old.is_broken ≡ false }
-    requires sound { IsStore C store.old }
+    requires can { CanServe C store.old (D.state disk.old) }
     ensures { Answers C (ask.change (put_of name.now object.now)) store.old store.new (D.state disk.old)
         (D.state disk.new) result }
 {
@@ -39,10 +35,7 @@ pub(crate) fn serve_long<const C: usize, D: Disk>(
     name: &[u8],
     size: u64,
 ) -> Result<Reply, End>
-    requires ready { IsTrue (D.state disk.old).is_ready }
-    requires over { IsConnected C store.old (D.state disk.old) }
-    requires whole { store.old.is_broken ≡ false }
-    requires sound { IsStore C store.old }
+    requires can { CanServe C store.old (D.state disk.old) }
     requires long { SIZE_MAX < size }
     ensures { (object : List ℕ) → length object ≡ size
         → Answers C (ask.change (put_of name.now object)) store.old
@@ -68,10 +61,7 @@ pub(crate) fn serve_del<const C: usize, D: Disk>(
     disk: &mut D,
     name: &[u8],
 ) -> Result<Reply, End>
-    requires ready { IsTrue (D.state disk.old).is_ready }
-    requires over { IsConnected C store.old (D.state disk.old) }
-    requires whole { store.old.is_broken ≡ false }
-    requires sound { IsStore C store.old }
+    requires can { CanServe C store.old (D.state disk.old) }
     ensures { Answers C (ask.change (del_of name.now)) store.old store.new (D.state disk.old)
         (D.state disk.new)
         result }
@@ -84,10 +74,7 @@ pub(crate) fn serve_keep<const C: usize, D: Disk>(
     store: &mut Store<C>,
     disk: &mut D,
 ) -> Result<Reply, End>
-    requires ready { IsTrue (D.state disk.old).is_ready }
-    requires over { IsConnected C store.old (D.state disk.old) }
-    requires whole { store.old.is_broken ≡ false }
-    requires sound { IsStore C store.old }
+    requires can { CanServe C store.old (D.state disk.old) }
     ensures { Answers C ask.keep store.old store.new (D.state disk.old) (D.state disk.new) result }
 {
     answer_change(store.keep(disk))
@@ -98,10 +85,7 @@ pub(crate) fn serve_back<const C: usize, D: Disk>(
     store: &mut Store<C>,
     disk: &mut D,
 ) -> Result<Reply, End>
-    requires ready { IsTrue (D.state disk.old).is_ready }
-    requires over { IsConnected C store.old (D.state disk.old) }
-    requires whole { store.old.is_broken ≡ false }
-    requires sound { IsStore C store.old }
+    requires can { CanServe C store.old (D.state disk.old) }
     ensures { Answers C ask.back store.old store.new (D.state disk.old) (D.state disk.new) result }
 {
     match store.back() {
@@ -115,10 +99,7 @@ pub(crate) fn serve_stat<const C: usize, D: Disk>(
     store: &mut Store<C>,
     disk: &mut D,
 ) -> Result<Reply, End>
-    requires ready { IsTrue (D.state disk.old).is_ready }
-    requires over { IsConnected C store.old (D.state disk.old) }
-    requires whole { store.old.is_broken ≡ false }
-    requires sound { IsStore C store.old }
+    requires can { CanServe C store.old (D.state disk.old) }
     ensures { Answers C ask.stat store.old store.new (D.state disk.old) (D.state disk.new) result }
 {
     match store.stat() {

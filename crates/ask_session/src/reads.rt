@@ -3,10 +3,10 @@ ghost use Rattle.std.specs.Prelude.{◌≡◌, ◌++◌, false, codes, IfErr, If
 ghost use Rattle.disk_face.specs.Frames.{Unchanged};
 ghost use Rattle.map_model.specs.Requests as ask;
 ghost use Rattle.store_core.specs.Answers.{refused_by};
-ghost use Rattle.store_core.specs.Connection.{IsConnected, state_of};
+ghost use Rattle.store_core.specs.Connection.{state_of};
 ghost use Rattle.store_core.specs.Lines.{lines_of, listing_of};
 ghost use Rattle.store_core.specs.Readings.{asks_for, object_read};
-ghost use Rattle.store_core.specs.Stores.{IsStore};
+ghost use Rattle.ask_session.specs.Ready.{CanServe};
 ghost use Rattle.ask_session.specs.Serving.{HasDiskCause, HasSinkCause, IsServingFault, PutsText, Replies};
 
 use crate::End;
@@ -23,10 +23,7 @@ pub(crate) fn serve_object<const C: usize, D: Disk, O: Sink>(
     name: &[u8],
     output: &mut O,
 ) -> Result<bool, End>
-    requires ready { IsTrue (D.state disk.old).is_ready }
-    requires over { IsConnected C store.old (D.state disk.old) }
-    requires whole { store.old.is_broken ≡ false }
-    requires sound { IsStore C store.old }
+    requires can { CanServe C store.old (D.state disk.old) }
     ensures { Replies C (asks_for moment name.now) store.old store.new (D.state disk.old) (D.state disk.new)
         (O.state output.old) (O.state output.new) result }
 {
@@ -45,10 +42,7 @@ pub(crate) fn serve_list<const C: usize, D: Disk, O: Sink>(
     disk: &mut D,
     output: &mut O,
 ) -> Result<bool, End>
-    requires ready { IsTrue (D.state disk.old).is_ready }
-    requires over { IsConnected C store.old (D.state disk.old) }
-    requires whole { store.old.is_broken ≡ false }
-    requires sound { IsStore C store.old }
+    requires can { CanServe C store.old (D.state disk.old) }
     ensures { Replies C ask.list store.old store.new (D.state disk.old) (D.state disk.new)
         (O.state output.old) (O.state output.new) result }
 {
@@ -84,8 +78,7 @@ fn give<const C: usize, D: Disk, O: Sink>(
     name: &[u8],
     output: &mut O,
 ) -> Result<bool, End>
-    requires ready { IsTrue (D.state disk.old).is_ready }
-    requires over { IsConnected C store.old (D.state disk.old) }
+    requires can { CanServe C store.old (D.state disk.old) }
     requires served { refused_by store.old (asks_for moment name.now) ≡ None }
     ensures puts { IsTrue (D.state disk.old).tells → IsTrue (O.state output.old).tells → PutsText
         (object_read (state_of store.old (D.state disk.old).file) (asks_for moment name.now) ++ codes "\n")

@@ -5,10 +5,10 @@ ghost use Rattle.map_model.specs.Requests as ask;
 ghost use Rattle.map_model.specs.Requests.{Request};
 ghost use Rattle.store_core.specs.Connection.{IsConnected};
 ghost use Rattle.store_core.specs.Quiet.{put_of};
-ghost use Rattle.store_core.specs.Stores.{IsStore};
 ghost use Rattle.ask_text.specs.Asks.{ask_of};
 ghost use Rattle.ask_session.specs.ReplyLines.{Answers};
 ghost use Rattle.ask_session.specs.Inputs.{HasBody, HoldsSize};
+ghost use Rattle.ask_session.specs.Ready.{CanServe};
 ghost use Rattle.ask_session.specs.Serving.{Replies};
 
 use crate::End;
@@ -36,7 +36,7 @@ pub(crate) fn serve<const C: usize, D: Disk, O: Sink>(
     ensures { (r : Request) → ask_of r ≡ ask.now → HasBody body.now r → Replies C r store.old store.new
         (D.state disk.old) (D.state disk.new) (O.state output.old) (O.state output.new) result }
 {
-    is_sound(store);
+    can_serve(store, disk);
     match ask {
         Ask::Put { name, size } => {
             put_answer(
@@ -62,10 +62,7 @@ fn serve_sized<const C: usize, D: Disk>(
     size: u64,
     body: &[u8],
 ) -> Result<Reply, End>
-    requires ready { IsTrue (D.state disk.old).is_ready }
-    requires over { IsConnected C store.old (D.state disk.old) }
-    requires whole { store.old.is_broken ≡ false }
-    requires sound { IsStore C store.old }
+    requires can { CanServe C store.old (D.state disk.old) }
     requires room { size ≤ SIZE_MAX → size ≤ length body.now }
     ensures { (object : List ℕ) → length object ≡ size → (size ≤ SIZE_MAX → take size body.now ≡ object)
         → Answers C (ask.change (put_of name.now object)) store.old store.new (D.state disk.old)
@@ -77,10 +74,12 @@ fn serve_sized<const C: usize, D: Disk>(
     serve_put(store, disk, name, &body[..size as usize])
 }
 
-/// What holds of a store that isn't broken.
-fn is_sound<const C: usize>(store: &Store<C>)
+/// What holds of a store that isn't broken, over a disk that is ready.
+fn can_serve<const C: usize, D: Disk>(store: &Store<C>, disk: &D)
+    requires ready { IsTrue (D.state disk.now).is_ready }
+    requires over { IsConnected C store.now (D.state disk.now) }
     requires whole { store.now.is_broken ≡ false }
-    ensures { IsStore C store.now }
+    ensures { CanServe C store.now (D.state disk.now) }
 {
     let _ = store.is_broken();
 }

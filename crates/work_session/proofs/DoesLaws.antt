@@ -39,7 +39,8 @@ use Rattle.ask_session.specs.ReplyLines.{Answers, answer_change, answer_of}
 use Rattle.ask_session.specs.Serving.{Serves, reply_at}
 use Rattle.ask_session.proofs.AnswerLaws.{change_answers, keep_answers, refused_head}
 use Rattle.ask_session.proofs.ReadReplyLaws.{get_long, get_served, number_served, refused_with}
-use Rattle.ask_session.proofs.ServingLaws.{IsSound, refused_stays, serves_same}
+use Rattle.ask_session.specs.Ready.{CanServe}
+use Rattle.ask_session.proofs.ServingLaws.{refused_stays, serves_same}
 use Rattle.work_session.specs.Counts.{asked_by, calls_by}
 use Rattle.work_session.specs.Jobs.{Charges, Does, most_read}
 use Rattle.work_session.proofs.DoneLaws.{IsShortChange, change_charges, nothing_charged, refused_asks, small_change, sound_if}
@@ -48,7 +49,7 @@ use Rattle.work_session.proofs.DoneLaws.{IsShortChange, change_charges, nothing_
 
 -- a request that is refused charges nothing
 refused_charges : {classes : ℕ} (r : Request) (s new : StoreValue) (a d : disk.State) (x : Refusal)
-    → IsSound classes s a → refused_by s r ≡ Some x → NothingChanged s new a d
+    → CanServe classes s a → refused_by s r ≡ Some x → NothingChanged s new a d
     → ((t : State) (w : Refused) → calls_by (state_of s a.file) t r (ask.refused w) ≡ 0)
     → Charges classes r s new a d
 refused_charges {classes} r s new a d x h is same none =
@@ -63,7 +64,7 @@ refused_charges {classes} r s new a d x h is same none =
 
 change_result : {classes : ℕ} (s new : StoreValue) (c : Change) (a d : disk.State)
     (result : Result Done Refusal)
-    → IsSound classes s a → IsShortChange c → IsChange classes c s new a d result
+    → CanServe classes s a → IsShortChange c → IsChange classes c s new a d result
     → (IsTrue a.tells → IfSome (reply_of done_reply result) (λ reply. Step (limits_of s) (state_of s a.file)
     (ask.change c) reply (state_of new d.file)))
     → OnOk (answer_change result) (IsStore classes new) → length s.asked ≡ width
@@ -86,7 +87,7 @@ change_result {classes} s new c a d (Err w) h short x step sound full =
 
 pub change_does : {classes : ℕ} (s new : StoreValue) (c : Change) (a d : disk.State)
     (result : Result Done Refusal)
-    → IsSound classes s a → IsShortChange c → IsChange classes c s new a d result
+    → CanServe classes s a → IsShortChange c → IsChange classes c s new a d result
     → (s.is_broken ≡ false → IsTrue a.tells → IfSome (reply_of done_reply result) (λ reply. Step (limits_of s)
     (state_of s a.file) (ask.change c) reply (state_of new d.file)))
     → (new.is_broken ≡ false → IsStore classes new)
@@ -112,7 +113,7 @@ change_does {classes} s new c a d result h short x step sound = record {
 at_ok : {P : Type 0} (r : Result Done Refusal) (done : Done) → r ≡ Ok done → OnOk r P → P
 at_ok {P} r done is p = subst (λ (y : Result Done Refusal). OnOk y P) is p
 
-module _ {classes : ℕ} (s new : StoreValue) (a d : disk.State) (h : IsSound classes s a) where
+module _ {classes : ℕ} (s new : StoreValue) (a d : disk.State) (h : CanServe classes s a) where
   keep_result : (result : Result Done Refusal) → IsKeep classes s new a d result
       → (IsTrue a.tells → IfSome (reply_of done_reply result) (λ reply. Step (limits_of s)
       (state_of s a.file) ask.keep reply (state_of new d.file)))
@@ -196,7 +197,7 @@ there_short : (o : Option Spot) → IfSome o (λ x. x.size ≤ SIZE_MAX) → siz
 there_short None small = omega arith
 there_short (Some x) small = small
 
-module _ {classes : ℕ} (s : StoreValue) (a d : disk.State) (name : List ℕ) (h : IsSound classes s a)
+module _ {classes : ℕ} (s : StoreValue) (a d : disk.State) (name : List ℕ) (h : CanServe classes s a)
     (same : Unchanged a d) where
   abbrev r : Request
   r = ask.get name

@@ -46,7 +46,7 @@ use Rattle.ask_session.specs.declared.ends.End.{End}
 use Rattle.ask_session.specs.ReplyLines.{answer_change, answer_of, done_reply_line}
 use Rattle.ask_session.specs.Serving.{is_changing, is_disk_fault, reply_at}
 use Rattle.ask_session.proofs.GrowingLaws.{and_none}
-use Rattle.ask_session.proofs.ServingLaws.{IsSound}
+use Rattle.ask_session.specs.Ready.{CanServe}
 use Rattle.work_session.specs.Counts.{asked_by, calls_by}
 use Rattle.work_session.specs.Jobs.{Charges, most_read, most_rise, read_head}
 use Rattle.work_session.proofs.RowLaws.{all_added_few, class_few}
@@ -181,7 +181,7 @@ old_short s h name = by (fin.get s.now name) (small_if_there s h name (fin.get s
     by (Some x) small = omega (arith, small, sum_some x.size)
 
 module _ {classes : ℕ} (s new : StoreValue) (c : Change) (a d : disk.State) (done : Done)
-    (h : IsSound classes s a)
+    (h : CanServe classes s a)
     (full : length s.asked ≡ width) (short : IsShortChange c) (x : IsChange classes c s new a d (Ok done))
     (step : IsTrue a.tells → Step (limits_of s) (state_of s a.file) (ask.change c) (done_reply done)
     (state_of new d.file)) (sound : IsStore classes new) where

@@ -14,11 +14,5 @@ returns g c = subst (λ (x : Result Reply End). Answers g.row.C (ask.change (del
     (sym c.answer_change.ensures)
     (change_answers c.args.store.now c.del.new.self (del_of c.args.name.now)
     (g.D.Disk.state c.args.disk.now) (g.D.Disk.state c.del.new.disk) c.del.result
-    (record {
-      whole = c.requires.whole;
-      sound = c.requires.sound;
-      over = c.requires.over c.requires.whole;
-      ready = c.requires.ready;
-      fits = (g.met.D.Disk.lawful c.args.disk.now).turn_fits;
-    })
+    c.requires.can
     c.del.ensures.change c.del.ensures.step)

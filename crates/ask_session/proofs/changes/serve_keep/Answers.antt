@@ -13,12 +13,6 @@ returns g c = subst (λ (x : Result Reply End). Answers g.row.C ask.keep
     (sym c.answer_change.ensures)
     (keep_answers c.args.store.now c.keep.new.self
     (g.D.Disk.state c.args.disk.now) (g.D.Disk.state c.keep.new.disk) c.keep.result
-    (record {
-      whole = c.requires.whole;
-      sound = c.requires.sound;
-      over = c.requires.over c.requires.whole;
-      ready = c.requires.ready;
-      fits = (g.met.D.Disk.lawful c.args.disk.now).turn_fits;
-    })
+    c.requires.can
     c.keep.ensures.answer c.keep.ensures.refused c.keep.ensures.kept
     c.keep.ensures.step c.keep.ensures.over c.keep.ensures.broken)

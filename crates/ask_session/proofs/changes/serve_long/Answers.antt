@@ -11,27 +11,15 @@ returns-else-is_name g c object long =
     let named : is_name c.args.name.now ≡ false = grind arith in
     refused_head c.args.store.now (ask.change (put_of c.args.name.now object)) ask.bad_name
     (g.D.Disk.state c.args.disk.now) (g.D.Disk.state c.args.disk.now)
-    (record {
-      whole = c.requires.whole;
-      sound = c.requires.sound;
-      over = c.requires.over c.requires.whole;
-      ready = c.requires.ready;
-      fits = (g.met.D.Disk.lawful c.args.disk.now).turn_fits;
-    })
+    c.requires.can
     (name_is_refused c.args.store.now c.args.name.now object named)
-    (unchanged_itself (g.D.Disk.state c.args.disk.now) c.requires.ready)
+    (unchanged_itself (g.D.Disk.state c.args.disk.now) c.requires.can.ready)
 
 pub returns-then-is_name : goal.returns-then-is_name
 returns-then-is_name g c object long =
     let named : is_name c.args.name.now ≡ true = grind arith in
     refused_head c.args.store.now (ask.change (put_of c.args.name.now object)) ask.too_long
     (g.D.Disk.state c.args.disk.now) (g.D.Disk.state c.args.disk.now)
-    (record {
-      whole = c.requires.whole;
-      sound = c.requires.sound;
-      over = c.requires.over c.requires.whole;
-      ready = c.requires.ready;
-      fits = (g.met.D.Disk.lawful c.args.disk.now).turn_fits;
-    })
+    c.requires.can
     (long_is_refused c.args.store.now c.args.name.now object named (omega (arith, long)))
-    (unchanged_itself (g.D.Disk.state c.args.disk.now) c.requires.ready)
+    (unchanged_itself (g.D.Disk.state c.args.disk.now) c.requires.can.ready)

@@ -15,11 +15,5 @@ returns g c = subst (λ (x : Result Reply End). Answers g.row.C (ask.change
     (sym c.answer_change.ensures)
     (change_answers c.args.store.now c.put.new.self (put_of c.args.name.now c.args.object.now)
     (g.D.Disk.state c.args.disk.now) (g.D.Disk.state c.put.new.disk) c.put.result
-    (record {
-      whole = c.requires.whole;
-      sound = c.requires.sound;
-      over = c.requires.over c.requires.whole;
-      ready = c.requires.ready;
-      fits = (g.met.D.Disk.lawful c.args.disk.now).turn_fits;
-    })
+    c.requires.can
     c.put.ensures.change c.put.ensures.step)

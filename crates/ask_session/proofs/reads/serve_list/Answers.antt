@@ -4,13 +4,7 @@ use Rattle.ask_session.proofs.reads.serve_list.Goals as goal
 pub returns-in-Ok-say : goal.returns-in-Ok-say
 returns-in-Ok-say g c =
     listed_replies c.args.store.now (g.D.Disk.state c.args.disk.now)
-    (record {
-      whole = c.requires.whole;
-      sound = c.requires.sound;
-      over = c.requires.over c.requires.whole;
-      ready = c.requires.ready;
-      fits = (g.met.D.Disk.lawful c.args.disk.now).turn_fits;
-    })
+    c.requires.can
     c.in-Ok.stat.names c.in-Ok.ensures.names (g.O.Sink.state c.args.output.now)
     (g.O.Sink.state c.say.new.output)
     (g.O.Sink.state c.put_list.new.output) c.say.result c.put_list.result c.in-Ok-say.is
@@ -21,13 +15,7 @@ returns-in-Ok-say g c =
 pub returns-in-Err-say : goal.returns-in-Err-say
 returns-in-Err-say g c =
     cut_list c.args.store.now (g.D.Disk.state c.args.disk.now)
-    (record {
-      whole = c.requires.whole;
-      sound = c.requires.sound;
-      over = c.requires.over c.requires.whole;
-      ready = c.requires.ready;
-      fits = (g.met.D.Disk.lawful c.args.disk.now).turn_fits;
-    })
+    c.requires.can
     c.in-Ok.stat.names c.in-Ok.ensures.names (g.O.Sink.state c.args.output.now)
     (g.O.Sink.state c.say.new.output)
     c.in-Err-say.end c.in-Err-say.ensures.only c.in-Err-say.ensures.put c.in-Err-say.ensures.cause

@@ -1,10 +1,9 @@
-use Rattle.std.proofs.Common.{sym, subst, refl}
+use Rattle.std.proofs.Common.{sym, subst}
 use Rattle.store_core.specs.Answers.{refused_by, size_at}
 use Rattle.store_core.specs.Connection.{StoreValue, limits_of, state_of}
 use Rattle.store_core.specs.Readings.{asks_for, object_read, spot_read}
 use Rattle.ask_session.specs.Serving.{Replies}
 use Rattle.ask_session.proofs.ReadReplyLaws.{asks_only, calls_none, cut_replies, found_replies, number_refused, number_served, object_long, object_served, refused_replies}
-use Rattle.ask_session.proofs.ServingLaws.{IsSound}
 use Rattle.ask_session.proofs.reads.serve_object.Goals as goal
 
 pub returns-in-Ok-say : goal.returns-in-Ok-say
@@ -13,13 +12,7 @@ returns-in-Ok-say g c =
     let m = c.args.moment in
     let name = c.args.name.now in
     let a = g.D.Disk.state c.args.disk.now in
-    let h : IsSound g.row.C s a = record {
-      whole = c.requires.whole;
-      sound = c.requires.sound;
-      over = c.requires.over c.requires.whole;
-      ready = c.requires.ready;
-      fits = (g.met.D.Disk.lawful c.args.disk.now).turn_fits;
-    } in
+    let h = c.requires.can in
     let served = (number_served (refused_by s (asks_for m name)) (size_at (spot_read s (asks_for m name)))
     c.in-Ok.size c.in-Ok.ensures).0 in
     subst (λ (x : StoreValue). Replies g.row.C (asks_for m name) s x a (g.D.Disk.state c.give.new.disk)
@@ -40,13 +33,7 @@ returns-in-Err-say g c =
     let m = c.args.moment in
     let name = c.args.name.now in
     let a = g.D.Disk.state c.args.disk.now in
-    let h : IsSound g.row.C s a = record {
-      whole = c.requires.whole;
-      sound = c.requires.sound;
-      over = c.requires.over c.requires.whole;
-      ready = c.requires.ready;
-      fits = (g.met.D.Disk.lawful c.args.disk.now).turn_fits;
-    } in
+    let h = c.requires.can in
     let served = (number_served (refused_by s (asks_for m name)) (size_at (spot_read s (asks_for m name)))
     c.in-Ok.size c.in-Ok.ensures).0 in
     cut_replies (asks_for m name) s a h (object_read (state_of s a.file) (asks_for m name)) c.in-Ok.size
@@ -66,13 +53,7 @@ returns-in-Err g c =
     refused_replies (asks_for m name) s a (g.O.Sink.state c.args.output.now)
     (g.O.Sink.state c.put_answer.new.output)
     c.in-Err.why c.answer_of.result c.put_answer.result
-    (record {
-      whole = c.requires.whole;
-      sound = c.requires.sound;
-      over = c.requires.over c.requires.whole;
-      ready = c.requires.ready;
-      fits = (g.met.D.Disk.lawful c.args.disk.now).turn_fits;
-    })
+    c.requires.can
     (number_refused (refused_by s (asks_for m name)) (size_at (spot_read s (asks_for m name))) c.in-Err.why
     c.in-Err.ensures)
     c.answer_of.ensures

@@ -1,0 +1,11 @@
+use Rattle.std.proofs.Common.{◌∙◌}
+use Rattle.ask_session.proofs.serve.can_serve.Goals as goal
+
+pub returns : goal.returns
+returns g c = record {
+  whole = c.requires.whole;
+  sound = c.is_broken.ensures.sound (c.is_broken.ensures.same ∙ c.requires.whole);
+  over = c.requires.over c.requires.whole;
+  ready = c.requires.ready;
+  fits = (g.met.D.Disk.lawful c.args.disk.now).turn_fits;
+}
