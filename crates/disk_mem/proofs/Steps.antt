@@ -10,20 +10,21 @@ use Rattle.disk_mem.specs.Histories.{EndedBy}
 use Rattle.disk_mem.proofs.HistoryLaws.{EndedBy_later}
 
 -- a call that found no memory left the record as it was
-pub holds_undone : (file base : List ℕ) (calls now : List Stamped) (turn next : ℕ) → next ≡ counted turn 1
+pub holds_undone : (base : List ℕ) {file : List ℕ} {calls now : List Stamped} {turn next : ℕ}
+    → next ≡ counted turn 1
     → turn ≤ last → now ≡ calls → file ≡ content_after base calls → EndedBy turn calls
     → (file ≡ content_after base now) × EndedBy next now
-holds_undone file base calls now turn next is fits same holds ended = (
+holds_undone base {file} {calls} {now} {turn} {next} is fits same holds ended = (
   holds ∙ ap (content_after base) (sym same),
   subst (EndedBy next) (sym same) (EndedBy_later turn next calls (omega (arith, is, fits)) ended),
 )
 
 -- a call that was done stands in the record, and the bytes are those after it
-pub holds_done : (file new base : List ℕ) (calls now : List Stamped) (change : RecordedCall) (turn next : ℕ)
-    → next ≡ counted turn 1 → turn ≤ last → now ≡ record { began = turn; change = change } ∷ calls
-    → new ≡ changed change file
+pub holds_done : (base : List ℕ) (change : RecordedCall) {file new : List ℕ} {calls now : List Stamped}
+    {turn next : ℕ} → next ≡ counted turn 1 → turn ≤ last
+    → now ≡ record { began = turn; change = change } ∷ calls → new ≡ changed change file
     → file ≡ content_after base calls → EndedBy turn calls → (new ≡ content_after base now) × EndedBy next now
-holds_done file new base calls now change turn next is fits more does holds ended = (
+holds_done base change {file} {new} {calls} {now} {turn} {next} is fits more does holds ended = (
   does ∙ ap (changed change) holds ∙ ap (content_after base) (sym more),
   subst (EndedBy next) (sym more) (
     omega (arith, is),

@@ -1,79 +1,34 @@
-use Rattle.std.proofs.Common.{refl, ◌≡◌, ◌≤◌, ap, sym, subst, arith, rules}
-use Rattle.disk_face.specs.Counts.{last}
-use Rattle.disk_face.specs.Moments.{NoMore, Only, Elapses}
-use Rattle.disk_mem.specs.Entries.{newest_first}
+use Rattle.std.proofs.Common.{refl, arith, rules}
 use Rattle.disk_mem.specs.Changes.RecordedCall.{Synced}
-use Rattle.disk_mem.specs.Histories.{History, EndedBy, file_of, MayLeave, done, undone, history_state}
-use Rattle.disk_mem.proofs.HistoryLaws.{Elapses_done, Elapses_undone, NoMore_sync, Only_sync}
+use Rattle.disk_mem.specs.Histories.{MayLeave}
+use Rattle.disk_mem.proofs.CallLaws.{elapsed_done, elapsed_undone, failed, held, no_more_synced, only_synced}
 use Rattle.disk_mem.proofs.Steps.{holds_done, holds_undone}
 use Rattle.disk_mem.proofs.disk.MemDiskDisk.sync.Goals as goal
 
 pub invariant_of-self : goal.invariant_of-self
-invariant_of-self c =
-    holds_undone c.self.inside.bytes.items c.self.inside.base.items (newest_first c.self.inside.calls.items)
-    (newest_first c.keep.new.entries.items) c.self.inside.turn c.saturating_add-self-inside.result
-    c.saturating_add-self-inside.ensures (omega arith) (search rules) c.self.invariant.0 c.self.invariant.1
+invariant_of-self c = holds_undone c.self.inside.base.items c.saturating_add-self-inside.ensures (omega arith)
+    (search rules) c.self.invariant.0 c.self.invariant.1
 
 pub returns-then-is_err-clause-time : goal.returns-then-is_err-clause-time
-returns-then-is_err-clause-time c =
-    let h = c.args.self.now in
-    let ended : EndedBy h.turn h.calls =
-    subst (λ (x : History). EndedBy x.turn x.calls) c.self.view_is c.self.invariant.1 in
-    let fits : h.turn ≤ last = omega (arith, ap (λ (x : History). x.turn) c.self.view_is) in
-    let new : History = record {
-      base = c.self.inside.base.items;
-      calls = newest_first c.keep.new.entries.items;
-      turn = c.saturating_add-self-inside.result;
-      faults = c.saturating_add-self-inside-then-is_err.result;
-    } in
-    let e : new ≡ undone h = search rules in
-    subst (λ (x : History). Elapses (history_state h) (history_state x) (MayLeave h)) (sym e)
-    (Elapses_undone h fits ended (MayLeave h))
+returns-then-is_err-clause-time c = elapsed_undone (failed c.self.inside c.keep.new.entries.items
+    c.saturating_add-self-inside.result c.saturating_add-self-inside-then-is_err.result) c.self.view_is
+    (omega arith) c.self.invariant.1 (λ _. MayLeave c.args.self.now) (search rules)
 
 pub invariant_of-self-else-is_err : goal.invariant_of-self-else-is_err
-invariant_of-self-else-is_err c =
-    holds_done c.self.inside.bytes.items c.self.inside.bytes.items c.self.inside.base.items
-    (newest_first c.self.inside.calls.items) (newest_first c.keep.new.entries.items) Synced
-    c.self.inside.turn c.saturating_add-self-inside.result
-    c.saturating_add-self-inside.ensures (omega arith) (search rules) (refl) c.self.invariant.0
+invariant_of-self-else-is_err c = holds_done c.self.inside.base.items Synced
+    c.saturating_add-self-inside.ensures (omega arith) (search rules) refl c.self.invariant.0
     c.self.invariant.1
 
 pub returns-clause-images : goal.returns-clause-images
-returns-clause-images c =
-    let h = c.args.self.now in
-    let new : History = record {
-      base = c.self.inside.base.items;
-      calls = newest_first c.keep.new.entries.items;
-      turn = c.saturating_add-self-inside.result;
-      faults = c.self.inside.faults;
-    } in
-    let e : new ≡ done Synced h = search rules in
-    subst (λ (x : History). NoMore (MayLeave h) (MayLeave x)) (sym e) (NoMore_sync h)
+returns-clause-images c = no_more_synced c.args.self.now
+    (held c.self.inside c.keep.new.entries.items c.saturating_add-self-inside.result) (search rules)
 
 pub returns-clause-rests : goal.returns-clause-rests
-returns-clause-rests c =
-    let h = c.args.self.now in
-    let new : History = record {
-      base = c.self.inside.base.items;
-      calls = newest_first c.keep.new.entries.items;
-      turn = c.saturating_add-self-inside.result;
-      faults = c.self.inside.faults;
-    } in
-    let e : new ≡ done Synced h = search rules in
-    subst (λ (x : History). Only (file_of h) (MayLeave x)) (sym e) (Only_sync h)
+returns-clause-rests c = only_synced c.args.self.now
+    (held c.self.inside c.keep.new.entries.items c.saturating_add-self-inside.result) (search rules)
 
 pub returns-clause-time : goal.returns-clause-time
 returns-clause-time c =
-    let h = c.args.self.now in
-    let ended : EndedBy h.turn h.calls =
-    subst (λ (x : History). EndedBy x.turn x.calls) c.self.view_is c.self.invariant.1 in
-    let fits : h.turn ≤ last = omega (arith, ap (λ (x : History). x.turn) c.self.view_is) in
-    let new : History = record {
-      base = c.self.inside.base.items;
-      calls = newest_first c.keep.new.entries.items;
-      turn = c.saturating_add-self-inside.result;
-      faults = c.self.inside.faults;
-    } in
-    let e : new ≡ done Synced h = search rules in
-    subst (λ (x : History). Elapses (history_state h) (history_state x) (MayLeave h)) (sym e)
-    (Elapses_done h fits ended Synced (MayLeave h) (λ image is. is))
+    elapsed_done (held c.self.inside c.keep.new.entries.items c.saturating_add-self-inside.result)
+    c.self.view_is (omega arith) c.self.invariant.1 Synced (λ _. MayLeave c.args.self.now)
+    (search rules) (λ image is. is)
