@@ -61,6 +61,26 @@ module _ (C k : ℕ) (n : Numbers) (items : List Item) (are : AreItems n items) 
       class_empty C k n items are can laying it.class
       (sym (totals it.class (below it has)) ∙ next.empty it.class low high) it has refl
 
+  -- all before a class is laid, and some of the class, if there is one, isn't
+  abbrev Starts : ℕ → ℕ → Type 0
+  Starts next place = IsLaidTo C k n items next place n.wall
+      × (next < C → sizes_before items next place < class_total items next)
+
+  starts_at : (next from : ℕ) → IsNextClass C volumes from next
+      → ((it : Item) → Contains items it → it.class < next → IsLaid k n items it)
+      → ((it : Item) → Contains items it → IsLaid k n items it → it.class < next) → (place : ℕ)
+      → (next < C → place ≡ n.start + laid_length k items n.boundary next) → Starts next place
+  starts_at next from is done open_ones place at = (
+    class_begins C k n items are can laying next done open_ones place at is.within below,
+    λ high. omega (
+      arith,
+      ap (sizes_before items next) (at high),
+      none_counts C k n items are can laying next done open_ones,
+      is.some high,
+      totals next high,
+    ),
+  )
+
   -- A class is laid whole, and those before it. Then the next one begins.
   module _ (class to ahead : ℕ) (front : IsLaidTo C k n items class to ahead) (low : class < C)
       (whole : sizes_before items class to ≡ class_total items class) (next : ℕ)
@@ -79,20 +99,9 @@ module _ (C k : ℕ) (n : Numbers) (items : List Item) (are : AreItems n items) 
       | inr same ↦ omega (arith, same.0, is.above)
     ]
 
-    pub turns_front : (place : ℕ) → (next < C → place ≡ n.start + laid_length k items n.boundary next)
-        → IsLaidTo C k n items next place n.wall
-    turns_front place at =
-        class_begins C k n items are can laying next done open_ones place at is.within below
-
-    pub turns_some : (place : ℕ) → (next < C → place ≡ n.start + laid_length k items n.boundary next)
-        → next < C → sizes_before items next place < class_total items next
-    turns_some place at high = omega (
-      arith,
-      ap (sizes_before items next) (at high),
-      none_counts C k n items are can laying next done open_ones,
-      is.some high,
-      totals next high,
-    )
+    pub turns : (place : ℕ) → (next < C → place ≡ n.start + laid_length k items n.boundary next)
+        → Starts next place
+    turns = starts_at next (class + 1) is done open_ones
 
   -- Nothing is laid. Then the first class that has bytes begins.
   module _ (none : (it : Item) → Contains items it → IsLaid k n items it → ⊥) (first : ℕ)
@@ -103,20 +112,9 @@ module _ (C k : ℕ) (n : Numbers) (items : List Item) (are : AreItems n items) 
     none_open : (it : Item) → Contains items it → IsLaid k n items it → it.class < first
     none_open it has laid = absurd (none it has laid)
 
-    pub starts_front : (place : ℕ) → (first < C → place ≡ n.start + laid_length k items n.boundary first)
-        → IsLaidTo C k n items first place n.wall
-    starts_front place at =
-        class_begins C k n items are can laying first none_done none_open place at is.within below
-
-    pub starts_some : (place : ℕ) → (first < C → place ≡ n.start + laid_length k items n.boundary first)
-        → first < C → sizes_before items first place < class_total items first
-    starts_some place at high = omega (
-      arith,
-      ap (sizes_before items first) (at high),
-      none_counts C k n items are can laying first none_done none_open,
-      is.some high,
-      totals first high,
-    )
+    pub starts : (place : ℕ) → (first < C → place ≡ n.start + laid_length k items n.boundary first)
+        → Starts first place
+    starts = starts_at first n.boundary is none_done none_open
 
 -- once all is packed nothing is laid
 pub packed_not_laid : (k : ℕ) (n : Numbers) (items : List Item) → AreItems n items → ItemsCanResume k n items
@@ -148,6 +146,8 @@ module _ (C : ℕ) (v : Pack) (items : List Item) (keeps : KeepsPacking C v item
 
   pub lay_begins : KeepsLaying C (lay_at v.course volumes first place v.course.numbers.wall) items
   lay_begins =
+      let begins = starts C v.course.k v.course.numbers items keeps.packing.items keeps.packing.resumes
+      laying.laying keeps.classes volumes totals none first is place at in
       record {
         fits = keeps.fits;
         laying = laying;
@@ -156,10 +156,8 @@ module _ (C : ℕ) (v : Pack) (items : List Item) (keeps : KeepsPacking C v item
         totals = totals;
         low = is.above;
         high = is.within;
-        front = starts_front C v.course.k v.course.numbers items keeps.packing.items keeps.packing.resumes
-            laying.laying keeps.classes volumes totals none first is place at;
-        some = starts_some C v.course.k v.course.numbers items keeps.packing.items keeps.packing.resumes
-            laying.laying keeps.classes volumes totals none first is place at;
+        front = begins.0;
+        some = begins.1;
       }
 
 -- ---- one step
@@ -287,6 +285,8 @@ module _ (C : ℕ) (v : Lay) (items : List Item) (keeps : KeepsLaying C v items)
             ) in
             let at_then : class < C → place ≡ n.start + laid_length k after n.boundary class =
             λ high. omega (arith, at high, laid_length_after n items are mv next.item k n.boundary class) in
+            let begins = turns C k n after are_then can_then laying_then.laying below_then v.volumes
+            totals_then v.class (v.to + m.size) further front_then low whole class is place at_then in
             record {
               fits = keeps.fits;
               laying = laying_then;
@@ -296,8 +296,6 @@ module _ (C : ℕ) (v : Lay) (items : List Item) (keeps : KeepsLaying C v items)
               totals = totals_then;
               low = omega (arith, keeps.low, is.above);
               high = is.within;
-              front = turns_front C k n after are_then can_then laying_then.laying below_then v.volumes
-                  totals_then v.class (v.to + m.size) further front_then low whole class is place at_then;
-              some = turns_some C k n after are_then can_then laying_then.laying below_then v.volumes
-                  totals_then v.class (v.to + m.size) further front_then low whole class is place at_then;
+              front = begins.0;
+              some = begins.1;
             }

@@ -1,5 +1,5 @@
 use Rattle.std.proofs.Common.{arith, sym, ap, ◌∙◌, subst, ◌≡◌, ◌+◌, ◌-◌, ◌<◌, ◌≤◌, ℕ, Bool, List, Some, true, false, length, slice_get}
-use Rattle.std.specs.Prelude.{Contains, slice_index, slice_set, take, not, ◌^◌, ◌∷◌}
+use Rattle.std.specs.Prelude.{Contains, slice_index, slice_set, take, not, ◌^◌}
 use Rattle.std.proofs.lemmas.Bool.{cond-false, cond-true, not_from_false, not_from_true}
 use Rattle.std.proofs.lemmas.List.{take_all}
 use Rattle.size_class.specs.Rows.{cells_of}
@@ -10,8 +10,7 @@ use Rattle.segment_layout.specs.Layouts.{divisor_of, caps_of}
 use Rattle.segment_layout.specs.declared.layout.Layout.{Layout}
 use Rattle.segment_layout.proofs.LayoutLaws.{layout_shape}
 use Rattle.flush_model.specs.declared.item.Item.{Item}
-use Rattle.flush_model.specs.Phases.{CanFlush}
-use Rattle.flush_model.specs.Plans.{class_total, largest_of, object_of, stands_in_payload, weight}
+use Rattle.flush_model.specs.Plans.{largest_of, stands_in_payload, weight}
 use Rattle.flush_model.proofs.BoundLaws.{class_small, end_small, flush_below, weight_fits}
 use Rattle.flush_model.proofs.NumbersLaws.{item_ends}
 use Rattle.flush_model.proofs.PlaceLaws.{start_adds}
@@ -19,7 +18,8 @@ use Rattle.flush_model.proofs.SumLaws.{AreSums, buffers_fit, payload_fits, stand
 use Rattle.flush_plan.specs.Counts.{IsCount}
 use Rattle.flush_plan.specs.Shelves.{from_place, IsRank}
 use Rattle.flush_plan.proofs.ShelfLaws.{from_at, from_length, got_has}
-use Rattle.flush_plan.proofs.counts.count_from.Goals.{then-stands, else-stands}
+use Rattle.flush_plan.proofs.counts.count_from.Given.{Over}
+use Rattle.flush_plan.proofs.counts.count_from.Goals.{After-volumes-1, then-stands, else-stands}
 use Rattle.flush_plan.proofs.counts.count_from.Goals as goal
 
 full : {C : ℕ} (row : Row C) → C ≤ 32 → C ≤ length (cells_of row)
@@ -32,66 +32,66 @@ rank_is : {C : ℕ} (layout : Layout C) (b start first : ℕ) (xs : List Item)
 rank_is layout b start first xs place is = subst (λ s. IsRank xs s first) place is
 
 -- what is known of the object that is read, as one of those that are counted
-module _ {C : ℕ} (layout : Layout C) (b : ℕ) (xs : List Item) (first rank : ℕ)
-    (is : IsRank xs (start_of (divisor_of layout) (caps_of layout) b) first) (low : first ≤ rank) (m : Item)
-    (read : slice_get xs rank ≡ Some m)
-    (flush : CanFlush (divisor_of layout) (caps_of layout) b
-    (from_place (start_of (divisor_of layout) (caps_of layout) b) xs)) where
-  abbrev items : List Item
-  items = from_place (start_of (divisor_of layout) (caps_of layout) b) xs
+module _ (g : Over) (c : After-volumes-1 g) where
+  abbrev k : ℕ
+  k = divisor_of c.args.layout.now
 
-  got : slice_get items (rank - first) ≡ Some m
-  got = from_at (start_of (divisor_of layout) (caps_of layout) b) xs first is rank m low read
+  abbrev caps : List ℕ
+  caps = caps_of c.args.layout.now
+
+  abbrev m : Item
+  m = c.item-item.result
+
+  abbrev items : List Item
+  items = from_place (start_of k caps c.args.b) (g.S.Shelf.items c.args.shelf.now)
+
+  got : slice_get items (c.ranks.rank - c.rank_from-first.result) ≡ Some m
+  got = from_at (start_of k caps c.args.b) (g.S.Shelf.items c.args.shelf.now) c.rank_from-first.result
+      (rank_is c.args.layout.now c.args.b c.start.result c.rank_from-first.result
+      (g.S.Shelf.items c.args.shelf.now) c.start.ensures.place c.rank_from-first.ensures)
+      c.ranks.rank m c.ranks.invariant.0 c.item-item.ensures
 
   has : Contains items m
-  has = got_has items (rank - first) m got
+  has = got_has items (c.ranks.rank - c.rank_from-first.result) m got
 
-  class : m.class < C
-  class = flush_below (divisor_of layout) (caps_of layout) b items flush C (row_shape layout.caps) m has
+  class : m.class < g.row.C
+  class = flush_below k caps c.args.b items c.requires.flush g.row.C (row_shape c.args.layout.now.caps) m has
 
-  high : end_of (divisor_of layout) (caps_of layout) ≤ 2 ^ 54
-  high = end_small (divisor_of layout) (caps_of layout) (layout_shape layout).caps_high
-      (row_shape layout.caps).full
+  high : end_of k caps ≤ 2 ^ 54
+  high = end_small k caps (layout_shape c.args.layout.now).caps_high (row_shape c.args.layout.now.caps).full
 
   ends : m.place + m.size ≤ 2 ^ 54
-  ends = omega (arith, item_ends (divisor_of layout) (caps_of layout) b items flush 0 m has, high)
+  ends = omega (arith, item_ends k caps c.args.b items c.requires.flush 0 m has, high)
 
   fits : (q : Item → Bool) → weight q items ≤ 2 ^ 54
-  fits q = omega (arith, weight_fits (divisor_of layout) (caps_of layout) b items flush q, high)
+  fits q = omega (arith, weight_fits k caps c.args.b items c.requires.flush q, high)
 
-  volume_fits : (pending : ℕ) → pending ≤ 2 ^ 31 → class_total (object_of pending ∷ items) m.class ≤ 2 ^ 55
-  volume_fits pending small = class_small (divisor_of layout) (caps_of layout) b items flush high pending
-      small m.class
+  volume_fits : slice_index (cells_of c.ranks.volumes) m.class + m.size ≤ 2 ^ 55
+  volume_fits = omega (
+    arith,
+    sums_fit g.row.C k caps items c.args.pending (c.ranks.rank - c.rank_from-first.result)
+        (cells_of c.ranks.volumes) c.ranks.largest c.ranks.in_payload c.ranks.in_buffers c.ranks.invariant.1
+        m got class (full c.ranks.volumes c.requires.fits),
+    class_small k caps c.args.b items c.requires.flush high c.args.pending c.requires.high m.class,
+  )
 
-  -- and of what was counted before it
-  module _ (pending : ℕ) (row : Row C) (wide : C ≤ 32) (largest in_payload in_buffers : ℕ)
-      (so : AreSums C (divisor_of layout) (caps_of layout) items pending (rank - first) (cells_of row) largest
-      in_payload in_buffers) where
-    total_fits : pending ≤ 2 ^ 31 → slice_index (cells_of row) m.class + m.size ≤ 2 ^ 55
-    total_fits small = omega (
-      arith,
-      sums_fit C (divisor_of layout) (caps_of layout) items pending (rank - first) (cells_of row) largest
-          in_payload in_buffers so m got class (full row wide),
-      volume_fits pending small,
-    )
+  in_payload_fits : stands_in_payload k caps m ≡ true → c.ranks.in_payload + m.size ≤ 2 ^ 54
+  in_payload_fits stands = omega (
+    arith,
+    payload_fits g.row.C k caps items c.args.pending (c.ranks.rank - c.rank_from-first.result)
+        (cells_of c.ranks.volumes) c.ranks.largest c.ranks.in_payload c.ranks.in_buffers c.ranks.invariant.1
+        m got class (full c.ranks.volumes c.requires.fits) stands,
+    fits (stands_in_payload k caps),
+  )
 
-    in_payload_fits : stands_in_payload (divisor_of layout) (caps_of layout) m ≡ true
-        → in_payload + m.size ≤ 2 ^ 54
-    in_payload_fits stands = omega (
-      arith,
-      payload_fits C (divisor_of layout) (caps_of layout) items pending (rank - first) (cells_of row) largest
-          in_payload in_buffers so m got class (full row wide) stands,
-      fits (stands_in_payload (divisor_of layout) (caps_of layout)),
-    )
-
-    in_buffers_fits : stands_in_payload (divisor_of layout) (caps_of layout) m ≡ false
-        → in_buffers + m.size ≤ 2 ^ 54
-    in_buffers_fits other = omega (
-      arith,
-      buffers_fit C (divisor_of layout) (caps_of layout) items pending (rank - first) (cells_of row) largest
-          in_payload in_buffers so m got class (full row wide) other,
-      fits (λ it. not (stands_in_payload (divisor_of layout) (caps_of layout) it)),
-    )
+  in_buffers_fits : stands_in_payload k caps m ≡ false → c.ranks.in_buffers + m.size ≤ 2 ^ 54
+  in_buffers_fits other = omega (
+    arith,
+    buffers_fit g.row.C k caps items c.args.pending (c.ranks.rank - c.rank_from-first.result)
+        (cells_of c.ranks.volumes) c.ranks.largest c.ranks.in_payload c.ranks.in_buffers c.ranks.invariant.1
+        m got class (full c.ranks.volumes c.requires.fits) other,
+    fits (λ it. not (stands_in_payload k caps it)),
+  )
 
 -- once all are counted
 count_whole : (C k : ℕ) (caps : List ℕ) (items : List Item) (pending i : ℕ) (volumes : List ℕ)
@@ -108,80 +108,36 @@ count_whole C k caps items pending i volumes largest in_payload in_buffers so wi
     }
 
 pub get-requires : goal.get-requires
-get-requires g c =
-    let layout = c.args.layout.now in
-    let xs = g.S.Shelf.items c.args.shelf.now in
-    let first = c.rank_from-first.result in
-    let is = rank_is layout c.args.b c.start.result first xs c.start.ensures.place
-    c.rank_from-first.ensures in (
-      omega arith,
-      (
-        class layout c.args.b xs first c.ranks.rank is c.ranks.invariant.0 c.item-item.result
-            c.item-item.ensures c.requires.flush,
-        c.requires.fits,
-      ),
-    )
+get-requires g c = (
+  omega arith,
+  (class g (goal.at.get-requires g c).After-volumes-1, c.requires.fits),
+)
 
 pub overflow_add-more : goal.overflow_add-more
 overflow_add-more g c =
-    let layout = c.args.layout.now in
-    let xs = g.S.Shelf.items c.args.shelf.now in
-    let first = c.rank_from-first.result in
-    let is = rank_is layout c.args.b c.start.result first xs c.start.ensures.place
-    c.rank_from-first.ensures in
-    omega (
-      arith,
-      c.get.ensures,
-      total_fits layout c.args.b xs first c.ranks.rank is c.ranks.invariant.0 c.item-item.result
-          c.item-item.ensures c.requires.flush c.args.pending c.ranks.volumes c.requires.fits c.ranks.largest
-          c.ranks.in_payload c.ranks.in_buffers c.ranks.invariant.1 c.requires.high,
-    )
+    omega (arith, c.get.ensures, volume_fits g (goal.at.overflow_add-more g c).After-volumes-1)
 
 pub set-requires : goal.set-requires
-set-requires g c =
-    let layout = c.args.layout.now in
-    let xs = g.S.Shelf.items c.args.shelf.now in
-    let first = c.rank_from-first.result in
-    let is = rank_is layout c.args.b c.start.result first xs c.start.ensures.place
-    c.rank_from-first.ensures in (
-      omega arith,
-      (
-        class layout c.args.b xs first c.ranks.rank is c.ranks.invariant.0 c.item-item.result
-            c.item-item.ensures c.requires.flush,
-        c.requires.fits,
-      ),
-    )
+set-requires g c = (
+  omega arith,
+  (class g (goal.at.set-requires g c).After-volumes-1, c.requires.fits),
+)
 
 pub stands-requires : goal.stands-requires
 stands-requires g c =
     let layout = c.args.layout.now in
-    let xs = g.S.Shelf.items c.args.shelf.now in
-    let first = c.rank_from-first.result in
     let m = c.item-item.result in
-    let is = rank_is layout c.args.b c.start.result first xs c.start.ensures.place
-    c.rank_from-first.ensures in
-    let below = class layout c.args.b xs first c.ranks.rank is c.ranks.invariant.0 m c.item-item.ensures
-    c.requires.flush in
+    let at = (goal.at.stands-requires g c).After-volumes-1 in
+    let below = class g at in
     let cap : slice_index (cells_of c.caps-caps.result) m.class ≡ slice_index (caps_of layout) m.class =
-    ap (λ ys. slice_index ys m.class) c.caps-caps.ensures in (
+    ap (λ ys. slice_index ys m.class) c.caps-caps.ensures in
+    let start = start_adds layout m.class (omega (arith, below, c.requires.fits)) in (
       omega arith,
       (
         c.requires.fits,
         (
           below,
-          (
-            omega (
-              arith,
-              ends layout c.args.b xs first c.ranks.rank is c.ranks.invariant.0 m c.item-item.ensures
-                  c.requires.flush,
-            ),
-            omega (
-              arith,
-              cap,
-              c.starts_of-starts.ensures m.class below,
-              start_adds layout m.class (omega (arith, below, c.requires.fits)),
-            ),
-          ),
+          (omega (arith, ends g at), omega (arith, cap, c.starts_of-starts.ensures m.class below, start)),
         ),
       ),
     )
@@ -189,58 +145,35 @@ stands-requires g c =
 pub overflow_add-in_payload : goal.overflow_add-in_payload
 overflow_add-in_payload g c =
     let layout = c.args.layout.now in
-    let xs = g.S.Shelf.items c.args.shelf.now in
-    let first = c.rank_from-first.result in
-    let m = c.item-item.result in
-    let is = rank_is layout c.args.b c.start.result first xs c.start.ensures.place
-    c.rank_from-first.ensures in
     let stands = stands_is g.row.C (divisor_of layout) (caps_of layout) (cells_of c.caps-caps.result)
-    (cells_of c.starts_of-starts.result) m c.stands.result c.caps-caps.ensures c.starts_of-starts.ensures
-    c.stands.ensures in
-    omega (
-      arith,
-      in_payload_fits layout c.args.b xs first c.ranks.rank is c.ranks.invariant.0 m c.item-item.ensures
-          c.requires.flush c.args.pending c.ranks.volumes c.requires.fits c.ranks.largest c.ranks.in_payload
-          c.ranks.in_buffers c.ranks.invariant.1 (sym stands ∙ c.if-stands.true),
-    )
+    (cells_of c.starts_of-starts.result) c.item-item.result c.stands.result c.caps-caps.ensures
+    c.starts_of-starts.ensures c.stands.ensures in
+    let at = (goal.at.overflow_add-in_payload g c).After-volumes-1 in
+    omega (arith, in_payload_fits g at (sym stands ∙ c.if-stands.true))
 
 pub overflow_add-in_buffers : goal.overflow_add-in_buffers
 overflow_add-in_buffers g c =
     let layout = c.args.layout.now in
-    let xs = g.S.Shelf.items c.args.shelf.now in
-    let first = c.rank_from-first.result in
-    let m = c.item-item.result in
-    let is = rank_is layout c.args.b c.start.result first xs c.start.ensures.place
-    c.rank_from-first.ensures in
     let stands = stands_is g.row.C (divisor_of layout) (caps_of layout) (cells_of c.caps-caps.result)
-    (cells_of c.starts_of-starts.result) m c.stands.result c.caps-caps.ensures c.starts_of-starts.ensures
-    c.stands.ensures in
-    omega (
-      arith,
-      in_buffers_fits layout c.args.b xs first c.ranks.rank is c.ranks.invariant.0 m c.item-item.ensures
-          c.requires.flush c.args.pending c.ranks.volumes c.requires.fits c.ranks.largest c.ranks.in_payload
-          c.ranks.in_buffers c.ranks.invariant.1 (sym stands ∙ c.if-stands.false),
-    )
+    (cells_of c.starts_of-starts.result) c.item-item.result c.stands.result c.caps-caps.ensures
+    c.starts_of-starts.ensures c.stands.ensures in
+    let at = (goal.at.overflow_add-in_buffers g c).After-volumes-1 in
+    omega (arith, in_buffers_fits g at (sym stands ∙ c.if-stands.false))
 
 pub ranks-preserved : goal.ranks-preserved
 ranks-preserved g c =
     let layout = c.args.layout.now in
     let k = divisor_of layout in
     let caps = caps_of layout in
-    let xs = g.S.Shelf.items c.args.shelf.now in
-    let items = from_place (start_of k caps c.args.b) xs in
+    let at = (goal.at.ranks-preserved g c).After-volumes-1 in
+    let items = from_place (start_of k caps c.args.b) (g.S.Shelf.items c.args.shelf.now) in
     let first = c.rank_from-first.result in
     let m = c.item-item.result in
-    let is = rank_is layout c.args.b c.start.result first xs c.start.ensures.place
-    c.rank_from-first.ensures in
     let next : c.ranks.rank - first + 1 ≡ c.ranks.rank + 1 - first = omega (arith, c.ranks.invariant.0) in
     let stands = stands_is g.row.C k caps (cells_of c.caps-caps.result) (cells_of c.starts_of-starts.result) m
     c.stands.result c.caps-caps.ensures c.starts_of-starts.ensures c.stands.ensures in
     let more = sums_more g.row.C k caps items c.args.pending (c.ranks.rank - first) (cells_of c.ranks.volumes)
-    c.ranks.largest c.ranks.in_payload c.ranks.in_buffers c.ranks.invariant.1 m
-    (got layout c.args.b xs first c.ranks.rank is c.ranks.invariant.0 m c.item-item.ensures c.requires.flush)
-    (class layout c.args.b xs first c.ranks.rank is c.ranks.invariant.0 m c.item-item.ensures
-    c.requires.flush)
+    c.ranks.largest c.ranks.in_payload c.ranks.in_buffers c.ranks.invariant.1 m (got g at) (class g at)
     (full c.ranks.volumes c.requires.fits) (cells_of c.set.new.self) c.max-largest.result
     c.if-stands.in_payload c.if-stands.in_buffers
     (c.set.ensures ∙ ap (λ v. slice_set (cells_of c.ranks.volumes) m.class (v + m.size)) c.get.ensures)
