@@ -13,13 +13,13 @@ use Rattle.map_model.specs.Maps.{Map}
 use Rattle.map_model.specs.Requests.{Change, changed}
 use Rattle.map_model.specs.Weights.{weights, weight}
 use Rattle.map_model.proofs.MapLaws.{weights-remove}
-use Rattle.segment_layout.specs.Books.{Book, Charged, charge_one, charge_all, charge_change, item_of, old_item, new_item, found_room, is_new_buffered, buffered_after, volumes, Names}
+use Rattle.segment_layout.specs.Books.{Book, Charged, charge_one, charge_all, charge_change, item_of, old_item, new_item, found_room, is_new_buffered, buffered_after, volumes}
 use Rattle.segment_layout.specs.Balance.{IsBalanced}
 use Rattle.segment_layout.proofs.SumLaws.{sum_below_zero, sum_below_agree}
 use Rattle.segment_layout.proofs.BalanceLaws.{bytes_in, bytes_in-same, bytes_in-other}
 use Rattle.segment_layout.proofs.ChargingLaws.{finds, charge_all-append, tried_one, last_found}
-use Rattle.segment_layout.proofs.BookLaws.{in_class, in_buffers, in_payload, settled_is, weights_after, both_are, none_out}
-use Rattle.segment_layout.proofs.NextLaws.{names_after, after_other, after_here}
+use Rattle.segment_layout.proofs.BookLaws.{in_class, in_buffers, in_payload, settled_is, both_are}
+use Rattle.segment_layout.proofs.NextLaws.{payload_after}
 use Rattle.cost_laws.proofs.Weights.{item_weight}
 use Rattle.cost_laws.proofs.ItemsCharged.{missed_at, missed_weight}
 use Rattle.cost_laws.proofs.AskedLaws.{bytes_weigh}
@@ -83,23 +83,6 @@ payload_least m book c d = none_or_least (2 ^ d) (in_payload book.buffered d)
     (bytes_in d (length e.1)) (2 ^ d) (bytes_least d (length e.1)))
 
 -- ---- the parts of a class
-
-weight_out : (names : Names) (name : List ℕ) (d : ℕ) (o : Option (List ℕ))
-    → weight (in_payload names d) name o ≡ cond (set.contains names name) 0 (weight (in_class d) name o)
-weight_out names name d None = sym (none_out (set.contains names name) 0 refl)
-weight_out names name d (Some object) = refl
-
-payload_after : (m : Map) (c : Change) (names : Names) (found : Bool) (d : ℕ)
-    → weights (in_payload (names_after names c.name found) d) (changed c m)
-    ≡ weights (in_payload names d) (fin.remove m c.name)
-    + cond found 0 (weight (in_class d) c.name c.object)
-payload_after m c names found d =
-    weights_after (in_payload names d) (in_payload (names_after names c.name found) d) c m
-    (λ q v other. ap (λ t. cond t 0 (bytes_in d (length v)))
-    (sym (after_other names c.name q found other)))
-    ∙ ap (λ x. weights (in_payload names d) (fin.remove m c.name) + x)
-    (weight_out (names_after names c.name found) c.name d c.object
-    ∙ ap (λ t. cond t 0 (weight (in_class d) c.name c.object)) (after_here names c.name found))
 
 pub volumes_after : (m : Map) (book : Book) (c : Change) (charged : Charged) (d : ℕ)
     → slice_index (volumes (changed c m)) d

@@ -32,7 +32,7 @@ pub struct Charged {
 
 impl Book {
     /// Where the layout ends.
-    #[tactic(auto, using(crate::proofs::SumSteps::start_more))]
+    #[tactic(auto, using(segment_layout::proofs::StepLaws::start_more))]
     pub fn end(&self) -> u128
         requires divisor { 1 ≤ self.now.k }
         ensures { result ≡ end_of self.now.k self.now.caps }

@@ -68,7 +68,7 @@ impl Table {
     }
 
     /// The bytes that entries of a class have taken in all buffers for objects that are gone.
-    #[tactic(auto, using(crate::proofs::SumSteps::sum_below_next))]
+    #[tactic(auto, using(segment_layout::proofs::StepLaws::sum_below_next))]
     pub fn dead(&self, c: u8) -> u128
         requires divisor { 1 ≤ self.now.k }
         ensures sum { result ≡ sum_below width (λ j. dead_in_buffer (placed self.now) j c) }

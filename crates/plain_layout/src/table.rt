@@ -94,7 +94,7 @@ impl Table {
     }
 
     /// Where the payload segment of a class begins.
-    #[tactic(auto, using(crate::proofs::SumSteps::start_more))]
+    #[tactic(auto, using(segment_layout::proofs::StepLaws::start_more))]
     pub fn start(&self, c: u8) -> u128
         requires divisor { 1 ≤ self.now.k }
         ensures place { result ≡ start_of self.now.k self.now.header.caps c }

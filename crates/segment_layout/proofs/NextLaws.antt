@@ -127,7 +127,7 @@ buffers_after m c names found d =
     (weight_in (names_after names c.name found) c.name d c.object
     ∙ ap (λ t. cond t (weight (in_class d) c.name c.object) 0) (after_here names c.name found))
 
-payload_after : (m : Map) (c : Change) (names : Names) (found : Bool) (d : ℕ)
+pub payload_after : (m : Map) (c : Change) (names : Names) (found : Bool) (d : ℕ)
     → weights (in_payload (names_after names c.name found) d) (changed c m)
     ≡ weights (in_payload names d) (fin.remove m c.name) + cond found 0 (weight (in_class d) c.name c.object)
 payload_after m c names found d =

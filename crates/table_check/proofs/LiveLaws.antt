@@ -10,12 +10,12 @@ use Rattle.byte_ranges.specs.Lists.{below, counting_from, sum_below}
 use Rattle.byte_ranges.proofs.ListLaws.{zeros_at}
 use Rattle.size_class.specs.Classes.{class_of, width, cell}
 use Rattle.slot_codec.specs.declared.codec.Record.{Record}
+use Rattle.segment_layout.proofs.StepLaws.{passing_more}
 use Rattle.table_rules.specs.Tables.{PlacedTable, is_of, lies_in_buffer, lies_in_payload, no_record, size_sum}
 use Rattle.extent_table.specs.declared.spot.Spot.{Spot}
 use Rattle.table_check.specs.declared.frame.Frame.{Frame}
 use Rattle.table_check.specs.Live.{IsFull, IsLive, at_spot, in_buffer, in_payload}
 use Rattle.table_check.specs.Placed.{framed}
-use Rattle.table_check.proofs.RankLaws.{below_next, counting_more}
 
 -- ---- a sum over the first records, and its bound
 
@@ -23,28 +23,7 @@ pub size_sum_more : (p : Record → Bool) (rs : List Record) (i : ℕ) → i < l
     → size_sum (filter p (take (i + 1) rs))
     ≡ size_sum (filter p (take i rs)) + cond (p (slice_index_or rs i no_record))
     (slice_index_or rs i no_record).size 0
-size_sum_more p rs i h =
-    let r = slice_index_or rs i no_record in
-    ap size_sum (filter_more p rs i no_record h)
-    ∙ sum_by-append (λ (r : Record). r.size) (filter p (take i rs)) (cond (p r) (r ∷ []) [])
-    ∙ ap (λ n. size_sum (filter p (take i rs)) + n) (last (p r) r)
-  where
-    last : (b : Bool) (r : Record) → size_sum (cond b (r ∷ []) []) ≡ cond b r.size 0
-    last b r = elim (cases_Bool b) [
-      | inl is ↦ ap (λ (rs : List Record). size_sum rs) (cond-true b (r ∷ []) [] is)
-          ∙ sum_by-cons (λ (r : Record). r.size) r [] ∙ add-zero r.size ∙ sym (cond-true b r.size 0 is)
-      | inr other ↦ ap (λ (rs : List Record). size_sum rs) (cond-false b (r ∷ []) [] other)
-          ∙ sym (cond-false b r.size 0 other)
-    ]
-
-pub sum_below_next : (n : ℕ) (f : ℕ → ℕ) → sum_below (n + 1) f ≡ sum_below n f + f n
-unfolding sum_below
-sum_below_next n f =
-    ap (λ xs. sum (map f xs)) (below_next n)
-    ∙ ap sum (map-append f (below n) (n ∷ []))
-    ∙ sum_by-append (λ x. x) (map f (below n)) (f n ∷ [])
-    ∙ (let e : sum_by (λ (x : ℕ). x) (f n ∷ []) ≡ f n = sum_by-cons (λ (x : ℕ). x) (f n) []
-    ∙ add-zero (f n) in ap (λ x. sum (map f (below n)) + x) e)
+size_sum_more p rs i h = passing_more (λ (r : Record). r.size) p rs i no_record h
 
 pub sum_below_none : (f : ℕ → ℕ) → sum_below 0 f ≡ 0
 unfolding sum_below below
@@ -232,15 +211,3 @@ module _ (rs : List Record) (n : ℕ) (low : n < length rs) (volumes : List ℕ)
       with_false : (b : Bool) → (b && false) ≡ false
       with_false true = refl
       with_false false = refl
-
--- a sum over the classes from a boundary on, with one class more
-pub from_next : (f : ℕ → ℕ) (b c : ℕ) → b ≤ c
-    → sum_by f (counting_from b (c + 1 - b)) ≡ sum_by f (counting_from b (c - b)) + f c
-from_next f b c h =
-    let one : c + 1 - b ≡ c - b + 1 = omega arith in
-    let at : b + (c - b) ≡ c = omega arith in
-    ap (λ n. sum_by f (counting_from b n)) one
-    ∙ ap (sum_by f) (counting_more b (c - b))
-    ∙ sum_by-append f (counting_from b (c - b)) ((b + (c - b)) ∷ [])
-    ∙ (let e : sum_by f ((b + (c - b)) ∷ []) ≡ f c = sum_by-cons f (b + (c - b)) []
-    ∙ add-zero (f (b + (c - b))) ∙ ap f at in ap (λ x. sum_by f (counting_from b (c - b)) + x) e)

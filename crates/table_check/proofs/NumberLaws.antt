@@ -1,20 +1,19 @@
 -- Classes of all sizes, sums of small numbers, and where segments begin.
-use Rattle.std.specs.Prelude.{◌≡◌, ℕ, ◌+◌, ◌-◌, ◌*◌, ◌%◌, ◌^◌, ◌<◌, ◌≤◌, ◌&&◌, true, List, [], length, take, sum, slice_index, IsTrue, refl}
+use Rattle.std.specs.Prelude.{◌≡◌, ℕ, ◌+◌, ◌-◌, ◌*◌, ◌^◌, ◌<◌, ◌≤◌, ◌&&◌, true, List, [], length, sum, slice_index, IsTrue, refl}
 use Rattle.std.specs.List.{list_all}
-use Rattle.std.proofs.Common.{arith, ap, sym, ◌∙◌, inl, inr}
+use Rattle.std.proofs.Common.{arith, ap, inl, inr}
 use Rattle.std.proofs.lemmas.Bool.{and_parts, cases_lt, ltb-true}
-use Rattle.std.proofs.lemmas.List.{get_or_past, take_all}
+use Rattle.std.proofs.lemmas.List.{get_or_past}
 use Rattle.std.proofs.lemmas.List.Elements.{All-from_get_or}
 use Rattle.std.proofs.lemmas.List.Sums.{AllPass-from_list_all, sum_by-le}
-use Rattle.std.proofs.lemmas.Nat.{one_shl}
 use Rattle.std.proofs.lemmas.Option.{slice_get-get_or}
 use Rattle.byte_ranges.specs.Lists.{below}
 use Rattle.size_class.specs.Classes.{width, class_of, row}
-use Rattle.size_class.proofs.ClassLaws.{class_below, class_high, power_next, power_rises}
+use Rattle.size_class.proofs.ClassLaws.{class_below, class_high, power_rises}
 use Rattle.slot_codec.specs.Reading.{all_in_range, is_in_range}
 use Rattle.slot_codec.specs.declared.codec.Header.{Header}
-use Rattle.segment_layout.specs.Shapes.{buffer_of, end_of, start_of, taken_in}
-use Rattle.segment_layout.proofs.ShapeLaws.{buffer_of-zero, end_of-high, end_of-next}
+use Rattle.segment_layout.specs.Shapes.{start_of, taken_in}
+use Rattle.segment_layout.proofs.ShapeLaws.{end_of-high}
 use Rattle.extent_table.specs.Extents.{Extents, IsTable, records_of}
 use Rattle.extent_table.proofs.ExtentLaws.{records_of-few}
 use Rattle.extent_table.proofs.SaveLaws.{records_in_range}
@@ -43,18 +42,6 @@ sum-small xs long small =
       sum_by-le (λ (x : ℕ). x) (2 ^ 48 - 1) xs
           (All-from_get_or (λ x. x ≤ 2 ^ 48 - 1) xs 0 (λ i h. omega (arith, small i))),
     )
-
-pub start_more : (k : ℕ) (caps : List ℕ) (c : ℕ)
-    → start_of k caps (c + 1) ≡ start_of k caps c + (slice_index caps c + buffer_of k (slice_index caps c))
-start_more k caps c = elim (cases_lt c (length caps)) [
-  | inl within ↦ end_of-next k caps c within
-  | inr past ↦
-      let one : take (c + 1) caps ≡ take c caps = take_all (c + 1) caps (omega arith)
-      ∙ sym (take_all c caps past) in
-      let none : slice_index caps c ≡ 0 = get_or_past caps c 0 past in
-      ap (end_of k) one ∙ (let e : buffer_of k (slice_index caps c) ≡ 0 = ap (buffer_of k) none
-      ∙ buffer_of-zero k in omega arith)
-]
 
 pub few_records : (e : Extents) → IsTable e → length (records_of e.now) ≤ 65536
 few_records e table = omega (arith, records_of-few e.now, table.now_room, table.limit)
@@ -111,20 +98,17 @@ module _ (h : Header) (ranges : IsTrue (all_in_range h)) where
         fills = fills;
       }
 
-module _ (classes k : ℕ) (h : Header) (starts taken : List ℕ) (f : IsFrame classes k h starts taken) where
-  pub start-small : (c : ℕ) → c ≤ 32 → start_of k h.caps c ≤ 2 ^ 54
-  start-small c within = omega (arith, end_of-high k h.caps c f.caps_high (omega (arith, f.caps_full)))
+module _ {classes k : ℕ} {h : Header} {starts taken : List ℕ} (f : IsFrame classes k h starts taken) where
+  pub start_small : (c : ℕ) → c ≤ 32 → slice_index starts c ≤ 2 ^ 54
+  start_small c within =
+      omega (arith, end_of-high k h.caps c f.caps_high (omega (arith, f.caps_full)), f.begins c within)
 
-  pub taken-small : (j : ℕ) → j < 32 → taken_in h.used j < 2 ^ 53
-  taken-small j within = omega (arith, sum-small (row h.used j) (f.rows_full j within) (f.cells_high j))
-
--- the powers of two below 2^32, as a program shifts them
-pub shifted : (c : ℕ) → c < 32 → (1 * 2 ^ c) % 2 ^ 64 ≡ 2 ^ c
-shifted c h = one_shl c 64 (omega arith)
-
-pub shifted_twice : (c : ℕ) → c < 32 → (2 * 2 ^ c) % 2 ^ 64 ≡ 2 ^ (c + 1)
-shifted_twice c h = (let e : 2 * 2 ^ c ≡ 1 * 2 ^ (c + 1) = omega (arith, power_next c) in
-    ap (λ n. n % 2 ^ 64) e) ∙ one_shl (c + 1) 64 (omega arith)
+  pub taken_small : (j : ℕ) → j < 32 → slice_index taken j < 2 ^ 53
+  taken_small j within = omega (
+    arith,
+    sum-small (row h.used j) (f.rows_full j within) (f.cells_high j),
+    f.fills j within,
+  )
 
 pub small_sizes : (e : Extents) → IsTable e → (k : ℕ) → k < length (records_of e.now)
     → (ranked e k).size < 2 ^ 48

@@ -10,20 +10,8 @@ use Rattle.std.proofs.lemmas.List.Elements.{filter-append}
 use Rattle.std.proofs.lemmas.List.Sorted.{All-permutation, Contains-permutation}
 use Rattle.std.proofs.lemmas.Map.Keys.{IsDistinct-IsPermutation, IsDistinct-from_apart, apart_from_distinct}
 use Rattle.byte_ranges.specs.Lists.{below, counting_from}
+use Rattle.segment_layout.proofs.StepLaws.{below_next}
 use Rattle.table_check.specs.Orders.{passing}
-
-pub counting_more : (first n : ℕ) → counting_from first (n + 1) ≡ counting_from first n ++ (first + n) ∷ []
-counting_more first zero = λ i. (let e : first ≡ first + 0 = omega arith in e i) ∷ []
-counting_more first (suc n) =
-    let e : first + 1 + n ≡ first + suc n = omega arith in
-    (let one : suc n + 1 ≡ suc (n + 1) = omega arith in ap (counting_from first) one)
-    ∙ ap (λ xs. first ∷ xs) (counting_more (first + 1) n)
-    ∙ ap (λ x. first ∷ counting_from (first + 1) n ++ x ∷ []) e
-
-pub below_next : (n : ℕ) → below (n + 1) ≡ below n ++ n ∷ []
-unfolding below
-below_next n = counting_more 0 n ∙ (let e : 0 + n ≡ n = omega arith in
-    ap (λ x. counting_from 0 n ++ x ∷ []) e)
 
 pub passing_none : (p : ℕ → Bool) → passing p 0 ≡ []
 unfolding below
@@ -38,6 +26,15 @@ module _ (p : ℕ → Bool) where
   passing_no n isnt = ap (filter p) (below_next n) ∙ filter-append p (below n) (n ∷ [])
       ∙ ap (λ xs. filter p (below n) ++ xs) (cond-false (p n) (n ∷ []) [] isnt)
       ∙ append-nil (filter p (below n))
+
+  -- what is listed, with one number more
+  pub listed_yes : {n : ℕ} {old new : List ℕ} → p n ≡ true → new ≡ old ++ n ∷ [] → old ≡ passing p n
+      → new ≡ passing p (n + 1)
+  listed_yes {n} {old} {new} is more so_far = more ∙ ap (λ xs. xs ++ n ∷ []) so_far ∙ sym (passing_yes n is)
+
+  pub listed_no : {n : ℕ} {old new : List ℕ} → p n ≡ false → new ≡ old → old ≡ passing p n
+      → new ≡ passing p (n + 1)
+  listed_no {n} {old} {new} isnt same so_far = same ∙ so_far ∙ sym (passing_no n isnt)
 
   from : ℕ → ℕ → List ℕ
   from first n = filter p (counting_from first n)

@@ -65,7 +65,7 @@ fn was_entered(table: &Table, frame: &Frame, live: &Live, c: u8) -> bool
 }
 
 /// The bytes that entries of a class have taken in all buffers for objects that are gone.
-#[tactic(auto, using(crate::proofs::LiveLaws::sum_below_next, crate::proofs::LiveLaws::sum_below_none))]
+#[tactic(auto, using(segment_layout::proofs::StepLaws::sum_below_next, crate::proofs::LiveLaws::sum_below_none))]
 fn dead_bytes(table: &Table, frame: &Frame, live: &Live, c: u8) -> u64
     requires class { c < 32 }
     requires live { IsLive (placed table.now frame.now) (placed table.now frame.now).records live.now.payload

@@ -1,6 +1,7 @@
 use Rattle.std.proofs.Common.{arith, nat_le, ◌^◌, ◌≡◌, ℕ, Bool, true, false}
 use Rattle.std.proofs.lemmas.Bool.{le-leb, lt-leb}
-use Rattle.plain_layout.proofs.SumSteps.{count_yes, count_no, shifted}
+use Rattle.segment_layout.proofs.StepLaws.{shifted}
+use Rattle.plain_layout.proofs.SumSteps.{count_yes, count_no}
 use Rattle.plain_layout.proofs.class.class_of.Goals as goal
 use Rattle.plain_layout.proofs.class.class_of.Goals.{then-c-size, else-c-size}
 

@@ -1,8 +1,8 @@
-use Rattle.std.proofs.Common.{arith, sym, ap, refl, ℕ, ◌∙◌, ◌≡◌, ◌∷◌, ◌++◌, [], true, false}
+use Rattle.std.proofs.Common.{arith, sym, ap, refl, ℕ, ◌∙◌, ◌≡◌, true, false}
 use Rattle.std.specs.Prelude.{vec_len}
 use Rattle.table_rules.specs.Tables.{is_below_wall}
 use Rattle.table_check.specs.Placed.{placed, ranked}
-use Rattle.table_check.proofs.RankLaws.{passing_no, passing_none, passing_yes}
+use Rattle.table_check.proofs.RankLaws.{listed_no, listed_yes, passing_none}
 use Rattle.table_check.proofs.order.list_below_wall.Goals as goal
 use Rattle.table_check.proofs.order.list_below_wall.Goals.{then-is_below_wall, else-is_below_wall}
 
@@ -21,22 +21,16 @@ ranks-preserved c =
       | then-is_below_wall w ↦
           let is : p n ≡ true = sym c.is_below_wall.ensures ∙ w.if-is_below_wall.true in
           record {
-            listed = ap (λ v. v.items) w.order-is ∙ w.push_reserved.ensures.items
-                ∙ ap (λ xs. xs ++ n ∷ []) c.ranks.invariant.listed ∙ sym (passing_yes p n is);
-            few = omega (
-              arith,
-              ap (λ v. vec_len v) w.order-is,
-              w.push_reserved.ensures.len,
-              c.ranks.invariant.few,
-            );
+            listed = listed_yes p is (ap (λ v. v.items) w.order-is ∙ w.push_reserved.ensures.items)
+                c.ranks.invariant.listed;
+            few = omega (arith, ap vec_len w.order-is, w.push_reserved.ensures.len, c.ranks.invariant.few);
             capacity = ap (λ v. v.cap) w.order-is ∙ w.push_reserved.ensures.capacity
                 ∙ c.ranks.invariant.capacity;
           }
       | else-is_below_wall w ↦
           let isnt : p n ≡ false = sym c.is_below_wall.ensures ∙ w.if-is_below_wall.false in
           record {
-            listed = ap (λ v. v.items) w.order-is ∙ c.ranks.invariant.listed
-                ∙ sym (passing_no p n isnt);
+            listed = listed_no p isnt (ap (λ v. v.items) w.order-is) c.ranks.invariant.listed;
             few = omega (arith, ap (λ v. vec_len v) w.order-is, c.ranks.invariant.few);
             capacity = ap (λ v. v.cap) w.order-is ∙ c.ranks.invariant.capacity;
           }

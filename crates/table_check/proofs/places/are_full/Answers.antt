@@ -1,6 +1,6 @@
 use Rattle.std.proofs.Common.{arith}
 use Rattle.std.proofs.lemmas.Bool.{false≢true}
-use Rattle.table_check.proofs.NumberLaws.{shifted_twice}
+use Rattle.segment_layout.proofs.StepLaws.{shifted_twice}
 use Rattle.table_check.proofs.places.are_full.Goals as goal
 
 pub returns-then-taken-c : goal.returns-then-taken-c

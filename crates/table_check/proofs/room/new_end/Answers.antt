@@ -3,7 +3,7 @@ use Rattle.std.specs.Prelude.{slice_index}
 use Rattle.segment_layout.specs.Shapes.{buffer_of}
 use Rattle.table_rules.specs.Tables.{live, table_boundary}
 use Rattle.table_check.specs.Placed.{placed}
-use Rattle.table_check.proofs.LiveLaws.{from_next}
+use Rattle.segment_layout.proofs.StepLaws.{from_next}
 use Rattle.table_check.proofs.room.new_end.Goals as goal
 
 pub classes-preserved : goal.classes-preserved

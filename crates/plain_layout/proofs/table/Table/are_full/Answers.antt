@@ -1,6 +1,6 @@
 use Rattle.std.proofs.Common.{arith}
 use Rattle.std.proofs.lemmas.Bool.{false≢true}
-use Rattle.plain_layout.proofs.SumSteps.{shifted_twice}
+use Rattle.segment_layout.proofs.StepLaws.{shifted_twice}
 use Rattle.plain_layout.proofs.table.Table.are_full.Goals as goal
 
 pub returns-then-taken-from : goal.returns-then-taken-from

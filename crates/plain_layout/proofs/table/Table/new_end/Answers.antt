@@ -2,7 +2,8 @@ use Rattle.std.proofs.Common.{arith, ℕ, ◌≡◌, ◌+◌, ◌/◌, ◌≤◌
 use Rattle.segment_layout.specs.Shapes.{buffer_of}
 use Rattle.table_rules.specs.Tables.{table_boundary, live}
 use Rattle.plain_layout.specs.Plain.{placed}
-use Rattle.plain_layout.proofs.SumSteps.{from_below, from_next}
+use Rattle.segment_layout.proofs.StepLaws.{from_next}
+use Rattle.plain_layout.proofs.SumSteps.{from_below}
 use Rattle.plain_layout.proofs.table.Table.new_end.Goals as goal
 use Rattle.plain_layout.proofs.table.Table.new_end.Goals.{then-table_boundary-c, else-table_boundary-c}
 
