@@ -259,12 +259,12 @@ module _ (C : ℕ) (v : Lay) (items : List Item) (keeps : KeepsLaying C v items)
             record {
               fits = keeps.fits;
               laying = laying_then;
+              low = keeps.low;
+              high = keeps.high;
               classes = below_then;
               small = small_after p mv are next.item
                   (omega (arith, lay_ends_low, keeps.laying.packing.reaches)) keeps.small;
               totals = totals_then;
-              low = keeps.low;
-              high = keeps.high;
               front = front_then;
               some = λ high. omega (arith, left_then, less);
             }
@@ -290,12 +290,12 @@ module _ (C : ℕ) (v : Lay) (items : List Item) (keeps : KeepsLaying C v items)
             record {
               fits = keeps.fits;
               laying = laying_then;
+              low = omega (arith, keeps.low, is.above);
+              high = is.within;
               classes = below_then;
               small = small_after p mv are next.item
                   (omega (arith, lay_ends_low, keeps.laying.packing.reaches)) keeps.small;
               totals = totals_then;
-              low = omega (arith, keeps.low, is.above);
-              high = is.within;
               front = begins.0;
               some = begins.1;
             }

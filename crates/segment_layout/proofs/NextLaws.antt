@@ -179,13 +179,13 @@ balanced_from k m book f h =
       caps_full = f.caps_full;
       grid_full = f.grid_full;
       rows = f.rows;
-      lower = f.lower;
-      entry = f.entry;
-      full = f.full;
       payload = λ d. elim (cases_lt d width) [
         | inl low ↦ omega (arith, h.payload d low, settled_is m book d)
         | inr high ↦ omega (arith, settled_is m book d, beyond_payload m book.buffered d high)
       ];
+      lower = f.lower;
+      entry = f.entry;
+      full = f.full;
       buffers = λ d. omega (arith, h.buffers d, buffered_is m book d);
       balance = λ d. elim (cases_lt d width) [
         | inl low ↦ omega (arith, h.balance d low, settled_is m book d, buffered_is m book d)

@@ -10,6 +10,7 @@ use Rattle.segment_layout.specs.Layouts.{divisor_of, caps_of}
 use Rattle.segment_layout.specs.declared.layout.Layout.{Layout}
 use Rattle.segment_layout.proofs.LayoutLaws.{layout_shape}
 use Rattle.flush_model.specs.declared.item.Item.{Item}
+use Rattle.flush_model.specs.Segments.{AreStarts}
 use Rattle.flush_model.specs.Plans.{largest_of, stands_in_payload, weight}
 use Rattle.flush_model.proofs.BoundLaws.{class_small, end_small, flush_below, weight_fits}
 use Rattle.flush_model.proofs.NumbersLaws.{item_ends}
@@ -19,7 +20,7 @@ use Rattle.flush_plan.specs.Counts.{IsCount}
 use Rattle.flush_plan.specs.Shelves.{from_place, IsRank}
 use Rattle.flush_plan.proofs.ShelfLaws.{from_at, from_length, got_has}
 use Rattle.flush_plan.proofs.counts.count_from.Given.{Over}
-use Rattle.flush_plan.proofs.counts.count_from.Goals.{After-volumes-1, then-stands, else-stands}
+use Rattle.flush_plan.proofs.counts.count_from.Goals.{After-caps-1, After-volumes-1, then-stands, else-stands}
 use Rattle.flush_plan.proofs.counts.count_from.Goals as goal
 
 full : {C : ℕ} (row : Row C) → C ≤ 32 → C ≤ length (cells_of row)
@@ -93,6 +94,15 @@ module _ (g : Over) (c : After-volumes-1 g) where
     fits (λ it. not (stands_in_payload k caps it)),
   )
 
+-- whether it stands in its payload segment is read off the rows
+standing : (g : Over) (c : After-caps-1 g) (stands : Bool)
+    → ((k : ℕ) → AreStarts g.row.C k (cells_of c.caps-caps.result) (cells_of c.starts_of-starts.result)
+    → stands ≡ stands_in_payload k (cells_of c.caps-caps.result) c.item-item.result)
+    → stands ≡ stands_in_payload (divisor_of c.args.layout.now) (caps_of c.args.layout.now) c.item-item.result
+standing g c stands is = stands_is g.row.C (divisor_of c.args.layout.now) (caps_of c.args.layout.now)
+    (cells_of c.caps-caps.result) (cells_of c.starts_of-starts.result) c.item-item.result stands
+    c.caps-caps.ensures c.starts_of-starts.ensures is
+
 -- once all are counted
 count_whole : (C k : ℕ) (caps : List ℕ) (items : List Item) (pending i : ℕ) (volumes : List ℕ)
     (largest in_payload in_buffers : ℕ)
@@ -144,36 +154,30 @@ stands-requires g c =
 
 pub overflow_add-in_payload : goal.overflow_add-in_payload
 overflow_add-in_payload g c =
-    let layout = c.args.layout.now in
-    let stands = stands_is g.row.C (divisor_of layout) (caps_of layout) (cells_of c.caps-caps.result)
-    (cells_of c.starts_of-starts.result) c.item-item.result c.stands.result c.caps-caps.ensures
-    c.starts_of-starts.ensures c.stands.ensures in
-    let at = (goal.at.overflow_add-in_payload g c).After-volumes-1 in
-    omega (arith, in_payload_fits g at (sym stands ∙ c.if-stands.true))
+    let at = goal.at.overflow_add-in_payload g c in
+    let stands = standing g at.After-caps-1 c.stands.result c.stands.ensures in
+    omega (arith, in_payload_fits g at.After-volumes-1 (sym stands ∙ c.if-stands.true))
 
 pub overflow_add-in_buffers : goal.overflow_add-in_buffers
 overflow_add-in_buffers g c =
-    let layout = c.args.layout.now in
-    let stands = stands_is g.row.C (divisor_of layout) (caps_of layout) (cells_of c.caps-caps.result)
-    (cells_of c.starts_of-starts.result) c.item-item.result c.stands.result c.caps-caps.ensures
-    c.starts_of-starts.ensures c.stands.ensures in
-    let at = (goal.at.overflow_add-in_buffers g c).After-volumes-1 in
-    omega (arith, in_buffers_fits g at (sym stands ∙ c.if-stands.false))
+    let at = goal.at.overflow_add-in_buffers g c in
+    let stands = standing g at.After-caps-1 c.stands.result c.stands.ensures in
+    omega (arith, in_buffers_fits g at.After-volumes-1 (sym stands ∙ c.if-stands.false))
 
 pub ranks-preserved : goal.ranks-preserved
 ranks-preserved g c =
     let layout = c.args.layout.now in
     let k = divisor_of layout in
     let caps = caps_of layout in
-    let at = (goal.at.ranks-preserved g c).After-volumes-1 in
+    let at = goal.at.ranks-preserved g c in
     let items = from_place (start_of k caps c.args.b) (g.S.Shelf.items c.args.shelf.now) in
     let first = c.rank_from-first.result in
     let m = c.item-item.result in
     let next : c.ranks.rank - first + 1 ≡ c.ranks.rank + 1 - first = omega (arith, c.ranks.invariant.0) in
-    let stands = stands_is g.row.C k caps (cells_of c.caps-caps.result) (cells_of c.starts_of-starts.result) m
-    c.stands.result c.caps-caps.ensures c.starts_of-starts.ensures c.stands.ensures in
+    let stands = standing g at.After-caps-1 c.stands.result c.stands.ensures in
     let more = sums_more g.row.C k caps items c.args.pending (c.ranks.rank - first) (cells_of c.ranks.volumes)
-    c.ranks.largest c.ranks.in_payload c.ranks.in_buffers c.ranks.invariant.1 m (got g at) (class g at)
+    c.ranks.largest c.ranks.in_payload c.ranks.in_buffers c.ranks.invariant.1 m (got g at.After-volumes-1)
+    (class g at.After-volumes-1)
     (full c.ranks.volumes c.requires.fits) (cells_of c.set.new.self) c.max-largest.result
     c.if-stands.in_payload c.if-stands.in_buffers
     (c.set.ensures ∙ ap (λ v. slice_set (cells_of c.ranks.volumes) m.class (v + m.size)) c.get.ensures)

@@ -200,6 +200,6 @@ returns g c = λ items on.
     all_is g at c.max.result c.end.result c.places_of-end.result.1 c.max.ensures c.end.ensures.place
     c.places_of-end.ensures.end
     ∙ numbers_permuted items
-        (from_place (start_of (divisor_of c.args.layout.now) (caps_of c.args.layout.now) c.args.b)
-        (g.S.Shelf.items c.args.shelf.now)) on.same (divisor_of c.args.layout.now) (caps_of c.args.layout.now)
-        c.args.b c.args.pending
+    (from_place (start_of (divisor_of c.args.layout.now) (caps_of c.args.layout.now) c.args.b)
+    (g.S.Shelf.items c.args.shelf.now)) on.same (divisor_of c.args.layout.now) (caps_of c.args.layout.now)
+    c.args.b c.args.pending
