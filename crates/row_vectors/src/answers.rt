@@ -1,13 +1,11 @@
 //! What a command put, and how it ended.
-use crate::Outcome;
 use crate::images::{Change, MOVING};
+pub(crate) use crate::rows::{got, try_bytes, try_holds, try_number, try_outcome};
 use crate::runs::{Ran, ended, run, run_on};
 use disk_face::Disk;
 use disk_mem::MemDisk;
 use std::alloc::Global;
-use std::fmt::Debug;
 use std::process::Abort;
-use std::test::Fail;
 
 /// The words of a command, its status, and all that it puts.
 #[derive(Clone, Copy)]
@@ -37,34 +35,6 @@ pub const FORMAT: &[&str] = &["format", "f", "9", "16"];
 
 /// The changes to the moving table.
 pub const MOVED: &[Change] = &MOVING;
-
-/// What a call gave, which may not fail.
-pub fn got<T>(rt: &impl Abort, given: Result<T, Fail>) -> T {
-    match given {
-        Ok(value) => value,
-        Err(_) => panic!(rt; "a call that failed"),
-    }
-}
-
-/// The bytes of a row are the expected ones.
-pub fn try_bytes(rt: &impl Abort, bytes: &[u8], expected: &[u8], row: &impl Debug) {
-    assert_eq!(rt; bytes, expected, "{row:?}");
-}
-
-/// The status and the numbers of a row are the expected ones.
-pub fn try_outcome(rt: &impl Abort, outcome: Outcome, expected: Outcome, row: &impl Debug) {
-    assert_eq!(rt; outcome, expected, "{row:?}");
-}
-
-/// A number of a row is the expected one.
-pub fn try_number(rt: &impl Abort, number: u64, expected: u64, row: &impl Debug) {
-    assert_eq!(rt; number, expected, "{row:?}");
-}
-
-/// What holds of a row.
-pub fn try_holds(rt: &impl Abort, holds: bool, row: &impl Debug) {
-    assert!(rt; holds, "{row:?}");
-}
 
 /// What a command put, its status and its numbers, which are 0.
 pub fn try_answer<D: Disk>(rt: &impl Abort, ran: &Ran<D>, status: u8, puts: &str) {

@@ -16,16 +16,17 @@ const NEW: &[Told] = &told! {
     ["map", "f"] => 0 "";
 };
 
-/// A format of a file that isn't there, in ten changing calls. The disk is given back.
-fn try_format(rt: &impl Abort, alloc: Global) -> MemDisk {
+/// A format of a file that isn't there, in ten changing calls, and how long the file is then. The disk is
+/// given back.
+pub(crate) fn try_format(rt: &impl Abort, alloc: Global, words: &[&str], length: u64) -> MemDisk {
     let ran = got(
         rt,
-        run_on(alloc, FORMAT, false, MemDisk::new(alloc), Vec::new(alloc)),
+        run_on(alloc, words, false, MemDisk::new(alloc), Vec::new(alloc)),
     );
     try_answer(rt, &ran, 0, "formatted\n");
     let mut file = ran.disk;
     try_number(rt, file.turns(), 10, &"turns");
-    try_number(rt, file.len().expect(rt, "a length"), 19_603, &"length");
+    try_number(rt, file.len().expect(rt, "a length"), length, &"length");
     file
 }
 
@@ -40,7 +41,7 @@ fn try_new(rt: &impl Abort, alloc: Global, new: MemDisk) -> MemDisk {
 
 #[test]
 fn formats_a_file_that_is_not_there(rt: HostRuntime) {
-    let new = try_format(&rt, rt.alloc());
+    let new = try_format(&rt, rt.alloc(), FORMAT, 19_603);
     let file = try_new(&rt, rt.alloc(), new);
     try_number(&rt, file.turns(), 10, &"commands");
 }

@@ -1,38 +1,9 @@
 //! A hand-made image with one object, and its changes.
 use disk_mem::MemDisk;
+pub use plain_layout::Change;
+use plain_layout::{HELLO, put};
 use std::alloc::Global;
 use std::test::Fail;
-
-/// A byte of an image, by position.
-pub type Change = (usize, u8);
-
-/// The mark, k = 9, 16 names, and a settled table of sequence 1 with the one object `a` = `hello`.
-const HELLO: &[Change] = &[
-    (0, b'C'),
-    (1, b'O'),
-    (2, b'S'),
-    (3, b'T'),
-    (4, b'O'),
-    (5, b'R'),
-    (6, b'E'),
-    (7, b'1'),
-    (8, 9),
-    (16, 16),
-    (64, 1),
-    (72, 1),
-    (80, 1),
-    (120, 5),
-    (8552, 1),
-    (8553, b'a'),
-    (8624, 5),
-    (9832, 0xA5),
-    (19602, 0xA5),
-    (19603, b'h'),
-    (19604, b'e'),
-    (19605, b'l'),
-    (19606, b'l'),
-    (19607, b'o'),
-];
 
 /// The changes to an object of 160,000 bytes, in a file of 197,380 bytes. Its class is 17, with a
 /// capacity of 160,000 (0x27100) and a buffer of 17,777. It is put in three pieces; this tells the
@@ -80,11 +51,9 @@ pub fn image(
     then: &[Change],
 ) -> Result<Vec<u8>, Fail> {
     let mut bytes = vec![in alloc; 0u8; length]?;
-    for (at, byte) in HELLO.iter().chain(first.iter()).chain(then.iter()) {
-        if *at < bytes.len() {
-            bytes[*at] = *byte;
-        }
-    }
+    put(&mut bytes, HELLO);
+    put(&mut bytes, first);
+    put(&mut bytes, then);
     Ok(bytes)
 }
 

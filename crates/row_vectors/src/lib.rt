@@ -44,6 +44,8 @@ mod limits;
 mod refusals;
 #[cfg(test)]
 mod resumed;
+#[cfg(test)]
+mod rows;
 pub mod runs;
 #[cfg(test)]
 mod tables;

@@ -1,9 +1,8 @@
 //! An object of a mebibyte, and room for the most names.
-use crate::answers::{GET, got, try_answer, try_command, try_holds, try_number, try_outcome};
+use crate::answers::{GET, got, try_command, try_holds, try_number, try_outcome};
+use crate::formats::try_format;
 use crate::images::{Change, image};
-use crate::runs::{ended, run, run_on};
-use disk_face::Disk;
-use disk_mem::MemDisk;
+use crate::runs::{ended, run};
 use std::alloc::Global;
 use std::process::Abort;
 
@@ -46,21 +45,8 @@ fn gets_an_object_of_a_mebibyte(rt: HostRuntime) {
 /// The words of a format with room for the most names.
 const FORMAT: &[&str] = &["format", "f", "64", "65536"];
 
-/// What such a format makes. The disk is given back.
-fn try_format(rt: &impl Abort, alloc: Global) -> MemDisk {
-    let ran = got(
-        rt,
-        run_on(alloc, FORMAT, false, MemDisk::new(alloc), Vec::new(alloc)),
-    );
-    try_answer(rt, &ran, 0, "formatted\n");
-    let mut file = ran.disk;
-    try_number(rt, file.turns(), 10, &"turns");
-    try_number(rt, file.len().expect(rt, "a length"), 10_502_803, &"length");
-    file
-}
-
 #[test]
 fn formats_room_for_the_most_names(rt: HostRuntime) {
-    let file = try_format(&rt, rt.alloc());
+    let file = try_format(&rt, rt.alloc(), FORMAT, 10_502_803);
     try_command(&rt, rt.alloc(), file, GET, 6, "fault missing\n");
 }

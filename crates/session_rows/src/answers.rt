@@ -1,48 +1,18 @@
 //! What a run put, how it ended and what it left, beside what its row expects.
-ghost use Rattle.std.specs.Prelude.{◌≡◌, Ok, IsTrue};
+ghost use Rattle.std.specs.Prelude.{IsTrue};
 
+pub use crate::rows::{got, try_bytes, try_holds, try_number, try_outcome};
 use disk_face::Disk;
 use row_vectors::Outcome;
 use row_vectors::runs::{Ran, ended, joined, run_on, session};
 use std::alloc::Global;
 use std::fmt::Debug;
 use std::process::Abort;
-use std::test::Fail;
 
 /// The words of the commands that tell what a file is.
 pub const CHECK: &[&str] = &["check", "f"];
 
 pub const MAP: &[&str] = &["map", "f"];
-
-/// What a call gave, which may not fail.
-pub fn got<T>(rt: &impl Abort, given: Result<T, Fail>) -> T
-    ensures { given ≡ Ok result }
-{
-    match given {
-        Ok(value) => value,
-        Err(_) => panic!(rt; "a call that failed"),
-    }
-}
-
-/// The bytes of a row are the expected ones.
-pub fn try_bytes(rt: &impl Abort, bytes: &[u8], expected: &[u8], row: &impl Debug) {
-    assert_eq!(rt; bytes, expected, "{row:?}");
-}
-
-/// The status and the numbers of a row are the expected ones.
-pub fn try_outcome(rt: &impl Abort, outcome: Outcome, expected: Outcome, row: &impl Debug) {
-    assert_eq!(rt; outcome, expected, "{row:?}");
-}
-
-/// A number of a row is the expected one.
-pub fn try_number(rt: &impl Abort, number: u64, expected: u64, row: &impl Debug) {
-    assert_eq!(rt; number, expected, "{row:?}");
-}
-
-/// What holds of a row.
-pub fn try_holds(rt: &impl Abort, holds: bool, row: &impl Debug) {
-    assert!(rt; holds, "{row:?}");
-}
 
 /// What was put, by its parts.
 pub fn try_puts(rt: &impl Abort, alloc: Global, put: &[u8], puts: &[&str], row: &impl Debug) {

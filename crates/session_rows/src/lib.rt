@@ -40,6 +40,8 @@ mod replaced;
 #[cfg(test)]
 mod requests;
 #[cfg(test)]
+mod rows;
+#[cfg(test)]
 mod saves;
 #[cfg(test)]
 mod sessions;

@@ -1,6 +1,6 @@
 //! What a crash leaves at each turn of a session: what `check` puts, and a session that goes on from it.
 use crate::answers::{got, try_number, try_ran};
-use crate::further_puts::FURTHER;
+use crate::further_puts::{FURTHER, NONE, ONE};
 use crate::images::{CHOICES, image_at, try_check};
 use disk_face::Disk;
 use disk_mem::{Choice, MemDisk};
@@ -28,6 +28,32 @@ pub struct Stage {
     pub calls: u64,
     pub after: &'static str,
 }
+
+/// The checkpoint of a format in 10 calls.
+pub const FORMATTED: Stage = Stage {
+    from: 9,
+    counts: "0 0",
+    sequence: 1,
+    kind: "still",
+    resumes: 0,
+    end: 0,
+    puts: NONE,
+    calls: 19,
+    after: "store 9 16 1 7 7 3 still\n",
+};
+
+/// The one of a put of `a` in the 12 calls after it.
+pub const FIRST_PUT: Stage = Stage {
+    from: 19,
+    counts: "1 100",
+    sequence: 2,
+    kind: "still",
+    resumes: 0,
+    end: 111,
+    puts: ONE,
+    calls: 8,
+    after: "store 9 16 2 107 111 3 still\n",
+};
 
 /// A session by turns: its checkpoints, and from which turns on the data part is how long, as reads give it
 /// and as the last sync left it.

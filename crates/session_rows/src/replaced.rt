@@ -1,7 +1,7 @@
 //! A put of 10 bytes in place of 100: each image opens to the one or to the other.
 use crate::answers::{got, serve_parts, try_number, try_puts};
-use crate::further_puts::{NONE, ONE, TEN};
-use crate::moments::{Stage, Story, try_turns};
+use crate::further_puts::TEN;
+use crate::moments::{FIRST_PUT, FORMATTED, Stage, Story, try_turns};
 use disk_face::Disk;
 use disk_mem::MemDisk;
 use row_vectors::inputs::{KEPT, PUT_A};
@@ -12,28 +12,8 @@ use std::process::Abort;
 /// After a format of 10 calls, `a` of 100 bytes is put in 12, and `a` of 10 bytes in 20.
 const SESSION: &Story = &Story {
     stages: &[
-        Stage {
-            from: 9,
-            counts: "0 0",
-            sequence: 1,
-            kind: "still",
-            resumes: 0,
-            end: 0,
-            puts: NONE,
-            calls: 19,
-            after: "store 9 16 1 7 7 3 still\n",
-        },
-        Stage {
-            from: 19,
-            counts: "1 100",
-            sequence: 2,
-            kind: "still",
-            resumes: 0,
-            end: 111,
-            puts: ONE,
-            calls: 8,
-            after: "store 9 16 2 107 111 3 still\n",
-        },
+        FORMATTED,
+        FIRST_PUT,
         Stage {
             from: 31,
             counts: "1 10",

@@ -1,7 +1,7 @@
 //! A session of three puts and three removals, of which four flush: what a crash leaves at each turn.
 use crate::answers::{got, serve_parts, try_number, try_puts};
 use crate::further_puts::{NONE, ONE, THREE};
-use crate::moments::{Stage, Story, try_turns};
+use crate::moments::{FIRST_PUT, FORMATTED, Stage, Story, try_turns};
 use disk_face::Disk;
 use disk_mem::MemDisk;
 use row_vectors::inputs::{KEPT, OK, PUT_A, PUT_B, PUT_C};
@@ -13,28 +13,8 @@ use std::process::Abort;
 /// `a` in 9.
 const SESSION: &Story = &Story {
     stages: &[
-        Stage {
-            from: 9,
-            counts: "0 0",
-            sequence: 1,
-            kind: "still",
-            resumes: 0,
-            end: 0,
-            puts: NONE,
-            calls: 19,
-            after: "store 9 16 1 7 7 3 still\n",
-        },
-        Stage {
-            from: 19,
-            counts: "1 100",
-            sequence: 2,
-            kind: "still",
-            resumes: 0,
-            end: 111,
-            puts: ONE,
-            calls: 8,
-            after: "store 9 16 2 107 111 3 still\n",
-        },
+        FORMATTED,
+        FIRST_PUT,
         Stage {
             from: 33,
             counts: "3 115",

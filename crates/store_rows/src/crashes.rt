@@ -71,55 +71,40 @@ fn try_moments(rt: &impl Abort, alloc: Global, trial: &mut Trial<MemDisk>, momen
     }
 }
 
+/// A request with its reply and its changing calls, the reach, the first turn from which an image may open to
+/// what stands after it and the one from which each does, and the objects before and after.
+macro_rules! moments {
+    ($ask:expr => $reply:expr, $calls:literal calls, reach $reach:literal, $first:literal to $last:literal,
+        $before:expr => $after:expr) => {
+        Moments {
+            row: row!($ask => $reply, $calls),
+            reach: $reach,
+            first: $first,
+            last: $last,
+            before: $before,
+            after: $after,
+        }
+    };
+}
+
 /// A put of 100 bytes, which grows an empty store.
-const FIRST: Moments = Moments {
-    row: row!(Ask::Put("a", HUNDRED) => KEPT, 12),
-    reach: 312,
-    first: 8,
-    last: 10,
-    before: &[],
-    after: ONE_LAID,
-};
+const FIRST: Moments =
+    moments!(Ask::Put("a", HUNDRED) => KEPT, 12 calls, reach 312, 8 to 10, &[] => ONE_LAID);
 
 /// A put of 5 bytes, once 10 are put that no checkpoint has.
-const THIRD: Moments = Moments {
-    row: row!(Ask::Put("c", FIVE) => KEPT, 23),
-    reach: 254,
-    first: 9,
-    last: 11,
-    before: ONE_LAID,
-    after: THREE_LAID,
-};
+const THIRD: Moments =
+    moments!(Ask::Put("c", FIVE) => KEPT, 23 calls, reach 254, 9 to 11, ONE_LAID => THREE_LAID);
 
 /// The removal of these, once the 10 are removed and no checkpoint has it.
-const FOURTH: Moments = Moments {
-    row: row!(Ask::Del("c") => KEPT, 19),
-    reach: 239,
-    first: 7,
-    last: 9,
-    before: THREE_LAID,
-    after: ONE_LAID,
-};
+const FOURTH: Moments =
+    moments!(Ask::Del("c") => KEPT, 19 calls, reach 239, 7 to 9, THREE_LAID => ONE_LAID);
 
 /// The removal of the last object.
-const LAST: Moments = Moments {
-    row: row!(Ask::Del("a") => KEPT, 9),
-    reach: 112,
-    first: 5,
-    last: 7,
-    before: ONE_LAID,
-    after: &[],
-};
+const LAST: Moments = moments!(Ask::Del("a") => KEPT, 9 calls, reach 112, 5 to 7, ONE_LAID => &[]);
 
 /// 10 bytes in place of 100.
-const REPLACED: Moments = Moments {
-    row: row!(Ask::Put("a", TEN) => KEPT, 20),
-    reach: 132,
-    first: 8,
-    last: 10,
-    before: ONE_LAID,
-    after: TEN_LAID,
-};
+const REPLACED: Moments =
+    moments!(Ask::Put("a", TEN) => KEPT, 20 calls, reach 132, 8 to 10, ONE_LAID => TEN_LAID);
 
 /// Requests, and then one of which each turn is tried.
 type Part = (&'static [Row], &'static Moments);

@@ -2,6 +2,7 @@
 use crate::requests::try_holds;
 use disk_face::Disk;
 use disk_mem::MemDisk;
+use plain_layout::{Change, HELLO, put};
 use reopen::OpenFault;
 use size_class::CLASSES;
 use slot_codec::CodecFault;
@@ -10,37 +11,6 @@ use std::alloc::Global;
 use std::process::Abort;
 use store_core::Store;
 use table_check::TableFault;
-
-/// A byte of a file, by position.
-type Change = (usize, u8);
-
-/// The mark, k = 9, 16 names, and a settled table of sequence 1 with the one object `a` = `hello`.
-const HELLO: &[Change] = &[
-    (0, b'C'),
-    (1, b'O'),
-    (2, b'S'),
-    (3, b'T'),
-    (4, b'O'),
-    (5, b'R'),
-    (6, b'E'),
-    (7, b'1'),
-    (8, 9),
-    (16, 16),
-    (64, 1),
-    (72, 1),
-    (80, 1),
-    (120, 5),
-    (8552, 1),
-    (8553, b'a'),
-    (8624, 5),
-    (9832, 0xA5),
-    (19602, 0xA5),
-    (19603, b'h'),
-    (19604, b'e'),
-    (19605, b'l'),
-    (19606, b'l'),
-    (19607, b'o'),
-];
 
 /// The changes to records `a` and `b` of 100 bytes each, at 0 and at 50, of which some are of both.
 const SHARED: &[Change] = &[
@@ -68,15 +38,6 @@ fn opening(
     let mut disk = MemDisk::from_bytes(alloc, &bytes).expect(rt, "memory");
     let refusal = Store::<CLASSES>::open(alloc, &mut disk).err();
     (refusal, disk.turns())
-}
-
-/// Puts the bytes of a list, those that the file has.
-fn put(bytes: &mut [u8], changes: &[Change]) {
-    for (at, byte) in changes {
-        if *at < bytes.len() {
-            bytes[*at] = *byte;
-        }
-    }
 }
 
 /// A refusal by a rule at a place.

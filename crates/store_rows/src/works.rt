@@ -1,6 +1,7 @@
 //! Works over new files, beside what a plain program in another language found of the same jobs.
 ghost use Rattle.std.specs.Prelude.{◌≤◌};
 
+use crate::requests::try_holds;
 use disk_mem::PlainDisk;
 use size_class::CLASSES;
 use slot_pair::SlotPair;
@@ -22,75 +23,62 @@ fn work_on_new(rt: &impl Abort, alloc: Global, k: u64, number: u64, count: u64) 
     do_work(alloc, store, &mut disk, number, count).expect(rt, "a summary")
 }
 
-/// Two weights, of moved and of asked bytes.
-macro_rules! cost {
-    ($moved:literal, $asked:literal) => {
-        Cost {
-            moved: $moved,
-            asked: $asked,
-        }
+/// A divisor, the number of a work and its count of jobs, and what it comes to.
+type Row = (u64, u64, u64, Summary);
+
+/// Rows of works: what was asked, the counts of requests, ok, kept, read and refused, the names, bytes,
+/// length and moved bytes, and the weights of moved and of asked bytes by each cost.
+macro_rules! works {
+    ($(($k:literal, $number:expr, $count:literal) => $requests:literal $ok:literal $kept:literal $read:literal
+        $refused:literal, $names:literal $bytes:literal $length:literal $moved:literal,
+        linear $linear:literal $linear_asked:literal, flat $flat:literal $flat_asked:literal,
+        seek $seek:literal $seek_asked:literal;)*) => {
+        &[$((
+            $k,
+            $number,
+            $count,
+            Summary {
+                requests: $requests,
+                ok: $ok,
+                kept: $kept,
+                read: $read,
+                refused: $refused,
+                names: $names,
+                bytes: $bytes,
+                length: $length,
+                moved: $moved,
+                linear: Cost { moved: $linear, asked: $linear_asked },
+                flat: Cost { moved: $flat, asked: $flat_asked },
+                seek: Cost { moved: $seek, asked: $seek_asked },
+            },
+        )),*]
     };
 }
 
-/// What a short work comes to.
-const SHORT: Summary = Summary {
-    requests: 9,
-    ok: 2,
-    kept: 5,
-    read: 0,
-    refused: 2,
-    names: 6,
-    bytes: 19_854,
-    length: 23_929,
-    moved: 28_585,
-    linear: cost!(1_918_306_877_440, 1_332_379_385_856),
-    flat: cost!(612_171_776, 582_483_968),
-    seek: cost!(1_957_485_871_104, 1_369_658_359_808),
+/// A short work, one that reads and replaces, and the work of the greatest number.
+const ROWS: &[Row] = works! {
+    (2, 1, 8) => 9 2 5 0 2, 6 19_854 23_929 28_585,
+        linear 1_918_306_877_440 1_332_379_385_856, flat 612_171_776 582_483_968,
+        seek 1_957_485_871_104 1_369_658_359_808;
+    (2, 1, 24) => 25 12 9 2_492 3, 12 39_967 57_048 240_915,
+        linear 16_167_531_970_560 5_347_569_827_840, flat 5_664_997_376 2_537_848_832,
+        seek 16_530_091_802_624 5_509_992_153_088;
+    (9, u64::MAX, 30) => 31 2 19 6_106 8, 8 45_730 50_811 610_800,
+        linear 40_990_094_131_200 5_856_724_779_008, flat 10_992_697_344 2_008_219_648,
+        seek 41_693_626_761_216 5_985_250_836_480;
 };
 
-#[test]
-fn a_short_work(rt: HostRuntime) {
-    assert!(rt; work_on_new(&rt, rt.alloc(), 2, 1, 8) == SHORT);
+/// Tries one work.
+fn try_work(rt: &impl Abort, alloc: Global, row: &Row) {
+    let (k, number, count, wanted) = *row;
+    assert!(rt; 2 <= k && k <= 64 && 1 <= count && count <= 1_000_000);
+    let found = work_on_new(rt, alloc, k, number, count);
+    try_holds(rt, found == wanted, &(k, number, count));
 }
 
-/// What a work that reads and replaces comes to.
-const READING: Summary = Summary {
-    requests: 25,
-    ok: 12,
-    kept: 9,
-    read: 2_492,
-    refused: 3,
-    names: 12,
-    bytes: 39_967,
-    length: 57_048,
-    moved: 240_915,
-    linear: cost!(16_167_531_970_560, 5_347_569_827_840),
-    flat: cost!(5_664_997_376, 2_537_848_832),
-    seek: cost!(16_530_091_802_624, 5_509_992_153_088),
-};
-
 #[test]
-fn a_work_that_reads_and_replaces(rt: HostRuntime) {
-    assert!(rt; work_on_new(&rt, rt.alloc(), 2, 1, 24) == READING);
-}
-
-/// What the work of the greatest number comes to.
-const GREATEST: Summary = Summary {
-    requests: 31,
-    ok: 2,
-    kept: 19,
-    read: 6_106,
-    refused: 8,
-    names: 8,
-    bytes: 45_730,
-    length: 50_811,
-    moved: 610_800,
-    linear: cost!(40_990_094_131_200, 5_856_724_779_008),
-    flat: cost!(10_992_697_344, 2_008_219_648),
-    seek: cost!(41_693_626_761_216, 5_985_250_836_480),
-};
-
-#[test]
-fn the_work_of_the_greatest_number(rt: HostRuntime) {
-    assert!(rt; work_on_new(&rt, rt.alloc(), 9, u64::MAX, 30) == GREATEST);
+fn works_over_new_files(rt: HostRuntime) {
+    for row in ROWS {
+        try_work(&rt, rt.alloc(), row);
+    }
 }

@@ -1,12 +1,10 @@
 -- Live bytes of one record more.
-use Rattle.std.specs.Prelude.{◌≡◌, ℕ, zero, suc, ◌+◌, ◌-◌, ◌*◌, ◌^◌, ◌<◌, ◌≤◌, ◌==◌, ◌&&◌, nat_lt, Bool, true, false, cond, List, [], ◌∷◌, length, filter, take, sum_by, sum, map, slice_index, slice_index_or, replicate, refl}
-use Rattle.std.proofs.Common.{arith, ap, set, sym, ◌∙◌, inl, inr, add-zero}
-use Rattle.std.proofs.lemmas.Bool.{and_from, cases_Bool, cond-true, cond-false, eqb-false, eqb-true, lt-ltb}
+use Rattle.std.specs.Prelude.{◌≡◌, ℕ, zero, suc, ◌+◌, ◌-◌, ◌*◌, ◌^◌, ◌<◌, ◌≤◌, ◌==◌, ◌&&◌, nat_lt, Bool, true, false, cond, List, [], length, filter, take, slice_index, slice_index_or, replicate, refl}
+use Rattle.std.proofs.Common.{arith, ap, set, sym, ◌∙◌, inl, inr}
+use Rattle.std.proofs.lemmas.Bool.{and_from, cases_Bool, eqb-false, eqb-true, lt-ltb}
 use Rattle.std.proofs.lemmas.Grind.{get_or-set_at}
-use Rattle.std.proofs.lemmas.List.{get_or-replicate, get_or-set_other, length-set, map-append}
-use Rattle.std.proofs.lemmas.List.Elements.{filter_more}
-use Rattle.std.proofs.lemmas.List.Sums.{sum_by-append, sum_by-cons}
-use Rattle.byte_ranges.specs.Lists.{below, counting_from, sum_below}
+use Rattle.std.proofs.lemmas.List.{get_or-replicate, get_or-set_other, length-set}
+use Rattle.byte_ranges.specs.Lists.{below, sum_below}
 use Rattle.byte_ranges.proofs.ListLaws.{zeros_at}
 use Rattle.size_class.specs.Classes.{class_of, width, cell}
 use Rattle.slot_codec.specs.declared.codec.Record.{Record}

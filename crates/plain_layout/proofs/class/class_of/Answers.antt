@@ -1,4 +1,4 @@
-use Rattle.std.proofs.Common.{arith, nat_le, ◌^◌, ◌≡◌, ℕ, Bool, true, false}
+use Rattle.std.proofs.Common.{arith, nat_le, ◌^◌, ℕ, Bool, true, false}
 use Rattle.std.proofs.lemmas.Bool.{le-leb, lt-leb}
 use Rattle.segment_layout.proofs.StepLaws.{shifted}
 use Rattle.plain_layout.proofs.SumSteps.{count_yes, count_no}
@@ -12,27 +12,11 @@ powers-preserved c =
     let e = shifted c.powers.c c.powers-test.true in
     elim c.if-c-size.branch [
       | then-c-size w ↦
-          let some : p c.powers.c ≡ true = le-leb (2 ^ c.powers.c) size (omega (arith, e, w.if-c-size.true))
-          in
-          record {
-            count = omega (
-              arith,
-              count_yes p 32 c.powers.c c.powers-test.true some,
-              w.powers-is,
-              c.powers.invariant.count,
-            );
-            few = omega arith;
-          }
+          let some = le-leb (2 ^ c.powers.c) size (omega (arith, e, w.if-c-size.true)) in
+          let more = count_yes p 32 c.powers.c c.powers-test.true some in
+          record { count = omega (arith, more, w.powers-is, c.powers.invariant.count); few = omega arith }
       | else-c-size w ↦
-          let none : p c.powers.c ≡ false = lt-leb (2 ^ c.powers.c) size (omega (arith, e, w.if-c-size.false))
-          in
-          record {
-            count = omega (
-              arith,
-              count_no p 32 c.powers.c c.powers-test.true none,
-              w.powers-is,
-              c.powers.invariant.count,
-            );
-            few = omega arith;
-          }
+          let none = lt-leb (2 ^ c.powers.c) size (omega (arith, e, w.if-c-size.false)) in
+          let same = count_no p 32 c.powers.c c.powers-test.true none in
+          record { count = omega (arith, same, w.powers-is, c.powers.invariant.count); few = omega arith }
     ]

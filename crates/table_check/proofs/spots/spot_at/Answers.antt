@@ -4,7 +4,7 @@ use Rattle.std.specs.List.{slice_get}
 use Rattle.slot_codec.specs.declared.codec.Record.{Record}
 use Rattle.table_rules.specs.Tables.{no_record}
 use Rattle.extent_table.specs.declared.spot.Spot.{Spot}
-use Rattle.extent_table.specs.Extents.{Extents, IsTable, record_of, records_of}
+use Rattle.extent_table.specs.Extents.{record_of, records_of}
 use Rattle.extent_table.proofs.ExtentLaws.{records_of-count, records_of-nth}
 use Rattle.extent_table.proofs.SaveLaws.{records_in_range}
 use Rattle.table_check.specs.Placed.{ranked}
