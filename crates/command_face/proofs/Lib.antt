@@ -1,5 +1,3 @@
 pub mod StatusLaws
 pub mod UnopenedLaws
-pub mod OpeningLaws
-pub mod OverLaws
-pub mod ShownLaws
+pub mod MountLaws

@@ -5,8 +5,8 @@ use Rattle.slot_codec.specs.declared.codec.CodecFault.{CodecFault}
 use Rattle.slot_codec.specs.declared.codec.CodecFault.TheVariants as codec
 use Rattle.slot_pair.specs.declared.find.SlotFault.{SlotFault}
 use Rattle.slot_pair.specs.declared.find.SlotFault.TheVariants as slot
-use Rattle.command_face.specs.declared.stop.StoreFault.{StoreFault}
-use Rattle.command_face.specs.declared.stop.StoreFault.TheVariants as store
+use Rattle.reopen.specs.declared.fault.OpenFault.{OpenFault}
+use Rattle.reopen.specs.declared.fault.OpenFault.TheVariants as opening
 use Rattle.command_face.specs.declared.stop.StopReason.{StopReason}
 use Rattle.command_face.specs.declared.stop.StopReason.TheVariants as stop
 
@@ -31,9 +31,11 @@ slot_text slot.SameSequence = codes "slot 4"
 slot_text (slot.Codec f at) = codes "codec " ++ decimal (number_of f) ++ codes " at " ++ decimal at
 slot_text slot.Disk = codes "disk"
 
-abbrev pub store_text : StoreFault → List ℕ
-store_text (store.Slot f) = slot_text f
-store_text (store.Table broken) = codes "rule " ++ decimal broken.rule ++ codes " at " ++ decimal broken.at
+-- why a file is no store; want of memory is no reason (`stop_of`)
+abbrev pub store_text : OpenFault → List ℕ
+store_text (opening.Slot f) = slot_text f
+store_text (opening.Table broken) = codes "rule " ++ decimal broken.rule ++ codes " at " ++ decimal broken.at
+store_text opening.NoMemory = codes "memory"
 
 -- the line of a reason to stop; of the sink's own fault there is none
 abbrev pub line_of : StopReason → List ℕ

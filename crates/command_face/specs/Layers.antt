@@ -50,7 +50,7 @@ pub record Looks {T : Type 0} (old new : State) (result : Result T StopReason) :
 abbrev pub IsCommandReason : StopReason → Type 0
 IsCommandReason why = (why ≢ stop.Source) × (why ≢ stop.Budget) × ((n : ℕ) → why ≢ stop.Line n)
 
--- A layer that is to answer so ends by it, and puts its bytes, or a front of them where it stopped.
+-- The command ended as its answer says, and put the answer, or a front of it where it stopped.
 pub record Answers (answer : Result (List ℕ) StopReason → Type 0) (old new : SinkState)
     (end : Result (Unit {0}) StopReason) : Type 0 where
   pub bytes : List ℕ

@@ -3,5 +3,5 @@ pub mod Refusing
 pub mod Faults
 pub mod Outcomes
 pub mod Layers
+pub mod Devices
 pub mod Lines
-pub mod Served

@@ -3,31 +3,32 @@ use Rattle.std.specs.Prelude.{◌≡◌, ◌⊎◌, ℕ, ◌≤◌, List, [], �
 use Rattle.disk_face.specs.Counts.{Rose}
 use Rattle.disk_face.specs.Streams.{SinkState}
 use Rattle.command_face.specs.Faults.{line_of}
+use Rattle.command_face.specs.declared.status.TheConstants.{DISK_FAILED, DONE, FAULTY_REQUEST, FAULTY_WORDS, NOT_EMPTY, NO_FILE, NO_MEMORY, NO_OBJECT, NO_STORE, SINK_FAILED, SOURCE_FAILED, TOO_MANY}
 use Rattle.command_face.specs.declared.stop.StopReason.{StopReason}
 use Rattle.command_face.specs.declared.stop.StopReason.TheVariants as stop
 
 -- the status of a command that stops for this reason
 abbrev pub status_of : StopReason → ℕ
-status_of stop.Words = 1
-status_of stop.NoFile = 3
-status_of (stop.NotStore f) = 4
-status_of (stop.Taken n) = 5
-status_of stop.Missing = 6
-status_of stop.Disk = 7
-status_of stop.Sink = 9
-status_of stop.NoMemory = 10
-status_of (stop.Line n) = 2
-status_of stop.Source = 8
-status_of stop.Budget = 11
+status_of stop.Words = FAULTY_WORDS
+status_of stop.NoFile = NO_FILE
+status_of (stop.NotStore f) = NO_STORE
+status_of (stop.Taken n) = NOT_EMPTY
+status_of stop.Missing = NO_OBJECT
+status_of stop.Disk = DISK_FAILED
+status_of stop.Sink = SINK_FAILED
+status_of stop.NoMemory = NO_MEMORY
+status_of (stop.Line n) = FAULTY_REQUEST
+status_of stop.Source = SOURCE_FAILED
+status_of stop.Budget = TOO_MANY
 
 -- the status of a command that ends so
 abbrev pub status_at : {A : Type 0} → Result A StopReason → ℕ
-status_at (Ok a) = 0
+status_at (Ok a) = DONE
 status_at (Err why) = status_of why
 
--- A command that is to answer so may end so, where these are the bytes that it puts: it has put all that it
--- is to answer; or the sink failed meanwhile, or the disk did, then or before; or its file isn't there, or
--- memory is wanting, and there are none; or it stops as it is to, and there are none.
+-- How a command ends that is to answer so. Done, or its sink failed: `bytes` is the whole answer. Its disk
+-- failed: the whole answer or nothing. No file, no memory: nothing. Else it stops for the answer's own
+-- reason, and there is nothing.
 abbrev pub EndsBy : (Result (List ℕ) StopReason → Type 0) → List ℕ → Result (Unit {0}) StopReason → Type 0
 EndsBy answer bytes (Ok x) = answer (Ok bytes)
 EndsBy answer bytes (Err stop.Sink) = answer (Ok bytes)

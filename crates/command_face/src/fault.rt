@@ -4,9 +4,10 @@ ghost use Rattle.std.specs.Fmt.{decimal};
 ghost use Rattle.arrayvec.specs.ArrayVec.{array_vec_len};
 ghost use Rattle.command_face.specs.Faults.{line_of, number_of, slot_text, store_text};
 
-use crate::{StopReason, StoreFault};
+use crate::StopReason;
 use arrayvec::ArrayVec;
 use itoa::Buffer;
+use reopen::OpenFault;
 use slot_codec::CodecFault;
 use slot_pair::SlotFault;
 
@@ -44,19 +45,20 @@ pub fn fault_line(why: StopReason) -> ArrayVec<u8, 128>
 }
 
 /// Adds why a file is no store.
-fn push_store_fault(line: &mut ArrayVec<u8, 128>, fault: StoreFault)
+fn push_store_fault(line: &mut ArrayVec<u8, 128>, fault: OpenFault)
     requires { array_vec_len line.old ≤ 16 }
     ensures text { line.new.items ≡ line.old.items ++ store_text fault }
     ensures short { array_vec_len line.new ≤ 100 }
 {
     match fault {
-        StoreFault::Slot(fault) => push_slot_fault(line, fault),
-        StoreFault::Table(broken) => {
+        OpenFault::Slot(fault) => push_slot_fault(line, fault),
+        OpenFault::Table(broken) => {
             push(line, b"rule ");
             push_number(line, u64::from(broken.rule));
             push(line, b" at ");
             push_number(line, broken.at);
         }
+        OpenFault::NoMemory => push(line, b"memory"),
     }
 }
 

@@ -2,12 +2,19 @@
 #![tactic(auto)]
 
 mod fault;
+mod mount;
 mod opening;
 mod outcome;
 mod put;
+mod status;
 mod stop;
 
+pub use mount::mount_there;
 pub use opening::stop_of;
 pub use outcome::{Outcome, finish};
 pub use put::{push, put_whole};
-pub use stop::{StopReason, StoreFault};
+pub use status::{
+    DISK_FAILED, DONE, FAULTY_REQUEST, FAULTY_WORDS, NOT_EMPTY, NO_FILE, NO_MEMORY, NO_OBJECT,
+    NO_STORE, SINK_FAILED, SOURCE_FAILED, TOO_MANY,
+};
+pub use stop::StopReason;

@@ -3,7 +3,7 @@ ghost use Rattle.std.specs.Prelude.{◌≡◌};
 ghost use Rattle.command_face.specs.Refusing.{stop_of};
 ghost use Rattle.command_face.specs.Layers.{IsCommandReason};
 
-use crate::{StopReason, StoreFault};
+use crate::StopReason;
 use reopen::OpenFault;
 use slot_pair::SlotFault;
 
@@ -14,8 +14,7 @@ pub fn stop_of(fault: OpenFault) -> StopReason
 {
     match fault {
         OpenFault::Slot(SlotFault::Disk) => StopReason::Disk,
-        OpenFault::Slot(other) => StopReason::NotStore(StoreFault::Slot(other)),
-        OpenFault::Table(broken) => StopReason::NotStore(StoreFault::Table(broken)),
         OpenFault::NoMemory => StopReason::NoMemory,
+        other => StopReason::NotStore(other),
     }
 }

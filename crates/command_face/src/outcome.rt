@@ -4,8 +4,12 @@ ghost use Rattle.disk_face.specs.Counts.{Rose};
 ghost use Rattle.command_face.specs.Outcomes.{PutsLast, line_at, status_at};
 ghost use Rattle.command_face.specs.Faults.{line_of};
 
-use crate::StopReason;
 use crate::fault::fault_line;
+use crate::status::{
+    DISK_FAILED, DONE, FAULTY_REQUEST, FAULTY_WORDS, NOT_EMPTY, NO_FILE, NO_MEMORY, NO_OBJECT,
+    NO_STORE, SINK_FAILED, SOURCE_FAILED, TOO_MANY,
+};
+use crate::stop::StopReason;
 use disk_face::Sink;
 
 /// How the program ends. The three numbers are of the requests of the input; they are 0 for a command
@@ -14,7 +18,7 @@ use disk_face::Sink;
 pub struct Outcome {
     /// 0 done, 1 faulty words, 2 a faulty request, 3 no file, 4 no store, 5 not an empty file, 6 no
     /// such object, 7 the disk failed, 8 the source failed, 9 the sink failed, 10 too little memory, 11
-    /// as many requests as one session answers.
+    /// as many requests as one session answers: the constants of `status`.
     pub status: u8,
     /// How many requests were answered.
     pub done: u64,
@@ -63,17 +67,17 @@ fn status_at(end: &Result<(), StopReason>) -> u8
     ensures { result ≡ status_at end.now }
 {
     match end {
-        Ok(()) => 0,
-        Err(StopReason::Words) => 1,
-        Err(StopReason::NoFile) => 3,
-        Err(StopReason::NotStore(_)) => 4,
-        Err(StopReason::Taken(_)) => 5,
-        Err(StopReason::Missing) => 6,
-        Err(StopReason::Disk) => 7,
-        Err(StopReason::Sink) => 9,
-        Err(StopReason::NoMemory) => 10,
-        Err(StopReason::Line(_)) => 2,
-        Err(StopReason::Source) => 8,
-        Err(StopReason::Budget) => 11,
+        Ok(()) => DONE,
+        Err(StopReason::Words) => FAULTY_WORDS,
+        Err(StopReason::NoFile) => NO_FILE,
+        Err(StopReason::NotStore(_)) => NO_STORE,
+        Err(StopReason::Taken(_)) => NOT_EMPTY,
+        Err(StopReason::Missing) => NO_OBJECT,
+        Err(StopReason::Disk) => DISK_FAILED,
+        Err(StopReason::Sink) => SINK_FAILED,
+        Err(StopReason::NoMemory) => NO_MEMORY,
+        Err(StopReason::Line(_)) => FAULTY_REQUEST,
+        Err(StopReason::Source) => SOURCE_FAILED,
+        Err(StopReason::Budget) => TOO_MANY,
     }
 }

@@ -1,15 +1,5 @@
 //! Why a command stops before it is done.
-use slot_pair::SlotFault;
-use table_check::TableFault;
-
-/// Why a file is no store.
-#[derive(Clone, Copy, Debug, PartialEq, Eq)]
-pub enum StoreFault {
-    /// The superblock, the gates, a header or a record refuses it.
-    Slot(SlotFault),
-    /// Its table breaks a rule.
-    Table(TableFault),
-}
+use reopen::OpenFault;
 
 /// Why a command stops.
 #[derive(Clone, Copy, Debug, PartialEq, Eq)]
@@ -18,7 +8,8 @@ pub enum StopReason {
     Words,
     /// There is no such file.
     NoFile,
-    NotStore(StoreFault),
+    /// What the bytes of the file show first: no fault of the disk, and no want of memory.
+    NotStore(OpenFault),
     /// A file that is to be formatted has this length, in bytes.
     Taken(u64),
     /// The store has no object of the name.

@@ -13,8 +13,8 @@ use Rattle.slot_codec.specs.Spelling.{head_len}
 use Rattle.table_rules.specs.Tables as tables
 use Rattle.table_rules.specs.Rules.{FirstBroken}
 use Rattle.table_rules.proofs.FirstLaws.{first_is_one}
-use Rattle.command_face.specs.declared.stop.StoreFault.{StoreFault}
-use Rattle.command_face.specs.declared.stop.StoreFault.TheVariants as store
+use Rattle.reopen.specs.declared.fault.OpenFault.{OpenFault}
+use Rattle.reopen.specs.declared.fault.OpenFault.TheVariants as opening
 use Rattle.command_face.specs.declared.stop.StopReason.{StopReason}
 use Rattle.command_face.specs.declared.stop.StopReason.TheVariants as stop
 use Rattle.command_face.specs.Refusing.{IsFirstRefusal, IsRefused, fault_of}
@@ -22,18 +22,18 @@ use Rattle.file_commands.specs.Getting.{IsObject, or_missing}
 use Rattle.file_commands.specs.Texts.{IsTold, check_text, map_text}
 use Rattle.command_face.specs.Outcomes.{Ends, EndsBy, status_at}
 use Rattle.costore_top.specs.Answering.{IsAnswer}
-use Rattle.command_face.specs.Mounting.{Command, check, format, get, help, map_of, run, version, work}
+use Rattle.costore_top.specs.Commands.{Command, check, format, get, help, map_of, run, version, work}
 use Rattle.command_face.proofs.UnopenedLaws.{opens_or_not}
 
 -- ---- one answer
 
-one_refusal : (file : List ℕ) (f g : StoreFault) → IsFirstRefusal file f → IsFirstRefusal file g → f ≡ g
-one_refusal file (store.Slot f) (store.Slot g) (r, a, is_f) (s, b, is_g) =
+one_refusal : (file : List ℕ) (f g : OpenFault) → IsFirstRefusal file f → IsFirstRefusal file g → f ≡ g
+one_refusal file (opening.Slot f) (opening.Slot g) (r, a, is_f) (s, b, is_g) =
     let same : r ≡ s = cc in
-    ap store.Slot (is_f ∙ ap fault_of same ∙ sym is_g)
-one_refusal file (store.Slot f) (store.Table y) (r, a, is_f) h = let read = h.read in absurd (cc)
-one_refusal file (store.Table x) (store.Slot g) h (s, b, is_g) = let read = h.read in absurd (cc)
-one_refusal file (store.Table x) (store.Table y) h k =
+    ap opening.Slot (is_f ∙ ap fault_of same ∙ sym is_g)
+one_refusal file (opening.Slot f) (opening.Table y) (r, a, is_f) h = let read = h.read in absurd (cc)
+one_refusal file (opening.Table x) (opening.Slot g) h (s, b, is_g) = let read = h.read in absurd (cc)
+one_refusal file (opening.Table x) (opening.Table y) h k =
     let same : h.table ≡ k.table = from_ok h.table k.table (sym h.read ∙ k.read) in
     let first : FirstBroken (placed_table CLASSES SIZE_MAX file h.table) y.rule
     y.at = subst (λ t. FirstBroken (placed_table CLASSES SIZE_MAX file t) y.rule y.at) (sym same) k.first in
@@ -41,7 +41,10 @@ one_refusal file (store.Table x) (store.Table y) h k =
     let one = first_is_one table x.rule x.at y.rule y.at h.first first in
     let rule = one.0 in
     let at = one.1 in
-    λ i. store.Table (record { rule = rule i; at = at i })
+    λ i. opening.Table (record { rule = rule i; at = at i })
+one_refusal file opening.NoMemory g h k = absurd (h)
+one_refusal file (opening.Slot f) opening.NoMemory h k = absurd (k)
+one_refusal file (opening.Table x) opening.NoMemory h k = absurd (k)
 
 -- a file that is refused stops the command for one reason
 one_stop : (file : List ℕ) (a b : Result (List ℕ) StopReason) → IsRefused file a → IsRefused file b → a ≡ b

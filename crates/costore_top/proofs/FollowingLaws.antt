@@ -29,7 +29,8 @@ use Rattle.store_core.proofs.OpeningLaws.{alike_itself}
 use Rattle.ask_session.specs.Runs.{last_state}
 use Rattle.command_face.specs.declared.outcome.Outcome.{Outcome}
 use Rattle.costore_top.specs.Following.{LeavesRoomTwice, MayBegin}
-use Rattle.command_face.specs.Served.{IsNextStart, OpensToBeing, OpensToKept, limits_with, most_left, state_after}
+use Rattle.served_file.specs.Served.{IsNextStart, OpensToBeing, OpensToKept, limits_with, most_left, state_after, found_with}
+use Rattle.command_face.specs.Devices.{devices}
 use Rattle.run_command.specs.Headline.{RunHolds}
 use Rattle.work_command.specs.Working.{WorkHolds}
 use Rattle.costore_top.proofs.PlainStates.{chain_plain, last_plain, starts_plain}
@@ -148,7 +149,8 @@ module _ {t : choice.Table} {m : Map} {b : Book} {old z : State} {out after : Si
     (rests : RestsOnFound t old)
     (below : z.turn < last) where
   pub run_followed : {requests : List Request} {end : List ℕ} {x : Outcome} {from rest : SourceState}
-      → RunHolds t.chosen.block t m b requests end x old z from rest out after
+      → RunHolds (found_with t.chosen.block t m b) requests end x (devices old out) (devices z after) from
+          rest
       → LeftOnly z old.turn (MayBegin (most_left t.chosen.block.k t))
   run_followed {x = x} r image since =
       let room = room_once t twice in
@@ -163,7 +165,7 @@ module _ {t : choice.Table} {m : Map} {b : Book} {old z : State} {out after : Si
       ])
 
   pub work_followed : {number count status : ℕ}
-      → WorkHolds t.chosen.block t m b number count status old z out after
+      → WorkHolds (found_with t.chosen.block t m b) number count status (devices old out) (devices z after)
       → LeftOnly z old.turn (MayBegin (most_left t.chosen.block.k t))
   work_followed {status = status} w image since =
       let room = room_once t twice in

@@ -1,7 +1,11 @@
 mod AnswerLaws
 mod EndedLaws
-mod FormatLaws
+mod StatusEnds
 mod WordLists
 mod OtherLaws
+mod PlainLaws
+mod DoesLaws
+mod FaultyLaws
+mod CommandLaws
 mod PlainStates
 mod FollowingLaws

@@ -9,7 +9,7 @@ use Rattle.store_core.specs.Plain.{IsPlain}
 use Rattle.store_core.specs.States.{Chain, Limits, State, Step, served}
 use Rattle.store_core.proofs.PlainLaws.{ArePlain, served_plain}
 use Rattle.ask_session.specs.Runs.{last_state}
-use Rattle.command_face.specs.Served.{Starts, state_after}
+use Rattle.served_file.specs.Served.{Starts, state_after}
 use Rattle.run_command.specs.Headline.{next_states, served_states}
 
 step_plain : (limits : Limits) (s t : State) (r : Request) (reply : Reply) → ArePlain s

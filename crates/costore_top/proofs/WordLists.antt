@@ -3,7 +3,7 @@ use Rattle.std.specs.Prelude.{◌≡◌, ℕ, ◌<◌, ◌^◌, List, codes}
 use Rattle.std.proofs.Common.{get_or, ap, sym, ◌∙◌, arith}
 use Rattle.std.specs.Fmt.{decimal}
 use Rattle.std.proofs.lemmas.Fmt.{decimal_injective}
-use Rattle.command_face.specs.Mounting.{Command, format, get, check, map_of, run, work, help, version}
+use Rattle.costore_top.specs.Commands.{Command, format, get, check, map_of, run, work, help, version}
 use Rattle.costore_top.specs.Words.{IsCommand, Means, spelled}
 
 one_number : (m n : ℕ) → m < 2 ^ 64 → n < 2 ^ 64 → decimal m ≡ decimal n → m ≡ n

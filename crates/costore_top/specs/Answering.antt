@@ -1,6 +1,6 @@
--- Which commands mount and read a file or serve requests, and what each is to answer.
-use Rattle.std.specs.Prelude.{◌≡◌, ℕ, Bool, true, false, List, Result, Ok, IsFalse}
-use Rattle.command_face.specs.Mounting.{Command, check, format, get, help, map_of, run, version, work}
+-- What words ask for, and what each command is to answer.
+use Rattle.std.specs.Prelude.{◌≡◌, ℕ, List, Result, Ok, IsFalse}
+use Rattle.costore_top.specs.Commands.{Command, check, format, get, help, map_of, mounts, run, serves, version, work}
 use Rattle.costore_top.specs.Words.{Means}
 use Rattle.file_commands.specs.Getting.{IsObject}
 use Rattle.file_commands.specs.Texts.{IsChecked, IsMapped}
@@ -8,30 +8,9 @@ use Rattle.command_face.specs.declared.stop.StopReason.{StopReason}
 use Rattle.costore_top.specs.declared.help.TheConstants.{HELP, VERSION}
 use Rattle.file_commands.specs.Formatting.{format_answer}
 
--- the command mounts its file
-abbrev pub mounts : Command → Bool
-mounts (format file k names) = true
-mounts (get file name) = true
-mounts (check file) = true
-mounts (map_of file) = true
-mounts (run file) = true
-mounts (work file number count) = true
-mounts _ = false
-
--- the command reads the table of its file, for which it takes memory
-abbrev pub reads : Command → Bool
-reads (get file name) = true
-reads (check file) = true
-reads (map_of file) = true
-reads (run file) = true
-reads (work file number count) = true
-reads _ = false
-
--- the command serves requests, those of its input or those of a number
-abbrev pub serves : Command → Bool
-serves (run file) = true
-serves (work file number count) = true
-serves _ = false
+-- the words ask for no file
+abbrev pub NamesNoFile : List (List ℕ) → Type 0
+NamesNoFile words = (c : Command) → Means words c → IsFalse (mounts c)
 
 -- the words don't ask for requests to be served
 abbrev pub ServesNothing : List (List ℕ) → Type 0

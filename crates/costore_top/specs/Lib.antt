@@ -1,4 +1,6 @@
+pub mod Commands
 pub mod Words
 pub mod Answering
+pub mod Promises
+pub mod Doing
 pub mod Following
-pub mod Changing

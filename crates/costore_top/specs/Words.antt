@@ -3,11 +3,9 @@ use Rattle.std.specs.Prelude.{◌≡◌, ℕ, ◌<◌, ◌≤◌, ◌^◌, List,
 use Rattle.std.specs.Fmt.{decimal}
 use Rattle.std.specs.Borrow.{Bor}
 use Rattle.slot_codec.specs.Names.{IsName}
-use Rattle.costore_top.specs.declared.words.Asked.{Asked}
-use Rattle.costore_top.specs.declared.words.Asked.TheVariants as asked
-use Rattle.costore_top.specs.declared.words.Serving.{Serving}
-use Rattle.costore_top.specs.declared.words.Serving.TheVariants as serving
-use Rattle.command_face.specs.Mounting.{Command, format, get, check, map_of, run, work, help, version}
+use Rattle.costore_top.specs.declared.words.Command as read
+use Rattle.costore_top.specs.declared.words.Command.TheVariants as asked
+use Rattle.costore_top.specs.Commands.{Command, format, get, check, map_of, run, work, help, version}
 
 -- the words of a command line
 abbrev pub spelled : Command → List (List ℕ)
@@ -47,7 +45,7 @@ abbrev pub texts : List (Bor (List ℕ)) → List (List ℕ)
 texts words = map (λ word. word.now) words
 
 -- the command that the program has read
-abbrev pub command_of : Asked → Command
+abbrev pub command_of : read.Command → Command
 command_of (asked.Format file k names) = format file.now k names
 command_of (asked.Get file name) = get file.now name
 command_of (asked.Check file) = check file.now
@@ -56,8 +54,3 @@ command_of (asked.Run file) = run file.now
 command_of (asked.Work file number count) = work file.now number count
 command_of asked.Help = help
 command_of asked.Version = version
-
--- the command that serves requests
-abbrev pub serving_of : Serving → Command
-serving_of (serving.Run file) = run file.now
-serving_of (serving.Work file number count) = work file.now number count

@@ -12,17 +12,18 @@ ghost use Rattle.table_rules.specs.Opening.{Opens, OpensBy};
 ghost use Rattle.store_core.specs.Opened.{RestsOnFound, most_found};
 ghost use Rattle.store_core.specs.Plain.{IsPlain};
 ghost use Rattle.ask_text.specs.Inputs.{Asks};
-ghost use Rattle.command_face.specs.Mounting.{Command, check, get, map_of, run, work};
+ghost use Rattle.costore_top.specs.Commands.{Command, check, get, map_of, run, work};
 ghost use Rattle.file_commands.specs.Getting.{or_missing};
 ghost use Rattle.costore_top.specs.Following.{LeavesRoomTwice, MayBegin};
-ghost use Rattle.command_face.specs.Served.{most_left};
+ghost use Rattle.served_file.specs.Served.{most_left};
 ghost use Rattle.run_command.specs.Headline.{RunPromise};
 ghost use Rattle.command_face.specs.Outcomes.{Ends, status_at};
+ghost use Rattle.command_face.specs.Devices.{devices};
 ghost use Rattle.costore_top.specs.Answering.{IsAnswer};
 ghost use Rattle.file_commands.specs.Texts.{check_text, map_text};
 ghost use Rattle.work_command.specs.Working.{WorkPromise};
 
-use command_face::{Outcome, StopReason};
+use command_face::{DISK_FAILED, NO_FILE, NO_MEMORY, Outcome, SINK_FAILED, StopReason};
 use disk_face::{Bay, Sink, Source};
 use size_class::{CLASSES, SIZE_MAX};
 
@@ -47,7 +48,7 @@ pub fn ends_by_the_answer()
     ensures { (c : Command) (file : List ℕ) (answer : Result (List ℕ) StopReason) (status : ℕ)
         (old new : SinkState)
         → IsAnswer c file answer → Ends (IsAnswer c file) status old new → (status ≡ status_at answer)
-        ⊎ (status ≡ 3) ⊎ (status ≡ 7) ⊎ (status ≡ 9) ⊎ (status ≡ 10) }
+        ⊎ (status ≡ NO_FILE) ⊎ (status ≡ DISK_FAILED) ⊎ (status ≡ SINK_FAILED) ⊎ (status ≡ NO_MEMORY) }
 {}
 
 /// What a crash leaves at any moment of `run` or `work` may be the start of another call: it opens, by a
@@ -60,24 +61,28 @@ pub fn a_crash_may_be_followed_by_a_call<B: Bay, I: Source, O: Sink>()
         (o : Outcome) (old new : B) (from rest : I) (out after : O) → IsPlain b
         → OpensBy CLASSES SIZE_MAX t (B.state old).file m b
         → Asks (I.state from).left requests end
-        → RunPromise o (B.state old) (B.state new) (I.state from) (I.state rest) (O.state out) (O.state after)
+        → RunPromise o (devices (B.state old) (O.state out)) (devices (B.state new) (O.state after))
+            (I.state from) (I.state rest)
         → LeavesRoomTwice t → RestsOnFound t (B.state old) → (B.state new).turn < last
         → LeftOnly (B.state new) (B.state old).turn (MayBegin (most_left t.chosen.block.k t)) }
     ensures work { (t : choice.Table) (m : Map) (b : Book) (number count status : ℕ) (old new : B)
         (out after : O) → IsPlain b → OpensBy CLASSES SIZE_MAX t (B.state old).file m b
-        → WorkPromise number count status (B.state old) (B.state new) (O.state out) (O.state after)
+        → WorkPromise number count status (devices (B.state old) (O.state out))
+            (devices (B.state new) (O.state after))
         → LeavesRoomTwice t → RestsOnFound t (B.state old) → (B.state new).turn < last
         → LeftOnly (B.state new) (B.state old).turn (MayBegin (most_left t.chosen.block.k t)) }
     ensures calm { (t : choice.Table) (m : Map) (b : Book) (requests : List Request) (end : List ℕ)
         (o : Outcome) (old new : B) (from rest : I) (out after : O) → IsPlain b
         → OpensBy CLASSES SIZE_MAX t (B.state old).file m b
         → Asks (I.state from).left requests end
-        → RunPromise o (B.state old) (B.state new) (I.state from) (I.state rest) (O.state out) (O.state after)
+        → RunPromise o (devices (B.state old) (O.state out)) (devices (B.state new) (O.state after))
+            (I.state from) (I.state rest)
         → LeavesRoomTwice t → IsCalm (B.state old).faults (B.state new).faults
         → MayBegin (most_left t.chosen.block.k t) (B.state new).file }
     ensures calm_work { (t : choice.Table) (m : Map) (b : Book) (number count status : ℕ) (old new : B)
         (out after : O) → IsPlain b → OpensBy CLASSES SIZE_MAX t (B.state old).file m b
-        → WorkPromise number count status (B.state old) (B.state new) (O.state out) (O.state after)
+        → WorkPromise number count status (devices (B.state old) (O.state out))
+            (devices (B.state new) (O.state after))
         → LeavesRoomTwice t → IsCalm (B.state old).faults (B.state new).faults
         → MayBegin (most_left t.chosen.block.k t) (B.state new).file }
     ensures low { (t : choice.Table) (file : List ℕ) (m : Map) (b : Book)

@@ -1,15 +1,15 @@
 //! The command that the words of the command line mean.
 ghost use Rattle.std.specs.Prelude.{◌≡◌, ◌≤◌, ◌↔◌, ◌∷◌, [], ℕ, IsTrue, MatchOption};
 ghost use Rattle.std.specs.Fmt.{decimal};
-ghost use Rattle.costore_top.specs.Answering.{ServesNothing};
-ghost use Rattle.costore_top.specs.Words.{Means, MeansNone, texts, command_of, serving_of};
+ghost use Rattle.costore_top.specs.Commands.{changes};
+ghost use Rattle.costore_top.specs.Words.{Means, MeansNone, command_of, texts};
 
 use itoa::Buffer;
 use slot_codec::Name;
 
 /// What the program is asked to do. A file's name isn't empty.
 #[derive(Drop)]
-pub enum Asked<'a> {
+pub enum Command<'a> {
     /// The file, k (2 to 64), and the number of names (16 to 65,536).
     Format(&'a str, u64, u64),
     Get(&'a str, Name),
@@ -22,30 +22,22 @@ pub enum Asked<'a> {
     Version,
 }
 
-/// A command that serves requests.
-pub enum Serving<'a> {
-    /// Those of the input, over the file.
-    Run(&'a str),
-    /// Those of a number, over the file: the number, and how many (1 to 1,000,000).
-    Work(&'a str, u64, u64),
-}
-
-/// Which requests the words ask to be served, or none where they ask for none.
-pub fn read_serving<'a>(words: &[&'a str]) -> Option<Serving<'a>>
-    ensures { MatchOption result (ServesNothing (texts words.now))
-        (λ asked. Means (texts words.now) (serving_of asked)) }
-{
-    match read_words(words) {
-        Some(Asked::Run(file)) => Some(Serving::Run(file)),
-        Some(Asked::Work(file, number, count)) => Some(Serving::Work(file, number, count)),
-        _ => None,
+impl Command<'_> {
+    /// Whether it may change its file, or make it.
+    pub fn changes(&self) -> bool
+        ensures { result ≡ changes (command_of self.now) }
+    {
+        match self {
+            Command::Format(_, _, _) | Command::Run(_) | Command::Work(_, _, _) => true,
+            _ => false,
+        }
     }
 }
 
 /// What the words ask for, or none where they are no command.
-pub fn read_words<'a>(words: &[&'a str]) -> Option<Asked<'a>>
+pub fn read_command<'a>(words: &[&'a str]) -> Option<Command<'a>>
     ensures { MatchOption result (MeansNone (texts words.now))
-        (λ asked. Means (texts words.now) (command_of asked)) }
+        (λ read. Means (texts words.now) (command_of read)) }
 {
     match words {
         [command] => one_word(command),
@@ -57,64 +49,64 @@ pub fn read_words<'a>(words: &[&'a str]) -> Option<Asked<'a>>
 }
 
 /// A command that names no file.
-fn one_word<'a>(command: &str) -> Option<Asked<'a>>
+fn one_word<'a>(command: &str) -> Option<Command<'a>>
     ensures { MatchOption result (MeansNone (command.now ∷ []))
-        (λ asked. Means (command.now ∷ []) (command_of asked)) }
+        (λ read. Means (command.now ∷ []) (command_of read)) }
 {
     if says(command, "--help") {
-        Some(Asked::Help)
+        Some(Command::Help)
     } else if says(command, "--version") {
-        Some(Asked::Version)
+        Some(Command::Version)
     } else {
         None
     }
 }
 
 /// A command of a file alone.
-fn two_words<'a>(command: &str, file: &'a str) -> Option<Asked<'a>>
+fn two_words<'a>(command: &str, file: &'a str) -> Option<Command<'a>>
     ensures { MatchOption result (MeansNone (command.now ∷ file.now ∷ []))
-        (λ asked. Means (command.now ∷ file.now ∷ []) (command_of asked)) }
+        (λ read. Means (command.now ∷ file.now ∷ []) (command_of read)) }
 {
     if file.is_empty() {
         None
     } else if says(command, "check") {
-        Some(Asked::Check(file))
+        Some(Command::Check(file))
     } else if says(command, "map") {
-        Some(Asked::Map(file))
+        Some(Command::Map(file))
     } else if says(command, "run") {
-        Some(Asked::Run(file))
+        Some(Command::Run(file))
     } else {
         None
     }
 }
 
 /// `get FILE NAME`.
-fn three_words<'a>(command: &str, file: &'a str, name: &str) -> Option<Asked<'a>>
+fn three_words<'a>(command: &str, file: &'a str, name: &str) -> Option<Command<'a>>
     ensures { MatchOption result (MeansNone (command.now ∷ file.now ∷ name.now ∷ []))
-        (λ asked. Means (command.now ∷ file.now ∷ name.now ∷ []) (command_of asked)) }
+        (λ read. Means (command.now ∷ file.now ∷ name.now ∷ []) (command_of read)) }
 {
     if !says(command, "get") || file.is_empty() {
         return None;
     }
     let name = Name::new(name.as_bytes())?;
-    Some(Asked::Get(file, name))
+    Some(Command::Get(file, name))
 }
 
 /// A command of a file and two numbers.
-fn four_words<'a>(command: &str, file: &'a str, first: &str, second: &str) -> Option<Asked<'a>>
+fn four_words<'a>(command: &str, file: &'a str, first: &str, second: &str) -> Option<Command<'a>>
     ensures { MatchOption result (MeansNone (command.now ∷ file.now ∷ first.now ∷ second.now ∷ []))
-        (λ asked. Means (command.now ∷ file.now ∷ first.now ∷ second.now ∷ []) (command_of asked)) }
+        (λ read. Means (command.now ∷ file.now ∷ first.now ∷ second.now ∷ []) (command_of read)) }
 {
     if file.is_empty() {
         None
     } else if says(command, "format") {
         let k = number(first, 2, 64)?;
         let names = number(second, 16, 65_536)?;
-        Some(Asked::Format(file, k, names))
+        Some(Command::Format(file, k, names))
     } else if says(command, "work") {
         let jobs = number(first, 0, u64::MAX)?;
         let count = number(second, 1, 1_000_000)?;
-        Some(Asked::Work(file, jobs, count))
+        Some(Command::Work(file, jobs, count))
     } else {
         None
     }

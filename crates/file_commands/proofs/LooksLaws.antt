@@ -22,7 +22,8 @@ module _ {T U A E : Type 0} (a b d : State) (x : T) (looks : Looks a b (Ok x)) (
   }
 
   -- the length wasn't, since the disk failed
-  pub looks_failed : (e : E) → HasCause {T = A} {E = E} b.faults d.faults (Err e) → Looks {T = U} a d (Err stop.Disk)
+  pub looks_failed : (e : E) → HasCause {T = A} {E = E} b.faults d.faults (Err e) → Looks {T = U} a d
+      (Err stop.Disk)
   looks_failed e h = record {
     only = (λ is. absurd (cc), λ is. absurd (cc), λ is. absurd (cc));
     cause = record {

@@ -1,8 +1,8 @@
 //! Each command, but for the fault line.
-ghost use Rattle.std.specs.Prelude.{◌≡◌, ◌≢◌, ◌≤◌, None, Ok, Err, IfErr, IsTrue, length};
+ghost use Rattle.std.specs.Prelude.{◌≡◌, ◌≢◌, ◌≤◌, false, true, None, Ok, Err, IfErr, IsTrue, length};
 ghost use Rattle.disk_face.specs.Frames.{Untouched};
 ghost use Rattle.file_commands.specs.Getting.{IsObject};
-ghost use Rattle.command_face.specs.Mounting.{IsMounted, check, format, get, map_of};
+ghost use Rattle.command_face.specs.Mounting.{IsMounted};
 ghost use Rattle.file_commands.specs.Formatting.{Formats, IsDone, format_answer};
 ghost use Rattle.command_face.specs.Layers.{Answers, IsCommandReason, KeepsAt, PutsNone};
 ghost use Rattle.file_commands.specs.Texts.{IsChecked, IsMapped};
@@ -10,7 +10,7 @@ ghost use Rattle.file_commands.specs.Texts.{IsChecked, IsMapped};
 use crate::check::check;
 use crate::get::get;
 use crate::map::map;
-use command_face::{StopReason, put_whole};
+use command_face::{StopReason, mount_there, put_whole};
 use disk_face::{Bay, Disk, Mounted, Sink, length_of};
 use slot_codec::Name;
 use slot_pair::SlotPair;
@@ -26,7 +26,7 @@ pub fn get_from<B: Bay, O: Sink>(
 ) -> Result<(), StopReason>
     requires { (B.state bay.old).last_mount ≡ None }
     ensures words { result ≢ Err StopReason.Words }
-    ensures mounted { IsMounted (get file.now name.now) (B.state bay.new).last_mount
+    ensures mounted { IsMounted file.now false (B.state bay.new).last_mount
         (result ≡ Err StopReason.Disk)
         (result ≡ Err StopReason.NoFile) }
     ensures answers { IsTrue (B.state bay.old).tells
@@ -38,13 +38,8 @@ pub fn get_from<B: Bay, O: Sink>(
     ensures keeps { KeepsAt (B.state bay.old) (B.state bay.new) (O.state output.old) (O.state output.new)
         result }
 {
-    match bay.mount(file, false) {
-        Err(_) => Err(StopReason::Disk),
-        Ok(Mounted::Absent) => Err(StopReason::NoFile),
-        // Nothing is made where it isn't asked for.
-        Ok(Mounted::Made) => unreachable!(),
-        Ok(Mounted::There) => get(alloc, bay, name, output),
-    }
+    mount_there(bay, file)?;
+    get(alloc, bay, name, output)
 }
 
 /// `check FILE`.
@@ -56,7 +51,7 @@ pub fn check_from<B: Bay, O: Sink>(
 ) -> Result<(), StopReason>
     requires { (B.state bay.old).last_mount ≡ None }
     ensures words { result ≢ Err StopReason.Words }
-    ensures mounted { IsMounted (check file.now) (B.state bay.new).last_mount (result ≡ Err StopReason.Disk)
+    ensures mounted { IsMounted file.now false (B.state bay.new).last_mount (result ≡ Err StopReason.Disk)
         (result ≡ Err StopReason.NoFile) }
     ensures answers { IsTrue (B.state bay.old).tells
         → Answers (IsChecked (B.state bay.old).file) (O.state output.old) (O.state output.new) result }
@@ -66,13 +61,8 @@ pub fn check_from<B: Bay, O: Sink>(
     ensures keeps { KeepsAt (B.state bay.old) (B.state bay.new) (O.state output.old) (O.state output.new)
         result }
 {
-    match bay.mount(file, false) {
-        Err(_) => Err(StopReason::Disk),
-        Ok(Mounted::Absent) => Err(StopReason::NoFile),
-        // Nothing is made where it isn't asked for.
-        Ok(Mounted::Made) => unreachable!(),
-        Ok(Mounted::There) => check(alloc, bay, output),
-    }
+    mount_there(bay, file)?;
+    check(alloc, bay, output)
 }
 
 /// `map FILE`.
@@ -84,7 +74,7 @@ pub fn map_from<B: Bay, O: Sink>(
 ) -> Result<(), StopReason>
     requires { (B.state bay.old).last_mount ≡ None }
     ensures words { result ≢ Err StopReason.Words }
-    ensures mounted { IsMounted (map_of file.now) (B.state bay.new).last_mount (result ≡ Err StopReason.Disk)
+    ensures mounted { IsMounted file.now false (B.state bay.new).last_mount (result ≡ Err StopReason.Disk)
         (result ≡ Err StopReason.NoFile) }
     ensures answers { IsTrue (B.state bay.old).tells
         → Answers (IsMapped (B.state bay.old).file) (O.state output.old) (O.state output.new) result }
@@ -94,13 +84,8 @@ pub fn map_from<B: Bay, O: Sink>(
     ensures keeps { KeepsAt (B.state bay.old) (B.state bay.new) (O.state output.old) (O.state output.new)
         result }
 {
-    match bay.mount(file, false) {
-        Err(_) => Err(StopReason::Disk),
-        Ok(Mounted::Absent) => Err(StopReason::NoFile),
-        // Nothing is made where it isn't asked for.
-        Ok(Mounted::Made) => unreachable!(),
-        Ok(Mounted::There) => map(alloc, bay, output),
-    }
+    mount_there(bay, file)?;
+    map(alloc, bay, output)
 }
 
 /// `format FILE K NAMES`. An empty file is formatted; another one stays as it is.
@@ -117,7 +102,7 @@ pub fn format_in<B: Bay, O: Sink>(
     requires high { names ≤ 65536 }
     ensures words { result ≢ Err StopReason.Words }
     ensures memory { result ≢ Err StopReason.NoMemory }
-    ensures mounted { IsMounted (format file.now k names) (B.state bay.new).last_mount
+    ensures mounted { IsMounted file.now true (B.state bay.new).last_mount
         (result ≡ Err StopReason.Disk) (result ≡ Err StopReason.NoFile) }
     ensures answers { IsTrue (B.state bay.old).tells
         → Answers (λ answer. answer ≡ format_answer (B.state bay.old).file) (O.state output.old)
@@ -132,8 +117,7 @@ pub fn format_in<B: Bay, O: Sink>(
 {
     match bay.mount(file, true) {
         Err(_) => Err(StopReason::Disk),
-        // The file is made where it isn't there.
-        Ok(Mounted::Absent) => unreachable!(),
+        Ok(Mounted::Absent) => Err(StopReason::NoFile),
         Ok(Mounted::There | Mounted::Made) => format(bay, k, names, output),
     }
 }

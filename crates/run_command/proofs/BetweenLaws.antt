@@ -24,14 +24,15 @@ use Rattle.ask_text.specs.Inputs.{Asks, BeginsNone}
 use Rattle.ask_text.specs.Replies.{reply_text}
 use Rattle.ask_session.specs.Sittings.{Sitting, new_sitting, unread}
 use Rattle.ask_session.specs.Runs.{HasRun, budget, calls_since, last_kept, last_state}
-use Rattle.command_face.specs.Served.{EndsTight, IsNextStart, OpensTo, OpensToKept, Ran, Starts, has_failed, limits_with, most_left, state_after, turn_opened}
+use Rattle.served_file.specs.Served.{EndsTight, IsNextStart, OpensTo, OpensToKept, Ran, Starts, has_failed, limits_with, most_left, state_after, turn_opened, found_with}
 use Rattle.run_command.specs.Headline.{HowFar, IsLong, IsTold, NumbersLine, RunHolds, next_reply, next_saves, next_states, served_states}
 use Rattle.command_face.specs.Outcomes.{PutsLast, line_at, status_at}
 use Rattle.command_face.specs.declared.stop.StopReason.{StopReason}
 use Rattle.command_face.specs.declared.outcome.Outcome.{Outcome}
 use Rattle.run_command.proofs.RunLists.{Splits, begins_none, none_next, splits}
-use Rattle.command_face.proofs.OpeningLaws.{Opened}
-use Rattle.command_face.proofs.OverLaws.{tight_over, next_over}
+use Rattle.served_file.proofs.OpeningLaws.{Opened}
+use Rattle.served_file.proofs.OverLaws.{tight_over, next_over}
+use Rattle.command_face.specs.Devices.{devices}
 use Rattle.run_command.proofs.SoFarLaws as far
 
 module _ {t : choice.Table} {m : Map} {b : Book} {requests : List Request} {end : List ℕ} {old a : State}
@@ -124,7 +125,8 @@ module _ {t : choice.Table} {m : Map} {b : Book} {requests : List Request} {end 
     same_states = ap (λ (x : Bool). if x then states ++ next_states limits last_one split.others else states)
         not_nine
 
-    between_requests : RunHolds u t m b requests end counts old c from rest out after
+    between_requests : RunHolds (found_with u t m b) requests end counts (devices old out) (devices c after)
+        from rest
     between_requests = record {
       start = start;
       starts = starts;
@@ -181,12 +183,12 @@ module _ {t : choice.Table} {m : Map} {b : Book} {requests : List Request} {end 
       (line : IsTrue out.tells → PutsLast o1.given after.given (line_at ending)
       (Rose out.faults after.faults)) where
     abbrev RunsWith : ℕ → Type 0
-    RunsWith status = RunHolds u t m b requests end (record {
+    RunsWith status = RunHolds (found_with u t m b) requests end (record {
       status = status;
       done = s1.done;
       kept_done = s1.kept_done;
       kept_turn = s1.kept_turn;
-    }) old c from rest out after
+    }) (devices old out) (devices c after) from rest
 
     some_left : n < budget → s1.done ≡ budget → ⊥
     some_left fewer is = omega (arith, is, done_is, fewer)

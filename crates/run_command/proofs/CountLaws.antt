@@ -19,7 +19,6 @@ use Rattle.command_face.specs.Refusing.{stop_of}
 use Rattle.run_command.specs.Headline.{HasMounted}
 use Rattle.command_face.specs.Outcomes.{status_at, status_of}
 use Rattle.run_command.specs.Sessions.{HasCounted, Went, RunSteps, end_of, ended_as, outcome_of, unserved}
-use Rattle.command_face.specs.Mounting.{run}
 use Rattle.command_face.specs.declared.stop.StopReason.{StopReason}
 use Rattle.command_face.specs.declared.stop.StopReason.TheVariants as stop
 use Rattle.run_command.specs.declared.run.Ended.{Ended}
@@ -127,7 +126,7 @@ module _ {D I O : Type 0} (disk_of : D → disk.State) (source_of : I → Source
   none_of why turn other is = subst All (sym is)
       (none_counted why turn (IsTrue (disk_of before).tells) (HasMounted (disk_of now)) other)
 
-  pub has_counted : RunSteps disk_of source_of sink_of (run file) before now from rest out mid_out e
+  pub has_counted : RunSteps disk_of source_of sink_of file before now from rest out mid_out e
       → All e
   has_counted (inl (is, source, sink)) = elim is.which as (λ _. All e) [
     | inl failed ↦ none_of stop.Disk 0 (λ n. omega (arith, n)) failed.0

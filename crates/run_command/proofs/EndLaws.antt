@@ -8,10 +8,12 @@ use Rattle.command_face.specs.Outcomes.{Ends, EndsBy, PutsLast, PutsLine, line_a
 use Rattle.run_command.specs.Sessions.{IsUnserved, KeepsRun}
 use Rattle.command_face.specs.declared.stop.StopReason.{StopReason}
 use Rattle.command_face.proofs.StatusLaws.{later_rose, calm_by}
+use Rattle.command_face.specs.Devices.{devices}
 
 module _ (old z : State) (from rest : SourceState) (out mid after : SinkState)
     (end : Result (Unit {0}) StopReason)
-    (status : ℕ) (is : status ≡ status_at end) (keeps : KeepsRun old z from rest out mid (status_at end))
+    (status : ℕ) (is : status ≡ status_at end) (keeps : KeepsRun (devices old out) (devices z mid) from rest
+        (status_at end))
     (line : IsTrue mid.tells → PutsLast mid.given after.given (line_at end)
     (Rose mid.faults after.faults)) where
   pub line_after : IsTrue out.tells
@@ -20,7 +22,7 @@ module _ (old z : State) (from rest : SourceState) (out mid after : SinkState)
       (line (subst IsTrue (sym keeps.sink_told) told))
 
   pub keeps_after : after.tells ≡ mid.tells → mid.faults ≤ after.faults
-      → OnOk end (after.faults ≡ mid.faults) → KeepsRun old z from rest out after status
+      → OnOk end (after.faults ≡ mid.faults) → KeepsRun (devices old out) (devices z after) from rest status
   keeps_after told later calm = record {
     later = keeps.later;
     rose = λ n. keeps.rose (sym is ∙ n);

@@ -32,13 +32,14 @@ use Rattle.ask_session.specs.Runs as run
 use Rattle.ask_session.specs.Runs.{HasRun, IsRunImage, IsStepImage, budget, calls_since, last_kept, last_state, most_sequence}
 use Rattle.ask_session.specs.declared.ends.End.{End}
 use Rattle.ask_session.proofs.MakesLaws.{saves_within}
-use Rattle.command_face.specs.Served.{OpensTo, OpensToBeing, OpensToKept, OpensToNext, Ran, Starts, has_failed, limits_with, most_left, state_after}
+use Rattle.served_file.specs.Served.{OpensTo, OpensToBeing, OpensToKept, OpensToNext, Ran, Starts, has_failed, limits_with, most_left, state_after, found_with}
 use Rattle.run_command.specs.Headline.{HasReplied, IsPartial, NumbersLine, RunHolds, next_is_changing}
 use Rattle.command_face.specs.Outcomes.{PutsLast, line_at, status_at}
 use Rattle.command_face.specs.declared.stop.StopReason.{StopReason}
 use Rattle.command_face.specs.declared.outcome.Outcome.{Outcome}
 use Rattle.run_command.proofs.RunLists.{IsNext, Splits, next_is, splits}
-use Rattle.command_face.proofs.OpeningLaws.{Opened, requests_low}
+use Rattle.served_file.proofs.OpeningLaws.{Opened, requests_low}
+use Rattle.command_face.specs.Devices.{devices}
 use Rattle.run_command.proofs.SoFarLaws as far
 
 module _ {t : choice.Table} {m : Map} {b : Book} {requests : List Request} {end : List ℕ} {old a : State}
@@ -272,7 +273,8 @@ module _ {t : choice.Table} {m : Map} {b : Book} {requests : List Request} {end 
             record { status = status; done = new.done; kept_done = new.kept_done; kept_turn = new.kept_turn }
 
         abbrev pub RunsTo : ℕ → Type 0
-        RunsTo status = RunHolds u t m b requests end (counts_of status) old z from rest out after
+        RunsTo status = RunHolds (found_with u t m b) requests end (counts_of status) (devices old out)
+            (devices z after) from rest
 
         pub few_z : new.done ≤ budget
         few_z = omega (arith, x.counts.done, few_done)

@@ -34,24 +34,25 @@ use Rattle.ask_session.specs.Runs.{EndsRun, budget}
 use Rattle.ask_session.specs.declared.ends.End.{End}
 use Rattle.ask_session.specs.declared.ends.End.TheVariants as ends
 use Rattle.command_face.specs.Refusing.{stop_of}
-use Rattle.command_face.specs.Served.{IsNextStart, Starts, turn_opened}
+use Rattle.served_file.specs.Served.{IsNextStart, Starts, turn_opened, found_with}
 use Rattle.run_command.specs.Headline.{HasMounted, HowFar, RunHolds}
-use Rattle.command_face.specs.Mounting.{mounted, Command}
+use Rattle.command_face.specs.Mounting.{mounted}
 use Rattle.command_face.specs.Outcomes.{PutsLast, line_at, status_at}
 use Rattle.run_command.specs.Sessions.{IsServed, IsUnbegun, IsUnopened, Went, RunSteps, ended_as, end_of, outcome_of, unserved}
 use Rattle.command_face.specs.declared.stop.StopReason.{StopReason}
 use Rattle.command_face.specs.declared.stop.StopReason.TheVariants as stop
 use Rattle.run_command.specs.declared.run.Ended.{Ended}
 use Rattle.command_face.specs.declared.outcome.Outcome.{Outcome}
-use Rattle.command_face.proofs.OpeningLaws.{Opened, left_first, left_opening, opened_by, opens_first, rests_first, told_first}
-use Rattle.command_face.proofs.OverLaws.{next_over}
+use Rattle.served_file.proofs.OpeningLaws.{Opened, left_first, left_opening, opened_by, opens_first, rests_first, told_first}
+use Rattle.served_file.proofs.OverLaws.{next_over}
 use Rattle.run_command.proofs.BetweenLaws.{all_answered, input_ended, line_failed, source_failed}
 use Rattle.run_command.proofs.FailedLaws.{disk_failed}
 use Rattle.run_command.proofs.SinkLaws.{sink_failed}
 use Rattle.run_command.proofs.SettledLaws.{ends_with_layout}
 use Rattle.run_command.proofs.UnservedLaws.{unserved_runs, never_true}
-use Rattle.command_face.proofs.UnopenedLaws.{WhyUnopened, why_unopened, begins_itself}
-use Rattle.command_face.proofs.UnopenedLaws.WhyUnopened.{disk, memory}
+use Rattle.served_file.proofs.RefusedLaws.{WhyUnopened, why_unopened, begins_itself}
+use Rattle.served_file.proofs.RefusedLaws.WhyUnopened.{disk, memory}
+use Rattle.command_face.specs.Devices.{devices}
 
 -- ---- the whole
 
@@ -74,8 +75,8 @@ module _ {D I O : Type 0} (disk_of : D → State) (source_of : I → SourceState
       (Rose (sink_of out).faults after.faults)
 
   abbrev Runs : Outcome → Type 0
-  Runs x = RunHolds t.chosen.block t m b requests end x old z (source_of from) (source_of rest)
-      (sink_of out) after
+  Runs x = RunHolds (found_with t.chosen.block t m b) requests end x (devices old (sink_of out))
+      (devices z after) (source_of from) (source_of rest)
 
   left_before : old.turn < last → RestsOnFound t old
       → LeftOnly old old.turn (IsFoundImage CLASSES t m b (length old.file))
@@ -150,7 +151,8 @@ module _ {D I O : Type 0} (disk_of : D → State) (source_of : I → SourceState
         })
 
     -- the file isn't there
-    absent : (c : Command) → AfterMount old z → z.last_mount ≡ mounted c Absent → PutsEnd (Err stop.NoFile)
+    absent : (file : List ℕ) → AfterMount old z → z.last_mount ≡ mounted file false Absent → PutsEnd
+        (Err stop.NoFile)
         → Runs (outcome_of (unserved stop.NoFile 0))
     absent c mount is line =
         unserved_runs t.chosen.block found_start found_starts (lawful now) left_before mount.time.later
@@ -236,9 +238,9 @@ module _ {D I O : Type 0} (disk_of : D → State) (source_of : I → SourceState
           let op : Opened t m b old z x.store =
           opened_by t m b old first mount told o z x.store calm_mount x.opening in
           subst (λ (y : Ended). Runs (outcome_of y)) (sym x.ended)
-          (subst (λ (u : SuperBlock). RunHolds u t m b requests end
-          (outcome_of (unserved stop.NoMemory z.turn)) old z
-          (source_of from) (source_of rest) (sink_of out) after) op.block
+          (subst (λ (u : SuperBlock). RunHolds (found_with u t m b) requests end
+              (outcome_of (unserved stop.NoMemory z.turn)) (devices old (sink_of out)) (devices z after)
+              (source_of from) (source_of rest)) op.block
           (unserved_runs x.store.in_use.block (state_of x.store z.file)
           (record { state = op.state; sequence = op.sequence }) (lawful now) left_before op.later op.left
           (λ rests below calm settled opened image since.
@@ -285,12 +287,13 @@ module _ {D I O : Type 0} (disk_of : D → State) (source_of : I → SourceState
             (Rose (sink_of out).faults after.faults)) (y.same_sink unserved_how) (line_now sink_told)
 
         carried : (status : ℕ) → status ≡ status_at ending
-            → RunHolds s.in_use.block t m b requests end (record {
+            → RunHolds (found_with s.in_use.block t m b) requests end (record {
               status = status;
               done = y.sitting.done;
               kept_done = y.sitting.kept_done;
               kept_turn = y.sitting.kept_turn;
-            }) old (disk_of y.mid_disk) (source_of from) (source_of rest) (sink_of out) after
+            }) (devices old (sink_of out)) (devices (disk_of y.mid_disk) after) (source_of from)
+                (source_of rest)
             → Runs (outcome_of e)
         carried status is runs =
             let same : outcome_of e ≡ record {
@@ -305,19 +308,20 @@ module _ {D I O : Type 0} (disk_of : D → State) (source_of : I → SourceState
               kept_turn = un.counts.kept_turn i;
             }) in
             subst Runs (sym same)
-            (subst (λ (x : D). RunHolds t.chosen.block t m b requests end (record {
+            (subst (λ (x : D). RunHolds (found_with t.chosen.block t m b) requests end (record {
               status = status;
               done = y.sitting.done;
               kept_done = y.sitting.kept_done;
               kept_turn = y.sitting.kept_turn;
-            }) old (disk_of x) (source_of from) (source_of rest) (sink_of out) after)
+            }) (devices old (sink_of out)) (devices (disk_of x) after) (source_of from) (source_of rest))
             (sym (y.same_disk unserved_how))
-            (subst (λ (u : SuperBlock). RunHolds u t m b requests end (record {
+            (subst (λ (u : SuperBlock). RunHolds (found_with u t m b) requests end (record {
               status = status;
               done = y.sitting.done;
               kept_done = y.sitting.kept_done;
               kept_turn = y.sitting.kept_turn;
-            }) old (disk_of y.mid_disk) (source_of from) (source_of rest) (sink_of out) after) op.block runs))
+            }) (devices old (sink_of out)) (devices (disk_of y.mid_disk) after) (source_of from)
+                (source_of rest)) op.block runs))
 
     session_by : (how : End)
         → (y : EndsRun disk_of source_of sink_of CLASSES s0 new mid now from rest out mid_out how)
@@ -362,22 +366,24 @@ module _ {D I O : Type 0} (disk_of : D → State) (source_of : I → SourceState
         (line_mid ends.Budget y sound ended un refl) refl y.last_turn.0)
     session_by ends.Disk y sound ended =
         subst (λ (x : Ended). Runs (outcome_of x)) (sym ended)
-        (subst (λ (u : SuperBlock). RunHolds u t m b requests end (outcome_of (ended_as ends.Disk new)) old z
-        (source_of from) (source_of rest) (sink_of out) after) op.block
+        (subst (λ (u : SuperBlock). RunHolds (found_with u t m b) requests end
+            (outcome_of (ended_as ends.Disk new)) (devices old (sink_of out)) (devices z after)
+            (source_of from) (source_of rest)) op.block
         (disk_failed op (lawful before) (lawful mid) o left_before asks told_source y.ran y.few ends.Disk
         y.last_turn after (Err stop.Disk) tt (y.fewer refl) (line_now ends.Disk y sound ended) refl refl))
     session_by ends.Sink y sound ended =
         subst (λ (x : Ended). Runs (outcome_of x)) (sym ended)
-        (subst (λ (u : SuperBlock). RunHolds u t m b requests end (outcome_of (ended_as ends.Sink new)) old z
-        (source_of from) (source_of rest) (sink_of out) after) op.block
+        (subst (λ (u : SuperBlock). RunHolds (found_with u t m b) requests end
+            (outcome_of (ended_as ends.Sink new)) (devices old (sink_of out)) (devices z after)
+            (source_of from) (source_of rest)) op.block
         (sink_failed op (lawful before) (lawful mid) o left_before asks told_source y.ran y.few ends.Sink
         y.last_turn after (Err stop.Sink) tt (y.fewer refl) (line_now ends.Sink y sound ended) refl refl
         sound))
 
   -- ---- all of them
 
-  runs_served : (c : Command) (e : Ended)
-      → IsServed disk_of source_of sink_of c before now from rest out mid_out e
+  runs_served : (file : List ℕ) (e : Ended)
+      → IsServed disk_of source_of sink_of file before now from rest out mid_out e
       → PutsEnd e.end → Runs (outcome_of e)
   runs_served c e x line = by x.went
     where
@@ -387,8 +393,8 @@ module _ {D I O : Type 0} (disk_of : D → State) (source_of : I → SourceState
       by (inr y) = session_by x.first x.mount x.calm e y.store y.mid y.opening y.new line y.end y.ran y.sound
           y.ended
 
-  pub headline : (c : Command) (e : Ended)
-      → RunSteps disk_of source_of sink_of c before now from rest out mid_out e
+  pub headline : (file : List ℕ) (e : Ended)
+      → RunSteps disk_of source_of sink_of file before now from rest out mid_out e
       → PutsEnd e.end → Runs (outcome_of e)
   headline c e (inl (is, source, sink)) line = elim is.which as (λ _. Runs (outcome_of e)) [
     | inl failed ↦ subst (λ (y : Ended). Runs (outcome_of y)) (sym failed.0) (failed_before source sink 0

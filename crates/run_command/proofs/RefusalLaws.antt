@@ -3,18 +3,17 @@ use Rattle.std.specs.Prelude.{◌≡◌, ℕ, List, IsTrue}
 use Rattle.std.proofs.Common.{arith, ap, sym, ◌∙◌, inl, inr}
 use Rattle.disk_face.specs.States.{State}
 use Rattle.disk_face.specs.Streams.{SinkState, SourceState}
-use Rattle.command_face.specs.Refusing.{NeverServed}
+use Rattle.served_file.specs.Unserved.{NeverServed}
 use Rattle.command_face.specs.Outcomes.{status_at}
 use Rattle.run_command.specs.Sessions.{Went, RunSteps}
-use Rattle.command_face.specs.Mounting.{run}
 use Rattle.run_command.specs.declared.run.Ended.{Ended}
 use Rattle.run_command.proofs.ClauseLaws.{session_keeps}
-use Rattle.command_face.proofs.UnopenedLaws.{never_mounted}
+use Rattle.served_file.proofs.RefusedLaws.{never_mounted}
 
 module _ {D I O : Type 0} (disk_of : D → State) (source_of : I → SourceState) (sink_of : O → SinkState)
     (file : List ℕ) (before now : D) (from rest : I) (out mid_out : O) (e : Ended)
     (told : IsTrue (disk_of before).tells) (four : status_at e.end ≡ 4) where
-  pub never_ran : RunSteps disk_of source_of sink_of (run file) before now from rest out mid_out e
+  pub never_ran : RunSteps disk_of source_of sink_of file before now from rest out mid_out e
       → NeverServed (disk_of before).file
   never_ran (inl (is, source, sink)) = elim is.which as (λ _. NeverServed (disk_of before).file) [
     | inl failed ↦ absurd (omega (arith, four, ap (λ (y : Ended). status_at y.end) failed.0))

@@ -14,8 +14,8 @@ use Rattle.ask_text.proofs.InputLaws.{text_one}
 use Rattle.ask_session.specs.Serving.{acknowledges}
 use Rattle.ask_session.specs.Runs.{last_kept, last_state}
 use Rattle.ask_session.proofs.MakesLaws.{makes}
-use Rattle.command_face.specs.Served.{IsKept, state_after}
-use Rattle.command_face.proofs.ShownLaws.{kept_later, now_kept, now_book, replied_as}
+use Rattle.served_file.specs.Served.{IsKept, state_after}
+use Rattle.served_file.proofs.ShownLaws.{kept_later, now_kept, now_book, replied_as}
 
 -- ---- what a request leaves
 

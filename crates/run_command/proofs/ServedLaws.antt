@@ -12,10 +12,12 @@ use Rattle.map_model.specs.Maps.{Map}
 use Rattle.map_model.specs.Requests.{Request}
 use Rattle.segment_layout.specs.Books.{Book}
 use Rattle.ask_session.specs.Runs.{budget}
-use Rattle.command_face.specs.Mounting.{IsMounted, mounted, run}
+use Rattle.command_face.specs.Mounting.{IsMounted, mounted}
 use Rattle.run_command.specs.Headline.{RunHolds, is_session}
 use Rattle.run_command.specs.Sessions.{KeepsRun}
 use Rattle.command_face.specs.declared.outcome.Outcome.{Outcome}
+use Rattle.command_face.specs.Devices.{devices}
+use Rattle.served_file.specs.Served.{found_by}
 use Rattle.run_command.proofs.WentLaws.{not_both}
 
 -- of a session's statuses those are left that no fault has, of a device or of the input
@@ -45,7 +47,7 @@ status_calm n known two three seven eight nine eleven = elim (cases_eq n 0) as (
 
 module _ {t : choice.Table} {m : Map} {b : Book} (requests : List Request) {o : Outcome} {old z : State}
     {from rest : SourceState} {out after : SinkState}
-    (r : RunHolds t.chosen.block t m b requests [] o old z from rest out after) where
+    (r : RunHolds (found_by t m b) requests [] o (devices old out) (devices z after) from rest) where
   -- those that were answered, and the others
   all_are : length requests ≡ o.done + length r.ran.others
   all_are = omega (
@@ -55,9 +57,10 @@ module _ {t : choice.Table} {m : Map} {b : Book} (requests : List Request) {o : 
     r.ran.count,
   )
 
-  pub all_served : (file : List ℕ) → length requests < budget → KeepsRun old z from rest out after o.status
-      → IsMounted (run file) z.last_mount (o.status ≡ 7) (o.status ≡ 3)
-      → z.last_mount ≡ mounted (run file) There → IsCalm old.faults z.faults → IsCalm from.faults rest.faults
+  pub all_served : (file : List ℕ) → length requests < budget → KeepsRun (devices old out) (devices z after)
+      from rest o.status
+      → IsMounted file false z.last_mount (o.status ≡ 7) (o.status ≡ 3)
+      → z.last_mount ≡ mounted file false There → IsCalm old.faults z.faults → IsCalm from.faults rest.faults
       → IsCalm out.faults after.faults
       → ((o.status ≡ 0) × (o.done ≡ length requests)) ⊎ ((o.status ≡ 10) × (o.done ≡ 0))
   all_served file few keeps mount there calm source_calm sink_calm =

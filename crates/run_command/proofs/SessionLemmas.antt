@@ -1,7 +1,9 @@
 -- How a session went, from the steps that its functions take.
-use Rattle.std.specs.Prelude.{◌≡◌, ℕ, false, Ok, Err, refl}
+use Rattle.std.specs.Prelude.{◌≡◌, ℕ, ◌≤◌, List, false, Ok, Err, refl}
 use Rattle.std.proofs.Common.{ap, sym, ◌∙◌, subst, inl, inr}
+use Rattle.disk_face.specs.Frames.{AfterMount}
 use Rattle.disk_face.specs.States.{State}
+use Rattle.disk_face.specs.declared.bay.Mounted.TheVariants.{There}
 use Rattle.disk_face.specs.Streams.{SinkState, SourceState}
 use Rattle.size_class.specs.declared.TheConstants.{CLASSES}
 use Rattle.store_core.specs.Connection.{IsConnected, StoreValue}
@@ -10,8 +12,10 @@ use Rattle.store_core.specs.Stores.{IsStore}
 use Rattle.ask_session.specs.Sittings.{Sitting, new_sitting}
 use Rattle.ask_session.specs.Runs.{EndsRun}
 use Rattle.ask_session.specs.declared.ends.End.{End}
-use Rattle.run_command.specs.Sessions.{Went, ended_as, unserved}
+use Rattle.run_command.specs.Sessions.{RunSteps, Went, ended_as, unserved}
+use Rattle.command_face.specs.Mounting.{IsNotThere, mounted}
 use Rattle.command_face.specs.Refusing.{stop_of}
+use Rattle.command_face.specs.declared.stop.StopReason.{StopReason}
 use Rattle.command_face.specs.declared.stop.StopReason.TheVariants as stop
 use Rattle.run_command.specs.declared.run.Ended.{Ended}
 use Rattle.reopen.specs.declared.fault.OpenFault.{OpenFault}
@@ -68,3 +72,30 @@ module _ {D I O : Type 0} (disk_of : D → State) (source_of : I → SourceState
     refl,
     refl,
   )
+
+  pub steps_unmounted : (file : List ℕ) (before now : D) (from : I) (out : O) (why : StopReason) (e : Ended)
+      → AfterMount (disk_of before) (disk_of now) → (disk_of before).faults ≤ (disk_of now).faults
+      → IsNotThere file (disk_of before) (disk_of now) (why ≡ stop.Disk) (why ≡ stop.NoFile)
+      → e ≡ unserved why 0 → RunSteps disk_of source_of sink_of file before now from from out out e
+  steps_unmounted file before now from out why e mount later is ended = inl (
+    record {
+      mount = mount;
+      later = later;
+      which = elim is as (λ _. IsNotThere file (disk_of before) (disk_of now) (e ≡ unserved stop.Disk 0)
+          (e ≡ unserved stop.NoFile 0)) [
+            | inl failed ↦ inl (ended ∙ ap (λ (w : StopReason). unserved w 0) failed.0, failed.1, failed.2)
+            | inr gone ↦ inr (ended ∙ ap (λ (w : StopReason). unserved w 0) gone.0, gone.1, gone.2)
+          ];
+    },
+    refl,
+    refl,
+  )
+
+  pub steps_served : (file : List ℕ) (before first now : D) (from rest : I) (out after : O) (e : Ended)
+      → AfterMount (disk_of before) (disk_of first)
+      → (disk_of first).last_mount ≡ mounted file false There
+      → (disk_of first).faults ≡ (disk_of before).faults
+      → Went disk_of source_of sink_of first now from rest out after e
+      → RunSteps disk_of source_of sink_of file before now from rest out after e
+  steps_served file before first now from rest out after e mount there calm went =
+      inr (record { first = first; mount = mount; there = there; calm = calm; went = went })

@@ -25,7 +25,7 @@ use Rattle.placement_model.proofs.OpenedLaws.{opens_long}
 use Rattle.store_core.specs.Opened.{found_base}
 use Rattle.disk_face.specs.Counts.{counted, last}
 use Rattle.disk_face.specs.States.{State}
-use Rattle.command_face.specs.Served.{turn_opened}
+use Rattle.served_file.specs.Served.{turn_opened}
 
 module _ (t : choice.Table) (file : List ℕ) (m : Map) (b : Book)
     (o : OpensBy CLASSES SIZE_MAX t file m b) where

@@ -32,14 +32,15 @@ use Rattle.ask_session.specs.declared.ends.End.{End}
 use Rattle.ask_session.proofs.GrowingLaws.{and_none, last_more, some_last, some_more}
 use Rattle.ask_session.proofs.MakesLaws.{makes}
 use Rattle.ask_session.proofs.RunLaws.{opens_with}
-use Rattle.command_face.specs.Served.{EndsTight, IsNextStart, OpensTo, Ran, Starts, limits_with, most_left, turn_opened}
+use Rattle.served_file.specs.Served.{EndsTight, IsNextStart, OpensTo, Ran, Starts, limits_with, most_left, turn_opened, found_with}
 use Rattle.run_command.specs.Headline.{IsLong, IsTold, IsWithinBounds, NumbersLine, RunHolds}
 use Rattle.command_face.specs.Outcomes.{PutsLast, line_at, status_at}
 use Rattle.command_face.specs.declared.stop.StopReason.{StopReason}
 use Rattle.command_face.specs.declared.outcome.Outcome.{Outcome}
 use Rattle.run_command.proofs.RunLists.{IsNext, Splits, next_is, served_sequence, splits}
-use Rattle.command_face.proofs.OpeningLaws.{Opened}
-use Rattle.command_face.proofs.OverLaws.{tight_over, next_over}
+use Rattle.served_file.proofs.OpeningLaws.{Opened}
+use Rattle.served_file.proofs.OverLaws.{tight_over, next_over}
+use Rattle.command_face.specs.Devices.{devices}
 use Rattle.run_command.proofs.SoFarLaws as far
 use Rattle.run_command.proofs.FailedLaws as failed
 
@@ -145,7 +146,8 @@ module _ {t : choice.Table} {m : Map} {b : Book} {requests : List Request} {end 
             record { status = status; done = new.done; kept_done = new.kept_done; kept_turn = new.kept_turn }
 
         abbrev RunsTo : ℕ → Type 0
-        RunsTo status = RunHolds u t m b requests end (counts_of status) old z from rest out after
+        RunsTo status = RunHolds (found_with u t m b) requests end (counts_of status) (devices old out)
+            (devices z after) from rest
 
         few_z : new.done ≤ budget
         few_z = failed.few_z op lawful_old lawful_a o left_before asks told_source ran few bad x

@@ -27,11 +27,11 @@ use Rattle.ask_session.specs.Sittings.{Sitting, new_sitting, unread}
 use Rattle.ask_session.specs.Runs as run
 use Rattle.ask_session.specs.Runs.{HasRun, IsRunImage, IsStepImage, budget, calls_since, last_kept, last_state, most_sequence}
 use Rattle.ask_session.proofs.RunLaws.{opens_with}
-use Rattle.command_face.specs.Served.{OpensTo, OpensToKept, Ran, Starts, limits_with, most_left, state_after, turn_opened}
+use Rattle.served_file.specs.Served.{OpensTo, OpensToKept, Ran, Starts, limits_with, most_left, state_after, turn_opened}
 use Rattle.run_command.specs.Headline.{IsLong, IsTold, IsWithinBounds}
-use Rattle.command_face.proofs.ShownLaws.{first_kept, some_weaker}
+use Rattle.served_file.proofs.ShownLaws.{first_kept, some_weaker}
 use Rattle.run_command.proofs.RunLists.{LastIs, Splits, last_is, splits}
-use Rattle.command_face.proofs.OpeningLaws.{Opened, found_numbered, requests_low}
+use Rattle.served_file.proofs.OpeningLaws.{Opened, found_numbered, requests_low}
 
 module _ {t : choice.Table} {m : Map} {b : Book} {requests : List Request} {end : List ℕ} {old a : State}
     {s : StoreValue} (op : Opened t m b old a s) (lawful_old : IsLawful old) (lawful_a : IsLawful a)

@@ -7,7 +7,7 @@ use Rattle.slot_codec.specs.declared.codec.Kind.TheVariants as kind
 use Rattle.map_model.specs.Maps.{Map}
 use Rattle.segment_layout.specs.Books.{Book, book_end}
 use Rattle.table_rules.specs.Opening.{Opens}
-use Rattle.command_face.specs.Served.{IsNextStart, OpensTo, Starts, limits_with, turn_opened}
+use Rattle.served_file.specs.Served.{IsNextStart, OpensTo, Starts, limits_with, turn_opened, found_with}
 use Rattle.command_face.specs.Outcomes.{PutsLast, line_at, status_at}
 use Rattle.disk_face.specs.Counts.{IsCalm, Rose, last}
 use Rattle.disk_face.specs.States.{IsLawful, State}
@@ -22,9 +22,10 @@ use Rattle.store_core.specs.Opened.{IsFoundImage, LeavesRoom, RestsOnFound}
 use Rattle.ask_session.specs.Runs.{last_state}
 use Rattle.ask_session.proofs.RunLaws.{opens_with}
 use Rattle.run_command.specs.Headline.{HasMounted, HowFar, IsLong, NumbersLine, RunHolds, has_opened, is_whole, next_reply, next_saves, next_states, served_states}
-use Rattle.command_face.proofs.OpeningLaws.{found_numbered, start_low}
+use Rattle.served_file.proofs.OpeningLaws.{found_numbered, start_low}
 use Rattle.command_face.specs.declared.stop.StopReason.{StopReason}
 use Rattle.command_face.specs.declared.outcome.Outcome.{Outcome}
+use Rattle.command_face.specs.Devices.{devices}
 
 pub never_true : IsTrue false → ⊥
 never_true is = let e : true ≡ false = sym is in absurd (cc)
@@ -66,7 +67,8 @@ module _ {t : choice.Table} {m : Map} {b : Book} {old z : State}
     same_states =
         ap (λ (x : Bool). if x then [] ++ next_states (limits_with u) start requests else []) not_nine
 
-    pub unserved_runs : RunHolds u t m b requests end counts old z from rest out after
+    pub unserved_runs : RunHolds (found_with u t m b) requests end counts (devices old out) (devices z after)
+        from rest
     unserved_runs = record {
       start = start;
       starts = starts;

@@ -13,8 +13,9 @@ use Rattle.table_rules.specs.Opening.{Opens}
 use Rattle.store_core.specs.Connection.{StoreValue}
 use Rattle.store_core.specs.Opened.{IsOpening, RefusesStore}
 use Rattle.reopen.specs.declared.fault.OpenFault.{OpenFault}
-use Rattle.command_face.specs.Mounting.{IsMounted, mounted, run}
-use Rattle.command_face.specs.Refusing.{IsRefusedService, NeverServed, stop_of}
+use Rattle.command_face.specs.Mounting.{IsMounted, mounted}
+use Rattle.command_face.specs.Refusing.{stop_of}
+use Rattle.served_file.specs.Unserved.{IsRefusedService, NeverServed}
 use Rattle.run_command.specs.Headline.{HasMounted, IsKeptTurn, is_session}
 use Rattle.ask_session.specs.declared.ends.End.{End}
 use Rattle.ask_session.specs.declared.ends.End.TheVariants as ends
@@ -23,7 +24,9 @@ use Rattle.run_command.specs.Sessions.{IsServed, IsUnserved, KeepsRun, Went, Run
 use Rattle.command_face.specs.declared.stop.StopReason.TheVariants as stop
 use Rattle.run_command.specs.declared.run.Ended.{Ended}
 use Rattle.run_command.proofs.ClauseLaws.{SessionKeeps, session_keeps}
-use Rattle.command_face.proofs.UnopenedLaws.{status_unopened, not_status, disk_by, mount_untouched, opened_plain, refused_unchanged, refuses_service}
+use Rattle.command_face.proofs.UnopenedLaws.{status_unopened, not_status, disk_by, mount_untouched}
+use Rattle.served_file.proofs.RefusedLaws.{opened_plain, refused_unchanged, refuses_service}
+use Rattle.command_face.specs.Devices.{devices}
 
 pub not_both : {A : Type 0} → false ≡ true → A
 not_both is = absurd (cc)
@@ -32,8 +35,8 @@ not_both is = absurd (cc)
 pub record Whole (file : List ℕ) (old z : State) (from rest : SourceState) (out mid_out : SinkState)
     (same : Type 0)
     (e : Ended) : Type 0 where
-  pub keeps : KeepsRun old z from rest out mid_out (status_at e.end)
-  pub mounted : IsMounted (run file) z.last_mount (status_at e.end ≡ 7) (status_at e.end ≡ 3)
+  pub keeps : KeepsRun (devices old out) (devices z mid_out) from rest (status_at e.end)
+  pub mounted : IsMounted file false z.last_mount (status_at e.end ≡ 7) (status_at e.end ≡ 3)
   pub turn : IsKeptTurn (outcome_of e) (HasMounted z) old.turn z.turn
   pub unread : IsUnserved (status_at e.end) → same
 
@@ -45,7 +48,7 @@ module _ (file : List ℕ) (old z : State) (from rest : SourceState) (out mid_ou
   -- no stream was called
   no_stream : (status : ℕ) → AfterMount old z → old.faults ≤ z.faults
       → (status ≡ 7 → Rose old.faults z.faults) → status ≢ 8 → status ≢ 9
-      → rest ≡ from → mid_out ≡ out → KeepsRun old z from rest out mid_out status
+      → rest ≡ from → mid_out ≡ out → KeepsRun (devices old out) (devices z mid_out) from rest status
   no_stream status mount later rose eight nine source sink = record {
     later = later;
     rose = rose;
@@ -78,7 +81,7 @@ module _ (file : List ℕ) (old z : State) (from rest : SourceState) (out mid_ou
     unread = λ is. is_same;
   }
 
-  file_absent : AfterMount old z → z.faults ≡ old.faults → z.last_mount ≡ mounted (run file) Absent
+  file_absent : AfterMount old z → z.faults ≡ old.faults → z.last_mount ≡ mounted file false Absent
       → rest ≡ from → mid_out ≡ out → same → Is (unserved stop.NoFile 0)
   file_absent mount calm is source sink is_same = record {
     keeps = no_stream 3 mount (omega (arith, calm)) (λ is. absurd (omega (arith, is)))
@@ -95,9 +98,9 @@ module _ (file : List ℕ) (old z : State) (from rest : SourceState) (out mid_ou
   }
 
   module _ (first : State) (mount : AfterMount old first) (calm : first.faults ≡ old.faults)
-      (there : first.last_mount ≡ mounted (run file) There) (e : Ended) where
+      (there : first.last_mount ≡ mounted file false There) (e : Ended) where
     mounted_there : z.last_mount ≡ first.last_mount → status_at e.end ≢ 3
-        → IsMounted (run file) z.last_mount (status_at e.end ≡ 7) (status_at e.end ≡ 3)
+        → IsMounted file false z.last_mount (status_at e.end ≡ 7) (status_at e.end ≡ 3)
     mounted_there stays three = record {
       answer = inr (inl (stays ∙ there));
       absent = (λ is. absurd (three is), λ is. not_both (ap is_mounted (sym is ∙ stays ∙ there)));
@@ -182,7 +185,7 @@ module _ {D I O : Type 0} (disk_of : D → State) (source_of : I → SourceState
   abbrev All : Ended → Type 0
   All x = Whole file old z (source_of from) (source_of rest) (sink_of out) (sink_of mid_out) Same x
 
-  whole_served : IsServed disk_of source_of sink_of (run file) before now from rest out mid_out e → All e
+  whole_served : IsServed disk_of source_of sink_of file before now from rest out mid_out e → All e
   whole_served x = by x.went
     where
       by : Went disk_of source_of sink_of x.first now from rest out mid_out e → All e
@@ -224,7 +227,7 @@ module _ {D I O : Type 0} (disk_of : D → State) (source_of : I → SourceState
           (sink_of mid_out) w.end (disk_of y.mid).turn w.kept_turn) (sym y.ended)
           (session_keeps disk_of source_of sink_of y.mid now from rest out mid_out y.store y.new y.end y.ran))
 
-  pub whole : RunSteps disk_of source_of sink_of (run file) before now from rest out mid_out e → All e
+  pub whole : RunSteps disk_of source_of sink_of file before now from rest out mid_out e → All e
   whole (inl (is, source, sink)) = elim is.which as (λ _. All e) [
     | inl failed ↦ subst All (sym failed.0)
         (mount_failed file old z (source_of from) (source_of rest) (sink_of out)
@@ -239,7 +242,7 @@ module _ {D I O : Type 0} (disk_of : D → State) (source_of : I → SourceState
   -- ---- a file that is refused
 
   -- it stays as it is
-  pub untouched : RunSteps disk_of source_of sink_of (run file) before now from rest out mid_out e
+  pub untouched : RunSteps disk_of source_of sink_of file before now from rest out mid_out e
       → (status_at e.end ≡ 3) ⊎ (status_at e.end ≡ 4) → Untouched old z
   untouched (inl (is, source, sink)) status = mount_untouched old z is.mount is.later
   untouched (inr x) status = by x.went status
@@ -265,7 +268,7 @@ module _ {D I O : Type 0} (disk_of : D → State) (source_of : I → SourceState
 
   -- a file that isn't served ends the command as its first refusal says, or as its version does
   pub refused_by : IsTrue old.tells → NeverServed old.file
-      → RunSteps disk_of source_of sink_of (run file) before now from rest out mid_out e
+      → RunSteps disk_of source_of sink_of file before now from rest out mid_out e
       → EndsBy (IsRefusedService old.file) [] e.end × (mid_out ≡ out)
   refused_by told never (inl (is, source, sink)) = (
     elim is.which as (λ _. EndsBy (IsRefusedService old.file) [] e.end) [
@@ -319,7 +322,7 @@ module _ {D I O : Type 0} (disk_of : D → State) (source_of : I → SourceState
   known_unopened n (inr (inl seven)) = inl (ap is_session seven)
   known_unopened n (inr (inr ten)) = inl (ap is_session ten)
 
-  pub known : RunSteps disk_of source_of sink_of (run file) before now from rest out mid_out e
+  pub known : RunSteps disk_of source_of sink_of file before now from rest out mid_out e
       → IsKnown (status_at e.end)
   known (inl (is, source, sink)) = elim is.which as (λ _. IsKnown (status_at e.end)) [
     | inl failed ↦ inl (ap (λ (y : Ended). is_session (status_at y.end)) failed.0)

@@ -9,7 +9,6 @@ use Rattle.disk_face.specs.Streams.{SinkState, SourceState}
 use Rattle.size_class.specs.declared.TheConstants.{CLASSES, SIZE_MAX}
 use Rattle.slot_codec.specs.Choice as choice
 use Rattle.slot_codec.specs.Spelling.{head_len}
-use Rattle.slot_codec.specs.declared.codec.SuperBlock.{SuperBlock}
 use Rattle.slot_codec.specs.declared.codec.Kind.TheVariants as kind
 use Rattle.map_model.specs.Maps.{Map}
 use Rattle.map_model.specs.Requests.{Reply, Request}
@@ -28,7 +27,9 @@ use Rattle.command_face.specs.Outcomes.{PutsLast, line_at, status_at}
 use Rattle.command_face.specs.declared.stop.StopReason.{StopReason}
 use Rattle.command_face.specs.declared.stop.StopReason.TheVariants as stop
 use Rattle.command_face.specs.declared.outcome.Outcome.{Outcome}
-use Rattle.command_face.specs.Served.{limits_with, Starts, Ran, state_after, OpensTo, has_failed, EndsTight, OpensToKept, OpensToBeing, most_left, IsNextStart, turn_opened}
+use Rattle.command_face.specs.Devices.{Devices}
+use Rattle.served_file.specs.Served.{Found, found_by, limits_with, Starts, Ran, state_after, OpensTo, has_failed, EndsTight, OpensToKept, OpensToBeing, most_left, IsNextStart, turn_opened}
+use Rattle.command_face.specs.declared.status.TheConstants.{DISK_FAILED, DONE, FAULTY_REQUEST, NO_FILE, NO_MEMORY, NO_STORE, SINK_FAILED, SOURCE_FAILED, TOO_MANY}
 
 -- ---- the request that comes next
 
@@ -61,23 +62,28 @@ NextIsSafe limits s (r ∷ others) images = 0 < (served limits s r).saves.least
 
 -- the statuses of a session
 abbrev pub is_session : ℕ → Bool
-is_session status = (status == 0) || (status == 2) || (status == 3) || (status == 7) || (status == 8)
-    || (status == 9)
-    || (status == 10) || (status == 11)
+is_session status = (status == DONE) || (status == FAULTY_REQUEST) || (status == NO_FILE)
+    || (status == DISK_FAILED) || (status == SOURCE_FAILED) || (status == SINK_FAILED)
+    || (status == NO_MEMORY) || (status == TOO_MANY)
 
 -- the session served its requests, and no disk or sink failed
 abbrev pub is_whole : ℕ → Bool
-is_whole status = (status == 0) || (status == 2) || (status == 8) || (status == 11)
+is_whole status = (status == DONE) || (status == FAULTY_REQUEST) || (status == SOURCE_FAILED)
+    || (status == TOO_MANY)
 
 -- opening had an end that isn't want of memory
 abbrev pub has_opened : ℕ → Bool
-has_opened status = if status == 3 then false else if status == 10 then false else true
+has_opened status = if status == NO_FILE then false else if status == NO_MEMORY then false else true
 
 -- the states that the requests leave: where the sink failed the next one was served too, but its reply
 -- wasn't put whole
 abbrev pub served_states : ℕ → Limits → State → List State → List Request → List State
 served_states status limits start states others =
-    if status == 9 then states ++ next_states limits (last_state start states) others else states
+    if status == SINK_FAILED then states ++ next_states limits (last_state start states) others else states
+
+-- and how far they may raise the sequence beyond the requests that were answered
+abbrev pub saves_after : ℕ → Limits → State → List Request → ℕ
+saves_after status limits s others = if status == SINK_FAILED then next_saves limits s others else 0
 
 -- ---- replies
 
@@ -88,8 +94,8 @@ pub record IsPartial (status : ℕ) (limits : Limits) (s : State) (others : List
   where
     pub none : has_failed status ≡ false → partial ≡ []
     pub front : (rest : List ℕ) × (next_reply limits s others ≡ partial ++ rest)
-    pub cut : status ≡ 7 → next_reply limits s others ≡ partial → partial ≡ []
-    pub changing : status ≡ 7 → next_is_changing others ≡ true → partial ≡ []
+    pub cut : status ≡ DISK_FAILED → next_reply limits s others ≡ partial → partial ≡ []
+    pub changing : status ≡ DISK_FAILED → next_is_changing others ≡ true → partial ≡ []
 
 -- a faulty request has the number after those that were answered
 abbrev pub NumbersLine : ℕ → Result (Unit {0}) StopReason → Type 0
@@ -112,14 +118,14 @@ pub record HasReplied (limits : Limits) (s : State) (replies : List Reply) (othe
 pub record HowFar (status n : ℕ) (others : List Request) (end : List ℕ)
     (from rest : SourceState) : Type 0 where
   pub known : is_session status ≡ true
-  pub done : status ≡ 0 → (others ≡ []) × (end ≡ [])
-  pub line : status ≡ 2 → (others ≡ []) × (end ≢ [])
-  pub absent : status ≡ 3 → n ≡ 0
-  pub disk : status ≡ 7 → (others ≢ []) ⊎ (n ≡ 0)
-  pub sink : status ≡ 9 → others ≢ []
-  pub memory : status ≡ 10 → (n ≡ 0) × (rest ≡ from)
+  pub done : status ≡ DONE → (others ≡ []) × (end ≡ [])
+  pub line : status ≡ FAULTY_REQUEST → (others ≡ []) × (end ≢ [])
+  pub absent : status ≡ NO_FILE → n ≡ 0
+  pub disk : status ≡ DISK_FAILED → (others ≢ []) ⊎ (n ≡ 0)
+  pub sink : status ≡ SINK_FAILED → others ≢ []
+  pub memory : status ≡ NO_MEMORY → (n ≡ 0) × (rest ≡ from)
   pub few : n ≤ budget
-  pub limit : (status ≡ 11) ↔ (n ≡ budget)
+  pub limit : (status ≡ TOO_MANY) ↔ (n ≡ budget)
 
 -- an image is as long as the start's layout, or within the bound of a step
 abbrev pub IsWithinBounds : ℕ → ℕ → State → List State → List ℕ → Type 0
@@ -143,14 +149,14 @@ pub record IsTold (opened kept_done kept_turn : ℕ) : Type 0 where
 -- What a crash leaves: at any moment an acknowledged checkpoint or the one then being written; since the
 -- last was acknowledged that one alone, or the one then being written; and once a sink failed at the reply
 -- of a checkpoint, that checkpoint.
-pub record IsCrashSafe (limits : Limits) (start s : State) (replies : List Reply) (states : List State)
-    (others : List Request) (o : Outcome) (opened : Type 0) (old new : disk.State) : Type 0 where
-  pub crash : LeftOnly new old.turn
-      (λ image. OpensToKept start replies states image ⊎ OpensToBeing o.status limits s others image)
+pub record IsCrashSafe {limits : Limits} {start : State} {requests : List Request} {n : ℕ}
+    (ran : Ran limits start requests n) (o : Outcome) (opened : Type 0) (old new : disk.State) : Type 0 where
+  pub crash : LeftOnly new old.turn (λ image. OpensToKept start ran.replies ran.states image
+      ⊎ OpensToBeing o.status limits (last_state start ran.states) ran.others image)
   pub since : opened → LeftOnly new o.kept_turn
-      (λ image. OpensTo (state_after start states o.kept_done) image
-      ⊎ OpensToBeing o.status limits s others image)
-  pub safe : o.status ≡ 9 → NextIsSafe limits s others new.may_leave
+      (λ image. OpensTo (state_after start ran.states o.kept_done) image
+      ⊎ OpensToBeing o.status limits (last_state start ran.states) ran.others image)
+  pub safe : o.status ≡ SINK_FAILED → NextIsSafe limits (last_state start ran.states) ran.others new.may_leave
 
 -- ---- what is acknowledged
 
@@ -160,7 +166,7 @@ pub record IsKeptTurn (o : Outcome) (opened : Type 0) (before now : ℕ) : Type 
   pub unopened : (opened → ⊥) → o.kept_turn ≡ 0
   pub low : opened → before ≤ o.kept_turn
   pub high : opened → o.kept_turn ≤ now
-  pub refused : (o.status ≡ 4) ⊎ (o.status ≡ 10) → o.kept_turn ≡ now
+  pub refused : (o.status ≡ NO_STORE) ⊎ (o.status ≡ NO_MEMORY) → o.kept_turn ≡ now
 
 -- The number of the last request that was answered with a checkpoint; and the turns since are the changing
 -- calls of the requests after it.
@@ -177,58 +183,60 @@ abbrev pub HasMounted : disk.State → Type 0
 HasMounted d = IsTrue (is_mounted d.last_mount)
 
 -- What a session over a file does that has a superblock, opens by a table to a map and a book, and whose
--- input asks for these requests. What is said of images is said of a disk that rested on that table, below
--- the last turn, and of a moving table whose sequence leaves room for the saves of its flush; what is said of
--- lengths, of a disk whose count of faults didn't rise.
-pub record RunHolds (u : SuperBlock) (t : choice.Table) (m : Map) (b : Book) (requests : List Request)
-    (end : List ℕ)
-    (o : Outcome) (old new : disk.State) (from rest : SourceState) (out after : SinkState) : Type 0 where
+-- input asks for these requests and then has `end`. What is said of images is said of a disk that rested on
+-- that table, below the last turn, and of a moving table whose sequence leaves room for the saves of its flush;
+-- what is said of lengths, of a disk whose count of faults didn't rise.
+pub record RunHolds (found : Found) (requests : List Request) (end : List ℕ) (o : Outcome)
+    (old new : Devices) (from rest : SourceState) : Type 0 where
   pub start : State
-  pub starts : Starts t m b start
-  pub continues : IsTrue (is_whole o.status) ⊎ (o.status ≡ 9)
-      → ContinuesFrom t.chosen.header.kind t.chosen.header.sequence start.sequence
-  pub ran : Ran (limits_with u) start requests o.done
+  pub starts : Starts found.table found.m found.b start
+  pub continues : IsTrue (is_whole o.status) ⊎ (o.status ≡ SINK_FAILED)
+      → ContinuesFrom found.table.chosen.header.kind found.table.chosen.header.sequence start.sequence
+  pub ran : Ran (limits_with found.block) start requests o.done
   -- the replies are the map's
   pub far : HowFar o.status o.done ran.others end from rest
-  pub replies : IsTrue out.tells → HasReplied (limits_with u)
+  pub replies : IsTrue old.sink.tells → HasReplied (limits_with found.block)
       (last_state start ran.states) ran.replies ran.others
-      o.status o.done out after
+      o.status o.done old.sink new.sink
   -- between requests, also where the sink failed after one
-  pub between : IsTrue (is_whole o.status) ⊎ (o.status ≡ 9) → EndsTight u.k (head_len u.names)
-      (last_state start (served_states o.status (limits_with u) start ran.states ran.others)) new.file
+  pub between : IsTrue (is_whole o.status) ⊎ (o.status ≡ SINK_FAILED)
+      → EndsTight found.block.k (head_len found.block.names)
+      (last_state start (served_states o.status (limits_with found.block) start ran.states ran.others))
+      new.disk.file
   -- within a request
-  pub within : IsCalm old.faults new.faults → LeavesRoom t → RestsOnFound t old → new.turn < last
-      → IsLong u.k (head_len u.names) t
-      (turn_opened t b old) start (served_states o.status (limits_with u) start ran.states ran.others) old new
-  pub opened : IsCalm old.faults new.faults → t.chosen.header.kind ≡ kind.Settled
+  pub within : IsCalm old.disk.faults new.disk.faults → LeavesRoom found.table
+      → RestsOnFound found.table old.disk → new.disk.turn < last
+      → IsLong found.block.k (head_len found.block.names) found.table
+      (turn_opened found.table found.b old.disk) start
+      (served_states o.status (limits_with found.block) start ran.states ran.others) old.disk new.disk
+  pub opened : IsCalm old.disk.faults new.disk.faults → found.table.chosen.header.kind ≡ kind.Settled
       → IsTrue (has_opened o.status)
-      → IsTold (turn_opened t b old) o.kept_done o.kept_turn
+      → IsTold (turn_opened found.table found.b old.disk) o.kept_done o.kept_turn
   -- a crash at any moment
-  pub crash : LeavesRoom t → RestsOnFound t old → new.turn < last
-      → IsCrashSafe (limits_with u) start (last_state start ran.states)
-      ran.replies ran.states ran.others o (HasMounted new) old new
-  pub numbered : LeavesRoom t → RestsOnFound t old → new.turn < last
-      → LeftOnly new old.turn (HasSequenceUpTo (most_left u.k t))
+  pub crash : LeavesRoom found.table → RestsOnFound found.table old.disk → new.disk.turn < last
+      → IsCrashSafe ran o (HasMounted new.disk) old.disk new.disk
+  pub numbered : LeavesRoom found.table → RestsOnFound found.table old.disk → new.disk.turn < last
+      → LeftOnly new.disk old.disk.turn (HasSequenceUpTo (most_left found.block.k found.table))
   -- what is acknowledged, and the turns since where the disk failed in a request that only reads, or before
   -- the first
-  pub acknowledged : IsAcknowledged (limits_with u) start ran.answered ran.replies ran.states o new.turn
-  pub failed : o.status ≡ 7 → HasMounted new → (next_is_changing ran.others ≡ true)
-      ⊎ (new.turn ≡ counted o.kept_turn (calls_since (limits_with u) 0 start ran.states ran.answered
-      ran.replies))
+  pub acknowledged : IsAcknowledged (limits_with found.block) start ran.answered ran.replies ran.states o
+      new.disk.turn
+  pub failed : o.status ≡ DISK_FAILED → HasMounted new.disk → (next_is_changing ran.others ≡ true)
+      ⊎ (new.disk.turn ≡ counted o.kept_turn (calls_since (limits_with found.block) 0 start ran.states
+      ran.answered ran.replies))
   -- where the disk didn't fail, the next call may begin
-  pub next_start : IsCalm old.faults new.faults → IsNextStart t
-      (last_state start (served_states o.status (limits_with u) start ran.states ran.others))
+  pub next_start : IsCalm old.disk.faults new.disk.faults → IsNextStart found.table
+      (last_state start (served_states o.status (limits_with found.block) start ran.states ran.others))
       ((last_state start ran.states).sequence
-      + (if o.status == 9 then next_saves (limits_with u) (last_state start ran.states) ran.others else 0))
-      old new
+      + saves_after o.status (limits_with found.block) (last_state start ran.states) ran.others)
+      old.disk new.disk
   pub reach : (last_state start ran.states).sequence
-      + (if o.status == 9 then next_saves (limits_with u) (last_state start ran.states) ran.others else 0)
-      ≤ most_left u.k t
+      + saves_after o.status (limits_with found.block) (last_state start ran.states) ran.others
+      ≤ most_left found.block.k found.table
 
 -- The headline: so it is of every file of version 1 that opens, and of every input.
-abbrev pub RunPromise : Outcome → disk.State → disk.State → SourceState → SourceState → SinkState → SinkState
-    → Type 0
-RunPromise o old new from rest out after =
+abbrev pub RunPromise : Outcome → Devices → Devices → SourceState → SourceState → Type 0
+RunPromise o old new from rest =
     (t : choice.Table) (m : Map) (b : Book) (requests : List Request) (end : List ℕ)
-    → IsPlain b → OpensBy CLASSES SIZE_MAX t old.file m b → Asks from.left requests end
-    → RunHolds t.chosen.block t m b requests end o old new from rest out after
+    → IsPlain b → OpensBy CLASSES SIZE_MAX t old.disk.file m b → Asks from.left requests end
+    → RunHolds (found_by t m b) requests end o old new from rest

@@ -1,8 +1,8 @@
 -- How a session over a file went, step by step.
-use Rattle.std.specs.Prelude.{◌≡◌, ◌⊎◌, ◌↔◌, ℕ, ◌≤◌, false, IsTrue, Result, None, Ok, Err}
+use Rattle.std.specs.Prelude.{◌≡◌, ◌⊎◌, ◌↔◌, ℕ, ◌≤◌, List, false, IsTrue, Result, Ok, Err}
 use Rattle.disk_face.specs.Counts.{Rose, counted}
 use Rattle.disk_face.specs.Frames.{AfterMount, Untouched}
-use Rattle.disk_face.specs.declared.bay.Mounted.TheVariants.{Absent, There}
+use Rattle.disk_face.specs.declared.bay.Mounted.TheVariants.{There}
 use Rattle.disk_face.specs.States.{State}
 use Rattle.disk_face.specs.Streams.{SinkState, SourceState}
 use Rattle.size_class.specs.declared.TheConstants.{CLASSES}
@@ -14,14 +14,17 @@ use Rattle.ask_session.specs.Sittings.{Sitting, new_sitting}
 use Rattle.ask_session.specs.Runs.{EndsRun, budget}
 use Rattle.ask_session.specs.declared.ends.End.{End}
 use Rattle.ask_session.specs.declared.ends.End.TheVariants as ends
-use Rattle.command_face.specs.Mounting.{Command, mounted}
+use Rattle.command_face.specs.Devices.{Devices}
+use Rattle.command_face.specs.Mounting.{IsNotThere, mounted}
 use Rattle.command_face.specs.Outcomes.{PutsLine, status_at}
 use Rattle.run_command.specs.Headline.{HasMounted, IsKeptTurn}
-use Rattle.command_face.specs.Refusing.{stop_of, NeverServed}
+use Rattle.command_face.specs.Refusing.{stop_of}
+use Rattle.served_file.specs.Unserved.{NeverServed}
 use Rattle.command_face.specs.declared.stop.StopReason.{StopReason}
 use Rattle.command_face.specs.declared.stop.StopReason.TheVariants as stop
 use Rattle.run_command.specs.declared.run.Ended.{Ended}
 use Rattle.command_face.specs.declared.outcome.Outcome.{Outcome}
+use Rattle.command_face.specs.declared.status.TheConstants.{DISK_FAILED, DONE, NO_FILE, NO_MEMORY, NO_STORE, SINK_FAILED, SOURCE_FAILED, TOO_MANY}
 
 -- how the program ends where a session ended so, after so many requests were answered
 abbrev pub end_of : End → ℕ → Result (Unit {0}) StopReason
@@ -81,50 +84,48 @@ Went disk_of source_of sink_of before now from rest out after e =
     × (rest ≡ from) × (after ≡ out))
     ⊎ HasSession disk_of source_of sink_of before now from rest out after e
 
--- The file of a command wasn't mounted: the disk failed, or the file isn't there.
-pub record IsUnmounted (c : Command) (before now : State) (e : Ended) : Type 0 where
+-- The file wasn't mounted.
+pub record IsUnmounted (file : List ℕ) (before now : State) (e : Ended) : Type 0 where
   pub mount : AfterMount before now
   pub later : before.faults ≤ now.faults
-  pub which : ((e ≡ unserved stop.Disk 0) × (now.last_mount ≡ None) × Rose before.faults now.faults)
-      ⊎ ((e ≡ unserved stop.NoFile 0) × (now.last_mount ≡ mounted c Absent) × (now.faults ≡ before.faults))
+  pub which : IsNotThere file before now (e ≡ unserved stop.Disk 0) (e ≡ unserved stop.NoFile 0)
 
 -- It was mounted, at `first`, and a session over it went so.
 pub record IsServed {D I O : Type 0} (disk_of : D → State) (source_of : I → SourceState)
     (sink_of : O → SinkState)
-    (c : Command) (before now : D) (from rest : I) (out after : O) (e : Ended) : Type 0 where
+    (file : List ℕ) (before now : D) (from rest : I) (out after : O) (e : Ended) : Type 0 where
   pub first : D
   pub mount : AfterMount (disk_of before) (disk_of first)
-  pub there : (disk_of first).last_mount ≡ mounted c There
+  pub there : (disk_of first).last_mount ≡ mounted file false There
   pub calm : (disk_of first).faults ≡ (disk_of before).faults
   pub went : Went disk_of source_of sink_of first now from rest out after e
 
 -- A command that serves requests went so; where its file wasn't mounted, no stream was called.
-abbrev pub RunSteps : {D I O : Type 0} → (D → State) → (I → SourceState) → (O → SinkState) → Command → D → D
+abbrev pub RunSteps : {D I O : Type 0} → (D → State) → (I → SourceState) → (O → SinkState) → List ℕ → D → D
     → I → I → O
     → O → Ended → Type 0
-RunSteps disk_of source_of sink_of c before now from rest out after e =
-    (IsUnmounted c (disk_of before) (disk_of now) e × (rest ≡ from) × (after ≡ out))
-    ⊎ IsServed disk_of source_of sink_of c before now from rest out after e
+RunSteps disk_of source_of sink_of file before now from rest out after e =
+    (IsUnmounted file (disk_of before) (disk_of now) e × (rest ≡ from) × (after ≡ out))
+    ⊎ IsServed disk_of source_of sink_of file before now from rest out after e
 
 -- What the command that serves requests does to its devices. No count falls, and a device's own fault comes
 -- only where its count rose; where all is done the sink's didn't. What is told stays told.
-pub record KeepsRun (old new : State) (from rest : SourceState) (out after : SinkState)
-    (status : ℕ) : Type 0 where
-  pub later : old.faults ≤ new.faults
-  pub rose : status ≡ 7 → Rose old.faults new.faults
-  pub no_turn_back : old.turn ≤ new.turn
-  pub told : new.tells ≡ old.tells
-  pub images_told : new.tells_images ≡ old.tells_images
+pub record KeepsRun (old new : Devices) (from rest : SourceState) (status : ℕ) : Type 0 where
+  pub later : old.disk.faults ≤ new.disk.faults
+  pub rose : status ≡ DISK_FAILED → Rose old.disk.faults new.disk.faults
+  pub no_turn_back : old.disk.turn ≤ new.disk.turn
+  pub told : new.disk.tells ≡ old.disk.tells
+  pub images_told : new.disk.tells_images ≡ old.disk.tells_images
   pub source_later : from.faults ≤ rest.faults
-  pub source_rose : status ≡ 8 → Rose from.faults rest.faults
-  pub sink_later : out.faults ≤ after.faults
-  pub sink_rose : status ≡ 9 → Rose out.faults after.faults
-  pub sink_calm : status ≡ 0 → after.faults ≡ out.faults
-  pub sink_told : after.tells ≡ out.tells
+  pub source_rose : status ≡ SOURCE_FAILED → Rose from.faults rest.faults
+  pub sink_later : old.sink.faults ≤ new.sink.faults
+  pub sink_rose : status ≡ SINK_FAILED → Rose old.sink.faults new.sink.faults
+  pub sink_calm : status ≡ DONE → new.sink.faults ≡ old.sink.faults
+  pub sink_told : new.sink.tells ≡ old.sink.tells
 
 -- the file wasn't there, or isn't opened, or memory was wanting
 abbrev pub IsUnserved : ℕ → Type 0
-IsUnserved status = (status ≡ 3) ⊎ (status ≡ 4) ⊎ (status ≡ 10)
+IsUnserved status = (status ≡ NO_FILE) ⊎ (status ≡ NO_STORE) ⊎ (status ≡ NO_MEMORY)
 
 -- How many requests were answered and are kept. None where no session was begun for want of the file, of a
 -- store or of memory, or where no file was mounted; else at most as many as one session answers, and so many
@@ -132,21 +133,21 @@ IsUnserved status = (status ≡ 3) ⊎ (status ≡ 4) ⊎ (status ≡ 10)
 pub record HasCounted (o : Outcome) (told mounted : Type 0) : Type 0 where
   pub none : IsUnserved o.status ⊎ (mounted → ⊥) → (o.done ≡ 0) × (o.kept_done ≡ 0)
   pub few : o.done ≤ budget
-  pub limit : (o.status ≡ 11) ↔ (o.done ≡ budget)
+  pub limit : (o.status ≡ TOO_MANY) ↔ (o.done ≡ budget)
   pub kept : told → o.kept_done ≤ o.done
 
 -- What the command that serves requests does whatever the file and the devices tell. Where no request was
 -- read the input is as it was, and the fault line is all that is put; where the file isn't there or is
 -- refused, it stays as it was. One of version 1 that opens isn't refused.
-pub record RunAlways (o : Outcome) (old new : State) (from rest : SourceState) (out after : SinkState)
+pub record RunAlways (o : Outcome) (old new : Devices) (from rest : SourceState)
     (same_input : Type 0) : Type 0 where
-  pub keeps : KeepsRun old new from rest out after o.status
-  pub numbers : HasCounted o (IsTrue old.tells) (HasMounted new)
-  pub turn : IsKeptTurn o (HasMounted new) old.turn new.turn
+  pub keeps : KeepsRun old new from rest o.status
+  pub numbers : HasCounted o (IsTrue old.disk.tells) (HasMounted new.disk)
+  pub turn : IsKeptTurn o (HasMounted new.disk) old.disk.turn new.disk.turn
   pub unread : IsUnserved o.status → same_input
-  pub untouched : (o.status ≡ 3) ⊎ (o.status ≡ 4) → Untouched old new
-  pub refused : IsTrue old.tells → o.status ≡ 4 → NeverServed old.file
-  pub line_alone : IsTrue out.tells → IsUnserved o.status → PutsLine o.status out after
+  pub untouched : (o.status ≡ NO_FILE) ⊎ (o.status ≡ NO_STORE) → Untouched old.disk new.disk
+  pub refused : IsTrue old.disk.tells → o.status ≡ NO_STORE → NeverServed old.disk.file
+  pub line_alone : IsTrue old.sink.tells → IsUnserved o.status → PutsLine o.status old.sink new.sink
 
 -- the status and the numbers of an end
 abbrev pub outcome_of : Ended → Outcome

@@ -1,5 +1,5 @@
 //! A law of a session in which no device failed.
-ghost use Rattle.std.specs.Prelude.{◌≡◌, ◌⊎◌, ◌<◌, [], List, ℕ, length};
+ghost use Rattle.std.specs.Prelude.{◌≡◌, ◌⊎◌, ◌<◌, false, [], List, ℕ, length};
 ghost use Rattle.disk_face.specs.Counts.{IsCalm};
 ghost use Rattle.disk_face.specs.declared.bay.Mounted.TheVariants.{There};
 ghost use Rattle.slot_codec.specs.Choice as choice;
@@ -10,11 +10,12 @@ ghost use Rattle.table_rules.specs.Opening.{OpensBy};
 ghost use Rattle.store_core.specs.Plain.{IsPlain};
 ghost use Rattle.ask_text.specs.Inputs.{Asks};
 ghost use Rattle.ask_session.specs.Runs.{budget};
-ghost use Rattle.command_face.specs.Mounting.{IsMounted, mounted, run};
+ghost use Rattle.command_face.specs.Mounting.{IsMounted, mounted};
+ghost use Rattle.command_face.specs.Devices.{devices};
 ghost use Rattle.run_command.specs.Headline.{RunPromise};
 ghost use Rattle.run_command.specs.Sessions.{RunAlways};
 
-use command_face::Outcome;
+use command_face::{DISK_FAILED, DONE, NO_FILE, NO_MEMORY, Outcome};
 use disk_face::{Bay, Mounted, Sink, Source};
 use size_class::{CLASSES, SIZE_MAX};
 
@@ -26,13 +27,14 @@ pub fn requests_are_served<B: Bay, I: Source, O: Sink>()
         (old new : B) (from rest : I) (out after : O) → IsPlain b
         → OpensBy CLASSES SIZE_MAX t (B.state old).file m b
         → Asks (I.state from).left requests [] → length requests < budget
-        → RunPromise o (B.state old) (B.state new) (I.state from) (I.state rest) (O.state out) (O.state after)
-        → RunAlways o (B.state old) (B.state new) (I.state from) (I.state rest) (O.state out) (O.state after)
-        (rest ≡ from)
-        → IsMounted (run file) (B.state new).last_mount (o.status ≡ 7) (o.status ≡ 3)
-        → (B.state new).last_mount ≡ mounted (run file) There
+        → RunPromise o (devices (B.state old) (O.state out)) (devices (B.state new) (O.state after))
+            (I.state from) (I.state rest)
+        → RunAlways o (devices (B.state old) (O.state out)) (devices (B.state new) (O.state after))
+            (I.state from) (I.state rest) (rest ≡ from)
+        → IsMounted file false (B.state new).last_mount (o.status ≡ DISK_FAILED) (o.status ≡ NO_FILE)
+        → (B.state new).last_mount ≡ mounted file false There
         → IsCalm (B.state old).faults (B.state new).faults
         → IsCalm (I.state from).faults (I.state rest).faults
         → IsCalm (O.state out).faults (O.state after).faults
-        → ((o.status ≡ 0) × (o.done ≡ length requests)) ⊎ ((o.status ≡ 10) × (o.done ≡ 0)) }
+        → ((o.status ≡ DONE) × (o.done ≡ length requests)) ⊎ ((o.status ≡ NO_MEMORY) × (o.done ≡ 0)) }
 {}

@@ -4,15 +4,16 @@ ghost use Rattle.size_class.specs.declared.TheConstants.{CLASSES};
 ghost use Rattle.store_core.specs.Connection.{IsConnected};
 ghost use Rattle.store_core.specs.Opened.{IsOpening};
 ghost use Rattle.store_core.specs.Stores.{IsStore};
-ghost use Rattle.command_face.specs.Mounting.{IsMounted, run};
-ghost use Rattle.command_face.specs.Refusing.{IsRefusedService, NeverServed};
+ghost use Rattle.command_face.specs.Mounting.{IsMounted};
+ghost use Rattle.served_file.specs.Unserved.{IsRefusedService, NeverServed};
 ghost use Rattle.run_command.specs.Headline.{RunPromise, is_session};
 ghost use Rattle.command_face.specs.Outcomes.{Ends};
+ghost use Rattle.command_face.specs.Devices.{devices};
 ghost use Rattle.run_command.specs.Sessions.{RunAlways, Went, RunSteps, end_of, ended_as, unserved};
 
 use ask_session::{End, Session};
-use command_face::{Outcome, StopReason, finish, stop_of};
-use disk_face::{Bay, Disk, Mounted, Sink, Source};
+use command_face::{DISK_FAILED, NO_FILE, NO_STORE, Outcome, StopReason, finish, mount_there, stop_of};
+use disk_face::{Bay, Disk, Sink, Source};
 use size_class::CLASSES;
 use std::alloc::Global;
 use store_core::Store;
@@ -36,16 +37,17 @@ pub fn run_file<B: Bay, I: Source, O: Sink>(
 ) -> Outcome
     requires { (B.state bay.old).last_mount ≡ None }
     ensures headline { IsTrue (B.state bay.old).tells → IsTrue (I.state input.old).tells
-        → RunPromise result (B.state bay.old) (B.state bay.new) (I.state input.old) (I.state input.new)
-        (O.state output.old) (O.state output.new) }
+        → RunPromise result (devices (B.state bay.old) (O.state output.old))
+            (devices (B.state bay.new) (O.state output.new)) (I.state input.old) (I.state input.new) }
     ensures refused { IsTrue (B.state bay.old).tells → NeverServed (B.state bay.old).file
         → Ends (IsRefusedService (B.state bay.old).file) result.status (O.state output.old)
         (O.state output.new) }
-    ensures known { (is_session result.status ≡ true) ⊎ (result.status ≡ 4) }
-    ensures mounted { IsMounted (run file.now) (B.state bay.new).last_mount (result.status ≡ 7)
-        (result.status ≡ 3) }
-    ensures serves { RunAlways result (B.state bay.old) (B.state bay.new) (I.state input.old)
-        (I.state input.new) (O.state output.old) (O.state output.new) (input.new ≡ input.old) }
+    ensures known { (is_session result.status ≡ true) ⊎ (result.status ≡ NO_STORE) }
+    ensures mounted { IsMounted file.now false (B.state bay.new).last_mount (result.status ≡ DISK_FAILED)
+        (result.status ≡ NO_FILE) }
+    ensures serves { RunAlways result (devices (B.state bay.old) (O.state output.old))
+        (devices (B.state bay.new) (O.state output.new)) (I.state input.old) (I.state input.new)
+        (input.new ≡ input.old) }
 {
     let ended = serve_file(alloc, bay, file, input, output);
     let outcome = finish(ended.end, output);
@@ -66,15 +68,12 @@ fn serve_file<B: Bay, I: Source, O: Sink>(
     output: &mut O,
 ) -> Ended
     requires { (B.state bay.old).last_mount ≡ None }
-    ensures { RunSteps B.state I.state O.state (run file.now) bay.old bay.new input.old input.new output.old
+    ensures { RunSteps B.state I.state O.state file.now bay.old bay.new input.old input.new output.old
         output.new result }
 {
-    match bay.mount(file, false) {
-        Err(_) => unserved(StopReason::Disk, 0),
-        Ok(Mounted::Absent) => unserved(StopReason::NoFile, 0),
-        // Nothing is made where it isn't asked for.
-        Ok(Mounted::Made) => unreachable!(),
-        Ok(Mounted::There) => serve_from(alloc, bay, input, output),
+    match mount_there(bay, file) {
+        Ok(()) => serve_from(alloc, bay, input, output),
+        Err(why) => unserved(why, 0),
     }
 }
 

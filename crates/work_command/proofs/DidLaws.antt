@@ -17,23 +17,26 @@ use Rattle.table_rules.specs.Opening.{Opens}
 use Rattle.store_core.specs.Connection.{StoreValue}
 use Rattle.store_core.specs.Opened.{IsOpening, RefusesStore}
 use Rattle.reopen.specs.declared.fault.OpenFault.{OpenFault}
-use Rattle.command_face.specs.Mounting.{IsMounted, mounted, Command, work}
+use Rattle.command_face.specs.Mounting.{IsMounted, mounted}
 use Rattle.work_command.specs.Doing.{Did, WorkSteps, IsAllDone, IsNotBegun, IsRefusal, IsStopped}
-use Rattle.command_face.specs.Refusing.{IsRefusedService, NeverServed, stop_of}
+use Rattle.command_face.specs.Refusing.{stop_of}
+use Rattle.served_file.specs.Unserved.{IsRefusedService, NeverServed}
 use Rattle.command_face.specs.Outcomes.{EndsBy, status_at, status_of}
 use Rattle.work_command.specs.Working.{KeepsWork, has_worked, is_working}
 use Rattle.command_face.specs.declared.stop.StopReason.{StopReason}
 use Rattle.command_face.specs.declared.stop.StopReason.TheVariants as stop
-use Rattle.command_face.proofs.UnopenedLaws.{disk_by, mount_untouched, not_status, opened_plain, refused_unchanged, refuses_service, status_unopened}
+use Rattle.command_face.proofs.UnopenedLaws.{disk_by, mount_untouched, not_status, status_unopened}
+use Rattle.served_file.proofs.RefusedLaws.{opened_plain, refused_unchanged, refuses_service}
+use Rattle.command_face.specs.Devices.{devices}
 
 pub not_both : {A : Type 0} → false ≡ true → A
 not_both is = absurd (cc)
 
 -- ---- the devices, the mount, and what was put, by the status
 
-pub record Whole (c : Command) (old z : State) (out put : SinkState) (n : ℕ) : Type 0 where
-  pub keeps : KeepsWork old z out put n
-  pub mounted : IsMounted c z.last_mount (n ≡ 7) (n ≡ 3)
+pub record Whole (file : List ℕ) (old z : State) (out put : SinkState) (n : ℕ) : Type 0 where
+  pub keeps : KeepsWork (devices old out) (devices z put) n
+  pub mounted : IsMounted file false z.last_mount (n ≡ 7) (n ≡ 3)
   pub known : (is_working n ≡ true) ⊎ (n ≡ 4)
   pub nothing : has_worked n ≡ false → put ≡ out
   pub untouched : (n ≡ 3) ⊎ (n ≡ 4) → Untouched old z
@@ -42,7 +45,7 @@ pub record Whole (c : Command) (old z : State) (out put : SinkState) (n : ℕ) :
 no_sink : (old z : State) (out put : SinkState) (n : ℕ) → old.faults ≤ z.faults
     → (n ≡ 7 → Rose old.faults z.faults)
     → old.turn ≤ z.turn → z.tells ≡ old.tells → z.tells_images ≡ old.tells_images → n ≢ 9 → put ≡ out
-    → KeepsWork old z out put n
+    → KeepsWork (devices old out) (devices z put) n
 no_sink old z out put n later rose turns told images nine same = record {
   later = later;
   rose = rose;
@@ -57,7 +60,7 @@ no_sink old z out put n later rose turns told images nine same = record {
 
 module _ (file : List ℕ) (number count : ℕ) (old z : State) (out put : SinkState) where
   abbrev All : ℕ → Type 0
-  All n = Whole (work file number count) old z out put n
+  All n = Whole file old z out put n
 
   mount_failed : AfterMount old z → old.faults ≤ z.faults → Rose old.faults z.faults → z.last_mount ≡ None
       → put ≡ out
@@ -75,7 +78,7 @@ module _ (file : List ℕ) (number count : ℕ) (old z : State) (out put : SinkS
   }
 
   file_absent : AfterMount old z → old.faults ≤ z.faults
-      → z.last_mount ≡ mounted (work file number count) Absent
+      → z.last_mount ≡ mounted file false Absent
       → put ≡ out → All 3
   file_absent mount later is same = record {
     keeps = no_sink old z out put 3 later (λ n. absurd (omega (arith, n))) mount.time.later mount.told
@@ -87,9 +90,9 @@ module _ (file : List ℕ) (number count : ℕ) (old z : State) (out put : SinkS
   }
 
   module _ (first : State) (mount : AfterMount old first) (calm : first.faults ≡ old.faults)
-      (there : first.last_mount ≡ mounted (work file number count) There) (frame : KeepsDisk first z)
+      (there : first.last_mount ≡ mounted file false There) (frame : KeepsDisk first z)
       (later : first.faults ≤ z.faults) where
-    mounted_there : (n : ℕ) → n ≢ 3 → IsMounted (work file number count) z.last_mount (n ≡ 7) (n ≡ 3)
+    mounted_there : (n : ℕ) → n ≢ 3 → IsMounted file false z.last_mount (n ≡ 7) (n ≡ 3)
     mounted_there n three = record {
       answer = inr (inl (frame.stays.same_mount ∙ there));
       absent = (
@@ -150,7 +153,7 @@ module _ {D : Type 0} (disk_of : D → State) (file : List ℕ) (number count : 
       (status_at x)) (sym is) all
 
   module _ (first : State) (mount : AfterMount old first) (calm : first.faults ≡ old.faults)
-      (there : first.last_mount ≡ mounted (work file number count) There) where
+      (there : first.last_mount ≡ mounted file false There) where
     refusal : IsRefusal first z end → put ≡ out → All file number count old z out put (status_at end)
     refusal x same = carried (Err (stop_of x.fault)) x.ended
         (stopped_there file number count old z out put first mount calm there x.opening.frame
@@ -217,8 +220,8 @@ module _ {D : Type 0} (disk_of : D → State) (file : List ℕ) (number count : 
             (λ n. omega (arith, n)) (λ n. omega (arith, n)) (λ n. omega (arith, n)) cause.later
             (λ n. cause.rose) (λ n. absurd (omega (arith, n))) x.told)
 
-  pub whole : WorkSteps disk_of (work file number count) number count old z out put end
-      → Whole (work file number count) old z out put (status_at end)
+  pub whole : WorkSteps disk_of file number count old z out put end
+      → Whole file old z out put (status_at end)
   whole (inl (is, same)) = elim is.which as (λ _. All file number count old z out put (status_at end)) [
     | inl failed ↦ carried (Err stop.Disk) failed.0
         (mount_failed file number count old z out put is.mount is.later failed.2 failed.1 same)
@@ -236,7 +239,7 @@ module _ {D : Type 0} (disk_of : D → State) (file : List ℕ) (number count : 
 
   -- a file that isn't served ends the command as its first refusal says, or as its version does
   pub refused_did : IsTrue old.tells → NeverServed old.file
-      → WorkSteps disk_of (work file number count) number count old z out put end
+      → WorkSteps disk_of file number count old z out put end
       → EndsBy (IsRefusedService old.file) [] end × (put ≡ out)
   refused_did told never (inl (is, same)) = (
     elim is.which as (λ _. EndsBy (IsRefusedService old.file) [] end) [
@@ -299,8 +302,8 @@ status_calm n known three seven nine = elim (cases_eq n 0) as (λ _. (n ≡ 0) �
 -- the jobs are done, or memory is wanting, where no fault came
 pub jobs_done : (file : List ℕ) (number count n : ℕ) (old z : State) (out after : SinkState)
     → is_working n ≡ true
-    → KeepsWork old z out after n → IsMounted (work file number count) z.last_mount (n ≡ 7) (n ≡ 3)
-    → z.last_mount ≡ mounted (work file number count) There → IsCalm old.faults z.faults
+    → KeepsWork (devices old out) (devices z after) n → IsMounted file false z.last_mount (n ≡ 7) (n ≡ 3)
+    → z.last_mount ≡ mounted file false There → IsCalm old.faults z.faults
     → IsCalm out.faults after.faults → (n ≡ 0) ⊎ (n ≡ 10)
 jobs_done file number count n old z out after known keeps mount there calm sink_calm = status_calm n known
     (λ is. not_both (ap is_mounted (sym (mount.absent.0 is) ∙ there)))

@@ -1,16 +1,19 @@
 -- How the jobs of a number went, from the steps that their functions take.
-use Rattle.std.specs.Prelude.{◌≡◌, ℕ, List, IsTrue, OnErr, Result, Ok, Err}
-use Rattle.std.proofs.Common.{sym, subst, inl, inr, refl}
+use Rattle.std.specs.Prelude.{◌≡◌, ℕ, ◌≤◌, List, false, IsTrue, OnErr, Result, Ok, Err}
+use Rattle.std.proofs.Common.{ap, sym, subst, inl, inr, refl}
 use Rattle.disk_face.specs.Counts.{HasCause}
+use Rattle.disk_face.specs.Frames.{AfterMount}
 use Rattle.disk_face.specs.States.{State}
 use Rattle.disk_face.specs.Streams.{Puts, SinkState}
+use Rattle.disk_face.specs.declared.bay.Mounted.TheVariants.{There}
 use Rattle.size_class.specs.declared.TheConstants.{CLASSES}
 use Rattle.store_core.specs.Connection.{StoreValue}
 use Rattle.store_core.specs.Opened.{IsOpening}
 use Rattle.work_session.specs.Works.{HasDone, HasStopped}
 use Rattle.work_session.specs.declared.summary.Summary.{Summary}
-use Rattle.work_command.specs.Doing.{Did, jobs_of}
+use Rattle.work_command.specs.Doing.{Did, WorkSteps, jobs_of}
 use Rattle.work_command.specs.Summaries.{summary_text}
+use Rattle.command_face.specs.Mounting.{IsNotThere, mounted}
 use Rattle.command_face.specs.declared.stop.StopReason.{StopReason}
 use Rattle.command_face.specs.declared.stop.StopReason.TheVariants as stop
 
@@ -57,3 +60,32 @@ module _ {D : Type 0} (disk_of : D → State) (number count : ℕ) (first mid no
     })),
     same,
   )
+
+-- ---- mounting
+
+module _ {D : Type 0} (disk_of : D → State) (file : List ℕ) (number count : ℕ) (old now : State)
+    (out : SinkState) where
+  abbrev IsOut : Result (Unit {0}) StopReason → Type 0
+  IsOut end = IsNotThere file old now (end ≡ Err stop.Disk) (end ≡ Err stop.NoFile)
+
+  pub steps_unmounted : (why : StopReason) → AfterMount old now → old.faults ≤ now.faults
+      → IsNotThere file old now (why ≡ stop.Disk) (why ≡ stop.NoFile)
+      → WorkSteps disk_of file number count old now out out (Err why)
+  steps_unmounted why mount later is = inl (
+    record {
+      mount = mount;
+      later = later;
+      which = elim is as (λ _. IsOut (Err why)) [
+        | inl failed ↦ inl (ap (λ (w : StopReason). Err w) failed.0, failed.1, failed.2)
+        | inr gone ↦ inr (ap (λ (w : StopReason). Err w) gone.0, gone.1, gone.2)
+      ];
+    },
+    refl,
+  )
+
+  pub steps_mounted : (first : D) (put : SinkState) (end : Result (Unit {0}) StopReason)
+      → AfterMount old (disk_of first) → (disk_of first).last_mount ≡ mounted file false There
+      → (disk_of first).faults ≡ old.faults → Did disk_of number count (disk_of first) now out put end
+      → WorkSteps disk_of file number count old now out put end
+  steps_mounted first put end mount there calm did =
+      inr (record { first = first; mount = mount; there = there; calm = calm; did = did })

@@ -4,17 +4,16 @@ use Rattle.std.proofs.Common.{arith, ap, sym, ◌∙◌, inl, inr}
 use Rattle.disk_face.specs.States.{State}
 use Rattle.disk_face.specs.Streams.{SinkState}
 use Rattle.work_command.specs.Doing.{Did, WorkSteps}
-use Rattle.command_face.specs.Refusing.{NeverServed}
+use Rattle.served_file.specs.Unserved.{NeverServed}
 use Rattle.command_face.specs.Outcomes.{status_at}
-use Rattle.command_face.specs.Mounting.{work}
 use Rattle.command_face.specs.declared.stop.StopReason.{StopReason}
 use Rattle.command_face.specs.declared.stop.StopReason.TheVariants as stop
-use Rattle.command_face.proofs.UnopenedLaws.{never_mounted}
+use Rattle.served_file.proofs.RefusedLaws.{never_mounted}
 
 module _ {D : Type 0} (disk_of : D → State) (file : List ℕ) (number count : ℕ) (old z : State)
     (out put : SinkState) (end : Result (Unit {0}) StopReason) (told : IsTrue old.tells)
     (four : status_at end ≡ 4) where
-  pub never_did : WorkSteps disk_of (work file number count) number count old z out put end
+  pub never_did : WorkSteps disk_of file number count old z out put end
       → NeverServed old.file
   never_did (inl (is, same)) = elim is.which as (λ _. NeverServed old.file) [
     | inl failed ↦ absurd (omega (arith, four, ap status_at failed.0))

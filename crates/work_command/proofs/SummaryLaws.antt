@@ -6,7 +6,6 @@ use Rattle.disk_face.specs.Counts.{Rose}
 use Rattle.disk_face.specs.States.{State}
 use Rattle.disk_face.specs.Streams.{Puts, SinkState}
 use Rattle.work_maker.proofs.ListLaws.{how_many}
-use Rattle.command_face.specs.Mounting.{Command}
 use Rattle.work_command.specs.Doing.{Did, WorkSteps, IsAllDone}
 use Rattle.command_face.specs.Faults.{line_of}
 use Rattle.command_face.specs.Refusing.{stop_of}
@@ -17,6 +16,7 @@ use Rattle.command_face.specs.declared.stop.StopReason.{StopReason}
 use Rattle.command_face.specs.declared.stop.StopReason.TheVariants as stop
 use Rattle.command_face.proofs.StatusLaws.{calm_by, Puts-front}
 use Rattle.command_face.proofs.UnopenedLaws.{status_unopened}
+use Rattle.command_face.specs.Devices.{devices}
 use Rattle.work_command.proofs.DidLaws.{not_both}
 
 -- after a summary no line is put
@@ -75,7 +75,7 @@ module _ {D : Type 0} (disk_of : D → State) (number count : ℕ) (z : State) (
   unworked_refusal n (inr (inr ten)) = ap has_worked ten
 
   -- what the summary says on any disk
-  pub summary_of : {c : Command} {old : State} → WorkSteps disk_of c number count old z out put end
+  pub summary_of : {file : List ℕ} {old : State} → WorkSteps disk_of file number count old z out put end
       → IsTrue (has_worked (status_at end)) → PutsSummary count (status_at end) out after
   summary_of (inl (is, same)) worked = elim is.which as (λ _. PutsSummary count (status_at end) out after) [
     | inl failed ↦ unworked (Err stop.Disk) failed.0 refl worked
@@ -119,9 +119,9 @@ line_only out put after (Err why) none same told line = record {
 
 -- what is kept once the line was put
 pub keeps_line : (old z : State) (out put after : SinkState) (end : Result (Unit {0}) StopReason)
-    → KeepsWork old z out put (status_at end) → put.faults ≤ after.faults
+    → KeepsWork (devices old out) (devices z put) (status_at end) → put.faults ≤ after.faults
     → OnOk end (after.faults ≡ put.faults)
-    → after.tells ≡ put.tells → KeepsWork old z out after (status_at end)
+    → after.tells ≡ put.tells → KeepsWork (devices old out) (devices z after) (status_at end)
 keeps_line old z out put after end keeps later calm told = record {
   later = keeps.later;
   rose = keeps.rose;

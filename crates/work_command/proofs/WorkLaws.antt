@@ -30,13 +30,14 @@ use Rattle.work_maker.proofs.ListLaws.{how_many}
 use Rattle.work_session.specs.Works.{ArePaidLines, HasDone, HasStopped, IsJobImage}
 use Rattle.work_session.specs.declared.summary.Summary.{Summary}
 use Rattle.work_command.specs.Doing.{jobs_of}
-use Rattle.command_face.specs.Served.{EndsTight, IsNextStart, OpensTo, OpensToBeing, OpensToKept, Starts, limits_with, most_left, turn_opened}
+use Rattle.served_file.specs.Served.{EndsTight, IsNextStart, OpensTo, OpensToBeing, OpensToKept, Starts, limits_with, most_left, turn_opened, found_with}
 use Rattle.command_face.specs.Outcomes.{PutsLast}
 use Rattle.work_command.specs.Summaries.{summary_text}
 use Rattle.work_command.specs.Working.{WorkHolds, has_worked, is_working}
-use Rattle.command_face.proofs.OpeningLaws.{Opened, found_numbered, requests_low, start_low}
-use Rattle.command_face.proofs.OverLaws.{next_over, tight_over}
-use Rattle.command_face.proofs.ShownLaws.{Shows, first_kept, last_shown, some_weaker}
+use Rattle.served_file.proofs.OpeningLaws.{Opened, found_numbered, requests_low, start_low}
+use Rattle.served_file.proofs.OverLaws.{next_over, tight_over}
+use Rattle.served_file.proofs.ShownLaws.{Shows, first_kept, last_shown, some_weaker}
+use Rattle.command_face.specs.Devices.{devices}
 
 -- there is a job
 some_of : (requests : List Request) (n : ℕ) → length requests ≡ n + 1 → requests ≢ []
@@ -84,7 +85,7 @@ module _ (t : choice.Table) (m : Map) (b : Book) (old : State) (lawful : IsLawfu
 
     pub none_begun : (status : ℕ) → is_working status ≡ true → has_worked status ≡ false
         → (IsCalm old.faults z.faults → IsNextStart t start start.sequence old z)
-        → WorkHolds u t m b number count status old z out after
+        → WorkHolds (found_with u t m b) number count status (devices old out) (devices z after)
     none_begun status known none next = record {
       start = start;
       starts = starts;
@@ -135,7 +136,7 @@ module _ (t : choice.Table) (m : Map) (b : Book) (old : State) (lawful : IsLawfu
     left_mid room rests below = left_start u start starts op.later op.left room rests below
 
     pub none_done : (status : ℕ) → is_working status ≡ true → has_worked status ≡ false
-        → WorkHolds u t m b number count status old mid out after
+        → WorkHolds (found_with u t m b) number count status (devices old out) (devices mid after)
     none_done status known none = none_begun u start starts op.later op.left status known none
         (λ calm. next_over t s old mid s.in_use.sequence op.sound op.over op.block (omega arith) op.rests)
 
@@ -179,8 +180,7 @@ module _ (t : choice.Table) (m : Map) (b : Book) (old : State) (lawful : IsLawfu
 
       -- the disk failed in a job
       pub in_a_job : HasStopped CLASSES s (jobs_of number count s) mid z
-          → WorkHolds u t m b number count 7 old
-          z out after
+          → WorkHolds (found_with u t m b) number count 7 (devices old out) (devices z after)
       in_a_job x = record {
         start = start;
         starts = starts;
@@ -236,7 +236,7 @@ module _ (t : choice.Table) (m : Map) (b : Book) (old : State) (lawful : IsLawfu
         pub all_done : (status : ℕ) → is_working status ≡ true → has_worked status ≡ true → status ≢ 7
             → ((status ≡ 3) ⊎ (status ≡ 10) → ⊥)
             → (IsTrue out.tells → PutsLast out.given after.given (summary_text x) (status ≡ 9))
-            → WorkHolds u t m b number count status old z out after
+            → WorkHolds (found_with u t m b) number count status (devices old out) (devices z after)
         all_done status known worked seven begun puts = record {
           start = start;
           starts = starts;

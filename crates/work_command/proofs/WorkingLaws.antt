@@ -21,17 +21,17 @@ use Rattle.reopen.specs.declared.fault.OpenFault.TheVariants as opening
 use Rattle.store_core.specs.Plain.{IsPlain}
 use Rattle.work_command.specs.Doing.{Did, WorkSteps, IsAllDone, IsNotBegun, IsRefusal, IsStopped}
 use Rattle.command_face.specs.Refusing.{stop_of}
-use Rattle.command_face.specs.Served.{IsNextStart, Starts}
+use Rattle.served_file.specs.Served.{IsNextStart, Starts, found_with}
 use Rattle.command_face.specs.Outcomes.{PutsLast, line_at, status_at, status_of}
 use Rattle.work_command.specs.Summaries.{summary_text}
-use Rattle.command_face.specs.Mounting.{Command}
 use Rattle.work_command.specs.Working.{WorkHolds}
 use Rattle.command_face.specs.declared.stop.StopReason.{StopReason}
 use Rattle.command_face.specs.declared.stop.StopReason.TheVariants as stop
 use Rattle.work_command.proofs.SummaryLaws.{summary_put}
-use Rattle.command_face.proofs.UnopenedLaws.{WhyUnopened, begins_itself, why_unopened}
-use Rattle.command_face.proofs.UnopenedLaws.WhyUnopened.{disk, memory}
-use Rattle.command_face.proofs.OpeningLaws.{Opened, left_first, left_opening, opened_by, opens_first, rests_first, told_first}
+use Rattle.served_file.proofs.RefusedLaws.{WhyUnopened, begins_itself, why_unopened}
+use Rattle.served_file.proofs.RefusedLaws.WhyUnopened.{disk, memory}
+use Rattle.served_file.proofs.OpeningLaws.{Opened, left_first, left_opening, opened_by, opens_first, rests_first, told_first}
+use Rattle.command_face.specs.Devices.{devices}
 use Rattle.work_command.proofs.WorkLaws.{all_done, in_a_job, none_begun, none_done}
 
 module _ (t : choice.Table) (m : Map) (b : Book) (old : State) (lawful : IsLawful old)
@@ -39,7 +39,7 @@ module _ (t : choice.Table) (m : Map) (b : Book) (old : State) (lawful : IsLawfu
     (plain : IsPlain b) (o : OpensBy CLASSES SIZE_MAX t old.file m b)
     {D : Type 0} (disk_of : D → State) (number count : ℕ) (z : State) (out put after : SinkState) where
   abbrev Works : ℕ → Type 0
-  Works n = WorkHolds t.chosen.block t m b number count n old z out after
+  Works n = WorkHolds (found_with t.chosen.block t m b) number count n (devices old out) (devices z after)
 
   -- the line of an end is put behind what was put
   abbrev PutsEnd : Result (Unit {0}) StopReason → Type 0
@@ -110,8 +110,10 @@ module _ (t : choice.Table) (m : Map) (b : Book) (old : State) (lawful : IsLawfu
 
       -- the superblock of the store is that of the table found
       over_block : {mid : State} {s : StoreValue} (n : ℕ) → Opened t m b old mid s
-          → WorkHolds s.in_use.block t m b number count n old z out after → Works n
-      over_block n op works = subst (λ (u : SuperBlock). WorkHolds u t m b number count n old z out after)
+          → WorkHolds (found_with s.in_use.block t m b) number count n (devices old out) (devices z after) →
+              Works n
+      over_block n op works = subst (λ (u : SuperBlock). WorkHolds (found_with u t m b) number count n
+          (devices old out) (devices z after))
           op.block works
 
       refusal : IsRefusal first z end → Works (status_at end)
@@ -159,8 +161,8 @@ module _ (t : choice.Table) (m : Map) (b : Book) (old : State) (lawful : IsLawfu
 
   -- ---- all of them
 
-  pub works : (c : Command) (end : Result (Unit {0}) StopReason)
-      → WorkSteps disk_of c number count old z out put end
+  pub works : (file : List ℕ) (end : Result (Unit {0}) StopReason)
+      → WorkSteps disk_of file number count old z out put end
       → PutsEnd end
       → Works (status_at end)
   works c end (inl (is, same)) line = elim is.which as (λ _. Works (status_at end)) [

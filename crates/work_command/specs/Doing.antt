@@ -1,10 +1,10 @@
 -- How the jobs of a number over a file went, step by step.
-use Rattle.std.specs.Prelude.{◌≡◌, ◌⊎◌, ℕ, ◌≤◌, List, IsTrue, OnErr, Result, None, Ok, Err}
-use Rattle.disk_face.specs.Counts.{HasCause, Rose}
+use Rattle.std.specs.Prelude.{◌≡◌, ◌⊎◌, ℕ, ◌≤◌, List, false, IsTrue, OnErr, Result, Ok, Err}
+use Rattle.disk_face.specs.Counts.{HasCause}
 use Rattle.disk_face.specs.Frames.{AfterMount}
 use Rattle.disk_face.specs.States.{State}
 use Rattle.disk_face.specs.Streams.{Puts, SinkState}
-use Rattle.disk_face.specs.declared.bay.Mounted.TheVariants.{Absent, There}
+use Rattle.disk_face.specs.declared.bay.Mounted.TheVariants.{There}
 use Rattle.size_class.specs.declared.TheConstants.{CLASSES}
 use Rattle.map_model.specs.Requests.{Request}
 use Rattle.store_core.specs.Connection.{StoreValue}
@@ -13,7 +13,7 @@ use Rattle.reopen.specs.declared.fault.OpenFault.{OpenFault}
 use Rattle.work_maker.specs.Jobs.{jobs}
 use Rattle.work_session.specs.Works.{HasDone, HasStopped}
 use Rattle.work_session.specs.declared.summary.Summary.{Summary}
-use Rattle.command_face.specs.Mounting.{Command, mounted}
+use Rattle.command_face.specs.Mounting.{IsNotThere, mounted}
 use Rattle.command_face.specs.Refusing.{stop_of}
 use Rattle.work_command.specs.Summaries.{summary_text}
 use Rattle.command_face.specs.declared.stop.StopReason.{StopReason}
@@ -66,25 +66,26 @@ Did disk_of number count before now out after end =
     × (after ≡ out))
     ⊎ IsAllDone disk_of number count before now out after end
 
--- The file of a command wasn't mounted: the disk failed, or the file isn't there.
-pub record IsNotMounted (c : Command) (before now : State) (end : Result (Unit {0}) StopReason) : Type 0 where
+-- The file wasn't mounted.
+pub record IsNotMounted (file : List ℕ) (before now : State) (end : Result (Unit {0}) StopReason)
+    : Type 0 where
   pub mount : AfterMount before now
   pub later : before.faults ≤ now.faults
-  pub which : ((end ≡ Err stop.Disk) × (now.last_mount ≡ None) × Rose before.faults now.faults)
-      ⊎ ((end ≡ Err stop.NoFile) × (now.last_mount ≡ mounted c Absent) × (now.faults ≡ before.faults))
+  pub which : IsNotThere file before now (end ≡ Err stop.Disk) (end ≡ Err stop.NoFile)
 
 -- It was mounted, at `first`, and the jobs over it went so.
-pub record IsMountedAndDid {D : Type 0} (disk_of : D → State) (c : Command) (number count : ℕ)
+pub record IsMountedAndDid {D : Type 0} (disk_of : D → State) (file : List ℕ) (number count : ℕ)
     (before now : State)
     (out after : SinkState) (end : Result (Unit {0}) StopReason) : Type 0 where
   pub first : D
   pub mount : AfterMount before (disk_of first)
-  pub there : (disk_of first).last_mount ≡ mounted c There
+  pub there : (disk_of first).last_mount ≡ mounted file false There
   pub calm : (disk_of first).faults ≡ before.faults
   pub did : Did disk_of number count (disk_of first) now out after end
 
 -- A command that does jobs went so; where its file wasn't mounted, nothing was put.
-abbrev pub WorkSteps : {D : Type 0} → (D → State) → Command → ℕ → ℕ → State → State → SinkState → SinkState
+abbrev pub WorkSteps : {D : Type 0} → (D → State) → List ℕ → ℕ → ℕ → State → State → SinkState → SinkState
     → Result (Unit {0}) StopReason → Type 0
-WorkSteps disk_of c number count before now out after end = (IsNotMounted c before now end × (after ≡ out))
-    ⊎ IsMountedAndDid disk_of c number count before now out after end
+WorkSteps disk_of file number count before now out after end =
+    (IsNotMounted file before now end × (after ≡ out))
+    ⊎ IsMountedAndDid disk_of file number count before now out after end

@@ -24,27 +24,30 @@ use Rattle.work_maker.specs.Jobs.{jobs}
 use Rattle.work_session.specs.Counts.{asked_in, calls_in}
 use Rattle.work_session.specs.Works.{ArePaidLines, CountsOf, LinesOf}
 use Rattle.work_session.specs.declared.summary.Summary.{Summary}
-use Rattle.command_face.specs.Served.{EndsTight, IsNextStart, OpensTo, OpensToBeing, OpensToKept, Ran, Starts, limits_with, most_left}
+use Rattle.command_face.specs.Devices.{Devices}
+use Rattle.served_file.specs.Served.{EndsTight, Found, found_by, IsNextStart, OpensTo, OpensToBeing, OpensToKept, Ran, Starts, limits_with, most_left}
 use Rattle.command_face.specs.Outcomes.{PutsLast, PutsLine}
-use Rattle.command_face.specs.Refusing.{NeverServed}
+use Rattle.served_file.specs.Unserved.{NeverServed}
 use Rattle.work_command.specs.Summaries.{summary_text}
+use Rattle.command_face.specs.declared.status.TheConstants.{DISK_FAILED, DONE, NO_FILE, NO_MEMORY, NO_STORE, SINK_FAILED}
 
 -- ---- statuses
 
 -- the statuses over a file that opens
 abbrev pub is_working : ℕ → Bool
-is_working status = (status == 0) || (status == 3) || (status == 7) || (status == 9) || (status == 10)
+is_working status = (status == DONE) || (status == NO_FILE) || (status == DISK_FAILED)
+    || (status == SINK_FAILED) || (status == NO_MEMORY)
 
 -- all jobs were done
 abbrev pub has_worked : ℕ → Bool
-has_worked status = (status == 0) || (status == 9)
+has_worked status = (status == DONE) || (status == SINK_FAILED)
 
 -- How far the jobs came, by the status: all were done, or the disk failed before, or none was begun.
 pub record HowManyJobs (status n : ℕ) (others : List Request) : Type 0 where
   pub known : is_working status ≡ true
   pub all : IsTrue (has_worked status) → others ≡ []
-  pub some : status ≡ 7 → others ≢ []
-  pub none : (status ≡ 3) ⊎ (status ≡ 10) → n ≡ 0
+  pub some : status ≡ DISK_FAILED → others ≢ []
+  pub none : (status ≡ NO_FILE) ⊎ (status ≡ NO_MEMORY) → n ≡ 0
 
 -- ---- once all jobs were done
 
@@ -72,16 +75,16 @@ pub record HasSaved (u : SuperBlock) (s : State) (rested : Type 0) (new : disk.S
 -- All jobs were done: the summary was put, or where the sink failed a front of it. Over a settled file that
 -- ended with its layout the changing calls are at most those of the jobs and those of the bytes moved: one
 -- for the least size of an object of each class, and one for each 65,536 bytes.
-pub record AreDone (u : SuperBlock) (t : choice.Table) (b : Book) (start : State) (requests : List Request)
-    (replies : List Reply) (states : List State) (status : ℕ) (old new : disk.State)
-    (out after : SinkState) : Type 0 where
+pub record AreDone (found : Found) (start : State) (requests : List Request) (replies : List Reply)
+    (states : List State) (status : ℕ) (old new : Devices) : Type 0 where
   pub summary : Summary
-  pub sums : SumsUp u.k b start requests replies states summary
-  pub puts : IsTrue out.tells → PutsLast out.given after.given (summary_text summary) (status ≡ 9)
-  pub saved : HasSaved u (last_state start states) (RestsOnFound t old) new
-  pub calls : t.chosen.header.kind ≡ kind.Settled
-      → length old.file ≡ found_base t + book_end t.chosen.block.k b
-      → new.turn ≤ old.turn + calls_in start requests replies states
+  pub sums : SumsUp found.block.k found.b start requests replies states summary
+  pub puts : IsTrue old.sink.tells
+      → PutsLast old.sink.given new.sink.given (summary_text summary) (status ≡ SINK_FAILED)
+  pub saved : HasSaved found.block (last_state start states) (RestsOnFound found.table old.disk) new.disk
+  pub calls : found.table.chosen.header.kind ≡ kind.Settled
+      → length old.disk.file ≡ found_base found.table + book_end found.table.chosen.block.k found.b
+      → new.disk.turn ≤ old.disk.turn + calls_in start requests replies states
       + summary.flat.moved / 2 ^ (CLASSES - 1) + summary.moved / 65536
 
 -- ---- the whole
@@ -92,48 +95,48 @@ pub record AreDone (u : SuperBlock) (t : choice.Table) (b : Book) (start : State
 -- leaves room for the saves of its flush: at any moment a crash leaves the start, or what stood after a job
 -- that made a checkpoint, or the one that the job makes in which the disk failed; and the start alone where
 -- no job was begun.
-pub record WorkHolds (u : SuperBlock) (t : choice.Table) (m : Map) (b : Book) (number count status : ℕ)
-    (old new : disk.State) (out after : SinkState) : Type 0 where
+pub record WorkHolds (found : Found) (number count status : ℕ) (old new : Devices) : Type 0 where
   pub start : State
-  pub starts : Starts t m b start
+  pub starts : Starts found.table found.m found.b start
   pub continues : IsTrue (has_worked status)
-      → ContinuesFrom t.chosen.header.kind t.chosen.header.sequence start.sequence
+      → ContinuesFrom found.table.chosen.header.kind found.table.chosen.header.sequence start.sequence
   pub n : ℕ
-  pub ran : Ran (limits_with u) start (jobs number count u.names) n
+  pub ran : Ran (limits_with found.block) start (jobs number count found.block.names) n
   pub far : HowManyJobs status n ran.others
   pub done : IsTrue (has_worked status)
-      → AreDone u t b start ran.answered ran.replies ran.states status old new out after
-  pub crash : LeavesRoom t → RestsOnFound t old → new.turn < last → LeftOnly new old.turn
-      (λ image. OpensToKept start ran.replies ran.states image
-      ⊎ OpensToBeing status (limits_with u) (last_state start ran.states) ran.others image)
-  pub numbered : LeavesRoom t → RestsOnFound t old → new.turn < last
-      → LeftOnly new old.turn (HasSequenceUpTo (most_left u.k t))
-  pub unbegun : (status ≡ 3) ⊎ (status ≡ 10) → LeavesRoom t → RestsOnFound t old → new.turn < last
-      → LeftOnly new old.turn (OpensTo start)
-  pub next_start : IsCalm old.faults new.faults
-      → IsNextStart t (last_state start ran.states) (last_state start ran.states).sequence old new
-  pub reach : (last_state start ran.states).sequence ≤ most_left u.k t
+      → AreDone found start ran.answered ran.replies ran.states status old new
+  pub crash : LeavesRoom found.table → RestsOnFound found.table old.disk → new.disk.turn < last
+      → LeftOnly new.disk old.disk.turn (λ image. OpensToKept start ran.replies ran.states image
+      ⊎ OpensToBeing status (limits_with found.block) (last_state start ran.states) ran.others image)
+  pub numbered : LeavesRoom found.table → RestsOnFound found.table old.disk → new.disk.turn < last
+      → LeftOnly new.disk old.disk.turn (HasSequenceUpTo (most_left found.block.k found.table))
+  pub unbegun : (status ≡ NO_FILE) ⊎ (status ≡ NO_MEMORY)
+      → LeavesRoom found.table → RestsOnFound found.table old.disk → new.disk.turn < last
+      → LeftOnly new.disk old.disk.turn (OpensTo start)
+  pub next_start : IsCalm old.disk.faults new.disk.faults → IsNextStart found.table
+      (last_state start ran.states) (last_state start ran.states).sequence old.disk new.disk
+  pub reach : (last_state start ran.states).sequence ≤ most_left found.block.k found.table
 
 -- So it is of every file of version 1 that opens.
-abbrev pub WorkPromise : ℕ → ℕ → ℕ → disk.State → disk.State → SinkState → SinkState → Type 0
-WorkPromise number count status old new out after = (t : choice.Table) (m : Map) (b : Book)
-    → IsPlain b → OpensBy CLASSES SIZE_MAX t old.file m b
-    → WorkHolds t.chosen.block t m b number count status old new out after
+abbrev pub WorkPromise : ℕ → ℕ → ℕ → Devices → Devices → Type 0
+WorkPromise number count status old new = (t : choice.Table) (m : Map) (b : Book)
+    → IsPlain b → OpensBy CLASSES SIZE_MAX t old.disk.file m b
+    → WorkHolds (found_by t m b) number count status old new
 
 -- ---- whatever is told
 
 -- What jobs do to the devices. No count falls, and a device's own fault comes only where its count rose;
 -- where all is done the sink's didn't. What is told stays told.
-pub record KeepsWork (old new : disk.State) (out after : SinkState) (status : ℕ) : Type 0 where
-  pub later : old.faults ≤ new.faults
-  pub rose : status ≡ 7 → Rose old.faults new.faults
-  pub no_turn_back : old.turn ≤ new.turn
-  pub told : new.tells ≡ old.tells
-  pub images_told : new.tells_images ≡ old.tells_images
-  pub sink_later : out.faults ≤ after.faults
-  pub sink_rose : status ≡ 9 → Rose out.faults after.faults
-  pub sink_calm : status ≡ 0 → after.faults ≡ out.faults
-  pub sink_told : after.tells ≡ out.tells
+pub record KeepsWork (old new : Devices) (status : ℕ) : Type 0 where
+  pub later : old.disk.faults ≤ new.disk.faults
+  pub rose : status ≡ DISK_FAILED → Rose old.disk.faults new.disk.faults
+  pub no_turn_back : old.disk.turn ≤ new.disk.turn
+  pub told : new.disk.tells ≡ old.disk.tells
+  pub images_told : new.disk.tells_images ≡ old.disk.tells_images
+  pub sink_later : old.sink.faults ≤ new.sink.faults
+  pub sink_rose : status ≡ SINK_FAILED → Rose old.sink.faults new.sink.faults
+  pub sink_calm : status ≡ DONE → new.sink.faults ≡ old.sink.faults
+  pub sink_told : new.sink.tells ≡ old.sink.tells
 
 -- What a summary says whatever the disk tells: how many jobs there were, of which no more were counted, and
 -- costs that are those of two rows of bytes by class, of the bytes moved and of those asked for.
@@ -149,15 +152,15 @@ pub record SumsUpJobs (count : ℕ) (x : Summary) : Type 0 where
 pub record PutsSummary (count status : ℕ) (out after : SinkState) : Type 0 where
   pub summary : Summary
   pub sums : SumsUpJobs count summary
-  pub puts : IsTrue out.tells → PutsLast out.given after.given (summary_text summary) (status ≡ 9)
+  pub puts : IsTrue out.tells → PutsLast out.given after.given (summary_text summary) (status ≡ SINK_FAILED)
 
 -- What `work` does whatever the file and the devices tell. Where all jobs were done their summary is put, and
 -- else the fault line alone; where the file isn't there or is refused, it stays as it was. One that opens
 -- isn't refused.
-pub record WorkAlways (count status : ℕ) (old new : disk.State) (out after : SinkState) : Type 0 where
-  pub known : (is_working status ≡ true) ⊎ (status ≡ 4)
-  pub keeps : KeepsWork old new out after status
-  pub untouched : (status ≡ 3) ⊎ (status ≡ 4) → Untouched old new
-  pub refused : IsTrue old.tells → status ≡ 4 → NeverServed old.file
-  pub summed : IsTrue (has_worked status) → PutsSummary count status out after
-  pub line_alone : IsTrue out.tells → has_worked status ≡ false → PutsLine status out after
+pub record WorkAlways (count status : ℕ) (old new : Devices) : Type 0 where
+  pub known : (is_working status ≡ true) ⊎ (status ≡ NO_STORE)
+  pub keeps : KeepsWork old new status
+  pub untouched : (status ≡ NO_FILE) ⊎ (status ≡ NO_STORE) → Untouched old.disk new.disk
+  pub refused : IsTrue old.disk.tells → status ≡ NO_STORE → NeverServed old.disk.file
+  pub summed : IsTrue (has_worked status) → PutsSummary count status old.sink new.sink
+  pub line_alone : IsTrue old.sink.tells → has_worked status ≡ false → PutsLine status old.sink new.sink

@@ -1,5 +1,5 @@
 //! Laws of jobs in which no device failed, and of what is put of them.
-ghost use Rattle.std.specs.Prelude.{◌≡◌, ◌⊎◌, ◌++◌, List, ℕ, codes};
+ghost use Rattle.std.specs.Prelude.{◌≡◌, ◌⊎◌, ◌++◌, false, List, ℕ, codes};
 ghost use Rattle.disk_face.specs.Counts.{IsCalm};
 ghost use Rattle.disk_face.specs.declared.bay.Mounted.TheVariants.{There};
 ghost use Rattle.slot_codec.specs.Choice as choice;
@@ -7,10 +7,12 @@ ghost use Rattle.segment_layout.specs.Books.{Book};
 ghost use Rattle.map_model.specs.Maps.{Map};
 ghost use Rattle.table_rules.specs.Opening.{OpensBy};
 ghost use Rattle.store_core.specs.Plain.{IsPlain};
-ghost use Rattle.command_face.specs.Mounting.{IsMounted, mounted, work};
+ghost use Rattle.command_face.specs.Mounting.{IsMounted, mounted};
+ghost use Rattle.command_face.specs.Devices.{devices};
 ghost use Rattle.work_command.specs.Summaries.{eleven_jobs, summary_text};
 ghost use Rattle.work_command.specs.Working.{WorkPromise, WorkAlways};
 
+use command_face::{DISK_FAILED, DONE, NO_FILE, NO_MEMORY};
 use disk_face::{Bay, Mounted, Sink};
 use size_class::{CLASSES, SIZE_MAX};
 
@@ -27,11 +29,13 @@ pub fn worked_summary()
 pub fn jobs_are_done<B: Bay, O: Sink>()
     ensures { (t : choice.Table) (m : Map) (b : Book) (file : List ℕ) (number count status : ℕ) (old new : B)
         (out after : O) → IsPlain b → OpensBy CLASSES SIZE_MAX t (B.state old).file m b
-        → WorkPromise number count status (B.state old) (B.state new) (O.state out) (O.state after)
-        → WorkAlways count status (B.state old) (B.state new) (O.state out) (O.state after)
-        → IsMounted (work file number count) (B.state new).last_mount (status ≡ 7) (status ≡ 3)
-        → (B.state new).last_mount ≡ mounted (work file number count) There
+        → WorkPromise number count status (devices (B.state old) (O.state out))
+            (devices (B.state new) (O.state after))
+        → WorkAlways count status (devices (B.state old) (O.state out))
+            (devices (B.state new) (O.state after))
+        → IsMounted file false (B.state new).last_mount (status ≡ DISK_FAILED) (status ≡ NO_FILE)
+        → (B.state new).last_mount ≡ mounted file false There
         → IsCalm (B.state old).faults (B.state new).faults
         → IsCalm (O.state out).faults (O.state after).faults
-        → (status ≡ 0) ⊎ (status ≡ 10) }
+        → (status ≡ DONE) ⊎ (status ≡ NO_MEMORY) }
 {}

@@ -1,17 +1,18 @@
 //! The command `work`: the jobs of a number over a file, and their summary.
-ghost use Rattle.std.specs.Prelude.{◌≡◌, ◌≤◌, None, Ok, IsTrue};
+ghost use Rattle.std.specs.Prelude.{◌≡◌, ◌≤◌, false, None, Ok, IsTrue};
 ghost use Rattle.size_class.specs.declared.TheConstants.{CLASSES};
 ghost use Rattle.store_core.specs.Connection.{IsConnected};
 ghost use Rattle.store_core.specs.Opened.{IsFresh, IsOpening};
-ghost use Rattle.command_face.specs.Mounting.{IsMounted, work};
+ghost use Rattle.command_face.specs.Mounting.{IsMounted};
 ghost use Rattle.work_command.specs.Doing.{Did, WorkSteps};
-ghost use Rattle.command_face.specs.Refusing.{IsRefusedService, NeverServed};
+ghost use Rattle.served_file.specs.Unserved.{IsRefusedService, NeverServed};
 ghost use Rattle.command_face.specs.Outcomes.{Ends};
+ghost use Rattle.command_face.specs.Devices.{devices};
 ghost use Rattle.work_command.specs.Working.{WorkPromise, WorkAlways};
 
 use crate::summary::summary_text;
-use command_face::{Outcome, StopReason, finish, put_whole, stop_of};
-use disk_face::{Bay, Disk, Mounted, Sink};
+use command_face::{DISK_FAILED, NO_FILE, Outcome, StopReason, finish, mount_there, put_whole, stop_of};
+use disk_face::{Bay, Disk, Sink};
 use size_class::CLASSES;
 use std::alloc::Global;
 use store_core::Store;
@@ -29,15 +30,15 @@ pub fn work_file<B: Bay, O: Sink>(
     requires none { (B.state bay.old).last_mount ≡ None }
     requires least { 1 ≤ count }
     requires most { count ≤ 1000000 }
-    ensures works { IsTrue (B.state bay.old).tells → WorkPromise number count result.status (B.state bay.old)
-        (B.state bay.new) (O.state output.old) (O.state output.new) }
+    ensures works { IsTrue (B.state bay.old).tells → WorkPromise number count result.status
+        (devices (B.state bay.old) (O.state output.old)) (devices (B.state bay.new) (O.state output.new)) }
     ensures refused { IsTrue (B.state bay.old).tells → NeverServed (B.state bay.old).file
         → Ends (IsRefusedService (B.state bay.old).file) result.status (O.state output.old)
         (O.state output.new) }
-    ensures mounted { IsMounted (work file.now number count) (B.state bay.new).last_mount (result.status ≡ 7)
-        (result.status ≡ 3) }
-    ensures keeps { WorkAlways count result.status (B.state bay.old) (B.state bay.new) (O.state output.old)
-        (O.state output.new) }
+    ensures mounted { IsMounted file.now false (B.state bay.new).last_mount (result.status ≡ DISK_FAILED)
+        (result.status ≡ NO_FILE) }
+    ensures keeps { WorkAlways count result.status (devices (B.state bay.old) (O.state output.old))
+        (devices (B.state bay.new) (O.state output.new)) }
     ensures numbers { (result.done ≡ 0) × (result.kept_done ≡ 0) × (result.kept_turn ≡ 0) }
 {
     let end = work_over(alloc, bay, file, number, count, output);
@@ -56,15 +57,12 @@ fn work_over<B: Bay, O: Sink>(
     requires none { (B.state bay.old).last_mount ≡ None }
     requires least { 1 ≤ count }
     requires most { count ≤ 1000000 }
-    ensures { WorkSteps B.state (work file.now number count) number count (B.state bay.old) (B.state bay.new)
+    ensures { WorkSteps B.state file.now number count (B.state bay.old) (B.state bay.new)
         (O.state output.old) (O.state output.new) result }
 {
-    match bay.mount(file, false) {
-        Err(_) => Err(StopReason::Disk),
-        Ok(Mounted::Absent) => Err(StopReason::NoFile),
-        // Nothing is made where it isn't asked for.
-        Ok(Mounted::Made) => unreachable!(),
-        Ok(Mounted::There) => work_from(alloc, bay, number, count, output),
+    match mount_there(bay, file) {
+        Ok(()) => work_from(alloc, bay, number, count, output),
+        Err(why) => Err(why),
     }
 }
 

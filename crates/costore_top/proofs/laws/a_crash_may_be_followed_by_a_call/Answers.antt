@@ -1,4 +1,4 @@
-use Rattle.command_face.specs.Served.{limits_with}
+use Rattle.served_file.specs.Served.{limits_with}
 use Rattle.costore_top.proofs.PlainStates.{last_plain, served_last, starts_plain}
 use Rattle.costore_top.proofs.FollowingLaws.{below_the_limit, block_high, calm_begins, rests_alone, run_followed, work_followed}
 use Rattle.costore_top.proofs.laws.a_crash_may_be_followed_by_a_call.Goals as goal

@@ -1,9 +1,13 @@
-use Rattle.std.proofs.Common.{arith}
-use Rattle.std.proofs.lemmas.Grind.{common_steps}
+-- Where the file isn't there, or the disk failed, nothing is put.
+use Rattle.std.proofs.Common.{rules}
+use Rattle.command_face.proofs.MountLaws.{answers}
+use Rattle.file_commands.specs.Getting.{IsObject}
 use Rattle.file_commands.proofs.command.get_from.Goals as goal
 
-pub returns-in-Ok-Absent : goal.returns-in-Ok-Absent
-returns-in-Ok-Absent g c = grind (arith, common_steps)
-
-pub returns-in-Ok-There : goal.returns-in-Ok-There
-returns-in-Ok-There g c = grind (arith, common_steps)
+pub returns-in_err-mount_there-clause-answers : goal.returns-in_err-mount_there-clause-answers
+returns-in_err-mount_there-clause-answers g c = λ told.
+    let all = answers c.args.file.now (g.B.Disk.state c.args.bay.now)
+    (g.B.Disk.state c.mount_there.new.bay) c.mount_there.ensures.frame c.mount_there.ensures.cause.later
+    (IsObject c.args.name.now (g.B.Disk.state c.args.bay.now).file) (g.O.Sink.state c.args.output.now)
+    c.in_err-mount_there.field-0.0 c.in_err-mount_there.ensures.absent in
+    search rules

@@ -1,11 +1,13 @@
 use Rattle.std.proofs.Common.{◌≡◌, ◌⊎◌, ◌∙◌, true, ap, sym, subst}
-use Rattle.std.specs.Prelude.{IsTrue}
-use Rattle.command_face.specs.Mounting.{IsMounted, run}
-use Rattle.command_face.specs.Refusing.{IsRefusedService}
+use Rattle.std.specs.Prelude.{IsTrue, false}
+use Rattle.command_face.specs.Mounting.{IsMounted}
+use Rattle.served_file.specs.Unserved.{IsRefusedService}
 use Rattle.run_command.specs.Headline.{HasMounted, IsKeptTurn, RunHolds, is_session}
 use Rattle.command_face.specs.Outcomes.{status_at}
 use Rattle.run_command.specs.Sessions.{HasCounted, IsUnserved}
 use Rattle.command_face.specs.declared.outcome.Outcome.{Outcome}
+use Rattle.command_face.specs.Devices.{devices}
+use Rattle.served_file.specs.Served.{found_with}
 use Rattle.run_command.proofs.CountLaws.{has_counted}
 use Rattle.run_command.proofs.EndLaws.{ends_after, keeps_after, line_after, only_line}
 use Rattle.run_command.proofs.HeadlineLaws.{headline}
@@ -21,18 +23,18 @@ returns-clause-headline g c = λ told source t m b requests end plain o asks.
     let w = whole g.B.Disk.state g.I.Source.state g.O.Sink.state c.args.file.now c.args.bay.now
     c.serve_file-ended.new.bay c.args.input.now c.serve_file-ended.new.input c.args.output.now
     c.serve_file-ended.new.output e c.serve_file-ended.ensures in
-    subst (λ n. RunHolds t.chosen.block t m b requests end (record {
+    subst (λ n. RunHolds (found_with t.chosen.block t m b) requests end (record {
       status = n;
       done = e.done;
       kept_done = e.kept_done;
       kept_turn = e.kept_turn;
-    }) (g.B.Disk.state c.args.bay.now) (g.B.Disk.state c.serve_file-ended.new.bay)
-    (g.I.Source.state c.args.input.now) (g.I.Source.state c.serve_file-ended.new.input)
-    (g.O.Sink.state c.args.output.now) (g.O.Sink.state c.finish-outcome.new.output)) (sym status)
+    }) (devices (g.B.Disk.state c.args.bay.now) (g.O.Sink.state c.args.output.now))
+        (devices (g.B.Disk.state c.serve_file-ended.new.bay) (g.O.Sink.state c.finish-outcome.new.output))
+        (g.I.Source.state c.args.input.now) (g.I.Source.state c.serve_file-ended.new.input)) (sym status)
     (headline g.B.Disk.state g.I.Source.state g.O.Sink.state g.met.B.Disk.lawful c.args.bay.now
     c.serve_file-ended.new.bay c.args.input.now c.serve_file-ended.new.input c.args.output.now
     c.serve_file-ended.new.output (g.O.Sink.state c.finish-outcome.new.output) told source t m b requests end
-    plain o asks (run c.args.file.now) e c.serve_file-ended.ensures
+    plain o asks c.args.file.now e c.serve_file-ended.ensures
     (line_after (g.B.Disk.state c.args.bay.now) (g.B.Disk.state c.serve_file-ended.new.bay)
     (g.I.Source.state c.args.input.now) (g.I.Source.state c.serve_file-ended.new.input)
     (g.O.Sink.state c.args.output.now) (g.O.Sink.state c.serve_file-ended.new.output)
@@ -75,7 +77,7 @@ returns-clause-mounted g c =
     let w = whole g.B.Disk.state g.I.Source.state g.O.Sink.state c.args.file.now c.args.bay.now
     c.serve_file-ended.new.bay c.args.input.now c.serve_file-ended.new.input c.args.output.now
     c.serve_file-ended.new.output e c.serve_file-ended.ensures in
-    subst (λ n. IsMounted (run c.args.file.now) (g.B.Disk.state c.serve_file-ended.new.bay).last_mount (n ≡ 7)
+    subst (λ n. IsMounted c.args.file.now false (g.B.Disk.state c.serve_file-ended.new.bay).last_mount (n ≡ 7)
     (n ≡ 3)) (sym status) w.mounted
 
 pub returns-clause-serves : goal.returns-clause-serves

@@ -1,10 +1,12 @@
 -- What the jobs left and put, and the line of their end after it.
-use Rattle.std.proofs.Common.{◌≡◌, ap, subst, sym}
-use Rattle.command_face.specs.Mounting.{IsMounted, work}
-use Rattle.command_face.specs.Refusing.{IsRefusedService}
+use Rattle.std.proofs.Common.{◌≡◌, ap, false, subst, sym}
+use Rattle.command_face.specs.Mounting.{IsMounted}
+use Rattle.served_file.specs.Unserved.{IsRefusedService}
 use Rattle.command_face.specs.Outcomes.{status_at}
 use Rattle.work_command.specs.Working.{WorkHolds, WorkAlways}
 use Rattle.command_face.specs.declared.outcome.Outcome.{Outcome}
+use Rattle.command_face.specs.Devices.{devices}
+use Rattle.served_file.specs.Served.{found_with}
 use Rattle.work_command.proofs.DidLaws.{refused_did, whole}
 use Rattle.work_command.proofs.SummaryLaws.{ends_by_line, keeps_line, line_only, summary_of}
 use Rattle.work_command.proofs.RefusalLaws.{never_did}
@@ -20,10 +22,11 @@ returns-clause-works g c = λ told t m b plain opens.
     let after = g.O.Sink.state c.finish.new.output in
     let status : c.finish.result.status ≡ status_at c.work_over-end.result =
     ap (λ (x : Outcome). x.status) c.finish.ensures.status in
-    subst (λ n. WorkHolds t.chosen.block t m b c.args.number c.args.count n old new out after) (sym status)
+    subst (λ n. WorkHolds (found_with t.chosen.block t m b) c.args.number c.args.count n (devices old out)
+        (devices new after)) (sym status)
     (works t m b old (g.met.B.Disk.lawful c.args.bay.now) told plain opens g.B.Disk.state c.args.number
     c.args.count new out put after
-    (work c.args.file.now c.args.number c.args.count) c.work_over-end.result c.work_over-end.ensures
+    c.args.file.now c.work_over-end.result c.work_over-end.ensures
     c.finish.ensures.line)
 
 pub returns-clause-refused : goal.returns-clause-refused
@@ -51,7 +54,7 @@ returns-clause-mounted g c =
     let put = g.O.Sink.state c.work_over-end.new.output in
     let status : c.finish.result.status ≡ status_at c.work_over-end.result =
     ap (λ (x : Outcome). x.status) c.finish.ensures.status in
-    subst (λ n. IsMounted (work c.args.file.now c.args.number c.args.count) new.last_mount (n ≡ 7) (n ≡ 3))
+    subst (λ n. IsMounted c.args.file.now false new.last_mount (n ≡ 7) (n ≡ 3))
     (sym status)
     (whole g.B.Disk.state c.args.file.now c.args.number c.args.count old new out put c.work_over-end.result
     c.work_over-end.ensures).mounted
@@ -68,7 +71,7 @@ returns-clause-keeps g c =
     c.finish.ensures.status in
     let w = whole g.B.Disk.state c.args.file.now c.args.number c.args.count old new out put end
     c.work_over-end.ensures in
-    subst (λ n. WorkAlways c.args.count n old new out after) (sym status) (record {
+    subst (λ n. WorkAlways c.args.count n (devices old out) (devices new after)) (sym status) (record {
       known = w.known;
       keeps = keeps_line old new out put after end w.keeps c.finish.ensures.later c.finish.ensures.calm
           c.finish.ensures.told;

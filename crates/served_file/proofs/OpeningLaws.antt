@@ -22,7 +22,7 @@ use Rattle.store_core.specs.Opened.{ContinuesFrom, IsFoundImage, IsOpened, IsOpe
 use Rattle.store_core.proofs.OpeningLaws.{FoundSame, found_image, found_one}
 use Rattle.reopen.specs.declared.fault.OpenFault.{OpenFault}
 use Rattle.ask_session.specs.Runs.{most_sequence}
-use Rattle.command_face.specs.Served.{BeginsFrom, most_left, turn_opened}
+use Rattle.served_file.specs.Served.{BeginsFrom, most_left, turn_opened}
 
 -- an image that an opening left has a sequence that a call may leave
 pub found_numbered : (t : choice.Table) (m : Map) (b : Book) (longest k : ℕ) (image : List ℕ)

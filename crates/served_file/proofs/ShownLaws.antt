@@ -9,7 +9,7 @@ use Rattle.ask_session.specs.Runs as run
 use Rattle.ask_session.proofs.MakesLaws.{makes}
 use Rattle.ask_session.proofs.RunLaws.{opens_with}
 use Rattle.size_class.specs.declared.TheConstants.{CLASSES}
-use Rattle.command_face.specs.Served.{IsKept, OpensTo, state_after}
+use Rattle.served_file.specs.Served.{IsKept, OpensTo, state_after}
 
 -- ---- checkpoints
 

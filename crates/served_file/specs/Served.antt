@@ -16,6 +16,22 @@ use Rattle.store_core.specs.States.{Chain, Limits, State, served}
 use Rattle.store_core.specs.Opened.{RestsOnFound, found_base, most_found, state_at, turn_after_cut}
 use Rattle.ask_session.specs.Serving.{acknowledges}
 use Rattle.ask_session.specs.Runs.{most_sequence}
+use Rattle.command_face.specs.declared.status.TheConstants.{DISK_FAILED, SINK_FAILED}
+
+-- ---- what a file opens by
+
+-- a superblock, a table with it, and the map and the book for which the table stands
+pub record Found : Type 0 where
+  pub block : SuperBlock
+  pub table : choice.Table
+  pub m : Map
+  pub b : Book
+
+abbrev pub found_with : SuperBlock → choice.Table → Map → Book → Found
+found_with block table m b = record { block = block; table = table; m = m; b = b }
+
+abbrev pub found_by : choice.Table → Map → Book → Found
+found_by table m b = found_with table.chosen.block table m b
 
 -- ---- a run of requests
 
@@ -69,7 +85,7 @@ OpensToNext limits s (r ∷ others) image =
 
 -- the disk or the sink failed
 abbrev pub has_failed : ℕ → Bool
-has_failed status = (status == 7) || (status == 9)
+has_failed status = (status == DISK_FAILED) || (status == SINK_FAILED)
 
 -- ---- lengths
 

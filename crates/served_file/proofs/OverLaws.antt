@@ -15,7 +15,7 @@ use Rattle.store_core.specs.Opened.{RestsOnFound}
 use Rattle.store_core.proofs.OpenedLaws.{tight_kept, tight_now}
 use Rattle.store_core.proofs.OpeningLaws.{alike_found}
 use Rattle.store_core.proofs.OverLaws.{same_block}
-use Rattle.command_face.specs.Served.{EndsTight, IsNextStart}
+use Rattle.served_file.specs.Served.{EndsTight, IsNextStart}
 
 -- its data part is within bounds, now and once it goes back
 pub tight_over : (s : StoreValue) (file : List ℕ) (u : SuperBlock) → IsStore CLASSES s → IsOver CLASSES s file

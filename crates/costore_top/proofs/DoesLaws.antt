@@ -1,0 +1,80 @@
+-- What the program promises of its words, from what the one command that they mean does.
+use Rattle.std.specs.Prelude.{◌≡◌, ◌⊎◌, ◌↔◌, ℕ, true, List, IsTrue, IsFalse}
+use Rattle.std.proofs.Common.{ap, refl, sym, subst}
+use Rattle.disk_face.specs.Streams.{SourceState}
+use Rattle.command_face.specs.Devices.{Devices}
+use Rattle.command_face.specs.Mounting.{IsMounted}
+use Rattle.command_face.specs.Outcomes.{Ends}
+use Rattle.command_face.specs.declared.outcome.Outcome.{Outcome}
+use Rattle.run_command.specs.Headline.{RunPromise, is_session}
+use Rattle.run_command.specs.Sessions.{RunAlways}
+use Rattle.work_command.specs.Working.{WorkAlways, WorkPromise}
+use Rattle.costore_top.specs.Answering.{IsAnswer, IsNotRun, ServesNothing}
+use Rattle.costore_top.specs.Commands.{Command, file_of, format, makes, mounts, reads, run, serves, work}
+use Rattle.costore_top.specs.Doing.{Does, is_run}
+use Rattle.costore_top.specs.Promises.{AnswersByItsFile, FormatsSafely, KeepsItsFile, MountsItsFile, ReadsNoInput}
+use Rattle.costore_top.specs.Words.{Means, MeansNone}
+use Rattle.costore_top.proofs.WordLists.{means_one}
+
+-- a command that is no `run`
+not_run : (c : Command) → ((file : List ℕ) → c ≡ run file → ⊥) → IsFalse (is_run c)
+not_run (run file) none = absurd (none file refl)
+not_run _ none = refl
+
+module _ (words : List (List ℕ)) (c : Command) (means : Means words c) (o : Outcome) (old new : Devices)
+    (from rest : SourceState) (same_bay same_input : Type 0)
+    (d : Does c o old new from rest same_bay same_input) where
+  one : (x : Command) → Means words x → x ≡ c
+  one x m = means_one words x c m means
+
+  pub words_known : (o.status ≡ 1) ↔ MeansNone words
+  words_known = (λ is. absurd (d.no_fault is), λ none. absurd (none c means))
+
+  pub mounts_it : MountsItsFile words o.status new.disk.last_mount same_bay
+  mounts_it = record {
+    fileless = λ none. d.fileless (none c means);
+    mounted = λ x m is. subst (λ (y : Command). IsMounted (file_of y) (makes y) new.disk.last_mount
+        (o.status ≡ 7) (o.status ≡ 3)) (sym (one x m))
+        (d.mounted (subst (λ (y : Command). IsTrue (mounts y)) (one x m) is));
+  }
+
+  pub answers_by_it : AnswersByItsFile words o.status old new
+  answers_by_it = record {
+    ends = λ x m none told. subst (λ (y : Command). Ends (IsAnswer y old.disk.file) o.status old.sink
+        new.sink)
+        (sym (one x m))
+        (d.ends (subst (λ (y : Command). IsFalse (serves y)) (one x m) none)
+        (λ is. told (subst (λ (y : Command). IsTrue (mounts y)) (sym (one x m)) is)));
+    memory = λ x m none. d.memory (subst (λ (y : Command). IsFalse (reads y)) (one x m) none);
+    line_alone = λ none told. d.line_alone (none c means) told;
+    refused = λ x m is told never. d.refused (subst (λ (y : Command). IsTrue (serves y)) (one x m) is) told
+        never;
+  }
+
+  pub keeps_it : ServesNothing words → KeepsItsFile words o.status old new
+  keeps_it none = record {
+    frame = λ kept. d.frame (none c means) (kept c means);
+    keeps = d.keeps (none c means);
+  }
+
+  pub formats_safely : FormatsSafely words o.status old new
+  formats_safely = record {
+    formats = λ file k names m. d.formats file k names (sym (one (format file k names) m));
+    silent = λ x m is. d.silent (subst (λ (y : Command). IsTrue (makes y)) (one x m) is);
+  }
+
+  pub reads_none : IsNotRun words → ReadsNoInput o same_input
+  reads_none none = d.unread (not_run c (λ file is. none file (subst (Means words) is means)))
+
+  pub headline_of : (file : List ℕ) → Means words (run file) → IsTrue old.disk.tells → IsTrue from.tells
+      → RunPromise o old new from rest
+  headline_of file m = d.headline (ap is_run (sym (one (run file) m)))
+
+  pub session_of : (file : List ℕ) → Means words (run file)
+      → ((is_session o.status ≡ true) ⊎ (o.status ≡ 4)) × RunAlways o old new from rest same_input
+  session_of file m = d.session (ap is_run (sym (one (run file) m)))
+
+  pub jobs_of : (file : List ℕ) (number count : ℕ) → Means words (work file number count)
+      → (IsTrue old.disk.tells → WorkPromise number count o.status old new)
+      × WorkAlways count o.status old new
+  jobs_of file number count m = d.jobs file number count (sym (one (work file number count) m))

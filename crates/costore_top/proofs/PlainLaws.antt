@@ -1,0 +1,150 @@
+-- What a command does that serves no requests, from how it ended and the line of its end.
+use Rattle.std.specs.Prelude.{◌≡◌, ◌≢◌, ◌⊎◌, ◌≤◌, ℕ, true, false, List, Result, Err, IfErr, IsTrue, IsFalse, OnOk, length}
+use Rattle.std.proofs.Common.{arith, ap, sym, ◌∙◌, subst, inl, inr}
+use Rattle.disk_face.specs.Counts.{Rose}
+use Rattle.disk_face.specs.Frames.{Untouched}
+use Rattle.disk_face.specs.States.{State}
+use Rattle.disk_face.specs.Streams.{SinkState, SourceState}
+use Rattle.disk_face.specs.declared.bay.Mounted.TheVariants.{There}
+use Rattle.command_face.specs.Devices.{Devices, devices}
+use Rattle.command_face.specs.Layers.{Answers, IsCommandReason, Keeps, KeepsAt, PutsNone}
+use Rattle.command_face.specs.Mounting.{IsMounted, mounted, not_there}
+use Rattle.command_face.specs.Outcomes.{PutsLast, line_at, status_at}
+use Rattle.command_face.specs.declared.outcome.Outcome.{Outcome}
+use Rattle.command_face.specs.declared.stop.StopReason.{StopReason}
+use Rattle.command_face.specs.declared.stop.StopReason.TheVariants as stop
+use Rattle.command_face.proofs.StatusLaws.{calm_by}
+use Rattle.file_commands.specs.Formatting.{Formats, IsDone}
+use Rattle.costore_top.specs.Answering.{IsAnswer}
+use Rattle.costore_top.specs.Commands.{Command, file_of, format, makes, mounts, reads, run, serves, work}
+use Rattle.costore_top.specs.Doing.{Does, is_run}
+use Rattle.costore_top.proofs.EndedLaws.{ended, line_after_none, line_unless}
+use Rattle.costore_top.proofs.StatusEnds.{disk_by, file_by, formats_by, memory_by, ok_by, plain_status, sink_by, words_by}
+
+-- What such a command did before its line was put.
+pub record Layer {O : Type 0} (sink_of : O → SinkState) (c : Command) (old new : State) (out put : O)
+    (same_bay : Type 0) (end : Result (Unit {0}) StopReason) : Type 0 where
+  pub no_fault : end ≢ Err stop.Words
+  pub fileless : IsFalse (mounts c) → same_bay × (end ≢ Err stop.NoFile)
+  pub mounted : IsTrue (mounts c)
+      → IsMounted (file_of c) (makes c) new.last_mount (end ≡ Err stop.Disk) (end ≡ Err stop.NoFile)
+  pub answers : (IsTrue (mounts c) → IsTrue old.tells)
+      → Answers (IsAnswer c old.file) (sink_of out) (sink_of put) end
+  pub memory : IsFalse (reads c) → end ≢ Err stop.NoMemory
+  pub nothing_put : PutsNone out put end
+  pub plain : IfErr end IsCommandReason
+  pub frame : IsFalse (makes c) → Untouched old new
+  pub formats : (file : List ℕ) (k names : ℕ) → c ≡ format file k names
+      → IsTrue old.tells → length old.file ≡ 0 → Formats k names old new (IsDone end)
+  pub silent : IsTrue (makes c) → end ≡ Err stop.Disk → put ≡ out
+  pub keeps : KeepsAt old new (sink_of out) (sink_of put) end
+
+not_both : {A : Type 0} → true ≡ false → A
+not_both is = absurd (cc)
+
+-- what a command does, that is another by name
+pub does_as : {c d : Command} {o : Outcome} {old new : Devices} {from rest : SourceState}
+    {same_bay same_input : Type 0} → d ≡ c → Does c o old new from rest same_bay same_input
+    → Does d o old new from rest same_bay same_input
+does_as {o = o} {old = old} {new = new} {from = from} {rest = rest} {same_bay = same_bay}
+    {same_input = same_input} is does =
+    subst (λ (x : Command). Does x o old new from rest same_bay same_input) (sym is) does
+
+run_serves : (c : Command) → IsTrue (is_run c) → IsTrue (serves c)
+run_serves (run file) is = is
+run_serves (work file number count) is = not_both (sym is)
+run_serves _ is = is
+
+module _ {O : Type 0} (sink_of : O → SinkState) (c : Command) (none : IsFalse (serves c))
+    (old new : State) (out put : O) (after : SinkState) (from rest : SourceState)
+    (same_bay same_input : Type 0) (input : same_input) (end : Result (Unit {0}) StopReason) (o : Outcome)
+    (is : o ≡ record { status = status_at end; done = 0; kept_done = 0; kept_turn = 0 })
+    (line : IsTrue (sink_of put).tells → PutsLast (sink_of put).given after.given (line_at end)
+    (Rose (sink_of put).faults after.faults))
+    (told : after.tells ≡ (sink_of put).tells) (later : (sink_of put).faults ≤ after.faults)
+    (calm : OnOk end (after.faults ≡ (sink_of put).faults))
+    (layer : Layer sink_of c old new out put same_bay end) where
+  status : o.status ≡ status_at end
+  status = ap (λ (x : Outcome). x.status) is
+
+  serves_not : {A : Type 0} → IsTrue (serves c) → A
+  serves_not has = not_both (sym has ∙ none)
+
+  mounted_as : IsTrue (mounts c) → IsMounted (file_of c) (makes c) new.last_mount (o.status ≡ 7)
+      (o.status ≡ 3)
+  mounted_as mounts =
+      let m = layer.mounted mounts in
+      record {
+        answer = elim m.answer as (λ _. (o.status ≡ 7) ⊎ (new.last_mount ≡ mounted (file_of c) (makes c)
+            There)
+            ⊎ (new.last_mount ≡ mounted (file_of c) (makes c) (not_there (makes c)))) [
+              | inl disk ↦ inl (status ∙ ap (λ (e : Result (Unit {0}) StopReason). status_at e) disk)
+              | inr rest ↦ inr rest
+            ];
+        absent = (
+          λ three. m.absent.0 (file_by end (sym status ∙ three)),
+          λ gone. status ∙ ap (λ (e : Result (Unit {0}) StopReason). status_at e) (m.absent.1 gone),
+        );
+      }
+
+  rose_after : (a b d : ℕ) → Rose a b → b ≤ d → Rose a d
+  rose_after a b d rose low = omega (arith, rose, low)
+
+  keeps_after : Keeps old new (sink_of out) after (o.status ≡ 7) (o.status ≡ 9) (o.status ≡ 0)
+  keeps_after =
+      let k = layer.keeps in
+      record {
+        causes = record {
+          later = k.causes.later;
+          rose = λ seven. k.causes.rose (disk_by end (sym status ∙ seven));
+          calm = λ other. k.causes.calm
+              (λ disk. other (status ∙ ap (λ (e : Result (Unit {0}) StopReason). status_at e) disk));
+          sink_later = omega (arith, k.causes.sink_later, later);
+          sink_rose = λ nine. rose_after (sink_of out).faults (sink_of put).faults after.faults
+              (k.causes.sink_rose (sink_by end (sym status ∙ nine))) later;
+          sink_calm = λ zero. calm_by end calm (sym status ∙ zero)
+              ∙ k.causes.sink_calm (ok_by end (sym status ∙ zero));
+          sink_told = told ∙ k.causes.sink_told;
+        };
+        told = k.told;
+        images_told = k.images_told;
+        few = k.few;
+        taken = k.taken;
+      }
+
+  pub plain_does : Does c o (devices old (sink_of out)) (devices new after) from rest same_bay same_input
+  plain_does = record {
+    no_fault = λ one. layer.no_fault (words_by end (sym status ∙ one));
+    fileless = λ no_file. (
+      (layer.fileless no_file).0,
+      λ three. (layer.fileless no_file).1 (file_by end (sym status ∙ three)),
+    );
+    mounted = mounted_as;
+    ends = λ _ tells. ended (IsAnswer c old.file) end o.status (sink_of out) (sink_of put) after status
+        (layer.answers tells) layer.keeps.causes.sink_told layer.keeps.causes.sink_later line;
+    memory = λ no_memory ten. layer.memory no_memory (memory_by end (sym status ∙ ten));
+    line_alone = λ _ tells. line_unless sink_of out put after end o.status status layer.nothing_put tells
+        line;
+    refused = λ has. serves_not has;
+    frame = λ _ kept. layer.frame kept;
+    keeps = λ _. keeps_after;
+    formats = λ file k names same tells empty.
+        subst (λ n. Formats k names old new ((n ≡ 0) ⊎ (n ≡ 9))) (sym status)
+        (formats_by k names end (layer.formats file k names same tells empty));
+    silent = λ made tells failed.
+        let disk = disk_by end (sym status ∙ failed) in
+        line_after_none (sink_of out) (sink_of put) after end (ap sink_of (layer.silent made disk)) disk tells
+        line;
+    unread = λ _. record {
+      input = input;
+      no_session = subst (λ n. (n ≢ 2) × (n ≢ 8) × (n ≢ 11)) (sym status) (plain_status end layer.plain);
+      numbers = (
+        ap (λ (x : Outcome). x.done) is,
+        ap (λ (x : Outcome). x.kept_done) is,
+        ap (λ (x : Outcome). x.kept_turn) is,
+      );
+    };
+    headline = λ has. serves_not (run_serves c has);
+    session = λ has. serves_not (run_serves c has);
+    jobs = λ file number count same. serves_not (ap serves same);
+  }

@@ -1,0 +1,63 @@
+-- What the program may be asked to do.
+use Rattle.std.specs.Prelude.{ℕ, List, [], Bool, true, false}
+
+-- what the program may be asked to do
+pub data Command : Type 0 where
+  -- make a store of a file: the file, the divisor of its buffers, and how many names it has room for
+  format : List ℕ → ℕ → ℕ → Command
+  -- put the object of a name: the file, and the name
+  get : List ℕ → List ℕ → Command
+  check : List ℕ → Command
+  map_of : List ℕ → Command
+  run : List ℕ → Command
+  -- do the jobs of a number: the file, the number, and how many
+  work : List ℕ → ℕ → ℕ → Command
+  help : Command
+  version : Command
+
+-- the file that a command mounts
+abbrev pub file_of : Command → List ℕ
+file_of (format file k names) = file
+file_of (get file name) = file
+file_of (check file) = file
+file_of (map_of file) = file
+file_of (run file) = file
+file_of (work file number count) = file
+file_of _ = []
+
+-- the command mounts its file
+abbrev pub mounts : Command → Bool
+mounts (format file k names) = true
+mounts (get file name) = true
+mounts (check file) = true
+mounts (map_of file) = true
+mounts (run file) = true
+mounts (work file number count) = true
+mounts _ = false
+
+-- the command makes its file where it isn't there
+abbrev pub makes : Command → Bool
+makes (format file k names) = true
+makes _ = false
+
+-- the command reads the table of its file, for which it takes memory
+abbrev pub reads : Command → Bool
+reads (get file name) = true
+reads (check file) = true
+reads (map_of file) = true
+reads (run file) = true
+reads (work file number count) = true
+reads _ = false
+
+-- the command serves requests, those of its input or those of a number
+abbrev pub serves : Command → Bool
+serves (run file) = true
+serves (work file number count) = true
+serves _ = false
+
+-- the command may change its file, or make it
+abbrev pub changes : Command → Bool
+changes (format file k names) = true
+changes (run file) = true
+changes (work file number count) = true
+changes _ = false

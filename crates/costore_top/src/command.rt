@@ -1,0 +1,42 @@
+//! The command that the words ask for.
+ghost use Rattle.std.specs.Prelude.{◌≡◌, None};
+ghost use Rattle.command_face.specs.Devices.{devices};
+ghost use Rattle.costore_top.specs.Doing.{Does};
+ghost use Rattle.costore_top.specs.Words.{IsCommand, command_of};
+
+use crate::help::{HELP, VERSION};
+use crate::words::Command;
+use command_face::{Outcome, finish, put_whole};
+use disk_face::{Bay, Sink, Source};
+use file_commands::{check_from, format_in, get_from, map_from};
+use run_command::run_file;
+use std::alloc::Global;
+use work_command::work_file;
+
+/// Does what a command asks, and puts the fault line last.
+pub fn do_command<B: Bay, I: Source, O: Sink>(
+    alloc: Global,
+    command: &Command,
+    bay: &mut B,
+    input: &mut I,
+    output: &mut O,
+) -> Outcome
+    requires none { (B.state bay.old).last_mount ≡ None }
+    requires valid { IsCommand (command_of command.now) }
+    ensures { Does (command_of command.now) result (devices (B.state bay.old) (O.state output.old))
+        (devices (B.state bay.new) (O.state output.new)) (I.state input.old) (I.state input.new)
+        (bay.new ≡ bay.old) (input.new ≡ input.old) }
+{
+    match command {
+        Command::Format(file, k, names) => finish(format_in(bay, file, *k, *names, output), output),
+        Command::Get(file, name) => finish(get_from(alloc, bay, file, name, output), output),
+        Command::Check(file) => finish(check_from(alloc, bay, file, output), output),
+        Command::Map(file) => finish(map_from(alloc, bay, file, output), output),
+        Command::Run(file) => run_file(alloc, bay, file, input, output),
+        Command::Work(file, number, count) => {
+            work_file(alloc, bay, file, *number, *count, output)
+        }
+        Command::Help => finish(put_whole(output, HELP.as_bytes()), output),
+        Command::Version => finish(put_whole(output, VERSION.as_bytes()), output),
+    }
+}

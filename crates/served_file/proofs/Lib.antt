@@ -1,0 +1,4 @@
+pub mod RefusedLaws
+pub mod OpeningLaws
+pub mod OverLaws
+pub mod ShownLaws

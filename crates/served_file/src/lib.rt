@@ -1,0 +1,2 @@
+//! Requests that are served over a file that opens: what `run` and `work` both say of it.
+#![tactic(auto)]
