@@ -6,8 +6,8 @@ ghost use Rattle.command_face.specs.Faults.{line_of};
 
 use crate::fault::fault_line;
 use crate::status::{
-    DISK_FAILED, DONE, FAULTY_REQUEST, FAULTY_WORDS, NOT_EMPTY, NO_FILE, NO_MEMORY, NO_OBJECT,
-    NO_STORE, SINK_FAILED, SOURCE_FAILED, TOO_MANY,
+    DISK_FAILED, DONE, FAULTY_REQUEST, FAULTY_WORDS, NO_FILE, NO_MEMORY, NO_OBJECT, NO_STORE,
+    NOT_EMPTY, SINK_FAILED, SOURCE_FAILED, TOO_MANY,
 };
 use crate::stop::StopReason;
 use disk_face::Sink;

@@ -22,7 +22,7 @@ use Rattle.served_file.specs.Unserved.{IsRefusedService, NeverServed}
 use Rattle.work_command.specs.Working.{WorkAlways, WorkPromise}
 use Rattle.costore_top.specs.Answering.{IsAnswer}
 use Rattle.costore_top.specs.Commands.{Command, check, file_of, format, get, help, makes, map_of, mounts, reads, run, serves, version, work}
-use Rattle.costore_top.specs.Doing.{Does}
+use Rattle.costore_top.specs.Does.{Does}
 use Rattle.costore_top.specs.declared.help.TheConstants.{HELP, VERSION}
 use Rattle.costore_top.proofs.FaultyLaws.{untouched}
 use Rattle.costore_top.proofs.OtherLaws.{session_not_one, working_not_one, working_plain}

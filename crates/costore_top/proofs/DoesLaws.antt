@@ -11,7 +11,7 @@ use Rattle.run_command.specs.Sessions.{RunAlways}
 use Rattle.work_command.specs.Working.{WorkAlways, WorkPromise}
 use Rattle.costore_top.specs.Answering.{IsAnswer, IsNotRun, ServesNothing}
 use Rattle.costore_top.specs.Commands.{Command, file_of, format, makes, mounts, reads, run, serves, work}
-use Rattle.costore_top.specs.Doing.{Does, is_run}
+use Rattle.costore_top.specs.Does.{Does, is_run}
 use Rattle.costore_top.specs.Promises.{AnswersByItsFile, FormatsSafely, KeepsItsFile, MountsItsFile, ReadsNoInput}
 use Rattle.costore_top.specs.Words.{Means, MeansNone}
 use Rattle.costore_top.proofs.WordLists.{means_one}

@@ -17,7 +17,7 @@ use Rattle.command_face.proofs.StatusLaws.{calm_by}
 use Rattle.file_commands.specs.Formatting.{Formats, IsDone}
 use Rattle.costore_top.specs.Answering.{IsAnswer}
 use Rattle.costore_top.specs.Commands.{Command, file_of, format, makes, mounts, reads, run, serves, work}
-use Rattle.costore_top.specs.Doing.{Does, is_run}
+use Rattle.costore_top.specs.Does.{Does, is_run}
 use Rattle.costore_top.proofs.EndedLaws.{ended, line_after_none, line_unless}
 use Rattle.costore_top.proofs.StatusEnds.{disk_by, file_by, formats_by, memory_by, ok_by, plain_status, sink_by, words_by}
 

@@ -1,7 +1,7 @@
 //! The command that the words ask for.
 ghost use Rattle.std.specs.Prelude.{◌≡◌, None};
 ghost use Rattle.command_face.specs.Devices.{devices};
-ghost use Rattle.costore_top.specs.Doing.{Does};
+ghost use Rattle.costore_top.specs.Does.{Does};
 ghost use Rattle.costore_top.specs.Words.{IsCommand, command_of};
 
 use crate::help::{HELP, VERSION};

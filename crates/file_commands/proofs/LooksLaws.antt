@@ -1,5 +1,5 @@
 -- A step that looks at a file, and then asks for its length.
-use Rattle.std.specs.Prelude.{◌≡◌, Result, Ok, Err, refl}
+use Rattle.std.specs.Prelude.{Ok, Err, refl}
 use Rattle.std.proofs.Common.{◌∙◌, arith, subst}
 use Rattle.disk_face.specs.Counts.{HasCause, Rose}
 use Rattle.disk_face.specs.Frames.{Unchanged}

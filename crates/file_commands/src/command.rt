@@ -97,11 +97,8 @@ pub fn format_in<B: Bay, O: Sink>(
     output: &mut O,
 ) -> Result<(), StopReason>
     requires none { (B.state bay.old).last_mount ≡ None }
-    requires divisor { (2 ≤ k) × (k ≤ 64) }
-    requires low { 16 ≤ names }
-    requires high { names ≤ 65536 }
-    ensures words { result ≢ Err StopReason.Words }
-    ensures memory { result ≢ Err StopReason.NoMemory }
+    requires sizes { (2 ≤ k) × (k ≤ 64) × (16 ≤ names) × (names ≤ 65536) }
+    ensures never { (result ≢ Err StopReason.Words) × (result ≢ Err StopReason.NoMemory) }
     ensures mounted { IsMounted file.now true (B.state bay.new).last_mount
         (result ≡ Err StopReason.Disk) (result ≡ Err StopReason.NoFile) }
     ensures answers { IsTrue (B.state bay.old).tells

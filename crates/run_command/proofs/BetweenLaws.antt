@@ -33,80 +33,15 @@ use Rattle.run_command.proofs.RunLists.{Splits, begins_none, none_next, splits}
 use Rattle.served_file.proofs.OpeningLaws.{Opened}
 use Rattle.served_file.proofs.OverLaws.{tight_over, next_over}
 use Rattle.command_face.specs.Devices.{devices}
-use Rattle.run_command.proofs.SoFarLaws as far
+use Rattle.run_command.proofs.SoFarLaws.{SoFar, View, view, newest, starts, done_is, few_done, ran_of, number, crash_c, numbered_c, reach_c, since_c, long_c, told_c, calls_c, over_c}
 
-module _ {t : choice.Table} {m : Map} {b : Book} {requests : List Request} {end : List ℕ} {old a : State}
-    {s : StoreValue} (op : Opened t m b old a s) (lawful_old : IsLawful old) (lawful_a : IsLawful a)
-    (o : OpensBy CLASSES SIZE_MAX t old.file m b)
-    (left_before : old.turn < last → RestsOnFound t old
-    → LeftOnly old old.turn (IsFoundImage CLASSES t m b (length old.file)))
-    {from i1 : SourceState} {out o1 : SinkState} {s1 : Sitting} {c : State} {n : ℕ}
-    (asks : Asks from.left requests end) (told_source : IsTrue from.tells)
-    (ran : HasRun CLASSES (new_sitting s a.turn) s1 a c from i1 out o1 n) (few : n ≤ budget) where
-  abbrev u : SuperBlock
-  u = s.in_use.block
+module _ (h : SoFar) where
+  open h use {t, m, b, requests, end, old, op, from, i1, out, o1, s1, c, n, ran, few}
 
-  abbrev limits : Limits
-  limits = limits_with u
+  abbrev v : View h
+  v = view h
 
-  abbrev start : store.State
-  start = state_of s a.file
-
-  abbrev states : List store.State
-  states = ran.states
-
-  abbrev last_one : store.State
-  last_one = last_state start states
-
-  newest : state_of s1.store c.file ≡ last_one
-  newest = far.newest op lawful_old lawful_a o left_before asks told_source ran few
-
-  starts : Starts t m b start
-  starts = far.starts op lawful_old lawful_a o left_before asks told_source ran few
-
-  abbrev split : Splits requests ran.requests (unread s1 i1) end
-  split = splits ran.requests requests from.left (unread s1 i1) end ran.texts asks (ran.whole told_source)
-
-  done_is : s1.done ≡ n
-  done_is = far.done_is op lawful_old lawful_a o left_before asks told_source ran few
-
-  few_done : s1.done ≤ budget
-  few_done = far.few_done op lawful_old lawful_a o left_before asks told_source ran few
-
-  abbrev ran_of : (d : ℕ) (others : List Request) → split.others ≡ others → d ≡ s1.done
-      → Ran limits start requests d
-  ran_of = far.ran_of op lawful_old lawful_a o left_before asks told_source ran few
-
-  number : s1.kept_done ≡ last_kept 0 0 ran.replies
-  number = far.number op lawful_old lawful_a o left_before asks told_source ran few
-
-  crash_c : LeavesRoom t → RestsOnFound t old → c.turn < last
-      → LeftOnly c old.turn (OpensToKept start ran.replies states)
-  crash_c = far.crash_c op lawful_old lawful_a o left_before asks told_source ran few
-
-  numbered_c : LeavesRoom t → RestsOnFound t old → c.turn < last
-      → LeftOnly c old.turn (HasSequenceUpTo (most_left u.k t))
-  numbered_c = far.numbered_c op lawful_old lawful_a o left_before asks told_source ran few
-
-  reach_c : last_one.sequence ≤ most_left u.k t
-  reach_c = far.reach_c op lawful_old lawful_a o left_before asks told_source ran few
-
-  since_c : RestsOnFound t old → c.turn < last
-      → LeftOnly c s1.kept_turn (λ image. OpensTo (state_after start states s1.kept_done) image)
-  since_c = far.since_c op lawful_old lawful_a o left_before asks told_source ran few
-
-  long_c : LeavesRoom t → RestsOnFound t old → c.turn < last
-      → IsLong u.k (base_of s) t (turn_opened t b old) start states old c
-  long_c = far.long_c op lawful_old lawful_a o left_before asks told_source ran few
-
-  told_c : t.chosen.header.kind ≡ kind.Settled → IsTold (turn_opened t b old) s1.kept_done s1.kept_turn
-  told_c = far.told_c op lawful_old lawful_a o left_before asks told_source ran few
-
-  calls_c : c.turn ≡ counted s1.kept_turn (calls_since limits 0 start states ran.requests ran.replies)
-  calls_c = far.calls_c op lawful_old lawful_a o left_before asks told_source ran few
-
-  over_c : IsOver CLASSES s1.store c.file
-  over_c = far.over_c op lawful_old lawful_a o left_before asks told_source ran few
+  open v use {u, limits, start, states, last_one, split}
 
   -- ---- the session ended between two requests
 
@@ -129,9 +64,9 @@ module _ {t : choice.Table} {m : Map} {b : Book} {requests : List Request} {end 
         from rest
     between_requests = record {
       start = start;
-      starts = starts;
+      starts = starts h;
       continues = λ is. op.continues;
-      ran = ran_of s1.done split.others refl refl;
+      ran = ran_of h s1.done split.others refl refl;
       far = far;
       replies = λ told. record {
         between = o1.given;
@@ -150,30 +85,30 @@ module _ {t : choice.Table} {m : Map} {b : Book} {requests : List Request} {end 
       };
       between = λ _. subst (λ (xs : List store.State). EndsTight u.k (head_len u.names)
           (last_state start xs) c.file)
-          (sym same_states) (subst (λ (y : store.State). EndsTight u.k (head_len u.names) y c.file) newest
-          (tight_over s1.store c.file u sound over_c ran.block));
+          (sym same_states) (subst (λ (y : store.State). EndsTight u.k (head_len u.names) y c.file) (newest h)
+          (tight_over s1.store c.file u sound (over_c h) ran.block));
       within = λ calm room rests below. subst (λ (xs : List store.State). IsLong u.k (head_len u.names) t
-          (turn_opened t b old) start xs old c) (sym same_states) (long_c room rests below);
-      opened = λ calm settled has. told_c settled;
+          (turn_opened t b old) start xs old c) (sym same_states) (long_c h room rests below);
+      opened = λ calm settled has. (told_c h) settled;
       crash = λ room rests below. record {
-        crash = λ image since. inl (crash_c room rests below image since);
-        since = λ mounted image since. inl (since_c rests below image since);
+        crash = λ image since. inl (crash_c h room rests below image since);
+        since = λ mounted image since. inl (since_c h rests below image since);
         safe = λ is. absurd (nine is);
       };
-      numbered = numbered_c;
-      acknowledged = record { number = number; turns = λ _. calls_c };
+      numbered = numbered_c h;
+      acknowledged = record { number = number h; turns = λ _. (calls_c h) };
       failed = λ is. absurd (seven is);
       next_start = λ calm.
           let q = last_one.sequence
           + (if status == 9 then next_saves limits last_one split.others else 0) in
           subst (λ (xs : List store.State). IsNextStart t (last_state start xs) q old c) (sym same_states)
-          (subst (λ (y : store.State). IsNextStart t y q old c) newest
-          (next_over t s1.store old c q sound over_c (ran.block ∙ op.block)
-          (omega (arith, ap (λ (y : store.State). y.sequence) newest))
+          (subst (λ (y : store.State). IsNextStart t y q old c) (newest h)
+          (next_over t s1.store old c q sound (over_c h) (ran.block ∙ op.block)
+          (omega (arith, ap (λ (y : store.State). y.sequence) (newest h)))
           (λ was. ran.rests op.told (op.rests was))));
       reach = omega (
         arith,
-        reach_c,
+        (reach_c h),
         ap (λ (x : Bool). if x then next_saves limits last_one split.others else 0) not_nine,
       );
     }
@@ -191,7 +126,7 @@ module _ {t : choice.Table} {m : Map} {b : Book} {requests : List Request} {end 
     }) (devices old out) (devices c after) from rest
 
     some_left : n < budget → s1.done ≡ budget → ⊥
-    some_left fewer is = omega (arith, is, done_is, fewer)
+    some_left fewer is = omega (arith, is, done_is h, fewer)
 
     pub input_ended : 0 ≡ status_at ending → n < budget → unread s1 i1 ≡ [] → RunsWith 0
     input_ended status_is fewer empty =
@@ -207,7 +142,7 @@ module _ {t : choice.Table} {m : Map} {b : Book} {requests : List Request} {end 
           disk = λ is. absurd (omega (arith, is));
           sink = λ is. absurd (omega (arith, is));
           memory = λ is. absurd (omega (arith, is));
-          few = few_done;
+          few = few_done h;
           limit = (λ is. absurd (omega (arith, is)), λ is. absurd (some_left fewer is));
         })
 
@@ -225,7 +160,7 @@ module _ {t : choice.Table} {m : Map} {b : Book} {requests : List Request} {end 
           disk = λ is. absurd (omega (arith, is));
           sink = λ is. absurd (omega (arith, is));
           memory = λ is. absurd (omega (arith, is));
-          few = few_done;
+          few = few_done h;
           limit = (λ is. absurd (omega (arith, is)), λ is. absurd (some_left fewer is));
         })
 
@@ -241,7 +176,7 @@ module _ {t : choice.Table} {m : Map} {b : Book} {requests : List Request} {end 
           disk = λ is. absurd (omega (arith, is));
           sink = λ is. absurd (omega (arith, is));
           memory = λ is. absurd (omega (arith, is));
-          few = few_done;
+          few = few_done h;
           limit = (λ is. absurd (omega (arith, is)), λ is. absurd (some_left fewer is));
         })
 
@@ -257,6 +192,6 @@ module _ {t : choice.Table} {m : Map} {b : Book} {requests : List Request} {end 
           disk = λ is. absurd (omega (arith, is));
           sink = λ is. absurd (omega (arith, is));
           memory = λ is. absurd (omega (arith, is));
-          few = few_done;
-          limit = (λ is. done_is ∙ all, λ is. refl);
+          few = few_done h;
+          limit = (λ is. (done_is h) ∙ all, λ is. refl);
         })

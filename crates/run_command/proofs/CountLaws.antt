@@ -18,12 +18,13 @@ use Rattle.ask_session.specs.declared.ends.End.TheVariants as ends
 use Rattle.command_face.specs.Refusing.{stop_of}
 use Rattle.run_command.specs.Headline.{HasMounted}
 use Rattle.command_face.specs.Outcomes.{status_at, status_of}
-use Rattle.run_command.specs.Sessions.{HasCounted, Went, RunSteps, end_of, ended_as, outcome_of, unserved}
+use Rattle.run_command.specs.Sessions.{HasCounted, OpenRunSteps, RunSteps, end_of, ended_as, outcome_of, unserved}
 use Rattle.command_face.specs.declared.stop.StopReason.{StopReason}
 use Rattle.command_face.specs.declared.stop.StopReason.TheVariants as stop
-use Rattle.run_command.specs.declared.run.Ended.{Ended}
+use Rattle.run_command.specs.declared.run.SessionEnd.{SessionEnd}
 use Rattle.run_command.proofs.ClauseLaws.{session_keeps}
 use Rattle.command_face.proofs.UnopenedLaws.{not_status}
+use Rattle.run_command.specs.Sessions.{held, seen_by}
 
 -- there are as many replies as requests
 chain_long : (limits : Limits) (s : State) (rs : List Request) (replies : List Reply) (states : List State)
@@ -118,23 +119,25 @@ module _ {D I O : Type 0} (disk_of : D → disk.State) (source_of : I → Source
       numbers ends.Budget y same (λ is. done_is ends.Budget y same ∙ y.last_turn.0, λ is. refl)
 
 module _ {D I O : Type 0} (disk_of : D → disk.State) (source_of : I → SourceState) (sink_of : O → SinkState)
-    (file : List ℕ) (before now : D) (from rest : I) (out mid_out : O) (e : Ended) where
-  abbrev All : Ended → Type 0
+    (file : List ℕ) (before now : D) (from rest : I) (out mid_out : O) (e : SessionEnd) where
+  abbrev All : SessionEnd → Type 0
   All x = HasCounted (outcome_of x) (IsTrue (disk_of before).tells) (HasMounted (disk_of now))
 
   none_of : (why : StopReason) (turn : ℕ) → status_of why ≢ 11 → e ≡ unserved why turn → All e
   none_of why turn other is = subst All (sym is)
       (none_counted why turn (IsTrue (disk_of before).tells) (HasMounted (disk_of now)) other)
 
-  pub has_counted : RunSteps disk_of source_of sink_of file before now from rest out mid_out e
+  pub has_counted : RunSteps (seen_by disk_of source_of sink_of) file (held before from out)
+      (held now rest mid_out) e
       → All e
   has_counted (inl (is, source, sink)) = elim is.which as (λ _. All e) [
     | inl failed ↦ none_of stop.Disk 0 (λ n. omega (arith, n)) failed.0
     | inr gone ↦ none_of stop.NoFile 0 (λ n. omega (arith, n)) gone.0
   ]
-  has_counted (inr x) = by x.went
+  has_counted (inr x) = by x.steps
     where
-      by : Went disk_of source_of sink_of x.first now from rest out mid_out e → All e
+      by : OpenRunSteps (seen_by disk_of source_of sink_of) (held x.first from out) (held now rest mid_out) e
+          → All e
       by (inl (inl is, source, sink)) = none_of (stop_of is.fault) (disk_of now).turn
           (not_status is.fault 11 (λ n. omega (arith, n)) (λ n. omega (arith, n)) (λ n. omega (arith, n)))
           is.ended

@@ -40,84 +40,15 @@ use Rattle.command_face.specs.declared.outcome.Outcome.{Outcome}
 use Rattle.run_command.proofs.RunLists.{IsNext, Splits, next_is, splits}
 use Rattle.served_file.proofs.OpeningLaws.{Opened, requests_low}
 use Rattle.command_face.specs.Devices.{devices}
-use Rattle.run_command.proofs.SoFarLaws as far
+use Rattle.run_command.proofs.SoFarLaws.{SoFar, View, view, newest, starts, done_is, few_done, ran_of, number, last_shows, last_kept_shows, turn_c, crash_c, numbered_c, reach_c, since_c, calls_c, told_now}
 
-module _ {t : choice.Table} {m : Map} {b : Book} {requests : List Request} {end : List ℕ} {old a : State}
-    {s : StoreValue} (op : Opened t m b old a s) (lawful_old : IsLawful old) (lawful_a : IsLawful a)
-    (o : OpensBy CLASSES SIZE_MAX t old.file m b)
-    (left_before : old.turn < last → RestsOnFound t old
-    → LeftOnly old old.turn (IsFoundImage CLASSES t m b (length old.file)))
-    {from i1 : SourceState} {out o1 : SinkState} {s1 : Sitting} {c : State} {n : ℕ}
-    (asks : Asks from.left requests end) (told_source : IsTrue from.tells)
-    (ran : HasRun CLASSES (new_sitting s a.turn) s1 a c from i1 out o1 n) (few : n ≤ budget) where
-  abbrev u : SuperBlock
-  u = s.in_use.block
+module _ (h : SoFar) where
+  open h use {t, m, b, requests, end, old, a, s, op, from, i1, out, o1, s1, c, n, told_source, ran, few}
 
-  abbrev limits : Limits
-  limits = limits_with u
+  abbrev v : View h
+  v = view h
 
-  abbrev start : store.State
-  start = state_of s a.file
-
-  abbrev states : List store.State
-  states = ran.states
-
-  abbrev last_one : store.State
-  last_one = last_state start states
-
-  newest : state_of s1.store c.file ≡ last_one
-  newest = far.newest op lawful_old lawful_a o left_before asks told_source ran few
-
-  starts : Starts t m b start
-  starts = far.starts op lawful_old lawful_a o left_before asks told_source ran few
-
-  abbrev split : Splits requests ran.requests (unread s1 i1) end
-  split = splits ran.requests requests from.left (unread s1 i1) end ran.texts asks (ran.whole told_source)
-
-  done_is : s1.done ≡ n
-  done_is = far.done_is op lawful_old lawful_a o left_before asks told_source ran few
-
-  few_done : s1.done ≤ budget
-  few_done = far.few_done op lawful_old lawful_a o left_before asks told_source ran few
-
-  abbrev ran_of : (d : ℕ) (others : List Request) → split.others ≡ others → d ≡ s1.done
-      → Ran limits start requests d
-  ran_of = far.ran_of op lawful_old lawful_a o left_before asks told_source ran few
-
-  number : s1.kept_done ≡ last_kept 0 0 ran.replies
-  number = far.number op lawful_old lawful_a o left_before asks told_source ran few
-
-  last_shows : (image : List ℕ) → run.OpensToKept CLASSES last_one image
-      → OpensTo (state_after start states s1.kept_done) image
-  last_shows = far.last_shows op lawful_old lawful_a o left_before asks told_source ran few
-
-  last_kept_shows : (image : List ℕ) → run.OpensToKept CLASSES last_one image
-      → OpensToKept start ran.replies states image
-  last_kept_shows = far.last_kept_shows op lawful_old lawful_a o left_before asks told_source ran few
-
-  turn_c : a.turn ≤ c.turn
-  turn_c = far.turn_c op lawful_old lawful_a o left_before asks told_source ran few
-
-  crash_c : LeavesRoom t → RestsOnFound t old → c.turn < last
-      → LeftOnly c old.turn (OpensToKept start ran.replies states)
-  crash_c = far.crash_c op lawful_old lawful_a o left_before asks told_source ran few
-
-  numbered_c : LeavesRoom t → RestsOnFound t old → c.turn < last
-      → LeftOnly c old.turn (HasSequenceUpTo (most_left u.k t))
-  numbered_c = far.numbered_c op lawful_old lawful_a o left_before asks told_source ran few
-
-  reach_c : last_one.sequence ≤ most_left u.k t
-  reach_c = far.reach_c op lawful_old lawful_a o left_before asks told_source ran few
-
-  since_c : RestsOnFound t old → c.turn < last
-      → LeftOnly c s1.kept_turn (λ image. OpensTo (state_after start states s1.kept_done) image)
-  since_c = far.since_c op lawful_old lawful_a o left_before asks told_source ran few
-
-  calls_c : c.turn ≡ counted s1.kept_turn (calls_since limits 0 start states ran.requests ran.replies)
-  calls_c = far.calls_c op lawful_old lawful_a o left_before asks told_source ran few
-
-  told_now : IsTrue c.tells
-  told_now = far.told_now op lawful_old lawful_a o left_before asks told_source ran few
+  open v use {u, limits, start, states, last_one, split}
 
   -- ---- a device failed while a request was served or its reply was put
 
@@ -137,20 +68,20 @@ module _ {t : choice.Table} {m : Map} {b : Book} {requests : List Request} {end 
     next_one = served limits last_one r
 
     pub served_is : served_at s1.store c.file r ≡ next_one
-    served_is = λ i. served (limits_with (ran.block i)) (newest i) r
+    served_is = λ i. served (limits_with (ran.block i)) (newest h i) r
 
     pub turn_z : c.turn ≤ z.turn
     turn_z = x.served.replies.serves.frame.no_turn_back
 
     pub left_z : RestsOnFound t old → Leaves c z (IsServingImage CLASSES s1.store r c.file)
-    left_z rests = x.served.replies.serves.left told_now (ran.rests op.told (op.rests rests))
+    left_z rests = x.served.replies.serves.left (told_now h) (ran.rests op.told (op.rests rests))
 
     -- what is left in the last step opens to the last checkpoint, or to the one that the request makes
     opens_z : (image : List ℕ) → IsServingImage CLASSES s1.store r c.file image
         → run.OpensToKept CLASSES last_one image ⊎ OpensToNext limits last_one others image
     opens_z image is = elim is.opens
         as (λ _. run.OpensToKept CLASSES last_one image ⊎ OpensToNext limits last_one others image) [
-          | inl kept ↦ inl (subst (λ (y : store.State). run.OpensToKept CLASSES y image) newest kept)
+          | inl kept ↦ inl (subst (λ (y : store.State). run.OpensToKept CLASSES y image) (newest h) kept)
           | inr one ↦ inr (
             subst (λ (y : Served). 0 < y.saves.least) served_is one.0,
             subst (λ (y : Served). Opens CLASSES SIZE_MAX image y.state.map y.state.book) served_is one.1,
@@ -162,7 +93,7 @@ module _ {t : choice.Table} {m : Map} {b : Book} {requests : List Request} {end 
     loose_z image is = subst (λ (y : Served). Loose u.k
         (length image - base_of s) last_one.map y.state.map) served_is
         (subst (λ (y : store.State). Loose u.k (length image - base_of s) y.map
-        (served_at s1.store c.file r).state.map) newest
+        (served_at s1.store c.file r).state.map) (newest h)
         (subst (λ (v : SuperBlock). Loose v.k (length image - head_len v.names) (state_of s1.store c.file).map
         (served_at s1.store c.file r).state.map) ran.block is.loose))
 
@@ -172,7 +103,7 @@ module _ {t : choice.Table} {m : Map} {b : Book} {requests : List Request} {end 
       saves_within (limits_of s1.store) (state_of s1.store c.file) r u.k s.in_use.sequence
           (ap (λ (v : SuperBlock). v.k) ran.block) (ran.reach op.told),
       requests_low t u.k s.in_use.sequence op.most,
-      ap (λ (y : store.State). y.sequence) newest,
+      ap (λ (y : store.State). y.sequence) (newest h),
       ap (λ (y : Served). y.saves.most) served_is,
     )
 
@@ -187,8 +118,8 @@ module _ {t : choice.Table} {m : Map} {b : Book} {requests : List Request} {end 
               (ap (λ (v : SuperBlock). v.k) ran.block) (ran.reach op.told),
           requests_low t u.k s.in_use.sequence op.most,
         ) in
-        LeftOnly-after old.turn P (omega (arith, op.later, turn_c))
-        (numbered_c room rests (omega (arith, below, turn_z)))
+        LeftOnly-after old.turn P (omega (arith, op.later, turn_c h))
+        (numbered_c h room rests (omega (arith, below, turn_z)))
         (Leaves-weaken P (λ image is. sequence_wider q (most_left u.k t) image low is.sequence)
         (left_z rests))
 
@@ -199,10 +130,10 @@ module _ {t : choice.Table} {m : Map} {b : Book} {requests : List Request} {end 
       crash_z room rests below =
           let P = λ (image : List ℕ). OpensToKept start ran.replies states image
           ⊎ OpensToBeing status limits last_one others image in
-          LeftOnly-after old.turn P (omega (arith, op.later, turn_c))
-          (λ image since. inl (crash_c room rests (omega (arith, below, turn_z)) image since))
+          LeftOnly-after old.turn P (omega (arith, op.later, turn_c h))
+          (λ image since. inl (crash_c h room rests (omega (arith, below, turn_z)) image since))
           (Leaves-weaken P (λ image is. elim (opens_z image is) as (λ _. P image) [
-            | inl kept ↦ inl (last_kept_shows image kept)
+            | inl kept ↦ inl (last_kept_shows h image kept)
             | inr one ↦ inr (failed, one)
           ]) (left_z rests))
 
@@ -216,9 +147,9 @@ module _ {t : choice.Table} {m : Map} {b : Book} {requests : List Request} {end 
           ⊎ OpensToBeing status limits last_one others image)) (sym x.counts.kept_done)
           (subst (λ (k : ℕ). LeftOnly z k P) (sym x.counts.kept_turn)
           (LeftOnly-after s1.kept_turn P (ran.kept_turn (omega arith))
-          (λ image since. inl (since_c rests (omega (arith, below, turn_z)) image since))
+          (λ image since. inl (since_c h rests (omega (arith, below, turn_z)) image since))
           (Leaves-weaken P (λ image is. elim (opens_z image is) as (λ _. P image) [
-            | inl kept ↦ inl (last_shows image kept)
+            | inl kept ↦ inl (last_shows h image kept)
             | inr one ↦ inr (failed, one)
           ]) (left_z rests))))
 
@@ -232,7 +163,7 @@ module _ {t : choice.Table} {m : Map} {b : Book} {requests : List Request} {end 
       told_1 = ran.sink_told ∙ told
 
       front : IsFront (reply_text (reply_at s1.store c.file r)) o1.given o2.given (is_disk bad)
-      front = (x.served.replies.puts told_now told_1).front
+      front = (x.served.replies.puts (told_now h) told_1).front
 
       text_is : reply_text next_one.reply ≡ front.put ++ front.rest
       text_is = ap (λ (y : Served). reply_text y.reply) (sym served_is) ∙ front.whole
@@ -277,10 +208,10 @@ module _ {t : choice.Table} {m : Map} {b : Book} {requests : List Request} {end 
             (devices z after) from rest
 
         pub few_z : new.done ≤ budget
-        few_z = omega (arith, x.counts.done, few_done)
+        few_z = omega (arith, x.counts.done, few_done h)
 
         pub not_all : new.done ≡ budget → ⊥
-        not_all is = omega (arith, is, x.counts.done, done_is, fewer)
+        not_all is = omega (arith, is, x.counts.done, done_is h, fewer)
 
         pub next_some : others ≡ [] → ⊥
         next_some is = absurd (cc)
@@ -294,13 +225,13 @@ module _ {t : choice.Table} {m : Map} {b : Book} {requests : List Request} {end 
               | inr reads ↦ inr (omega (
                 arith,
                 (x.served.replies.serves.still reads).same_turn,
-                calls_c,
+                (calls_c h),
                 x.counts.kept_turn,
               ))
             ]
 
         pub number_z : new.kept_done ≡ last_kept 0 0 ran.replies
-        number_z = x.counts.kept_done ∙ number
+        number_z = x.counts.kept_done ∙ (number h)
 
         module _ (disk : is_disk bad ≡ true) (status_is : 7 ≡ status_at ending) where
           never : {A : Type 0} → IsCalm old.faults z.faults → A
@@ -316,12 +247,12 @@ module _ {t : choice.Table} {m : Map} {b : Book} {requests : List Request} {end 
           pub disk_failed : RunsTo 7
           disk_failed = record {
             start = start;
-            starts = starts;
+            starts = starts h;
             continues = λ is. absurd (elim is as (λ _. ⊥) [
               | inl whole ↦ (let e : false ≡ true = whole in absurd (cc))
               | inr nine ↦ omega (arith, nine)
             ]);
-            ran = ran_of new.done others next.is x.counts.done;
+            ran = ran_of h new.done others next.is x.counts.done;
             far = record {
               known = refl;
               done = λ is. absurd (omega (arith, is));
@@ -352,5 +283,5 @@ module _ {t : choice.Table} {m : Map} {b : Book} {requests : List Request} {end 
             };
             failed = λ seven mounted. still_z;
             next_start = λ calm. never calm;
-            reach = omega (arith, reach_c);
+            reach = omega (arith, reach_c h);
           }

@@ -38,21 +38,28 @@ use Rattle.served_file.specs.Served.{IsNextStart, Starts, turn_opened, found_wit
 use Rattle.run_command.specs.Headline.{HasMounted, HowFar, RunHolds}
 use Rattle.command_face.specs.Mounting.{mounted}
 use Rattle.command_face.specs.Outcomes.{PutsLast, line_at, status_at}
-use Rattle.run_command.specs.Sessions.{IsServed, IsUnbegun, IsUnopened, Went, RunSteps, ended_as, end_of, outcome_of, unserved}
+use Rattle.run_command.specs.Sessions.{IsServed, IsUnbegun, IsUnopened, OpenRunSteps, RunSteps, ended_as, end_of, outcome_of, unserved}
 use Rattle.command_face.specs.declared.stop.StopReason.{StopReason}
 use Rattle.command_face.specs.declared.stop.StopReason.TheVariants as stop
-use Rattle.run_command.specs.declared.run.Ended.{Ended}
+use Rattle.run_command.specs.declared.run.SessionEnd.{SessionEnd}
 use Rattle.command_face.specs.declared.outcome.Outcome.{Outcome}
 use Rattle.served_file.proofs.OpeningLaws.{Opened, left_first, left_opening, opened_by, opens_first, rests_first, told_first}
 use Rattle.served_file.proofs.OverLaws.{next_over}
 use Rattle.run_command.proofs.BetweenLaws.{all_answered, input_ended, line_failed, source_failed}
 use Rattle.run_command.proofs.FailedLaws.{disk_failed}
 use Rattle.run_command.proofs.SinkLaws.{sink_failed}
-use Rattle.run_command.proofs.SettledLaws.{ends_with_layout}
-use Rattle.run_command.proofs.UnservedLaws.{unserved_runs, never_true}
+use Rattle.run_command.proofs.SettledLaws.{settled_still}
+use Rattle.run_command.proofs.SoFarLaws.{SoFar}
+use Rattle.run_command.proofs.UnservedLaws.{never_true, none_far, unserved_runs}
 use Rattle.served_file.proofs.RefusedLaws.{WhyUnopened, why_unopened, begins_itself}
 use Rattle.served_file.proofs.RefusedLaws.WhyUnopened.{disk, memory}
 use Rattle.command_face.specs.Devices.{devices}
+use Rattle.run_command.specs.Sessions.{held, seen_by}
+
+-- the numbers of a session, with a status
+abbrev counts_of : ℕ → Sitting → Outcome
+counts_of status x =
+    record { status = status; done = x.done; kept_done = x.kept_done; kept_turn = x.kept_turn }
 
 -- ---- the whole
 
@@ -106,21 +113,6 @@ module _ {D I O : Type 0} (disk_of : D → State) (source_of : I → SourceState
     rests = rests;
   }
 
-  -- the images of a settled file that was only looked at
-  settled_still : z.turn ≡ old.turn → (RestsOnFound t old → Leaves old z old.may_leave) → RestsOnFound t old
-      → z.turn < last → t.chosen.header.kind ≡ kind.Settled → turn_opened t b old ≤ z.turn
-      → LeftOnly z (turn_opened t b old) (λ image. length image ≡ found_base t + book_end t.chosen.block.k b)
-  settled_still same left rests below settled opened image since =
-      let ends = ends_with_layout t m b old o settled (omega (arith, same, below))
-      (omega (arith, same, opened)) in
-      let long = λ (may : old.may_leave image). (rests image may).same_length ∙ ends.same_length in
-      elim ((left rests).each (turn_opened t b old) image (omega (arith, ends.same_turn)) since)
-      as (λ _. length image ≡ found_base t + book_end t.chosen.block.k b) [
-        | inl was ↦ long ((lawful before).only_now image (omega (arith, same, below))
-            (subst (λ (k : ℕ). old.left_since k image) ends.same_turn was))
-        | inr may ↦ long may
-      ]
-
   module _ (same_source : rest ≡ from) (same_sink : mid_out ≡ out) where
     line_out : (ending : Result (Unit {0}) StopReason) → PutsEnd ending → IsTrue (sink_of out).tells
         → PutsLast (sink_of out).given after.given (line_at ending) (Rose (sink_of out).faults after.faults)
@@ -138,17 +130,10 @@ module _ {D I O : Type 0} (disk_of : D → State) (source_of : I → SourceState
         requests end (source_of from) (source_of rest) (sink_of out) after 7 k refl refl
         (λ is. omega (arith, is)) since (λ calm has. omega (arith, rose, calm.same, calm.below))
         (λ calm. absurd (omega (arith, rose, calm.same, calm.below)))
-        (Err stop.Disk) refl tt (line_out (Err stop.Disk) line) (record {
-          known = refl;
-          done = λ is. absurd (omega (arith, is));
-          line = λ is. absurd (omega (arith, is));
-          absent = λ is. absurd (omega (arith, is));
-          disk = λ is. inr refl;
-          sink = λ is. absurd (omega (arith, is));
-          memory = λ is. absurd (omega (arith, is));
-          few = omega arith;
-          limit = (λ is. absurd (omega (arith, is)), λ is. absurd (omega (arith, is)));
-        })
+        (Err stop.Disk) refl tt (line_out (Err stop.Disk) line)
+            (none_far 7 requests end (source_of from) (source_of rest) refl
+        (λ is. omega (arith, is)) (λ is. omega (arith, is)) (λ is. omega (arith, is))
+        (λ is. omega (arith, is)) (λ is. absurd (omega (arith, is))))
 
     -- the file isn't there
     absent : (file : List ℕ) → AfterMount old z → z.last_mount ≡ mounted file false Absent → PutsEnd
@@ -157,36 +142,21 @@ module _ {D I O : Type 0} (disk_of : D → State) (source_of : I → SourceState
     absent c mount is line =
         unserved_runs t.chosen.block found_start found_starts (lawful now) left_before mount.time.later
         (λ room. left_first t m b old z mount told o)
-        (λ rests below calm settled opened. settled_still mount.same_turn
+        (λ rests below calm settled opened. settled_still t m b old o (lawful before) mount.same_turn
         (λ rests. Leaves-call old.may_leave mount.time mount.images) rests below settled opened)
         requests end (source_of from) (source_of rest) (sink_of out) after 3 0 refl refl
         (λ is. omega (arith, is))
         (λ has. absurd (never_true (sym (ap is_mounted is) ∙ has))) (λ calm has. never_true has)
         (λ calm. next_found (mount.same_file told) (rests_first t m b old z mount told o))
-        (Err stop.NoFile) refl tt (line_out (Err stop.NoFile) line) (record {
-          known = refl;
-          done = λ is. absurd (omega (arith, is));
-          line = λ is. absurd (omega (arith, is));
-          absent = λ is. refl;
-          disk = λ is. absurd (omega (arith, is));
-          sink = λ is. absurd (omega (arith, is));
-          memory = λ is. absurd (omega (arith, is));
-          few = omega arith;
-          limit = (λ is. absurd (omega (arith, is)), λ is. absurd (omega (arith, is)));
-        })
+        (Err stop.NoFile) refl tt (line_out (Err stop.NoFile) line)
+            (none_far 3 requests end (source_of from) (source_of rest) refl
+        (λ is. omega (arith, is)) (λ is. omega (arith, is)) (λ is. omega (arith, is))
+        (λ is. omega (arith, is)) (λ is. absurd (omega (arith, is))))
 
     no_memory : HowFar 10 0 requests end (source_of from) (source_of rest)
-    no_memory = record {
-      known = refl;
-      done = λ is. absurd (omega (arith, is));
-      line = λ is. absurd (omega (arith, is));
-      absent = λ is. absurd (omega (arith, is));
-      disk = λ is. absurd (omega (arith, is));
-      sink = λ is. absurd (omega (arith, is));
-      memory = λ is. (refl, ap source_of same_source);
-      few = omega arith;
-      limit = (λ is. absurd (omega (arith, is)), λ is. absurd (omega (arith, is)));
-    }
+    no_memory = none_far 10 requests end (source_of from) (source_of rest) refl (λ is. omega (arith, is))
+        (λ is. omega (arith, is)) (λ is. omega (arith, is)) (λ is. omega (arith, is))
+        (λ _. ap source_of same_source)
 
     module _ (first : State) (mount : AfterMount old first) (calm_mount : first.faults ≡ old.faults) where
       -- nothing was changed for want of memory
@@ -202,7 +172,7 @@ module _ {D I O : Type 0} (disk_of : D → State) (source_of : I → SourceState
           (omega (arith, same.same_turn, mount.same_turn))
           (λ room rests. Leaves-weaken (IsFoundImage CLASSES t m b (length old.file))
           (λ image may. found_image CLASSES t old.file m b o image (rests image may)) (still rests))
-          (λ rests below calm settled opened. settled_still
+          (λ rests below calm settled opened. settled_still t m b old o (lawful before)
           (same.same_turn ∙ mount.same_turn) still rests below settled opened)
           requests end (source_of from) (source_of rest) (sink_of out) after 10 z.turn refl refl
           (λ is. omega (arith, is)) (λ has. refl) (λ calm has. never_true has)
@@ -210,17 +180,17 @@ module _ {D I O : Type 0} (disk_of : D → State) (source_of : I → SourceState
           (sym file) (rests image (mount.images image (same.images image left)))))
           (Err stop.NoMemory) refl tt (line_out (Err stop.NoMemory) line) no_memory
 
-      unopened_by : (e : Ended) (why : OpenFault) → WhyUnopened why → IsOpening CLASSES first z (Err why)
+      unopened_by : (e : SessionEnd) (why : OpenFault) → WhyUnopened why → IsOpening CLASSES first z (Err why)
           → e ≡ unserved (stop_of why) z.turn → PutsEnd e.end → Runs (outcome_of e)
       unopened_by e (opening.Slot slot.Disk) disk is ended line =
-          subst (λ (y : Ended). Runs (outcome_of y)) (sym ended) (failed_before z.turn
+          subst (λ (y : SessionEnd). Runs (outcome_of y)) (sym ended) (failed_before z.turn
           (omega (arith, mount.same_turn, is.frame.no_turn_back))
           (left_opening t m b old first mount told o z (Err (opening.Slot slot.Disk)) is)
           (omega (arith, calm_mount, is.cause.rose refl)) (λ has. refl)
-          (subst (λ (y : Ended). PutsEnd y.end) ended line))
+          (subst (λ (y : SessionEnd). PutsEnd y.end) ended line))
       unopened_by e opening.NoMemory memory is ended line =
-          subst (λ (y : Ended). Runs (outcome_of y)) (sym ended) (wants_memory is.unchanged
-          (subst (λ (y : Ended). PutsEnd y.end) ended line))
+          subst (λ (y : SessionEnd). Runs (outcome_of y)) (sym ended) (wants_memory is.unchanged
+          (subst (λ (y : SessionEnd). PutsEnd y.end) ended line))
       unopened_by e (opening.Slot slot.Short) none is ended line = elim none [ ]
       unopened_by e (opening.Slot slot.Unformatted) none is ended line = elim none [ ]
       unopened_by e (opening.Slot slot.NoGate) none is ended line = elim none [ ]
@@ -228,16 +198,16 @@ module _ {D I O : Type 0} (disk_of : D → State) (source_of : I → SourceState
       unopened_by e (opening.Slot (slot.Codec f at)) none is ended line = elim none [ ]
       unopened_by e (opening.Table broken) none is ended line = elim none [ ]
 
-      unopened : (e : Ended) → IsUnopened first z e → PutsEnd e.end → Runs (outcome_of e)
+      unopened : (e : SessionEnd) → IsUnopened first z e → PutsEnd e.end → Runs (outcome_of e)
       unopened e x line = unopened_by e x.fault (why_unopened t m b first.file x.fault plain
           (opens_first t m b old first mount told o)
           (x.opening.refused (told_first t m b old first mount told o))) x.opening x.ended line
 
-      unbegun : (e : Ended) → IsUnbegun first z e → PutsEnd e.end → Runs (outcome_of e)
+      unbegun : (e : SessionEnd) → IsUnbegun first z e → PutsEnd e.end → Runs (outcome_of e)
       unbegun e x line =
           let op : Opened t m b old z x.store =
           opened_by t m b old first mount told o z x.store calm_mount x.opening in
-          subst (λ (y : Ended). Runs (outcome_of y)) (sym x.ended)
+          subst (λ (y : SessionEnd). Runs (outcome_of y)) (sym x.ended)
           (subst (λ (u : SuperBlock). RunHolds (found_with u t m b) requests end
               (outcome_of (unserved stop.NoMemory z.turn)) (devices old (sink_of out)) (devices z after)
               (source_of from) (source_of rest)) op.block
@@ -251,19 +221,49 @@ module _ {D I O : Type 0} (disk_of : D → State) (source_of : I → SourceState
           (λ is. omega (arith, is)) (λ has. refl) (λ calm has. never_true has)
           (λ calm. next_over t x.store old z x.store.in_use.sequence op.sound op.over op.block (omega arith)
           op.rests) (Err stop.NoMemory) refl tt (line_out (Err stop.NoMemory)
-          (subst (λ (y : Ended). PutsEnd y.end) x.ended line)) no_memory))
+          (subst (λ (y : SessionEnd). PutsEnd y.end) x.ended line)) no_memory))
 
   -- ---- a session
 
   module _ (first : D) (mount : AfterMount old (disk_of first))
       (calm_mount : (disk_of first).faults ≡ old.faults)
-      (e : Ended) (s : StoreValue) (mid : D) (opens : IsOpening CLASSES (disk_of first) (disk_of mid) (Ok s))
+      (e : SessionEnd) (s : StoreValue) (mid : D) (opens : IsOpening CLASSES (disk_of first) (disk_of mid)
+          (Ok s))
       (new : Sitting) (line : PutsEnd e.end) where
     op : Opened t m b old (disk_of mid) s
     op = opened_by t m b old (disk_of first) mount told o (disk_of mid) s calm_mount opens
 
     abbrev s0 : Sitting
     s0 = new_sitting s (disk_of mid).turn
+
+    -- the session up to its last turn
+    abbrev so_far : (how : End) → EndsRun disk_of source_of sink_of CLASSES s0 new mid now from rest out
+        mid_out how
+        → SoFar
+    so_far how y = record {
+      t = t;
+      m = m;
+      b = b;
+      requests = requests;
+      end = end;
+      old = old;
+      a = disk_of mid;
+      s = s;
+      op = op;
+      lawful_a = lawful mid;
+      left_before = left_before;
+      from = source_of from;
+      i1 = source_of y.mid_source;
+      out = sink_of out;
+      o1 = sink_of y.mid_sink;
+      s1 = y.sitting;
+      c = disk_of y.mid_disk;
+      n = y.n;
+      asks = asks;
+      told_source = told_source;
+      ran = y.ran;
+      few = y.few;
+    }
 
     module _ (how : End)
         (y : EndsRun disk_of source_of sink_of CLASSES s0 new mid now from rest out mid_out how)
@@ -272,7 +272,7 @@ module _ {D I O : Type 0} (disk_of : D → State) (source_of : I → SourceState
       ending = end_of how new.done
 
       line_now : PutsEnd ending
-      line_now = subst (λ (x : Ended). PutsEnd x.end) ended line
+      line_now = subst (λ (x : SessionEnd). PutsEnd x.end) ended line
 
       -- a session that ended between two requests
       module _ (un : IsUnserved y.sitting new) (unserved_how : is_unserved (turn.Ended how) ≡ true) where
@@ -287,40 +287,25 @@ module _ {D I O : Type 0} (disk_of : D → State) (source_of : I → SourceState
             (Rose (sink_of out).faults after.faults)) (y.same_sink unserved_how) (line_now sink_told)
 
         carried : (status : ℕ) → status ≡ status_at ending
-            → RunHolds (found_with s.in_use.block t m b) requests end (record {
-              status = status;
-              done = y.sitting.done;
-              kept_done = y.sitting.kept_done;
-              kept_turn = y.sitting.kept_turn;
-            }) (devices old (sink_of out)) (devices (disk_of y.mid_disk) after) (source_of from)
+            → RunHolds (found_with s.in_use.block t m b) requests end (counts_of status y.sitting)
+                (devices old (sink_of out)) (devices (disk_of y.mid_disk) after) (source_of from)
                 (source_of rest)
             → Runs (outcome_of e)
         carried status is runs =
-            let same : outcome_of e ≡ record {
-              status = status;
-              done = y.sitting.done;
-              kept_done = y.sitting.kept_done;
-              kept_turn = y.sitting.kept_turn;
-            } = ap outcome_of ended ∙ (λ i. record {
+            let same : outcome_of e ≡ counts_of status y.sitting = ap outcome_of ended ∙ (λ i. record {
               status = sym is i;
               done = un.counts.done i;
               kept_done = un.counts.kept_done i;
               kept_turn = un.counts.kept_turn i;
             }) in
             subst Runs (sym same)
-            (subst (λ (x : D). RunHolds (found_with t.chosen.block t m b) requests end (record {
-              status = status;
-              done = y.sitting.done;
-              kept_done = y.sitting.kept_done;
-              kept_turn = y.sitting.kept_turn;
-            }) (devices old (sink_of out)) (devices (disk_of x) after) (source_of from) (source_of rest))
+            (subst (λ (x : D). RunHolds (found_with t.chosen.block t m b) requests end
+                (counts_of status y.sitting) (devices old (sink_of out)) (devices (disk_of x) after)
+                (source_of from) (source_of rest))
             (sym (y.same_disk unserved_how))
-            (subst (λ (u : SuperBlock). RunHolds (found_with u t m b) requests end (record {
-              status = status;
-              done = y.sitting.done;
-              kept_done = y.sitting.kept_done;
-              kept_turn = y.sitting.kept_turn;
-            }) (devices old (sink_of out)) (devices (disk_of y.mid_disk) after) (source_of from)
+            (subst (λ (u : SuperBlock). RunHolds (found_with u t m b) requests end
+                (counts_of status y.sitting) (devices old (sink_of out)) (devices (disk_of y.mid_disk) after)
+                (source_of from)
                 (source_of rest)) op.block runs))
 
     session_by : (how : End)
@@ -330,7 +315,7 @@ module _ {D I O : Type 0} (disk_of : D → State) (source_of : I → SourceState
     session_by ends.End y sound ended =
         let un = y.last_turn.0 in
         carried ends.End y sound ended un refl 0 refl
-        (input_ended op (lawful before) (lawful mid) o left_before asks told_source y.ran y.few after
+        (input_ended (so_far ends.End y) after
         (source_of rest)
         (sound_mid ends.End y sound ended un refl) (Ok tt) tt (line_mid ends.End y sound ended un refl) refl
         (y.fewer refl) (y.last_turn.1 (y.ran.source_told ∙ told_source)))
@@ -340,14 +325,14 @@ module _ {D I O : Type 0} (disk_of : D → State) (source_of : I → SourceState
         let done : y.sitting.done ≤ budget = omega (arith, y.ran.done, y.few) in
         let numbered : counted new.done 1 ≡ y.sitting.done + 1 = omega (arith, un.counts.done, done) in
         carried ends.Line y sound ended un refl 2 refl
-        (line_failed op (lawful before) (lawful mid) o left_before asks told_source y.ran y.few after
+        (line_failed (so_far ends.Line y) after
         (source_of rest)
         (sound_mid ends.Line y sound ended un refl) (Err (stop.Line (counted new.done 1))) numbered
         (line_mid ends.Line y sound ended un refl) refl (y.fewer refl) begins.0 begins.1)
     session_by ends.Source y sound ended =
         let un = y.last_turn in
         carried ends.Source y sound ended un refl 8 refl
-        (source_failed op (lawful before) (lawful mid) o left_before asks told_source y.ran y.few after
+        (source_failed (so_far ends.Source y) after
         (source_of rest) (sound_mid ends.Source y sound ended un refl) (Err stop.Source) tt
         (line_mid ends.Source y sound ended un refl) refl (y.fewer refl))
     session_by ends.Budget y sound ended =
@@ -361,47 +346,49 @@ module _ {D I O : Type 0} (disk_of : D → State) (source_of : I → SourceState
           };
         } in
         carried ends.Budget y sound ended un refl 11 refl
-        (all_answered op (lawful before) (lawful mid) o left_before asks told_source y.ran y.few after
+        (all_answered (so_far ends.Budget y) after
         (source_of rest) (sound_mid ends.Budget y sound ended un refl) (Err stop.Budget) tt
         (line_mid ends.Budget y sound ended un refl) refl y.last_turn.0)
     session_by ends.Disk y sound ended =
-        subst (λ (x : Ended). Runs (outcome_of x)) (sym ended)
+        subst (λ (x : SessionEnd). Runs (outcome_of x)) (sym ended)
         (subst (λ (u : SuperBlock). RunHolds (found_with u t m b) requests end
             (outcome_of (ended_as ends.Disk new)) (devices old (sink_of out)) (devices z after)
             (source_of from) (source_of rest)) op.block
-        (disk_failed op (lawful before) (lawful mid) o left_before asks told_source y.ran y.few ends.Disk
+        (disk_failed (so_far ends.Disk y) ends.Disk
         y.last_turn after (Err stop.Disk) tt (y.fewer refl) (line_now ends.Disk y sound ended) refl refl))
     session_by ends.Sink y sound ended =
-        subst (λ (x : Ended). Runs (outcome_of x)) (sym ended)
+        subst (λ (x : SessionEnd). Runs (outcome_of x)) (sym ended)
         (subst (λ (u : SuperBlock). RunHolds (found_with u t m b) requests end
             (outcome_of (ended_as ends.Sink new)) (devices old (sink_of out)) (devices z after)
             (source_of from) (source_of rest)) op.block
-        (sink_failed op (lawful before) (lawful mid) o left_before asks told_source y.ran y.few ends.Sink
+        (sink_failed (so_far ends.Sink y) ends.Sink
         y.last_turn after (Err stop.Sink) tt (y.fewer refl) (line_now ends.Sink y sound ended) refl refl
         sound))
 
   -- ---- all of them
 
-  runs_served : (file : List ℕ) (e : Ended)
-      → IsServed disk_of source_of sink_of file before now from rest out mid_out e
+  runs_served : (file : List ℕ) (e : SessionEnd)
+      → IsServed (seen_by disk_of source_of sink_of) file (held before from out) (held now rest mid_out) e
       → PutsEnd e.end → Runs (outcome_of e)
-  runs_served c e x line = by x.went
+  runs_served c e x line = by x.steps
     where
-      by : Went disk_of source_of sink_of x.first now from rest out mid_out e → Runs (outcome_of e)
+      by : OpenRunSteps (seen_by disk_of source_of sink_of) (held x.first from out) (held now rest mid_out) e
+          → Runs (outcome_of e)
       by (inl ((inl is), source, sink)) = unopened source sink (disk_of x.first) x.mount x.calm e is line
       by (inl ((inr is), source, sink)) = unbegun source sink (disk_of x.first) x.mount x.calm e is line
       by (inr y) = session_by x.first x.mount x.calm e y.store y.mid y.opening y.new line y.end y.ran y.sound
           y.ended
 
-  pub headline : (file : List ℕ) (e : Ended)
-      → RunSteps disk_of source_of sink_of file before now from rest out mid_out e
+  pub headline : (file : List ℕ) (e : SessionEnd)
+      → RunSteps (seen_by disk_of source_of sink_of) file (held before from out) (held now rest mid_out) e
       → PutsEnd e.end → Runs (outcome_of e)
   headline c e (inl (is, source, sink)) line = elim is.which as (λ _. Runs (outcome_of e)) [
-    | inl failed ↦ subst (λ (y : Ended). Runs (outcome_of y)) (sym failed.0) (failed_before source sink 0
+    | inl failed ↦ subst (λ (y : SessionEnd). Runs (outcome_of y)) (sym failed.0) (failed_before source sink 0
         is.mount.time.later (λ room. left_first t m b old z is.mount told o) failed.2
         (λ has. absurd (never_true (sym (ap is_mounted failed.1) ∙ has)))
-        (subst (λ (y : Ended). PutsEnd y.end) failed.0 line))
-    | inr gone ↦ subst (λ (y : Ended). Runs (outcome_of y)) (sym gone.0) (absent source sink c is.mount gone.1
-        (subst (λ (y : Ended). PutsEnd y.end) gone.0 line))
+        (subst (λ (y : SessionEnd). PutsEnd y.end) failed.0 line))
+    | inr gone ↦ subst (λ (y : SessionEnd). Runs (outcome_of y)) (sym gone.0)
+        (absent source sink c is.mount gone.1
+        (subst (λ (y : SessionEnd). PutsEnd y.end) gone.0 line))
   ]
   headline c e (inr x) line = runs_served c e x line

@@ -1,5 +1,5 @@
 mod RunLists
-mod SessionLemmas
+mod StepsLemmas
 mod SoFarLaws
 mod BetweenLaws
 mod FailedLaws
@@ -8,7 +8,7 @@ mod UnservedLaws
 mod SettledLaws
 mod HeadlineLaws
 mod ClauseLaws
-mod WentLaws
+mod StepsLaws
 mod CountLaws
 mod ServedLaws
 mod EndLaws

@@ -18,7 +18,7 @@ use Rattle.run_command.specs.Sessions.{KeepsRun}
 use Rattle.command_face.specs.declared.outcome.Outcome.{Outcome}
 use Rattle.command_face.specs.Devices.{devices}
 use Rattle.served_file.specs.Served.{found_by}
-use Rattle.run_command.proofs.WentLaws.{not_both}
+use Rattle.run_command.proofs.StepsLaws.{not_both}
 
 -- of a session's statuses those are left that no fault has, of a device or of the input
 status_calm : (n : ℕ) → is_session n ≡ true → n ≢ 2 → n ≢ 3 → n ≢ 7 → n ≢ 8 → n ≢ 9 → n ≢ 11

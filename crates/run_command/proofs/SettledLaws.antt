@@ -1,6 +1,6 @@
 -- How long a file is that opens by a settled table.
 use Rattle.std.specs.Prelude.{◌≡◌, ℕ, ◌+◌, ◌<◌, ◌≤◌, nat_lt, List, length, take, drop, slice_index, refl}
-use Rattle.std.proofs.Common.{arith, ap, ◌∙◌, inl, inr}
+use Rattle.std.proofs.Common.{arith, ap, ◌∙◌, subst, inl, inr}
 use Rattle.std.proofs.lemmas.Bool.{cases_lt, lt-ltb, le-ltb, cond-false, cond-true}
 use Rattle.std.proofs.lemmas.List.{take-append-drop}
 use Rattle.std.proofs.lemmas.List.Sums.{sum_by-append}
@@ -22,9 +22,10 @@ use Rattle.segment_layout.proofs.SumLaws.{sum_by_same_places}
 use Rattle.table_rules.specs.Opening.{OpensBy, placed_table}
 use Rattle.table_rules.specs.Tables.{PlacedTable, boundary_of_kind, end_of_record, last_end, no_record, nth, sizes}
 use Rattle.placement_model.proofs.OpenedLaws.{opens_long}
-use Rattle.store_core.specs.Opened.{found_base}
+use Rattle.store_core.specs.Opened.{RestsOnFound, found_base}
 use Rattle.disk_face.specs.Counts.{counted, last}
-use Rattle.disk_face.specs.States.{State}
+use Rattle.disk_face.specs.Moments.{Leaves, LeftOnly}
+use Rattle.disk_face.specs.States.{IsLawful, State}
 use Rattle.served_file.specs.Served.{turn_opened}
 
 module _ (t : choice.Table) (file : List ℕ) (m : Map) (b : Book)
@@ -119,4 +120,21 @@ ends_with_layout t m b old o settled below low =
             (le-ltb far (length old.file) not);
         same_length = omega (arith, not, layout_within t old.file m b o settled);
       }
+    ]
+
+-- the images of a settled file that was only looked at
+pub settled_still : (t : choice.Table) (m : Map) (b : Book) (old : State)
+    (o : OpensBy CLASSES SIZE_MAX t old.file m b) → IsLawful old → {z : State}
+    → z.turn ≡ old.turn → (RestsOnFound t old → Leaves old z old.may_leave) → RestsOnFound t old
+    → z.turn < last → t.chosen.header.kind ≡ kind.Settled → turn_opened t b old ≤ z.turn
+    → LeftOnly z (turn_opened t b old) (λ image. length image ≡ found_base t + book_end t.chosen.block.k b)
+settled_still t m b old o lawful same left rests below settled opened image since =
+    let ends = ends_with_layout t m b old o settled (omega (arith, same, below)) (omega (arith, same, opened))
+        in
+    let long = λ (may : old.may_leave image). (rests image may).same_length ∙ ends.same_length in
+    elim ((left rests).each (turn_opened t b old) image (omega (arith, ends.same_turn)) since)
+    as (λ _. length image ≡ found_base t + book_end t.chosen.block.k b) [
+      | inl was ↦ long (lawful.only_now image (omega (arith, same, below))
+          (subst (λ (k : ℕ). old.left_since k image) ends.same_turn was))
+      | inr may ↦ long may
     ]

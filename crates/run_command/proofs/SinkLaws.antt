@@ -41,64 +41,16 @@ use Rattle.run_command.proofs.RunLists.{IsNext, Splits, next_is, served_sequence
 use Rattle.served_file.proofs.OpeningLaws.{Opened}
 use Rattle.served_file.proofs.OverLaws.{tight_over, next_over}
 use Rattle.command_face.specs.Devices.{devices}
-use Rattle.run_command.proofs.SoFarLaws as far
-use Rattle.run_command.proofs.FailedLaws as failed
+use Rattle.run_command.proofs.SoFarLaws.{SoFar, View, view, newest, starts, ran_of, number, turn_c, numbered_c, long_c, told_c, told_now}
+use Rattle.run_command.proofs.FailedLaws as while_served
 
-module _ {t : choice.Table} {m : Map} {b : Book} {requests : List Request} {end : List ℕ} {old a : State}
-    {s : StoreValue} (op : Opened t m b old a s) (lawful_old : IsLawful old) (lawful_a : IsLawful a)
-    (o : OpensBy CLASSES SIZE_MAX t old.file m b)
-    (left_before : old.turn < last → RestsOnFound t old
-    → LeftOnly old old.turn (IsFoundImage CLASSES t m b (length old.file)))
-    {from i1 : SourceState} {out o1 : SinkState} {s1 : Sitting} {c : State} {n : ℕ}
-    (asks : Asks from.left requests end) (told_source : IsTrue from.tells)
-    (ran : HasRun CLASSES (new_sitting s a.turn) s1 a c from i1 out o1 n) (few : n ≤ budget) where
-  abbrev u : SuperBlock
-  u = s.in_use.block
+module _ (h : SoFar) where
+  open h use {t, m, b, requests, end, old, s, op, from, i1, out, o1, s1, c, n, told_source, ran, few}
 
-  abbrev limits : Limits
-  limits = limits_with u
+  abbrev v : View h
+  v = view h
 
-  abbrev start : store.State
-  start = state_of s a.file
-
-  abbrev states : List store.State
-  states = ran.states
-
-  abbrev last_one : store.State
-  last_one = last_state start states
-
-  newest : state_of s1.store c.file ≡ last_one
-  newest = far.newest op lawful_old lawful_a o left_before asks told_source ran few
-
-  starts : Starts t m b start
-  starts = far.starts op lawful_old lawful_a o left_before asks told_source ran few
-
-  abbrev split : Splits requests ran.requests (unread s1 i1) end
-  split = splits ran.requests requests from.left (unread s1 i1) end ran.texts asks (ran.whole told_source)
-
-  abbrev ran_of : (d : ℕ) (others : List Request) → split.others ≡ others → d ≡ s1.done
-      → Ran limits start requests d
-  ran_of = far.ran_of op lawful_old lawful_a o left_before asks told_source ran few
-
-  number : s1.kept_done ≡ last_kept 0 0 ran.replies
-  number = far.number op lawful_old lawful_a o left_before asks told_source ran few
-
-  turn_c : a.turn ≤ c.turn
-  turn_c = far.turn_c op lawful_old lawful_a o left_before asks told_source ran few
-
-  numbered_c : LeavesRoom t → RestsOnFound t old → c.turn < last
-      → LeftOnly c old.turn (HasSequenceUpTo (most_left u.k t))
-  numbered_c = far.numbered_c op lawful_old lawful_a o left_before asks told_source ran few
-
-  long_c : LeavesRoom t → RestsOnFound t old → c.turn < last
-      → IsLong u.k (base_of s) t (turn_opened t b old) start states old c
-  long_c = far.long_c op lawful_old lawful_a o left_before asks told_source ran few
-
-  told_c : t.chosen.header.kind ≡ kind.Settled → IsTold (turn_opened t b old) s1.kept_done s1.kept_turn
-  told_c = far.told_c op lawful_old lawful_a o left_before asks told_source ran few
-
-  told_now : IsTrue c.tells
-  told_now = far.told_now op lawful_old lawful_a o left_before asks told_source ran few
+  open v use {u, limits, start, states, last_one, split}
 
   module _ {new : Sitting} {z : State} {o2 : SinkState} {rest : SourceState} (bad : End)
       (x : IsStopped CLASSES s1 new c z i1 rest o1 o2 bad) where
@@ -116,24 +68,24 @@ module _ {t : choice.Table} {m : Map} {b : Book} {requests : List Request} {end 
     next_one = served limits last_one r
 
     served_is : served_at s1.store c.file r ≡ next_one
-    served_is = failed.served_is op lawful_old lawful_a o left_before asks told_source ran few bad x
+    served_is = while_served.served_is h bad x
 
     turn_z : c.turn ≤ z.turn
-    turn_z = failed.turn_z op lawful_old lawful_a o left_before asks told_source ran few bad x
+    turn_z = while_served.turn_z h bad x
 
     left_z : RestsOnFound t old → Leaves c z (IsServingImage CLASSES s1.store r c.file)
-    left_z = failed.left_z op lawful_old lawful_a o left_before asks told_source ran few bad x
+    left_z = while_served.left_z h bad x
 
     loose_z : (image : List ℕ) → IsServingImage CLASSES s1.store r c.file image
         → Loose u.k (length image - base_of s) last_one.map next_one.state.map
-    loose_z = failed.loose_z op lawful_old lawful_a o left_before asks told_source ran few bad x
+    loose_z = while_served.loose_z h bad x
 
     low_z : last_one.sequence + next_one.saves.most ≤ most_left u.k t
-    low_z = failed.low_z op lawful_old lawful_a o left_before asks told_source ran few bad x
+    low_z = while_served.low_z h bad x
 
     numbered_z : LeavesRoom t → RestsOnFound t old → z.turn < last
         → LeftOnly z old.turn (HasSequenceUpTo (most_left u.k t))
-    numbered_z = failed.numbered_z op lawful_old lawful_a o left_before asks told_source ran few bad x
+    numbered_z = while_served.numbered_z h bad x
 
     module _ (after : SinkState) (ending : Result (Unit {0}) StopReason)
         (numbered : NumbersLine new.done ending)
@@ -150,19 +102,19 @@ module _ {t : choice.Table} {m : Map} {b : Book} {requests : List Request} {end 
             (devices z after) from rest
 
         few_z : new.done ≤ budget
-        few_z = failed.few_z op lawful_old lawful_a o left_before asks told_source ran few bad x
+        few_z = while_served.few_z h bad x
             after ending numbered fewer line
 
         not_all : new.done ≡ budget → ⊥
-        not_all = failed.not_all op lawful_old lawful_a o left_before asks told_source ran few bad x
+        not_all = while_served.not_all h bad x
             after ending numbered fewer line
 
         next_some : others ≡ [] → ⊥
-        next_some = failed.next_some op lawful_old lawful_a o left_before asks told_source ran few bad x
+        next_some = while_served.next_some h bad x
             after ending numbered fewer line
 
         number_z : new.kept_done ≡ last_kept 0 0 ran.replies
-        number_z = failed.number_z op lawful_old lawful_a o left_before asks told_source ran few bad x
+        number_z = while_served.number_z h bad x
             after ending numbered fewer line
 
         module _ (quiet : is_disk bad ≡ false) (status_is : 9 ≡ status_at ending)
@@ -171,7 +123,7 @@ module _ {t : choice.Table} {m : Map} {b : Book} {requests : List Request} {end 
           t2 = state_of new.store z.file
 
           step : Step (limits_of s1.store) (state_of s1.store c.file) r (reply_at s1.store c.file r) t2
-          step = x.served.replies.serves.step told_now quiet
+          step = x.served.replies.serves.step (told_now h) quiet
 
           t2_is : t2 ≡ record next_one.state { sequence = t2.sequence }
           t2_is = step.state ∙ ap (λ (y : Served). record y.state { sequence = t2.sequence }) served_is
@@ -182,13 +134,13 @@ module _ {t : choice.Table} {m : Map} {b : Book} {requests : List Request} {end 
 
           over_z : IsOver CLASSES new.store z.file
           over_z = x.served.replies.serves.over unbroken_z
-              (x.served.replies.serves.frame.stays.told ∙ told_now)
+              (x.served.replies.serves.frame.stays.told ∙ (told_now h))
 
           block_z : new.store.in_use.block ≡ u
           block_z = x.served.replies.serves.block quiet ∙ ran.block
 
           rests_z : RestsOnFound t old → RestsOnTable (base_of new.store) new.store.kept z
-          rests_z rests = x.served.replies.serves.rests told_now unbroken_z
+          rests_z rests = x.served.replies.serves.rests (told_now h) unbroken_z
               (ran.rests op.told (op.rests rests))
 
           tight_z : EndsTight u.k (head_len u.names) next_one.state z.file
@@ -231,18 +183,18 @@ module _ {t : choice.Table} {m : Map} {b : Book} {requests : List Request} {end 
               → IsLong u.k (base_of s) t (turn_opened t b old) start
               (states ++ next_one.state ∷ []) old z
           long_z room rests below =
-              let was = long_c room rests (omega (arith, below, turn_z)) in
+              let was = long_c h room rests (omega (arith, below, turn_z)) in
               let within = λ (image : List ℕ). IsWithinBounds u.k (base_of s) start
               (states ++ next_one.state ∷ []) image in
               record {
                 settled = λ settled later.
-                    let low : turn_opened t b old ≤ c.turn = omega (arith, op.turn settled, turn_c) in
+                    let low : turn_opened t b old ≤ c.turn = omega (arith, op.turn settled, turn_c h) in
                     LeftOnly-after (turn_opened t b old) within low
                     (λ image since. longer image (was.settled settled low image since))
                     (Leaves-weaken within loose_next (left_z rests));
                 moving = λ moving.
                     let P = λ (image : List ℕ). (length image ≤ length old.file) ⊎ within image in
-                    LeftOnly-after old.turn P (omega (arith, op.later, turn_c))
+                    LeftOnly-after old.turn P (omega (arith, op.later, turn_c h))
                     (λ image since. elim (was.moving moving image since) as (λ _. P image) [
                       | inl short ↦ inl short
                       | inr is ↦ inr (longer image is)
@@ -254,7 +206,7 @@ module _ {t : choice.Table} {m : Map} {b : Book} {requests : List Request} {end 
               let low : new.store.in_use.sequence ≤ last_one.sequence + next_one.saves.most = omega (
                 arith,
                 step.high,
-                ap (λ (y : store.State). y.sequence) newest,
+                ap (λ (y : store.State). y.sequence) (newest h),
                 ap (λ (y : Served). y.saves.most) served_is,
               ) in
               let e = subst (λ (y : store.State). IsNextStart t y
@@ -272,7 +224,7 @@ module _ {t : choice.Table} {m : Map} {b : Book} {requests : List Request} {end 
                   served_sequence limits last_one r,
                   step.low,
                   step.high,
-                  ap (λ (y : store.State). y.sequence) newest,
+                  ap (λ (y : store.State). y.sequence) (newest h),
                   ap (λ (y : Served). y.saves.most) served_is,
                 ));
                 rests = e.rests;
@@ -281,9 +233,9 @@ module _ {t : choice.Table} {m : Map} {b : Book} {requests : List Request} {end 
           pub sink_failed : RunsTo 9
           sink_failed = record {
             start = start;
-            starts = starts;
+            starts = starts h;
             continues = λ is. op.continues;
-            ran = ran_of new.done others next.is x.counts.done;
+            ran = ran_of h new.done others next.is x.counts.done;
             far = record {
               known = refl;
               done = λ is. absurd (omega (arith, is));
@@ -295,7 +247,7 @@ module _ {t : choice.Table} {m : Map} {b : Book} {requests : List Request} {end 
               few = few_z;
               limit = (λ is. absurd (omega (arith, is)), λ is. absurd (not_all is));
             };
-            replies = λ told. failed.replied_z op lawful_old lawful_a o left_before asks told_source ran few
+            replies = λ told. while_served.replied_z h
                 bad x after 9 refl
                 (λ is. absurd (omega (arith, is))) ending status_is numbered told
                 (line told);
@@ -304,13 +256,13 @@ module _ {t : choice.Table} {m : Map} {b : Book} {requests : List Request} {end 
                 tight_z;
             within = λ calm room rests below. long_z room rests below;
             opened = λ calm settled has. record {
-              low = omega (arith, x.counts.kept_turn, (told_c settled).low);
-              first = λ none. x.counts.kept_turn ∙ (told_c settled).first (sym x.counts.kept_done ∙ none);
+              low = omega (arith, x.counts.kept_turn, (told_c h settled).low);
+              first = λ none. x.counts.kept_turn ∙ (told_c h settled).first (sym x.counts.kept_done ∙ none);
             };
             crash = λ room rests below. record {
-              crash = failed.crash_z op lawful_old lawful_a o left_before asks told_source ran few
+              crash = while_served.crash_z h
                   bad x 9 refl room rests below;
-              since = λ mounted. failed.since_z op lawful_old lawful_a o left_before asks told_source ran few
+              since = λ mounted. while_served.since_z h
                   bad x 9 refl rests below;
               safe = λ is. safe_z rests;
             };

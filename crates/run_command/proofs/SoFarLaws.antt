@@ -33,37 +33,67 @@ use Rattle.served_file.proofs.ShownLaws.{first_kept, some_weaker}
 use Rattle.run_command.proofs.RunLists.{LastIs, Splits, last_is, splits}
 use Rattle.served_file.proofs.OpeningLaws.{Opened, found_numbered, requests_low}
 
-module _ {t : choice.Table} {m : Map} {b : Book} {requests : List Request} {end : List ℕ} {old a : State}
-    {s : StoreValue} (op : Opened t m b old a s) (lawful_old : IsLawful old) (lawful_a : IsLawful a)
-    (o : OpensBy CLASSES SIZE_MAX t old.file m b)
-    (left_before : old.turn < last → RestsOnFound t old
-    → LeftOnly old old.turn (IsFoundImage CLASSES t m b (length old.file)))
-    {from i1 : SourceState} {out o1 : SinkState} {s1 : Sitting} {c : State} {n : ℕ}
-    (asks : Asks from.left requests end) (told_source : IsTrue from.tells)
-    (ran : HasRun CLASSES (new_sitting s a.turn) s1 a c from i1 out o1 n) (few : n ≤ budget) where
-  abbrev pub u : SuperBlock
-  u = s.in_use.block
+-- A session that has run so far over a file that opens: from the states `old` and `a`, before the call and once
+-- the file was opened, to `c`; from the source `from` and the sink `out` to `i1` and `o1`.
+pub record SoFar : Type 1 where
+  pub t : choice.Table
+  pub m : Map
+  pub b : Book
+  pub requests : List Request
+  pub end : List ℕ
+  pub old : State
+  pub a : State
+  pub s : StoreValue
+  pub op : Opened t m b old a s
+  pub lawful_a : IsLawful a
+  pub left_before : old.turn < last → RestsOnFound t old
+      → LeftOnly old old.turn (IsFoundImage CLASSES t m b (length old.file))
+  pub from : SourceState
+  pub i1 : SourceState
+  pub out : SinkState
+  pub o1 : SinkState
+  pub s1 : Sitting
+  pub c : State
+  pub n : ℕ
+  pub asks : Asks from.left requests end
+  pub told_source : IsTrue from.tells
+  pub ran : HasRun CLASSES (new_sitting s a.turn) s1 a c from i1 out o1 n
+  pub few : n ≤ budget
 
-  abbrev pub limits : Limits
-  limits = limits_with u
+-- The same, in the words of the headline: the superblock, the limits, the state at the start, the states after
+-- the requests and the last of them, and which requests were answered.
+pub record View (h : SoFar) : Type 0 where
+  pub u : SuperBlock
+  pub limits : Limits
+  pub start : store.State
+  pub states : List store.State
+  pub last_one : store.State
+  pub split : Splits h.requests h.ran.requests (unread h.s1 h.i1) h.end
 
-  abbrev pub start : store.State
-  start = state_of s a.file
+abbrev pub view : (h : SoFar) → View h
+view h = record {
+  u = h.s.in_use.block;
+  limits = limits_with h.s.in_use.block;
+  start = state_of h.s h.a.file;
+  states = h.ran.states;
+  last_one = last_state (state_of h.s h.a.file) h.ran.states;
+  split = splits h.ran.requests h.requests h.from.left (unread h.s1 h.i1) h.end h.ran.texts h.asks
+      (h.ran.whole h.told_source);
+}
 
-  abbrev pub states : List store.State
-  states = ran.states
+module _ (h : SoFar) where
+  open h use {t, m, b, requests, old, a, s, op, lawful_a, left_before, s1, c, n, ran, few}
 
-  abbrev pub last_one : store.State
-  last_one = last_state start states
+  abbrev v : View h
+  v = view h
+
+  open v use {u, limits, start, states, last_one, split}
 
   pub newest : state_of s1.store c.file ≡ last_one
   newest = ran.newest op.told
 
   pub starts : Starts t m b start
   starts = record { state = op.state; sequence = op.sequence }
-
-  abbrev pub split : Splits requests ran.requests (unread s1 i1) end
-  split = splits ran.requests requests from.left (unread s1 i1) end ran.texts asks (ran.whole told_source)
 
   pub done_is : s1.done ≡ n
   done_is = omega (arith, ran.done, few)
@@ -99,7 +129,7 @@ module _ {t : choice.Table} {m : Map} {b : Book} {requests : List Request} {end 
   run_shows image is = elim (first_kept image limits start ran.requests ran.replies states (ran.chain op.told)
       (some_weaker (IsStepImage CLASSES u.k (base_of s) image)
       (λ x y. run.OpensToKept CLASSES x image ⊎ run.OpensToKept CLASSES y image) start states
-      (λ x y h. h.opens) is))
+      (λ x y is. is.opens) is))
       as (λ _. OpensToKept start ran.replies states image) [
         | inl kept ↦ inl (kept_start image kept)
         | inr one ↦ inr one
@@ -180,7 +210,7 @@ module _ {t : choice.Table} {m : Map} {b : Book} {requests : List Request} {end 
   pub loose_run : (image : List ℕ) → IsRunImage CLASSES u.k (base_of s) start states image
       → IsWithinBounds u.k (base_of s) start states image
   loose_run image is = inr (some_weaker (IsStepImage CLASSES u.k (base_of s) image)
-      (λ x y. Loose u.k (length image - base_of s) x.map y.map) start states (λ x y h. h.loose) is)
+      (λ x y. Loose u.k (length image - base_of s) x.map y.map) start states (λ x y is. is.loose) is)
 
   pub long_c : LeavesRoom t → RestsOnFound t old → c.turn < last
       → IsLong u.k (base_of s) t (turn_opened t b old) start states old c

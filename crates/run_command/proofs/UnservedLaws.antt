@@ -21,7 +21,7 @@ use Rattle.store_core.specs.States as store
 use Rattle.store_core.specs.Opened.{IsFoundImage, LeavesRoom, RestsOnFound}
 use Rattle.ask_session.specs.Runs.{last_state}
 use Rattle.ask_session.proofs.RunLaws.{opens_with}
-use Rattle.run_command.specs.Headline.{HasMounted, HowFar, IsLong, NumbersLine, RunHolds, has_opened, is_whole, next_reply, next_saves, next_states, served_states}
+use Rattle.run_command.specs.Headline.{HasMounted, HowFar, IsLong, NumbersLine, RunHolds, has_opened, is_session, is_whole, next_reply, next_saves, next_states, served_states}
 use Rattle.served_file.proofs.OpeningLaws.{found_numbered, start_low}
 use Rattle.command_face.specs.declared.stop.StopReason.{StopReason}
 use Rattle.command_face.specs.declared.outcome.Outcome.{Outcome}
@@ -29,6 +29,22 @@ use Rattle.command_face.specs.Devices.{devices}
 
 pub never_true : IsTrue false → ⊥
 never_true is = let e : true ≡ false = sym is in absurd (cc)
+
+-- how far a call came that answered no request
+pub none_far : (status : ℕ) (requests : List Request) (end : List ℕ) (from rest : SourceState)
+    → is_session status ≡ true → status ≢ 0 → status ≢ 2 → status ≢ 9 → status ≢ 11
+    → (status ≡ 10 → rest ≡ from) → HowFar status 0 requests end from rest
+none_far status requests end from rest known done line sink limit memory = record {
+  known = known;
+  done = λ is. absurd (done is);
+  line = λ is. absurd (line is);
+  absent = λ _. refl;
+  disk = λ _. inr refl;
+  sink = λ is. absurd (sink is);
+  memory = λ is. (refl, memory is);
+  few = omega arith;
+  limit = (λ is. absurd (limit is), λ is. absurd (omega (arith, is)));
+}
 
 module _ {t : choice.Table} {m : Map} {b : Book} {old z : State}
     (u : SuperBlock) (start : store.State) (starts : Starts t m b start) (lawful : IsLawful z)

@@ -22,7 +22,7 @@ use Rattle.command_face.specs.Refusing.{stop_of}
 use Rattle.served_file.specs.Unserved.{NeverServed}
 use Rattle.command_face.specs.declared.stop.StopReason.{StopReason}
 use Rattle.command_face.specs.declared.stop.StopReason.TheVariants as stop
-use Rattle.run_command.specs.declared.run.Ended.{Ended}
+use Rattle.run_command.specs.declared.run.SessionEnd.{SessionEnd}
 use Rattle.command_face.specs.declared.outcome.Outcome.{Outcome}
 use Rattle.command_face.specs.declared.status.TheConstants.{DISK_FAILED, DONE, NO_FILE, NO_MEMORY, NO_STORE, SINK_FAILED, SOURCE_FAILED, TOO_MANY}
 
@@ -36,7 +36,7 @@ end_of ends.Sink done = Err stop.Sink
 end_of ends.Budget done = Err stop.Budget
 
 -- the end of a session, and its three numbers
-abbrev pub ended_as : End → Sitting → Ended
+abbrev pub ended_as : End → Sitting → SessionEnd
 ended_as end s = record {
   end = end_of end s.done;
   done = s.done;
@@ -45,68 +45,81 @@ ended_as end s = record {
 }
 
 -- no session was begun
-abbrev pub unserved : StopReason → ℕ → Ended
+abbrev pub unserved : StopReason → ℕ → SessionEnd
 unserved why turn = record { end = Err why; done = 0; kept_done = 0; kept_turn = turn }
 
 -- the file wasn't opened
-pub record IsUnopened (before now : State) (e : Ended) : Type 0 where
+pub record IsUnopened (before now : State) (e : SessionEnd) : Type 0 where
   pub fault : OpenFault
   pub opening : IsOpening CLASSES before now (Err fault)
   pub ended : e ≡ unserved (stop_of fault) now.turn
 
 -- it was opened, and there was no memory for a session
-pub record IsUnbegun (before now : State) (e : Ended) : Type 0 where
+pub record IsUnbegun (before now : State) (e : SessionEnd) : Type 0 where
   pub store : StoreValue
   pub opening : IsOpening CLASSES before now (Ok store)
   pub ended : e ≡ unserved stop.NoMemory now.turn
 
+-- how the devices of a session are seen
+pub record Seen (D I O : Type 0) : Type 1 where
+  pub disk : D → State
+  pub source : I → SourceState
+  pub sink : O → SinkState
+
+-- the devices themselves, before or after
+pub record Held (D I O : Type 0) : Type 0 where
+  pub disk : D
+  pub source : I
+  pub sink : O
+
+abbrev pub seen_by : {D I O : Type 0} → (D → State) → (I → SourceState) → (O → SinkState) → Seen D I O
+seen_by disk source sink = record { disk = disk; source = source; sink = sink }
+
+abbrev pub held : {D I O : Type 0} → D → I → O → Held D I O
+held disk source sink = record { disk = disk; source = source; sink = sink }
+
 -- It was opened, at `mid`, and a session of its store ran to its end.
-pub record HasSession {D I O : Type 0} (disk_of : D → State) (source_of : I → SourceState)
-    (sink_of : O → SinkState)
-    (before now : D) (from rest : I) (out after : O) (e : Ended) : Type 0 where
+pub record HasSession {D I O : Type 0} (seen : Seen D I O) (before now : Held D I O) (e : SessionEnd)
+    : Type 0 where
   pub store : StoreValue
   pub mid : D
   pub new : Sitting
   pub end : End
-  pub opening : IsOpening CLASSES (disk_of before) (disk_of mid) (Ok store)
-  pub ran : EndsRun disk_of source_of sink_of CLASSES
-      (new_sitting store (disk_of mid).turn) new mid now from rest out
-      after end
+  pub opening : IsOpening CLASSES (seen.disk before.disk) (seen.disk mid) (Ok store)
+  pub ran : EndsRun seen.disk seen.source seen.sink CLASSES (new_sitting store (seen.disk mid).turn) new
+      mid now.disk before.source now.source before.sink now.sink end
   pub sound : new.store.is_broken ≡ false → IsStore CLASSES new.store
   pub ended : e ≡ ended_as end new
 
 -- A session over an open file went so; where none was begun, no stream was called.
-abbrev pub Went : {D I O : Type 0} → (D → State) → (I → SourceState) → (O → SinkState) → D → D → I → I → O
-    → O → Ended
-    → Type 0
-Went disk_of source_of sink_of before now from rest out after e =
-    ((IsUnopened (disk_of before) (disk_of now) e ⊎ IsUnbegun (disk_of before) (disk_of now) e)
-    × (rest ≡ from) × (after ≡ out))
-    ⊎ HasSession disk_of source_of sink_of before now from rest out after e
+abbrev pub OpenRunSteps : {D I O : Type 0} → Seen D I O → Held D I O → Held D I O → SessionEnd → Type 0
+OpenRunSteps seen before now e =
+    ((IsUnopened (seen.disk before.disk) (seen.disk now.disk) e
+    ⊎ IsUnbegun (seen.disk before.disk) (seen.disk now.disk) e)
+    × (now.source ≡ before.source) × (now.sink ≡ before.sink))
+    ⊎ HasSession seen before now e
 
 -- The file wasn't mounted.
-pub record IsUnmounted (file : List ℕ) (before now : State) (e : Ended) : Type 0 where
+pub record IsUnmounted (file : List ℕ) (before now : State) (e : SessionEnd) : Type 0 where
   pub mount : AfterMount before now
   pub later : before.faults ≤ now.faults
   pub which : IsNotThere file before now (e ≡ unserved stop.Disk 0) (e ≡ unserved stop.NoFile 0)
 
 -- It was mounted, at `first`, and a session over it went so.
-pub record IsServed {D I O : Type 0} (disk_of : D → State) (source_of : I → SourceState)
-    (sink_of : O → SinkState)
-    (file : List ℕ) (before now : D) (from rest : I) (out after : O) (e : Ended) : Type 0 where
+pub record IsServed {D I O : Type 0} (seen : Seen D I O) (file : List ℕ) (before now : Held D I O)
+    (e : SessionEnd) : Type 0 where
   pub first : D
-  pub mount : AfterMount (disk_of before) (disk_of first)
-  pub there : (disk_of first).last_mount ≡ mounted file false There
-  pub calm : (disk_of first).faults ≡ (disk_of before).faults
-  pub went : Went disk_of source_of sink_of first now from rest out after e
+  pub mount : AfterMount (seen.disk before.disk) (seen.disk first)
+  pub there : (seen.disk first).last_mount ≡ mounted file false There
+  pub calm : (seen.disk first).faults ≡ (seen.disk before.disk).faults
+  pub steps : OpenRunSteps seen (held first before.source before.sink) now e
 
 -- A command that serves requests went so; where its file wasn't mounted, no stream was called.
-abbrev pub RunSteps : {D I O : Type 0} → (D → State) → (I → SourceState) → (O → SinkState) → List ℕ → D → D
-    → I → I → O
-    → O → Ended → Type 0
-RunSteps disk_of source_of sink_of file before now from rest out after e =
-    (IsUnmounted file (disk_of before) (disk_of now) e × (rest ≡ from) × (after ≡ out))
-    ⊎ IsServed disk_of source_of sink_of file before now from rest out after e
+abbrev pub RunSteps : {D I O : Type 0} → Seen D I O → List ℕ → Held D I O → Held D I O → SessionEnd → Type 0
+RunSteps seen file before now e =
+    (IsUnmounted file (seen.disk before.disk) (seen.disk now.disk) e
+    × (now.source ≡ before.source) × (now.sink ≡ before.sink))
+    ⊎ IsServed seen file before now e
 
 -- What the command that serves requests does to its devices. No count falls, and a device's own fault comes
 -- only where its count rose; where all is done the sink's didn't. What is told stays told.
@@ -150,7 +163,7 @@ pub record RunAlways (o : Outcome) (old new : Devices) (from rest : SourceState)
   pub line_alone : IsTrue old.sink.tells → IsUnserved o.status → PutsLine o.status old.sink new.sink
 
 -- the status and the numbers of an end
-abbrev pub outcome_of : Ended → Outcome
+abbrev pub outcome_of : SessionEnd → Outcome
 outcome_of e = record {
   status = status_at e.end;
   done = e.done;

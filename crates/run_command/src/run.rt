@@ -9,7 +9,8 @@ ghost use Rattle.served_file.specs.Unserved.{IsRefusedService, NeverServed};
 ghost use Rattle.run_command.specs.Headline.{RunPromise, is_session};
 ghost use Rattle.command_face.specs.Outcomes.{Ends};
 ghost use Rattle.command_face.specs.Devices.{devices};
-ghost use Rattle.run_command.specs.Sessions.{RunAlways, Went, RunSteps, end_of, ended_as, unserved};
+ghost use Rattle.run_command.specs.Sessions.{RunAlways, OpenRunSteps, RunSteps, end_of, ended_as, unserved};
+ghost use Rattle.run_command.specs.Sessions.{held, seen_by};
 
 use ask_session::{End, Session};
 use command_face::{DISK_FAILED, NO_FILE, NO_STORE, Outcome, StopReason, finish, mount_there, stop_of};
@@ -20,7 +21,7 @@ use store_core::Store;
 
 /// How a command ended that serves requests, but for the fault line, and its three numbers.
 #[derive(Clone, Copy)]
-pub struct Ended {
+pub struct SessionEnd {
     pub end: Result<(), StopReason>,
     pub done: u64,
     pub kept_done: u64,
@@ -66,10 +67,10 @@ fn serve_file<B: Bay, I: Source, O: Sink>(
     file: &str,
     input: &mut I,
     output: &mut O,
-) -> Ended
+) -> SessionEnd
     requires { (B.state bay.old).last_mount ≡ None }
-    ensures { RunSteps B.state I.state O.state file.now bay.old bay.new input.old input.new output.old
-        output.new result }
+    ensures { RunSteps (seen_by B.state I.state O.state) file.now (held bay.old input.old output.old)
+        (held bay.new input.new output.new) result }
 {
     match mount_there(bay, file) {
         Ok(()) => serve_from(alloc, bay, input, output),
@@ -83,10 +84,10 @@ fn serve_from<D: Disk, I: Source, O: Sink>(
     disk: &mut D,
     input: &mut I,
     output: &mut O,
-) -> Ended
+) -> SessionEnd
     requires ready { IsTrue (D.state disk.old).is_ready }
-    ensures { Went D.state I.state O.state disk.old disk.new input.old input.new output.old output.new
-        result }
+    ensures { OpenRunSteps (seen_by D.state I.state O.state) (held disk.old input.old output.old)
+        (held disk.new input.new output.new) result }
 {
     let opened = Store::open(alloc, disk);
     let turn = disk.turns();
@@ -104,13 +105,14 @@ fn serve_store<D: Disk, I: Source, O: Sink>(
     disk: &mut D,
     input: &mut I,
     output: &mut O,
-) -> Ended
+) -> SessionEnd
     requires ready { IsTrue (D.state disk.old).is_ready }
     requires over { IsConnected CLASSES store (D.state disk.old) }
     requires whole { store.is_broken ≡ false }
     requires turn { turn ≡ (D.state disk.old).turn }
     ensures { (first : D) → IsOpening CLASSES (D.state first) (D.state disk.old) (Ok store)
-        → Went D.state I.state O.state first disk.new input.old input.new output.old output.new result }
+        → OpenRunSteps (seen_by D.state I.state O.state) (held first input.old output.old)
+            (held disk.new input.new output.new) result }
 {
     match Session::new(alloc, store, turn) {
         Ok(mut session) => {
@@ -122,10 +124,10 @@ fn serve_store<D: Disk, I: Source, O: Sink>(
 }
 
 /// No session was begun.
-fn unserved(why: StopReason, turn: u64) -> Ended
+fn unserved(why: StopReason, turn: u64) -> SessionEnd
     ensures { result ≡ unserved why turn }
 {
-    Ended {
+    SessionEnd {
         end: Err(why),
         done: 0,
         kept_done: 0,
@@ -134,7 +136,7 @@ fn unserved(why: StopReason, turn: u64) -> Ended
 }
 
 /// The end of a session, and its three numbers.
-fn ended_as(end: End, session: Session<CLASSES>) -> Ended
+fn ended_as(end: End, session: Session<CLASSES>) -> SessionEnd
     ensures ended { result ≡ ended_as end session }
     ensures sound { session.store.is_broken ≡ false → IsStore CLASSES session.store }
 {
@@ -143,7 +145,7 @@ fn ended_as(end: End, session: Session<CLASSES>) -> Ended
     let kept_turn = session.kept_turn();
     let store = session.into_store();
     let _ = store.is_broken();
-    Ended {
+    SessionEnd {
         end: end_of(end, done),
         done,
         kept_done,

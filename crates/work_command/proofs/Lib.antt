@@ -1,6 +1,6 @@
 mod RefusalLaws
 mod WorkLaws
-mod DoingLemmas
-mod DidLaws
+mod StepsLemmas
+mod StepsLaws
 mod SummaryLaws
 mod WorkingLaws

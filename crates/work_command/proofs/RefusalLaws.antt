@@ -3,25 +3,27 @@ use Rattle.std.specs.Prelude.{◌≡◌, ℕ, List, Result, Ok, Err, OnErr, IsTr
 use Rattle.std.proofs.Common.{arith, ap, sym, ◌∙◌, inl, inr}
 use Rattle.disk_face.specs.States.{State}
 use Rattle.disk_face.specs.Streams.{SinkState}
-use Rattle.work_command.specs.Doing.{Did, WorkSteps}
+use Rattle.work_command.specs.Steps.{OpenWorkSteps, WorkSteps}
 use Rattle.served_file.specs.Unserved.{NeverServed}
 use Rattle.command_face.specs.Outcomes.{status_at}
 use Rattle.command_face.specs.declared.stop.StopReason.{StopReason}
 use Rattle.command_face.specs.declared.stop.StopReason.TheVariants as stop
 use Rattle.served_file.proofs.RefusedLaws.{never_mounted}
+use Rattle.command_face.specs.Devices.{devices}
 
 module _ {D : Type 0} (disk_of : D → State) (file : List ℕ) (number count : ℕ) (old z : State)
     (out put : SinkState) (end : Result (Unit {0}) StopReason) (told : IsTrue old.tells)
     (four : status_at end ≡ 4) where
-  pub never_did : WorkSteps disk_of file number count old z out put end
+  pub never_worked : WorkSteps disk_of file number count (devices old out) (devices z put) end
       → NeverServed old.file
-  never_did (inl (is, same)) = elim is.which as (λ _. NeverServed old.file) [
+  never_worked (inl (is, same)) = elim is.which as (λ _. NeverServed old.file) [
     | inl failed ↦ absurd (omega (arith, four, ap status_at failed.0))
     | inr gone ↦ absurd (omega (arith, four, ap status_at gone.0))
   ]
-  never_did (inr x) = by x.did
+  never_worked (inr x) = by x.steps
     where
-      by : Did disk_of number count (disk_of x.first) z out put end → NeverServed old.file
+      by : OpenWorkSteps disk_of number count (devices (disk_of x.first) out) (devices z put) end →
+          NeverServed old.file
       by (inl (inl is, same)) = never_mounted old (disk_of x.first) z is.fault x.mount is.opening told
           (sym (ap status_at is.ended) ∙ four)
       by (inl (inr (inl is), same)) = absurd (omega (arith, four, ap status_at is.ended))

@@ -29,7 +29,7 @@ use Rattle.work_maker.specs.Jobs.{jobs}
 use Rattle.work_maker.proofs.ListLaws.{how_many}
 use Rattle.work_session.specs.Works.{ArePaidLines, HasDone, HasStopped, IsJobImage}
 use Rattle.work_session.specs.declared.summary.Summary.{Summary}
-use Rattle.work_command.specs.Doing.{jobs_of}
+use Rattle.work_command.specs.Steps.{jobs_of}
 use Rattle.served_file.specs.Served.{EndsTight, IsNextStart, OpensTo, OpensToBeing, OpensToKept, Starts, limits_with, most_left, turn_opened, found_with}
 use Rattle.command_face.specs.Outcomes.{PutsLast}
 use Rattle.work_command.specs.Summaries.{summary_text}

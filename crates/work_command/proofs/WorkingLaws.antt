@@ -19,7 +19,7 @@ use Rattle.store_core.specs.Opened.{IsFoundImage, IsOpening, LeavesRoom, RestsOn
 use Rattle.reopen.specs.declared.fault.OpenFault.{OpenFault}
 use Rattle.reopen.specs.declared.fault.OpenFault.TheVariants as opening
 use Rattle.store_core.specs.Plain.{IsPlain}
-use Rattle.work_command.specs.Doing.{Did, WorkSteps, IsAllDone, IsNotBegun, IsRefusal, IsStopped}
+use Rattle.work_command.specs.Steps.{OpenWorkSteps, WorkSteps, IsAllDone, IsNotBegun, IsRefusal, IsStopped}
 use Rattle.command_face.specs.Refusing.{stop_of}
 use Rattle.served_file.specs.Served.{IsNextStart, Starts, found_with}
 use Rattle.command_face.specs.Outcomes.{PutsLast, line_at, status_at, status_of}
@@ -138,7 +138,8 @@ module _ (t : choice.Table) (m : Map) (b : Book) (old : State) (lawful : IsLawfu
 
       -- ---- all jobs were done
 
-      summed : IsAllDone disk_of number count first z out put end → PutsEnd end → Works (status_at end)
+      summed : IsAllDone disk_of number count (devices first out) (devices z put) end → PutsEnd end → Works
+          (status_at end)
       summed x line = by end refl x.only
         where
           op : Opened t m b old (disk_of x.mid) x.store
@@ -162,7 +163,7 @@ module _ (t : choice.Table) (m : Map) (b : Book) (old : State) (lawful : IsLawfu
   -- ---- all of them
 
   pub works : (file : List ℕ) (end : Result (Unit {0}) StopReason)
-      → WorkSteps disk_of file number count old z out put end
+      → WorkSteps disk_of file number count (devices old out) (devices z put) end
       → PutsEnd end
       → Works (status_at end)
   works c end (inl (is, same)) line = elim is.which as (λ _. Works (status_at end)) [
@@ -171,9 +172,10 @@ module _ (t : choice.Table) (m : Map) (b : Book) (old : State) (lawful : IsLawfu
     | inr gone ↦ subst (λ (x : Result (Unit {0}) StopReason). Works (status_at x)) (sym gone.0)
         (absent is.mount)
   ]
-  works c end (inr x) line = by x.did
+  works c end (inr x) line = by x.steps
     where
-      by : Did disk_of number count (disk_of x.first) z out put end → Works (status_at end)
+      by : OpenWorkSteps disk_of number count (devices (disk_of x.first) out) (devices z put) end → Works
+          (status_at end)
       by (inl (inl is, same)) = refusal (disk_of x.first) x.mount x.calm end is
       by (inl (inr (inl is), same)) = not_begun (disk_of x.first) x.mount x.calm end is
       by (inl (inr (inr is), same)) = in_job (disk_of x.first) x.mount x.calm end is

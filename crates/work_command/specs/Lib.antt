@@ -1,3 +1,3 @@
 pub mod Summaries
 pub mod Working
-pub mod Doing
+pub mod Steps

@@ -4,7 +4,7 @@ ghost use Rattle.size_class.specs.declared.TheConstants.{CLASSES};
 ghost use Rattle.store_core.specs.Connection.{IsConnected};
 ghost use Rattle.store_core.specs.Opened.{IsFresh, IsOpening};
 ghost use Rattle.command_face.specs.Mounting.{IsMounted};
-ghost use Rattle.work_command.specs.Doing.{Did, WorkSteps};
+ghost use Rattle.work_command.specs.Steps.{OpenWorkSteps, WorkSteps};
 ghost use Rattle.served_file.specs.Unserved.{IsRefusedService, NeverServed};
 ghost use Rattle.command_face.specs.Outcomes.{Ends};
 ghost use Rattle.command_face.specs.Devices.{devices};
@@ -57,8 +57,8 @@ fn work_over<B: Bay, O: Sink>(
     requires none { (B.state bay.old).last_mount ≡ None }
     requires least { 1 ≤ count }
     requires most { count ≤ 1000000 }
-    ensures { WorkSteps B.state file.now number count (B.state bay.old) (B.state bay.new)
-        (O.state output.old) (O.state output.new) result }
+    ensures { WorkSteps B.state file.now number count (devices (B.state bay.old) (O.state output.old))
+        (devices (B.state bay.new) (O.state output.new)) result }
 {
     match mount_there(bay, file) {
         Ok(()) => work_from(alloc, bay, number, count, output),
@@ -77,8 +77,8 @@ fn work_from<D: Disk, O: Sink>(
     requires ready { IsTrue (D.state disk.old).is_ready }
     requires least { 1 ≤ count }
     requires most { count ≤ 1000000 }
-    ensures { Did D.state number count (D.state disk.old) (D.state disk.new) (O.state output.old)
-        (O.state output.new) result }
+    ensures { OpenWorkSteps D.state number count (devices (D.state disk.old) (O.state output.old))
+        (devices (D.state disk.new) (O.state output.new)) result }
 {
     match Store::open(alloc, disk) {
         Ok(store) => work_store(alloc, store, disk, number, count, output),
@@ -101,8 +101,8 @@ fn work_store<D: Disk, O: Sink>(
     requires least { 1 ≤ count }
     requires most { count ≤ 1000000 }
     ensures { (first : D) → IsOpening CLASSES (D.state first) (D.state disk.old) (Ok store)
-        → Did D.state number count (D.state first) (D.state disk.new) (O.state output.old)
-        (O.state output.new) result }
+        → OpenWorkSteps D.state number count (devices (D.state first) (O.state output.old))
+            (devices (D.state disk.new) (O.state output.new)) result }
 {
     match do_work(alloc, store, disk, number, count) {
         Ok(summary) => put_whole(output, summary_text(&summary).as_slice()),

@@ -24,26 +24,16 @@ returns-in-Format g c =
     let input = c.args.input.now ≡ c.args.input.now in
     let command = format c.in-Format.file.now c.in-Format.k c.in-Format.names in
     let layer = formatting g.O.Sink.state disk new out put bay c.format_in.result c.in-Format.file.now
-    c.in-Format.k c.in-Format.names e.words e.memory e.mounted e.answers e.nothing_put e.plain e.formats
+    c.in-Format.k c.in-Format.names e.never.0 e.never.1 e.mounted e.answers e.nothing_put e.plain e.formats
     e.silent e.keeps in
     does_as (ap command_of c.in-Format.is)
     (plain_does g.O.Sink.state command refl disk new out put (g.O.Sink.state c.finish.new.output) from from
     bay input refl c.format_in.result c.finish.result f.status f.line f.told f.later f.calm layer)
 
-pub format_in-requires-clause-divisor : goal.format_in-requires-clause-divisor
-format_in-requires-clause-divisor g c =
+pub format_in-requires-clause-sizes : goal.format_in-requires-clause-sizes
+format_in-requires-clause-sizes g c =
     let valid = subst IsCommand (ap command_of c.in-Format.is) c.requires.valid in
-    (valid.1, valid.2)
-
-pub format_in-requires-clause-low : goal.format_in-requires-clause-low
-format_in-requires-clause-low g c =
-    let valid = subst IsCommand (ap command_of c.in-Format.is) c.requires.valid in
-    valid.3
-
-pub format_in-requires-clause-high : goal.format_in-requires-clause-high
-format_in-requires-clause-high g c =
-    let valid = subst IsCommand (ap command_of c.in-Format.is) c.requires.valid in
-    valid.4
+    (valid.1, valid.2, valid.3, valid.4)
 
 pub returns-in-Get : goal.returns-in-Get
 returns-in-Get g c =

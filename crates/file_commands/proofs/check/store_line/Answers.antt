@@ -1,4 +1,4 @@
-use Rattle.std.proofs.Common.{◌≡◌, ◌∙◌, IsTrue, Ok, ap, arith, inr, length, rules, subst, sym}
+use Rattle.std.proofs.Common.{◌≡◌, ◌∙◌, IsTrue, Ok, ap, inr, length, rules, subst, sym}
 use Rattle.std.specs.Prelude.{None}
 use Rattle.reopen.specs.Loads.{table_seen}
 use Rattle.command_face.specs.Refusing.{IsRefused}

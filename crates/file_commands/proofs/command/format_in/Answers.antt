@@ -6,8 +6,7 @@ use Rattle.file_commands.proofs.command.format_in.Goals as goal
 
 pub returns-in-Ok-There : goal.returns-in-Ok-There
 returns-in-Ok-There g c = record {
-  words = search rules;
-  memory = search rules;
+  never = (search rules, search rules);
   mounted = search rules;
   answers = search rules;
   nothing_put = search rules;

@@ -12,7 +12,7 @@ use Rattle.run_command.proofs.CountLaws.{has_counted}
 use Rattle.run_command.proofs.EndLaws.{ends_after, keeps_after, line_after, only_line}
 use Rattle.run_command.proofs.HeadlineLaws.{headline}
 use Rattle.run_command.proofs.RefusalLaws.{never_ran}
-use Rattle.run_command.proofs.WentLaws.{known, refused_by, untouched, whole}
+use Rattle.run_command.proofs.StepsLaws.{known, refused_by, untouched, whole}
 use Rattle.run_command.proofs.run.run_file.Goals as goal
 
 pub returns-clause-headline : goal.returns-clause-headline

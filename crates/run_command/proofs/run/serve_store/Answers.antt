@@ -1,9 +1,9 @@
-use Rattle.run_command.proofs.SessionLemmas.{went_session, went_unbegun}
+use Rattle.run_command.proofs.StepsLemmas.{steps_session, steps_unbegun}
 use Rattle.run_command.proofs.run.serve_store.Goals as goal
 
 pub returns-in-Ok : goal.returns-in-Ok
 returns-in-Ok g c = λ first opening.
-    went_session g.D.Disk.state g.I.Source.state g.O.Sink.state first c.args.disk.now c.run-end.new.disk
+    steps_session g.D.Disk.state g.I.Source.state g.O.Sink.state first c.args.disk.now c.run-end.new.disk
     c.args.input.now c.run-end.new.input c.args.output.now c.run-end.new.output c.args.store c.in-Ok.session
     c.run-end.new.self c.run-end.result c.args.turn c.ended_as.result opening
     c.in-Ok.ensures.ok c.requires.turn
@@ -11,5 +11,5 @@ returns-in-Ok g c = λ first opening.
 
 pub returns : goal.returns
 returns g c = λ first opening.
-    went_unbegun g.D.Disk.state g.I.Source.state g.O.Sink.state first c.args.disk.now c.args.input.now
+    steps_unbegun g.D.Disk.state g.I.Source.state g.O.Sink.state first c.args.disk.now c.args.input.now
     c.args.output.now c.args.store c.args.turn c.unserved.result opening c.requires.turn c.unserved.ensures

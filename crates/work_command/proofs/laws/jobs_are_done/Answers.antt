@@ -1,4 +1,4 @@
-use Rattle.work_command.proofs.DidLaws.{jobs_done}
+use Rattle.work_command.proofs.StepsLaws.{jobs_done}
 use Rattle.work_command.proofs.laws.jobs_are_done.Goals as goal
 
 pub returns : goal.returns

@@ -7,9 +7,9 @@ use Rattle.work_command.specs.Working.{WorkHolds, WorkAlways}
 use Rattle.command_face.specs.declared.outcome.Outcome.{Outcome}
 use Rattle.command_face.specs.Devices.{devices}
 use Rattle.served_file.specs.Served.{found_with}
-use Rattle.work_command.proofs.DidLaws.{refused_did, whole}
+use Rattle.work_command.proofs.StepsLaws.{refused_work, whole}
 use Rattle.work_command.proofs.SummaryLaws.{ends_by_line, keeps_line, line_only, summary_of}
-use Rattle.work_command.proofs.RefusalLaws.{never_did}
+use Rattle.work_command.proofs.RefusalLaws.{never_worked}
 use Rattle.work_command.proofs.WorkingLaws.{works}
 use Rattle.work_command.proofs.work.work_file.Goals as goal
 
@@ -38,7 +38,7 @@ returns-clause-refused g c = λ told never.
     let after = g.O.Sink.state c.finish.new.output in
     let status : c.finish.result.status ≡ status_at c.work_over-end.result =
     ap (λ (x : Outcome). x.status) c.finish.ensures.status in
-    let refused = refused_did g.B.Disk.state c.args.file.now c.args.number c.args.count old new out put
+    let refused = refused_work g.B.Disk.state c.args.file.now c.args.number c.args.count old new out put
     c.work_over-end.result told
     never c.work_over-end.ensures in
     ends_by_line (IsRefusedService old.file) out put after c.work_over-end.result c.finish.result.status
@@ -76,7 +76,8 @@ returns-clause-keeps g c =
       keeps = keeps_line old new out put after end w.keeps c.finish.ensures.later c.finish.ensures.calm
           c.finish.ensures.told;
       untouched = w.untouched;
-      refused = λ told four. never_did g.B.Disk.state c.args.file.now c.args.number c.args.count old new out
+      refused = λ told four. never_worked g.B.Disk.state c.args.file.now c.args.number c.args.count old new
+          out
           put end told four c.work_over-end.ensures;
       summed = summary_of g.B.Disk.state c.args.number c.args.count new out put after end
           c.finish.ensures.line c.work_over-end.ensures;

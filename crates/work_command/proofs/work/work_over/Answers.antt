@@ -1,5 +1,5 @@
 -- Where the file is there jobs are done over it, and else nothing is put.
-use Rattle.work_command.proofs.DoingLemmas.{steps_mounted, steps_unmounted}
+use Rattle.work_command.proofs.StepsLemmas.{steps_mounted, steps_unmounted}
 use Rattle.work_command.proofs.work.work_over.Goals as goal
 
 pub returns-in-Err : goal.returns-in-Err

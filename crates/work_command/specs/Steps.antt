@@ -3,7 +3,7 @@ use Rattle.std.specs.Prelude.{◌≡◌, ◌⊎◌, ℕ, ◌≤◌, List, false,
 use Rattle.disk_face.specs.Counts.{HasCause}
 use Rattle.disk_face.specs.Frames.{AfterMount}
 use Rattle.disk_face.specs.States.{State}
-use Rattle.disk_face.specs.Streams.{Puts, SinkState}
+use Rattle.disk_face.specs.Streams.{Puts}
 use Rattle.disk_face.specs.declared.bay.Mounted.TheVariants.{There}
 use Rattle.size_class.specs.declared.TheConstants.{CLASSES}
 use Rattle.map_model.specs.Requests.{Request}
@@ -13,6 +13,7 @@ use Rattle.reopen.specs.declared.fault.OpenFault.{OpenFault}
 use Rattle.work_maker.specs.Jobs.{jobs}
 use Rattle.work_session.specs.Works.{HasDone, HasStopped}
 use Rattle.work_session.specs.declared.summary.Summary.{Summary}
+use Rattle.command_face.specs.Devices.{Devices, devices}
 use Rattle.command_face.specs.Mounting.{IsNotThere, mounted}
 use Rattle.command_face.specs.Refusing.{stop_of}
 use Rattle.work_command.specs.Summaries.{summary_text}
@@ -45,26 +46,25 @@ pub record IsStopped {D : Type 0} (disk_of : D → State) (number count : ℕ) (
   pub ended : end ≡ Err stop.Disk
 
 -- It was opened, at `mid`, all jobs were done, and their summary was put, unless the sink failed.
-pub record IsAllDone {D : Type 0} (disk_of : D → State) (number count : ℕ) (before now : State)
-    (out after : SinkState) (end : Result (Unit {0}) StopReason) : Type 0 where
+pub record IsAllDone {D : Type 0} (disk_of : D → State) (number count : ℕ) (before now : Devices)
+    (end : Result (Unit {0}) StopReason) : Type 0 where
   pub store : StoreValue
   pub mid : D
-  pub opening : IsOpening CLASSES before (disk_of mid) (Ok store)
+  pub opening : IsOpening CLASSES before.disk (disk_of mid) (Ok store)
   pub summary : Summary
-  pub done : HasDone CLASSES store (jobs_of number count store) (disk_of mid) now summary
-  pub puts : IsTrue out.tells → Puts out.given after.given (summary_text summary) end
+  pub done : HasDone CLASSES store (jobs_of number count store) (disk_of mid) now.disk summary
+  pub puts : IsTrue before.sink.tells → Puts before.sink.given now.sink.given (summary_text summary) end
   pub only : OnErr end (end ≡ Err stop.Sink)
-  pub cause : HasCause out.faults after.faults end
-  pub told : after.tells ≡ out.tells
+  pub cause : HasCause before.sink.faults now.sink.faults end
+  pub told : now.sink.tells ≡ before.sink.tells
 
 -- The jobs over an open file went so; but for a summary nothing was put.
-abbrev pub Did : {D : Type 0} → (D → State) → ℕ → ℕ → State → State → SinkState → SinkState
-    → Result (Unit {0}) StopReason
-    → Type 0
-Did disk_of number count before now out after end =
-    ((IsRefusal before now end ⊎ IsNotBegun before now end ⊎ IsStopped disk_of number count before now end)
-    × (after ≡ out))
-    ⊎ IsAllDone disk_of number count before now out after end
+abbrev pub OpenWorkSteps : {D : Type 0} → (D → State) → ℕ → ℕ → Devices → Devices
+    → Result (Unit {0}) StopReason → Type 0
+OpenWorkSteps disk_of number count before now end =
+    ((IsRefusal before.disk now.disk end ⊎ IsNotBegun before.disk now.disk end
+    ⊎ IsStopped disk_of number count before.disk now.disk end) × (now.sink ≡ before.sink))
+    ⊎ IsAllDone disk_of number count before now end
 
 -- The file wasn't mounted.
 pub record IsNotMounted (file : List ℕ) (before now : State) (end : Result (Unit {0}) StopReason)
@@ -74,18 +74,17 @@ pub record IsNotMounted (file : List ℕ) (before now : State) (end : Result (Un
   pub which : IsNotThere file before now (end ≡ Err stop.Disk) (end ≡ Err stop.NoFile)
 
 -- It was mounted, at `first`, and the jobs over it went so.
-pub record IsMountedAndDid {D : Type 0} (disk_of : D → State) (file : List ℕ) (number count : ℕ)
-    (before now : State)
-    (out after : SinkState) (end : Result (Unit {0}) StopReason) : Type 0 where
+pub record IsWorked {D : Type 0} (disk_of : D → State) (file : List ℕ) (number count : ℕ)
+    (before now : Devices) (end : Result (Unit {0}) StopReason) : Type 0 where
   pub first : D
-  pub mount : AfterMount before (disk_of first)
+  pub mount : AfterMount before.disk (disk_of first)
   pub there : (disk_of first).last_mount ≡ mounted file false There
-  pub calm : (disk_of first).faults ≡ before.faults
-  pub did : Did disk_of number count (disk_of first) now out after end
+  pub calm : (disk_of first).faults ≡ before.disk.faults
+  pub steps : OpenWorkSteps disk_of number count (devices (disk_of first) before.sink) now end
 
 -- A command that does jobs went so; where its file wasn't mounted, nothing was put.
-abbrev pub WorkSteps : {D : Type 0} → (D → State) → List ℕ → ℕ → ℕ → State → State → SinkState → SinkState
+abbrev pub WorkSteps : {D : Type 0} → (D → State) → List ℕ → ℕ → ℕ → Devices → Devices
     → Result (Unit {0}) StopReason → Type 0
-WorkSteps disk_of file number count before now out after end =
-    (IsNotMounted file before now end × (after ≡ out))
-    ⊎ IsMountedAndDid disk_of file number count before now out after end
+WorkSteps disk_of file number count before now end =
+    (IsNotMounted file before.disk now.disk end × (now.sink ≡ before.sink))
+    ⊎ IsWorked disk_of file number count before now end

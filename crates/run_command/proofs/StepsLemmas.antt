@@ -12,28 +12,29 @@ use Rattle.store_core.specs.Stores.{IsStore}
 use Rattle.ask_session.specs.Sittings.{Sitting, new_sitting}
 use Rattle.ask_session.specs.Runs.{EndsRun}
 use Rattle.ask_session.specs.declared.ends.End.{End}
-use Rattle.run_command.specs.Sessions.{RunSteps, Went, ended_as, unserved}
+use Rattle.run_command.specs.Sessions.{RunSteps, OpenRunSteps, ended_as, unserved}
 use Rattle.command_face.specs.Mounting.{IsNotThere, mounted}
 use Rattle.command_face.specs.Refusing.{stop_of}
 use Rattle.command_face.specs.declared.stop.StopReason.{StopReason}
 use Rattle.command_face.specs.declared.stop.StopReason.TheVariants as stop
-use Rattle.run_command.specs.declared.run.Ended.{Ended}
+use Rattle.run_command.specs.declared.run.SessionEnd.{SessionEnd}
 use Rattle.reopen.specs.declared.fault.OpenFault.{OpenFault}
+use Rattle.run_command.specs.Sessions.{held, seen_by}
 
 -- a store that was opened is over its file
 pub connected_of : (a b : State) (s : StoreValue) → IsOpening CLASSES a b (Ok s) → IsConnected CLASSES s b
 connected_of a b s opening = λ whole told. opening.over (sym opening.frame.stays.told ∙ told)
 
 module _ {D I O : Type 0} (disk_of : D → State) (source_of : I → SourceState) (sink_of : O → SinkState) where
-  pub went_session : (first mid now : D) (from rest : I) (out after : O) (store : StoreValue)
+  pub steps_session : (first mid now : D) (from rest : I) (out after : O) (store : StoreValue)
       (s new : Sitting)
       (end : End)
-      (turn : ℕ) (e : Ended) → IsOpening CLASSES (disk_of first) (disk_of mid) (Ok store)
+      (turn : ℕ) (e : SessionEnd) → IsOpening CLASSES (disk_of first) (disk_of mid) (Ok store)
       → s ≡ new_sitting store turn → turn ≡ (disk_of mid).turn
       → EndsRun disk_of source_of sink_of CLASSES s new mid now from rest out after end
       → (new.store.is_broken ≡ false → IsStore CLASSES new.store) → e ≡ ended_as end new
-      → Went disk_of source_of sink_of first now from rest out after e
-  went_session first mid now from rest out after store s new end turn e opening is at ran sound ended = inr
+      → OpenRunSteps (seen_by disk_of source_of sink_of) (held first from out) (held now rest after) e
+  steps_session first mid now from rest out after store s new end turn e opening is at ran sound ended = inr
       (record {
         store = store;
         mid = mid;
@@ -47,10 +48,11 @@ module _ {D I O : Type 0} (disk_of : D → State) (source_of : I → SourceState
         ended = ended;
       })
 
-  pub went_unbegun : (first now : D) (from : I) (out : O) (store : StoreValue) (turn : ℕ) (e : Ended)
+  pub steps_unbegun : (first now : D) (from : I) (out : O) (store : StoreValue) (turn : ℕ) (e : SessionEnd)
       → IsOpening CLASSES (disk_of first) (disk_of now) (Ok store) → turn ≡ (disk_of now).turn
-      → e ≡ unserved stop.NoMemory turn → Went disk_of source_of sink_of first now from from out out e
-  went_unbegun first now from out store turn e opening at is = inl (
+      → e ≡ unserved stop.NoMemory turn → OpenRunSteps (seen_by disk_of source_of sink_of)
+          (held first from out) (held now from out) e
+  steps_unbegun first now from out store turn e opening at is = inl (
     inr (record {
       store = store;
       opening = opening;
@@ -60,10 +62,11 @@ module _ {D I O : Type 0} (disk_of : D → State) (source_of : I → SourceState
     refl,
   )
 
-  pub went_unopened : (first now : D) (from : I) (out : O) (why : OpenFault) (turn : ℕ) (e : Ended)
+  pub steps_unopened : (first now : D) (from : I) (out : O) (why : OpenFault) (turn : ℕ) (e : SessionEnd)
       → IsOpening CLASSES (disk_of first) (disk_of now) (Err why) → turn ≡ (disk_of now).turn
-      → e ≡ unserved (stop_of why) turn → Went disk_of source_of sink_of first now from from out out e
-  went_unopened first now from out why turn e opening at is = inl (
+      → e ≡ unserved (stop_of why) turn → OpenRunSteps (seen_by disk_of source_of sink_of)
+          (held first from out) (held now from out) e
+  steps_unopened first now from out why turn e opening at is = inl (
     inl (record {
       fault = why;
       opening = opening;
@@ -73,10 +76,12 @@ module _ {D I O : Type 0} (disk_of : D → State) (source_of : I → SourceState
     refl,
   )
 
-  pub steps_unmounted : (file : List ℕ) (before now : D) (from : I) (out : O) (why : StopReason) (e : Ended)
+  pub steps_unmounted : (file : List ℕ) (before now : D) (from : I) (out : O) (why : StopReason)
+      (e : SessionEnd)
       → AfterMount (disk_of before) (disk_of now) → (disk_of before).faults ≤ (disk_of now).faults
       → IsNotThere file (disk_of before) (disk_of now) (why ≡ stop.Disk) (why ≡ stop.NoFile)
-      → e ≡ unserved why 0 → RunSteps disk_of source_of sink_of file before now from from out out e
+      → e ≡ unserved why 0 → RunSteps (seen_by disk_of source_of sink_of) file (held before from out)
+          (held now from out) e
   steps_unmounted file before now from out why e mount later is ended = inl (
     record {
       mount = mount;
@@ -91,11 +96,11 @@ module _ {D I O : Type 0} (disk_of : D → State) (source_of : I → SourceState
     refl,
   )
 
-  pub steps_served : (file : List ℕ) (before first now : D) (from rest : I) (out after : O) (e : Ended)
+  pub steps_served : (file : List ℕ) (before first now : D) (from rest : I) (out after : O) (e : SessionEnd)
       → AfterMount (disk_of before) (disk_of first)
       → (disk_of first).last_mount ≡ mounted file false There
       → (disk_of first).faults ≡ (disk_of before).faults
-      → Went disk_of source_of sink_of first now from rest out after e
-      → RunSteps disk_of source_of sink_of file before now from rest out after e
-  steps_served file before first now from rest out after e mount there calm went =
-      inr (record { first = first; mount = mount; there = there; calm = calm; went = went })
+      → OpenRunSteps (seen_by disk_of source_of sink_of) (held first from out) (held now rest after) e
+      → RunSteps (seen_by disk_of source_of sink_of) file (held before from out) (held now rest after) e
+  steps_served file before first now from rest out after e mount there calm steps =
+      inr (record { first = first; mount = mount; there = there; calm = calm; steps = steps })

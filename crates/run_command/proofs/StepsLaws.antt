@@ -20,13 +20,14 @@ use Rattle.run_command.specs.Headline.{HasMounted, IsKeptTurn, is_session}
 use Rattle.ask_session.specs.declared.ends.End.{End}
 use Rattle.ask_session.specs.declared.ends.End.TheVariants as ends
 use Rattle.command_face.specs.Outcomes.{EndsBy, status_at, status_of}
-use Rattle.run_command.specs.Sessions.{IsServed, IsUnserved, KeepsRun, Went, RunSteps, end_of, outcome_of, unserved}
+use Rattle.run_command.specs.Sessions.{IsServed, IsUnserved, KeepsRun, OpenRunSteps, RunSteps, end_of, outcome_of, unserved}
 use Rattle.command_face.specs.declared.stop.StopReason.TheVariants as stop
-use Rattle.run_command.specs.declared.run.Ended.{Ended}
+use Rattle.run_command.specs.declared.run.SessionEnd.{SessionEnd}
 use Rattle.run_command.proofs.ClauseLaws.{SessionKeeps, session_keeps}
 use Rattle.command_face.proofs.UnopenedLaws.{status_unopened, not_status, disk_by, mount_untouched}
 use Rattle.served_file.proofs.RefusedLaws.{opened_plain, refused_unchanged, refuses_service}
 use Rattle.command_face.specs.Devices.{devices}
+use Rattle.run_command.specs.Sessions.{held, seen_by}
 
 pub not_both : {A : Type 0} → false ≡ true → A
 not_both is = absurd (cc)
@@ -34,7 +35,7 @@ not_both is = absurd (cc)
 -- the devices, the mount, and the turn that is told
 pub record Whole (file : List ℕ) (old z : State) (from rest : SourceState) (out mid_out : SinkState)
     (same : Type 0)
-    (e : Ended) : Type 0 where
+    (e : SessionEnd) : Type 0 where
   pub keeps : KeepsRun (devices old out) (devices z mid_out) from rest (status_at e.end)
   pub mounted : IsMounted file false z.last_mount (status_at e.end ≡ 7) (status_at e.end ≡ 3)
   pub turn : IsKeptTurn (outcome_of e) (HasMounted z) old.turn z.turn
@@ -42,7 +43,7 @@ pub record Whole (file : List ℕ) (old z : State) (from rest : SourceState) (ou
 
 module _ (file : List ℕ) (old z : State) (from rest : SourceState) (out mid_out : SinkState)
     (same : Type 0) where
-  abbrev Is : Ended → Type 0
+  abbrev Is : SessionEnd → Type 0
   Is e = Whole file old z from rest out mid_out same e
 
   -- no stream was called
@@ -98,7 +99,7 @@ module _ (file : List ℕ) (old z : State) (from rest : SourceState) (out mid_ou
   }
 
   module _ (first : State) (mount : AfterMount old first) (calm : first.faults ≡ old.faults)
-      (there : first.last_mount ≡ mounted file false There) (e : Ended) where
+      (there : first.last_mount ≡ mounted file false There) (e : SessionEnd) where
     mounted_there : z.last_mount ≡ first.last_mount → status_at e.end ≢ 3
         → IsMounted file false z.last_mount (status_at e.end ≡ 7) (status_at e.end ≡ 3)
     mounted_there stays three = record {
@@ -172,7 +173,7 @@ module _ (file : List ℕ) (old z : State) (from rest : SourceState) (out mid_ou
         }
 
 module _ {D I O : Type 0} (disk_of : D → State) (source_of : I → SourceState) (sink_of : O → SinkState)
-    (file : List ℕ) (before now : D) (from rest : I) (out mid_out : O) (e : Ended) where
+    (file : List ℕ) (before now : D) (from rest : I) (out mid_out : O) (e : SessionEnd) where
   abbrev old : State
   old = disk_of before
 
@@ -182,20 +183,22 @@ module _ {D I O : Type 0} (disk_of : D → State) (source_of : I → SourceState
   abbrev Same : Type 0
   Same = (rest ≡ from) × (mid_out ≡ out)
 
-  abbrev All : Ended → Type 0
+  abbrev All : SessionEnd → Type 0
   All x = Whole file old z (source_of from) (source_of rest) (sink_of out) (sink_of mid_out) Same x
 
-  whole_served : IsServed disk_of source_of sink_of file before now from rest out mid_out e → All e
-  whole_served x = by x.went
+  whole_served : IsServed (seen_by disk_of source_of sink_of) file (held before from out)
+      (held now rest mid_out) e → All e
+  whole_served x = by x.steps
     where
-      by : Went disk_of source_of sink_of x.first now from rest out mid_out e → All e
+      by : OpenRunSteps (seen_by disk_of source_of sink_of) (held x.first from out) (held now rest mid_out) e
+          → All e
       by (inl (inl is, source, sink)) =
           let f = is.opening.frame in
-          let why : e.end ≡ Err (stop_of is.fault) = ap (λ (y : Ended). y.end) is.ended in
+          let why : e.end ≡ Err (stop_of is.fault) = ap (λ (y : SessionEnd). y.end) is.ended in
           let status : status_at e.end ≡ status_of (stop_of is.fault) = ap status_at why in
           unserved_there file old z (source_of from) (source_of rest) (sink_of out) (sink_of mid_out) Same
           (disk_of x.first) x.mount x.calm x.there e is.opening.cause.later f.no_turn_back f.stays.told
-          f.stays.images_told f.stays.same_mount (ap (λ (y : Ended). y.kept_turn) is.ended)
+          f.stays.images_told f.stays.same_mount (ap (λ (y : SessionEnd). y.kept_turn) is.ended)
           (λ seven. is.opening.cause.rose
           (ap (λ (y : OpenFault). Err y) (disk_by is.fault (sym status ∙ seven))))
           (λ n. not_status is.fault 0 (λ y. omega (arith, y)) (λ y. omega (arith, y)) (λ y. omega (arith, y))
@@ -209,10 +212,10 @@ module _ {D I O : Type 0} (disk_of : D → State) (source_of : I → SourceState
           (ap source_of source) (ap sink_of sink) (source, sink)
       by (inl (inr is, source, sink)) =
           let f = is.opening.frame in
-          let status : status_at e.end ≡ 10 = ap (λ (y : Ended). status_at y.end) is.ended in
+          let status : status_at e.end ≡ 10 = ap (λ (y : SessionEnd). status_at y.end) is.ended in
           unserved_there file old z (source_of from) (source_of rest) (sink_of out) (sink_of mid_out) Same
           (disk_of x.first) x.mount x.calm x.there e is.opening.cause.later f.no_turn_back f.stays.told
-          f.stays.images_told f.stays.same_mount (ap (λ (y : Ended). y.kept_turn) is.ended)
+          f.stays.images_told f.stays.same_mount (ap (λ (y : SessionEnd). y.kept_turn) is.ended)
           (λ n. absurd (omega (arith, n, status))) (λ n. omega (arith, n, status))
           (λ n. omega (arith, n, status))
           (λ n. omega (arith, n, status)) (λ n. omega (arith, n, status))
@@ -222,12 +225,13 @@ module _ {D I O : Type 0} (disk_of : D → State) (source_of : I → SourceState
           served file old z (source_of from) (source_of rest) (sink_of out) (sink_of mid_out) Same
           (disk_of x.first) x.mount x.calm x.there e (disk_of y.mid) y.opening.cause.later
           f.no_turn_back f.stays.told f.stays.images_told f.stays.same_mount
-          (subst (λ (w : Ended). SessionKeeps (disk_of y.mid) z (source_of from) (source_of rest)
+          (subst (λ (w : SessionEnd). SessionKeeps (disk_of y.mid) z (source_of from) (source_of rest)
           (sink_of out)
           (sink_of mid_out) w.end (disk_of y.mid).turn w.kept_turn) (sym y.ended)
           (session_keeps disk_of source_of sink_of y.mid now from rest out mid_out y.store y.new y.end y.ran))
 
-  pub whole : RunSteps disk_of source_of sink_of file before now from rest out mid_out e → All e
+  pub whole : RunSteps (seen_by disk_of source_of sink_of) file (held before from out) (held now rest mid_out)
+      e → All e
   whole (inl (is, source, sink)) = elim is.which as (λ _. All e) [
     | inl failed ↦ subst All (sym failed.0)
         (mount_failed file old z (source_of from) (source_of rest) (sink_of out)
@@ -242,25 +246,26 @@ module _ {D I O : Type 0} (disk_of : D → State) (source_of : I → SourceState
   -- ---- a file that is refused
 
   -- it stays as it is
-  pub untouched : RunSteps disk_of source_of sink_of file before now from rest out mid_out e
+  pub untouched : RunSteps (seen_by disk_of source_of sink_of) file (held before from out)
+      (held now rest mid_out) e
       → (status_at e.end ≡ 3) ⊎ (status_at e.end ≡ 4) → Untouched old z
   untouched (inl (is, source, sink)) status = mount_untouched old z is.mount is.later
-  untouched (inr x) status = by x.went status
+  untouched (inr x) status = by x.steps status
     where
-      by : Went disk_of source_of sink_of x.first now from rest out mid_out e
+      by : OpenRunSteps (seen_by disk_of source_of sink_of) (held x.first from out) (held now rest mid_out) e
           → (status_at e.end ≡ 3) ⊎ (status_at e.end ≡ 4) → Untouched old z
       by (inl (inl is, source, sink)) (inl three) = absurd (not_status is.fault 3 (λ y. omega (arith, y))
           (λ y. omega (arith, y)) (λ y. omega (arith, y))
-          (sym (ap (λ (y : Ended). status_at y.end) is.ended) ∙ three))
+          (sym (ap (λ (y : SessionEnd). status_at y.end) is.ended) ∙ three))
       by (inl (inl is, source, sink)) (inr four) = Untouched-then
           (mount_untouched old (disk_of x.first) x.mount (omega (arith, x.calm)))
           (refused_unchanged (disk_of x.first) z is.fault
-          (sym (ap (λ (y : Ended). status_at y.end) is.ended) ∙ four) is.opening.unchanged)
+          (sym (ap (λ (y : SessionEnd). status_at y.end) is.ended) ∙ four) is.opening.unchanged)
       by (inl (inr is, source, sink)) status =
-          let ten : status_at e.end ≡ 10 = ap (λ (y : Ended). status_at y.end) is.ended in
+          let ten : status_at e.end ≡ 10 = ap (λ (y : SessionEnd). status_at y.end) is.ended in
           absurd (elim status as (λ _. ⊥) [ inl n ↦ omega (arith, n, ten) | inr n ↦ omega (arith, n, ten) ])
       by (inr y) status =
-          let k = subst (λ (w : Ended). SessionKeeps (disk_of y.mid) z (source_of from) (source_of rest)
+          let k = subst (λ (w : SessionEnd). SessionKeeps (disk_of y.mid) z (source_of from) (source_of rest)
           (sink_of out) (sink_of mid_out) w.end (disk_of y.mid).turn w.kept_turn) (sym y.ended)
           (session_keeps disk_of source_of sink_of y.mid now from rest out mid_out y.store y.new y.end y.ran)
           in
@@ -268,17 +273,17 @@ module _ {D I O : Type 0} (disk_of : D → State) (source_of : I → SourceState
 
   -- a file that isn't served ends the command as its first refusal says, or as its version does
   pub refused_by : IsTrue old.tells → NeverServed old.file
-      → RunSteps disk_of source_of sink_of file before now from rest out mid_out e
+      → RunSteps (seen_by disk_of source_of sink_of) file (held before from out) (held now rest mid_out) e
       → EndsBy (IsRefusedService old.file) [] e.end × (mid_out ≡ out)
   refused_by told never (inl (is, source, sink)) = (
     elim is.which as (λ _. EndsBy (IsRefusedService old.file) [] e.end) [
-      | inl failed ↦ subst (λ (y : Ended). EndsBy (IsRefusedService old.file) [] y.end) (sym failed.0)
+      | inl failed ↦ subst (λ (y : SessionEnd). EndsBy (IsRefusedService old.file) [] y.end) (sym failed.0)
           (inr refl)
-      | inr gone ↦ subst (λ (y : Ended). EndsBy (IsRefusedService old.file) [] y.end) (sym gone.0) refl
+      | inr gone ↦ subst (λ (y : SessionEnd). EndsBy (IsRefusedService old.file) [] y.end) (sym gone.0) refl
     ],
     sink,
   )
-  refused_by told never (inr x) = by x.went
+  refused_by told never (inr x) = by x.steps
     where
       told_first : IsTrue (disk_of x.first).tells
       told_first = x.mount.told ∙ told
@@ -293,10 +298,10 @@ module _ {D I O : Type 0} (disk_of : D → State) (source_of : I → SourceState
           (subst (λ (f : List ℕ). Opens CLASSES SIZE_MAX f o.m o.b) same_file
           (record { table = o.table; opens = o.found }))
 
-      by : Went disk_of source_of sink_of x.first now from rest out mid_out e
+      by : OpenRunSteps (seen_by disk_of source_of sink_of) (held x.first from out) (held now rest mid_out) e
           → EndsBy (IsRefusedService old.file) [] e.end × (mid_out ≡ out)
       by (inl (inl is, source, sink)) = (
-        subst (λ (y : Ended). EndsBy (IsRefusedService old.file) [] y.end) (sym is.ended)
+        subst (λ (y : SessionEnd). EndsBy (IsRefusedService old.file) [] y.end) (sym is.ended)
             (refuses_service old.file is.fault (subst (λ (f : List ℕ). RefusesStore CLASSES f is.fault)
             same_file (is.opening.refused told_first))),
         sink,
@@ -322,17 +327,19 @@ module _ {D I O : Type 0} (disk_of : D → State) (source_of : I → SourceState
   known_unopened n (inr (inl seven)) = inl (ap is_session seven)
   known_unopened n (inr (inr ten)) = inl (ap is_session ten)
 
-  pub known : RunSteps disk_of source_of sink_of file before now from rest out mid_out e
+  pub known : RunSteps (seen_by disk_of source_of sink_of) file (held before from out) (held now rest mid_out)
+      e
       → IsKnown (status_at e.end)
   known (inl (is, source, sink)) = elim is.which as (λ _. IsKnown (status_at e.end)) [
-    | inl failed ↦ inl (ap (λ (y : Ended). is_session (status_at y.end)) failed.0)
-    | inr gone ↦ inl (ap (λ (y : Ended). is_session (status_at y.end)) gone.0)
+    | inl failed ↦ inl (ap (λ (y : SessionEnd). is_session (status_at y.end)) failed.0)
+    | inr gone ↦ inl (ap (λ (y : SessionEnd). is_session (status_at y.end)) gone.0)
   ]
-  known (inr x) = by x.went
+  known (inr x) = by x.steps
     where
-      by : Went disk_of source_of sink_of x.first now from rest out mid_out e → IsKnown (status_at e.end)
-      by (inl (inl is, source, sink)) = subst (λ (y : Ended). IsKnown (status_at y.end)) (sym is.ended)
+      by : OpenRunSteps (seen_by disk_of source_of sink_of) (held x.first from out) (held now rest mid_out) e
+          → IsKnown (status_at e.end)
+      by (inl (inl is, source, sink)) = subst (λ (y : SessionEnd). IsKnown (status_at y.end)) (sym is.ended)
           (known_unopened (status_of (stop_of is.fault)) (status_unopened is.fault))
-      by (inl (inr is, source, sink)) = inl (ap (λ (y : Ended). is_session (status_at y.end)) is.ended)
-      by (inr y) = subst (λ (w : Ended). IsKnown (status_at w.end)) (sym y.ended)
+      by (inl (inr is, source, sink)) = inl (ap (λ (y : SessionEnd). is_session (status_at y.end)) is.ended)
+      by (inr y) = subst (λ (w : SessionEnd). IsKnown (status_at w.end)) (sym y.ended)
           (known_session y.end y.new.done)

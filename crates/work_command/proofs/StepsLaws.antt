@@ -18,7 +18,7 @@ use Rattle.store_core.specs.Connection.{StoreValue}
 use Rattle.store_core.specs.Opened.{IsOpening, RefusesStore}
 use Rattle.reopen.specs.declared.fault.OpenFault.{OpenFault}
 use Rattle.command_face.specs.Mounting.{IsMounted, mounted}
-use Rattle.work_command.specs.Doing.{Did, WorkSteps, IsAllDone, IsNotBegun, IsRefusal, IsStopped}
+use Rattle.work_command.specs.Steps.{OpenWorkSteps, WorkSteps, IsAllDone, IsNotBegun, IsRefusal, IsStopped}
 use Rattle.command_face.specs.Refusing.{stop_of}
 use Rattle.served_file.specs.Unserved.{IsRefusedService, NeverServed}
 use Rattle.command_face.specs.Outcomes.{EndsBy, status_at, status_of}
@@ -198,7 +198,8 @@ module _ {D : Type 0} (disk_of : D → State) (file : List ℕ) (number count : 
         same
         (λ is. absurd (omega (arith, is))))
 
-    summed : IsAllDone disk_of number count first z out put end → All file number count old z out put
+    summed : IsAllDone disk_of number count (devices first out) (devices z put) end → All file number count
+        old z out put
         (status_at end)
     summed x = by end refl x.only x.cause
       where
@@ -220,7 +221,7 @@ module _ {D : Type 0} (disk_of : D → State) (file : List ℕ) (number count : 
             (λ n. omega (arith, n)) (λ n. omega (arith, n)) (λ n. omega (arith, n)) cause.later
             (λ n. cause.rose) (λ n. absurd (omega (arith, n))) x.told)
 
-  pub whole : WorkSteps disk_of file number count old z out put end
+  pub whole : WorkSteps disk_of file number count (devices old out) (devices z put) end
       → Whole file old z out put (status_at end)
   whole (inl (is, same)) = elim is.which as (λ _. All file number count old z out put (status_at end)) [
     | inl failed ↦ carried (Err stop.Disk) failed.0
@@ -228,9 +229,10 @@ module _ {D : Type 0} (disk_of : D → State) (file : List ℕ) (number count : 
     | inr gone ↦ carried (Err stop.NoFile) gone.0
         (file_absent file number count old z out put is.mount is.later gone.1 same)
   ]
-  whole (inr x) = by x.did
+  whole (inr x) = by x.steps
     where
-      by : Did disk_of number count (disk_of x.first) z out put end → All file number count old z out put
+      by : OpenWorkSteps disk_of number count (devices (disk_of x.first) out) (devices z put) end → All file
+          number count old z out put
           (status_at end)
       by (inl (inl is, same)) = refusal (disk_of x.first) x.mount x.calm x.there is same
       by (inl (inr (inl is), same)) = not_begun (disk_of x.first) x.mount x.calm x.there is same
@@ -238,17 +240,17 @@ module _ {D : Type 0} (disk_of : D → State) (file : List ℕ) (number count : 
       by (inr is) = summed (disk_of x.first) x.mount x.calm x.there is
 
   -- a file that isn't served ends the command as its first refusal says, or as its version does
-  pub refused_did : IsTrue old.tells → NeverServed old.file
-      → WorkSteps disk_of file number count old z out put end
+  pub refused_work : IsTrue old.tells → NeverServed old.file
+      → WorkSteps disk_of file number count (devices old out) (devices z put) end
       → EndsBy (IsRefusedService old.file) [] end × (put ≡ out)
-  refused_did told never (inl (is, same)) = (
+  refused_work told never (inl (is, same)) = (
     elim is.which as (λ _. EndsBy (IsRefusedService old.file) [] end) [
       | inl failed ↦ subst (EndsBy (IsRefusedService old.file) []) (sym failed.0) (inr refl)
       | inr gone ↦ subst (EndsBy (IsRefusedService old.file) []) (sym gone.0) refl
     ],
     same,
   )
-  refused_did told never (inr x) = by x.did
+  refused_work told never (inr x) = by x.steps
     where
       told_there : IsTrue (disk_of x.first).tells
       told_there = x.mount.told ∙ told
@@ -263,7 +265,7 @@ module _ {D : Type 0} (disk_of : D → State) (file : List ℕ) (number count : 
           (subst (λ (f : List ℕ). Opens CLASSES SIZE_MAX f o.m o.b) same_file
           (record { table = o.table; opens = o.found }))
 
-      by : Did disk_of number count (disk_of x.first) z out put end
+      by : OpenWorkSteps disk_of number count (devices (disk_of x.first) out) (devices z put) end
           → EndsBy (IsRefusedService old.file) [] end
           × (put ≡ out)
       by (inl (inl is, same)) = (
