@@ -75,9 +75,10 @@ module _ {C : ℕ} (s : Inside C) (whole : IsWhole s) (table : Extents) (guard :
         (kept i);
   }
 
-  pub back_whole : IsTable table → table.names ≡ s.hands.table.names → guard.spans ≡ []
+  pub back_whole : IsTable table → table.names ≡ s.hands.table.names → table.cap ≡ s.hands.table.cap
+      → guard.spans ≡ []
       → guard.room ≡ s.hands.guard.room → IsWhole back_inside
-  back_whole is_table names spans room = record {
+  back_whole is_table names cap spans room = record {
     classes = whole.classes;
     wide = whole.wide;
     base = whole.base;
@@ -87,6 +88,7 @@ module _ {C : ℕ} (s : Inside C) (whole : IsWhole s) (table : Extents) (guard :
     kept_divisor = whole.kept_divisor;
     kept_caps = refl;
     room = names ∙ whole.room;
+    cap = cap ∙ whole.cap;
     guard_room = room ∙ whole.guard_room;
     table = λ sound. is_table;
     sound = λ sound. subst (IsStore C) (sym back_view) (store_back (kept_of s) (whole.sound sound));

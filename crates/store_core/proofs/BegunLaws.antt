@@ -41,7 +41,7 @@ module _ {classes : ℕ} {kept_grid : List (List ℕ)} {x0 : HandsValue} (may : 
   -- once the name is gone there is room for it
   pub room_for : (gone : Extents) → IsWithout name x0.table gone
       → IsSome (fin.get x0.table.now name) ⊎ (fin.len x0.table.now < x0.table.names)
-      → fin.len gone.now < gone.names
+      → fin.len gone.now < gone.cap
   room_for gone without room =
       let m = x0.table.now in
       let r = fin.remove m name in
@@ -53,7 +53,8 @@ module _ {classes : ℕ} {kept_grid : List (List ℕ)} {x0 : HandsValue} (may : 
       ap (λ (x : Spots). fin.len x) (insert-remove m name s) ∙ fin.len-insert name_order m name s in
       let few = may.before.table.now_room in
       let len = ap (λ (x : Spots). fin.len x) without.now in
-      elim room as (λ _. fin.len gone.now < gone.names) [
+      let all_live : gone.cap ≡ x0.table.names = without.cap ∙ may.cap in
+      elim room as (λ _. fin.len gone.now < gone.cap) [
         | inl there ↦ omega (
           arith,
           one,
@@ -61,9 +62,9 @@ module _ {classes : ℕ} {kept_grid : List (List ℕ)} {x0 : HandsValue} (may : 
           cond-true (fin.contains_key m name) (fin.len m) (fin.len m + 1) there,
           few,
           len,
-          without.names,
+          all_live,
         )
-        | inr low ↦ elim (cases_Bool (fin.contains_key m name)) as (λ _. fin.len gone.now < gone.names) [
+        | inr low ↦ elim (cases_Bool (fin.contains_key m name)) as (λ _. fin.len gone.now < gone.cap) [
           | inl held ↦ omega (
             arith,
             one,
@@ -71,7 +72,7 @@ module _ {classes : ℕ} {kept_grid : List (List ℕ)} {x0 : HandsValue} (may : 
             cond-true (fin.contains_key m name) (fin.len m) (fin.len m + 1) held,
             low,
             len,
-            without.names,
+            all_live,
           )
           | inr absent ↦ omega (
             arith,
@@ -80,7 +81,7 @@ module _ {classes : ℕ} {kept_grid : List (List ℕ)} {x0 : HandsValue} (may : 
             cond-false (fin.contains_key m name) (fin.len m) (fin.len m + 1) absent,
             low,
             len,
-            without.names,
+            all_live,
           )
         ]
       ]

@@ -67,6 +67,9 @@ module _ {C : ℕ} (s : Inside C) (c : Change) (hands1 : Hands C) (p : PlanState
   same_names : hands2.table.names ≡ s.hands.table.names
   same_names = w.made.keeps.names ∙ w.begun.names
 
+  same_cap : hands2.table.cap ≡ s.hands.table.cap
+  same_cap = w.made.keeps.cap ∙ w.begun.cap
+
   same_room : hands2.guard.room ≡ s.hands.guard.room
   same_room = w.made.keeps.room ∙ ap (λ (y : HandsValue). y.room) w.begun.rest
 
@@ -171,6 +174,7 @@ module _ {C : ℕ} (s : Inside C) (c : Change) (hands1 : Hands C) (p : PlanState
     kept_divisor = same_divisor ∙ w.whole.divisor ∙ ap (λ (b : SuperBlock). b.k) (sym same_block);
     kept_caps = refl;
     room = same_names ∙ w.whole.room ∙ ap (λ (b : SuperBlock). b.names) (sym same_block);
+    cap = same_cap ∙ w.whole.cap ∙ ap (λ (b : SuperBlock). b.names) (sym same_block);
     guard_room = same_room ∙ w.whole.guard_room ∙ ap (λ (b : SuperBlock). b.names) (sym same_block);
     table = λ sound. absurd (cc);
     sound = λ sound. absurd (cc);
@@ -240,7 +244,7 @@ module _ {C : ℕ} (s : Inside C) (c : Change) (hands1 : Hands C) (p : PlanState
 
       pub done_whole : IsWhole done_inside
       done_whole = flushed_whole s hands2 w.whole same_block same_base same_buffer any_ends.divisor same_names
-          same_room any_ends.table any_ends.kept any_ends.empty done_store
+          same_cap same_room any_ends.table any_ends.kept any_ends.empty done_store
 
       abbrev told_flight : IsTrue a.tells → FlushFrame
       told_flight told = flight_of C x0 c p.numbers.reach (record {

@@ -103,6 +103,7 @@ module _ {C : ℕ} (s : Inside C) (whole : IsWhole s) (unbroken : s.broken ≡ f
       both = record { now_laid = h.now; kept_laid = h.kept; fuller = h.fuller; freed = whole.freed unbroken };
     };
     base = whole.base;
+    cap = whole.cap ∙ sym whole.room;
     room = whole.guard_room;
     divisor = whole.divisor;
   }

@@ -154,10 +154,11 @@ module _ {C : ℕ} (s : Inside C) (hands : Hands C) where
 
   pub flushed_whole : IsWhole s → hands.slots.block ≡ s.hands.slots.block → hands.base ≡ s.hands.base
       → vec_len hands.buf ≡ 65536 → divisor_of hands.layout ≡ hands.slots.block.k
-      → hands.table.names ≡ s.hands.table.names → hands.guard.room ≡ s.hands.guard.room → IsTable hands.table
+      → hands.table.names ≡ s.hands.table.names → hands.table.cap ≡ s.hands.table.cap
+      → hands.guard.room ≡ s.hands.guard.room → IsTable hands.table
       → hands.table.kept ≡ hands.table.now → hands.guard.spans ≡ [] → IsStore C (kept_of flushed_inside)
       → IsWhole flushed_inside
-  flushed_whole whole block base buf divisor names room table kept spans store = record {
+  flushed_whole whole block base buf divisor names cap room table kept spans store = record {
     classes = whole.classes;
     wide = whole.wide;
     base = base ∙ whole.base ∙ ap (λ b. head_len b.names) (sym block);
@@ -167,6 +168,7 @@ module _ {C : ℕ} (s : Inside C) (hands : Hands C) where
     kept_divisor = divisor;
     kept_caps = refl;
     room = names ∙ whole.room ∙ ap (λ b. b.names) (sym block);
+    cap = cap ∙ whole.cap ∙ ap (λ b. b.names) (sym block);
     guard_room = room ∙ whole.guard_room ∙ ap (λ b. b.names) (sym block);
     table = λ sound. table;
     sound = λ sound. store;

@@ -24,6 +24,7 @@ pub record IsOpened {C : ℕ} (s : Inside C) (t : StoreValue) : Type 0 where
   pub kept : s.hands.table.kept ≡ t.kept
   pub guard_room : s.hands.guard.room ≡ t.in_use.block.names
   pub room : s.hands.table.names ≡ t.in_use.block.names
+  pub cap : s.hands.table.cap ≡ t.in_use.block.names
   pub base : s.hands.base ≡ base_of t
 
 pub opened : {C : ℕ} (s : Inside C) (t : StoreValue) → kept_of s ≡ t → IsWhole s
@@ -40,6 +41,7 @@ opened {C} s t is whole unbroken =
       kept = kept;
       guard_room = whole.guard_room ∙ ap (λ (x : StoreValue). x.in_use.block.names) is;
       room = whole.room ∙ ap (λ (x : StoreValue). x.in_use.block.names) is;
+      cap = whole.cap ∙ ap (λ (x : StoreValue). x.in_use.block.names) is;
       base = whole.base ∙ ap base_of is;
     }
 
@@ -66,11 +68,12 @@ module _ {C : ℕ} (s : Inside C) (t : StoreValue) (is : kept_of s ≡ t) (whole
     asked = cells_of ledger.asked;
   }) ∙ ap (λ (x : StoreValue). with_now C x now (grid_of layout) (cells_of ledger.asked)) is
 
-  pub changed_whole : IsTable table → table.names ≡ s.hands.table.names → guard.room ≡ s.hands.guard.room
+  pub changed_whole : IsTable table → table.names ≡ s.hands.table.names → table.cap ≡ s.hands.table.cap
+      → guard.room ≡ s.hands.guard.room
       → divisor_of layout ≡ t.in_use.block.k
       → IsStore C (with_now C t now (grid_of layout) (cells_of ledger.asked))
       → IsFreed guard.spans now t.kept → IsWhole changed_inside
-  changed_whole is_table names room divisor store freed = record {
+  changed_whole is_table names cap room divisor store freed = record {
     classes = whole.classes;
     wide = whole.wide;
     base = whole.base;
@@ -80,6 +83,7 @@ module _ {C : ℕ} (s : Inside C) (t : StoreValue) (is : kept_of s ≡ t) (whole
     kept_divisor = whole.kept_divisor;
     kept_caps = whole.kept_caps ∙ sym caps_stay;
     room = names ∙ whole.room;
+    cap = cap ∙ whole.cap;
     guard_room = room ∙ whole.guard_room;
     table = λ sound. is_table;
     sound = λ sound. subst (IsStore C) (sym changed_view) store;

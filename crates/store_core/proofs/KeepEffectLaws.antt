@@ -19,7 +19,8 @@ use Rattle.slot_codec.proofs.StepLaws.{from_ok}
 use Rattle.slot_pair.specs.Saves.{IsSaved, LeavesEither, SaveLeaves, next_chosen, next_in_use, save_calls}
 use Rattle.map_model.specs.Requests as ask
 use Rattle.segment_layout.specs.Layouts.{caps_of, grid_of}
-use Rattle.extent_table.specs.Extents.{Extents, IsTable, records_of}
+use Rattle.extent_table.specs.Extents.{Extents, IsTable, records_of, rolled}
+use Rattle.flush_run.proofs.RolledLaws.{rolled_count, rolled_left, rolled_saved}
 use Rattle.table_rules.specs.Sequences.{HasSequenceUpTo}
 use Rattle.placement_model.specs.Held.{IsFreed}
 use Rattle.placement_model.specs.LaidOut.{shown_book}
@@ -190,9 +191,10 @@ module _ {C : ℕ} (s : Inside C) (whole : IsWhole s) (table : Extents) (guard :
         (kept i);
   }
 
-  pub kept_whole : IsTable table → table.names ≡ s.hands.table.names → guard.spans ≡ []
+  pub kept_whole : IsTable table → table.names ≡ s.hands.table.names → table.cap ≡ s.hands.table.cap
+      → guard.spans ≡ []
       → guard.room ≡ s.hands.guard.room → vec_len buf ≡ 65536 → IsWhole kept_inside
-  kept_whole is_table names spans room full =
+  kept_whole is_table names cap spans room full =
       let names_stay : slots.block.names ≡ s.hands.slots.block.names =
       ap (λ (u : choice.InUse). u.block.names) same_slots in
       let k_stays : slots.block.k ≡ s.hands.slots.block.k = ap (λ (u : choice.InUse). u.block.k) same_slots in
@@ -206,6 +208,7 @@ module _ {C : ℕ} (s : Inside C) (whole : IsWhole s) (table : Extents) (guard :
         kept_divisor = whole.divisor ∙ sym k_stays;
         kept_caps = refl;
         room = names ∙ whole.room ∙ sym names_stay;
+        cap = cap ∙ whole.cap ∙ sym names_stay;
         guard_room = room ∙ whole.guard_room ∙ sym names_stay;
         table = λ sound. is_table;
         sound = λ sound. subst (IsStore C) (sym kept_view) (store_kept (kept_of s) (whole.sound sound));
@@ -224,29 +227,37 @@ seen P s t is h same p = subst (λ x. P x (header_now x)) is (subst (P (kept_of 
 module _ {C : ℕ} (s : Inside C) (t : StoreValue) (is : kept_of s ≡ t) (whole : IsWhole s)
     (unbroken : t.is_broken ≡ false) (fresh : t.in_use.sequence < 2 ^ 61) (h : Header)
     (same : h ≡ header_now (kept_of s)) {a d : disk.State} (connected : IsConnected C t a)
-    (leaves : IsTrue a.tells → SaveLeaves s.hands.slots h (records_of s.hands.table.now) a d)
+    (leaves : IsTrue a.tells → SaveLeaves s.hands.slots h (rolled s.hands.table.now s.hands.table.digests) a d)
     (frame : KeepsDisk a d) where
+  one : h.version ≡ 1
+  one = ap (λ (x : Header). x.version) same
+
   store : IsStore C t
   store = (opened s t is whole unbroken).store
 
   left_seen : IsTrue a.tells → SaveLeaves t.in_use (header_now t) (records_of t.now) a d
-  left_seen told = seen (λ x h. SaveLeaves x.in_use h (records_of x.now) a d) s t is h same (leaves told)
+  left_seen told = seen (λ x h. SaveLeaves x.in_use h (records_of x.now) a d) s t is h same
+      (rolled_left s.hands.slots h s.hands.table.now s.hands.table.digests one (leaves told))
 
   calls_seen : {A : Type 0} (result : Result A Refusal)
-      → Calls (save_calls (length (records_of s.hands.table.now))) a d result
+      → Calls (save_calls (length (rolled s.hands.table.now s.hands.table.digests))) a d result
       → Calls (save_calls (length (records_of t.now))) a d result
-  calls_seen result = subst (λ (x : StoreValue). Calls (save_calls (length (records_of x.now))) a d result) is
+  calls_seen result calls =
+      subst (λ (x : StoreValue). Calls (save_calls (length (records_of x.now))) a d result) is
+      (subst (λ n. Calls (save_calls n) a d result)
+      (rolled_count s.hands.table.now s.hands.table.digests) calls)
 
   pub keep_failed : (refused : Refusal) (new : StoreValue) → new ≡ record (kept_of s) { is_broken = true }
-      → Calls {T = Done} (save_calls (length (records_of s.hands.table.now))) a d (Err refused)
+      → Calls {T = Done} (save_calls (length (rolled s.hands.table.now s.hands.table.digests))) a d
+      (Err refused)
       → KeepsNow C t new a d (Err refused)
   keep_failed refused new new_is calls = keeps_failed t store fresh (connected unbroken) left_seen frame
       refused new (new_is ∙ ap (λ (x : StoreValue). record x { is_broken = true }) is)
       (calls_seen (Err refused) calls)
 
   module _ (saved : IsTrue a.tells → s.hands.slots.sequence + 1 < worn_from h.kind
-      → IsSaved (next_chosen s.hands.slots h (length (records_of s.hands.table.now)))
-      (records_of s.hands.table.now) d.file)
+      → IsSaved (next_chosen s.hands.slots h (length (rolled s.hands.table.now s.hands.table.digests)))
+      (rolled s.hands.table.now s.hands.table.digests) d.file)
       (in_use : IsTrue a.tells → choice.slot_in_use d.file ≡ Ok (next_in_use s.hands.slots))
       (new : StoreValue)
       (new_is : new ≡ kept_now (kept_of s)) where
@@ -254,13 +265,15 @@ module _ {C : ℕ} (s : Inside C) (t : StoreValue) (is : kept_of s ≡ t) (whole
     saved_seen told = seen (λ x h. x.in_use.sequence + 1 < worn_from h.kind
         → IsSaved (next_chosen x.in_use h (length (records_of x.now))) (records_of x.now) d.file) s t is h
         same
-        (saved told) (omega (arith, fresh))
+        (λ low. rolled_saved s.hands.slots h s.hands.table.now s.hands.table.digests one d.file
+        (saved told low)) (omega (arith, fresh))
 
     new_seen : new ≡ kept_now t
     new_seen = new_is ∙ ap kept_now is
 
     pub keep_done : (answer : Done) → (IsTrue a.tells → Rests d)
-        → Calls {E = Refusal} (save_calls (length (records_of s.hands.table.now))) a d (Ok answer)
+        → Calls {E = Refusal} (save_calls (length (rolled s.hands.table.now s.hands.table.digests))) a d
+        (Ok answer)
         → KeepsNow C t new a d (Ok answer)
     keep_done answer rests calls = keeps_saved t store fresh (connected unbroken) left_seen frame answer new
         new_seen saved_seen rests (calls_seen (Ok answer) calls)

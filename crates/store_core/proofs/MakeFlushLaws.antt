@@ -321,7 +321,9 @@ flown_then {b} {items} {first} {mid} {now} {x} {x2} kept faults few r saves = re
     };
     later = omega (arith, faults, r.keeps.later);
     names = r.keeps.names;
+    cap = r.keeps.cap;
     keys = r.keeps.keys;
+    digests = r.keeps.digests;
     block = r.keeps.block;
     divisor = r.keeps.divisor;
     room = r.keeps.room;

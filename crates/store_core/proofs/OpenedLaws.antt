@@ -54,6 +54,7 @@ pub record IsNew {C : ℕ} (s : Inside C) : Type 0 where
   pub block : IsSuperBlock s.hands.slots.block
   pub kept : s.hands.table.now ≡ s.hands.table.kept
   pub room : s.hands.table.names ≡ s.hands.slots.block.names
+  pub cap : s.hands.table.cap ≡ s.hands.slots.block.names
   pub divisor : divisor_of s.hands.layout ≡ s.hands.slots.block.k
   pub kept_divisor : divisor_of s.kept_layout ≡ s.hands.slots.block.k
   pub kept_caps : caps_of s.kept_layout ≡ caps_of s.hands.layout
@@ -113,6 +114,7 @@ module _ {C : ℕ} (s : Inside C) (n : IsNew s) where
     kept_divisor = n.kept_divisor;
     kept_caps = n.kept_caps;
     room = n.room;
+    cap = n.cap;
     guard_room = n.guard_room;
     table = λ sound. n.table;
     sound = λ sound. new_store;

@@ -1,6 +1,7 @@
 -- A table that was read is one of version 1, or no store is opened over it.
-use Rattle.std.specs.Prelude.{◌≡◌, ℕ, ◌==◌, false, List, Option, None, Result, Some, Ok, Err, IsTrue, is_some, refl}
+use Rattle.std.specs.Prelude.{◌≡◌, ℕ, ◌==◌, false, List, Option, None, Result, Some, Ok, Err, IsTrue}
 use Rattle.std.proofs.Common.{◌∙◌, ap, inr, subst}
+use Rattle.std.proofs.lemmas.Bool.{cond-false}
 use Rattle.disk_face.specs.States as disk
 use Rattle.disk_face.specs.Frames.{Unchanged}
 use Rattle.size_class.specs.declared.TheConstants.{SIZE_MAX}
@@ -12,7 +13,7 @@ use Rattle.segment_layout.specs.Books.{with_digests}
 use Rattle.table_rules.specs.Opening.{OpensBy, placed_table}
 use Rattle.table_rules.specs.Tables.{book_of}
 use Rattle.placement_model.specs.Reads.{read_at}
-use Rattle.reopen.specs.Loads.{IsLoadedFrom, table_seen}
+use Rattle.reopen.specs.Loads.{IsLoadedFrom, digests_loaded, table_seen}
 use Rattle.reopen.specs.declared.fault.OpenFault.{OpenFault}
 use Rattle.reopen.specs.declared.fault.OpenFault.TheVariants as fault
 use Rattle.reopen.specs.declared.state.Loaded.{Loaded}
@@ -21,10 +22,6 @@ use Rattle.store_core.specs.Opened.{IsOpening}
 use Rattle.store_core.specs.Plain.{IsPlainFrom, IsUnserved}
 use Rattle.store_core.proofs.OpeningLaws.{refused_reading}
 
-is_none : (ds : Option Digests) → is_some ds ≡ false → ds ≡ None
-is_none None h = refl
-is_none (Some ds) h = cc
-
 pub plain_from : {C : ℕ} (file : List ℕ) (x : Loaded C) → IsLoadedFrom file x
     → (x.header.version == 2) ≡ false → IsPlainFrom file x
 plain_from {C} file x from other = record {
@@ -32,7 +29,7 @@ plain_from {C} file x from other = record {
   opens = subst (λ (ds : Option Digests). OpensBy C SIZE_MAX (table_seen x ds) file
       (read_at (head_len x.block.names) file x.table.now)
       (with_digests ds (book_of (placed_table C SIZE_MAX file (table_seen x ds)))))
-      (is_none from.digests (from.digested ∙ other)) from.opens;
+      (cond-false (x.header.version == 2) (Some x.table.digests) None other) from.opens;
 }
 
 -- the fault of a version
@@ -42,7 +39,7 @@ fault_at place = fault.Slot (slot.Codec codec.Version place)
 unserved_from : {C : ℕ} (file : List ℕ) (x : Loaded C) (place : ℕ) → IsLoadedFrom file x
     → x.header.version ≡ 2 → place ≡ slot_at x.block.names x.slots.slot → IsUnserved C file (fault_at place)
 unserved_from file x place from two at = record {
-  table = table_seen x from.digests;
+  table = table_seen x (digests_loaded x);
   map = read_at (head_len x.block.names) file x.table.now;
   book = _;
   opens = from.opens;

@@ -1,6 +1,6 @@
 -- The store of a moving table whose flush went on to its end.
 use Rattle.std.specs.FinMap as fin
-use Rattle.std.specs.Prelude.{◌≡◌, ℕ, ◌+◌, ◌-◌, ◌*◌, ◌<◌, ◌≤◌, ◌^◌, false, true, List, [], length, slice_index, Err, Ok, IsTrue, refl}
+use Rattle.std.specs.Prelude.{◌≡◌, ℕ, ◌+◌, ◌-◌, ◌*◌, ◌/◌, ◌<◌, ◌≤◌, ◌==◌, ◌^◌, false, true, List, [], length, slice_index, Err, Ok, IsTrue, refl}
 use Rattle.std.proofs.Common.{arith, ap, sym, ◌∙◌, subst, inl, inr}
 use Rattle.std.proofs.lemmas.Bool.{cases_lt}
 use Rattle.std.proofs.lemmas.List.Sorted.{IsPermutation-sym}
@@ -12,7 +12,8 @@ use Rattle.size_class.specs.declared.TheConstants.{SIZE_MAX}
 use Rattle.size_class.proofs.ClassLaws.{zero_row-index}
 use Rattle.slot_codec.specs.Choice as choice
 use Rattle.slot_codec.specs.Readable.{IsSuperBlock}
-use Rattle.slot_codec.specs.Spelling.{head_len}
+use Rattle.slot_codec.specs.Spelling.{cap, head_len, room_len}
+use Rattle.slot_codec.proofs.CapLaws.{record_len-short}
 use Rattle.slot_codec.specs.declared.codec.Kind.TheVariants as kind
 use Rattle.slot_codec.specs.declared.codec.SuperBlock.{SuperBlock}
 use Rattle.slot_pair.specs.declared.find.SlotFault.TheVariants as slot
@@ -48,6 +49,11 @@ use Rattle.store_core.proofs.FlushedLaws.{ended_over, ended_rests, ended_state, 
 use Rattle.store_core.proofs.GoingLaws.{begins_within, can_told, content_again, flight, left_again, phase, some_again}
 use Rattle.store_core.proofs.MovingLaws.{hands_again, same_divisor}
 use Rattle.store_core.proofs.OpeningLaws.{found_by, found_one}
+
+-- as many names may be live in version 1 as there is room for
+cap_short : (names version : ℕ) → (version == 2) ≡ false → cap names version ≡ names
+unfolding cap
+cap_short names version other = ap (λ n. room_len names / n) (record_len-short version other) ∙ omega arith
 
 module _ {C : ℕ} (x : Loaded C) (loads : KeepsLoaded x) (moving : x.header.kind ≡ kind.Moving) (few : C ≤ 32)
     (wide : SIZE_MAX < 2 ^ C) (y : HandsValue) (starts : StartsAgain x y) (p : PlanState)
@@ -216,17 +222,22 @@ module _ {C : ℕ} (x : Loaded C) (loads : KeepsLoaded x) (moving : x.header.kin
       names_now = made.keeps.names ∙ ap (λ (e : Extents). e.names) starts.table ∙ loads.room
           ∙ ap (λ (z : SuperBlock). z.names) (sym block_found)
 
+      cap_now : (x.header.version == 2) ≡ false → hands.table.cap ≡ hands.slots.block.names
+      cap_now other = made.keeps.cap ∙ ap (λ (e : Extents). e.cap) starts.table ∙ loads.cap
+          ∙ cap_short x.block.names x.header.version other ∙ ap (λ (z : SuperBlock). z.names) (sym block_found)
+
       block_now : IsSuperBlock hands.slots.block
       block_now = subst IsSuperBlock (sym block_found) loads.ranges
 
       -- a store may be made of the hands
-      pub makes_store : MakesStore hands
-      makes_store = record {
+      pub makes_store : (x.header.version == 2) ≡ false → MakesStore hands
+      makes_store other = record {
         few = few;
         wide = wide;
         block = block_now;
         kept = sym any_ends.kept;
         names = names_now;
+        cap = cap_now other;
         divisor = any_ends.divisor;
         valid = any_ends.laid.valid;
         table = any_ends.table;

@@ -116,6 +116,7 @@ module _ {classes : ℕ} {kept_grid : List (List ℕ)} {x0 : HandsValue} (may : 
             kept = without.kept;
             table = without.table;
             names = without.names;
+            cap = without.cap;
             rest = refl;
           }
 
@@ -210,6 +211,7 @@ module _ {classes : ℕ} {kept_grid : List (List ℕ)} {x0 : HandsValue} (may : 
               kept = joins.kept ∙ without.kept;
               table = joins.table;
               names = joins.names ∙ without.names;
+              cap = joins.cap ∙ without.cap;
               rest = refl;
             }
 
@@ -283,5 +285,6 @@ module _ {classes : ℕ} {kept_grid : List (List ℕ)} {x0 : HandsValue} (may : 
               kept = joins.kept ∙ without.kept;
               table = joins.table;
               names = joins.names ∙ without.names;
+              cap = joins.cap ∙ without.cap;
               rest = refl;
             }

@@ -38,6 +38,7 @@ use Rattle.store_core.specs.Quiet.{added, sizes_at}
 pub record MayBegin (classes : ℕ) (kept_grid : List (List ℕ)) (x : HandsValue) : Type 0 where
   pub before : WasBefore classes SIZE_MAX x.caps x.grid kept_grid x.in_use x.table x.spans
   pub base : x.base ≡ head_len x.in_use.block.names
+  pub cap : x.table.cap ≡ x.table.names
   pub room : x.room ≡ x.in_use.block.names
   pub divisor : x.divisor ≡ x.in_use.block.k
 
@@ -150,6 +151,7 @@ pub record IsBegun (classes : ℕ) (x0 : HandsValue) (c : Change) (x : HandsValu
   pub kept : x.table.kept ≡ x0.table.kept
   pub table : IsTable x.table
   pub names : x.table.names ≡ x0.table.names
+  pub cap : x.table.cap ≡ x0.table.cap
   pub rest : x ≡ record x0 { table = x.table; grid = x.grid; spans = x.spans; asked = x.asked }
 
 -- the bytes of a new object, or none

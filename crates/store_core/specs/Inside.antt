@@ -38,6 +38,7 @@ pub record IsWhole {C : ℕ} (s : Inside C) : Type 0 where
   pub kept_divisor : divisor_of s.kept_layout ≡ s.hands.slots.block.k
   pub kept_caps : caps_of s.kept_layout ≡ caps_of s.hands.layout
   pub room : s.hands.table.names ≡ s.hands.slots.block.names
+  pub cap : s.hands.table.cap ≡ s.hands.slots.block.names
   pub guard_room : s.hands.guard.room ≡ s.hands.slots.block.names
   pub table : s.broken ≡ false → IsTable s.hands.table
   pub sound : s.broken ≡ false → IsStore C (kept_of s)

@@ -44,6 +44,7 @@ pub record MakesStore {C : ℕ} (hands : Hands C) : Type 0 where
   pub block : IsSuperBlock hands.slots.block
   pub kept : hands.table.now ≡ hands.table.kept
   pub names : hands.table.names ≡ hands.slots.block.names
+  pub cap : hands.table.cap ≡ hands.slots.block.names
   pub divisor : divisor_of hands.layout ≡ hands.slots.block.k
   pub valid : IsValid (settled_table C SIZE_MAX hands.slots.block.k (caps_of hands.layout)
       (grid_of hands.layout) hands.table.now)

@@ -131,7 +131,7 @@ fn start_placed<const C: usize>(
     spot: Spot,
 ) -> StartedFlush<C>
     requires fits { C ≤ 32 }
-    requires room { fin.len hands.old.table.now < hands.old.table.names }
+    requires room { fin.len hands.old.table.now < hands.old.table.cap }
     requires low { spot.place + spot.size < 2 ^ 48 }
     requires start { (key : ℕ) (put : Extents) → IsWith name.now spot key hands.old.table put
         → CanStartAt C b (divisor_of hands.old.layout) (caps_of hands.old.layout) (grid_of hands.old.layout)
@@ -141,7 +141,7 @@ fn start_placed<const C: usize>(
     ensures keeps { KeepsLifting C result.phase (items_now result.phase.course hands.new.table) }
     ensures place { result.place ≡ spot.place }
 {
-    hands.table.set(name, spot);
+    hands.table.set(name, spot, [0; 32]);
     StartedFlush {
         phase: start_lifting(&hands.table, &hands.layout, b),
         place: spot.place,
@@ -175,7 +175,7 @@ fn start_waiting<const C: usize>(
     requires small { size ≤ SIZE_MAX }
     requires high { b ≤ class_of_size size }
     requires new { fin.get hands.old.table.now name.now ≡ None }
-    requires room { fin.len hands.old.table.now < hands.old.table.names }
+    requires room { fin.len hands.old.table.now < hands.old.table.cap }
     requires start { CanStartAt C b (divisor_of hands.old.layout) (caps_of hands.old.layout)
         (grid_of hands.old.layout) hands.old.table }
     ensures starts { StartsWaiting b name.now size result.place (parts_of hands.old) (parts_of hands.new)
@@ -184,7 +184,7 @@ fn start_waiting<const C: usize>(
 {
     let found = numbers(&hands.layout, b, &TableShelf(&hands.table), size);
     let place = found.reach - size;
-    let key = hands.table.set(name, Spot { place, size });
+    let key = hands.table.set(name, Spot { place, size }, [0; 32]);
     let pending = Item {
         key,
         class: class_of(size),

@@ -78,6 +78,7 @@ fn keep_spots(table: &mut Table, guard: &mut Guard)
     ensures now { table.new.now ≡ table.old.now }
     ensures kept { table.new.kept ≡ table.old.now }
     ensures names { table.new.names ≡ table.old.names }
+    ensures cap { table.new.cap ≡ table.old.cap }
     ensures table { IsTable table.new }
     ensures empty { guard.new.spans ≡ [] }
     ensures room { guard.new.room ≡ guard.old.room }

@@ -99,6 +99,8 @@ pub fn store_of<const C: usize>(
         ≡ opened_store C slots table.now (caps_of layout.entry) (grid_of layout.entry)) }
 {
     is_table(&table);
+    let mut table = table;
+    table.narrow(block.names);
     let Memory { guard, buf } = take_memory(alloc, block.names)?;
     let hands = Hands {
         table,

@@ -1,5 +1,5 @@
 //! Opening a file: a store over what its last checkpoint has.
-ghost use Rattle.std.specs.Prelude.{◌≡◌, ◌<◌, ◌≤◌, ◌^◌, [], length, vec_len, IsTrue};
+ghost use Rattle.std.specs.Prelude.{◌≡◌, ◌<◌, ◌≤◌, ◌==◌, ◌^◌, false, [], length, vec_len, IsTrue};
 ghost use Rattle.disk_face.specs.Counts.{HasCause};
 ghost use Rattle.disk_face.specs.Frames.{Unchanged};
 ghost use Rattle.disk_face.specs.Writes.{KeepsDisk};
@@ -122,6 +122,7 @@ fn open_moving<D: Disk, const C: usize>(
     requires wide { SIZE_MAX < 2 ^ C }
     requires loads { KeepsLoaded found }
     requires moving { found.header.kind ≡ kind.Moving }
+    requires plain { (found.header.version == 2) ≡ false }
     requires from { IsTrue (D.state disk.old).tells → IsPlainFrom (D.state disk.old).file found }
     ensures { IsOpening C (D.state disk.old) (D.state disk.new) result }
 {
@@ -142,6 +143,7 @@ fn go_on<D: Disk, const C: usize>(
     requires wide { SIZE_MAX < 2 ^ C }
     requires loads { KeepsLoaded found }
     requires moving { found.header.kind ≡ kind.Moving }
+    requires plain { (found.header.version == 2) ≡ false }
     requires from { IsTrue (D.state disk.old).tells → IsPlainFrom (D.state disk.old).file found }
     requires none { memory.guard.spans ≡ [] }
     requires guard_room { memory.guard.room ≡ found.block.names }

@@ -107,7 +107,7 @@ impl<const C: usize> Store<C> {
         free_spot(&mut self.hands.guard, now, self.hands.table.old(name));
         add_gone(&mut self.hands.ledger, now);
         add_size(&mut self.hands.ledger, spot.size);
-        self.hands.table.set(name, spot);
+        self.hands.table.set(name, spot, [0; 32]);
         self.hands.layout = layout;
     }
 

@@ -77,6 +77,7 @@ returns-clause-starts g c =
       kept = c.set-key.ensures.kept;
       keys = c.set-key.ensures.keys;
       names = c.set-key.ensures.names;
+      cap = c.set-key.ensures.rest.cap;
       table = c.set-key.ensures.table;
     } in
     record {
@@ -105,6 +106,7 @@ returns-clause-keeps g c =
       kept = c.set-key.ensures.kept;
       keys = c.set-key.ensures.keys;
       names = c.set-key.ensures.names;
+      cap = c.set-key.ensures.rest.cap;
       table = c.set-key.ensures.table;
     } in
     let is = items_waiting c.new.result.course course c.requires.new joins c.requires.some c.requires.high in

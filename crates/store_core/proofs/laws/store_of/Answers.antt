@@ -1,11 +1,13 @@
-use Rattle.std.proofs.Common.{◌∙◌, ap, lit<, subst, sym}
+use Rattle.std.proofs.Common.{◌∙◌, ap, arith, lit<, subst, sym}
 use Rattle.size_class.specs.declared.TheConstants.{SIZE_MAX}
 use Rattle.slot_codec.specs.Readable.{IsSuperBlock}
 use Rattle.slot_codec.specs.Spelling.{head_len}
 use Rattle.slot_codec.specs.declared.codec.SuperBlock.{SuperBlock}
 use Rattle.segment_layout.specs.Layouts.{caps_of, grid_of}
 use Rattle.table_rules.specs.Rules.{IsValid}
+use Rattle.extent_table.specs.Extents.{Extents, IsTable}
 use Rattle.placement_model.specs.Laid.{settled_table}
+use Rattle.store_core.specs.Resuming.{MakesStore}
 use Rattle.store_core.proofs.laws.store_of.Goals as goal
 
 pub store_with-requires : goal.store_with-requires
@@ -16,20 +18,37 @@ store_with-requires g c =
       lit< tt,
       (
         lit< tt,
-        record {
+        subst (λ (e : Extents). MakesStore (record {
+          table = e;
+          layout = c.args.layout;
+          guard = c.in_ok-guard.field-0.guard;
+          slots = c.args.slots;
+          ledger = c.no_bytes.result;
+          buf = c.in_ok-guard.field-0.buf;
+          base = c.head_len.result;
+        })) (sym c.narrow.ensures.only) (record {
           few = r.classes;
           wide = r.wide;
           block = subst IsSuperBlock same r.block;
           kept = r.kept;
           names = r.room ∙ ap (λ (b : SuperBlock). b.names) same;
+          cap = ap (λ (b : SuperBlock). b.names) same;
           divisor = r.divisor ∙ ap (λ (b : SuperBlock). b.k) same;
           valid = subst (λ (b : SuperBlock). IsValid (settled_table g.row.C SIZE_MAX b.k
               (caps_of c.args.layout) (grid_of c.args.layout) c.args.table.now)) same r.valid;
-          table = c.is_table.ensures;
+          table = subst IsTable c.narrow.ensures.only c.narrow.ensures.table;
           spans = made.none;
           guard_room = made.guard_room ∙ ap (λ (b : SuperBlock). b.names) same;
           base = c.head_len.ensures ∙ ap (λ (b : SuperBlock). head_len b.names) same;
           buffer = made.buffer;
-        },
+        }),
       ),
     )
+
+pub narrow-requires : goal.narrow-requires
+narrow-requires g c =
+    let r = c.requires in
+    record {
+      few = omega (arith, c.is_table.ensures.now_room, r.room);
+      low = omega (arith, r.room);
+    }

@@ -19,6 +19,7 @@ is_new g c =
       block = r.block;
       kept = r.kept;
       room = r.names;
+      cap = r.cap;
       divisor = r.divisor;
       kept_divisor = r.divisor;
       kept_caps = refl;

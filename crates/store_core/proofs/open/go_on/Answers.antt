@@ -56,7 +56,7 @@ store_with-requires g c =
             _ packs (g.D.Disk.state c.args.disk.now) (g.D.Disk.state c.resume.new.disk) r.from
             c.resume.new.hands c.resume.ensures.left c.resume.ensures.made c.resume.ensures.few
             c.resume.ensures.saves
-            c.in-Ok.ensures.ends c.in-Ok.ensures.one,
+            c.in-Ok.ensures.ends c.in-Ok.ensures.one r.plain,
       ),
     )
 

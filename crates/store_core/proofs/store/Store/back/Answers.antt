@@ -7,7 +7,8 @@ use Rattle.store_core.proofs.store.Store.back.Goals as goal
 
 pub invariant_of-self : goal.invariant_of-self
 invariant_of-self g c = back_whole c.self.inside c.self.invariant c.back.new.self c.clear.new.self
-    c.back.ensures.now c.back.ensures.kept c.back.ensures.table c.back.ensures.names c.clear.ensures.empty
+    c.back.ensures.now c.back.ensures.kept c.back.ensures.table c.back.ensures.names c.back.ensures.cap
+    c.clear.ensures.empty
     c.clear.ensures.room
 
 pub returns-clause-step : goal.returns-clause-step

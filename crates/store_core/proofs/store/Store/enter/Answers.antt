@@ -43,9 +43,9 @@ set-requires g c =
     c.requires.charged in
     record {
       room = elim c.requires.room as (λ _. IsSome (fin.get c.self.inside.hands.table.now name)
-          ⊎ (fin.len c.self.inside.hands.table.now < c.self.inside.hands.table.names)) [
+          ⊎ (fin.len c.self.inside.hands.table.now < c.self.inside.hands.table.cap)) [
             | inl there ↦ inl (subst (λ (m : Spots). IsSome (fin.get m name)) (sym o.now) there)
-            | inr room ↦ inr (omega (arith, room, o.room, ap (λ (m : Spots). fin.len m) o.now))
+            | inr room ↦ inr (omega (arith, room, o.cap, ap (λ (m : Spots). fin.len m) o.now))
           ];
       place = omega (arith, low, end_low t o.store);
       size = omega (arith, c.requires.small);
@@ -61,7 +61,7 @@ invariant_of-self g c =
     changed_whole c.self.inside t c.self.view_is c.self.invariant c.set.new.self c.free_spot.new.guard
     c.add_size.new.ledger c.args.layout (fin.insert t.now name spot) after c.set.ensures.kept
     c.requires.caps (c.add_size.ensures.moved ∙ c.add_gone.ensures.moved) c.set.ensures.table
-    c.set.ensures.names c.free_spot.ensures.room c.requires.divisor
+    c.set.ensures.names c.set.ensures.rest.cap c.free_spot.ensures.room c.requires.divisor
     (store_put t o.store name spot.size spot.place (grid_of c.args.layout) c.requires.charged
     c.requires.named c.requires.small (cells_of c.add_size.new.ledger.asked)
     (omega (

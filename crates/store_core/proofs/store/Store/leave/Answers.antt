@@ -42,7 +42,8 @@ invariant_of-self g c =
     let after = c.remove.ensures.now ∙ ap (λ (m : Spots). fin.remove m name) o.now in
     changed_whole c.self.inside t c.self.view_is c.self.invariant c.remove.new.self c.free_spot.new.guard
     c.add_gone.new.ledger c.args.layout (fin.remove t.now name) after c.remove.ensures.kept c.requires.caps
-    c.add_gone.ensures.moved c.remove.ensures.table c.remove.ensures.names c.free_spot.ensures.room
+    c.add_gone.ensures.moved c.remove.ensures.table c.remove.ensures.names c.remove.ensures.rest.cap
+    c.free_spot.ensures.room
     c.requires.divisor
     (store_gone t o.store name (grid_of c.args.layout) c.requires.charged
     (cells_of c.add_gone.new.ledger.asked)

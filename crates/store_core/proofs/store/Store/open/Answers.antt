@@ -56,12 +56,52 @@ open_moving-requires g c =
                 (
                   subst (λ (s : State g.row.C). (loaded_of s).header.kind ≡ kind_of s) c.in-Moving.is
                       state.same_kind,
+                  (
+                    other,
+                    λ told.
+                        let was : IsTrue a.tells = sym c.read_state.ensures.frame.stays.told ∙ told in
+                        plain_from d.file x
+                        (subst (λ (f : List ℕ). IsLoadedFrom f x)
+                        (sym (c.read_state.ensures.frame.same_file was))
+                        (subst (λ (s : State g.row.C). IsLoadedFrom a.file (loaded_of s)) c.in-Moving.is
+                        (c.in_ok-state.ensures.opened was)))
+                        other,
+                  ),
+                ),
+              ),
+            ),
+          ),
+        ),
+      ),
+    )
+
+pub open_still-requires : goal.open_still-requires
+open_still-requires g c =
+    let a = g.D.Disk.state c.args.disk.now in
+    let d = g.D.Disk.state c.read_state.new.disk in
+    let x = c.in-Still.found in
+    let state = c.in_ok-state.ensures.state in
+    let other : (x.header.version == 2) ≡ false = search rules in (
+      lit< tt,
+      (
+        lit< tt,
+        (
+          c.read_state.ensures.frame.stays.ready,
+          (
+            c.requires.fits,
+            (
+              c.requires.wide,
+              (
+                subst (λ (s : State g.row.C). KeepsLoaded (loaded_of s)) c.in-Still.is state.loaded,
+                (
+                  subst (λ (s : State g.row.C). (loaded_of s).header.kind ≡ kind_of s) c.in-Still.is
+                      state.same_kind,
                   λ told.
                       let was : IsTrue a.tells = sym c.read_state.ensures.frame.stays.told ∙ told in
                       plain_from d.file x
                       (subst (λ (f : List ℕ). IsLoadedFrom f x)
                       (sym (c.read_state.ensures.frame.same_file was))
-                      (subst (λ (s : State g.row.C). IsLoadedFrom a.file (loaded_of s)) c.in-Moving.is
+                      (subst (λ (s : State g.row.C). IsLoadedFrom a.file (loaded_of s)) c.in-Still.is
                       (c.in_ok-state.ensures.opened was)))
                       other,
                 ),

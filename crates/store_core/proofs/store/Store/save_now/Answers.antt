@@ -6,8 +6,8 @@ use Rattle.slot_codec.specs.Spelling.{cap}
 use Rattle.slot_codec.specs.declared.codec.Header.{Header}
 use Rattle.slot_codec.proofs.CapLaws.{cap-one}
 use Rattle.segment_layout.specs.Layouts.{caps_of, grid_of}
-use Rattle.extent_table.proofs.ExtentLaws.{records_of-few}
-use Rattle.extent_table.proofs.SaveLaws.{records_in_range}
+use Rattle.extent_table.proofs.RollLaws.{rolled-few}
+use Rattle.extent_table.proofs.SaveLaws.{rolled_in_range}
 use Rattle.placement_model.specs.LaidOut.{shown_book}
 use Rattle.store_core.specs.Inside.{kept_of}
 use Rattle.store_core.proofs.EffectLaws.{calls_err, calls_ok}
@@ -15,7 +15,7 @@ use Rattle.store_core.proofs.KeepEffectLaws.{keep_done, keep_failed, keep_over, 
 use Rattle.store_core.proofs.store.Store.save_now.Goals as goal
 
 pub save-requires-clause-records : goal.save-requires-clause-records
-save-requires-clause-records g c = records_in_range c.self.inside.hands.table
+save-requires-clause-records g c = rolled_in_range c.self.inside.hands.table
     (c.self.invariant.table (ap (λ (x : StoreValue). x.is_broken) c.self.view_is ∙ c.requires.whole))
 
 pub save-requires-clause-count : goal.save-requires-clause-count
@@ -23,9 +23,8 @@ save-requires-clause-count g c =
     let names = c.self.inside.hands.slots.block.names in
     omega (
       arith,
-      records_of-few c.self.inside.hands.table.now,
-      (c.self.invariant.table (ap (λ (x : StoreValue). x.is_broken) c.self.view_is
-          ∙ c.requires.whole)).now_room,
+      rolled-few c.self.inside.hands.table
+          (c.self.invariant.table (ap (λ (x : StoreValue). x.is_broken) c.self.view_is ∙ c.requires.whole)),
       c.self.invariant.room,
       ap (λ (h : Header). cap names h.version) c.settled_header-next.ensures.header,
       cap-one names,
@@ -51,7 +50,8 @@ pub invariant_of-self : goal.invariant_of-self
 invariant_of-self g c = kept_whole c.self.inside c.self.invariant c.keep_spots.new.table
     c.keep_spots.new.guard c.save.new.self _ c.in-Ok.ensures.pair c.keep_spots.ensures.now
     c.keep_spots.ensures.kept
-    c.keep_spots.ensures.table c.keep_spots.ensures.names c.keep_spots.ensures.empty c.keep_spots.ensures.room
+    c.keep_spots.ensures.table c.keep_spots.ensures.names c.keep_spots.ensures.cap c.keep_spots.ensures.empty
+    c.keep_spots.ensures.room
     (search rules)
 
 pub returns-in-Ok-clause-kept : goal.returns-in-Ok-clause-kept
