@@ -145,7 +145,7 @@ fn table_of(alloc: Global, objects: &[(u8, u64, u64)]) -> Result<Table, NoMemory
                     place: *place,
                     size: *size,
                 };
-                table.set(&name, spot);
+                table.set(&name, spot, [0; 32]);
             }
         }
     }

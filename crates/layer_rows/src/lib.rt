@@ -10,6 +10,8 @@ mod costs;
 #[cfg(test)]
 mod devices;
 #[cfg(test)]
+mod digests;
+#[cfg(test)]
 mod drawn_flushes;
 #[cfg(test)]
 mod flush_begins;

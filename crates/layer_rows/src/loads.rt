@@ -17,8 +17,8 @@ fn push_two(load: &mut BulkLoad, a: &Name, b: &Name) -> (u32, u32)
     requires empty { load.old ≡ empty_extents 16 }
     requires rising { name_cmp a.now b.now ≡ Less }
 {
-    let behind = load.push(a, Spot { place: 9, size: 5 });
-    let before = load.push(b, Spot { place: 2, size: 7 });
+    let behind = load.push(a, Spot { place: 9, size: 5 }, [0; 32]);
+    let before = load.push(b, Spot { place: 2, size: 7 }, [0; 32]);
     (behind, before)
 }
 

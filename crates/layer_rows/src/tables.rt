@@ -33,7 +33,7 @@ pub fn set(table: &mut Table, letter: u8, place: u64, size: u64) -> Option<u32> 
         return None;
     }
     let name = name_of(letter)?;
-    Some(table.set(&name, Spot { place, size }))
+    Some(table.set(&name, Spot { place, size }, [0; 32]))
 }
 
 /// Where the object of a name of one letter stands.
