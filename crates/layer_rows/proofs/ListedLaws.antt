@@ -8,15 +8,15 @@ use Rattle.std.proofs.lemmas.Option.{slice_get-get_or}
 use Rattle.flush_model.specs.declared.item.Item.{Item}
 use Rattle.flush_model.specs.declared.item.Move.{Move}
 use Rattle.flush_model.specs.declared.item.Numbers.{Numbers}
-use Rattle.flush_model.specs.Plans.{moved_item, relocated}
-use Rattle.flush_model.specs.Phases.{AreItems}
+use Rattle.flush_model.specs.Plans.{AreBelow, AreSmall, moved_item, relocated}
+use Rattle.flush_model.specs.Phases.{AreItems, IsPacking}
 use Rattle.flush_model.proofs.ListLaws.{contains_here, contains_later, got_at}
 use Rattle.flush_model.proofs.SortLaws.{items_permuted, rising_from_sorted}
-use Rattle.flush_plan.specs.Shelves.{from_place, IsOnShelf, IsRank, IsShelf}
+use Rattle.flush_plan.specs.Shelves.{from_place, IsOnShelf, IsRank, IsShelf, phase_on, PlanFrame}
 use Rattle.flush_plan.specs.Lifts.{Lift, Lifts}
 use Rattle.flush_plan.specs.Packs.{Pack, Packs}
 use Rattle.flush_plan.specs.Lays.{Lay, Lays}
-use Rattle.layer_rows.specs.Listed.{LaysList, LiftsList, PacksList}
+use Rattle.layer_rows.specs.Listed.{LaysList, LiftsList, PacksList, PhaseList}
 use Rattle.flush_plan.proofs.ShelfLaws.{places_rise}
 
 pub all_from : (start : ℕ) (xs : List Item) → ((it : Item) → Contains xs it → start ≤ it.place)
@@ -84,3 +84,43 @@ pub relisted : (items xs ys : List Item) (mv : Move) → IsPermutation items xs
     → IsPermutation (relocated mv.key mv.to xs) ys → IsPermutation (relocated mv.key mv.to items) ys
 relisted items xs ys mv same after = IsPermutation-trans (relocated mv.key mv.to items)
     (relocated mv.key mv.to xs) ys (IsPermutation-map (moved_item mv.key mv.to) items xs same) after
+
+-- the objects of a phase are told apart in the list
+pub are_listed : {course : PlanFrame} {Keeps : List Item → Type 0} {k : ℕ} {xs : List Item}
+    (h : PhaseList course Keeps k xs) → AreItems course.numbers h.items → (n : Numbers) × AreItems n xs
+are_listed {course} {Keeps} {k} {xs} h are =
+    (course.numbers, items_permuted h.items xs h.same course.numbers are)
+
+-- a phase goes on after a move
+pub moved_on : {old new : PlanFrame} {Keeps After : List Item → Type 0} {k : ℕ} {xs ys : List Item}
+    (h : PhaseList old Keeps k xs) (mv : Move) → new ≡ old → After (relocated mv.key mv.to h.items)
+    → IsPermutation (relocated mv.key mv.to xs) ys → IsNonDecreasingBy (λ (it : Item). it.place) ys
+    → PhaseList new After k ys
+moved_on {old} {new} {Keeps} {After} {k} {xs} {ys} h mv same keeps after rising = record {
+  items = relocated mv.key mv.to h.items;
+  divisor = ap (λ (x : PlanFrame). x.k) same ∙ h.divisor;
+  keeps = keeps;
+  same = relisted h.items xs ys mv h.same after;
+  rising = rising;
+}
+
+-- another phase goes on with the same objects
+pub handed_on : {old new : PlanFrame} {Keeps After : List Item → Type 0} {k : ℕ} {xs : List Item}
+    (h : PhaseList old Keeps k xs) → new ≡ old → After h.items → PhaseList new After k xs
+handed_on {old} {new} {Keeps} {After} {k} {xs} h same keeps = record {
+  items = h.items;
+  divisor = ap (λ (x : PlanFrame). x.k) same ∙ h.divisor;
+  keeps = keeps;
+  same = h.same;
+  rising = h.rising;
+}
+
+-- a flush can be found again among the objects of a phase from Pack on
+pub found : {course : PlanFrame} {Keeps : List Item → Type 0} {k : ℕ} {xs : List Item} {C : ℕ} {n : Numbers}
+    (h : PhaseList course Keeps k xs) → IsPacking (phase_on course h.items) → AreBelow C h.items
+    → AreSmall course.numbers h.items → course.numbers ≡ n
+    → (v : PlanFrame) × (v.k ≡ k) × (v.numbers ≡ n) × (items : List Item) × IsPacking (phase_on v items)
+    × AreBelow C items × AreSmall v.numbers items × IsPermutation items xs
+    × IsNonDecreasingBy (λ (it : Item). it.place) xs
+found {course} h packing classes small same =
+    (course, h.divisor, same, h.items, packing, classes, small, h.same, h.rising)

@@ -9,28 +9,17 @@ use slot_codec::NoMemory;
 use std::alloc::Global;
 use std::process::Abort;
 
-/// A turn, which of its images is built, and its bytes.
-type Image = (u64, Choice, &'static [u8]);
+/// Which images of a turn are built.
+const CHOICES: [Choice; 3] = [Choice::Durable, Choice::Newest, Choice::Torn(b'?')];
 
-const IMAGES: &[Image] = &[
-    (0, Choice::Durable, b"abcd"),
-    (0, Choice::Newest, b"abcd"),
-    (0, Choice::Torn(b'?'), b"a??d"),
-    (1, Choice::Durable, b"abcd"),
-    (1, Choice::Newest, b"aXYd"),
-    (1, Choice::Torn(b'?'), b"a??d"),
-    (2, Choice::Durable, b"abcd"),
-    (2, Choice::Newest, b"aXYd\0\0"),
-    (2, Choice::Torn(b'?'), b"a??d??"),
-    (3, Choice::Durable, b"aXYd\0\0"),
-    (3, Choice::Newest, b"aXYd\0\0"),
-    (3, Choice::Torn(b'?'), b"aXYd\0\0"),
-    (4, Choice::Durable, b"aXYd\0\0"),
-    (4, Choice::Newest, b"aXY"),
-    (4, Choice::Torn(b'?'), b"?XY"),
-    (5, Choice::Durable, b"aXYd\0\0"),
-    (5, Choice::Newest, b"ZXY"),
-    (5, Choice::Torn(b'?'), b"?XY"),
+/// The bytes of those images, turn by turn.
+const IMAGES: &[[&[u8]; 3]] = &[
+    [b"abcd", b"abcd", b"a??d"],
+    [b"abcd", b"aXYd", b"a??d"],
+    [b"abcd", b"aXYd\0\0", b"a??d??"],
+    [b"aXYd\0\0", b"aXYd\0\0", b"aXYd\0\0"],
+    [b"aXYd\0\0", b"aXY", b"?XY"],
+    [b"aXYd\0\0", b"ZXY", b"?XY"],
 ];
 
 /// What each call on a source of `hello` takes in pieces of 3 bytes, the second one failing.
@@ -67,16 +56,20 @@ fn is_image(disk: &MemDisk, turn: u64, choice: Choice, wanted: &[u8]) -> bool {
     }
 }
 
+/// Tries the images of a turn.
+fn try_turn(rt: &impl Abort, disk: &MemDisk, turn: u64, images: &[&[u8]]) {
+    for (choice, wanted) in CHOICES.iter().zip(images) {
+        let built = is_image(disk, turn, *choice, wanted);
+        try_holds(rt, built, &(turn, choice));
+    }
+}
+
 #[test]
 fn builds_the_images_of_each_turn(rt: HostRuntime) {
     let mut disk = synced_disk(&rt, rt.alloc());
     cut(&rt, &mut disk);
-    for (turn, choice, wanted) in IMAGES {
-        try_holds(
-            &rt,
-            is_image(&disk, *turn, *choice, wanted),
-            &(turn, choice),
-        );
+    for (turn, images) in IMAGES.iter().enumerate() {
+        try_turn(&rt, &disk, turn as u64, images);
     }
 }
 

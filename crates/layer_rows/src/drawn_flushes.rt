@@ -249,7 +249,10 @@ fn try_found_laid(rt: &impl Abort, alloc: Global, number: u64, places: &[Item]) 
     let mut shelf = shelf;
     let mut made = Vec::new(alloc);
     let laying = lift_and_pack(rt, &layout, lifting, &mut shelf, &mut made);
-    let within = lay_some(&layout, laying, &mut shelf, number % 24);
+    let within = got(
+        rt,
+        lay_some(&layout, laying, &mut shelf, &mut made, number % 24),
+    );
     lay_again(rt, &layout, within, &mut shelf, &mut made);
     try_places(rt, shelf, places, number);
 }

@@ -1,5 +1,5 @@
 //! The moves of a phase, made on a shelf that is a list. The layout is the one that the flush began with.
-ghost use Rattle.std.specs.Prelude.{◌≡◌, Ok, IfOk, IfSome};
+ghost use Rattle.std.specs.Prelude.{◌≡◌, Ok, IfOk};
 ghost use Rattle.segment_layout.specs.Layouts.{divisor_of};
 ghost use Rattle.layer_rows.specs.Listed.{LaysList, LiftsList, PacksList};
 
@@ -52,36 +52,35 @@ pub(crate) fn pack_all<const C: usize>(
     requires { PacksList C (divisor_of layout.now) phase shelf.old.items.items }
     ensures { IfOk result (λ laying. LaysList C (divisor_of layout.now) laying shelf.new.items.items) }
 {
+    let packing = pack_some(layout, phase, shelf, moves, 100)?;
+    if !packing.at_end(&*shelf) {
+        return Err(Fail::new("Pack has no end"));
+    }
+    Ok(packing.into_laying(&*shelf))
+}
+
+/// Makes so many moves of Pack, or those that are left, and notes them.
+pub(crate) fn pack_some<const C: usize>(
+    layout: &Layout<C>,
+    phase: Packing<C>,
+    shelf: &mut ListShelf,
+    moves: &mut Vec<Move>,
+    most: u64,
+) -> Result<Packing<C>, Fail>
+    requires { PacksList C (divisor_of layout.now) phase shelf.old.items.items }
+    ensures { IfOk result (λ packing. PacksList C (divisor_of layout.now) packing shelf.new.items.items) }
+{
     let mut packing = phase;
-    'packs: for _ in 0..100 {
+    'packs: for _ in 0..most {
         match packing.next(&*shelf) {
-            None => return Ok(packing.into_laying(&*shelf)),
+            None => return Ok(packing),
             Some(mv) => {
                 shelf.relocate(mv);
                 moves.push(mv)?;
             }
         }
     }
-    Err(Fail::new("Pack has no end"))
-}
-
-/// Makes a move of Pack.
-pub(crate) fn pack_once<const C: usize>(
-    layout: &Layout<C>,
-    phase: Packing<C>,
-    shelf: &mut ListShelf,
-) -> Option<Packing<C>>
-    requires { PacksList C (divisor_of layout.now) phase shelf.old.items.items }
-    ensures { IfSome result (λ packing. PacksList C (divisor_of layout.now) packing shelf.new.items.items) }
-{
-    let mut packing = phase;
-    match packing.next(&*shelf) {
-        None => None,
-        Some(mv) => {
-            shelf.relocate(mv);
-            Some(packing)
-        }
-    }
+    Ok(packing)
 }
 
 /// Makes all moves of Lay, and notes them. It fails where they don't end.
@@ -93,35 +92,33 @@ pub(crate) fn lay_all<const C: usize>(
 ) -> Result<Settled<C>, Fail>
     requires { LaysList C (divisor_of layout.now) phase shelf.old.items.items }
 {
+    let laying = lay_some(layout, phase, shelf, moves, 100)?;
+    if !laying.at_end(&*shelf) {
+        return Err(Fail::new("Lay has no end"));
+    }
+    Ok(laying.into_settled(&*shelf))
+}
+
+/// Makes so many moves of Lay, or those that are left, and notes them.
+pub(crate) fn lay_some<const C: usize>(
+    layout: &Layout<C>,
+    phase: Laying<C>,
+    shelf: &mut ListShelf,
+    moves: &mut Vec<Move>,
+    most: u64,
+) -> Result<Laying<C>, Fail>
+    requires { LaysList C (divisor_of layout.now) phase shelf.old.items.items }
+    ensures { IfOk result (λ laying. LaysList C (divisor_of layout.now) laying shelf.new.items.items) }
+{
     let mut laying = phase;
-    'lays: for _ in 0..100 {
+    'lays: for _ in 0..most {
         match laying.next(&*shelf) {
-            None => return Ok(laying.into_settled(&*shelf)),
+            None => return Ok(laying),
             Some(mv) => {
                 shelf.relocate(mv);
                 moves.push(mv)?;
             }
         }
     }
-    Err(Fail::new("Lay has no end"))
-}
-
-/// Makes so many moves of Lay, or those that are left.
-pub(crate) fn lay_some<const C: usize>(
-    layout: &Layout<C>,
-    phase: Laying<C>,
-    shelf: &mut ListShelf,
-    most: u64,
-) -> Laying<C>
-    requires { LaysList C (divisor_of layout.now) phase shelf.old.items.items }
-    ensures { LaysList C (divisor_of layout.now) result shelf.new.items.items }
-{
-    let mut laying = phase;
-    'lays: for _ in 0..most {
-        match laying.next(&*shelf) {
-            None => return laying,
-            Some(mv) => shelf.relocate(mv),
-        }
-    }
-    laying
+    Ok(laying)
 }

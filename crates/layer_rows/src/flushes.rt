@@ -3,7 +3,7 @@ ghost use Rattle.segment_layout.specs.Layouts.{divisor_of};
 ghost use Rattle.layer_rows.specs.Listed.{LaysList, LiftsList, PacksList};
 
 use crate::flush_begins::{Begun, PENDING, flush_of, layout_of};
-use crate::flush_phases::{got, lay_all, lift_all, pack_all, pack_once};
+use crate::flush_phases::{got, lay_all, lift_all, pack_all, pack_some};
 use crate::flush_resumes::found_again;
 use crate::list_shelf::ListShelf;
 use crate::rows::try_holds;
@@ -67,10 +67,10 @@ const FLUSHES: &[Worked] = flushes!(
             (PENDING, 1523, 1000)];
 );
 
-/// A flush that is interrupted once its last object is packed. That move is not among these.
+/// A flush that is interrupted once its last object is packed.
 const FOUND_PACKED: &[Worked] = flushes!(
     [(6, 100)], [(0, 6, 0, 100), (1, 3, 100, 10)], 5, [2, 0, 239, 112, 254, 127]
-        => [(1, 100, 239), (PENDING, 249, 0), (1, 239, 5), (0, 139, 16)];
+        => [(1, 100, 239), (0, 0, 139), (PENDING, 249, 0), (1, 239, 5), (0, 139, 16)];
 );
 
 /// The items by key, class, place and size, with room for one more.
@@ -207,11 +207,11 @@ fn lift_and_find(
     ensures { PacksList CLASSES (divisor_of layout.now) result shelf.new.items.items }
 {
     let lifted = got(rt, lift_all(layout, lifting, shelf, made));
-    let packing = pack_once(layout, lifted, shelf).expect(rt, "nothing to pack");
+    let packing = got(rt, pack_some(layout, lifted, shelf, made, 1));
     found_again(layout, packing, &*shelf).expect(rt, "not found")
 }
 
-/// Goes on to the end. One move was noted before, and Pack has none left.
+/// Goes on to the end. Two moves were noted before, and Pack has none left.
 fn pack_and_lay(
     rt: &impl Abort,
     layout: &Layout<CLASSES>,
@@ -223,7 +223,7 @@ fn pack_and_lay(
 {
     let mut shelf = shelf;
     let laying = got(rt, pack_all(layout, packing, &mut shelf, made));
-    assert!(rt; made.len() == 1);
+    assert!(rt; made.len() == 2);
     got(rt, lay_all(layout, laying, &mut shelf, made))
 }
 

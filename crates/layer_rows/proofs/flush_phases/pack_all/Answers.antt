@@ -1,75 +1,18 @@
-use Rattle.std.proofs.Common.{arith, ap, refl, sym, subst, ◌∙◌}
-use Rattle.std.proofs.lemmas.List.Sorted.{Contains-permutation}
-use Rattle.flush_model.specs.Phases.{IsPackedWhole}
-use Rattle.flush_model.specs.Plans.{mover, relocated}
-use Rattle.flush_model.proofs.SortLaws.{items_permuted}
-use Rattle.flush_plan.specs.Shelves.{PlanFrame, phase_on}
-use Rattle.flush_plan.specs.Packs.{Pack, Packs}
-use Rattle.layer_rows.proofs.ListedLaws.{packs_on, relisted}
+use Rattle.std.proofs.Common.{arith}
+use Rattle.layer_rows.proofs.ListedLaws.{handed_on, packs_on}
 use Rattle.layer_rows.proofs.flush_phases.pack_all.Goals as goal
 
-pub next-requires : goal.next-requires
-next-requires g c =
-    let h = c.packs.invariant in
-    (omega arith, (h.items, packs_on h))
-
-pub relocate-requires-clause-items : goal.relocate-requires-clause-items
-relocate-requires-clause-items g c =
-    let h = c.packs.invariant in
-    let n = c.packs.packing.course.numbers in
-    (n, items_permuted h.items c.packs.shelf.items.items h.same n h.keeps.packing.items)
-
-pub relocate-requires-clause-has : goal.relocate-requires-clause-has
-relocate-requires-clause-has g c =
-    let h = c.packs.invariant in
-    let xs = c.packs.shelf.items.items in
-    Contains-permutation h.items xs (mover c.in-Some.mv) h.same
-    (c.in-Some.ensures.step h.items (packs_on h)).item.has
-
-pub packs-preserved : goal.packs-preserved
-packs-preserved g c =
-    let h = c.packs.invariant in
-    let xs = c.packs.shelf.items.items in
-    let mv = c.in-Some.mv in
-    record {
-      items = relocated mv.key mv.to h.items;
-      divisor = ap (λ (x : PlanFrame). x.k) c.in-Some.ensures.course ∙ h.divisor;
-      keeps = c.in-Some.ensures.keeps h.items (packs_on h);
-      same = relisted h.items xs c.relocate.new.self.items.items mv h.same c.relocate.ensures.same;
-      rising = c.relocate.ensures.rising;
-    }
+pub at_end-requires : goal.at_end-requires
+at_end-requires g c = (omega arith, (c.in_ok-packing.ensures.items, packs_on c.in_ok-packing.ensures))
 
 pub into_laying-requires : goal.into_laying-requires
 into_laying-requires g c =
-    let h = c.packs.invariant in
-    let xs = c.packs.shelf.items.items in
-    let packs = packs_on h in
-    let same = sym (c.in-None.ensures.same refl) in (
-      omega arith,
-      (
-        omega arith,
-        (
-          h.items,
-          subst (λ u. Packs g.row.C u h.items xs) same packs,
-          subst (λ (u : Pack). IsPackedWhole (phase_on u.course h.items)) same
-              ((c.in-None.ensures.end h.items packs).0 refl),
-        ),
-      ),
-    )
+    let h = c.in_ok-packing.ensures in
+    let whole = (c.at_end.ensures h.items (packs_on h)).0 c.if-not-at_end.false in
+    (omega arith, (omega arith, (h.items, packs_on h, whole)))
 
-pub returns-in-None : goal.returns-in-None
-returns-in-None g c =
-    let h = c.packs.invariant in
-    let xs = c.packs.shelf.items.items in
-    let packs = packs_on h in
-    let same = sym (c.in-None.ensures.same refl) in
-    record {
-      items = h.items;
-      divisor = ap (λ (x : PlanFrame). x.k) (c.into_laying.ensures.course ∙ c.in-None.ensures.course)
-          ∙ h.divisor;
-      keeps = c.into_laying.ensures.keeps h.items (subst (λ u. Packs g.row.C u h.items xs) same packs)
-          (subst (λ (u : Pack). IsPackedWhole (phase_on u.course h.items)) same
-          ((c.in-None.ensures.end h.items packs).0 refl));
-      same = h.same;
-      rising = h.rising;
-    }
+pub returns : goal.returns
+returns g c =
+    let h = c.in_ok-packing.ensures in
+    let whole = (c.at_end.ensures h.items (packs_on h)).0 c.if-not-at_end.false in
+    handed_on h c.into_laying.ensures.course (c.into_laying.ensures.keeps h.items (packs_on h) whole)
