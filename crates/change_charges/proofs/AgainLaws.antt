@@ -10,7 +10,7 @@ use Rattle.slot_codec.specs.declared.codec.Record.{Record}
 use Rattle.map_model.specs.Weights.{same_name}
 use Rattle.span_math.specs.declared.span.Span.{Span}
 use Rattle.table_rules.specs.Rules.{CanResume}
-use Rattle.table_rules.specs.Tables.{Apart, PlacedTable, is_below_wall, is_suffix, no_record, nth, sizes_above}
+use Rattle.table_rules.specs.Tables.{Apart, TableInLayout, is_below_wall, is_suffix, no_record, nth, sizes_above}
 use Rattle.extent_table.specs.declared.spot.Spot.{Spot}
 use Rattle.extent_table.specs.Extents.{Extents, IsTable, records_of}
 use Rattle.placement_model.specs.Laid.{laid, moving_header}
@@ -69,7 +69,7 @@ module _ (b : ℕ) (e : Extents) (table : IsTable e) where
 
 module _ (f : FlushFrame) (u : choice.InUse) (e : Extents) (caps : List ℕ) (grid : List (List ℕ))
     (spans : List Span) (p : PlanState) (h : HandsMatchPlan f u e caps grid spans p) where
-  abbrev moving : PlacedTable
+  abbrev moving : TableInLayout
   moving = laid f.classes f.size_max u.block.k f.reach
       (moving_header p.numbers.boundary p.numbers.wall p.numbers.slack caps grid) e.now
 

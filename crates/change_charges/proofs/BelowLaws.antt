@@ -14,7 +14,7 @@ use Rattle.segment_layout.proofs.ChargeLaws.{room_of_buffer}
 use Rattle.segment_layout.proofs.BalanceLaws.{filled_by_charge}
 use Rattle.segment_layout.proofs.ShapeLaws.{IsGrid-with_entry, buffer_of-zero, taken-with_entry_same}
 use Rattle.table_rules.specs.Suffixes.{Stands}
-use Rattle.table_rules.specs.Tables.{PlacedTable, lies_in_buffer, lies_in_payload, nth}
+use Rattle.table_rules.specs.Tables.{TableInLayout, lies_in_buffer, lies_in_payload, nth}
 use Rattle.table_rules.proofs.SuffixLaws.{below_of_places}
 use Rattle.extent_table.specs.declared.spot.Spot.{Spot}
 use Rattle.extent_table.specs.Extents.{Spots, record_of}
@@ -55,7 +55,7 @@ module _ (classes size_max k : ℕ) (caps : List ℕ) (b : ℕ) where
   }
 
   module _ (grid : List (List ℕ)) (spots : Spots) (h : IsLaidBelow classes size_max k caps grid b spots) where
-    abbrev table : PlacedTable
+    abbrev table : TableInLayout
     table = settled_table classes size_max k caps grid spots
 
     -- ---- a buffer that has room for a byte is of a class in use

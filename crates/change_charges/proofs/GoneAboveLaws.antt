@@ -12,7 +12,7 @@ use Rattle.map_model.proofs.MapLaws.{name_order}
 use Rattle.segment_layout.proofs.BookLaws.{sum_by-filter}
 use Rattle.segment_layout.proofs.SumLaws.{sum_below_agree}
 use Rattle.table_rules.specs.Suffixes.{KeepsBelow, Stands}
-use Rattle.table_rules.specs.Tables.{Apart, PlacedTable, dead_in_buffer, is_of, lies_in_buffer, lies_in_payload, live_in_buffer, live_in_payload, nth}
+use Rattle.table_rules.specs.Tables.{Apart, TableInLayout, dead_in_buffer, is_of, lies_in_buffer, lies_in_payload, live_in_buffer, live_in_payload, nth}
 use Rattle.extent_table.specs.declared.spot.Spot.{Spot}
 use Rattle.extent_table.specs.Extents.{Spots, record_of, records_of}
 use Rattle.placement_model.specs.Weights.{weight}
@@ -40,10 +40,10 @@ left_over spots name q x is =
 
 module _ (classes size_max k len : ℕ) (header : Header) (b : ℕ) (spots : Spots) (named : AreNamed spots)
     (name : List ℕ) (s : Spot) (there : fin.get spots name ≡ Some s) (high : b ≤ class_of s.size) where
-  abbrev before : PlacedTable
+  abbrev before : TableInLayout
   before = laid classes size_max k len header spots
 
-  abbrev gone : PlacedTable
+  abbrev gone : TableInLayout
   gone = laid classes size_max k len header (fin.remove spots name)
 
   no_weight : (g : Record → Bool) (c : ℕ) → c < b

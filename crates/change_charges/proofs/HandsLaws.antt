@@ -18,7 +18,7 @@ use Rattle.span_math.specs.declared.span.Span.{Span}
 use Rattle.segment_layout.specs.Shapes.{end_of}
 use Rattle.table_rules.specs.Rules.{KeepsPlaces}
 use Rattle.table_rules.specs.Suffixes.{KeepsBelow}
-use Rattle.table_rules.specs.Tables.{HasFullRows, PlacedTable}
+use Rattle.table_rules.specs.Tables.{HasFullRows, TableInLayout}
 use Rattle.table_rules.proofs.SuffixLaws.{valid_for_suffix}
 use Rattle.extent_table.specs.declared.spot.Spot.{Spot}
 use Rattle.extent_table.specs.Extents.{Extents, IsTable, Spots}
@@ -88,7 +88,7 @@ module _ (f : FlushFrame) (caps : List ℕ) (grid kept_grid : List (List ℕ)) (
   abbrev numbers : ℕ → Numbers
   numbers pending = numbers_of k caps b items pending
 
-  abbrev begun : ℕ → Spots → PlacedTable
+  abbrev begun : ℕ → Spots → TableInLayout
   begun pending now = laid f.classes f.size_max k f.reach
       (begun_header b (numbers pending).wall (numbers pending).slack caps grid) now
 

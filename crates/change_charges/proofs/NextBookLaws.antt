@@ -17,7 +17,7 @@ use Rattle.segment_layout.specs.Shapes.{boundary_of, buffer_for, buffer_start, s
 use Rattle.segment_layout.proofs.ChargeLaws.{room_of_buffer}
 use Rattle.segment_layout.proofs.ChargingLaws.{last_found}
 use Rattle.segment_layout.proofs.NextLaws.{after_here, after_other}
-use Rattle.table_rules.specs.Tables.{PlacedTable, book_of, is_buffered, lies_in_payload}
+use Rattle.table_rules.specs.Tables.{TableInLayout, book_of, is_buffered, lies_in_payload}
 use Rattle.extent_table.specs.declared.spot.Spot.{Spot}
 use Rattle.extent_table.specs.Extents.{Extents, Spots, record_of}
 use Rattle.placement_model.specs.Buffered.{AreBuffered, passes}
@@ -138,11 +138,11 @@ module _ (classes size_max : ℕ) (caps : List ℕ) (grid kept_grid : List (List
 
   -- ---- the names that stand in buffers
 
-  abbrev settled : PlacedTable
+  abbrev settled : TableInLayout
   settled = settled_table classes size_max k caps grid e.now
 
   -- what is said of the table, if it lies by these capacities
-  abbrev pub begun : ℕ → ℕ → ℕ → Spots → PlacedTable
+  abbrev pub begun : ℕ → ℕ → ℕ → Spots → TableInLayout
   begun wall slack reach now = laid classes size_max k reach (begun_header b wall slack caps after) now
 
   -- whether another name stands in a buffer is as it was

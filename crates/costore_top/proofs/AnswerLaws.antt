@@ -59,7 +59,7 @@ one_map file m n b c o p =
     ∙ ap (λ t. tables.map_of (head_len t.chosen.block.names) file t.records) same
     ∙ sym p.opens.same_map
 
-one_told : (text : choice.Table → ℕ → List ℕ) (file : List ℕ) (a b : Result (List ℕ) StopReason)
+one_told : (text : choice.SlotTable → ℕ → List ℕ) (file : List ℕ) (a b : Result (List ℕ) StopReason)
     → IsTold text file a → IsTold text file b → a ≡ b
 one_told text file a b (inl g) (inl h) =
     g.same
@@ -101,13 +101,13 @@ unfolding IsAnswer
 given_answer at name file m b opens = inl (record { map = m; book = b; opens = opens; same = refl })
 
 -- a text of the table by which the file opens is the answer of the command that puts it
-pub checked_answer : (at file : List ℕ) (t : choice.Table) (m : Map) (b : Book)
+pub checked_answer : (at file : List ℕ) (t : choice.SlotTable) (m : Map) (b : Book)
     → OpensBy CLASSES SIZE_MAX t file m b → IsAnswer (check at) file (Ok (check_text t (length file)))
 unfolding IsAnswer
 checked_answer at file t m b opens =
     inl (record { table = t; map = m; book = b; opens = opens; same = refl })
 
-pub mapped_answer : (at file : List ℕ) (t : choice.Table) (m : Map) (b : Book)
+pub mapped_answer : (at file : List ℕ) (t : choice.SlotTable) (m : Map) (b : Book)
     → OpensBy CLASSES SIZE_MAX t file m b → IsAnswer (map_of at) file (Ok (map_text t))
 unfolding IsAnswer
 mapped_answer at file t m b opens =

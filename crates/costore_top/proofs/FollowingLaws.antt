@@ -38,7 +38,7 @@ use Rattle.costore_top.proofs.PlainStates.{chain_plain, last_plain, starts_plain
 -- ---- numbers
 
 -- a superblock that is read has a divisor of at most 64
-pub block_high : (file : List ℕ) (t : choice.Table) → choice.table_of file ≡ Ok t → t.chosen.block.k ≤ 64
+pub block_high : (file : List ℕ) (t : choice.SlotTable) → choice.table_of file ≡ Ok t → t.chosen.block.k ≤ 64
 block_high file t read =
     let p = chosen_parts file t.chosen (table_chosen file t read).0 in
     let q = in_use_parts file p.in_use p.slot_read in
@@ -57,15 +57,15 @@ found_by kind.Settled q = omega arith
 found_by kind.Moving q = omega arith
 
 -- what leaves room twice leaves room
-room_once : (t : choice.Table) → LeavesRoomTwice t → LeavesRoom t
+room_once : (t : choice.SlotTable) → LeavesRoomTwice t → LeavesRoom t
 room_once t twice = room_by t.chosen.header.kind t.chosen.header.sequence
     (omega (arith, twice, found_by t.chosen.header.kind t.chosen.header.sequence))
 
-most_low : (t : choice.Table) → t.chosen.block.k ≤ 64 → LeavesRoomTwice t
+most_low : (t : choice.SlotTable) → t.chosen.block.k ≤ 64 → LeavesRoomTwice t
     → most_left t.chosen.block.k t ≤ 2 ^ 62 - 2 ^ 19
 most_low t high twice = max-le (omega (arith, twice)) (omega (arith, high))
 
-pub below_the_limit : (t : choice.Table) (file : List ℕ) (m : Map) (b : Book)
+pub below_the_limit : (t : choice.SlotTable) (file : List ℕ) (m : Map) (b : Book)
     → OpensBy CLASSES SIZE_MAX t file m b
     → most_left t.chosen.block.k t < max (most_found t + 1) (2 ^ 61 + 130)
 below_the_limit t file m b o =
@@ -80,7 +80,7 @@ below_the_limit t file m b o =
 -- ---- images
 
 -- a disk that a crash leaves alone rests on each table
-pub rests_alone : (t : choice.Table) (d : State) → Only d.file d.may_leave → RestsOnFound t d
+pub rests_alone : (t : choice.SlotTable) (d : State) → Only d.file d.may_leave → RestsOnFound t d
 rests_alone t d only image left = subst (SameOnFound t d.file) (sym (only image left)) (alike_itself t d.file)
 
 -- an image opens, to some map and some book of version 1
@@ -106,7 +106,7 @@ being_opens status limits s (r ∷ others) image plain is =
     let t = (store.served limits s r).state in
     record { m = t.map; b = t.book; plain = (served_plain limits s r plain).book; opens = is.1.1 }
 
-begins : (t : choice.Table) → t.chosen.block.k ≤ 64 → LeavesRoomTwice t → (image : List ℕ)
+begins : (t : choice.SlotTable) → t.chosen.block.k ≤ 64 → LeavesRoomTwice t → (image : List ℕ)
     → HasSequenceUpTo (most_left t.chosen.block.k t) image → IsOpen image
     → MayBegin (most_left t.chosen.block.k t) image
 begins t high twice image up is =
@@ -126,7 +126,7 @@ begins t high twice image up is =
 -- ---- calls
 
 -- where no call of the disk failed the file is the start
-pub calm_begins : {t : choice.Table} {s : store.State} {q : ℕ} {old z : State} → t.chosen.block.k ≤ 64
+pub calm_begins : {t : choice.SlotTable} {s : store.State} {q : ℕ} {old z : State} → t.chosen.block.k ≤ 64
     → LeavesRoomTwice t → ArePlain s → IsNextStart t s q old z → q ≤ most_left t.chosen.block.k t
     → MayBegin (most_left t.chosen.block.k t) z.file
 calm_begins {t} {s} {q} {old} {z} high twice plain next low =
@@ -144,7 +144,7 @@ calm_begins {t} {s} {q} {old} {z} high twice plain next low =
           (omega (arith, within, most_low t high twice));
     }
 
-module _ {t : choice.Table} {m : Map} {b : Book} {old z : State} {out after : SinkState}
+module _ {t : choice.SlotTable} {m : Map} {b : Book} {old z : State} {out after : SinkState}
     (plain : IsPlain b) (o : OpensBy CLASSES SIZE_MAX t old.file m b) (twice : LeavesRoomTwice t)
     (rests : RestsOnFound t old)
     (below : z.turn < last) where

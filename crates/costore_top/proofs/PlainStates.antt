@@ -42,7 +42,7 @@ last_plain limits s (r ∷ rs) (reply ∷ replies) (t ∷ states) h c =
     last_plain limits t rs replies states (step_plain limits s t r reply h c.0) c.1
 
 -- a state that was found begins with the book that the file opens to
-pub starts_plain : (t : choice.Table) (m : Map) (b : Book) (s : State) → IsPlain b → Starts t m b s
+pub starts_plain : (t : choice.SlotTable) (m : Map) (b : Book) (s : State) → IsPlain b → Starts t m b s
     → ArePlain s
 starts_plain t m b s plain is = record {
   book = ap (λ (x : State). x.book.digests) is.state ∙ plain;

@@ -11,7 +11,7 @@ use Rattle.store_core.specs.Plain.{IsPlain}
 -- A file opens to a book of version 1, by a table whose sequence is at most this, and leaves room for
 -- the saves of an opening.
 pub record MayBegin (most : ℕ) (file : List ℕ) : Type 0 where
-  pub table : choice.Table
+  pub table : choice.SlotTable
   pub m : Map
   pub b : Book
   pub plain : IsPlain b
@@ -20,5 +20,5 @@ pub record MayBegin (most : ℕ) (file : List ℕ) : Type 0 where
   pub room : LeavesRoom table
 
 -- A sequence leaves room for an opening that is interrupted, and for the one after it.
-abbrev pub LeavesRoomTwice : choice.Table → Type 0
+abbrev pub LeavesRoomTwice : choice.SlotTable → Type 0
 LeavesRoomTwice t = most_found t + 2 ^ 19 ≤ 2 ^ 62

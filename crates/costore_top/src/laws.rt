@@ -36,9 +36,9 @@ pub fn one_answer()
         → IsAnswer c file other → answer ≡ other }
     ensures given { (at name file : List ℕ) (m : Map) (b : Book) → Opens CLASSES SIZE_MAX file m b
         → IsAnswer (get at name) file (or_missing (fin.get m name)) }
-    ensures checked { (at file : List ℕ) (t : choice.Table) (m : Map) (b : Book)
+    ensures checked { (at file : List ℕ) (t : choice.SlotTable) (m : Map) (b : Book)
         → OpensBy CLASSES SIZE_MAX t file m b → IsAnswer (check at) file (Ok (check_text t (length file))) }
-    ensures mapped { (at file : List ℕ) (t : choice.Table) (m : Map) (b : Book)
+    ensures mapped { (at file : List ℕ) (t : choice.SlotTable) (m : Map) (b : Book)
         → OpensBy CLASSES SIZE_MAX t file m b → IsAnswer (map_of at) file (Ok (map_text t)) }
 {}
 
@@ -57,7 +57,7 @@ pub fn ends_by_the_answer()
 /// requests keep, or an opening raised it by fewer than 2^18. So a call may follow each crash while the
 /// sequence found leaves room twice.
 pub fn a_crash_may_be_followed_by_a_call<B: Bay, I: Source, O: Sink>()
-    ensures run { (t : choice.Table) (m : Map) (b : Book) (requests : List Request) (end : List ℕ)
+    ensures run { (t : choice.SlotTable) (m : Map) (b : Book) (requests : List Request) (end : List ℕ)
         (o : Outcome) (old new : B) (from rest : I) (out after : O) → IsPlain b
         → OpensBy CLASSES SIZE_MAX t (B.state old).file m b
         → Asks (I.state from).left requests end
@@ -65,13 +65,13 @@ pub fn a_crash_may_be_followed_by_a_call<B: Bay, I: Source, O: Sink>()
             (I.state from) (I.state rest)
         → LeavesRoomTwice t → RestsOnFound t (B.state old) → (B.state new).turn < last
         → LeftOnly (B.state new) (B.state old).turn (MayBegin (most_left t.chosen.block.k t)) }
-    ensures work { (t : choice.Table) (m : Map) (b : Book) (number count status : ℕ) (old new : B)
+    ensures work { (t : choice.SlotTable) (m : Map) (b : Book) (number count status : ℕ) (old new : B)
         (out after : O) → IsPlain b → OpensBy CLASSES SIZE_MAX t (B.state old).file m b
         → WorkPromise number count status (devices (B.state old) (O.state out))
             (devices (B.state new) (O.state after))
         → LeavesRoomTwice t → RestsOnFound t (B.state old) → (B.state new).turn < last
         → LeftOnly (B.state new) (B.state old).turn (MayBegin (most_left t.chosen.block.k t)) }
-    ensures calm { (t : choice.Table) (m : Map) (b : Book) (requests : List Request) (end : List ℕ)
+    ensures calm { (t : choice.SlotTable) (m : Map) (b : Book) (requests : List Request) (end : List ℕ)
         (o : Outcome) (old new : B) (from rest : I) (out after : O) → IsPlain b
         → OpensBy CLASSES SIZE_MAX t (B.state old).file m b
         → Asks (I.state from).left requests end
@@ -79,15 +79,15 @@ pub fn a_crash_may_be_followed_by_a_call<B: Bay, I: Source, O: Sink>()
             (I.state from) (I.state rest)
         → LeavesRoomTwice t → IsCalm (B.state old).faults (B.state new).faults
         → MayBegin (most_left t.chosen.block.k t) (B.state new).file }
-    ensures calm_work { (t : choice.Table) (m : Map) (b : Book) (number count status : ℕ) (old new : B)
+    ensures calm_work { (t : choice.SlotTable) (m : Map) (b : Book) (number count status : ℕ) (old new : B)
         (out after : O) → IsPlain b → OpensBy CLASSES SIZE_MAX t (B.state old).file m b
         → WorkPromise number count status (devices (B.state old) (O.state out))
             (devices (B.state new) (O.state after))
         → LeavesRoomTwice t → IsCalm (B.state old).faults (B.state new).faults
         → MayBegin (most_left t.chosen.block.k t) (B.state new).file }
-    ensures low { (t : choice.Table) (file : List ℕ) (m : Map) (b : Book)
+    ensures low { (t : choice.SlotTable) (file : List ℕ) (m : Map) (b : Book)
         → OpensBy CLASSES SIZE_MAX t file m b
         → most_left t.chosen.block.k t < max (most_found t + 1) (2 ^ 61 + 130) }
-    ensures rests { (t : choice.Table) (d : B) → Only (B.state d).file (B.state d).may_leave
+    ensures rests { (t : choice.SlotTable) (d : B) → Only (B.state d).file (B.state d).may_leave
         → RestsOnFound t (B.state d) }
 {}

@@ -20,7 +20,7 @@ use Rattle.segment_layout.proofs.LayoutLaws.{taken_nothing}
 use Rattle.segment_layout.proofs.ShapeLaws.{end_of-rest}
 use Rattle.table_rules.specs.Opening.{Opens, OpensBy}
 use Rattle.table_rules.specs.Rules.{IsValid}
-use Rattle.table_rules.specs.Tables.{PlacedTable, book_of, end_of_record, last_end, nth}
+use Rattle.table_rules.specs.Tables.{TableInLayout, book_of, end_of_record, last_end, nth}
 use Rattle.file_commands.specs.Formatting.{IsNoneOrEmpty}
 
 -- a layout of segments without capacity ends where it begins
@@ -29,7 +29,7 @@ no_layout k classes = end_of-rest k zero_row classes (λ c _. zero_row-index c)
     ∙ sym (end_of-rest k zero_row 0 (λ c _. zero_row-index c))
 
 -- a table without records, whose header has this
-abbrev none_under : ℕ → ℕ → Header → PlacedTable
+abbrev none_under : ℕ → ℕ → Header → TableInLayout
 none_under k data_len header = record {
   classes = CLASSES;
   size_max = SIZE_MAX;

@@ -63,7 +63,7 @@ module _ (base : ℕ) (file : List ℕ) where
     sizes_are rs (λ i low. within (suc i) (omega (arith, low))),
   )
 
-module _ (classes most : ℕ) (t : choice.Table) (file : List ℕ) (m : Map) (b : Book)
+module _ (classes most : ℕ) (t : choice.SlotTable) (file : List ℕ) (m : Map) (b : Book)
     (o : OpensBy classes most t file m b) where
   rise : RiseFrom None t.records
   rise = table_rises file t o.read

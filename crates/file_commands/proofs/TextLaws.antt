@@ -29,7 +29,7 @@ joined s x y z u v w t a b c d first second third last =
     grind (arith, common_steps, first, second, third, last)
 
 -- the line of `check`, by the numbers that were put
-pub check_line : (t : choice.Table) (len count bytes data_len : ℕ) (a b c d : List ℕ)
+pub check_line : (t : choice.SlotTable) (len count bytes data_len : ℕ) (a b c d : List ℕ)
     → count ≡ length t.records → bytes ≡ size_sum t.records → data_len ≡ data_of t len → a ≡ codes "store"
     → b ≡ a ++ numbered t.chosen.block.k ++ numbered t.chosen.block.names ++ numbered count
     → c ≡ b ++ numbered bytes ++ numbered data_len ++ numbered t.chosen.header.sequence
@@ -70,7 +70,7 @@ records_volume x keeps = records_sum (λ (r : Record). r.size) x.table.now keeps
     ∙ sym (volume_of-weights x.table.now)
 
 -- a text of the table that was read is the one that is to be told
-pub told_of : (text : choice.Table → ℕ → List ℕ) (file : List ℕ) (x : Loaded CLASSES)
+pub told_of : (text : choice.SlotTable → ℕ → List ℕ) (file : List ℕ) (x : Loaded CLASSES)
     (from : IsLoadedFrom file x) → IsTold text file (Ok (text (table_seen x from.digests) (length file)))
 told_of text file x from = inl (record {
   table = table_seen x from.digests;

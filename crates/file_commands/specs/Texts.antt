@@ -25,11 +25,11 @@ kind_text Settled = codes " still\n"
 kind_text Moving = codes " moving\n"
 
 -- how many bytes of a file of this length lie behind its head
-abbrev pub data_of : choice.Table → ℕ → ℕ
+abbrev pub data_of : choice.SlotTable → ℕ → ℕ
 data_of t len = len - head_len t.chosen.block.names
 
 -- The one line of `check`, of a table and the length of its file: K NAMES COUNT BYTES DATA SEQUENCE KIND.
-abbrev pub check_text : choice.Table → ℕ → List ℕ
+abbrev pub check_text : choice.SlotTable → ℕ → List ℕ
 check_text t len = codes "store" ++ numbered t.chosen.block.k ++ numbered t.chosen.block.names
     ++ numbered (length t.records) ++ numbered (size_sum t.records) ++ numbered (data_of t len)
     ++ numbered t.chosen.header.sequence ++ kind_text t.chosen.header.kind
@@ -55,7 +55,7 @@ abbrev pub object_line : Record → List ℕ
 object_line r = codes "object " ++ r.name ++ numbered r.place ++ numbered r.size ++ codes "\n"
 
 -- The lines of `map`: those of the flush that was interrupted, of the classes, and of the records in order.
-abbrev pub map_text : choice.Table → List ℕ
+abbrev pub map_text : choice.SlotTable → List ℕ
 map_text t = moving_line t.chosen.header t.chosen.header.kind
     ++ flat_map (class_line t.chosen.block.k t.chosen.header) (below width)
     ++ flat_map object_line t.records
@@ -75,16 +75,17 @@ pub record Gathers (put piece put_after piece_after bytes : List ℕ)
 -- ---- the answers
 
 -- The file opens by a table, and the answer is a text of that table and of the file's length.
-pub record IsToldOf (text : choice.Table → ℕ → List ℕ) (file : List ℕ) (answer : Result (List ℕ) StopReason)
+pub record IsToldOf (text : choice.SlotTable → ℕ
+    → List ℕ) (file : List ℕ) (answer : Result (List ℕ) StopReason)
     : Type 0 where
-  pub table : choice.Table
+  pub table : choice.SlotTable
   pub map : Map
   pub book : Book
   pub opens : OpensBy CLASSES SIZE_MAX table file map book
   pub same : answer ≡ Ok (text table (length file))
 
 -- what a command is to answer that puts such a text
-abbrev pub IsTold : (choice.Table → ℕ → List ℕ) → List ℕ → Result (List ℕ) StopReason → Type 0
+abbrev pub IsTold : (choice.SlotTable → ℕ → List ℕ) → List ℕ → Result (List ℕ) StopReason → Type 0
 IsTold text file answer = IsToldOf text file answer ⊎ IsRefused file answer
 
 -- what `check` is to answer, and what `map` is

@@ -9,7 +9,7 @@ use Rattle.table_rules.specs.Tables.{no_record}
 
 -- a table with k = 9 and room for 16 names: its kind, boundary, sequence, wall and slack, the capacity of
 -- class 2, and its records
-abbrev pub small_table : Kind → ℕ → ℕ → ℕ → ℕ → ℕ → List Record → choice.Table
+abbrev pub small_table : Kind → ℕ → ℕ → ℕ → ℕ → ℕ → List Record → choice.SlotTable
 small_table kind boundary sequence wall slack cap records = record {
   chosen = record {
     block = record { k = 9; names = 16 };
@@ -31,11 +31,11 @@ small_table kind boundary sequence wall slack cap records = record {
 }
 
 -- `a` has 5 bytes, in the payload segment of class 2
-abbrev pub hello : choice.Table
+abbrev pub hello : choice.SlotTable
 hello = small_table Settled 0 1 0 0 5 (record no_record { name = codes "a"; size = 5 } ∷ [])
 
 -- a flush stopped after three objects were moved up
-abbrev pub moved_up : choice.Table
+abbrev pub moved_up : choice.SlotTable
 moved_up = small_table Moving 2 3 239 112 0 (
     record no_record { name = codes "a"; place = 139; size = 100 } ∷
     record no_record { name = codes "b"; place = 239; size = 10 } ∷

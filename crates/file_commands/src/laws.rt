@@ -15,9 +15,9 @@ use size_class::{CLASSES, SIZE_MAX};
 /// The table by which a file opens has a record for each name of the map for which the file stands,
 /// and their sizes together are the map's bytes. So `check` tells how many names and bytes there are.
 pub fn told_of_the_map()
-    ensures names { (t : choice.Table) (file : List ℕ) (m : Map) (b : Book)
+    ensures names { (t : choice.SlotTable) (file : List ℕ) (m : Map) (b : Book)
         → OpensBy CLASSES SIZE_MAX t file m b → length t.records ≡ fin.len m }
-    ensures bytes { (t : choice.Table) (file : List ℕ) (m : Map) (b : Book)
+    ensures bytes { (t : choice.SlotTable) (file : List ℕ) (m : Map) (b : Book)
         → OpensBy CLASSES SIZE_MAX t file m b → size_sum t.records ≡ volume m }
 {}
 

@@ -14,7 +14,8 @@ use Rattle.extent_table.proofs.RollLaws.{rolled-plain}
 use Rattle.flush_run.specs.Saves.{saved_table}
 use Rattle.flush_run.proofs.SavedLaws.{saved_table_is}
 
-pub rolled_count : (now : Spots) (digests : choice.Digests) → length (rolled now digests) ≡ length (records_of now)
+pub rolled_count : (now : Spots) (digests : choice.Digests)
+    → length (rolled now digests) ≡ length (records_of now)
 rolled_count now digests = length-map (records_of now) (with_digest digests)
 
 module _ (u : choice.InUse) (h : Header) (now : Spots) (digests : choice.Digests) (one : h.version ≡ 1) where
@@ -37,7 +38,7 @@ module _ (u : choice.InUse) (h : Header) (now : Spots) (digests : choice.Digests
       → IsSaved (next_chosen u h (length (records_of now))) (records_of now) image
   rolled_saved image saved = record {
     slot = saved.slot ∙ ap (λ n. Ok (next_chosen u h n)) (rolled_count now digests);
-    table = saved.table ∙ ap (λ (t : choice.Table). Ok t) same_table;
+    table = saved.table ∙ ap (λ (t : choice.SlotTable). Ok t) same_table;
   }
 
   either_saved : (old : choice.Chosen) (file image : List ℕ)

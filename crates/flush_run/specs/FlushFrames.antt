@@ -46,7 +46,8 @@ pub record IsOldOrNew (f : FlushFrame) (most : ℕ) (image : List ℕ) : Type 0 
   pub longest : length image ≤ f.base + f.reach
 
 -- the last checkpoint: which of the two it is, and that its records are those of the spots that were kept
-pub record IsCheckpoint (f : FlushFrame) (t : choice.Table) (kept : Spots) (m : Map) (b : Book) : Type 0 where
+pub record IsCheckpoint (f : FlushFrame) (t : choice.SlotTable) (kept : Spots) (m : Map)
+    (b : Book) : Type 0 where
   pub either : IsBeforeOrAfter f m b
   pub base : f.base ≡ head_len t.chosen.block.names
   pub records : t.records ≡ records_of kept
@@ -62,7 +63,7 @@ pub record ContentHolds (f : FlushFrame) (in_use : choice.InUse) (now : Spots) (
   pub live : read_at f.base file now ≡ f.new_map
 
 -- what each image has: the checkpoint, the content's bytes below the data part, and a length up to the reach
-pub record MidFlushImage (f : FlushFrame) (t : choice.Table) (m : Map) (b : Book)
+pub record MidFlushImage (f : FlushFrame) (t : choice.SlotTable) (m : Map) (b : Book)
     (file image : List ℕ) : Type 0
   where
     pub opens : OpensBy f.classes f.size_max t image m b
@@ -72,7 +73,7 @@ pub record MidFlushImage (f : FlushFrame) (t : choice.Table) (m : Map) (b : Book
 -- What opens: the content does by the checkpoint's table, and so does each image.
 pub record OpensEither (f : FlushFrame) (kept : Spots) (file : List ℕ) (may_leave : List ℕ → Type 0) : Type 0
   where
-    pub t : choice.Table
+    pub t : choice.SlotTable
     pub m : Map
     pub b : Book
     pub checkpoint : IsCheckpoint f t kept m b

@@ -13,7 +13,7 @@ use Rattle.segment_layout.proofs.BalanceLaws.{filled_by_charge}
 use Rattle.segment_layout.specs.Balance.{IsFilled}
 use Rattle.segment_layout.proofs.BookLaws.{sum_by-filter}
 use Rattle.segment_layout.proofs.SumLaws.{sum_below_le, sum_by_same_places}
-use Rattle.table_rules.specs.Tables.{PlacedTable, no_record, nth, end_of_record, is_of, lies_within, lies_in_buffer, live_in_buffer, dead_in_buffer}
+use Rattle.table_rules.specs.Tables.{TableInLayout, no_record, nth, end_of_record, is_of, lies_within, lies_in_buffer, live_in_buffer, dead_in_buffer}
 use Rattle.table_rules.specs.Suffixes.{KeepsBelow, Stands}
 use Rattle.placement_model.proofs.SegmentLaws.{start_of-rises}
 use Rattle.placement_model.specs.Changes.{charged}
@@ -43,7 +43,7 @@ pub within_from : (low high : ℕ) (r : Record) → low ≤ r.place → end_of_r
 within_from low high r a b = and_from (nat_le low r.place) (nat_le (end_of_record r) high)
     (le-leb low r.place a) (le-leb (end_of_record r) high b)
 
-module _ (b : ℕ) (t : PlacedTable) (filled : IsFilled t.k t.header.caps t.header.used) (size j : ℕ)
+module _ (b : ℕ) (t : TableInLayout) (filled : IsFilled t.k t.header.caps t.header.used) (size j : ℕ)
     (some : 1 ≤ size) (found : buffer_for t.k t.header.caps t.header.used (class_of size) size ≡ Some j) where
   pub room : RoomIn t.k t.header.caps t.header.used (class_of size) size j
   room = room_of_buffer t.k t.header.caps t.header.used (class_of size) size (class_below size) j found

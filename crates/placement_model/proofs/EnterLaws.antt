@@ -19,7 +19,7 @@ use Rattle.segment_layout.proofs.ShapeLaws.{cell-with_entry_same, taken-with_ent
 use Rattle.segment_layout.specs.Balance.{IsFilled}
 use Rattle.segment_layout.proofs.BookLaws.{sum_by-filter}
 use Rattle.segment_layout.proofs.SumLaws.{sum_below_le}
-use Rattle.table_rules.specs.Tables.{Apart, PlacedTable, dead_in_buffer, end_of_record, is_of, lies_in_buffer, lies_in_payload, live_in_buffer, live_in_payload, no_record, nth}
+use Rattle.table_rules.specs.Tables.{Apart, TableInLayout, dead_in_buffer, end_of_record, is_of, lies_in_buffer, lies_in_payload, live_in_buffer, live_in_payload, no_record, nth}
 use Rattle.table_rules.specs.Suffixes.{KeepsBelow, Stands}
 use Rattle.extent_table.specs.declared.spot.Spot.{Spot}
 use Rattle.extent_table.specs.Extents.{Spots, record_of, records_of}
@@ -105,14 +105,14 @@ module _ (classes size_max k len : ℕ) (header : Header) (b : ℕ) (spots : Spo
     (filled : IsFilled k header.caps header.used) (name : List ℕ) (is : IsName name)
     (new : fin.get spots name ≡ None) (size j : ℕ) (some : 1 ≤ size)
     (found : buffer_for k header.caps header.used (class_of size) size ≡ Some j) where
-  abbrev before : PlacedTable
+  abbrev before : TableInLayout
   before = laid classes size_max k len header spots
 
   abbrev spot : Spot
   spot = charged_spot k header.caps header.used size j
 
   -- the table with the new name, once its bytes are charged
-  abbrev entered : PlacedTable
+  abbrev entered : TableInLayout
   entered = charged (laid classes size_max k len header (fin.insert spots name spot)) size j
 
   -- what stands is apart from the charged range

@@ -15,7 +15,7 @@ use Rattle.segment_layout.proofs.ShapeLaws.{cell-with_entry_same}
 use Rattle.segment_layout.specs.Balance.{IsFilled}
 use Rattle.segment_layout.proofs.BookLaws.{sum_by-filter}
 use Rattle.segment_layout.proofs.SumLaws.{sum_below_le, sum_below_one}
-use Rattle.table_rules.specs.Tables.{Apart, PlacedTable, dead_in_buffer, is_of, lies_in_buffer, lies_in_payload, live_in_buffer, live_in_payload, no_record, nth}
+use Rattle.table_rules.specs.Tables.{Apart, TableInLayout, dead_in_buffer, is_of, lies_in_buffer, lies_in_payload, live_in_buffer, live_in_payload, no_record, nth}
 use Rattle.table_rules.specs.Suffixes.{KeepsBelow, Stands}
 use Rattle.extent_table.specs.declared.spot.Spot.{Spot}
 use Rattle.extent_table.specs.Extents.{Spots, record_of, records_of}
@@ -79,10 +79,10 @@ apart_by_name spots named apart a c x y is also differ =
 
 module _ (classes size_max k len : ℕ) (header : Header) (b : ℕ) (spots : Spots) (named : AreNamed spots)
     (name : List ℕ) (s : Spot) (there : fin.get spots name ≡ Some s) where
-  abbrev before : PlacedTable
+  abbrev before : TableInLayout
   before = laid classes size_max k len header spots
 
-  abbrev gone : PlacedTable
+  abbrev gone : TableInLayout
   gone = laid classes size_max k len header (fin.remove spots name)
 
   one_less : (f : Record → ℕ) → sum_by f (records_of (fin.remove spots name)) + f (record_of (name, s))

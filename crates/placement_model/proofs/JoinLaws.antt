@@ -13,7 +13,7 @@ use Rattle.map_model.proofs.MapLaws.{same_name-itself}
 use Rattle.segment_layout.proofs.BookLaws.{sum_by-filter}
 use Rattle.segment_layout.proofs.SumLaws.{sum_below_agree}
 use Rattle.table_rules.specs.Suffixes.{KeepsBelow, Stands}
-use Rattle.table_rules.specs.Tables.{Apart, PlacedTable, dead_in_buffer, is_of, lies_in_buffer, lies_in_payload, live_in_buffer, live_in_payload, nth}
+use Rattle.table_rules.specs.Tables.{Apart, TableInLayout, dead_in_buffer, is_of, lies_in_buffer, lies_in_payload, live_in_buffer, live_in_payload, nth}
 use Rattle.extent_table.specs.declared.spot.Spot.{Spot}
 use Rattle.extent_table.specs.Extents.{Spots, record_of, records_of}
 use Rattle.placement_model.specs.Weights.{weight}
@@ -28,11 +28,11 @@ use Rattle.placement_model.specs.Joins.{IsAlone, empty_spot}
 module _ (classes size_max k len : ℕ) (header : Header) (b : ℕ) (spots : Spots) (named : AreNamed spots)
     (name : List ℕ) (is : IsName name) (new : fin.get spots name ≡ None) (s : Spot)
     (unseen : (s.size ≡ 0) ⊎ (b ≤ class_of s.size)) where
-  abbrev before : PlacedTable
+  abbrev before : TableInLayout
   before = laid classes size_max k len header spots
 
   -- the table with the new name
-  abbrev joined : PlacedTable
+  abbrev joined : TableInLayout
   joined = laid classes size_max k len header (fin.insert spots name s)
 
   no_weight : (g : Record → Bool) (c : ℕ) → c < b

@@ -4,11 +4,11 @@ use Rattle.std.specs.Prelude.{◌≡◌, ℕ, ◌≤◌, nat_lt, if◌then◌els
 use Rattle.std.proofs.Common.{subst, sym}
 use Rattle.slot_codec.specs.declared.codec.Kind.{Kind}
 use Rattle.slot_codec.specs.declared.codec.Kind.TheVariants.{Settled, Moving}
-use Rattle.table_rules.specs.Tables.{PlacedTable, book_of, last_end, nth, end_of_record}
+use Rattle.table_rules.specs.Tables.{TableInLayout, book_of, last_end, nth, end_of_record}
 use Rattle.table_rules.specs.Rules.{KeepsPlaces, CanResume, IsMore, IsValid, KindFits}
 use Rattle.placement_model.specs.Laid.{numbered}
 
-pub places_numbered : (q n : ℕ) (t : PlacedTable) → KeepsPlaces t → KeepsPlaces (numbered q n t)
+pub places_numbered : (q n : ℕ) (t : TableInLayout) → KeepsPlaces t → KeepsPlaces (numbered q n t)
 places_numbered q n t p = record {
   sizes = p.sizes;
   empty = p.empty;
@@ -20,15 +20,16 @@ places_numbered q n t p = record {
   full = λ c h. record { entry = (p.full c h).entry; full = (p.full c h).full };
 }
 
-front_numbered : (q n : ℕ) (t : PlacedTable) (kind : Kind) → KindFits t kind → KindFits (numbered q n t) kind
+front_numbered : (q n : ℕ) (t : TableInLayout) (kind : Kind) → KindFits t kind
+    → KindFits (numbered q n t) kind
 front_numbered q n t Settled h = h
 front_numbered q n t Moving h = h
 
-end_numbered : (q n : ℕ) (t : PlacedTable) (kind : Kind) → last_end (numbered q n t) kind ≡ last_end t kind
+end_numbered : (q n : ℕ) (t : TableInLayout) (kind : Kind) → last_end (numbered q n t) kind ≡ last_end t kind
 end_numbered q n t Settled = refl
 end_numbered q n t Moving = refl
 
-pub resume_numbered : (q n : ℕ) (t : PlacedTable) → CanResume t → CanResume (numbered q n t)
+pub resume_numbered : (q n : ℕ) (t : TableInLayout) → CanResume t → CanResume (numbered q n t)
 resume_numbered q n t r = record {
   room = record { wall = r.room.wall; slack = r.room.slack };
   places = λ i h. record {
@@ -38,11 +39,11 @@ resume_numbered q n t r = record {
   };
 }
 
-more_numbered : (q n : ℕ) (t : PlacedTable) (kind : Kind) → IsMore t kind → IsMore (numbered q n t) kind
+more_numbered : (q n : ℕ) (t : TableInLayout) (kind : Kind) → IsMore t kind → IsMore (numbered q n t) kind
 more_numbered q n t Settled h = h
 more_numbered q n t Moving h = resume_numbered q n t h
 
-pub valid_numbered : (q n : ℕ) (t : PlacedTable) → IsValid t → IsValid (numbered q n t)
+pub valid_numbered : (q n : ℕ) (t : TableInLayout) → IsValid t → IsValid (numbered q n t)
 valid_numbered q n t v = (
   record {
     places = places_numbered q n t v.0.places;
@@ -53,5 +54,5 @@ valid_numbered q n t v = (
   more_numbered q n t t.header.kind v.1,
 )
 
-pub book_numbered : (q n : ℕ) (t : PlacedTable) → book_of (numbered q n t) ≡ book_of t
+pub book_numbered : (q n : ℕ) (t : TableInLayout) → book_of (numbered q n t) ≡ book_of t
 book_numbered q n t = refl

@@ -11,7 +11,7 @@ use Rattle.segment_layout.specs.Balance.{IsFilled}
 use Rattle.segment_layout.proofs.LayoutLaws.{taken_nothing}
 use Rattle.segment_layout.proofs.ShapeLaws.{end_of-split, start_of-le}
 use Rattle.table_rules.specs.Suffixes.{KeepsBelow, Stands}
-use Rattle.table_rules.specs.Tables.{HasFullRows, PlacedTable, end_of_record, nth, lies_within, lies_in_payload}
+use Rattle.table_rules.specs.Tables.{HasFullRows, TableInLayout, end_of_record, nth, lies_within, lies_in_payload}
 use Rattle.table_rules.specs.Rules.{KeepsPlaces}
 use Rattle.table_rules.proofs.SuffixLaws.{below_of_places}
 use Rattle.table_rules.proofs.TableLaws.{zero_cell}
@@ -29,7 +29,7 @@ use Rattle.placement_model.proofs.SegmentLaws.{lies_parts, start_of-rises}
 use Rattle.placement_model.proofs.WholeLaws.{places_from_below}
 
 module _ (classes size_max k : ℕ) (caps : List ℕ) (grid : List (List ℕ)) (spots : Spots) where
-  abbrev table : PlacedTable
+  abbrev table : TableInLayout
   table = settled_table classes size_max k caps grid spots
 
   module _ (h : IsLaidOut classes size_max k caps grid spots) where

@@ -15,7 +15,7 @@ use Rattle.segment_layout.specs.Shapes.{settled_caps, settled_grid}
 use Rattle.segment_layout.specs.Books.{volumes_of_sizes}
 use Rattle.segment_layout.proofs.BalanceLaws.{bytes_in}
 use Rattle.segment_layout.proofs.BookLaws.{length-volumes_of_sizes, volumes_of_sizes-index}
-use Rattle.table_rules.specs.Tables.{PlacedTable, book_of, table_boundary, lies_in_payload, sizes, is_buffered}
+use Rattle.table_rules.specs.Tables.{TableInLayout, book_of, table_boundary, lies_in_payload, sizes, is_buffered}
 use Rattle.extent_table.specs.declared.spot.Spot.{Spot}
 use Rattle.extent_table.specs.Extents.{Spots, record_of, records_of}
 use Rattle.placement_model.proofs.BufferedLaws.{contains-chosen}
@@ -28,7 +28,7 @@ use Rattle.placement_model.proofs.SpotSumLaws.{records_sum-insert}
 
 module _ (classes size_max k len : ℕ) (header : Header) (spots : Spots) (named : AreNamed spots)
     (name : List ℕ) (s t : Spot) (there : fin.get spots name ≡ Some s) (same_size : t.size ≡ s.size) where
-  abbrev before : PlacedTable
+  abbrev before : TableInLayout
   before = laid classes size_max k len header spots
 
   is_a_name : IsName name

@@ -12,7 +12,7 @@ use Rattle.map_model.specs.Weights.{same_name}
 use Rattle.map_model.proofs.MapLaws.{same_name-itself}
 use Rattle.segment_layout.proofs.BookLaws.{sum_by-filter}
 use Rattle.segment_layout.proofs.SumLaws.{sum_below_agree}
-use Rattle.table_rules.specs.Tables.{Apart, PlacedTable, StandsInBuffer, table_boundary, dead_in_buffer, is_lower, is_of, lies_in_buffer, lies_in_payload, live_in_buffer, live_in_payload, nth}
+use Rattle.table_rules.specs.Tables.{Apart, TableInLayout, StandsInBuffer, table_boundary, dead_in_buffer, is_lower, is_of, lies_in_buffer, lies_in_payload, live_in_buffer, live_in_payload, nth}
 use Rattle.table_rules.specs.Rules.{KeepsPlaces}
 use Rattle.extent_table.specs.declared.spot.Spot.{Spot}
 use Rattle.extent_table.specs.Extents.{Spots, record_of, records_of}
@@ -26,10 +26,10 @@ use Rattle.placement_model.proofs.GoneLaws.{apart_by_name}
 
 module _ (classes size_max k len : ℕ) (header : Header) (spots : Spots) (named : AreNamed spots)
     (name : List ℕ) (s t : Spot) (there : fin.get spots name ≡ Some s) (same_size : t.size ≡ s.size) where
-  abbrev before : PlacedTable
+  abbrev before : TableInLayout
   before = laid classes size_max k len header spots
 
-  abbrev moved : PlacedTable
+  abbrev moved : TableInLayout
   moved = laid classes size_max k len header (fin.insert spots name t)
 
   is_a_name : IsName name

@@ -15,7 +15,7 @@ use Rattle.segment_layout.specs.Books.{below_class, is_below_class, volumes, vol
 use Rattle.segment_layout.proofs.BookLaws.{contains-below_class}
 use Rattle.segment_layout.specs.Books.{Names}
 use Rattle.table_rules.specs.Suffixes.{suffix_at}
-use Rattle.table_rules.specs.Tables.{PlacedTable, book_of, lies_in_payload, lies_within, sizes, is_buffered}
+use Rattle.table_rules.specs.Tables.{TableInLayout, book_of, lies_in_payload, lies_within, sizes, is_buffered}
 use Rattle.extent_table.specs.declared.spot.Spot.{Spot}
 use Rattle.extent_table.specs.Extents.{Spots, record_of, records_of}
 use Rattle.placement_model.proofs.BookLaws.{settled_caps-again, settled_grid-again}
@@ -24,7 +24,7 @@ use Rattle.placement_model.specs.Buffered.{chosen_names, passes, HasSizes, AreBu
 use Rattle.placement_model.specs.Reads.{AreNamed}
 
 -- below b laying out anew leaves the payload segments
-payload_stays : (b : ℕ) (t : PlacedTable) → length t.header.caps ≡ width → b ≤ width → (c : ℕ) (r : Record)
+payload_stays : (b : ℕ) (t : TableInLayout) → length t.header.caps ≡ width → b ≤ width → (c : ℕ) (r : Record)
     → c < b → lies_in_payload (suffix_at b t) c r ≡ lies_in_payload t c r
 payload_stays b t full fits c r low =
     let front : take c (settled_caps b t.header.caps zero_row)
@@ -36,7 +36,7 @@ payload_stays b t full fits c r low =
     λ i. lies_within (start i) (start i + caps-settled_below b c t.header.caps zero_row full fits low i) r
 
 -- the names that a moving table has in buffers are those of before that are of a class below the boundary
-pub suffix_buffered : (b : ℕ) (t : PlacedTable) (spots : Spots) (m : Map) (names : Names)
+pub suffix_buffered : (b : ℕ) (t : TableInLayout) (spots : Spots) (m : Map) (names : Names)
     → length t.header.caps ≡ width → b ≤ width → AreNamed spots → HasSizes m spots
     → AreBuffered b t spots names → chosen_names (is_buffered (suffix_at b t)) spots ≡ below_class b m names
 suffix_buffered b t spots m names full fits named has are =
@@ -87,7 +87,7 @@ suffix_buffered b t spots m names full fits named has are =
         ∙ test q s is
 
 -- The book of a moving table is that of the layout once the classes from b on are laid out anew.
-pub suffix_book : (b : ℕ) (t : PlacedTable) (spots : Spots) (m : Map) (names : Names)
+pub suffix_book : (b : ℕ) (t : TableInLayout) (spots : Spots) (m : Map) (names : Names)
     → length t.header.caps ≡ width → length t.header.used ≡ width → b ≤ width → AreNamed spots
     → t.records ≡ records_of spots → HasSizes m spots → AreBuffered b t spots names
     → volumes m ≡ volumes_of_sizes (sizes t.records)

@@ -16,7 +16,7 @@ use Rattle.map_model.specs.Requests.{Change, changed}
 use Rattle.segment_layout.specs.Shapes.{buffer_start, start_of, boundary_of, settled_caps, settled_grid}
 use Rattle.segment_layout.specs.Books.{Book, Charged, buffered_after, charge_all, charge_change, found_room, is_new_buffered, is_quiet, item_of, new_item, next_book, old_item, reshaped, some_size, volumes, below_class, trigger}
 use Rattle.segment_layout.proofs.ChargeLaws.{room_of_buffer}
-use Rattle.table_rules.specs.Tables.{PlacedTable, is_buffered, lies_in_payload}
+use Rattle.table_rules.specs.Tables.{TableInLayout, is_buffered, lies_in_payload}
 use Rattle.extent_table.specs.declared.spot.Spot.{Spot}
 use Rattle.extent_table.specs.Extents.{Spots, record_of}
 use Rattle.placement_model.specs.Buffered.{passes}
@@ -74,7 +74,7 @@ new_buffered size tried all = elim (cases_Bool (nat_lt 0 size)) [
 
 module _ (classes size_max k : ℕ) (caps : List ℕ) (grid : List (List ℕ)) (spots : Spots)
     (h : IsLaidOut classes size_max k caps grid spots) where
-  abbrev table : PlacedTable
+  abbrev table : TableInLayout
   table = settled_table classes size_max k caps grid spots
 
   abbrev book : Book

@@ -18,12 +18,12 @@ use Rattle.table_rules.proofs.OpeningLaws.{carries_on}
 -- ---- a length that is set
 
 -- the data part begins within a file that opens
-pub opens_long : (classes most : ℕ) (t : choice.Table) (file : List ℕ) (m : Map) (b : Book)
+pub opens_long : (classes most : ℕ) (t : choice.SlotTable) (file : List ℕ) (m : Map) (b : Book)
     → OpensBy classes most t file m b → head_len t.chosen.block.names ≤ length file
 opens_long classes most t file m b o = chosen_long file t.chosen (table_chosen file t o.read).0
 
 -- each record of a table ends within the file that opens by it
-pub record_within : (classes most : ℕ) (t : choice.Table) (file : List ℕ) (m : Map) (b : Book)
+pub record_within : (classes most : ℕ) (t : choice.SlotTable) (file : List ℕ) (m : Map) (b : Book)
     → OpensBy classes most t file m b → (i : ℕ) → i < length t.records
     → head_len t.chosen.block.names + end_of_record (slice_index_or t.records i no_record) ≤ length file
 record_within classes most t file m b o i low =
@@ -52,7 +52,8 @@ objects_below base p (r ∷ rs) a b low in_a in_b same =
     )
 
 -- A file opens as before once its length is set, or is being set, where its table has room in the new length.
-pub opens_resized : (classes most : ℕ) (t : choice.Table) (before image : List ℕ) (m : Map) (b : Book) (n : ℕ)
+pub opens_resized : (classes most : ℕ) (t : choice.SlotTable) (before image : List ℕ) (m : Map) (b : Book)
+    (n : ℕ)
     → OpensBy classes most t before m b → ResizedImage n before image → head_len t.chosen.block.names ≤ n
     → HasRoomFor (placed_table classes most before t) (n - head_len t.chosen.block.names)
     → OpensBy classes most t image m b

@@ -12,7 +12,7 @@ use Rattle.segment_layout.proofs.ShapeLaws.{caps-settled_above, caps-settled_bel
 use Rattle.segment_layout.specs.Books.{volumes_of_sizes}
 use Rattle.segment_layout.proofs.BookLaws.{length-volumes_of_sizes}
 use Rattle.table_rules.specs.Suffixes.{suffix_at}
-use Rattle.table_rules.specs.Tables.{HasFullRows, PlacedTable, book_of, end_of_record, is_buffered, is_lower, lies_in_payload, no_record, nth, sizes}
+use Rattle.table_rules.specs.Tables.{HasFullRows, TableInLayout, book_of, end_of_record, is_buffered, is_lower, lies_in_payload, no_record, nth, sizes}
 use Rattle.table_rules.specs.Rules.{IsValid, KeepsPlaces}
 use Rattle.placement_model.proofs.BookLaws.{settled_caps-again, settled_grid-again}
 use Rattle.placement_model.specs.Laid.{new_caps, settled_at, AreLaid}
@@ -28,15 +28,15 @@ same_filter p q (r ∷ rs) each = λ i.
     cond (each 0 (omega arith) i) (r ∷ same_filter p q rs (λ j h. each (suc j) (omega (arith, h))) i)
     (same_filter p q rs (λ j h. each (suc j) (omega (arith, h))) i)
 
-module _ (b : ℕ) (t : PlacedTable) (h : HasFullRows t) (fits : b ≤ t.classes)
+module _ (b : ℕ) (t : TableInLayout) (h : HasFullRows t) (fits : b ≤ t.classes)
     (top : t.size_max < 2 ^ t.classes) (keeps : KeepsPlaces (suffix_at b t)) (laid : AreLaid b t) where
   abbrev volumes : List ℕ
   volumes = volumes_of_sizes (sizes t.records)
 
-  abbrev old : PlacedTable
+  abbrev old : TableInLayout
   old = suffix_at b t
 
-  abbrev new : PlacedTable
+  abbrev new : TableInLayout
   new = settled_at b t
 
   within_width : b ≤ width

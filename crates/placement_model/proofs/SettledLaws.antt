@@ -16,21 +16,21 @@ use Rattle.segment_layout.proofs.BalanceLaws.{bytes_in}
 use Rattle.segment_layout.proofs.BookLaws.{length-volumes_of_sizes, sum_by-filter, sum_by_none, volumes_of_sizes-index}
 use Rattle.segment_layout.proofs.SumLaws.{sum_below_agree, sum_by_same_places}
 use Rattle.table_rules.specs.Suffixes.{suffix_at}
-use Rattle.table_rules.specs.Tables.{HasFullRows, PlacedTable, StandsInBuffer, dead_in_buffer, is_lower, is_of, lies_in_buffer, lies_in_payload, lies_within, live_in_buffer, live_in_payload, no_record, nth, sizes}
+use Rattle.table_rules.specs.Tables.{HasFullRows, TableInLayout, StandsInBuffer, dead_in_buffer, is_lower, is_of, lies_in_buffer, lies_in_payload, lies_within, live_in_buffer, live_in_payload, no_record, nth, sizes}
 use Rattle.table_rules.specs.Rules.{KeepsPlaces}
 use Rattle.table_rules.proofs.TableLaws.{zero_cell}
 use Rattle.placement_model.specs.Laid.{new_caps, settled_at, AreLaid}
 use Rattle.placement_model.proofs.SegmentLaws.{lies_parts, start_of-rises}
 
-module _ (b : ℕ) (t : PlacedTable) (h : HasFullRows t) (fits : b ≤ t.classes)
+module _ (b : ℕ) (t : TableInLayout) (h : HasFullRows t) (fits : b ≤ t.classes)
     (top : t.size_max < 2 ^ t.classes) (keeps : KeepsPlaces (suffix_at b t)) where
   abbrev volumes : List ℕ
   volumes = volumes_of_sizes (sizes t.records)
 
-  abbrev old : PlacedTable
+  abbrev old : TableInLayout
   old = suffix_at b t
 
-  abbrev new : PlacedTable
+  abbrev new : TableInLayout
   new = settled_at b t
 
   pub within_width : b ≤ width

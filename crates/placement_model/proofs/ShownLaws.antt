@@ -13,7 +13,7 @@ use Rattle.segment_layout.proofs.BookLaws.{length-volumes_of_sizes, sum_by_none,
 use Rattle.segment_layout.proofs.SettleLaws.{row_is_zero}
 use Rattle.segment_layout.proofs.ShapeLaws.{caps-settled_above, caps-settled_below, length-settled_caps, length-settled_grid, row-settled_above, row-settled_below}
 use Rattle.segment_layout.proofs.SumLaws.{sum_by_same_places}
-use Rattle.table_rules.specs.Tables.{PlacedTable, no_record, nth, sizes}
+use Rattle.table_rules.specs.Tables.{TableInLayout, no_record, nth, sizes}
 use Rattle.extent_table.specs.Extents.{Spots, records_of}
 use Rattle.placement_model.specs.Laid.{book_at, settled_table}
 use Rattle.placement_model.specs.LaidOut.{IsLaidOut, shown_book}
@@ -21,7 +21,7 @@ use Rattle.placement_model.proofs.LaidOutLaws.{class_in_use, laid_below}
 
 module _ (classes size_max k : ℕ) (caps : List ℕ) (grid : List (List ℕ)) (spots : Spots)
     (h : IsLaidOut classes size_max k caps grid spots) where
-  abbrev table : PlacedTable
+  abbrev table : TableInLayout
   table = settled_table classes size_max k caps grid spots
 
   abbrev volumes : List ℕ

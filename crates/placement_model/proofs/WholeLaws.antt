@@ -7,11 +7,11 @@ use Rattle.size_class.specs.Classes.{cell, class_of}
 use Rattle.segment_layout.specs.Shapes.{buffer_start, taken_in}
 use Rattle.segment_layout.proofs.LayoutLaws.{taken_nothing}
 use Rattle.table_rules.specs.Suffixes.{KeepsBelow}
-use Rattle.table_rules.specs.Tables.{PlacedTable, StandsInBuffer, table_boundary, is_lower, lies_in_payload, nth}
+use Rattle.table_rules.specs.Tables.{TableInLayout, StandsInBuffer, table_boundary, is_lower, lies_in_payload, nth}
 use Rattle.table_rules.specs.Rules.{KeepsPlaces}
 use Rattle.placement_model.proofs.SegmentLaws.{lies_parts}
 
-pub places_from_below : (t : PlacedTable) → KeepsBelow (table_boundary t) t
+pub places_from_below : (t : TableInLayout) → KeepsBelow (table_boundary t) t
     → ((c : ℕ) → table_boundary t ≤ c → slice_index t.header.caps c ≡ 0)
     → ((j c : ℕ) → table_boundary t ≤ j → cell t.header.used j c ≡ 0) → KeepsPlaces t
 places_from_below t keeps no_caps no_cells = record {

@@ -7,7 +7,7 @@ use Rattle.slot_codec.specs.Names.{name_cmp}
 use Rattle.slot_codec.specs.declared.codec.Record.{Record}
 use Rattle.map_model.specs.Maps.{Map}
 use Rattle.segment_layout.specs.Books.{Names}
-use Rattle.table_rules.specs.Tables.{PlacedTable, lies_in_payload}
+use Rattle.table_rules.specs.Tables.{TableInLayout, lies_in_payload}
 use Rattle.extent_table.specs.declared.spot.Spot.{Spot}
 use Rattle.extent_table.specs.Extents.{Spots, record_of, records_of}
 
@@ -27,7 +27,7 @@ HasSizes m spots = (q : List ℕ) (s : Spot) → fin.get spots q ≡ Some s
 
 -- Names are those of the objects of a class below b that stand outside their payload segments, and of others
 -- from b on.
-pub record AreBuffered (b : ℕ) (t : PlacedTable) (spots : Spots) (names : Names) : Type 0 where
+pub record AreBuffered (b : ℕ) (t : TableInLayout) (spots : Spots) (names : Names) : Type 0 where
   pub gone : (q : List ℕ) → fin.get spots q ≡ None → set.contains names q ≡ false
   pub same : (q : List ℕ) (s : Spot) → fin.get spots q ≡ Some s → class_of s.size < b
       → set.contains names q ≡ (nat_lt 0 s.size

@@ -9,7 +9,7 @@ ghost use Rattle.slot_codec.specs.declared.codec.Header.{Header};
 ghost use Rattle.slot_codec.specs.declared.codec.Record.{Record};
 ghost use Rattle.size_class.specs.Classes.{class_of, width};
 ghost use Rattle.table_rules.specs.Suffixes.{suffix_at};
-ghost use Rattle.table_rules.specs.Tables.{HasFullRows, PlacedTable, book_of, table_boundary, sizes};
+ghost use Rattle.table_rules.specs.Tables.{HasFullRows, TableInLayout, book_of, table_boundary, sizes};
 ghost use Rattle.table_rules.specs.Rules.{KeepsPlaces, IsValid};
 ghost use Rattle.placement_model.specs.Laid.{AreLaid, settled_at, laid};
 ghost use Rattle.segment_layout.specs.Shapes.{settled_caps, settled_grid};
@@ -21,17 +21,17 @@ ghost use Rattle.placement_model.specs.Reads.{AreNamed};
 
 /// A table whose suffix is laid out anew keeps the rules of a settled one.
 pub fn a_laid_table_is_settled()
-    ensures places { (b : ℕ) (t : PlacedTable) → HasFullRows t → b ≤ t.classes → t.size_max < 2 ^ t.classes
+    ensures places { (b : ℕ) (t : TableInLayout) → HasFullRows t → b ≤ t.classes → t.size_max < 2 ^ t.classes
         → KeepsPlaces (suffix_at b t) → AreLaid b t → KeepsPlaces (settled_at b t) }
-    ensures valid { (b : ℕ) (t : PlacedTable) → HasFullRows t → b ≤ t.classes → t.size_max < 2 ^ t.classes
+    ensures valid { (b : ℕ) (t : TableInLayout) → HasFullRows t → b ≤ t.classes → t.size_max < 2 ^ t.classes
         → KeepsPlaces (suffix_at b t) → AreLaid b t → IsValid (settled_at b t) }
-    ensures book { (b : ℕ) (t : PlacedTable) → HasFullRows t → b ≤ t.classes → t.size_max < 2 ^ t.classes
+    ensures book { (b : ℕ) (t : TableInLayout) → HasFullRows t → b ≤ t.classes → t.size_max < 2 ^ t.classes
         → KeepsPlaces (suffix_at b t) → AreLaid b t → book_of (settled_at b t) ≡ book_of (suffix_at b t) }
 {}
 
 /// The book of a flush is the next book: capacities, grid, and the names that stay in buffers.
 pub fn a_flush_has_the_next_book()
-    ensures { (b : ℕ) (t : PlacedTable) (spots : Spots) (m : Map) (names : Names)
+    ensures { (b : ℕ) (t : TableInLayout) (spots : Spots) (m : Map) (names : Names)
         → length t.header.caps ≡ width → length t.header.used ≡ width → b ≤ width → AreNamed spots
         → t.records ≡ records_of spots → HasSizes m spots → AreBuffered b t spots names
         → volumes m ≡ volumes_of_sizes (sizes t.records)

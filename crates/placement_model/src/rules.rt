@@ -8,7 +8,7 @@ ghost use Rattle.slot_codec.specs.declared.codec.Header.{Header};
 ghost use Rattle.size_class.specs.Classes.{cell, class_of, row};
 ghost use Rattle.segment_layout.specs.Balance.{IsFilled};
 ghost use Rattle.table_rules.specs.Suffixes.{KeepsBelow};
-ghost use Rattle.table_rules.specs.Tables.{Apart, PlacedTable, table_boundary, lies_in_payload};
+ghost use Rattle.table_rules.specs.Tables.{Apart, TableInLayout, table_boundary, lies_in_payload};
 ghost use Rattle.table_rules.specs.Rules.{KeepsPlaces, RoomToResume, IsValid};
 ghost use Rattle.placement_model.specs.Laid.{laid, numbered};
 ghost use Rattle.placement_model.specs.Joins.{IsAlone, empty_spot};
@@ -26,7 +26,7 @@ pub fn segments_rise()
 
 /// Bytes that are charged to the first buffer with room leave what a table keeps of the classes below b.
 pub fn a_charge_keeps_the_rules()
-    ensures { (b : ℕ) (t : PlacedTable) (size j : ℕ) → IsFilled t.k t.header.caps t.header.used → 1 ≤ size
+    ensures { (b : ℕ) (t : TableInLayout) (size j : ℕ) → IsFilled t.k t.header.caps t.header.used → 1 ≤ size
         → buffer_for t.k t.header.caps t.header.used (class_of size) size ≡ Some j → KeepsBelow b t
         → KeepsBelow b (charged t size j) }
 {}
@@ -89,20 +89,20 @@ pub fn a_moved_object_keeps_the_rules()
 /// What a table keeps of the classes below its bound is all that the rules of places ask, if it has
 /// nothing from there on.
 pub fn below_the_bound_is_whole()
-    ensures { (t : PlacedTable) → KeepsBelow (table_boundary t) t
+    ensures { (t : TableInLayout) → KeepsBelow (table_boundary t) t
         → ((c : ℕ) → table_boundary t ≤ c → slice_index t.header.caps c ≡ 0)
         → ((j c : ℕ) → table_boundary t ≤ j → cell t.header.used j c ≡ 0) → KeepsPlaces t }
 {}
 
 /// A valid table is valid with any sequence and any count.
 pub fn rules_leave_the_sequence_free()
-    ensures { (q n : ℕ) (t : PlacedTable) → IsValid t → IsValid (numbered q n t) }
+    ensures { (q n : ℕ) (t : TableInLayout) → IsValid t → IsValid (numbered q n t) }
 {}
 
 /// Rule 11 is none of a settled table: the first rule that isn't kept may be that one, though the
 /// table is valid.
 pub fn rule_11_is_none_of_a_settled_table()
-    ensures { (t : PlacedTable) → t.header.wall ≡ 0 → 0 < start_of t.k t.header.caps (table_boundary t)
+    ensures { (t : TableInLayout) → t.header.wall ≡ 0 → 0 < start_of t.k t.header.caps (table_boundary t)
         → RoomToResume t → ⊥ }
 {}
 

@@ -3,7 +3,7 @@ use Rattle.std.specs.Prelude.{◌≡◌, refl, ℕ, ◌==◌, List, [], map, Opt
 use Rattle.std.proofs.Common.{ap, inl, inr, sym, subst, ◌∙◌}
 use Rattle.std.proofs.lemmas.Bool.{cases_Bool, cond-true, cond-false}
 use Rattle.byte_ranges.specs.Lists.{◌>>=◌}
-use Rattle.slot_codec.specs.Choice.{SlotRefusal, Chosen, Table, slot_in_use, chosen, digests_in, plain, records_of, table_of, table_with}
+use Rattle.slot_codec.specs.Choice.{SlotRefusal, Chosen, SlotTable, slot_in_use, chosen, digests_in, plain, records_of, table_of, table_with}
 use Rattle.slot_codec.specs.declared.codec.Record.{Record}
 use Rattle.slot_codec.proofs.StepLaws.{bind_ok, from_ok}
 use Rattle.slot_pair.specs.Finding.{Refuses, chosen_of}
@@ -15,10 +15,10 @@ use Rattle.plain_layout.specs.declared.opened.Refusal.{Refusal}
 use Rattle.plain_layout.specs.declared.opened.Refusal.TheVariants as refusal
 use Rattle.plain_layout.proofs.Reading.{refuses_on, refuses_by_on}
 
-with_records : Chosen → List Record → Result Table SlotRefusal
+with_records : Chosen → List Record → Result SlotTable SlotRefusal
 with_records c rs = Ok (table_with c rs)
 
-of_chosen : List ℕ → Chosen → Result Table SlotRefusal
+of_chosen : List ℕ → Chosen → Result SlotTable SlotRefusal
 of_chosen file c = records_of file c >>= with_records c
 
 by_chosen : (file : List ℕ) → table_of file ≡ (chosen file >>= of_chosen file)

@@ -13,7 +13,7 @@ use Rattle.plain_layout.specs.declared.opened.Refusal.{Refusal}
 use Rattle.plain_layout.specs.declared.opened.Refusal.TheVariants as refusal
 
 -- the table that was read, with digests
-abbrev pub table_seen : Opened → Option choice.Digests → choice.Table
+abbrev pub table_seen : Opened → Option choice.Digests → choice.SlotTable
 table_seen o digests = record {
   chosen = chosen_of o.found o.table.header;
   records = o.table.records.items;
@@ -35,7 +35,7 @@ pub record IsOpenedFrom (classes size_max : ℕ) (file : List ℕ) (o : Opened) 
 
 -- the file's table breaks this rule first, and there
 pub record BreaksFirst (classes size_max : ℕ) (file : List ℕ) (number at : ℕ) : Type 0 where
-  pub table : choice.Table
+  pub table : choice.SlotTable
   pub read : choice.table_of file ≡ Ok table
   pub first : FirstBroken (placed_table classes size_max file table) number at
 

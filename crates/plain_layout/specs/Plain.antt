@@ -1,8 +1,8 @@
 -- The table of the program as the rules see it.
 use Rattle.plain_layout.specs.declared.table.Table.{Table}
-use Rattle.table_rules.specs.Tables.{PlacedTable}
+use Rattle.table_rules.specs.Tables.{TableInLayout}
 
-abbrev pub placed : Table → PlacedTable
+abbrev pub placed : Table → TableInLayout
 placed t =
     record {
       classes = t.classes;

@@ -66,7 +66,7 @@ keeps_loaded r layout read divisor caps used valid = record {
 }
 
 -- the table that was read, with its digests in version 2
-abbrev table_read : TableRead → choice.Table
+abbrev table_read : TableRead → choice.SlotTable
 table_read r = record {
   chosen = chosen_of r.found r.header;
   records = records_of r.table.now;
@@ -103,7 +103,8 @@ loaded_from {C} file r layout table read valid = record {
 }
 
 pub breaks_first : (C : ℕ) (file : List ℕ) (r : TableRead) (broken : TableFault) → IsTable r.table
-    → IsReadFrom file r → FirstBroken (laid C SIZE_MAX r.found.block.k r.data_len r.header r.table.now) broken.rule broken.at
+    → IsReadFrom file r
+    → FirstBroken (laid C SIZE_MAX r.found.block.k r.data_len r.header r.table.now) broken.rule broken.at
     → BreaksFirst C file broken
 breaks_first C file r broken table read first = record {
   table = table_read r;

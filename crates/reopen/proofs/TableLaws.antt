@@ -3,7 +3,7 @@ use Rattle.std.specs.Prelude.{◌≡◌, refl, ℕ, List, Result, Ok}
 use Rattle.std.proofs.Common.{ap, sym, subst, ◌∙◌}
 use Rattle.byte_ranges.specs.Lists.{◌>>=◌}
 use Rattle.size_class.specs.declared.TheConstants.{SIZE_MAX}
-use Rattle.slot_codec.specs.Choice.{SlotRefusal, Chosen, Table, chosen, records_of, table_of, table_with}
+use Rattle.slot_codec.specs.Choice.{SlotRefusal, Chosen, SlotTable, chosen, records_of, table_of, table_with}
 use Rattle.slot_codec.specs.declared.codec.Header.{Header}
 use Rattle.slot_codec.specs.declared.codec.Kind.{Kind}
 use Rattle.slot_codec.specs.declared.codec.Record.{Record}
@@ -14,10 +14,10 @@ use Rattle.placement_model.specs.Laid.{laid}
 use Rattle.table_check.specs.Checked.{checked, of_kind}
 use Rattle.reopen.proofs.RefusalLaws.{refuses_on}
 
-with_records : Chosen → List Record → Result Table SlotRefusal
+with_records : Chosen → List Record → Result SlotTable SlotRefusal
 with_records c rs = Ok (table_with c rs)
 
-of_chosen : List ℕ → Chosen → Result Table SlotRefusal
+of_chosen : List ℕ → Chosen → Result SlotTable SlotRefusal
 of_chosen file c = records_of file c >>= with_records c
 
 by_chosen : (file : List ℕ) → table_of file ≡ (chosen file >>= of_chosen file)

@@ -33,7 +33,7 @@ abbrev pub digests_loaded : {C : ℕ} → Loaded C → Option choice.Digests
 digests_loaded x = digests_seen x.header.version x.table.digests
 
 -- the table that was read, with digests
-abbrev pub table_seen : {C : ℕ} → Loaded C → Option choice.Digests → choice.Table
+abbrev pub table_seen : {C : ℕ} → Loaded C → Option choice.Digests → choice.SlotTable
 table_seen x digests =
     record {
       chosen = record { block = x.block; slot = x.slots.slot; header = x.header };

@@ -12,7 +12,7 @@ use Rattle.reopen.specs.declared.fault.OpenFault.TheVariants as fault
 
 -- the file's table breaks this rule first, and there
 pub record BreaksFirst (classes : ℕ) (file : List ℕ) (broken : TableFault) : Type 0 where
-  pub table : choice.Table
+  pub table : choice.SlotTable
   pub read : choice.table_of file ≡ Ok table
   pub first : FirstBroken (placed_table classes SIZE_MAX file table) broken.rule broken.at
 

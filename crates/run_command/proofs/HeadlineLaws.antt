@@ -67,7 +67,7 @@ module _ {D I O : Type 0} (disk_of : D → State) (source_of : I → SourceState
     (lawful : (d : D) → IsLawful (disk_of d)) (before now : D) (from rest : I) (out mid_out : O)
     (after : SinkState)
     (told : IsTrue (disk_of before).tells) (told_source : IsTrue (source_of from).tells)
-    (t : choice.Table) (m : Map) (b : Book) (requests : List Request) (end : List ℕ)
+    (t : choice.SlotTable) (m : Map) (b : Book) (requests : List Request) (end : List ℕ)
     (plain : IsPlain b) (o : OpensBy CLASSES SIZE_MAX t (disk_of before).file m b)
     (asks : Asks (source_of from).left requests end) where
   abbrev old : State

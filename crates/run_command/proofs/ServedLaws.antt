@@ -45,7 +45,7 @@ status_calm n known two three seven eight nine eleven = elim (cases_eq n 0) as (
         let both : true ≡ false = sym known ∙ none_is in
         absurd (cc)
 
-module _ {t : choice.Table} {m : Map} {b : Book} (requests : List Request) {o : Outcome} {old z : State}
+module _ {t : choice.SlotTable} {m : Map} {b : Book} (requests : List Request) {o : Outcome} {old z : State}
     {from rest : SourceState} {out after : SinkState}
     (r : RunHolds (found_by t m b) requests [] o (devices old out) (devices z after) from rest) where
   -- those that were answered, and the others

@@ -20,7 +20,7 @@ use Rattle.segment_layout.proofs.BookLaws.{sum_by_none, volumes_of_sizes-index}
 use Rattle.segment_layout.proofs.ShapeLaws.{end_of-rest}
 use Rattle.segment_layout.proofs.SumLaws.{sum_by_same_places}
 use Rattle.table_rules.specs.Opening.{OpensBy, placed_table}
-use Rattle.table_rules.specs.Tables.{PlacedTable, boundary_of_kind, end_of_record, last_end, no_record, nth, sizes}
+use Rattle.table_rules.specs.Tables.{TableInLayout, boundary_of_kind, end_of_record, last_end, no_record, nth, sizes}
 use Rattle.placement_model.proofs.OpenedLaws.{opens_long}
 use Rattle.store_core.specs.Opened.{RestsOnFound, found_base}
 use Rattle.disk_face.specs.Counts.{counted, last}
@@ -28,9 +28,9 @@ use Rattle.disk_face.specs.Moments.{Leaves, LeftOnly}
 use Rattle.disk_face.specs.States.{IsLawful, State}
 use Rattle.served_file.specs.Served.{turn_opened}
 
-module _ (t : choice.Table) (file : List ℕ) (m : Map) (b : Book)
+module _ (t : choice.SlotTable) (file : List ℕ) (m : Map) (b : Book)
     (o : OpensBy CLASSES SIZE_MAX t file m b) where
-  abbrev placed : PlacedTable
+  abbrev placed : TableInLayout
   placed = placed_table CLASSES SIZE_MAX file t
 
   abbrev volumes : List ℕ
@@ -98,11 +98,11 @@ module _ (t : choice.Table) (file : List ℕ) (m : Map) (b : Book)
 
 -- Where opening would have returned by now though no changing call was made, the file ends with its layout,
 -- and that turn is the one in which the call began.
-pub record EndsWithLayout (t : choice.Table) (b : Book) (old : State) : Type 0 where
+pub record EndsWithLayout (t : choice.SlotTable) (b : Book) (old : State) : Type 0 where
   pub same_turn : turn_opened t b old ≡ old.turn
   pub same_length : length old.file ≡ found_base t + book_end t.chosen.block.k b
 
-pub ends_with_layout : (t : choice.Table) (m : Map) (b : Book) (old : State)
+pub ends_with_layout : (t : choice.SlotTable) (m : Map) (b : Book) (old : State)
     → OpensBy CLASSES SIZE_MAX t old.file m b → t.chosen.header.kind ≡ kind.Settled → old.turn < last
     → turn_opened t b old ≤ old.turn → EndsWithLayout t b old
 ends_with_layout t m b old o settled below low =
@@ -123,7 +123,7 @@ ends_with_layout t m b old o settled below low =
     ]
 
 -- the images of a settled file that was only looked at
-pub settled_still : (t : choice.Table) (m : Map) (b : Book) (old : State)
+pub settled_still : (t : choice.SlotTable) (m : Map) (b : Book) (old : State)
     (o : OpensBy CLASSES SIZE_MAX t old.file m b) → IsLawful old → {z : State}
     → z.turn ≡ old.turn → (RestsOnFound t old → Leaves old z old.may_leave) → RestsOnFound t old
     → z.turn < last → t.chosen.header.kind ≡ kind.Settled → turn_opened t b old ≤ z.turn

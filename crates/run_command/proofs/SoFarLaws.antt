@@ -36,7 +36,7 @@ use Rattle.served_file.proofs.OpeningLaws.{Opened, found_numbered, requests_low}
 -- A session that has run so far over a file that opens: from the states `old` and `a`, before the call and once
 -- the file was opened, to `c`; from the source `from` and the sink `out` to `i1` and `o1`.
 pub record SoFar : Type 1 where
-  pub t : choice.Table
+  pub t : choice.SlotTable
   pub m : Map
   pub b : Book
   pub requests : List Request

@@ -46,7 +46,7 @@ none_far status requests end from rest known done line sink limit memory = recor
   limit = (λ is. absurd (limit is), λ is. absurd (omega (arith, is)));
 }
 
-module _ {t : choice.Table} {m : Map} {b : Book} {old z : State}
+module _ {t : choice.SlotTable} {m : Map} {b : Book} {old z : State}
     (u : SuperBlock) (start : store.State) (starts : Starts t m b start) (lawful : IsLawful z)
     (left_before : old.turn < last → RestsOnFound t old
     → LeftOnly old old.turn (IsFoundImage CLASSES t m b (length old.file)))

@@ -134,7 +134,7 @@ IsWithinBounds k base start states image = (length image ≡ base + book_end k s
 
 -- Each image is within bounds: of a settled table since opening returned, which is at `opened`, and of a
 -- moving one since the call began, but for those that are no longer than the file found.
-pub record IsLong (k base : ℕ) (t : choice.Table) (opened : ℕ) (start : State) (states : List State)
+pub record IsLong (k base : ℕ) (t : choice.SlotTable) (opened : ℕ) (start : State) (states : List State)
     (old new : disk.State) : Type 0 where
   pub settled : t.chosen.header.kind ≡ kind.Settled → opened ≤ new.turn
       → LeftOnly new opened (IsWithinBounds k base start states)
@@ -237,6 +237,6 @@ pub record RunHolds (found : Found) (requests : List Request) (end : List ℕ) (
 -- The headline: so it is of every file of version 1 that opens, and of every input.
 abbrev pub RunPromise : Outcome → Devices → Devices → SourceState → SourceState → Type 0
 RunPromise o old new from rest =
-    (t : choice.Table) (m : Map) (b : Book) (requests : List Request) (end : List ℕ)
+    (t : choice.SlotTable) (m : Map) (b : Book) (requests : List Request) (end : List ℕ)
     → IsPlain b → OpensBy CLASSES SIZE_MAX t old.disk.file m b → Asks from.left requests end
     → RunHolds (found_by t m b) requests end o old new from rest

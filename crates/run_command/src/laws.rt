@@ -23,7 +23,8 @@ use size_class::{CLASSES, SIZE_MAX};
 /// for fewer than 2^32 requests and has nothing behind them, and no count of failures rises, each request is
 /// answered or memory is wanting before the first.
 pub fn requests_are_served<B: Bay, I: Source, O: Sink>()
-    ensures { (t : choice.Table) (m : Map) (b : Book) (file : List ℕ) (requests : List Request) (o : Outcome)
+    ensures { (t : choice.SlotTable) (m : Map) (b : Book) (file : List ℕ) (requests : List Request)
+        (o : Outcome)
         (old new : B) (from rest : I) (out after : O) → IsPlain b
         → OpensBy CLASSES SIZE_MAX t (B.state old).file m b
         → Asks (I.state from).left requests [] → length requests < budget

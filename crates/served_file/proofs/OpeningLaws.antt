@@ -25,14 +25,14 @@ use Rattle.ask_session.specs.Runs.{most_sequence}
 use Rattle.served_file.specs.Served.{BeginsFrom, most_left, turn_opened}
 
 -- an image that an opening left has a sequence that a call may leave
-pub found_numbered : (t : choice.Table) (m : Map) (b : Book) (longest k : ℕ) (image : List ℕ)
+pub found_numbered : (t : choice.SlotTable) (m : Map) (b : Book) (longest k : ℕ) (image : List ℕ)
     → IsFoundImage CLASSES t m b longest image → HasSequenceUpTo (most_left k t) image
 found_numbered t m b longest k image is =
     sequence_wider (most_found t) (most_left k t) image (le-max_left (most_found t) (2 ^ 61 + 2 * k))
     is.sequence
 
 -- and so do those that requests leave after it
-pub requests_low : (t : choice.Table) (k q : ℕ) → q ≤ most_found t → most_sequence k q ≤ most_left k t
+pub requests_low : (t : choice.SlotTable) (k q : ℕ) → q ≤ most_found t → most_sequence k q ≤ most_left k t
 requests_low t k q low =
     let first : q ≤ most_left k t = omega (arith, low, le-max_left (most_found t) (2 ^ 61 + 2 * k)) in
     max-le first (le-max_right (most_found t) (2 ^ 61 + 2 * k))
@@ -42,7 +42,7 @@ begins_low : (k : Kind) (found q : ℕ) → BeginsFrom k found q → q ≤ most_
 begins_low kind.Settled found q is = omega (arith, is)
 begins_low kind.Moving found q is = omega (arith, is.1)
 
-pub start_low : (t : choice.Table) (k q : ℕ) → BeginsFrom t.chosen.header.kind t.chosen.header.sequence q
+pub start_low : (t : choice.SlotTable) (k q : ℕ) → BeginsFrom t.chosen.header.kind t.chosen.header.sequence q
     → q ≤ most_left k t
 start_low t k q is = omega (
   arith,
@@ -51,7 +51,7 @@ start_low t k q is = omega (
 )
 
 -- A store was opened over the file that a call began with.
-pub record Opened (t : choice.Table) (m : Map) (b : Book) (old a : State) (s : StoreValue) : Type 0 where
+pub record Opened (t : choice.SlotTable) (m : Map) (b : Book) (old a : State) (s : StoreValue) : Type 0 where
   pub state : state_of s a.file ≡ state_at m b s.in_use.sequence
   pub block : s.in_use.block ≡ t.chosen.block
   pub sequence : BeginsFrom t.chosen.header.kind t.chosen.header.sequence s.in_use.sequence
@@ -75,13 +75,14 @@ most_of : (k : Kind) (found q : ℕ) → ContinuesFrom k found q → q ≤ most_
 most_of kind.Settled found q is = omega (arith, is)
 most_of kind.Moving found q is = omega (arith, is.1)
 
-turn_of : (k : Kind) (t : choice.Table) (m : Map) (b : Book) (file : List ℕ) (first now : ℕ) (s : StoreValue)
+turn_of : (k : Kind) (t : choice.SlotTable) (m : Map) (b : Book) (file : List ℕ) (first now : ℕ)
+    (s : StoreValue)
     → OpenCallsOf k t m b file first now s → k ≡ kind.Settled
     → now ≡ turn_after_cut (found_base t + book_end t.chosen.block.k b) file first
 turn_of kind.Settled t m b file first now s is settled = is
 turn_of kind.Moving t m b file first now s is settled = absurd (cc)
 
-module _ (t : choice.Table) (m : Map) (b : Book) (old first : State) (mount : AfterMount old first)
+module _ (t : choice.SlotTable) (m : Map) (b : Book) (old first : State) (mount : AfterMount old first)
     (told : IsTrue old.tells) (o : OpensBy CLASSES SIZE_MAX t old.file m b) where
   pub told_first : IsTrue first.tells
   told_first = mount.told ∙ told
@@ -122,11 +123,11 @@ module _ (t : choice.Table) (m : Map) (b : Book) (old first : State) (mount : Af
         let is : IsOpened CLASSES first.file a.file s = opening.opened told_first in
         let one : FoundSame is.table t is.m m is.b b =
         found_one CLASSES is.table t first.file is.m m is.b b is.found opens_first in
-        let continues = subst (λ (x : choice.Table). ContinuesFrom x.chosen.header.kind
+        let continues = subst (λ (x : choice.SlotTable). ContinuesFrom x.chosen.header.kind
         x.chosen.header.sequence s.in_use.sequence) one.same_table is.continues in
         record {
           state = is.state ∙ (λ i. state_at (one.same_map i) (one.same_book i) s.in_use.sequence);
-          block = is.block ∙ ap (λ (x : choice.Table). x.chosen.block) one.same_table;
+          block = is.block ∙ ap (λ (x : choice.SlotTable). x.chosen.block) one.same_table;
           continues = continues;
           most = most_of t.chosen.header.kind t.chosen.header.sequence s.in_use.sequence continues;
           sequence = begins_of t.chosen.header.kind t.chosen.header.sequence s.in_use.sequence continues;

@@ -36,7 +36,7 @@ tight_over s file u h over is = subst
     data_len = omega (arith, over.same_length)
 
 -- it may be opened again
-pub next_over : (t : choice.Table) (s : StoreValue) (old z : State) (q : ℕ) → IsStore CLASSES s
+pub next_over : (t : choice.SlotTable) (s : StoreValue) (old z : State) (q : ℕ) → IsStore CLASSES s
     → IsOver CLASSES s z.file → s.in_use.block ≡ t.chosen.block → s.in_use.sequence ≤ q
     → (RestsOnFound t old → RestsOnTable (base_of s) s.kept z) → IsNextStart t (state_of s z.file) q old z
 next_over t s old z q h over block low rests = record {

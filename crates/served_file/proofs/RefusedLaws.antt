@@ -32,7 +32,7 @@ pub data WhyUnopened : OpenFault → Type 0 where
   disk : WhyUnopened (opening.Slot slot.Disk)
   memory : WhyUnopened opening.NoMemory
 
-why_refused : (t : choice.Table) (m : Map) (b : Book) (file : List ℕ) (why : OpenFault)
+why_refused : (t : choice.SlotTable) (m : Map) (b : Book) (file : List ℕ) (why : OpenFault)
     → OpensBy CLASSES SIZE_MAX t file m b → RefusesToOpen CLASSES file why → WhyUnopened why
 why_refused t m b file (opening.Slot slot.Disk) o is = disk
 why_refused t m b file opening.NoMemory o is = memory
@@ -45,23 +45,23 @@ why_refused t m b file (opening.Table broken) o is =
     absurd (opens_or_not file m b (opening.Table broken) (record { table = t; opens = o }) is)
 
 -- a table of version 2 gives a book with digests
-digested : (t : choice.Table) (m : Map) (b : Book) (file : List ℕ) → OpensBy CLASSES SIZE_MAX t file m b
+digested : (t : choice.SlotTable) (m : Map) (b : Book) (file : List ℕ) → OpensBy CLASSES SIZE_MAX t file m b
     → t.chosen.header.version ≡ 2 → IsPlain b → ⊥
 digested t m b file o two plain =
     let read = table_chosen file t o.read in
     let some : choice.digests_in 2 read.1 ≡ None =
-    ap (λ v. choice.digests_in v read.1) (sym two) ∙ ap (λ (x : choice.Table). x.digests) read.3
+    ap (λ v. choice.digests_in v read.1) (sym two) ∙ ap (λ (x : choice.SlotTable). x.digests) read.3
     ∙ sym (ap (λ (x : Book). x.digests) o.same_book) ∙ plain in
     cc
 
 -- and isn't opened for that of its version
-pub why_unopened : (t : choice.Table) (m : Map) (b : Book) (file : List ℕ) (why : OpenFault)
+pub why_unopened : (t : choice.SlotTable) (m : Map) (b : Book) (file : List ℕ) (why : OpenFault)
     → IsPlain b → OpensBy CLASSES SIZE_MAX t file m b → RefusesStore CLASSES file why → WhyUnopened why
 why_unopened t m b file why plain o (inl refused) = why_refused t m b file why o refused
 why_unopened t m b file why plain o (inr is) =
     let same : is.table ≡ t = from_ok is.table t (sym is.opens.read ∙ o.read) in
     absurd (digested t m b file o
-    (sym (ap (λ (x : choice.Table). x.chosen.header.version) same) ∙ is.version) plain)
+    (sym (ap (λ (x : choice.SlotTable). x.chosen.header.version) same) ∙ is.version) plain)
 
 -- a file that isn't opened for what its bytes show is never served
 not_four : (why : OpenFault) → WhyUnopened why → status_of (stop_of why) ≡ 4 → ⊥

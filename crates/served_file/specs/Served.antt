@@ -23,14 +23,14 @@ use Rattle.command_face.specs.declared.status.TheConstants.{DISK_FAILED, SINK_FA
 -- a superblock, a table with it, and the map and the book for which the table stands
 pub record Found : Type 0 where
   pub block : SuperBlock
-  pub table : choice.Table
+  pub table : choice.SlotTable
   pub m : Map
   pub b : Book
 
-abbrev pub found_with : SuperBlock → choice.Table → Map → Book → Found
+abbrev pub found_with : SuperBlock → choice.SlotTable → Map → Book → Found
 found_with block table m b = record { block = block; table = table; m = m; b = b }
 
-abbrev pub found_by : choice.Table → Map → Book → Found
+abbrev pub found_by : choice.SlotTable → Map → Book → Found
 found_by table m b = found_with table.chosen.block table m b
 
 -- ---- a run of requests
@@ -45,7 +45,7 @@ BeginsFrom kind.Settled found sequence = sequence ≡ found
 BeginsFrom kind.Moving found sequence = (found ≤ sequence) × (sequence < found + 2 ^ 18)
 
 -- the state in which a session begins over a file that opens by a table to a map and a book
-pub record Starts (t : choice.Table) (m : Map) (b : Book) (s : State) : Type 0 where
+pub record Starts (t : choice.SlotTable) (m : Map) (b : Book) (s : State) : Type 0 where
   pub state : s ≡ state_at m b s.sequence
   pub sequence : BeginsFrom t.chosen.header.kind t.chosen.header.sequence s.sequence
 
@@ -108,7 +108,7 @@ OpensToBeing status limits s others image = IsTrue (has_failed status) × OpensT
 
 -- the greatest sequence that a call leaves over a file with a table: what an opening raises its sequence to,
 -- or what requests may
-abbrev pub most_left : ℕ → choice.Table → ℕ
+abbrev pub most_left : ℕ → choice.SlotTable → ℕ
 most_left k t = most_sequence k (most_found t)
 
 -- ---- the next call
@@ -116,8 +116,9 @@ most_left k t = most_sequence k (most_found t)
 -- The next call may begin here: the content opens to the checkpoint of a state, by the same superblock and
 -- with a sequence that is no greater, and just this where it is the state's own; and where the disk rested on
 -- its table it rests on this one.
-pub record IsNextStart (found : choice.Table) (s : State) (sequence : ℕ) (old new : disk.State) : Type 0 where
-  pub table : choice.Table
+pub record IsNextStart (found : choice.SlotTable) (s : State) (sequence : ℕ)
+    (old new : disk.State) : Type 0 where
+  pub table : choice.SlotTable
   pub opens : OpensBy CLASSES SIZE_MAX table new.file s.kept s.kept_book
   pub block : table.chosen.block ≡ found.chosen.block
   pub not_worn : table.chosen.header.sequence ≤ sequence
@@ -125,5 +126,5 @@ pub record IsNextStart (found : choice.Table) (s : State) (sequence : ℕ) (old 
   pub rests : RestsOnFound found old → RestsOnFound table new
 
 -- when opening of a settled file returns
-abbrev pub turn_opened : choice.Table → Book → disk.State → ℕ
+abbrev pub turn_opened : choice.SlotTable → Book → disk.State → ℕ
 turn_opened t b old = turn_after_cut (found_base t + book_end t.chosen.block.k b) old.file old.turn

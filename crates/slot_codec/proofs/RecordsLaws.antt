@@ -6,7 +6,7 @@ use Rattle.std.proofs.Math.Seq.{drop-append_seam, take-append_seam}
 use Rattle.std.specs.Prelude.{flat_map, if◌then◌else◌, Option, Some, None, Result, Ok, Err}
 use Rattle.byte_ranges.specs.Lists.{◌>>=◌}
 use Rattle.byte_ranges.proofs.RangeLaws.{length-bytes_at}
-use Rattle.slot_codec.specs.Choice.{Chosen, Table, chosen, first_record, placed_at, read_records, record_after, records_at, records_of, records_text, rises, SlotRefusal, table_of, table_with}
+use Rattle.slot_codec.specs.Choice.{Chosen, SlotTable, chosen, first_record, placed_at, read_records, record_after, records_at, records_of, records_text, rises, SlotRefusal, table_of, table_with}
 use Rattle.slot_codec.proofs.ChoiceLaws.{chosen_long, records_low, table_chosen, table_from}
 use Rattle.slot_codec.proofs.DigestLaws.{AreDigested, as_kept, kept_digested, kept_digests, kept_plain, kept_rise, kept_spelled, length-kept}
 use Rattle.slot_codec.proofs.PartLaws.{bytes_at-are_bytes}
@@ -192,14 +192,14 @@ records-rise file c rs h =
     )
 
 -- the records of a table rise
-pub table_rises : (file : List ℕ) (t : Table) → table_of file ≡ Ok t → RiseFrom None t.records
+pub table_rises : (file : List ℕ) (t : SlotTable) → table_of file ≡ Ok t → RiseFrom None t.records
 table_rises file t h =
     let p = table_chosen file t h in
     let c = t.chosen in
     let rise = read_records_rise c.header.version c.header.count (records_text file c)
     (records_at c) None p.1 p.2
     in
-    subst (λ (x : Table). RiseFrom None x.records) p.3 (rise_plain None p.1 rise)
+    subst (λ (x : SlotTable). RiseFrom None x.records) p.3 (rise_plain None p.1 rise)
 
 pub records_of-spelled : (file : List ℕ) (c : Chosen) (rs : List Record) → chosen file ≡ Ok c → AreBytes file
     → records_of file c ≡ Ok rs → records_text file c ≡ flat_map (record_bytes c.header.version) rs

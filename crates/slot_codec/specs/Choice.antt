@@ -119,7 +119,7 @@ Digests = fin.FinMap name_cmp (List ℕ)
 
 -- The table of a file: its slot and header, and in order its records without their digests. In version 2 it
 -- has a digest for each name.
-pub record Table : Type 0 where
+pub record SlotTable : Type 0 where
   pub chosen : Chosen
   pub records : List Record
   pub digests : Option Digests
@@ -137,14 +137,14 @@ digests_in version records =
     if version == 2 then Some (fin.from_entries (map digest_entry records)) else None
 
 -- the table of a slot in use with these records
-abbrev pub table_with : Chosen → List Record → Table
+abbrev pub table_with : Chosen → List Record → SlotTable
 table_with c records = record {
   chosen = c;
   records = map plain records;
   digests = digests_in c.header.version records;
 }
 
-unfoldable pub table_of : List ℕ → Result Table SlotRefusal
+unfoldable pub table_of : List ℕ → Result SlotTable SlotRefusal
 table_of file =
     chosen file >>= λ c.
     records_of file c >>= λ records.

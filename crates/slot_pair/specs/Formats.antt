@@ -56,7 +56,7 @@ first_in_use k names = record { block = block_for k names; slot = 0; sequence = 
 abbrev pub first_chosen : ℕ → ℕ → choice.Chosen
 first_chosen k names = record { block = block_for k names; slot = 0; header = first_header }
 
-abbrev pub first_table : ℕ → ℕ → choice.Table
+abbrev pub first_table : ℕ → ℕ → choice.SlotTable
 first_table k names = record { chosen = first_chosen k names; records = []; digests = None }
 
 -- the table of a file is that of a store that was just formatted

@@ -122,7 +122,7 @@ module _ {C : ℕ} (x : Loaded C) (loads : KeepsLoaded x) (moving : x.header.kin
   -- ---- the disk that it was read from
 
   module _ (first : disk.State) (from : IsPlainFrom first.file x) where
-    abbrev t : choice.Table
+    abbrev t : choice.SlotTable
     t = plain_seen x
 
     abbrev n : ℕ

@@ -227,7 +227,8 @@ seen P s t is h same p = subst (λ x. P x (header_now x)) is (subst (P (kept_of 
 module _ {C : ℕ} (s : Inside C) (t : StoreValue) (is : kept_of s ≡ t) (whole : IsWhole s)
     (unbroken : t.is_broken ≡ false) (fresh : t.in_use.sequence < 2 ^ 61) (h : Header)
     (same : h ≡ header_now (kept_of s)) {a d : disk.State} (connected : IsConnected C t a)
-    (leaves : IsTrue a.tells → SaveLeaves s.hands.slots h (rolled s.hands.table.now s.hands.table.digests) a d)
+    (leaves : IsTrue a.tells
+    → SaveLeaves s.hands.slots h (rolled s.hands.table.now s.hands.table.digests) a d)
     (frame : KeepsDisk a d) where
   one : h.version ≡ 1
   one = ap (λ (x : Header). x.version) same

@@ -39,7 +39,7 @@ length-records_of spots named = ap length (records_of-all spots named)
 abbrev pub header_now : StoreValue → Header
 header_now s = settled_header s.book.caps s.book.grid
 
-abbrev pub table_now : StoreValue → choice.Table
+abbrev pub table_now : StoreValue → choice.SlotTable
 table_now s = record {
   chosen = next_chosen s.in_use (header_now s) (length (records_of s.now));
   records = records_of s.now;

@@ -25,7 +25,7 @@ use Rattle.segment_layout.specs.Shapes.{is_boundary, settled_caps, settled_grid,
 use Rattle.segment_layout.proofs.SettleLaws.{row_is_zero}
 use Rattle.segment_layout.proofs.ShapeLaws.{boundary_from, caps-settled_above, caps-settled_below, length-settled_caps, length-settled_grid, row-settled_above, row-settled_below}
 use Rattle.table_rules.specs.Rules.{IsValid}
-use Rattle.table_rules.specs.Tables.{HasFullRows, PlacedTable, book_of, end_of_record, nth}
+use Rattle.table_rules.specs.Tables.{HasFullRows, TableInLayout, book_of, end_of_record, nth}
 use Rattle.table_rules.proofs.TableLaws.{zero_cell}
 use Rattle.extent_table.specs.declared.spot.Spot.{Spot}
 use Rattle.extent_table.specs.Extents.{Spots, records_of}
@@ -113,7 +113,7 @@ module _ {C : ℕ} (x : Loaded C) (loads : KeepsLoaded x) (moving : x.header.kin
 
   -- where it is read from a data part of a length, it is valid in it
   module _ (n : ℕ) (v : IsValid (laid C SIZE_MAX x.block.k n x.header now)) where
-    abbrev t : PlacedTable
+    abbrev t : TableInLayout
     t = laid C SIZE_MAX k n h now
 
     valid_h : IsValid t

@@ -39,15 +39,16 @@ use Rattle.store_core.proofs.OverLaws.{by_index, head_is}
 
 -- ---- what is found is one
 
-pub record FoundSame (t u : choice.Table) (m n : Map) (b c : Book) : Type 0 where
+pub record FoundSame (t u : choice.SlotTable) (m n : Map) (b c : Book) : Type 0 where
   pub same_table : t ≡ u
   pub same_map : m ≡ n
   pub same_book : b ≡ c
 
-one_table : (t u : choice.Table) → ◌≡◌ {A = Result choice.Table choice.SlotRefusal} (Ok t) (Ok u) → t ≡ u
+one_table : (t u : choice.SlotTable) → ◌≡◌ {A = Result choice.SlotTable choice.SlotRefusal} (Ok t) (Ok u)
+    → t ≡ u
 one_table t u is = cc
 
-pub found_one : (classes : ℕ) (t u : choice.Table) (file : List ℕ) (m n : Map) (b c : Book)
+pub found_one : (classes : ℕ) (t u : choice.SlotTable) (file : List ℕ) (m n : Map) (b c : Book)
     → OpensBy classes SIZE_MAX t file m b → OpensBy classes SIZE_MAX u file n c → FoundSame t u m n b c
 found_one classes t u file m n b c o p =
     let same : t ≡ u = one_table t u (sym o.read ∙ p.read) in
@@ -62,7 +63,7 @@ found_one classes t u file m n b c o p =
 
 -- ---- images that are alike on the table
 
-module _ (classes : ℕ) (t : choice.Table) (file : List ℕ) (m : Map) (b : Book)
+module _ (classes : ℕ) (t : choice.SlotTable) (file : List ℕ) (m : Map) (b : Book)
     (o : OpensBy classes SIZE_MAX t file m b) where
   pub opens_alike : (image : List ℕ) → SameOnFound t file image → OpensBy classes SIZE_MAX t image m b
   opens_alike image same = carries_on classes SIZE_MAX t file image m b o
@@ -96,7 +97,7 @@ module _ (classes : ℕ) (t : choice.Table) (file : List ℕ) (m : Map) (b : Boo
   }
 
 -- what is alike on a table is so on its spots
-pub found_spots : (t : choice.Table) (kept : Spots) (base : ℕ) (file image : List ℕ)
+pub found_spots : (t : choice.SlotTable) (kept : Spots) (base : ℕ) (file image : List ℕ)
     → t.records ≡ records_of kept → AreNamed kept → found_base t ≡ base → SameOnFound t file image
     → SameOnTable base kept file image
 found_spots t kept base file image records named at same = record {
@@ -116,7 +117,7 @@ found_spots t kept base file image records named at same = record {
 -- ---- a step that changed nothing
 
 -- no call was made
-no_calls : (k : Kind) (t : choice.Table) (m : Map) (first : ℕ) → MostCallsOf k t m first first
+no_calls : (k : Kind) (t : choice.SlotTable) (m : Map) (first : ℕ) → MostCallsOf k t m first first
 no_calls kind.Settled t m first = omega arith
 no_calls kind.Moving t m first = record {
   moved = zero_row;
@@ -127,7 +128,7 @@ no_calls kind.Moving t m first = record {
       (calls_none first zero_row t.chosen.header.count) (omega arith) (omega arith);
 }
 
-module _ {classes : ℕ} {t : choice.Table} {m : Map} {b : Book} {before mid : disk.State}
+module _ {classes : ℕ} {t : choice.SlotTable} {m : Map} {b : Book} {before mid : disk.State}
     (same : Unchanged before mid) (told : IsTrue before.tells)
     (o : OpensBy classes SIZE_MAX t before.file m b) where
   file_stays : mid.file ≡ before.file
@@ -173,14 +174,14 @@ module _ {classes : ℕ} {t : choice.Table} {m : Map} {b : Book} {before mid : d
 
 -- ---- what was found, by other words
 
-pub found_by : {classes : ℕ} {t u : choice.Table} {m n : Map} {b c : Book} {before now : disk.State}
+pub found_by : {classes : ℕ} {t u : choice.SlotTable} {m n : Map} {b c : Book} {before now : disk.State}
     {result : Result StoreValue OpenFault} → FoundSame t u m n b c
     → OpensFound classes t m b before now result
     → OpensFound classes u n c before now result
 found_by {classes} {t} {u} {m} {n} {b} {c} {before} {now} {result} same is =
     subst (λ (x : Book). OpensFound classes u n x before now result) same.same_book
     (subst (λ (x : Map). OpensFound classes u x b before now result) same.same_map
-    (subst (λ (x : choice.Table). OpensFound classes x m b before now result) same.same_table is))
+    (subst (λ (x : choice.SlotTable). OpensFound classes x m b before now result) same.same_table is))
 
 -- ---- nothing at all
 
@@ -290,7 +291,7 @@ module _ {classes : ℕ} {a m d : disk.State} (same : Unchanged a m) (calm : m.f
 -- ---- opening again
 
 -- what an opening left opens to the same state
-pub opened_again : (classes : ℕ) (t : choice.Table) (m : Map) (b : Book) (longest : ℕ)
+pub opened_again : (classes : ℕ) (t : choice.SlotTable) (m : Map) (b : Book) (longest : ℕ)
     (image now : List ℕ) (s : StoreValue) → IsFoundImage classes t m b longest image
     → IsOpened classes image now s
     → state_of s now ≡ state_at m b s.in_use.sequence
@@ -300,7 +301,7 @@ opened_again classes t m b longest image now s left opened =
     opened.state ∙ (λ i. state_at (one.same_map i) (one.same_book i) s.in_use.sequence)
 
 -- a content is alike on each table
-pub alike_itself : (t : choice.Table) (file : List ℕ) → SameOnFound t file file
+pub alike_itself : (t : choice.SlotTable) (file : List ℕ) → SameOnFound t file file
 alike_itself t file = record {
   same_length = refl;
   below = λ i low. refl;

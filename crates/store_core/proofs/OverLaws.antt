@@ -97,7 +97,7 @@ same_objects base spots a b named within same = by_index base (records_of spots)
 
 -- ---- a store over a file
 
-pub same_block : {classes : ℕ} (s : StoreValue) (file : List ℕ) (t : choice.Table)
+pub same_block : {classes : ℕ} (s : StoreValue) (file : List ℕ) (t : choice.SlotTable)
     → HasCheckpoint classes s file t
     → t.chosen.block ≡ s.in_use.block
 same_block s file t c =
@@ -107,7 +107,7 @@ same_block s file t c =
 
 module _ {classes : ℕ} (s : StoreValue) (h : IsStore classes s) (file : List ℕ)
     (over : IsOver classes s file) where
-  abbrev t : choice.Table
+  abbrev t : choice.SlotTable
   t = over.table
 
   abbrev base : ℕ

@@ -224,7 +224,8 @@ module _ {C : ℕ} (x : Loaded C) (loads : KeepsLoaded x) (moving : x.header.kin
 
       cap_now : (x.header.version == 2) ≡ false → hands.table.cap ≡ hands.slots.block.names
       cap_now other = made.keeps.cap ∙ ap (λ (e : Extents). e.cap) starts.table ∙ loads.cap
-          ∙ cap_short x.block.names x.header.version other ∙ ap (λ (z : SuperBlock). z.names) (sym block_found)
+          ∙ cap_short x.block.names x.header.version other
+          ∙ ap (λ (z : SuperBlock). z.names) (sym block_found)
 
       block_now : IsSuperBlock hands.slots.block
       block_now = subst IsSuperBlock (sym block_found) loads.ranges

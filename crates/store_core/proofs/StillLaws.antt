@@ -78,7 +78,7 @@ module _ {C : ℕ} (x : Loaded C) (loads : KeepsLoaded x) (still : x.header.kind
       -- what a crash may leave meanwhile
       module _ {T E : Type 0} {result : Result T E} (told : IsTrue first.tells)
           (cut : IsTrue first.tells → len < length first.file → IsCut len first last result) where
-        abbrev u : choice.Table
+        abbrev u : choice.SlotTable
         u = plain_seen x
 
         abbrev found_map : Map

@@ -177,7 +177,7 @@ module _ {C : ℕ} (x : Loaded C) (loads : KeepsLoaded x) (still : x.header.kind
   -- ---- the file that it was read from
 
   module _ (file : List ℕ) (from : IsPlainFrom file x) where
-    abbrev t : choice.Table
+    abbrev t : choice.SlotTable
     t = plain_seen x
 
     abbrev m : Map

@@ -3,14 +3,14 @@ use Rattle.std.specs.Prelude.{◌≡◌, ℕ, ◌≤◌, nat_lt, if◌then◌els
 use Rattle.std.proofs.Common.{subst, sym}
 use Rattle.slot_codec.specs.declared.codec.Kind.{Kind}
 use Rattle.slot_codec.specs.declared.codec.Kind.TheVariants.{Settled, Moving}
-use Rattle.table_rules.specs.Tables.{PlacedTable, last_end, nth, end_of_record}
+use Rattle.table_rules.specs.Tables.{TableInLayout, last_end, nth, end_of_record}
 use Rattle.table_rules.specs.Rules.{IsMore, IsValid, KeepsPlaces, KindFits}
 
 -- a table with another version, sequence and count in its header
-abbrev versioned : ℕ → ℕ → ℕ → PlacedTable → PlacedTable
+abbrev versioned : ℕ → ℕ → ℕ → TableInLayout → TableInLayout
 versioned v q n t = record t { header = record t.header { version = v; sequence = q; count = n } }
 
-places_versioned : (v q n : ℕ) (t : PlacedTable) → KeepsPlaces t → KeepsPlaces (versioned v q n t)
+places_versioned : (v q n : ℕ) (t : TableInLayout) → KeepsPlaces t → KeepsPlaces (versioned v q n t)
 places_versioned v q n t p = record {
   sizes = p.sizes;
   empty = p.empty;
@@ -22,17 +22,18 @@ places_versioned v q n t p = record {
   full = λ c h. record { entry = (p.full c h).entry; full = (p.full c h).full };
 }
 
-front_versioned : (v q n : ℕ) (t : PlacedTable) (kind : Kind) → KindFits t kind
+front_versioned : (v q n : ℕ) (t : TableInLayout) (kind : Kind) → KindFits t kind
     → KindFits (versioned v q n t) kind
 front_versioned v q n t Settled h = h
 front_versioned v q n t Moving h = h
 
-end_versioned : (v q n : ℕ) (t : PlacedTable) (kind : Kind)
+end_versioned : (v q n : ℕ) (t : TableInLayout) (kind : Kind)
     → last_end (versioned v q n t) kind ≡ last_end t kind
 end_versioned v q n t Settled = refl
 end_versioned v q n t Moving = refl
 
-more_versioned : (v q n : ℕ) (t : PlacedTable) (kind : Kind) → IsMore t kind → IsMore (versioned v q n t) kind
+more_versioned : (v q n : ℕ) (t : TableInLayout) (kind : Kind) → IsMore t kind
+    → IsMore (versioned v q n t) kind
 more_versioned v q n t Settled h = h
 more_versioned v q n t Moving h = record {
   room = record { wall = h.room.wall; slack = h.room.slack };
@@ -43,7 +44,7 @@ more_versioned v q n t Moving h = record {
   };
 }
 
-pub valid_as : (v q n : ℕ) (t : PlacedTable) → IsValid t → IsValid (versioned v q n t)
+pub valid_as : (v q n : ℕ) (t : TableInLayout) → IsValid t → IsValid (versioned v q n t)
 valid_as v q n t h = (
   record {
     places = places_versioned v q n t h.0.places;

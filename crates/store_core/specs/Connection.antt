@@ -53,14 +53,14 @@ state_of s file =
     }
 
 -- the content opens to the checkpoint that the store keeps, by the slot and the places that it keeps
-pub record HasCheckpoint (classes : ℕ) (s : StoreValue) (file : List ℕ) (t : choice.Table) : Type 0 where
+pub record HasCheckpoint (classes : ℕ) (s : StoreValue) (file : List ℕ) (t : choice.SlotTable) : Type 0 where
   pub slot : choice.slot_in_use file ≡ Ok s.in_use
   pub records : t.records ≡ records_of s.kept
   pub opens : OpensBy classes SIZE_MAX t file (kept_map s file) s.kept_book
 
 -- the store is over this file
 pub record IsOver (classes : ℕ) (s : StoreValue) (file : List ℕ) : Type 0 where
-  pub table : choice.Table
+  pub table : choice.SlotTable
   pub checkpoint : HasCheckpoint classes s file table
   pub same_length : length file ≡ base_of s + book_end s.in_use.block.k s.book
 

@@ -31,11 +31,11 @@ use Rattle.store_core.specs.States.{State}
 -- ---- what is found
 
 -- where the data part of a file with a table begins
-abbrev pub found_base : choice.Table → ℕ
+abbrev pub found_base : choice.SlotTable → ℕ
 found_base t = head_len t.chosen.block.names
 
 -- an image has the content's length, and its bytes below the data part and on the objects of a table
-pub record SameOnFound (t : choice.Table) (file image : List ℕ) : Type 0 where
+pub record SameOnFound (t : choice.SlotTable) (file image : List ℕ) : Type 0 where
   pub same_length : length image ≡ length file
   pub below : SameBelow (found_base t) file image
   pub objects : (i : ℕ) → i < length t.records
@@ -44,7 +44,7 @@ pub record SameOnFound (t : choice.Table) (file image : List ℕ) : Type 0 where
       + (slice_index_or t.records i no_record).size) file image
 
 -- the disk rests on a table that its content has: each image that a crash may leave is so
-abbrev pub RestsOnFound : choice.Table → disk.State → Type 0
+abbrev pub RestsOnFound : choice.SlotTable → disk.State → Type 0
 RestsOnFound t d = (image : List ℕ) → d.may_leave image → SameOnFound t d.file image
 
 -- A sequence leaves room for the saves of an opening, so that what they save opens. The opening of a settled
@@ -53,7 +53,7 @@ abbrev pub RoomOf : Kind → ℕ → Type 0
 RoomOf kind.Settled sequence = Unit {0}
 RoomOf kind.Moving sequence = sequence + 2 ^ 19 ≤ 2 ^ 62
 
-abbrev pub LeavesRoom : choice.Table → Type 0
+abbrev pub LeavesRoom : choice.SlotTable → Type 0
 LeavesRoom t = RoomOf t.chosen.header.kind t.chosen.header.sequence
 
 -- ---- what is left
@@ -63,12 +63,12 @@ abbrev pub most_by : Kind → ℕ → ℕ
 most_by kind.Settled found = found
 most_by kind.Moving found = found + (2 ^ 18 - 1)
 
-abbrev pub most_found : choice.Table → ℕ
+abbrev pub most_found : choice.SlotTable → ℕ
 most_found t = most_by t.chosen.header.kind t.chosen.header.sequence
 
 -- an image opens to what was found by a table, with at most such a sequence, and is no longer than the
 -- file was
-pub record IsFoundImage (classes : ℕ) (t : choice.Table) (m : Map) (b : Book) (longest : ℕ)
+pub record IsFoundImage (classes : ℕ) (t : choice.SlotTable) (m : Map) (b : Book) (longest : ℕ)
     (image : List ℕ) : Type 0 where
   pub opens : Opens classes SIZE_MAX image m b
   pub sequence : HasSequenceUpTo (most_found t) image
@@ -87,7 +87,7 @@ ContinuesFrom kind.Moving found new = (found + 1 ≤ new) × (new < found + 2 ^ 
 -- its checkpoint. The superblock is that of the table. The sequence is the one found, or rose by less than
 -- 2^18 where the table was a moving one.
 pub record IsOpened (classes : ℕ) (file now : List ℕ) (s : StoreValue) : Type 0 where
-  pub table : choice.Table
+  pub table : choice.SlotTable
   pub m : Map
   pub b : Book
   pub found : OpensBy classes SIZE_MAX table file m b
@@ -121,7 +121,7 @@ pub record MovesOn (m : Map) (names first now saves : ℕ) : Type 0 where
 
 -- The changing calls of an opening, by the kind of the table and by how many had ended before and have now.
 -- Of a settled table there are none where its file ends with its layout, and two where it is longer.
-abbrev pub OpenCallsOf : Kind → choice.Table → Map → Book → List ℕ → ℕ → ℕ → StoreValue → Type 0
+abbrev pub OpenCallsOf : Kind → choice.SlotTable → Map → Book → List ℕ → ℕ → ℕ → StoreValue → Type 0
 OpenCallsOf kind.Settled t m b file first now s = now
     ≡ turn_after_cut (found_base t + book_end t.chosen.block.k b) file first
 OpenCallsOf kind.Moving t m b file first now s = MovesOn m t.chosen.header.count first now
@@ -136,16 +136,16 @@ pub record MovesAtMost (m : Map) (names first now : ℕ) : Type 0 where
   pub few_saves : saves ≤ 2 * names + 1
   pub calls : CallsSoFar first now zero_row moved (piece_calls + 2) (saves + 1) names
 
-abbrev pub MostCallsOf : Kind → choice.Table → Map → ℕ → ℕ → Type 0
+abbrev pub MostCallsOf : Kind → choice.SlotTable → Map → ℕ → ℕ → Type 0
 MostCallsOf kind.Settled t m first now = now ≤ first + 2
 MostCallsOf kind.Moving t m first now = MovesAtMost m t.chosen.header.count first now
 
 -- a settled file that isn't longer than its layout is left alone
-abbrev pub LeavesAlone : choice.Table → Book → disk.State → disk.State → Type 0
+abbrev pub LeavesAlone : choice.SlotTable → Book → disk.State → disk.State → Type 0
 LeavesAlone t b before now = t.chosen.header.kind ≡ kind.Settled
     → length before.file ≤ found_base t + book_end t.chosen.block.k b → Unchanged before now
 
-abbrev pub HasOpenCalls : choice.Table → Map → Book → List ℕ → ℕ → ℕ → StoreValue → Type 0
+abbrev pub HasOpenCalls : choice.SlotTable → Map → Book → List ℕ → ℕ → ℕ → StoreValue → Type 0
 HasOpenCalls t m b file first now s = OpenCallsOf t.chosen.header.kind t m b file first now s
 
 -- ---- an opening
@@ -154,7 +154,7 @@ HasOpenCalls t m b file first now s = OpenCallsOf t.chosen.header.kind t m b fil
 -- The content opens to them still, and where the disk rested on the table so does all that a crash may leave
 -- meanwhile; then the disk rests on the table of the store. How many calls it makes is bounded, also where it
 -- fails.
-pub record OpensFound (classes : ℕ) (t : choice.Table) (m : Map) (b : Book) (before now : disk.State)
+pub record OpensFound (classes : ℕ) (t : choice.SlotTable) (m : Map) (b : Book) (before now : disk.State)
     (result : Result StoreValue OpenFault) : Type 0 where
   pub content : LeavesRoom t → IsFoundImage classes t m b (length before.file) now.file
   pub left : LeavesRoom t → RestsOnFound t before → Leaves before now
@@ -183,7 +183,7 @@ pub record IsOpening (classes : ℕ) (before now : disk.State)
   pub over : IsTrue before.tells → IfOk result (λ s. IsOver classes s now.file)
   pub fresh : IfOk result (IsFresh classes)
   pub refused : IsTrue before.tells → IfErr result (RefusesStore classes before.file)
-  pub found : IsTrue before.tells → (t : choice.Table) (m : Map) (b : Book)
+  pub found : IsTrue before.tells → (t : choice.SlotTable) (m : Map) (b : Book)
       → OpensBy classes SIZE_MAX t before.file m b → OpensFound classes t m b before now result
   pub unchanged : IfErr result (RefusesUnchanged before now)
   pub closed : IsTrue before.tells → ((m : Map) (b : Book) → Opens classes SIZE_MAX before.file m b → ⊥)

@@ -16,7 +16,7 @@ use Rattle.reopen.specs.declared.fault.OpenFault.TheVariants as fault
 use Rattle.reopen.specs.declared.state.Loaded.{Loaded}
 
 -- the table that was read, which has no digests
-abbrev pub plain_seen : {C : ℕ} → Loaded C → choice.Table
+abbrev pub plain_seen : {C : ℕ} → Loaded C → choice.SlotTable
 plain_seen x = table_seen x None
 
 -- The slot in use is that of the file. By the table, the file opens to the map that it gives where the
@@ -34,7 +34,7 @@ IsPlain b = b.digests ≡ None
 -- The file opens by a table of version 2, over which no store is opened yet: the fault is that of its
 -- version.
 pub record IsUnserved (classes : ℕ) (file : List ℕ) (why : OpenFault) : Type 0 where
-  pub table : choice.Table
+  pub table : choice.SlotTable
   pub map : Map
   pub book : Book
   pub opens : OpensBy classes SIZE_MAX table file map book

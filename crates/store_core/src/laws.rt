@@ -1,6 +1,6 @@
 //! What holds of stores and of requests, as contracts of functions that do nothing.
 ghost use Rattle.std.specs.Prelude.{◌≡◌, ℕ, ◌*◌, ◌<◌, ◌≤◌, ◌^◌, List, [], IfOk, Some};
-ghost use Rattle.slot_codec.specs.Choice.{Table as FoundTable};
+ghost use Rattle.slot_codec.specs.Choice.{SlotTable as FoundTable};
 ghost use Rattle.map_model.specs.Maps.{Map};
 ghost use Rattle.map_model.specs.Requests as ask;
 ghost use Rattle.map_model.specs.Requests.{Change, Refused, Request};

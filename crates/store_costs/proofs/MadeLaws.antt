@@ -37,7 +37,8 @@ one_book {classes} {size_max} {file} x y =
     let one : x.table ≡ y.table =
     (let both : Ok x.table ≡ Ok y.table = sym x.opens.read ∙ y.opens.read in cc) in
     x.opens.same_book
-    ∙ ap (λ (t : choice.Table). with_digests t.digests (book_of (placed_table classes size_max file t))) one
+    ∙ ap (λ (t : choice.SlotTable). with_digests t.digests
+    (book_of (placed_table classes size_max file t))) one
     ∙ sym y.opens.same_book
 
 -- What a change did to a store's ledger, by the map that a file gives where the objects stood.

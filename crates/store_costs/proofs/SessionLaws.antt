@@ -79,7 +79,7 @@ formatted_has_paid C cost k names s file now first fresh o =
     (let both : Ok o.table ≡ Ok (first_table k names) = sym o.found.read ∙ first.table in cc) in
     let grid : s.book.grid ≡ zero_grid =
     ap (λ (t : State). t.book.grid) o.state ∙ ap (λ (b : Book). b.grid) o.found.same_book
-    ∙ ap (λ (t : choice.Table). (book_of (placed_table C SIZE_MAX file t)).grid) one
+    ∙ ap (λ (t : choice.SlotTable). (book_of (placed_table C SIZE_MAX file t)).grid) one
     ∙ none_taken C file k names fresh.store.now.few in
     let none : potential C cost divisor s.book.grid ≡ 0 =
     ap (potential C cost divisor) grid ∙ potential_none C divisor cost in

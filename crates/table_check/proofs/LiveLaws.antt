@@ -9,7 +9,7 @@ use Rattle.byte_ranges.proofs.ListLaws.{zeros_at}
 use Rattle.size_class.specs.Classes.{class_of, width, cell}
 use Rattle.slot_codec.specs.declared.codec.Record.{Record}
 use Rattle.segment_layout.proofs.StepLaws.{passing_more}
-use Rattle.table_rules.specs.Tables.{PlacedTable, is_of, lies_in_buffer, lies_in_payload, no_record, size_sum}
+use Rattle.table_rules.specs.Tables.{TableInLayout, is_of, lies_in_buffer, lies_in_payload, no_record, size_sum}
 use Rattle.extent_table.specs.declared.spot.Spot.{Spot}
 use Rattle.table_check.specs.declared.frame.Frame.{Frame}
 use Rattle.table_check.specs.Live.{IsFull, IsLive, at_spot, in_buffer, in_payload}
@@ -58,7 +58,7 @@ of_empty r c b none = either (is_of c r && b) r.size none
     either false x e = refl
 
 -- the bytes of a record are counted in the buffers before j
-pub record BuffersSoFar (t : PlacedTable) (r : Record) (j : ℕ) (old new : List (List ℕ)) : Type 0 where
+pub record BuffersSoFar (t : TableInLayout) (r : Record) (j : ℕ) (old new : List (List ℕ)) : Type 0 where
   pub full : IsFull new
   pub done : (i c : ℕ) → i < j → i < width → c < width
       → cell new i c ≡ cell old i c + cond (in_buffer t i c r) r.size 0
@@ -66,7 +66,7 @@ pub record BuffersSoFar (t : PlacedTable) (r : Record) (j : ℕ) (old new : List
 
 -- ---- all records
 
-pub live_none : (t : PlacedTable) → IsLive t [] (replicate 32 0) (replicate 32 (replicate 32 0))
+pub live_none : (t : TableInLayout) → IsLive t [] (replicate 32 0) (replicate 32 (replicate 32 0))
 live_none t = record {
   long = refl;
   full = (
@@ -79,7 +79,7 @@ live_none t = record {
       (get_or-replicate {A = List ℕ} 32 j (replicate 32 0) [] wide) ∙ zeros_at 32 c;
 }
 
-module _ (t : PlacedTable) (rs : List Record) (n : ℕ) (low : n < length rs) (payload : List ℕ)
+module _ (t : TableInLayout) (rs : List Record) (n : ℕ) (low : n < length rs) (payload : List ℕ)
     (buffers : List (List ℕ)) (live : IsLive t (take n rs) payload buffers) where
   pub payload_small : (few : length rs ≤ 65536)
       → ((k : ℕ) → k < length rs → (slice_index_or rs k no_record).size < 2 ^ 48)
@@ -193,11 +193,13 @@ module _ (rs : List Record) (n : ℕ) (low : n < length rs) (volumes : List ℕ)
             let of_class : is_of c r ≡ true = and_from (nat_lt 0 r.size) (class_of r.size == c) has is in
             let read : slice_index (set volumes d sum) c ≡ sum =
             get_or-set_at volumes d c sum 0 e (omega (arith, wide, so_far.long)) in
-            let same_place : slice_index volumes d ≡ slice_index volumes c = ap (slice_index volumes) (sym e) in
+            let same_place : slice_index volumes d
+                ≡ slice_index volumes c = ap (slice_index volumes) (sym e) in
             omega (arith, read, same_place, same, ap (λ b. cond b r.size 0) of_class)
         | inr other ↦
             let apart : c ≡ d → ⊥ = λ e. eqb-false (class_of r.size) c other (sym (e ∙ class)) in
-            let of_other : is_of c r ≡ false = ap (λ b. nat_lt 0 r.size && b) other ∙ with_false (nat_lt 0 r.size)
+            let of_other : is_of c r ≡ false = ap (λ b. nat_lt 0 r.size && b) other
+                ∙ with_false (nat_lt 0 r.size)
             in
             omega (
               arith,

@@ -12,7 +12,7 @@ use Rattle.slot_codec.specs.declared.codec.Kind.{Kind}
 use Rattle.slot_codec.specs.declared.codec.Kind.TheVariants.{Settled, Moving}
 use Rattle.segment_layout.specs.Shapes.{IsShape}
 use Rattle.segment_layout.proofs.LayoutLaws.{taken_nothing}
-use Rattle.table_rules.specs.Tables.{HasFullRows, PlacedTable, boundary_of_kind, table_boundary}
+use Rattle.table_rules.specs.Tables.{HasFullRows, TableInLayout, boundary_of_kind, table_boundary}
 use Rattle.table_rules.specs.Rules.{IsValid, KeepsPlaces, KindFits, kind_fits, last_of}
 use Rattle.table_rules.proofs.TableLaws.{zero_cell}
 use Rattle.table_rules.proofs.FirstLaws.{keeps_valid}
@@ -22,20 +22,20 @@ use Rattle.table_check.specs.Firsts.{HoldBelow}
 use Rattle.table_check.specs.Placed.{framed, placed}
 
 -- where all rules of its kind hold, a table is valid
-pub hold_all : (t : PlacedTable) (n : ℕ) → last_of t.header.kind < n → HoldBelow n t → IsValid t
+pub hold_all : (t : TableInLayout) (n : ℕ) → last_of t.header.kind < n → HoldBelow n t → IsValid t
 hold_all t n all hold = keeps_valid t (λ rule low. hold rule (omega (arith, low, all)))
 
 -- from the fifth rule on the boundary is at most the number of classes
-bounded : (t : PlacedTable) (kind : Kind) → KindFits t kind
+bounded : (t : TableInLayout) (kind : Kind) → KindFits t kind
     → boundary_of_kind t.classes kind t.header.boundary ≤ t.classes
 bounded t Settled rule = omega arith
 bounded t Moving rule = omega (arith, rule)
 
-pub boundary_bounded : (t : PlacedTable) (n : ℕ) → 4 < n → HoldBelow n t → table_boundary t ≤ t.classes
+pub boundary_bounded : (t : TableInLayout) (n : ℕ) → 4 < n → HoldBelow n t → table_boundary t ≤ t.classes
 boundary_bounded t n late hold = bounded t t.header.kind (hold kind_fits late 0 (omega arith))
 
 -- a valid table has the shape of a layout
-pub shape_of_valid : (t : PlacedTable) → HasFullRows t → 2 ≤ t.k → t.k ≤ 64
+pub shape_of_valid : (t : TableInLayout) → HasFullRows t → 2 ≤ t.k → t.k ≤ 64
     → ((c : ℕ) → slice_index t.header.caps c < 2 ^ 48) → KeepsPlaces t
     → IsShape t.classes t.k t.header.caps t.header.used
 shape_of_valid t full low high small p =

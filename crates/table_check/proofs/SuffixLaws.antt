@@ -6,7 +6,7 @@ use Rattle.std.proofs.lemmas.List.{drop_all}
 use Rattle.std.proofs.lemmas.List.Sums.{sum_by-drop_more}
 use Rattle.size_class.specs.Classes.{class_of}
 use Rattle.slot_codec.specs.declared.codec.Kind.TheVariants.{Moving}
-use Rattle.table_rules.specs.Tables.{PlacedTable, end_of_record, is_below_wall}
+use Rattle.table_rules.specs.Tables.{TableInLayout, end_of_record, is_below_wall}
 use Rattle.table_rules.specs.Rules.{AllHold, apart_from_earlier, moving_places, places_to_resume}
 use Rattle.extent_table.specs.Extents.{Extents, records_of}
 use Rattle.table_check.specs.declared.frame.Frame.{Frame}
@@ -136,7 +136,7 @@ module _ (e : Extents) (f : Frame) (order : List ℕ)
       (known e f order by (HasWideGap (placed e f)) (λ i free is. absurd (free is)))
 
 -- the three sentences together
-pub first_of_three : (t : PlacedTable) (a b c : ℕ) → t.header.kind ≡ Moving
+pub first_of_three : (t : TableInLayout) (a b c : ℕ) → t.header.kind ≡ Moving
     → IsLeast (StandsBesideWall t) (length t.records) a → IsLeast (IsInOrder t) (length t.records) b
     → IsLeast (HasWideGap t) (length t.records) c → min (min a b) c < length t.records
     → BreaksAt places_to_resume t (min (min a b) c)

@@ -3,13 +3,13 @@ use Rattle.std.specs.Prelude.{◌≡◌, ℕ, ◌<◌, ◌&&◌, Bool, List, len
 use Rattle.size_class.specs.Classes.{width, cell, row}
 use Rattle.slot_codec.specs.declared.codec.Record.{Record}
 use Rattle.extent_table.specs.declared.spot.Spot.{Spot}
-use Rattle.table_rules.specs.Tables.{PlacedTable, is_of, lies_in_buffer, lies_in_payload, no_record, size_sum}
+use Rattle.table_rules.specs.Tables.{TableInLayout, is_of, lies_in_buffer, lies_in_payload, no_record, size_sum}
 
 -- which records count for a class in its payload segment, and in buffer j
-abbrev pub in_payload : PlacedTable → ℕ → Record → Bool
+abbrev pub in_payload : TableInLayout → ℕ → Record → Bool
 in_payload t c r = is_of c r && lies_in_payload t c r
 
-abbrev pub in_buffer : PlacedTable → ℕ → ℕ → Record → Bool
+abbrev pub in_buffer : TableInLayout → ℕ → ℕ → Record → Bool
 in_buffer t j c r = is_of c r && lies_in_buffer t j r
 
 -- a record of a spot, whatever its name
@@ -21,7 +21,7 @@ abbrev pub IsFull : List (List ℕ) → Type 0
 IsFull grid = (length grid ≡ width) × ((j : ℕ) → j < width → length (row grid j) ≡ width)
 
 -- The live bytes of these records.
-pub record IsLive (t : PlacedTable) (records : List Record) (payload : List ℕ) (buffers : List (List ℕ))
+pub record IsLive (t : TableInLayout) (records : List Record) (payload : List ℕ) (buffers : List (List ℕ))
     : Type 0 where
   pub long : length payload ≡ width
   pub full : IsFull buffers

@@ -35,7 +35,7 @@ use Rattle.segment_layout.specs.Bounds.{Tight}
 use Rattle.segment_layout.proofs.TightLaws.{tight_over}
 use Rattle.segment_layout.specs.Books.{Book, book_end, book_after, map_after, volumes_of_sizes, with_digests}
 use Rattle.segment_layout.specs.Balance.{IsBalanced}
-use Rattle.table_rules.specs.Tables.{PlacedTable, table_boundary, end_of_record, last_end, no_record, sizes, map_of, book_of, HasFullRows, is_buffered}
+use Rattle.table_rules.specs.Tables.{TableInLayout, table_boundary, end_of_record, last_end, no_record, sizes, map_of, book_of, HasFullRows, is_buffered}
 use Rattle.segment_layout.proofs.SumLaws.{sum_by_same_places}
 use Rattle.segment_layout.proofs.BalanceLaws.{HoldsBelow, bytes_in}
 use Rattle.segment_layout.proofs.BookLaws.{in_buffers, in_payload, volumes_of_sizes-index, length-volumes_of_sizes, sum_by_none}
@@ -128,7 +128,7 @@ weights_of_records f base file (r ∷ rs) h =
       sum_by-cons (λ r. f (entry_of base file r)) r rs,
     )
 
-module _ (t : PlacedTable) (base : ℕ) (file : List ℕ) (named : HaveDistinctNames t.records)
+module _ (t : TableInLayout) (base : ℕ) (file : List ℕ) (named : HaveDistinctNames t.records)
     (lie : LieWithin base file t.records) where
   names : Names
   names = (book_of t).buffered
@@ -223,7 +223,7 @@ module _ (t : PlacedTable) (base : ℕ) (file : List ℕ) (named : HaveDistinctN
         ];
       }
 
-pub balanced_of_table : (t : PlacedTable) (base : ℕ) (file : List ℕ) → HasFullRows t → KeepsPlaces t
+pub balanced_of_table : (t : TableInLayout) (base : ℕ) (file : List ℕ) → HasFullRows t → KeepsPlaces t
     → table_boundary t ≤ width → HaveDistinctNames t.records → LieWithin base file t.records
     → IsBalanced t.k (map_of base file t.records) (book_of t)
 unfolding names
@@ -260,7 +260,7 @@ rise_names before [] h = tt
 rise_names before (r ∷ rs) h = (rise_absent r.name rs h.2, rise_names (Some r.name) rs h.2)
 
 -- the names of a file's records differ
-pub file_names : (file : List ℕ) (t : choice.Table) → choice.table_of file ≡ Ok t
+pub file_names : (file : List ℕ) (t : choice.SlotTable) → choice.table_of file ≡ Ok t
     → HaveDistinctNames t.records
 file_names file t is = rise_names None t.records (table_rises file t is)
 
@@ -300,7 +300,7 @@ header_tables bytes =
     )
 
 -- the lists of numbers of a file's header are whole
-pub file_header : (file : List ℕ) (t : choice.Table) → choice.table_of file ≡ Ok t
+pub file_header : (file : List ℕ) (t : choice.SlotTable) → choice.table_of file ≡ Ok t
     → (length t.chosen.header.caps ≡ width) × IsGrid width t.chosen.header.used
 file_header file t is =
     let parts = chosen_parts file t.chosen (table_chosen file t is).0 in
@@ -324,7 +324,7 @@ balanced_with k m digests book b = record {
   balance = b.balance;
 }
 
-pub balanced_of_file : (classes size_max : ℕ) (t : choice.Table) (file : List ℕ) (m : Map) (book : Book)
+pub balanced_of_file : (classes size_max : ℕ) (t : choice.SlotTable) (file : List ℕ) (m : Map) (book : Book)
     → classes ≤ width → OpensBy classes size_max t file m book → IsBalanced t.chosen.block.k m book
 balanced_of_file classes size_max t file m book few opens =
     let placed = placed_table classes size_max file t in
@@ -348,7 +348,7 @@ balanced_of_file classes size_max t file m book few opens =
     (subst (IsBalanced t.chosen.block.k (map_of base file t.records)) (sym opens.same_book)
     (balanced_with t.chosen.block.k (map_of base file t.records) t.digests (book_of placed) made))
 
-pub tight_of_file : (classes size_max : ℕ) (t : choice.Table) (file : List ℕ) (m : Map) (book : Book)
+pub tight_of_file : (classes size_max : ℕ) (t : choice.SlotTable) (file : List ℕ) (m : Map) (book : Book)
     (cs : List Change) → classes ≤ width → OpensBy classes size_max t file m book
     → Tight t.chosen.block.k (book_end t.chosen.block.k (book_after t.chosen.block.k m book cs))
     (map_after m cs)

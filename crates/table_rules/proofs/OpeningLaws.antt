@@ -12,7 +12,7 @@ use Rattle.slot_codec.specs.declared.codec.Kind.TheVariants.{Settled, Moving}
 use Rattle.slot_codec.specs.declared.codec.Record.{Record}
 use Rattle.map_model.specs.Maps.{Map}
 use Rattle.segment_layout.specs.Books.{Book, with_digests}
-use Rattle.table_rules.specs.Tables.{PlacedTable, map_of, book_of, nth, end_of_record, last_end}
+use Rattle.table_rules.specs.Tables.{TableInLayout, map_of, book_of, nth, end_of_record, last_end}
 use Rattle.table_rules.specs.Opening.{OpensBy, placed_table}
 use Rattle.table_rules.specs.Objects.{SameObjects, HasRoomFor, AllApart}
 use Rattle.table_rules.specs.Rules.{IsValid, KeepsPlaces, CanResume, KindFits, IsMore}
@@ -25,7 +25,7 @@ same_map_of base (r ∷ rs) a b h =
     ≡ bytes_at a (base + r.place) r.size = sym (bytes_at-same a b (base + r.place) r.size h.0 h.1 h.2) in
     λ i. fin.insert (same_map_of base rs a b h.3 i) r.name (object i)
 
-places_longer : (t : PlacedTable) (n : ℕ) → KeepsPlaces t → KeepsPlaces (record t { data_len = n })
+places_longer : (t : TableInLayout) (n : ℕ) → KeepsPlaces t → KeepsPlaces (record t { data_len = n })
 places_longer t n p = record {
   sizes = p.sizes;
   empty = p.empty;
@@ -37,7 +37,7 @@ places_longer t n p = record {
   full = λ c h. record { entry = (p.full c h).entry; full = (p.full c h).full };
 }
 
-resume_longer : (t : PlacedTable) (n : ℕ) → CanResume t → CanResume (record t { data_len = n })
+resume_longer : (t : TableInLayout) (n : ℕ) → CanResume t → CanResume (record t { data_len = n })
 resume_longer t n r = record {
   room = record { wall = r.room.wall; slack = r.room.slack };
   places = λ i h. record {
@@ -47,23 +47,23 @@ resume_longer t n r = record {
   };
 }
 
-front_longer : (t : PlacedTable) (n : ℕ) (kind : Kind) → KindFits t kind
+front_longer : (t : TableInLayout) (n : ℕ) (kind : Kind) → KindFits t kind
     → KindFits (record t { data_len = n }) kind
 front_longer t n Settled h = h
 front_longer t n Moving h = h
 
-more_longer : (t : PlacedTable) (n : ℕ) (kind : Kind) → IsMore t kind
+more_longer : (t : TableInLayout) (n : ℕ) (kind : Kind) → IsMore t kind
     → IsMore (record t { data_len = n }) kind
 more_longer t n Settled h = h
 more_longer t n Moving h = resume_longer t n h
 
-last_end_longer : (t : PlacedTable) (n : ℕ) (kind : Kind)
+last_end_longer : (t : TableInLayout) (n : ℕ) (kind : Kind)
     → last_end (record t { data_len = n }) kind ≡ last_end t kind
 last_end_longer t n Settled = refl
 last_end_longer t n Moving = refl
 
 -- a table is valid beside any data part that has room for it
-pub valid_longer : (t : PlacedTable) (n : ℕ) → HasRoomFor t n → IsValid t
+pub valid_longer : (t : TableInLayout) (n : ℕ) → HasRoomFor t n → IsValid t
     → IsValid (record t { data_len = n })
 valid_longer t n room v = (
   record {
@@ -75,11 +75,11 @@ valid_longer t n room v = (
   more_longer t n t.header.kind v.1,
 )
 
-book_longer : (t : PlacedTable) (n : ℕ) → book_of (record t { data_len = n }) ≡ book_of t
+book_longer : (t : TableInLayout) (n : ℕ) → book_of (record t { data_len = n }) ≡ book_of t
 book_longer t n = refl
 
 -- The law on which each step of a flush stands.
-pub carries_on : (classes size_max : ℕ) (t : choice.Table) (a b : List ℕ) (m : Map) (book : Book)
+pub carries_on : (classes size_max : ℕ) (t : choice.SlotTable) (a b : List ℕ) (m : Map) (book : Book)
     → OpensBy classes size_max t a m book
     → head_len t.chosen.block.names ≤ length b
     → SameBelow (head_len t.chosen.block.names) a b
@@ -118,7 +118,7 @@ objects_stay base at n (r ∷ rs) a b same h = (
 )
 
 -- a change within the data part, apart from the objects of the table, leaves what a file stands for
-pub opens_after_write : (classes size_max : ℕ) (t : choice.Table) (a b : List ℕ) (m : Map) (book : Book)
+pub opens_after_write : (classes size_max : ℕ) (t : choice.SlotTable) (a b : List ℕ) (m : Map) (book : Book)
     (at n : ℕ) → OpensBy classes size_max t a m book
     → head_len t.chosen.block.names ≤ at
     → SameOutside at n a b

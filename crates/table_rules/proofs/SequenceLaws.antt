@@ -6,11 +6,11 @@ use Rattle.slot_codec.proofs.ChoiceLaws.{chosen_sequence, table_chosen}
 use Rattle.slot_codec.proofs.StepLaws.{from_ok}
 use Rattle.table_rules.specs.Sequences.{HasSequenceUpTo}
 
-pub sequence_of_table : (file : List ℕ) (t : choice.Table) (most : ℕ) → choice.table_of file ≡ Ok t
+pub sequence_of_table : (file : List ℕ) (t : choice.SlotTable) (most : ℕ) → choice.table_of file ≡ Ok t
     → t.chosen.header.sequence ≤ most → HasSequenceUpTo most file
 sequence_of_table file t most read low other again =
     let same : t ≡ other = from_ok t other (sym read ∙ again) in
-    omega (arith, low, ap (λ (x : choice.Table). x.chosen.header.sequence) same)
+    omega (arith, low, ap (λ (x : choice.SlotTable). x.chosen.header.sequence) same)
 
 pub sequence_of_slot : (file : List ℕ) (u : choice.InUse) (most : ℕ) → choice.slot_in_use file ≡ Ok u
     → u.sequence ≤ most → HasSequenceUpTo most file

@@ -15,7 +15,7 @@ use Rattle.map_model.specs.Maps.{Map}
 use Rattle.map_model.proofs.MapLaws.{sum_by-map}
 use Rattle.segment_layout.specs.Shapes.{settled_caps, settled_grid}
 use Rattle.segment_layout.specs.Books.{Book, volumes_of_sizes, with_digests}
-use Rattle.table_rules.specs.Tables.{PlacedTable, boundary_of_kind, table_boundary, nth, no_record, sizes, is_of, is_lower, lies_in_payload, lies_in_buffer, live_in_buffer, end_of_record, last_end, book_of, HasFullRows, is_buffered}
+use Rattle.table_rules.specs.Tables.{TableInLayout, boundary_of_kind, table_boundary, nth, no_record, sizes, is_of, is_lower, lies_in_payload, lies_in_buffer, live_in_buffer, end_of_record, last_end, book_of, HasFullRows, is_buffered}
 use Rattle.table_rules.specs.Opening.{HasNoneFrom, Opens, OpensAsBefore, OpensBy, placed_table}
 use Rattle.segment_layout.proofs.SumLaws.{sum_by_same_places}
 use Rattle.segment_layout.proofs.ShapeLaws.{end_of-rest, length-settled_caps, caps-settled_below, caps-settled_above, cell-settled_below, cell-settled_above, length-settled_grid, row-settled_below, row-settled_above}
@@ -28,11 +28,11 @@ use Rattle.table_rules.proofs.TableLaws.{zero_cell}
 use Rattle.table_rules.specs.Rules.{AtRecords, IsValid, KeepsPlaces, CanResume, IsMore, SizeFits, KindFits}
 
 -- the same table among n classes, with objects of at most s bytes
-abbrev pub among : ℕ → ℕ → PlacedTable → PlacedTable
+abbrev pub among : ℕ → ℕ → TableInLayout → TableInLayout
 among n s t = record t { classes = n; size_max = s }
 
 -- no object has a class from low on and below high
-abbrev NoneBetween : ℕ → ℕ → PlacedTable → Type 0
+abbrev NoneBetween : ℕ → ℕ → TableInLayout → Type 0
 NoneBetween low high t = (i : ℕ) → i < length t.records → 0 < (nth t i).size → low ≤ class_of (nth t i).size
     → class_of (nth t i).size < high → ⊥
 
@@ -45,7 +45,7 @@ filter_same_places d p q (x ∷ xs) each =
     λ i. cond (each 0 (omega arith) i) (x ∷ rest i) (rest i)
 
 -- objects of a class that none has are of no bytes together
-no_bytes : (t : PlacedTable) (c : ℕ)
+no_bytes : (t : TableInLayout) (c : ℕ)
     → ((i : ℕ) → i < length t.records → 0 < (nth t i).size → class_of (nth t i).size ≡ c → ⊥)
     → slice_index (volumes_of_sizes (sizes t.records)) c ≡ 0
 no_bytes t c none =
@@ -61,7 +61,7 @@ no_bytes t c none =
     ])
     ∙ sum_by_none (λ (r : Record). 0) t.records (λ r. refl)
 
-module _ (n s : ℕ) (t : PlacedTable) (h : HasFullRows t) (p : KeepsPlaces t) (more : t.size_max ≤ s)
+module _ (n s : ℕ) (t : TableInLayout) (h : HasFullRows t) (p : KeepsPlaces t) (more : t.size_max ≤ s)
     (first : table_boundary t ≤ table_boundary (among n s t)) (fits : table_boundary (among n s t) ≤ width)
     (none : NoneBetween (table_boundary t) (table_boundary (among n s t)) t) where
   no_cap : (c : ℕ) → table_boundary t ≤ c → c < width → slice_index t.header.caps c ≡ 0
@@ -232,7 +232,7 @@ module _ (n s : ℕ) (t : PlacedTable) (h : HasFullRows t) (p : KeepsPlaces t) (
 
 -- ---- the two kinds of tables
 
-module _ (n s : ℕ) (t : PlacedTable) (few : t.classes ≤ n) where
+module _ (n s : ℕ) (t : TableInLayout) (few : t.classes ≤ n) where
   wider_bound : (kind : Kind) → boundary_of_kind t.classes kind t.header.boundary
       ≤ boundary_of_kind n kind t.header.boundary
   wider_bound Settled = few
@@ -260,10 +260,10 @@ module _ (n s : ℕ) (t : PlacedTable) (few : t.classes ≤ n) where
   wider_front Moving rule = omega (arith, rule)
 
 -- a table with a kind
-abbrev fixed : Kind → PlacedTable → PlacedTable
+abbrev fixed : Kind → TableInLayout → TableInLayout
 fixed kind t = record t { header = record t.header { kind = kind } }
 
-wider_resume : (n s : ℕ) (t : PlacedTable) → CanResume (fixed Moving t)
+wider_resume : (n s : ℕ) (t : TableInLayout) → CanResume (fixed Moving t)
     → CanResume (among n s (fixed Moving t))
 wider_resume n s t r =
     record {
@@ -275,12 +275,12 @@ wider_resume n s t r =
       };
     }
 
-wider_more : (n s : ℕ) (kind : Kind) (t : PlacedTable) → IsMore (fixed kind t) kind
+wider_more : (n s : ℕ) (kind : Kind) (t : TableInLayout) → IsMore (fixed kind t) kind
     → IsMore (among n s (fixed kind t)) kind
 wider_more n s Settled t m = tt
 wider_more n s Moving t m = wider_resume n s t m
 
-pub wider_valid : (n s : ℕ) (t : PlacedTable) → HasFullRows t → t.classes ≤ n → n ≤ width
+pub wider_valid : (n s : ℕ) (t : TableInLayout) → HasFullRows t → t.classes ≤ n → n ≤ width
     → t.size_max < 2 ^ t.classes → t.size_max ≤ s → IsValid t
     → IsValid (among n s t) × (book_of (among n s t) ≡ book_of t)
 wider_valid n s t h few wide small more v =
@@ -305,7 +305,7 @@ wider_valid n s t h few wide small more v =
     )
 
 -- the table of a file that opens
-full_rows : (classes size_max : ℕ) (t : choice.Table) (file : List ℕ) (m : Map) (book : Book)
+full_rows : (classes size_max : ℕ) (t : choice.SlotTable) (file : List ℕ) (m : Map) (book : Book)
     → classes ≤ width → OpensBy classes size_max t file m book
     → HasFullRows (placed_table classes size_max file t)
 full_rows classes size_max t file m book wide o =
@@ -313,7 +313,7 @@ full_rows classes size_max t file m book wide o =
     record { caps_full = header.0; grid_full = header.1; classes = wide }
 
 -- what a file stands for among some classes it stands for among more
-pub more_classes : (few many size_max more : ℕ) (t : choice.Table) (file : List ℕ) (m : Map) (book : Book)
+pub more_classes : (few many size_max more : ℕ) (t : choice.SlotTable) (file : List ℕ) (m : Map) (book : Book)
     → few ≤ many → many ≤ width → size_max < 2 ^ few → size_max ≤ more → OpensBy few size_max t file m book
     → OpensBy many more t file m book
 more_classes few many size_max more t file m book low wide small larger o =
@@ -330,12 +330,12 @@ more_classes few many size_max more t file m book low wide small larger o =
 
 -- ---- the classes that a table doesn't have
 
-boundary_fits : (t : PlacedTable) (kind : Kind) → KindFits t kind
+boundary_fits : (t : TableInLayout) (kind : Kind) → KindFits t kind
     → boundary_of_kind t.classes kind t.header.boundary ≤ t.classes
 boundary_fits t Settled rule = omega arith
 boundary_fits t Moving rule = omega (arith, rule)
 
-module _ (t : PlacedTable) (h : HasFullRows t) (small : t.size_max < 2 ^ t.classes) (v : IsValid t) where
+module _ (t : TableInLayout) (h : HasFullRows t) (small : t.size_max < 2 ^ t.classes) (v : IsValid t) where
   in_classes : table_boundary t ≤ t.classes
   in_classes = boundary_fits t t.header.kind v.0.front
 

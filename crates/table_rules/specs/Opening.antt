@@ -5,11 +5,11 @@ use Rattle.slot_codec.specs.Spelling.{head_len}
 use Rattle.slot_codec.specs.Choice as choice
 use Rattle.map_model.specs.Maps.{Map}
 use Rattle.segment_layout.specs.Books.{Book, with_digests}
-use Rattle.table_rules.specs.Tables.{PlacedTable, map_of, book_of}
+use Rattle.table_rules.specs.Tables.{TableInLayout, map_of, book_of}
 use Rattle.table_rules.specs.Rules.{IsValid}
 
 -- the table of a file, as its rules see it
-abbrev pub placed_table : ℕ → ℕ → List ℕ → choice.Table → PlacedTable
+abbrev pub placed_table : ℕ → ℕ → List ℕ → choice.SlotTable → TableInLayout
 placed_table classes size_max file t =
     record {
       classes = classes;
@@ -21,7 +21,7 @@ placed_table classes size_max file t =
     }
 
 -- No refusal applies to a file with this table, and it stands for this map and this book.
-pub record OpensBy (classes size_max : ℕ) (t : choice.Table) (file : List ℕ) (m : Map) (b : Book) : Type 0
+pub record OpensBy (classes size_max : ℕ) (t : choice.SlotTable) (file : List ℕ) (m : Map) (b : Book) : Type 0
   where
     pub read : choice.table_of file ≡ Ok t
     pub valid : IsValid (placed_table classes size_max file t)
@@ -30,7 +30,7 @@ pub record OpensBy (classes size_max : ℕ) (t : choice.Table) (file : List ℕ)
 
 -- The file opens to this map and this book.
 pub record Opens (classes size_max : ℕ) (file : List ℕ) (m : Map) (b : Book) : Type 0 where
-  pub table : choice.Table
+  pub table : choice.SlotTable
   pub opens : OpensBy classes size_max table file m b
 
 -- The same under the rules of the first programs, whose objects had at most 2^20 bytes and so one of 21

@@ -4,4 +4,5 @@ use Rattle.slot_codec.specs.Choice as choice
 
 -- the table of a file, where the file has one, has at most this sequence
 abbrev pub HasSequenceUpTo : ℕ → List ℕ → Type 0
-HasSequenceUpTo most file = (t : choice.Table) → choice.table_of file ≡ Ok t → t.chosen.header.sequence ≤ most
+HasSequenceUpTo most file = (t : choice.SlotTable) → choice.table_of file ≡ Ok t
+    → t.chosen.header.sequence ≤ most

@@ -47,14 +47,14 @@ some_jobs : (number count names : ℕ) → jobs number count names ≢ []
 some_jobs number count names = some_of (jobs number count names) count (how_many names 1 count _)
 
 -- no call cuts a file that ends with its layout
-exact_turn : (t : choice.Table) (b : Book) (old : State)
+exact_turn : (t : choice.SlotTable) (b : Book) (old : State)
     → length old.file ≡ found_base t + book_end t.chosen.block.k b → turn_opened t b old ≡ old.turn
 exact_turn t b old exact =
     let far = found_base t + book_end t.chosen.block.k b in
     cond-false (nat_lt far (length old.file)) (counted old.turn 2) old.turn
     (le-ltb far (length old.file) (omega (arith, exact)))
 
-module _ (t : choice.Table) (m : Map) (b : Book) (old : State) (lawful : IsLawful old)
+module _ (t : choice.SlotTable) (m : Map) (b : Book) (old : State) (lawful : IsLawful old)
     (o : OpensBy CLASSES SIZE_MAX t old.file m b) (number count : ℕ) (out after : SinkState) where
   -- each image that was left as the call began
   left_before : old.turn < last → RestsOnFound t old

@@ -34,7 +34,7 @@ use Rattle.served_file.proofs.OpeningLaws.{Opened, left_first, left_opening, ope
 use Rattle.command_face.specs.Devices.{devices}
 use Rattle.work_command.proofs.WorkLaws.{all_done, in_a_job, none_begun, none_done}
 
-module _ (t : choice.Table) (m : Map) (b : Book) (old : State) (lawful : IsLawful old)
+module _ (t : choice.SlotTable) (m : Map) (b : Book) (old : State) (lawful : IsLawful old)
     (told : IsTrue old.tells)
     (plain : IsPlain b) (o : OpensBy CLASSES SIZE_MAX t old.file m b)
     {D : Type 0} (disk_of : D → State) (number count : ℕ) (z : State) (out put after : SinkState) where

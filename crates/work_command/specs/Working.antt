@@ -119,7 +119,7 @@ pub record WorkHolds (found : Found) (number count status : ℕ) (old new : Devi
 
 -- So it is of every file of version 1 that opens.
 abbrev pub WorkPromise : ℕ → ℕ → ℕ → Devices → Devices → Type 0
-WorkPromise number count status old new = (t : choice.Table) (m : Map) (b : Book)
+WorkPromise number count status old new = (t : choice.SlotTable) (m : Map) (b : Book)
     → IsPlain b → OpensBy CLASSES SIZE_MAX t old.disk.file m b
     → WorkHolds (found_by t m b) number count status old new
 

@@ -27,7 +27,8 @@ pub fn worked_summary()
 /// Where the words are `work FILE NUMBER COUNT`, the mount finds the file, it opens to a book of version 1,
 /// and no count of failures rises, all jobs are done or memory is wanting.
 pub fn jobs_are_done<B: Bay, O: Sink>()
-    ensures { (t : choice.Table) (m : Map) (b : Book) (file : List ℕ) (number count status : ℕ) (old new : B)
+    ensures { (t : choice.SlotTable) (m : Map) (b : Book) (file : List ℕ) (number count status : ℕ)
+        (old new : B)
         (out after : O) → IsPlain b → OpensBy CLASSES SIZE_MAX t (B.state old).file m b
         → WorkPromise number count status (devices (B.state old) (O.state out))
             (devices (B.state new) (O.state after))
