@@ -17,6 +17,7 @@ use slot_pair::SlotPair;
 use std::alloc::Global;
 
 /// `get FILE NAME`.
+#[inline(never)]
 pub fn get_from<B: Bay, O: Sink>(
     alloc: Global,
     bay: &mut B,
@@ -43,6 +44,7 @@ pub fn get_from<B: Bay, O: Sink>(
 }
 
 /// `check FILE`.
+#[inline(never)]
 pub fn check_from<B: Bay, O: Sink>(
     alloc: Global,
     bay: &mut B,
@@ -66,6 +68,7 @@ pub fn check_from<B: Bay, O: Sink>(
 }
 
 /// `map FILE`.
+#[inline(never)]
 pub fn map_from<B: Bay, O: Sink>(
     alloc: Global,
     bay: &mut B,
@@ -89,6 +92,7 @@ pub fn map_from<B: Bay, O: Sink>(
 }
 
 /// `format FILE K NAMES`. An empty file is formatted; another one stays as it is.
+#[inline(never)]
 pub fn format_in<B: Bay, O: Sink>(
     bay: &mut B,
     file: &str,

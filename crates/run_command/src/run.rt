@@ -29,6 +29,7 @@ pub struct SessionEnd {
 }
 
 /// `run FILE`: serves the requests of the input, and puts the fault line last.
+#[inline(never)]
 pub fn run_file<B: Bay, I: Source, O: Sink>(
     alloc: Global,
     bay: &mut B,

@@ -19,6 +19,7 @@ use store_core::Store;
 use work_session::{WorkFault, do_work};
 
 /// `work FILE NUMBER COUNT`: does the jobs of a number, and puts their summary, or the fault line alone.
+#[inline(never)]
 pub fn work_file<B: Bay, O: Sink>(
     alloc: Global,
     bay: &mut B,
