@@ -13,7 +13,7 @@ use Rattle.placement_model.specs.Reads.{object_at, read_at}
 use Rattle.placement_model.proofs.ReadLaws.{get-read_at}
 use Rattle.placement_model.proofs.EnterLaws.{by_name}
 use Rattle.placement_model.proofs.OpenedLaws.{record_within}
-use Rattle.reopen.specs.Loads.{IsLoadedFrom, KeepsLoaded, table_seen}
+use Rattle.reopen.specs.Loads.{IsLoadedFrom, KeepsLoaded, digests_loaded, table_seen}
 use Rattle.reopen.specs.declared.state.Loaded.{Loaded}
 use Rattle.file_commands.specs.Getting.{IsGiven, or_missing}
 
@@ -23,8 +23,9 @@ pub given_at : (name file : List ℕ) (x : Loaded CLASSES) (found : Option Spot)
     → IsGiven name file (or_missing (option_map (object_at (head_len x.block.names) file) found))
 given_at name file x found keeps from is = record {
   map = read_at (head_len x.block.names) file x.table.now;
-  book = with_digests from.digests (book_of (placed_table CLASSES SIZE_MAX file (table_seen x from.digests)));
-  opens = record { table = table_seen x from.digests; opens = from.opens };
+  book = with_digests (digests_loaded x)
+      (book_of (placed_table CLASSES SIZE_MAX file (table_seen x (digests_loaded x))));
+  opens = record { table = table_seen x (digests_loaded x); opens = from.opens };
   same = ap or_missing (sym (
       get-read_at (head_len x.block.names) file x.table.now keeps.is_table.now_named name
       ∙ ap (option_map (object_at (head_len x.block.names) file)) is));
@@ -38,7 +39,8 @@ lies_in_file name file x s keeps from is =
     let base = head_len x.block.names in
     let within = by_name (λ (r : Record). base + end_of_record r ≤ length file) x.table.now
     keeps.is_table.now_named
-    (record_within CLASSES SIZE_MAX (table_seen x from.digests) file (read_at base file x.table.now)
-    (with_digests from.digests (book_of (placed_table CLASSES SIZE_MAX file (table_seen x from.digests))))
+    (record_within CLASSES SIZE_MAX (table_seen x (digests_loaded x)) file (read_at base file x.table.now)
+    (with_digests (digests_loaded x)
+    (book_of (placed_table CLASSES SIZE_MAX file (table_seen x (digests_loaded x)))))
     from.opens) name s is in
     omega (arith, within)

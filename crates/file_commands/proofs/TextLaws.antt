@@ -17,7 +17,7 @@ use Rattle.extent_table.specs.Extents.{Extents, IsTable, record_of, records_of, 
 use Rattle.extent_table.proofs.ExtentLaws.{records_of-all}
 use Rattle.placement_model.specs.Reads.{read_at}
 use Rattle.placement_model.proofs.SpotSumLaws.{records_sum, volume_of-weights}
-use Rattle.reopen.specs.Loads.{IsLoadedFrom, KeepsLoaded, table_seen}
+use Rattle.reopen.specs.Loads.{IsLoadedFrom, KeepsLoaded, digests_loaded, table_seen}
 use Rattle.reopen.specs.declared.state.Loaded.{Loaded}
 use Rattle.command_face.specs.Lines.{numbered}
 use Rattle.file_commands.specs.Texts.{IsTold, check_text, data_of, kind_text}
@@ -71,11 +71,13 @@ records_volume x keeps = records_sum (λ (r : Record). r.size) x.table.now keeps
 
 -- a text of the table that was read is the one that is to be told
 pub told_of : (text : choice.SlotTable → ℕ → List ℕ) (file : List ℕ) (x : Loaded CLASSES)
-    (from : IsLoadedFrom file x) → IsTold text file (Ok (text (table_seen x from.digests) (length file)))
+    (from : IsLoadedFrom file x)
+    → IsTold text file (Ok (text (table_seen x (digests_loaded x)) (length file)))
 told_of text file x from = inl (record {
-  table = table_seen x from.digests;
+  table = table_seen x (digests_loaded x);
   map = read_at (head_len x.block.names) file x.table.now;
-  book = with_digests from.digests (book_of (placed_table CLASSES SIZE_MAX file (table_seen x from.digests)));
+  book = with_digests (digests_loaded x)
+      (book_of (placed_table CLASSES SIZE_MAX file (table_seen x (digests_loaded x))));
   opens = from.opens;
   same = refl;
 })

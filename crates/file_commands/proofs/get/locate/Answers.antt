@@ -1,6 +1,9 @@
-use Rattle.std.proofs.Common.{inr, rules}
+use Rattle.std.proofs.Common.{◌≡◌, ℕ, List, Result, Ok, Err, inr, rules, subst, sym}
+use Rattle.std.specs.Prelude.{IfErr}
 use Rattle.command_face.specs.Refusing.{IsRefused}
-use Rattle.file_commands.specs.Getting.{IsObject}
+use Rattle.command_face.specs.declared.stop.StopReason.{StopReason}
+use Rattle.command_face.specs.declared.stop.StopReason.TheVariants as stop
+use Rattle.file_commands.specs.Getting.{IsObject, StopsAs}
 use Rattle.file_commands.proofs.AnswerLaws.{stops_more}
 use Rattle.file_commands.proofs.get.locate.Goals as goal
 
@@ -11,3 +14,23 @@ returns-in_err-loaded-clause-stopped g c = λ told.
     let all = stops_more (IsRefused file) (IsObject c.args.name.now file) (λ answer is. inr is) why
     (c.in_err-loaded.ensures.stopped told) in
     search rules
+
+pub returns-clause-found : goal.returns-clause-found
+returns-clause-found g c told = c.spot_in.ensures.found (g.D.Disk.state c.args.disk.now).file
+    (c.in_ok-loaded.ensures.told told)
+
+pub returns-clause-within : goal.returns-clause-within
+returns-clause-within g c told = c.spot_in.ensures.within (g.D.Disk.state c.args.disk.now).file
+    (c.in_ok-loaded.ensures.told told)
+
+-- a name that isn't there is no failure of the disk or of memory
+stops : {X : Type 0} (answer : Result (List ℕ) StopReason → Type 0) (r : Result X StopReason)
+    → IfErr r (λ why. why ≡ stop.Missing) → IfErr r (λ why. answer (Err why)) → IfErr r (StopsAs answer)
+stops answer (Ok x) only missing = tt
+stops answer (Err why) only missing =
+    subst (StopsAs answer) (sym only) (subst (λ w. answer (Err w)) only missing)
+
+pub returns-clause-stopped : goal.returns-clause-stopped
+returns-clause-stopped g c told = stops (IsObject c.args.name.now (g.D.Disk.state c.args.disk.now).file)
+    c.spot_in.result c.spot_in.ensures.only
+    (c.spot_in.ensures.missing (g.D.Disk.state c.args.disk.now).file (c.in_ok-loaded.ensures.told told))
