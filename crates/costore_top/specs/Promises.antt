@@ -29,9 +29,9 @@ PutsLineAlone status old new = (status ≡ DONE) ⊎ (status ≡ DISK_FAILED) �
     ⊎ PutsLine status old new
 
 -- The bytes of the file decide the status, and what is put. A command that serves no requests ends by the one
--- answer that there is to them; only memory may be wanting for the table that is read, before anything is put.
--- A file that doesn't open ends one that serves requests as its first refusal says, and one of version 2 by the
--- fault of its version.
+-- answer that there is to them; only memory may be wanting for its table, before any byte is put.
+-- A file that doesn't open ends one that serves requests as its first refusal says, and one of version 2 by
+-- the fault of its version.
 pub record AnswersByItsFile (words : List (List ℕ)) (status : ℕ) (old new : Devices) : Type 0 where
   pub ends : (c : Command) → Means words c → IsFalse (serves c)
       → (IsTrue (mounts c) → IsTrue old.disk.tells)
@@ -41,15 +41,15 @@ pub record AnswersByItsFile (words : List (List ℕ)) (status : ℕ) (old new : 
   pub refused : (c : Command) → Means words c → IsTrue (serves c) → IsTrue old.disk.tells
       → NeverServed old.disk.file → Ends (IsRefusedService old.disk.file) status old.sink new.sink
 
--- What a call keeps that serves no requests: only `format` touches its file, and the devices' own faults have
--- their causes.
+-- What a call keeps that serves no requests: only `format` touches its file, and the devices' own faults
+-- have their causes.
 pub record KeepsItsFile (words : List (List ℕ)) (status : ℕ) (old new : Devices) : Type 0 where
   pub frame : ((c : Command) → Means words c → IsFalse (makes c)) → Untouched old.disk new.disk
   pub keeps : Keeps old.disk new.disk old.sink new.sink (status ≡ DISK_FAILED) (status ≡ SINK_FAILED)
       (status ≡ DONE)
 
--- `format` of an empty file leaves no store or the empty one. It tells that a file is formatted only once that
--- file is safe: where the disk failed, the fault line is all that is put.
+-- `format` of an empty file leaves no store or the empty one. It tells that a file is formatted only once
+-- that file is safe: where the disk failed, the fault line is all that is put.
 pub record FormatsSafely (words : List (List ℕ)) (status : ℕ) (old new : Devices) : Type 0 where
   pub formats : (file : List ℕ) (k names : ℕ) → Means words (format file k names)
       → IsTrue old.disk.tells → length old.disk.file ≡ 0
@@ -57,7 +57,8 @@ pub record FormatsSafely (words : List (List ℕ)) (status : ℕ) (old new : Dev
   pub silent : (c : Command) → Means words c → IsTrue (makes c) → IsTrue old.sink.tells
       → status ≡ DISK_FAILED → PutsLine DISK_FAILED old.sink new.sink
 
--- No request of the input was read: it is as it was, no status of requests comes, and the three numbers are 0.
+-- No request of the input was read: it is as it was, no status of requests comes, and the three numbers are
+-- 0.
 pub record ReadsNoInput (o : Outcome) (same_input : Type 0) : Type 0 where
   pub input : same_input
   pub no_session : (o.status ≢ FAULTY_REQUEST) × (o.status ≢ SOURCE_FAILED) × (o.status ≢ TOO_MANY)

@@ -33,8 +33,8 @@ use Rattle.served_file.proofs.ShownLaws.{first_kept, some_weaker}
 use Rattle.run_command.proofs.RunLists.{LastIs, Splits, last_is, splits}
 use Rattle.served_file.proofs.OpeningLaws.{Opened, found_numbered, requests_low}
 
--- A session that has run so far over a file that opens: from the states `old` and `a`, before the call and once
--- the file was opened, to `c`; from the source `from` and the sink `out` to `i1` and `o1`.
+-- A session that has run so far over a file that opens: from the states `old` and `a`, before the call and
+-- once the file was opened, to `c`; from the source `from` and the sink `out` to `i1` and `o1`.
 pub record SoFar : Type 1 where
   pub t : choice.SlotTable
   pub m : Map
@@ -60,8 +60,8 @@ pub record SoFar : Type 1 where
   pub ran : HasRun CLASSES (new_sitting s a.turn) s1 a c from i1 out o1 n
   pub few : n ≤ budget
 
--- The same, in the words of the headline: the superblock, the limits, the state at the start, the states after
--- the requests and the last of them, and which requests were answered.
+-- The same, in the words of the headline: the superblock, the limits, the state at the start, the states
+-- after the requests and the last of them, and which requests were answered.
 pub record View (h : SoFar) : Type 0 where
   pub u : SuperBlock
   pub limits : Limits

@@ -184,8 +184,8 @@ HasMounted d = IsTrue (is_mounted d.last_mount)
 
 -- What a session over a file does that has a superblock, opens by a table to a map and a book, and whose
 -- input asks for these requests and then has `end`. What is said of images is said of a disk that rested on
--- that table, below the last turn, and of a moving table whose sequence leaves room for the saves of its flush;
--- what is said of lengths, of a disk whose count of faults didn't rise.
+-- that table, below the last turn, and of a moving table whose sequence leaves room for the saves of its
+-- flush; what is said of lengths, of a disk whose count of faults didn't rise.
 pub record RunHolds (found : Found) (requests : List Request) (end : List ℕ) (o : Outcome)
     (old new : Devices) (from rest : SourceState) : Type 0 where
   pub start : State

@@ -27,8 +27,9 @@ returns-in-Format g c =
     c.in-Format.k c.in-Format.names e.never.0 e.never.1 e.mounted e.answers e.nothing_put e.plain e.formats
     e.silent e.keeps in
     does_as (ap command_of c.in-Format.is)
-    (plain_does g.O.Sink.state command refl disk new out put (g.O.Sink.state c.finish.new.output) from from
-    bay input refl c.format_in.result c.finish.result f.status f.line f.told f.later f.calm layer)
+    (plain_does g.O.Sink.state command refl disk new out put (g.O.Sink.state c.finish.new.output)
+    from from bay input refl c.format_in.result c.finish.result f.status f.line f.told
+    f.later f.calm layer)
 
 pub format_in-requires-clause-sizes : goal.format_in-requires-clause-sizes
 format_in-requires-clause-sizes g c =
@@ -49,12 +50,12 @@ returns-in-Get g c =
     let command = get c.in-Get.file.now c.in-Get.name in
     let layer = reading g.O.Sink.state disk new out put bay c.get_from.result command
     (IsObject c.in-Get.name disk.file) refl refl refl
-    (get_answer c.in-Get.file.now c.in-Get.name disk.file) e.words e.mounted e.answers e.nothing_put e.plain
-    e.frame e.keeps in
+    (get_answer c.in-Get.file.now c.in-Get.name disk.file) e.words e.mounted e.answers
+    e.nothing_put e.plain e.frame e.keeps in
     does_as (ap command_of c.in-Get.is)
-    (plain_does g.O.Sink.state command refl disk new out put
-    (g.O.Sink.state c.finish-in-Get.new.output) from from
-    bay input refl c.get_from.result c.finish-in-Get.result f.status f.line f.told f.later f.calm layer)
+    (plain_does g.O.Sink.state command refl disk new out put (g.O.Sink.state c.finish-in-Get.new.output)
+    from from bay input refl c.get_from.result c.finish-in-Get.result f.status f.line f.told
+    f.later f.calm layer)
 
 pub returns-in-Check : goal.returns-in-Check
 returns-in-Check g c =
@@ -69,13 +70,12 @@ returns-in-Check g c =
     let input = c.args.input.now ≡ c.args.input.now in
     let command = check c.in-Check.file.now in
     let layer = reading g.O.Sink.state disk new out put bay c.check_from.result command
-    (IsChecked disk.file) refl refl refl
-    (check_answer c.in-Check.file.now disk.file) e.words e.mounted e.answers e.nothing_put e.plain
-    e.frame e.keeps in
+    (IsChecked disk.file) refl refl refl (check_answer c.in-Check.file.now disk.file) e.words e.mounted
+    e.answers e.nothing_put e.plain e.frame e.keeps in
     does_as (ap command_of c.in-Check.is)
-    (plain_does g.O.Sink.state command refl disk new out put
-    (g.O.Sink.state c.finish-in-Check.new.output) from from
-    bay input refl c.check_from.result c.finish-in-Check.result f.status f.line f.told f.later f.calm layer)
+    (plain_does g.O.Sink.state command refl disk new out put (g.O.Sink.state c.finish-in-Check.new.output)
+    from from bay input refl c.check_from.result c.finish-in-Check.result f.status f.line f.told
+    f.later f.calm layer)
 
 pub returns-in-Map : goal.returns-in-Map
 returns-in-Map g c =
@@ -90,13 +90,12 @@ returns-in-Map g c =
     let input = c.args.input.now ≡ c.args.input.now in
     let command = map_of c.in-Map.file.now in
     let layer = reading g.O.Sink.state disk new out put bay c.map_from.result command
-    (IsMapped disk.file) refl refl refl
-    (map_answer c.in-Map.file.now disk.file) e.words e.mounted e.answers e.nothing_put e.plain
-    e.frame e.keeps in
+    (IsMapped disk.file) refl refl refl (map_answer c.in-Map.file.now disk.file) e.words e.mounted e.answers
+    e.nothing_put e.plain e.frame e.keeps in
     does_as (ap command_of c.in-Map.is)
-    (plain_does g.O.Sink.state command refl disk new out put
-    (g.O.Sink.state c.finish-in-Map.new.output) from from
-    bay input refl c.map_from.result c.finish-in-Map.result f.status f.line f.told f.later f.calm layer)
+    (plain_does g.O.Sink.state command refl disk new out put (g.O.Sink.state c.finish-in-Map.new.output)
+    from from bay input refl c.map_from.result c.finish-in-Map.result f.status f.line f.told
+    f.later f.calm layer)
 
 pub returns-in-Help : goal.returns-in-Help
 returns-in-Help g c =
@@ -114,9 +113,9 @@ returns-in-Help g c =
     let layer = telling g.O.Sink.state help text disk out put bay refl refl refl refl answer
     c.put_whole.result e.put e.only e.told e.cause in
     does_as (ap command_of c.in-Help.is)
-    (plain_does g.O.Sink.state help refl disk disk out put (g.O.Sink.state c.finish-in-Help.new.output) from
-    from bay input refl c.put_whole.result c.finish-in-Help.result f.status f.line f.told f.later f.calm
-    layer)
+    (plain_does g.O.Sink.state help refl disk disk out put (g.O.Sink.state c.finish-in-Help.new.output)
+    from from bay input refl c.put_whole.result c.finish-in-Help.result f.status f.line f.told f.later
+    f.calm layer)
 
 pub returns-in-Version : goal.returns-in-Version
 returns-in-Version g c =
@@ -134,10 +133,9 @@ returns-in-Version g c =
     let layer = telling g.O.Sink.state version text disk out put bay refl refl refl refl answer
     c.put_whole-in-Version.result e.put e.only e.told e.cause in
     does_as (ap command_of c.in-Version.is)
-    (plain_does g.O.Sink.state version refl disk disk out put
-    (g.O.Sink.state c.finish-in-Version.new.output) from
-    from bay input refl c.put_whole-in-Version.result c.finish-in-Version.result f.status f.line f.told f.later f.calm
-    layer)
+    (plain_does g.O.Sink.state version refl disk disk out put (g.O.Sink.state c.finish-in-Version.new.output)
+    from from bay input refl c.put_whole-in-Version.result c.finish-in-Version.result f.status f.line f.told
+    f.later f.calm layer)
 
 -- ---- commands that serve requests
 
