@@ -25,6 +25,7 @@ use Rattle.store_core.specs.Flushes.{IsFlush}
 use Rattle.store_core.specs.Keeps.{AnswersKeep, KeepsNow}
 use Rattle.store_core.specs.Quiet.{charges_of, put_of, quiet_calls}
 use Rattle.store_core.specs.States.{Served, Step, accepted, facts_of, refusal, served_change}
+use Rattle.store_core.proofs.CauseLaws.{calm_disk}
 use Rattle.store_core.proofs.QuietLaws.{quiet_by_book}
 use Rattle.store_core.proofs.StepLaws.{served_by}
 use Rattle.ask_text.specs.Replies.{reply_line_of, rest_of, told_for}
@@ -55,15 +56,15 @@ refused_answer ask.worn = refl
 -- the head that is answered for a refusal
 pub refused_head : {classes : ℕ} (s : StoreValue) (r : Request) (w : Refused) (a d : disk.State)
     → CanServe classes s a
-    → refusal (limits_of s) (facts_at s r) r ≡ Some w → Unchanged a d
+    → refusal (limits_of s) (facts_at s r) r ≡ Some w → Unchanged a d → d.faults ≡ a.faults
     → Answers classes r s s a d (Ok (head.Refused (told_for w)))
-refused_head s r w a d h is same = record {
+refused_head s r w a d h is same calm = record {
   serves = serves_same s r a d (Ok (head.Refused (told_for w))) h same
       (λ told. (refused_stays s a.file r w h.sound is).0) (and_false (is_changing r));
   replied = λ told. ap reply_line_of (sym (refused_stays s a.file r w h.sound is).1);
   line = λ told. ap rest_of (refused_stays s a.file r w h.sound is).1;
   only = tt;
-  disk_cause = record { rose = λ e. absurd (cc); later = same.later };
+  disk_cause = calm_disk (λ is. absurd (cc)) calm;
 }
 
 -- a change that is refused
@@ -75,7 +76,7 @@ refused_change {classes} s new r w a d result h is answer same =
     subst (λ (x : StoreValue). Answers classes r s x a d (answer_change result)) (sym same.same_store)
     (subst (λ (x : Result _ _). Answers classes r s s a d x) (sym (ap answer_change answer
     ∙ refused_answer w))
-    (refused_head s r w a d h is same.same_disk))
+    (refused_head s r w a d h is same.same_disk same.same_faults))
 
 -- ---- served
 
@@ -134,7 +135,7 @@ is_made s new r a d (Ok x) m = record {
   replied = λ told. sym (head_of_done x) ∙ ap reply_line_of (m.step told).replied;
   line = λ told. ap rest_of (sym (m.step told).replied) ∙ rest_of_done x;
   only = tt;
-  disk_cause = record { rose = λ e. absurd (cc); later = m.cause.later };
+  disk_cause = calm_disk (λ is. absurd (cc)) m.cause.calm;
 }
 is_made {classes} s new r a d (Err refused) m = elim m.either as (λ _. Answers classes r s new a d
     (answer_of refused)) [
@@ -162,7 +163,11 @@ is_made {classes} s new r a d (Err refused) m = elim m.either as (λ _. Answers 
       replied = λ told. tt;
       line = λ told. tt;
       only = refl;
-      disk_cause = record { rose = λ e. m.cause.rose; later = m.cause.later };
+      disk_cause = record {
+        later = m.cause.later;
+        rose = λ is. m.cause.rose;
+        calm = λ other. absurd (other refl);
+      };
     }
 
 -- ---- changes

@@ -1,10 +1,11 @@
 -- Replies to reads: an object, a list, or what is told of an object that is there.
 use Rattle.std.specs.Prelude.{◌≡◌, ℕ, Bool, true, false, List, ◌++◌, length, codes, Option, Some, None, Result, Ok, Err, IfErr, IfOk, IsTrue, refl}
-use Rattle.std.proofs.Common.{arith, ap, sym, ◌∙◌, subst}
+use Rattle.std.proofs.Common.{ap, sym, ◌∙◌, subst}
 use Rattle.std.specs.FinMap as fin
 use Rattle.disk_face.specs.States as disk
 use Rattle.disk_face.specs.Frames.{Unchanged}
 use Rattle.disk_face.specs.Streams.{SinkState}
+use Rattle.slot_pair.specs.Finding.{HasDiskCause}
 use Rattle.map_model.specs.Requests as ask
 use Rattle.map_model.specs.Requests.{Refused, Request}
 use Rattle.extent_table.specs.declared.spot.Spot.{Spot}
@@ -15,7 +16,9 @@ use Rattle.store_core.specs.Answers.{AnswersNumber, facts_at, refusal_for, refus
 use Rattle.slot_codec.specs.Names.{is_name}
 use Rattle.store_core.specs.Connection.{StoreValue, base_of, limits_of, state_of}
 use Rattle.store_core.specs.Readings.{asks_for, object_read, spot_read}
+use Rattle.store_core.specs.Reads.{HasSinkCause}
 use Rattle.store_core.specs.States.{Limits, Served, State, accepted, object_in, refusal, unchanged}
+use Rattle.store_core.proofs.CauseLaws.{calm_disk, sink_cause_after, sink_cause_as}
 use Rattle.store_core.proofs.ChangingLaws.{unchanged_itself}
 use Rattle.store_core.proofs.StoreLaws.{kept_lies, now_lies}
 use Rattle.store_core.proofs.StepLaws.{list_step, served_by}
@@ -28,12 +31,12 @@ use Rattle.ask_session.specs.declared.ends.End.{End}
 use Rattle.ask_session.specs.declared.ends.End.TheVariants as ends
 use Rattle.ask_session.specs.Putting.{PutsAnswer}
 use Rattle.ask_session.specs.ReplyLines.{Answers, answer_of}
-use Rattle.ask_session.specs.Serving.{HasDiskCause, HasSinkCause, IsServingFault, PutsText, Replies, acknowledges, calls_of, is_changing, is_disk, is_disk_fault, reply_at, served_at}
-use Rattle.ask_session.proofs.AnswerLaws.{on_ok, refused_head, refused_is}
+use Rattle.ask_session.specs.Serving.{IsServingFault, PutsText, Replies, acknowledges, calls_of, is_changing, is_disk, is_disk_fault, reply_at, served_at}
+use Rattle.ask_session.proofs.AnswerLaws.{refused_head, refused_is}
 use Rattle.ask_session.proofs.PutLaws.{not_empty_behind, puts_as, puts_cut, puts_then}
 use Rattle.ask_session.specs.Ready.{CanServe}
 use Rattle.ask_session.proofs.ServingLaws.{StaysAt, refusal_at}
-use Rattle.ask_session.proofs.ReplyLaws.{sink_calm, sink_serving, answers_replies, reads_replies, object_size, live_if}
+use Rattle.ask_session.proofs.ReplyLaws.{no_disk_fault, sink_calm, sink_serving, answers_replies, reads_replies, object_size, live_if}
 
 -- ---- replies that are an object
 
@@ -59,21 +62,16 @@ module _ {classes : ℕ} (r : Request) (s : StoreValue) (a : disk.State) (h : Ca
       (result : Result Bool End)
       → Unchanged a d → x ≡ Ok tt → (IsTrue out.tells
       → PutsText (first_line (head.Data size)) out.given mid.given x)
-      → HasSinkCause out mid x → IfOk result (λ kept. kept ≡ false)
+      → HasSinkCause ends.Sink out mid x → IfOk result (λ kept. kept ≡ false)
       → (IsTrue a.tells → IsTrue mid.tells → PutsText (object ++ codes "\n") mid.given after.given result)
-      → IfErr result IsServingFault → HasDiskCause a.faults d.faults result → HasSinkCause mid after result
-      → Replies classes r s s a d out after result
+      → IfErr result IsServingFault → HasDiskCause ends.Disk a.faults d.faults result
+      → HasSinkCause ends.Sink mid after result → Replies classes r s s a d out after result
   found_replies d out mid after x result same ok first first_cause kept puts only disk_cause sink_cause =
       reads_replies r s a d out after result h asks same stays (λ told. ap acknowledges (reply_is told)) kept
       (λ told sink. puts_as _ _ out.given after.given result (text_is told)
       (puts_then (first_line (head.Data size)) (object ++ codes "\n") out.given mid.given after.given result
       (λ fault. not_empty_behind object) (whole sink) (puts told (subst IsTrue (sym first_cause.told) sink))))
-      only disk_cause (record {
-        rose = λ fault. omega (arith, sink_cause.rose fault, calm_first);
-        calm = on_ok result (λ e. e ∙ calm_first) sink_cause.calm;
-        later = omega (arith, first_cause.later, sink_cause.later);
-        told = sink_cause.told ∙ first_cause.told;
-      })
+      only disk_cause (sink_cause_after calm_first first_cause.told sink_cause)
     where
       whole : IsTrue out.tells → mid.given ≡ out.given ++ first_line (head.Data size)
       whole sink = (subst (λ (y : Result (Unit {0}) End). PutsText (first_line
@@ -81,12 +79,13 @@ module _ {classes : ℕ} (r : Request) (s : StoreValue) (a : disk.State) (h : Ca
           (first sink)).all
 
       calm_first : mid.faults ≡ out.faults
-      calm_first = (subst (λ (y : Result (Unit {0}) End). HasSinkCause out mid y) ok first_cause).calm
+      calm_first = (subst (λ (y : Result (Unit {0}) End). HasSinkCause ends.Sink out mid y) ok
+          first_cause).calm (λ is. absurd (cc))
 
   pub cut_replies : (out mid : SinkState) (end : End) → end ≡ ends.Sink
       → (IsTrue out.tells → PutsText {T = Unit {0}} (first_line (head.Data size)) out.given mid.given
       (Err end))
-      → HasSinkCause {T = Unit {0}} out mid (Err end) → Replies classes r s s a a out mid (Err end)
+      → HasSinkCause {T = Unit {0}} ends.Sink out mid (Err end) → Replies classes r s s a a out mid (Err end)
   cut_replies out mid end sink_end first cause =
       reads_replies r s a a out mid (Err end) h asks (unchanged_itself a h.ready) stays
       (λ told. ap acknowledges (reply_is told)) tt
@@ -94,11 +93,8 @@ module _ {classes : ℕ} (r : Request) (s : StoreValue) (a : disk.State) (h : Ca
       (puts_cut (first_line (head.Data size)) (object
       ++ codes "\n") out.given mid.given end sink_end (first sink)))
       (subst IsServingFault (sym sink_end) tt)
-      (record {
-        rose = λ fault. absurd (let e : false ≡ true = sym (ap is_disk sink_end) ∙ fault in cc);
-        later = omega arith;
-      })
-      (record { rose = λ fault. cause.rose fault; calm = tt; later = cause.later; told = cause.told })
+      (calm_disk (λ is. no_disk_fault (Err end) (ap is_disk sink_end) is) refl)
+      (sink_cause_as cause (λ is. ap (λ (x : End). Err x) sink_end) (λ is. ap (λ (x : End). Err x) sink_end))
 
 -- ---- lists
 
@@ -126,9 +122,9 @@ module _ {classes : ℕ} (s : StoreValue) (a : disk.State) (h : CanServe classes
   pub listed_replies : (out mid after : SinkState) (x : Result (Unit {0}) End) (result : Result Bool End)
       → x ≡ Ok tt
       → (IsTrue out.tells → PutsText (first_line (head.List count)) out.given mid.given x)
-      → HasSinkCause out mid x → IfOk result (λ kept. kept ≡ false)
+      → HasSinkCause ends.Sink out mid x → IfOk result (λ kept. kept ≡ false)
       → (IsTrue mid.tells → PutsText (lines_of (listing_of s.now)) mid.given after.given result)
-      → IfErr result (λ end. end ≡ ends.Sink) → HasSinkCause mid after result
+      → IfErr result (λ end. end ≡ ends.Sink) → HasSinkCause ends.Sink mid after result
       → Replies classes ask.list s s a a out after result
   listed_replies out mid after x result ok first first_cause kept puts only sink_cause =
       reads_replies ask.list s a a out after result h refl (unchanged_itself a h.ready) list_stays
@@ -139,13 +135,8 @@ module _ {classes : ℕ} (s : StoreValue) (a : disk.State) (h : CanServe classes
       (λ fault. absurd (let e : true ≡ false = sym fault ∙ calm in cc)) (whole sink)
       (puts (subst IsTrue (sym first_cause.told) sink))))
       (sink_serving result only)
-      (record { rose = λ fault. absurd (let e : true ≡ false = sym fault ∙ calm in cc); later = omega arith })
-      (record {
-        rose = λ fault. omega (arith, sink_cause.rose fault, calm_first);
-        calm = on_ok result (λ e. e ∙ calm_first) sink_cause.calm;
-        later = omega (arith, first_cause.later, sink_cause.later);
-        told = sink_cause.told ∙ first_cause.told;
-      })
+      (calm_disk (λ is. no_disk_fault result calm is) refl)
+      (sink_cause_after calm_first first_cause.told sink_cause)
     where
       calm : is_disk_fault result ≡ false
       calm = sink_calm result only
@@ -156,12 +147,14 @@ module _ {classes : ℕ} (s : StoreValue) (a : disk.State) (h : CanServe classes
           (first sink)).all
 
       calm_first : mid.faults ≡ out.faults
-      calm_first = (subst (λ (y : Result (Unit {0}) End). HasSinkCause out mid y) ok first_cause).calm
+      calm_first = (subst (λ (y : Result (Unit {0}) End). HasSinkCause ends.Sink out mid y) ok
+          first_cause).calm (λ is. absurd (cc))
 
   pub cut_list : (out mid : SinkState) (end : End) → end ≡ ends.Sink
       → (IsTrue out.tells → PutsText {T = Unit {0}} (first_line (head.List count)) out.given mid.given
       (Err end))
-      → HasSinkCause {T = Unit {0}} out mid (Err end) → Replies classes ask.list s s a a out mid (Err end)
+      → HasSinkCause {T = Unit {0}} ends.Sink out mid (Err end)
+      → Replies classes ask.list s s a a out mid (Err end)
   cut_list out mid end sink_end first cause =
       reads_replies ask.list s a a out mid (Err end) h refl (unchanged_itself a h.ready) list_stays
       (λ told. ap acknowledges (list_reply told)) tt
@@ -169,11 +162,8 @@ module _ {classes : ℕ} (s : StoreValue) (a : disk.State) (h : CanServe classes
       (puts_cut (first_line (head.List count)) (lines_of
       (listing_of s.now)) out.given mid.given end sink_end (first sink)))
       (subst IsServingFault (sym sink_end) tt)
-      (record {
-        rose = λ fault. absurd (let e : false ≡ true = sym (ap is_disk sink_end) ∙ fault in cc);
-        later = omega arith;
-      })
-      (record { rose = λ fault. cause.rose fault; calm = tt; later = cause.later; told = cause.told })
+      (calm_disk (λ is. no_disk_fault (Err end) (ap is_disk sink_end) is) refl)
+      (sink_cause_as cause (λ is. ap (λ (x : End). Err x) sink_end) (λ is. ap (λ (x : End). Err x) sink_end))
 
 -- ---- get and old
 
@@ -229,7 +219,7 @@ refused_replies {classes} r s a out after x answer result h is same puts =
     ∙ sym same in
     answers_replies r s s a a out after answer result
     (subst (λ (y : Result text.Reply End). Answers classes r s s a a y) e
-    (refused_head s r w.0 a a h w.1 (unchanged_itself a h.ready))) puts
+    (refused_head s r w.0 a a h w.1 (unchanged_itself a h.ready) refl)) puts
 
 -- the object of a get
 pub get_served : {classes : ℕ} (s : StoreValue) (a : disk.State) (name : List ℕ) → CanServe classes s a

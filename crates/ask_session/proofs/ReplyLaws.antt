@@ -1,11 +1,11 @@
 -- Replies to requests, by what was answered and put.
-use Rattle.std.specs.Prelude.{◌≡◌, ◌⊎◌, ℕ, ◌+◌, ◌≤◌, Bool, true, false, not, ◌&&◌, is_some, List, [], ◌∷◌, ◌++◌, codes, length, Option, Some, None, Result, Ok, Err, IfErr, IfOk, IsTrue, refl}
-use Rattle.std.proofs.Common.{arith, ap, sym, ◌∙◌, subst, inl, inr, append-nil}
+use Rattle.std.specs.Prelude.{◌≡◌, ◌≢◌, ◌⊎◌, ℕ, ◌+◌, Bool, true, false, not, ◌&&◌, is_some, List, [], ◌∷◌, ◌++◌, codes, length, Option, Some, None, Result, Ok, Err, IfErr, IfOk, IsTrue, refl}
+use Rattle.std.proofs.Common.{ap, sym, ◌∙◌, subst, inl, inr, append-nil}
 use Rattle.std.specs.FinMap as fin
-use Rattle.disk_face.specs.Counts.{Rose}
 use Rattle.disk_face.specs.States as disk
 use Rattle.disk_face.specs.Frames.{Unchanged}
 use Rattle.disk_face.specs.Streams.{SinkState}
+use Rattle.slot_pair.specs.Finding.{HasDiskCause}
 use Rattle.byte_ranges.proofs.RangeLaws.{length-bytes_at}
 use Rattle.map_model.specs.Requests as ask
 use Rattle.map_model.specs.Requests.{Reply, Request}
@@ -14,10 +14,11 @@ use Rattle.extent_table.specs.Extents.{Spots}
 use Rattle.placement_model.specs.Reads.{AreNamed, EndWithin, read_at}
 use Rattle.store_core.specs.declared.answers.Refusal.{Refusal}
 use Rattle.store_core.specs.declared.answers.Refusal.TheVariants as why
-use Rattle.store_core.specs.Answers.{AnswersRead, size_at}
-use Rattle.store_core.specs.Reads as reads
+use Rattle.store_core.specs.Answers.{AnswersList, AnswersRead, size_at}
+use Rattle.store_core.specs.Reads.{HasSinkCause}
 use Rattle.store_core.specs.Connection.{StoreValue}
 use Rattle.store_core.specs.States.{first_refusal, object_in}
+use Rattle.store_core.proofs.CauseLaws.{calm_sink, disk_cause_as, sink_cause_as}
 use Rattle.store_core.proofs.ReadingLaws.{object_there}
 use Rattle.ask_text.specs.Replies.{first_line, reply_line_of, reply_text}
 use Rattle.ask_text.specs.declared.reply.Reply as text
@@ -26,7 +27,7 @@ use Rattle.ask_session.specs.declared.ends.End.{End}
 use Rattle.ask_session.specs.declared.ends.End.TheVariants as ends
 use Rattle.ask_session.specs.Putting.{PutsAnswer}
 use Rattle.ask_session.specs.ReplyLines.{Answers, fault_of, is_kept}
-use Rattle.ask_session.specs.Serving.{HasDiskCause, HasSinkCause, IsServingFault, PutsText, Replies, Serves, acknowledges, is_changing, is_disk, is_disk_fault, is_sink, is_sink_fault, reply_at}
+use Rattle.ask_session.specs.Serving.{IsServingFault, PutsText, Replies, Serves, acknowledges, is_changing, is_disk, is_disk_fault, reply_at}
 use Rattle.ask_session.proofs.PutLaws.{puts_as, puts_none}
 use Rattle.ask_session.specs.Ready.{CanServe}
 use Rattle.ask_session.proofs.ServingLaws.{StaysAt, serves_same}
@@ -83,6 +84,15 @@ pub sink_calm : {T : Type 0} (result : Result T End) → IfErr result (λ end. e
 sink_calm (Ok x) is = refl
 sink_calm (Err end) is = ap is_disk is
 
+-- an answer that is no fault of the disk
+pub no_disk_fault : {T : Type 0} (result : Result T End) → is_disk_fault result ≡ false
+    → result ≢ Err ends.Disk
+no_disk_fault result calm is = let e : true ≡ false = sym (ap is_disk_fault is) ∙ calm in absurd (cc)
+
+-- a fault of the disk is none of the sink
+no_sink_fault : {T : Type 0} (result : Result T End) → is_disk_fault result ≡ true → result ≢ Err ends.Sink
+no_sink_fault result fault is = let e : true ≡ false = sym fault ∙ ap is_disk_fault is in absurd (cc)
+
 pub sink_serving : {T : Type 0} (result : Result T End) → IfErr result (λ end. end ≡ ends.Sink)
     → IfErr result IsServingFault
 sink_serving (Ok x) is = tt
@@ -108,11 +118,7 @@ answers_replies r s new a d out after (Ok x) result h p = record {
   said = λ sink is. said_of x result out.given after.given is p.kept (p.put sink);
   nothing = λ sink changing fault. absurd (let e : true ≡ false = sym fault ∙ calm in cc);
   only = sink_serving result p.only;
-  disk_cause = record {
-    rose = λ fault. absurd (let e : true ≡ false = sym fault
-        ∙ calm in cc);
-    later = h.disk_cause.later;
-  };
+  disk_cause = disk_cause_as h.disk_cause (λ is. absurd (no_disk_fault result calm is)) (λ is. absurd (cc));
   sink_cause = p.cause;
 }
   where
@@ -126,18 +132,10 @@ answers_replies {classes} r s new a d out after (Err end) result h p =
       said = λ sink is. absurd (cc);
       nothing = λ sink changing fault. p.same;
       only = subst IsServingFault (sym h.only) tt;
-      disk_cause = record { rose = λ fault. h.disk_cause.rose fault; later = h.disk_cause.later };
-      sink_cause = record {
-        rose = λ fault. absurd (no_sink fault);
-        calm = tt;
-        later = omega (arith, p.faults);
-        told = p.told;
-      };
+      disk_cause = disk_cause_as h.disk_cause (λ is. ap (λ (x : End). Err x) h.only)
+          (λ is. ap (λ (x : End). Err x) h.only);
+      sink_cause = calm_sink (λ is. no_sink_fault (Err end) (ap is_disk h.only) is) p.faults p.told;
     })
-  where
-    no_sink : is_sink_fault {T = Bool} (Err end) ≡ true → ⊥
-    no_sink fault = let e : false ≡ true = sym (ap (λ (x : End). is_sink_fault {T = Bool} (Err x)) h.only)
-        ∙ fault in absurd (cc)
 
 -- ---- reads
 
@@ -147,7 +145,8 @@ pub reads_replies : {classes : ℕ} (r : Request) (s : StoreValue) (a d : disk.S
     → IfOk result (λ kept. kept ≡ false)
     → (IsTrue a.tells → IsTrue out.tells
     → PutsText (reply_text (reply_at s a.file r)) out.given after.given result)
-    → IfErr result IsServingFault → HasDiskCause a.faults d.faults result → HasSinkCause out after result
+    → IfErr result IsServingFault → HasDiskCause ends.Disk a.faults d.faults result
+    → HasSinkCause ends.Sink out after result
     → Replies classes r s s a d out after result
 reads_replies r s a d out after result h asks same stays plain kept puts only disk_cause sink_cause = record {
   serves = serves_same s r a d result h same stays (ap (λ (b : Bool). b && is_disk_fault result) asks);
@@ -202,26 +201,33 @@ module _ (o : Option Refusal) (n : ℕ) (x : Refusal) (served : o
     | inr e ↦ subst (λ (y : Refusal). IsServingFault (fault_of y)) (sym e) tt
   ]
 
-  pub fault_disk : {T U : Type 0} (before now : disk.State) → reads.HasDiskCause {T = T} before now (Err x)
-      → before.faults ≤ now.faults → HasDiskCause {T = U} before.faults now.faults (Err (fault_of x))
-  fault_disk before now cause later = record {
-    rose = λ fault. elim (read_fault o n x served answer) as (λ _. Rose before.faults now.faults) [
-      | inl e ↦ cause.rose (ap (λ (y : Refusal). Err y) e)
-      | inr e ↦ absurd (let f : false ≡ true = sym (ap (λ (y : Refusal). is_disk (fault_of y)) e)
-          ∙ fault in cc)
-    ];
-    later = later;
-  }
+  by_disk : fault_of x ≡ ends.Disk → x ≡ why.Disk
+  by_disk is = elim (read_fault o n x served answer) as (λ _. x ≡ why.Disk) [
+    | inl e ↦ e
+    | inr e ↦ absurd (let f : ends.Sink ≡ ends.Disk = sym (ap fault_of e) ∙ is in cc)
+  ]
 
-  pub fault_sink : {T U : Type 0} (before now : SinkState) → reads.HasSinkCause {T = T} before now (Err x)
-      → HasSinkCause {T = U} before now (Err (fault_of x))
-  fault_sink before now cause = record {
-    rose = λ fault. elim (read_fault o n x served answer) as (λ _. Rose before.faults now.faults) [
-      | inl e ↦ absurd (let f : false ≡ true = sym (ap (λ (y : Refusal). is_sink (fault_of y)) e)
-          ∙ fault in cc)
-      | inr e ↦ cause.rose (ap (λ (y : Refusal). Err y) e)
-    ];
-    calm = tt;
-    later = cause.later;
-    told = cause.told;
-  }
+  by_sink : fault_of x ≡ ends.Sink → x ≡ why.Sink
+  by_sink is = elim (read_fault o n x served answer) as (λ _. x ≡ why.Sink) [
+    | inl e ↦ absurd (let f : ends.Disk ≡ ends.Sink = sym (ap fault_of e) ∙ is in cc)
+    | inr e ↦ e
+  ]
+
+  pub fault_disk : {T U : Type 0} {before now : ℕ} → HasDiskCause {T = T} why.Disk before now (Err x)
+      → HasDiskCause {T = U} ends.Disk before now (Err (fault_of x))
+  fault_disk cause = disk_cause_as cause
+      (λ is. let f : fault_of x ≡ ends.Disk = (cc) in ap (λ (y : Refusal). Err y) (by_disk f))
+      (λ is. let e : x ≡ why.Disk = (cc) in ap (λ (y : Refusal). Err (fault_of y)) e)
+
+  pub fault_sink : {T U : Type 0} {before now : SinkState} → HasSinkCause {T = T} why.Sink before now (Err x)
+      → HasSinkCause {T = U} ends.Sink before now (Err (fault_of x))
+  fault_sink cause = sink_cause_as cause
+      (λ is. let f : fault_of x ≡ ends.Sink = (cc) in ap (λ (y : Refusal). Err y) (by_sink f))
+      (λ is. let e : x ≡ why.Sink = (cc) in ap (λ (y : Refusal). Err (fault_of y)) e)
+
+-- a list of a store that refuses nothing fails by the sink alone
+pub list_fault : (o : Option Refusal) (x : Refusal) → o ≡ None → AnswersList {T = Unit {0}} o (Err x)
+    → x ≡ why.Sink
+list_fault None x is (inl ok) = absurd (let h = ok in cc)
+list_fault None x is (inr e) = (cc)
+list_fault (Some y) x is answer = absurd (cc)

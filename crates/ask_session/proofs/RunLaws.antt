@@ -313,7 +313,7 @@ module _ {classes : ℕ} (old : Sitting) (a : disk.State) (old_in : SourceState)
     source_told = told_source ∙ ran.source_told;
     source_calm = calm_source ∙ ran.source_calm;
     sink_told = x.served.replies.sink_cause.told ∙ ran.sink_told;
-    sink_calm = x.served.replies.sink_cause.calm ∙ ran.sink_calm;
+    sink_calm = x.served.replies.sink_cause.calm (λ is. absurd (cc)) ∙ ran.sink_calm;
     disk_later = omega (arith, ran.disk_later, x.served.replies.disk_cause.later);
   }
 

@@ -1,12 +1,13 @@
 -- What is put of an answer.
 use Rattle.std.specs.Prelude.{◌≡◌, Bool, Result, Err, IfErr, IfOk, IsTrue, OnErr}
 use Rattle.disk_face.specs.Streams.{SinkState}
+use Rattle.store_core.specs.Reads.{HasSinkCause}
 use Rattle.ask_text.specs.Replies.{first_line}
 use Rattle.ask_text.specs.declared.reply.Reply.{Reply}
 use Rattle.ask_session.specs.declared.ends.End.{End}
 use Rattle.ask_session.specs.declared.ends.End.TheVariants as ends
 use Rattle.ask_session.specs.ReplyLines.{is_kept}
-use Rattle.ask_session.specs.Serving.{HasSinkCause, PutsText}
+use Rattle.ask_session.specs.Serving.{PutsText}
 
 -- The first line of a reply was put, or a front of it where the sink failed; the result tells whether it
 -- acknowledges a checkpoint. Where there is none but an end, nothing was put and the result is that end.
@@ -15,7 +16,7 @@ pub record PutsAnswer (out after : SinkState) (answer : Result Reply End) (resul
   pub put : IsTrue out.tells → IfOk answer (λ x. PutsText (first_line x) out.given after.given result)
   pub kept : IfOk answer (λ x. IfOk result (λ kept. kept ≡ is_kept x))
   pub only : IfOk answer (λ x. IfErr result (λ end. end ≡ ends.Sink))
-  pub cause : IfOk answer (λ x. HasSinkCause out after result)
+  pub cause : IfOk answer (λ x. HasSinkCause ends.Sink out after result)
   pub ended : IfErr answer (λ end. result ≡ Err end)
   pub same : OnErr answer (after.given ≡ out.given)
   pub faults : OnErr answer (after.faults ≡ out.faults)

@@ -1,6 +1,7 @@
 -- What is replied, by what the store answers.
 use Rattle.std.specs.Prelude.{◌≡◌, ℕ, Bool, true, false, if◌then◌else◌, [], Result, Ok, Err, IfErr, IfOk, IsTrue, OnOk}
 use Rattle.disk_face.specs.States as disk
+use Rattle.slot_pair.specs.Finding.{HasDiskCause}
 use Rattle.map_model.specs.Requests.{Request}
 use Rattle.store_core.specs.declared.answers.Refusal.{Refusal}
 use Rattle.store_core.specs.declared.answers.Refusal.TheVariants as why
@@ -12,7 +13,7 @@ use Rattle.ask_text.specs.declared.reply.Reply.TheVariants as head
 use Rattle.ask_text.specs.declared.reply.Word5.TheVariants as word
 use Rattle.ask_session.specs.declared.ends.End.{End}
 use Rattle.ask_session.specs.declared.ends.End.TheVariants as ends
-use Rattle.ask_session.specs.Serving.{HasDiskCause, Serves, reply_at}
+use Rattle.ask_session.specs.Serving.{Serves, reply_at}
 
 abbrev pub done_reply_line : Done → Reply
 done_reply_line d = if d.kept then head.Kept else head.Ok
@@ -60,4 +61,4 @@ pub record Answers (classes : ℕ) (r : Request) (old new : StoreValue) (before 
   pub replied : IsTrue before.tells → IfOk result (λ head. head ≡ reply_line_of (reply_at old before.file r))
   pub line : IsTrue before.tells → OnOk result (rest_of (reply_at old before.file r) ≡ [])
   pub only : IfErr result (λ end. end ≡ ends.Disk)
-  pub disk_cause : HasDiskCause before.faults now.faults result
+  pub disk_cause : HasDiskCause ends.Disk before.faults now.faults result

@@ -1,11 +1,12 @@
 -- What serving one request does: to the store and its disk, and to the sink.
-use Rattle.std.specs.Prelude.{◌≡◌, ◌⊎◌, ℕ, ◌+◌, ◌-◌, ◌<◌, ◌≤◌, Bool, true, false, ◌&&◌, if◌then◌else◌, List, [], ◌++◌, codes, length, Option, Some, None, Result, Ok, Err, IfErr, IfOk, IsTrue, OnOk}
-use Rattle.disk_face.specs.Counts.{Rose, counted}
+use Rattle.std.specs.Prelude.{◌≡◌, ◌⊎◌, ℕ, ◌+◌, ◌-◌, ◌<◌, Bool, true, false, ◌&&◌, if◌then◌else◌, List, [], ◌++◌, codes, length, Option, Some, None, Result, Ok, Err, IfErr, IfOk, IsTrue, OnOk}
+use Rattle.disk_face.specs.Counts.{counted}
 use Rattle.disk_face.specs.Frames.{Unchanged}
 use Rattle.disk_face.specs.States as disk
 use Rattle.disk_face.specs.Streams.{SinkState}
 use Rattle.disk_face.specs.Moments.{Leaves}
 use Rattle.disk_face.specs.Writes.{KeepsDisk}
+use Rattle.slot_pair.specs.Finding.{HasDiskCause}
 use Rattle.size_class.specs.declared.TheConstants.{SIZE_MAX}
 use Rattle.map_model.specs.Requests as ask
 use Rattle.map_model.specs.Requests.{Reply, Request}
@@ -15,12 +16,13 @@ use Rattle.table_rules.specs.Opening.{Opens}
 use Rattle.table_rules.specs.Sequences.{HasSequenceUpTo}
 use Rattle.store_core.specs.Connection.{IsConnected, StoreValue, RestsOnTable, base_of, kept_map, limits_of, state_of}
 use Rattle.store_core.specs.Quiet.{quiet_calls}
+use Rattle.store_core.specs.Reads.{HasSinkCause}
 use Rattle.store_core.specs.States.{Limits, Served, State, Step, facts_of, refusal, served}
 use Rattle.ask_text.specs.Replies.{reply_text}
 use Rattle.ask_session.specs.declared.ends.End.{End}
 use Rattle.ask_session.specs.declared.ends.End.TheVariants as ends
 
--- ---- faults
+-- ---- faults of the disk
 
 abbrev pub is_disk : End → Bool
 is_disk ends.Disk = true
@@ -33,18 +35,6 @@ is_disk ends.Budget = false
 abbrev pub is_disk_fault : {T : Type 0} → Result T End → Bool
 is_disk_fault (Ok x) = false
 is_disk_fault (Err end) = is_disk end
-
-abbrev pub is_sink : End → Bool
-is_sink ends.Sink = true
-is_sink ends.End = false
-is_sink ends.Line = false
-is_sink ends.Source = false
-is_sink ends.Disk = false
-is_sink ends.Budget = false
-
-abbrev pub is_sink_fault : {T : Type 0} → Result T End → Bool
-is_sink_fault (Ok x) = false
-is_sink_fault (Err end) = is_sink end
 
 -- ---- requests and replies
 
@@ -124,11 +114,6 @@ pub record Serves {T : Type 0} (classes : ℕ) (r : Request) (old new : StoreVal
       → RestsOnTable (base_of new) new.kept now
   pub frame : KeepsDisk before now
 
--- a disk's fault has its cause, and its count never falls
-pub record HasDiskCause {T : Type 0} (before now : ℕ) (result : Result T End) : Type 0 where
-  pub rose : is_disk_fault result ≡ true → Rose before now
-  pub later : before ≤ now
-
 -- ---- the sink
 
 -- a front of a text was put; where the disk failed it isn't the whole text, if it is anything
@@ -143,13 +128,6 @@ pub record IsFront (text before now : List ℕ) (cut : Bool) : Type 0 where
 pub record PutsText {T : Type 0} (text before now : List ℕ) (result : Result T End) : Type 0 where
   pub all : OnOk result (now ≡ before ++ text)
   pub front : IfErr result (λ end. IsFront text before now (is_disk end))
-
--- a sink's fault has its cause, its count never falls, and what it tells stays told
-pub record HasSinkCause {T : Type 0} (before now : SinkState) (result : Result T End) : Type 0 where
-  pub rose : is_sink_fault result ≡ true → Rose before.faults now.faults
-  pub calm : OnOk result (now.faults ≡ before.faults)
-  pub later : before.faults ≤ now.faults
-  pub told : now.tells ≡ before.tells
 
 -- a device of the store or of the replies failed
 abbrev pub IsServingFault : End → Type 0
@@ -174,5 +152,5 @@ pub record Replies (classes : ℕ) (r : Request) (old new : StoreValue) (before 
   pub nothing : IsTrue out.tells → is_changing r ≡ true → is_disk_fault result ≡ true
       → after.given ≡ out.given
   pub only : IfErr result IsServingFault
-  pub disk_cause : HasDiskCause before.faults now.faults result
-  pub sink_cause : HasSinkCause out after result
+  pub disk_cause : HasDiskCause ends.Disk before.faults now.faults result
+  pub sink_cause : HasSinkCause ends.Sink out after result

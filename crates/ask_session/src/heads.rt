@@ -1,9 +1,10 @@
 //! The first lines of replies.
 ghost use Rattle.std.specs.Prelude.{◌≡◌, false, codes, IfErr, IfOk, IsTrue};
+ghost use Rattle.store_core.specs.Reads.{HasSinkCause};
 ghost use Rattle.ask_text.specs.Replies.{first_line};
 ghost use Rattle.ask_session.specs.Putting.{PutsAnswer};
 ghost use Rattle.ask_session.specs.ReplyLines.{answer_of, done_reply_line, fault_of, is_kept};
-ghost use Rattle.ask_session.specs.Serving.{HasSinkCause, PutsText};
+ghost use Rattle.ask_session.specs.Serving.{PutsText};
 
 use crate::End;
 use ask_text::{Reply, Word5, write_reply};
@@ -16,7 +17,7 @@ pub(crate) fn say<O: Sink>(output: &mut O, reply: &Reply) -> Result<(), End>
         → PutsText (first_line reply.now) (O.state output.old).given
         (O.state output.new).given result }
     ensures only { IfErr result (λ end. end ≡ End.Sink) }
-    ensures cause { HasSinkCause (O.state output.old) (O.state output.new) result }
+    ensures cause { HasSinkCause End.Sink (O.state output.old) (O.state output.new) result }
 {
     let line = write_reply(reply);
     put_all(output, line.as_slice())
@@ -27,7 +28,7 @@ pub(crate) fn put_all<O: Sink>(output: &mut O, bytes: &[u8]) -> Result<(), End>
     ensures put { IsTrue (O.state output.old).tells → PutsText bytes.now (O.state output.old).given
         (O.state output.new).given result }
     ensures only { IfErr result (λ end. end ≡ End.Sink) }
-    ensures cause { HasSinkCause (O.state output.old) (O.state output.new) result }
+    ensures cause { HasSinkCause End.Sink (O.state output.old) (O.state output.new) result }
 {
     match output.put(bytes) {
         Ok(()) => Ok(()),
@@ -41,7 +42,7 @@ pub(crate) fn put_end<O: Sink>(output: &mut O) -> Result<bool, End>
         (O.state output.new).given result }
     ensures kept { IfOk result (λ kept. kept ≡ false) }
     ensures only { IfErr result (λ end. end ≡ End.Sink) }
-    ensures cause { HasSinkCause (O.state output.old) (O.state output.new) result }
+    ensures cause { HasSinkCause End.Sink (O.state output.old) (O.state output.new) result }
 {
     match put_all(output, b"\n") {
         Ok(()) => Ok(false),
@@ -66,7 +67,7 @@ fn put_head<O: Sink>(output: &mut O, reply: &Reply) -> Result<bool, End>
         (O.state output.new).given result }
     ensures kept { IfOk result (λ kept. kept ≡ is_kept reply.now) }
     ensures only { IfErr result (λ end. end ≡ End.Sink) }
-    ensures cause { HasSinkCause (O.state output.old) (O.state output.new) result }
+    ensures cause { HasSinkCause End.Sink (O.state output.old) (O.state output.new) result }
 {
     match say(output, reply) {
         Ok(()) => Ok(is_kept(reply)),

@@ -1,13 +1,15 @@
 //! Requests whose reply is an object or a list.
 ghost use Rattle.std.specs.Prelude.{◌≡◌, ◌++◌, false, codes, IfErr, IfOk, IsTrue, None};
 ghost use Rattle.disk_face.specs.Frames.{Unchanged};
+ghost use Rattle.slot_pair.specs.Finding.{HasDiskCause};
 ghost use Rattle.map_model.specs.Requests as ask;
 ghost use Rattle.store_core.specs.Answers.{refused_by};
 ghost use Rattle.store_core.specs.Connection.{state_of};
 ghost use Rattle.store_core.specs.Lines.{lines_of, listing_of};
 ghost use Rattle.store_core.specs.Readings.{asks_for, object_read};
+ghost use Rattle.store_core.specs.Reads.{HasSinkCause};
 ghost use Rattle.ask_session.specs.Ready.{CanServe};
-ghost use Rattle.ask_session.specs.Serving.{HasDiskCause, HasSinkCause, IsServingFault, PutsText, Replies};
+ghost use Rattle.ask_session.specs.Serving.{IsServingFault, PutsText, Replies};
 
 use crate::End;
 use crate::heads::{answer_of, fault_of, put_answer, put_end, say};
@@ -62,7 +64,7 @@ fn put_list<const C: usize, O: Sink>(store: &Store<C>, output: &mut O) -> Result
         (O.state output.old).given (O.state output.new).given result }
     ensures kept { IfOk result (λ kept. kept ≡ false) }
     ensures only { IfErr result (λ end. end ≡ End.Sink) }
-    ensures cause { HasSinkCause (O.state output.old) (O.state output.new) result }
+    ensures cause { HasSinkCause End.Sink (O.state output.old) (O.state output.new) result }
 {
     match store.list(output) {
         Ok(()) => Ok(false),
@@ -87,8 +89,8 @@ fn give<const C: usize, D: Disk, O: Sink>(
     ensures only { IfErr result IsServingFault }
     ensures store { store.new ≡ store.old }
     ensures frame { Unchanged (D.state disk.old) (D.state disk.new) }
-    ensures disk_cause { HasDiskCause (D.state disk.old).faults (D.state disk.new).faults result }
-    ensures sink_cause { HasSinkCause (O.state output.old) (O.state output.new) result }
+    ensures disk_cause { HasDiskCause End.Disk (D.state disk.old).faults (D.state disk.new).faults result }
+    ensures sink_cause { HasSinkCause End.Sink (O.state output.old) (O.state output.new) result }
 {
     match store.read(moment, disk, name, output) {
         Ok(_) => put_end(output),

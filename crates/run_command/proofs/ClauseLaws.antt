@@ -1,5 +1,5 @@
 -- What the command that serves requests keeps, however it went.
-use Rattle.std.specs.Prelude.{◌≡◌, ◌≢◌, ℕ, ◌≤◌, true, Result, refl}
+use Rattle.std.specs.Prelude.{◌≡◌, ◌≢◌, ℕ, ◌≤◌, true, Result, Err, refl}
 use Rattle.std.proofs.Common.{arith, ap, ◌∙◌, subst, inl, inr}
 use Rattle.disk_face.specs.Counts.{Rose}
 use Rattle.disk_face.specs.States.{State}
@@ -9,7 +9,6 @@ use Rattle.store_core.specs.Connection.{StoreValue}
 use Rattle.ask_session.specs.Sittings.{Sitting, new_sitting}
 use Rattle.ask_session.specs.Runs.{EndsRun}
 use Rattle.ask_session.specs.Inputs.{is_source}
-use Rattle.ask_session.specs.Serving.{is_disk, is_sink}
 use Rattle.ask_session.specs.Turns.{IsStopped}
 use Rattle.ask_session.specs.declared.ends.End.{End}
 use Rattle.ask_session.specs.declared.ends.End.TheVariants as ends
@@ -85,8 +84,8 @@ module _ {D I O : Type 0} (disk_of : D → State) (source_of : I → SourceState
     stopped : (bad : End) → IsStopped CLASSES y.sitting new (disk_of y.mid_disk) (disk_of now)
         (source_of y.mid_source)
         (source_of rest) (sink_of y.mid_sink) (sink_of mid_out) bad
-        → (status_at (end_of how new.done) ≡ 7 → is_disk bad ≡ true)
-        → (status_at (end_of how new.done) ≡ 9 → is_sink bad ≡ true)
+        → (status_at (end_of how new.done) ≡ 7 → bad ≡ ends.Disk)
+        → (status_at (end_of how new.done) ≡ 9 → bad ≡ ends.Sink)
         → (status_at (end_of how new.done) ≢ 8) → (status_at (end_of how new.done) ≢ 0)
         → (IsUnserved (status_at (end_of how new.done)) → ⊥) → KeepsAs how
     stopped bad x seven nine eight none served =
@@ -96,7 +95,7 @@ module _ {D I O : Type 0} (disk_of : D → State) (source_of : I → SourceState
           later = omega (arith, y.ran.disk_later, r.disk_cause.later);
           rose = λ is. rose_later (disk_of mid).faults (disk_of y.mid_disk).faults
               (disk_of now).faults y.ran.disk_later
-              (r.disk_cause.rose (seven is));
+              (r.disk_cause.rose (ap (λ (x : End). Err x) (seven is)));
           no_turn_back = omega (arith, y.ran.frame.no_turn_back, f.no_turn_back);
           told = f.stays.told ∙ y.ran.frame.stays.told;
           images_told = f.stays.images_told ∙ y.ran.frame.stays.images_told;
@@ -105,7 +104,7 @@ module _ {D I O : Type 0} (disk_of : D → State) (source_of : I → SourceState
           source_rose = λ is. absurd (eight is);
           sink_later = omega (arith, y.ran.sink_calm, r.sink_cause.later);
           sink_rose = λ is. subst (λ (n : ℕ). Rose n (sink_of mid_out).faults) y.ran.sink_calm
-              (r.sink_cause.rose (nine is));
+              (r.sink_cause.rose (ap (λ (x : End). Err x) (nine is)));
           sink_calm = λ is. absurd (none is);
           sink_told = r.sink_cause.told ∙ y.ran.sink_told;
           turn_low = omega (arith, x.counts.kept_turn, y.ran.turn_rises (omega arith));

@@ -1,5 +1,5 @@
 -- The headline of a session in which a device failed while a request was served or its reply was put.
-use Rattle.std.specs.Prelude.{◌≡◌, ◌⊎◌, ℕ, ◌+◌, ◌-◌, ◌<◌, ◌≤◌, true, false, List, [], ◌∷◌, ◌++◌, length, Result, IsTrue, refl}
+use Rattle.std.specs.Prelude.{◌≡◌, ◌⊎◌, ℕ, ◌+◌, ◌-◌, ◌<◌, ◌≤◌, true, false, List, [], ◌∷◌, ◌++◌, length, Result, Err, IsTrue, refl}
 use Rattle.std.proofs.lemmas.Bool.{cases_Bool}
 use Rattle.std.proofs.Common.{arith, ap, sym, ◌∙◌, subst, inl, inr, append-nil}
 use Rattle.std.proofs.lemmas.List.{append_cancel_left}
@@ -31,6 +31,7 @@ use Rattle.ask_session.specs.Turns.{IsStopped}
 use Rattle.ask_session.specs.Runs as run
 use Rattle.ask_session.specs.Runs.{HasRun, IsRunImage, IsStepImage, budget, calls_since, last_kept, last_state, most_sequence}
 use Rattle.ask_session.specs.declared.ends.End.{End}
+use Rattle.ask_session.specs.declared.ends.End.TheVariants as ends
 use Rattle.ask_session.proofs.MakesLaws.{saves_within}
 use Rattle.served_file.specs.Served.{OpensTo, OpensToBeing, OpensToKept, OpensToNext, Ran, Starts, has_failed, limits_with, most_left, state_after, found_with}
 use Rattle.run_command.specs.Headline.{HasReplied, IsPartial, NumbersLine, RunHolds, next_is_changing}
@@ -233,7 +234,7 @@ module _ (h : SoFar) where
         pub number_z : new.kept_done ≡ last_kept 0 0 ran.replies
         number_z = x.counts.kept_done ∙ (number h)
 
-        module _ (disk : is_disk bad ≡ true) (status_is : 7 ≡ status_at ending) where
+        module _ (disk : bad ≡ ends.Disk) (status_is : 7 ≡ status_at ending) where
           never : {A : Type 0} → IsCalm old.faults z.faults → A
           never calm = absurd (omega (
             arith,
@@ -241,7 +242,7 @@ module _ (h : SoFar) where
             calm.below,
             op.faults,
             ran.disk_later,
-            x.served.replies.disk_cause.rose disk,
+            x.served.replies.disk_cause.rose (ap (λ (y : End). Err y) disk),
           ))
 
           pub disk_failed : RunsTo 7
@@ -264,7 +265,8 @@ module _ (h : SoFar) where
               few = few_z;
               limit = (λ is. absurd (omega (arith, is)), λ is. absurd (not_all is));
             };
-            replies = λ told. replied_z after 7 refl (λ is. disk) ending status_is numbered told (line told);
+            replies = λ told. replied_z after 7 refl (λ is. ap is_disk disk) ending status_is numbered told
+                (line told);
             between = λ is. absurd (elim is as (λ _. ⊥) [
               | inl whole ↦ (let e : false ≡ true = whole in absurd (cc))
               | inr nine ↦ omega (arith, nine)

@@ -51,7 +51,7 @@ pub change_refused : {classes : ℕ} (c : Change) (s : StoreValue) (a : disk.Sta
     → IsChange classes c s s a a (Err refused)
 change_refused c s a refused is ready over = record {
   answer = answers_refused (is_quiet (charges_of s c)) (refused_by s (ask.change c)) refused is;
-  refused = λ some. record { same_store = refl; same_disk = unchanged_itself a ready };
+  refused = λ some. record { same_store = refl; same_disk = unchanged_itself a ready; same_faults = refl };
   quiet = λ none quiet. not_none (refused_by s (ask.change c)) refused is none;
   flush = λ none needs_flush. not_none (refused_by s (ask.change c)) refused is none;
   over = over;

@@ -1,3 +1,4 @@
+pub mod CauseLaws
 pub mod PieceLaws
 pub mod StateLaws
 pub mod StepLaws

@@ -1,9 +1,10 @@
 -- A read of an object, of now or of the last checkpoint: what is found, and what is refused.
 use Rattle.std.specs.Prelude.{◌≡◌, ℕ, ◌+◌, ◌≤◌, Bool, true, false, if◌then◌else◌, List, length, Option, Some, None, option_map, Result, Err, IsTrue, refl}
-use Rattle.std.proofs.Common.{ap, arith, sym, ◌∙◌}
+use Rattle.std.proofs.Common.{ap, sym, ◌∙◌}
 use Rattle.disk_face.specs.States as disk
 use Rattle.disk_face.specs.Frames.{Unchanged}
 use Rattle.disk_face.specs.Streams.{SinkState}
+use Rattle.slot_pair.specs.Finding.{HasDiskCause}
 use Rattle.map_model.specs.Requests as ask
 use Rattle.map_model.specs.Requests.{Refused, Request}
 use Rattle.extent_table.specs.declared.spot.Spot.{Spot}
@@ -16,9 +17,10 @@ use Rattle.store_core.specs.declared.answers.Refusal.TheVariants as why
 use Rattle.store_core.specs.Answers.{AnswersRead, AnswersSpot, facts_at, refusal_for, refused_by, size_at}
 use Rattle.store_core.specs.Connection.{IsOver, StoreValue, base_of, limits_of, state_of}
 use Rattle.store_core.specs.Readings.{IsRead, asks_for, object_read, spot_read}
-use Rattle.store_core.specs.Reads.{GivesObject, HasDiskCause, HasSinkCause}
+use Rattle.store_core.specs.Reads.{GivesObject, HasSinkCause}
 use Rattle.store_core.specs.States.{Limits, State, accepted, refusal, unchanged}
 use Rattle.store_core.specs.Stores.{IsStore}
+use Rattle.store_core.proofs.CauseLaws.{calm_disk, calm_sink}
 use Rattle.store_core.proofs.ChangingLaws.{unchanged_itself}
 use Rattle.store_core.proofs.ReadingLaws.{IsFound, answers_read, gives_object, object_there, refused_read}
 use Rattle.store_core.proofs.RefusedLaws.{not_none}
@@ -90,8 +92,8 @@ module _ (s : StoreValue) (a : disk.State) (m : Moment) (name : List ℕ) where
       (out after : SinkState) (result : Result ℕ Refusal) → AnswersRead None x.size result
       → (IsTrue out.tells
       → GivesObject None a.tells (object_at (base_of s) a.file x) out.given after.given result)
-      → new ≡ s → Unchanged a d → HasDiskCause a d result → HasSinkCause out after result
-      → IsRead r s new a d out after result
+      → new ≡ s → Unchanged a d → HasDiskCause why.Disk a.faults d.faults result
+      → HasSinkCause why.Sink out after result → IsRead r s new a d out after result
   read_found x f new d out after result answer gives store frame disk_cause sink_cause =
       let answered = answers_read (refused_by s r) (size_at (spot_read s r)) x.size result f.served
       (ap size_at f.there) answer in
@@ -127,16 +129,8 @@ module _ (s : StoreValue) (a : disk.State) (m : Moment) (name : List ℕ) where
             (read_serves (limits_of s) (state_of s a.file) m name) answered;
         store = refl;
         frame = unchanged_itself a ready;
-        disk_cause = record {
-          rose = λ fault. absurd (failed why.Disk is refl (Err x) refl fault);
-          calm = tt;
-        };
-        sink_cause = record {
-          rose = λ fault. absurd (failed why.Sink is refl (Err x) refl fault);
-          calm = tt;
-          later = omega arith;
-          told = refl;
-        };
+        disk_cause = calm_disk (λ fault. failed why.Disk is refl (Err x) refl fault) refl;
+        sink_cause = calm_sink (λ fault. failed why.Sink is refl (Err x) refl fault) refl refl;
       }
     where
       failed : (y : Refusal) → refused_by s r ≡ Some x → device_failed y ≡ true → (result : Result ℕ Refusal)

@@ -15,10 +15,11 @@ use Rattle.store_core.specs.declared.answers.Done.{Done}
 use Rattle.store_core.specs.Connection.{StoreValue, RestsOnTable, IsKeptImage, base_of, kept_map}
 use Rattle.store_core.specs.Quiet.{IsCharged, asked_after, charges_of, quiet_calls}
 
--- a refusal: nothing changed
+-- a refusal: nothing changed, and no call of the disk failed
 pub record NothingChanged (old new : StoreValue) (before now : disk.State) : Type 0 where
   pub same_store : new ≡ old
   pub same_disk : Unchanged before now
+  pub same_faults : now.faults ≡ before.faults
 
 -- The places after a change: without the name, or with the new object where it was charged.
 abbrev pub HasChanged : Change → StoreValue → StoreValue → Type 0

@@ -4,15 +4,17 @@ use Rattle.std.specs.FinMap as fin
 use Rattle.disk_face.specs.States as disk
 use Rattle.disk_face.specs.Frames.{Unchanged}
 use Rattle.disk_face.specs.Streams.{SinkState}
+use Rattle.slot_pair.specs.Finding.{HasDiskCause}
 use Rattle.map_model.specs.Requests as ask
 use Rattle.map_model.specs.Requests.{Request}
 use Rattle.extent_table.specs.declared.spot.Spot.{Spot}
 use Rattle.store_core.specs.declared.answers.Refusal.{Refusal}
+use Rattle.store_core.specs.declared.answers.Refusal.TheVariants as why
 use Rattle.store_core.specs.declared.answers.Moment.{Moment}
 use Rattle.store_core.specs.declared.answers.Moment.TheVariants as moment
 use Rattle.store_core.specs.Answers.{AnswersRead, refused_by, reply_of, size_at}
 use Rattle.store_core.specs.Connection.{StoreValue, limits_of, state_of}
-use Rattle.store_core.specs.Reads.{GivesObject, HasDiskCause, HasSinkCause}
+use Rattle.store_core.specs.Reads.{GivesObject, HasSinkCause}
 use Rattle.store_core.specs.States.{State, Step, object_in}
 
 -- the request for the object of a name
@@ -44,5 +46,5 @@ pub record IsRead (r : Request) (old new : StoreValue) (before now : disk.State)
       (λ reply. Step (limits_of old) (state_of old before.file) r reply (state_of new now.file))
   pub store : new ≡ old
   pub frame : Unchanged before now
-  pub disk_cause : HasDiskCause before now result
-  pub sink_cause : HasSinkCause out after result
+  pub disk_cause : HasDiskCause why.Disk before.faults now.faults result
+  pub sink_cause : HasSinkCause why.Sink out after result

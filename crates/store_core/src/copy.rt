@@ -3,7 +3,8 @@ ghost use Rattle.std.specs.Prelude.{◌≡◌, ◌⊎◌, ◌+◌, ◌^◌, ◌<
 ghost use Rattle.byte_ranges.specs.Ranges.{bytes_at};
 ghost use Rattle.disk_face.specs.Frames.{Unchanged};
 ghost use Rattle.disk_face.specs.Streams.{Puts};
-ghost use Rattle.store_core.specs.Reads.{HasDiskCause, HasSinkCause};
+ghost use Rattle.slot_pair.specs.Finding.{HasDiskCause};
+ghost use Rattle.store_core.specs.Reads.{HasSinkCause};
 
 use crate::Refusal;
 use disk_face::{Disk, Sink, read};
@@ -28,8 +29,9 @@ pub(crate) fn put_bytes<D: Disk, O: Sink>(
         → OnOk result (length (O.state sink.new).given ≡ length (O.state sink.old).given + size) }
     ensures only { OnErr result ((result ≡ Err Refusal.Disk) ⊎ (result ≡ Err Refusal.Sink)) }
     ensures frame { Unchanged (D.state disk.old) (D.state disk.new) }
-    ensures disk_cause { HasDiskCause (D.state disk.old) (D.state disk.new) result }
-    ensures sink_cause { HasSinkCause (O.state sink.old) (O.state sink.new) result }
+    ensures disk_cause { HasDiskCause Refusal.Disk (D.state disk.old).faults
+        (D.state disk.new).faults result }
+    ensures sink_cause { HasSinkCause Refusal.Sink (O.state sink.old) (O.state sink.new) result }
 {
     let mut done = 0;
     'pieces: while done < size {
@@ -57,8 +59,9 @@ fn put_piece<D: Disk, O: Sink>(
         → OnOk result (length (O.state sink.new).given ≡ length (O.state sink.old).given + length piece.old) }
     ensures only { OnErr result ((result ≡ Err Refusal.Disk) ⊎ (result ≡ Err Refusal.Sink)) }
     ensures frame { Unchanged (D.state disk.old) (D.state disk.new) }
-    ensures disk_cause { HasDiskCause (D.state disk.old) (D.state disk.new) result }
-    ensures sink_cause { HasSinkCause (O.state sink.old) (O.state sink.new) result }
+    ensures disk_cause { HasDiskCause Refusal.Disk (D.state disk.old).faults
+        (D.state disk.new).faults result }
+    ensures sink_cause { HasSinkCause Refusal.Sink (O.state sink.old) (O.state sink.new) result }
 {
     read(disk, at, piece).map_err(|_| Refusal::Disk)?;
     put_whole(sink, piece)
@@ -69,7 +72,7 @@ pub(crate) fn put_whole<O: Sink>(sink: &mut O, bytes: &[u8]) -> Result<(), Refus
     ensures put { IsTrue (O.state sink.old).tells
         → Puts (O.state sink.old).given (O.state sink.new).given bytes.now result }
     ensures only { OnErr result (result ≡ Err Refusal.Sink) }
-    ensures cause { HasSinkCause (O.state sink.old) (O.state sink.new) result }
+    ensures cause { HasSinkCause Refusal.Sink (O.state sink.old) (O.state sink.new) result }
 {
     sink.put(bytes).map_err(|_| Refusal::Sink)
 }

@@ -28,7 +28,7 @@ pub(crate) fn put_lines<O: Sink>(table: &Table, sink: &mut O) -> Result<(), Refu
     ensures put { IsTrue (O.state sink.old).tells → Puts (O.state sink.old).given (O.state sink.new).given
         (lines_of (listing_of table.now.now)) result }
     ensures only { OnErr result (result ≡ Err Refusal.Sink) }
-    ensures cause { HasSinkCause (O.state sink.old) (O.state sink.new) result }
+    ensures cause { HasSinkCause Refusal.Sink (O.state sink.old) (O.state sink.new) result }
 {
     let mut piece: ArrayVec<u8, 4096> = ArrayVec::new();
     'names: for n in 0..table.count() {
@@ -47,7 +47,7 @@ fn make_room<O: Sink>(piece: &mut ArrayVec<u8, 4096>, sink: &mut O) -> Result<()
     ensures front { IsTrue (O.state sink.old).tells → OnErr result ((k : ℕ) × (k ≤ length piece.old.items)
         × ((O.state sink.new).given ≡ (O.state sink.old).given ++ take k piece.old.items)) }
     ensures only { OnErr result (result ≡ Err Refusal.Sink) }
-    ensures cause { HasSinkCause (O.state sink.old) (O.state sink.new) result }
+    ensures cause { HasSinkCause Refusal.Sink (O.state sink.old) (O.state sink.new) result }
 {
     if piece.len() > PIECE - LONGEST {
         put_whole(sink, piece.as_slice())?;
@@ -61,7 +61,7 @@ fn put_rest<O: Sink>(piece: &ArrayVec<u8, 4096>, sink: &mut O) -> Result<(), Ref
     ensures put { IsTrue (O.state sink.old).tells
         → Puts (O.state sink.old).given (O.state sink.new).given piece.now.items result }
     ensures only { OnErr result (result ≡ Err Refusal.Sink) }
-    ensures cause { HasSinkCause (O.state sink.old) (O.state sink.new) result }
+    ensures cause { HasSinkCause Refusal.Sink (O.state sink.old) (O.state sink.new) result }
 {
     if piece.is_empty() {
         return Ok(());

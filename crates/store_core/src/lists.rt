@@ -27,7 +27,7 @@ impl<const C: usize> Store<C> {
         ensures step { (file : List ℕ) → IsOver C self.now file → OnOk result
             (Step (limits_of self.now) (state_of self.now file) ask.list
             (ask.listed (listing_of self.now.now)) (state_of self.now file)) }
-        ensures cause { HasSinkCause (O.state sink.old) (O.state sink.new) result }
+        ensures cause { HasSinkCause Refusal.Sink (O.state sink.old) (O.state sink.new) result }
     {
         if self.is_broken() {
             return Err(Refusal::Broken);

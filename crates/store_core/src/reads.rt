@@ -2,6 +2,7 @@
 ghost use Rattle.std.specs.Prelude.{◌≡◌, false, ◌+◌, ◌≤◌, IsTrue, None, length};
 ghost use Rattle.std.specs.FinMap as fin;
 ghost use Rattle.disk_face.specs.Frames.{Unchanged};
+ghost use Rattle.slot_pair.specs.Finding.{HasDiskCause};
 ghost use Rattle.extent_table.specs.Extents.{IsInRange};
 ghost use Rattle.placement_model.specs.Reads.{object_at};
 ghost use Rattle.map_model.specs.Requests as ask;
@@ -9,7 +10,7 @@ ghost use Rattle.store_core.specs.Answers.{AnswersName, AnswersNumber, AnswersRe
 ghost use Rattle.store_core.specs.Connection.{IsConnected, base_of};
 ghost use Rattle.store_core.specs.Stores.{IsStore};
 ghost use Rattle.store_core.specs.Readings.{IsRead, asks_for, spot_read};
-ghost use Rattle.store_core.specs.Reads.{GivesObject, HasDiskCause, HasSinkCause};
+ghost use Rattle.store_core.specs.Reads.{GivesObject, HasSinkCause};
 
 use crate::copy::put_bytes;
 use crate::{Moment, Refusal, Store};
@@ -110,8 +111,9 @@ impl<const C: usize> Store<C> {
             (O.state sink.new).given result }
         ensures store { self.new ≡ self.old }
         ensures frame { Unchanged (D.state disk.old) (D.state disk.new) }
-        ensures disk_cause { HasDiskCause (D.state disk.old) (D.state disk.new) result }
-        ensures sink_cause { HasSinkCause (O.state sink.old) (O.state sink.new) result }
+        ensures disk_cause { HasDiskCause Refusal.Disk (D.state disk.old).faults
+            (D.state disk.new).faults result }
+        ensures sink_cause { HasSinkCause Refusal.Sink (O.state sink.old) (O.state sink.new) result }
     {
         put_bytes(
             disk,

@@ -1,11 +1,12 @@
 -- What a job does and is answered: a change, a keep, or a get.
-use Rattle.std.specs.Prelude.{◌≡◌, ℕ, ◌≤◌, true, false, ◌||◌, List, length, Option, Some, None, Result, Ok, Err, IfSome, IsNone, IsSome, IsTrue, OnOk, refl}
+use Rattle.std.specs.Prelude.{◌≡◌, ◌≢◌, ℕ, ◌≤◌, true, false, ◌||◌, List, length, Option, Some, None, Result, Ok, Err, IfSome, IsNone, IsSome, IsTrue, OnOk, refl}
 use Rattle.std.proofs.Common.{arith, ap, sym, ◌∙◌, subst, inl, inr}
 use Rattle.std.specs.FinMap as fin
 use Rattle.disk_face.specs.States as disk
 use Rattle.disk_face.specs.Frames.{Unchanged}
 use Rattle.size_class.specs.Classes.{width}
 use Rattle.size_class.specs.declared.TheConstants.{SIZE_MAX}
+use Rattle.slot_pair.specs.Finding.{HasDiskCause}
 use Rattle.slot_pair.specs.Saves.{save_calls}
 use Rattle.map_model.specs.Requests as ask
 use Rattle.map_model.specs.Requests.{Change, Refused, Reply, Request}
@@ -21,9 +22,9 @@ use Rattle.store_core.specs.Changing.{IsChange}
 use Rattle.store_core.specs.Connection.{IsConnected, StoreValue, base_of, limits_of, state_of}
 use Rattle.store_core.specs.Keeps.{AnswersKeep, kept_now}
 use Rattle.store_core.specs.Quiet.{charges_of}
-use Rattle.store_core.specs.Reads as reads
 use Rattle.store_core.specs.States.{Served, State, Step, object_in}
 use Rattle.store_core.specs.Stores.{IsStore}
+use Rattle.store_core.proofs.CauseLaws.{calm_disk, disk_cause_as}
 use Rattle.store_core.proofs.StepLaws.{always}
 use Rattle.store_core.proofs.StoreLaws.{small_if_there}
 use Rattle.segment_layout.specs.Books.{is_quiet}
@@ -187,6 +188,11 @@ answer_is ask.missing = refl
 answer_is ask.full = refl
 answer_is ask.worn = refl
 
+-- no refusal says that the disk failed
+no_disk : (w : Refused) → refusal_for w ≢ why.Disk
+no_disk w is = absurd (let e : Ok (head.Refused (told_for w)) ≡ Err ends.Disk = sym (answer_is w)
+    ∙ ap answer_of is in cc)
+
 number_of : (o : Option Refusal) (n size : ℕ) → AnswersRead o n (Ok size) → AnswersNumber o n (Ok size)
 number_of None n size (inl is) = is
 number_of None n size (inr (inl bad)) = absurd (cc)
@@ -209,9 +215,9 @@ module _ {classes : ℕ} (s : StoreValue) (a d : disk.State) (name : List ℕ) (
   none_charged = nothing_charged r s s a d (same_moves_nothing s s refl) (λ e. refl)
       (λ told. omega (arith, same.same_turn))
 
-  pub get_gives : (size : ℕ) → AnswersRead (refused_by s r) n (Ok size)
+  pub get_gives : (size : ℕ) → AnswersRead (refused_by s r) n (Ok size) → d.faults ≡ a.faults
       → Does classes r s s a d (Ok (head.Data size))
-  get_gives size answer =
+  get_gives size answer calm =
       let number = number_of (refused_by s r) n size answer in
       let served = number_served (refused_by s r) n size number in
       record {
@@ -231,14 +237,15 @@ module _ {classes : ℕ} (s : StoreValue) (a d : disk.State) (name : List ℕ) (
         );
         charges = λ full. none_charged;
         only = tt;
-        cause = record { rose = λ fault. absurd (cc); later = same.later };
+        cause = calm_disk (λ is. absurd (cc)) calm;
       }
 
   -- a get that is refused
-  get_refused : (x : Refusal) → refused_by s r ≡ Some x → Does classes r s s a d (answer_of x)
-  get_refused x is =
+  get_refused : (x : Refusal) → refused_by s r ≡ Some x → (x ≢ why.Disk → d.faults ≡ a.faults)
+      → Does classes r s s a d (answer_of x)
+  get_refused x is calm =
       let w = refused_with s r x h.whole is in
-      let y = refused_head s r w.0 a d h w.1 same in
+      let y = refused_head s r w.0 a d h w.1 same (calm (λ e. no_disk w.0 (sym w.2 ∙ e))) in
       let said : answer_of x ≡ Ok (head.Refused (told_for w.0)) = ap answer_of w.2 ∙ answer_is w.0 in
       subst (λ (z : Result text.Reply End). Does classes r s s a d z) (sym said) (record {
         serves = y.serves;
@@ -251,7 +258,8 @@ module _ {classes : ℕ} (s : StoreValue) (a d : disk.State) (name : List ℕ) (
       })
 
   -- a get in which the disk failed
-  get_failed : reads.HasDiskCause {T = ℕ} a d (Err why.Disk) → Does classes r s s a d (answer_of why.Disk)
+  get_failed : HasDiskCause {T = ℕ} why.Disk a.faults d.faults (Err why.Disk)
+      → Does classes r s s a d (answer_of why.Disk)
   get_failed cause = record {
     serves = by (refused_by s r) refl;
     sound = tt;
@@ -259,7 +267,7 @@ module _ {classes : ℕ} (s : StoreValue) (a d : disk.State) (name : List ℕ) (
     small = tt;
     charges = λ full. tt;
     only = refl;
-    cause = record { rose = λ fault. cause.rose refl; later = same.later };
+    cause = disk_cause_as cause (λ is. refl) (λ is. refl);
   }
     where
       by : (o : Option Refusal) → refused_by s r ≡ o → Serves {T = text.Reply} classes r s s a d
@@ -275,7 +283,8 @@ module _ {classes : ℕ} (s : StoreValue) (a d : disk.State) (name : List ℕ) (
           (refused_stays s a.file r w.0 h.sound w.1).0) refl
 
   pub get_stops : (x : Refusal) → AnswersRead (refused_by s r) n (Err x)
-      → reads.HasDiskCause {T = ℕ} a d (Err x) → (x ≡ why.Sink → ⊥) → Does classes r s s a d (answer_of x)
+      → HasDiskCause {T = ℕ} why.Disk a.faults d.faults (Err x) → (x ≡ why.Sink → ⊥)
+      → Does classes r s s a d (answer_of x)
   get_stops x answer cause no_sink = by (refused_by s r) refl answer
     where
       by : (o : Option Refusal) → refused_by s r ≡ o → AnswersRead o n (Err x)
@@ -283,9 +292,11 @@ module _ {classes : ℕ} (s : StoreValue) (a d : disk.State) (name : List ℕ) (
       by (Some y) is answer =
           let e : y ≡ x = cc in
           get_refused x (is ∙ ap (λ (z : Refusal). Some z) e)
+          (λ other. cause.calm (λ failed. let f : x ≡ why.Disk = (cc) in other f))
       by None is (inl bad) = absurd (cc)
       by None is (inr (inl failed)) =
           let e : x ≡ why.Disk = cc in
           subst (λ (z : Refusal). Does classes r s s a d (answer_of z)) (sym e)
-          (get_failed (subst (λ (z : Refusal). reads.HasDiskCause {T = ℕ} a d (Err z)) e cause))
+          (get_failed (subst (λ (z : Refusal). HasDiskCause {T = ℕ} why.Disk a.faults d.faults (Err z)) e
+          cause))
       by None is (inr (inr failed)) = absurd (no_sink (let e : x ≡ why.Sink = cc in e))

@@ -1,10 +1,11 @@
 -- One more job of a work.
-use Rattle.std.specs.Prelude.{◌≡◌, ◌⊎◌, ℕ, ◌+◌, ◌-◌, ◌*◌, ◌^◌, ◌≤◌, true, false, List, [], ◌∷◌, ◌++◌, length, Result, Ok, IsTrue, refl}
+use Rattle.std.specs.Prelude.{◌≡◌, ◌⊎◌, ℕ, ◌+◌, ◌-◌, ◌*◌, ◌^◌, ◌≤◌, false, List, [], ◌∷◌, ◌++◌, length, Result, Ok, Err, IsTrue, refl}
 use Rattle.std.proofs.Common.{arith, ap, sym, ◌∙◌, subst, inl, inr}
 use Rattle.std.proofs.Math.Nat.{le-max_left}
 use Rattle.disk_face.specs.States as disk
 use Rattle.disk_face.proofs.FrameLaws.{Stays-trans}
 use Rattle.disk_face.proofs.MomentLaws.{Leaves-none, Leaves-trans, Leaves-weaken}
+use Rattle.slot_pair.specs.Finding.{HasDiskCause}
 use Rattle.size_class.specs.declared.TheConstants.{SIZE_MAX}
 use Rattle.slot_codec.specs.declared.codec.SuperBlock.{SuperBlock}
 use Rattle.slot_codec.specs.Spelling.{head_len}
@@ -17,7 +18,8 @@ use Rattle.store_core.specs.Connection.{IsConnected, StoreValue, base_of, limits
 use Rattle.store_core.specs.States.{Limits, State, Step}
 use Rattle.store_core.specs.Stores.{IsStore}
 use Rattle.ask_session.specs.declared.ends.End.{End}
-use Rattle.ask_session.specs.Serving.{HasDiskCause, IsServingImage, Serves, is_changing, is_disk_fault, reply_at, served_at}
+use Rattle.ask_session.specs.declared.ends.End.TheVariants as ends
+use Rattle.ask_session.specs.Serving.{IsServingImage, Serves, is_changing, reply_at, served_at}
 use Rattle.ask_session.specs.Runs.{IsRunImage, IsStepImage, OpensToKept, last_state, most_sequence}
 use Rattle.ask_session.proofs.GrowingLaws.{and_none, chain_more, last_more, some_last, some_more}
 use Rattle.ask_session.proofs.MakesLaws.{makes, saves_within}
@@ -153,7 +155,7 @@ module _ {classes : ℕ} (old mid : StoreValue) (a b : disk.State) (jobs : List 
   -- ---- a job in which the disk failed
 
   module _ {T : Type 0} (result : Result T End) (serves : Serves classes r mid new b d result)
-      (cause : HasDiskCause b.faults d.faults result) (failed : is_disk_fault result ≡ true)
+      (cause : HasDiskCause ends.Disk b.faults d.faults result) (failed : result ≡ Err ends.Disk)
       (all others : List Request) (split : all ≡ jobs ++ r ∷ others) where
     job_image : IsTrue a.tells → (image : List ℕ) → IsServingImage classes mid r b.file image
         → IsJobImage classes base (limits_of old) (last_state start states) r image

@@ -7,7 +7,7 @@ use Rattle.store_core.specs.Connection.{IsConnected, StoreValue, state_of}
 use Rattle.store_core.specs.Opened.{IsFresh}
 use Rattle.ask_text.specs.declared.reply.Reply as text
 use Rattle.ask_session.specs.declared.ends.End.{End}
-use Rattle.ask_session.specs.Serving.{is_disk, reply_at}
+use Rattle.ask_session.specs.Serving.{reply_at}
 use Rattle.work_session.specs.Jobs.{Does, IsWorking, no_tally, tally_with}
 use Rattle.work_session.specs.Works.{HasStopped}
 use Rattle.work_session.specs.declared.tally.Tally.{Tally}
@@ -59,7 +59,7 @@ module _ {classes : ℕ} (old mid new : StoreValue) (all left : List Request) (r
   pub working_stopped : (end : End) → Does classes r mid new b d (Err end) → HasStopped classes old all a d
   working_stopped end does =
       work_stopped old mid a b x.jobs x.replies x.states x.ran r new d (Err end) does.serves does.cause
-      (ap is_disk does.only) all left x.split
+      (ap (λ (x : End). Err x) does.only) all left x.split
 
 -- the same jobs are left
 pub as_left : {classes : ℕ} {old new : StoreValue} {all xs ys : List Request} {a d : disk.State} {t : Tally}

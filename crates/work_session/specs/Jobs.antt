@@ -1,6 +1,7 @@
 -- What one job does, and what is known of a store between two jobs.
 use Rattle.std.specs.Prelude.{◌≡◌, ℕ, ◌+◌, ◌*◌, ◌%◌, ◌<◌, ◌≤◌, List, ◌++◌, length, slice_index, sum_by, Result, IfErr, IfOk, IsTrue, OnOk}
 use Rattle.disk_face.specs.States as disk
+use Rattle.slot_pair.specs.Finding.{HasDiskCause}
 use Rattle.size_class.specs.Classes.{width}
 use Rattle.size_class.specs.declared.TheConstants.{SIZE_MAX}
 use Rattle.map_model.specs.Requests as ask
@@ -17,7 +18,7 @@ use Rattle.ask_text.specs.declared.reply.Reply.{Reply}
 use Rattle.ask_text.specs.declared.reply.Reply.TheVariants as head
 use Rattle.ask_session.specs.declared.ends.End.{End}
 use Rattle.ask_session.specs.declared.ends.End.TheVariants as ends
-use Rattle.ask_session.specs.Serving.{HasDiskCause, Serves, reply_at}
+use Rattle.ask_session.specs.Serving.{Serves, reply_at}
 use Rattle.work_maker.specs.declared.job.Job.{Job}
 use Rattle.work_maker.specs.declared.job.Job.TheVariants as job
 use Rattle.work_session.specs.declared.summary.Summary.{Summary}
@@ -78,7 +79,7 @@ pub record Does (classes : ℕ) (r : Request) (old new : StoreValue) (before now
   pub small : IfOk result (λ reply. read_head reply ≤ most_read)
   pub charges : length old.asked ≡ width → OnOk result (Charges classes r old new before now)
   pub only : IfErr result (λ end. end ≡ ends.Disk)
-  pub cause : HasDiskCause before.faults now.faults result
+  pub cause : HasDiskCause ends.Disk before.faults now.faults result
 
 -- ---- counting
 

@@ -1,4 +1,4 @@
-use Rattle.std.proofs.Common.{◌≡◌, true, false, arith}
+use Rattle.std.proofs.Common.{◌≡◌, true, false, arith, refl}
 use Rattle.slot_codec.specs.Names.{is_name}
 use Rattle.store_core.specs.Quiet.{put_of}
 use Rattle.map_model.specs.Requests as ask
@@ -13,7 +13,7 @@ returns-else-is_name g c object long =
     (g.D.Disk.state c.args.disk.now) (g.D.Disk.state c.args.disk.now)
     c.requires.can
     (name_is_refused c.args.store.now c.args.name.now object named)
-    (unchanged_itself (g.D.Disk.state c.args.disk.now) c.requires.can.ready)
+    (unchanged_itself (g.D.Disk.state c.args.disk.now) c.requires.can.ready) refl
 
 pub returns-then-is_name : goal.returns-then-is_name
 returns-then-is_name g c object long =
@@ -22,4 +22,4 @@ returns-then-is_name g c object long =
     (g.D.Disk.state c.args.disk.now) (g.D.Disk.state c.args.disk.now)
     c.requires.can
     (long_is_refused c.args.store.now c.args.name.now object named (omega (arith, long)))
-    (unchanged_itself (g.D.Disk.state c.args.disk.now) c.requires.can.ready)
+    (unchanged_itself (g.D.Disk.state c.args.disk.now) c.requires.can.ready) refl

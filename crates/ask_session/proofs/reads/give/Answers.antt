@@ -1,10 +1,14 @@
 use Rattle.std.proofs.Common.{◌∷◌, [], Err, arith, sym, subst}
 use Rattle.std.specs.Prelude.{Bool, IsTrue}
-use Rattle.ask_session.specs.Serving.{HasDiskCause, HasSinkCause, IsServingFault}
+use Rattle.slot_pair.specs.Finding.{HasDiskCause}
+use Rattle.store_core.specs.Reads.{HasSinkCause}
+use Rattle.store_core.proofs.CauseLaws.{calm_disk, sink_cause_after}
+use Rattle.ask_session.specs.Serving.{IsServingFault}
 use Rattle.ask_session.specs.declared.ends.End.{End}
+use Rattle.ask_session.specs.declared.ends.End.TheVariants as ends
 use Rattle.ask_session.proofs.AnswerLaws.{none_is}
 use Rattle.ask_session.proofs.PutLaws.{puts_front, puts_then}
-use Rattle.ask_session.proofs.ReplyLaws.{fault_disk, fault_serving, fault_sink}
+use Rattle.ask_session.proofs.ReplyLaws.{fault_disk, fault_serving, fault_sink, no_disk_fault, sink_calm}
 use Rattle.ask_session.proofs.reads.give.Goals as goal
 
 pub returns-in-Ok-clause-puts : goal.returns-in-Ok-clause-puts
@@ -14,6 +18,15 @@ returns-in-Ok-clause-puts g c told sink =
     (arith, c.in-Ok.ensures.sink_cause.told) in
     puts_then _ (10 ∷ []) _ _ _ c.put_end.result (λ fault none. absurd (cc)) first
     (c.put_end.ensures.put still)
+
+pub returns-in-Ok-clause-disk_cause : goal.returns-in-Ok-clause-disk_cause
+returns-in-Ok-clause-disk_cause g c =
+    calm_disk (λ is. no_disk_fault c.put_end.result (sink_calm c.put_end.result c.put_end.ensures.only) is)
+    (c.in-Ok.ensures.disk_cause.calm (λ is. absurd (cc)))
+
+pub returns-in-Ok-clause-sink_cause : goal.returns-in-Ok-clause-sink_cause
+returns-in-Ok-clause-sink_cause g c = sink_cause_after (c.in-Ok.ensures.sink_cause.calm (λ is. absurd (cc)))
+    c.in-Ok.ensures.sink_cause.told c.put_end.ensures.cause
 
 pub returns-in-Err : goal.returns-in-Err
 returns-in-Err g c =
@@ -26,13 +39,11 @@ returns-in-Err g c =
       only = subst IsServingFault (sym c.fault_of.ensures) (fault_serving _ _ c.in-Err.why served answer);
       store = c.in-Err.ensures.store;
       frame = c.in-Err.ensures.frame;
-      disk_cause = subst (λ (x : End). HasDiskCause {T = Bool} (g.D.Disk.state c.args.disk.now).faults
-          (g.D.Disk.state c.read.new.disk).faults (Err x)) (sym c.fault_of.ensures)
-          (fault_disk _ _ c.in-Err.why served answer (g.D.Disk.state c.args.disk.now)
-          (g.D.Disk.state c.read.new.disk)
-          c.in-Err.ensures.disk_cause c.in-Err.ensures.frame.later);
-      sink_cause = subst (λ (x : End). HasSinkCause {T = Bool} (g.O.Sink.state c.args.output.now)
+      disk_cause = subst (λ (x : End). HasDiskCause {T = Bool} ends.Disk
+          (g.D.Disk.state c.args.disk.now).faults (g.D.Disk.state c.read.new.disk).faults (Err x))
+          (sym c.fault_of.ensures)
+          (fault_disk _ _ c.in-Err.why served answer c.in-Err.ensures.disk_cause);
+      sink_cause = subst (λ (x : End). HasSinkCause {T = Bool} ends.Sink (g.O.Sink.state c.args.output.now)
           (g.O.Sink.state c.read.new.sink) (Err x)) (sym c.fault_of.ensures)
-          (fault_sink _ _ c.in-Err.why served answer (g.O.Sink.state c.args.output.now)
-          (g.O.Sink.state c.read.new.sink) c.in-Err.ensures.sink_cause);
+          (fault_sink _ _ c.in-Err.why served answer c.in-Err.ensures.sink_cause);
     }

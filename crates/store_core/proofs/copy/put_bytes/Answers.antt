@@ -1,7 +1,8 @@
-use Rattle.std.proofs.Common.{◌≡◌, rules, arith, IsTrue, length, take}
+use Rattle.std.proofs.Common.{◌≡◌, ◌∙◌, rules, arith, IsTrue, length, take}
 use Rattle.std.proofs.lemmas.Grind.{common_steps}
 use Rattle.std.proofs.lemmas.List.{length-take-le}
 use Rattle.disk_face.proofs.FrameLaws.{Unchanged-trans}
+use Rattle.store_core.proofs.CauseLaws.{disk_cause_after, disk_cause_as, sink_cause_after, sink_cause_as}
 use Rattle.store_core.proofs.PieceLaws.{put_more, put_front}
 use Rattle.store_core.proofs.copy.put_bytes.Goals as goal
 
@@ -24,8 +25,9 @@ pieces-preserved g c =
           let there : IsTrue (g.O.Sink.state c.pieces.sink).tells = grind arith in
           omega (arith, c.pieces.invariant.number sink_told, c.in_ok-put_piece.ensures.number there, len);
       frame = Unchanged-trans c.pieces.invariant.frame c.put_piece.ensures.frame;
-      calm = grind (arith, c.in_ok-put_piece.ensures.disk_cause.calm);
-      sink_calm = grind (arith, c.in_ok-put_piece.ensures.sink_cause.calm);
+      calm = c.in_ok-put_piece.ensures.disk_cause.calm (λ is. absurd (cc)) ∙ c.pieces.invariant.calm;
+      sink_calm = c.in_ok-put_piece.ensures.sink_cause.calm (λ is. absurd (cc))
+          ∙ c.pieces.invariant.sink_calm;
       sink_told = grind (arith, c.put_piece.ensures.sink_cause.told);
     }
 
@@ -43,6 +45,16 @@ returns-in_err-put_piece-clause-put g c = λ told sink_told.
     (c.pieces.invariant.put told sink_told)
     (rw (c.pieces.invariant.frame.same_file told, len) at second) in
     search rules
+
+pub returns-in_err-put_piece-clause-disk_cause : goal.returns-in_err-put_piece-clause-disk_cause
+returns-in_err-put_piece-clause-disk_cause g c =
+    disk_cause_as (disk_cause_after c.pieces.invariant.calm c.in_err-put_piece.ensures.disk_cause)
+    (λ is. grind arith) (λ is. grind arith)
+
+pub returns-in_err-put_piece-clause-sink_cause : goal.returns-in_err-put_piece-clause-sink_cause
+returns-in_err-put_piece-clause-sink_cause g c =
+    sink_cause_as (sink_cause_after c.pieces.invariant.sink_calm c.pieces.invariant.sink_told
+    c.in_err-put_piece.ensures.sink_cause) (λ is. grind arith) (λ is. grind arith)
 
 pub returns : goal.returns
 returns g c = grind (arith, common_steps)

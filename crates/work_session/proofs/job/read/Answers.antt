@@ -22,7 +22,8 @@ returns-in-Ok g c = subst (λ (x : StoreValue). Does g.row.C (ask.get c.args.nam
       ready = c.requires.ready;
       fits = (g.met.D.Disk.lawful c.args.disk.now).turn_fits;
     })
-    c.in-Ok.ensures.frame c.in-Ok.size c.in-Ok.ensures.answer)
+    c.in-Ok.ensures.frame c.in-Ok.size c.in-Ok.ensures.answer
+    (c.in-Ok.ensures.disk_cause.calm (λ is. absurd (cc))))
 
 pub returns-in-Err : goal.returns-in-Err
 returns-in-Err g c = subst (λ (x : StoreValue). Does g.row.C (ask.get c.args.name.now) c.args.store.now x
