@@ -34,7 +34,7 @@ fn set(rt: &impl Abort, table: &mut Table, name: &str, place: u64, size: u64) {
     let name = Name::new(name.as_bytes()).expect(rt, "a name");
     assert!(rt; table.room());
     assert!(rt; place < 1 << 48 && size < 1 << 48);
-    table.set(&name, Spot { place, size });
+    table.set(&name, Spot { place, size }, [0; 32]);
 }
 
 /// A name of an object, its place and its size.

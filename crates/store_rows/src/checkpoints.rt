@@ -108,7 +108,7 @@ fn add(rt: &impl Abort, table: &mut Table, object: &Object) {
     let name = Name::new(object.name.as_bytes()).expect(rt, "a name");
     let (place, size) = (object.place, object.bytes.len() as u64);
     assert!(rt; table.room() && place < 1 << 48 && size < 1 << 48);
-    table.set(&name, Spot { place, size });
+    table.set(&name, Spot { place, size }, [0; 32]);
 }
 
 /// Whether files have tables of a version.

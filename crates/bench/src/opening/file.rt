@@ -85,6 +85,7 @@ fn table_of(alloc: Global, names: u64) -> Result<Table, Fail>
                         place: n * OBJECT,
                         size: OBJECT,
                     },
+                    [0; 32],
                 );
             }
         }

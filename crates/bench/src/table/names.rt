@@ -33,7 +33,7 @@ pub fn spot_of(n: u64) -> Spot
 pub fn fill(table: &mut Table, names: &[Name]) {
     for n in 0..names.len() {
         if table.room() {
-            table.set(&names[n], spot_of(n as u64));
+            table.set(&names[n], spot_of(n as u64), [0; 32]);
         }
     }
 }

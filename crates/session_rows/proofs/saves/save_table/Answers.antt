@@ -1,14 +1,16 @@
-use Rattle.std.proofs.Common.{arith, ap, ◌≡◌, ◌≤◌}
+use Rattle.std.proofs.Common.{arith, ap, subst, sym, ◌≡◌, ◌≤◌}
+use Rattle.std.proofs.lemmas.List.{length-map}
 use Rattle.std.proofs.Math.Nat.{le_trans}
 use Rattle.std.specs.FinMap as fin
+use Rattle.extent_table.specs.Extents.{records_of, with_digest}
 use Rattle.extent_table.proofs.ExtentLaws.{records_of-few}
-use Rattle.extent_table.proofs.SaveLaws.{records_in_range}
+use Rattle.extent_table.proofs.SaveLaws.{rolled_in_range}
 use Rattle.slot_codec.specs.Choice.{InUse}
 use Rattle.slot_codec.specs.Spelling.{cap}
 use Rattle.session_rows.proofs.saves.save_table.Goals as goal
 
 pub save-requires-clause-records : goal.save-requires-clause-records
-save-requires-clause-records g c = records_in_range c.args.table.now c.count.ensures.table
+save-requires-clause-records g c = rolled_in_range c.args.table.now c.count.ensures.table
 
 pub save-requires-clause-count : goal.save-requires-clause-count
 save-requires-clause-count g c =
@@ -19,4 +21,6 @@ save-requires-clause-count g c =
     (arith, c.count.ensures.value, c.cap.ensures) in
     let same : cap names v ≡ cap found v = ap (λ (u : InUse). cap u.block.names v) c.of-pair.ensures in
     let fits : fin.len c.args.table.now.now ≤ cap names v = omega (arith, few, same) in
-    le_trans (records_of-few c.args.table.now.now) fits
+    let now = c.args.table.now in
+    let same_count = length-map (records_of now.now) (with_digest now.digests) in
+    subst (λ n. n ≤ cap names v) (sym same_count) (le_trans (records_of-few now.now) fits)
