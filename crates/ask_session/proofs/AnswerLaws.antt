@@ -20,11 +20,11 @@ use Rattle.store_core.specs.Answers.{AnswersChange, done_reply, facts_at, refusa
 use Rattle.store_core.specs.Answers as store
 use Rattle.store_core.specs.Changes.{IsQuietChange, NothingChanged}
 use Rattle.store_core.specs.Changing.{IsChange}
-use Rattle.store_core.specs.Connection.{IsConnected, StoreValue, RestsOnTable, base_of, limits_of, state_of}
+use Rattle.store_model.specs.Connection.{IsConnected, StoreValue, RestsOnTable, base_of, limits_of, state_of}
 use Rattle.store_core.specs.Flushes.{IsFlush}
 use Rattle.store_core.specs.Keeps.{AnswersKeep, KeepsNow}
-use Rattle.store_core.specs.Quiet.{charges_of, put_of, quiet_calls}
-use Rattle.store_core.specs.States.{Served, Step, accepted, facts_of, refusal, served_change}
+use Rattle.store_model.specs.Quiet.{charges_of, put_of, quiet_calls}
+use Rattle.store_model.specs.States.{Served, Step, accepted, facts_of, refusal, served_change}
 use Rattle.store_core.proofs.CauseLaws.{calm_disk}
 use Rattle.store_core.proofs.QuietLaws.{quiet_by_book}
 use Rattle.store_core.proofs.StepLaws.{served_by}

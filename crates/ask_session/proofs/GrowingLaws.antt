@@ -4,7 +4,7 @@ use Rattle.std.specs.List.{AllByRecursion}
 use Rattle.std.proofs.Common.{arith, ap, ◌∙◌, inl, inr}
 use Rattle.disk_face.specs.Counts.{counted}
 use Rattle.map_model.specs.Requests.{Reply, Request}
-use Rattle.store_core.specs.States.{Chain, Limits, State, Step}
+use Rattle.store_model.specs.States.{Chain, Limits, State, Step}
 use Rattle.ask_text.specs.Inputs.{HasText}
 use Rattle.ask_session.specs.Serving.{acknowledges, calls_of}
 use Rattle.ask_session.specs.Runs.{SomeStep, calls_since, last_kept, last_state}

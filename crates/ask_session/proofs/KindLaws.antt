@@ -3,7 +3,7 @@ use Rattle.std.proofs.Common.{◌≡◌, ℕ, ◌≤◌, List, length, take, ap,
 use Rattle.size_class.specs.declared.TheConstants.{SIZE_MAX}
 use Rattle.map_model.specs.Requests.{Change, Request}
 use Rattle.map_model.specs.Requests as request
-use Rattle.store_core.specs.Quiet.{del_of, put_of}
+use Rattle.store_model.specs.Quiet.{del_of, put_of}
 use Rattle.ask_text.specs.Asks.{ask_of, change_ask}
 use Rattle.ask_text.specs.declared.ask.Ask.{Ask}
 use Rattle.ask_text.specs.declared.ask.Ask.TheVariants as ask

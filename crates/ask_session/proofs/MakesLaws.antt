@@ -7,7 +7,7 @@ use Rattle.map_model.specs.Requests as ask
 use Rattle.map_model.specs.Requests.{Change, Refused, Request}
 use Rattle.segment_layout.specs.Books.{next_book}
 use Rattle.slot_codec.specs.Names.{is_name}
-use Rattle.store_core.specs.States.{Facts, Limits, Served, State, accepted, facts_of, first_refusal, object_tests, refusal, served, served_change, worn_test}
+use Rattle.store_model.specs.States.{Facts, Limits, Served, State, accepted, facts_of, first_refusal, object_tests, refusal, served, served_change, worn_test}
 use Rattle.store_core.proofs.StepLaws.{served_by}
 use Rattle.ask_session.specs.Serving.{acknowledges}
 use Rattle.ask_session.specs.Runs.{most_sequence}

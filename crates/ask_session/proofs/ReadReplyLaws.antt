@@ -14,15 +14,15 @@ use Rattle.store_core.specs.declared.answers.Moment.TheVariants as moment
 use Rattle.store_core.specs.declared.answers.Refusal.{Refusal}
 use Rattle.store_core.specs.Answers.{AnswersNumber, facts_at, refusal_for, refused_by, size_at}
 use Rattle.slot_codec.specs.Names.{is_name}
-use Rattle.store_core.specs.Connection.{StoreValue, base_of, limits_of, state_of}
+use Rattle.store_model.specs.Connection.{StoreValue, base_of, limits_of, state_of}
 use Rattle.store_core.specs.Readings.{asks_for, object_read, spot_read}
 use Rattle.store_core.specs.Reads.{HasSinkCause}
-use Rattle.store_core.specs.States.{Limits, Served, State, accepted, object_in, refusal, unchanged}
+use Rattle.store_model.specs.States.{Limits, Served, State, accepted, object_in, refusal, unchanged}
 use Rattle.store_core.proofs.CauseLaws.{calm_disk, sink_cause_after, sink_cause_as}
 use Rattle.store_core.proofs.ChangingLaws.{unchanged_itself}
-use Rattle.store_core.proofs.StoreLaws.{kept_lies, now_lies}
+use Rattle.store_model.proofs.StoreLaws.{kept_lies, now_lies}
 use Rattle.store_core.proofs.StepLaws.{list_step, served_by}
-use Rattle.store_core.specs.Lines.{lines_of, listing_of}
+use Rattle.store_model.specs.Lines.{lines_of, listing_of}
 use Rattle.std.proofs.lemmas.List.{length-map}
 use Rattle.ask_text.specs.Replies.{first_line, reply_text, told_for}
 use Rattle.ask_text.specs.declared.reply.Reply as text

@@ -16,8 +16,8 @@ use Rattle.store_core.specs.declared.answers.Refusal.{Refusal}
 use Rattle.store_core.specs.declared.answers.Refusal.TheVariants as why
 use Rattle.store_core.specs.Answers.{AnswersList, AnswersRead, size_at}
 use Rattle.store_core.specs.Reads.{HasSinkCause}
-use Rattle.store_core.specs.Connection.{StoreValue}
-use Rattle.store_core.specs.States.{first_refusal, object_in}
+use Rattle.store_model.specs.Connection.{StoreValue}
+use Rattle.store_model.specs.States.{first_refusal, object_in}
 use Rattle.store_core.proofs.CauseLaws.{calm_sink, disk_cause_as, sink_cause_as}
 use Rattle.store_core.proofs.ReadingLaws.{object_there}
 use Rattle.ask_text.specs.Replies.{first_line, reply_line_of, reply_text}

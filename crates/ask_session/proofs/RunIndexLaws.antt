@@ -2,7 +2,7 @@
 use Rattle.std.specs.Prelude.{◌≡◌, ℕ, zero, suc, ◌<◌, Bool, true, false, if◌then◌else◌, List, [], ◌∷◌, length, slice_index_or, refl}
 use Rattle.std.proofs.Common.{arith, ap, sym, ◌∙◌, subst, inl, inr}
 use Rattle.map_model.specs.Requests.{Reply, Request}
-use Rattle.store_core.specs.States.{Chain, Limits, State, Step}
+use Rattle.store_model.specs.States.{Chain, Limits, State, Step}
 use Rattle.ask_session.specs.Serving.{acknowledges}
 use Rattle.ask_session.specs.Runs.{SomeStep, last_state}
 use Rattle.ask_session.proofs.MakesLaws.{makes}

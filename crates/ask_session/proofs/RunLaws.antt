@@ -20,10 +20,10 @@ use Rattle.segment_layout.specs.Bounds.{Loose}
 use Rattle.table_rules.specs.Opening.{Opens}
 use Rattle.table_rules.specs.Sequences.{HasSequenceUpTo}
 use Rattle.table_rules.proofs.SequenceLaws.{sequence_wider}
-use Rattle.store_core.specs.Connection.{IsConnected, RestsOnTable, base_of, limits_of, state_of}
-use Rattle.store_core.specs.States.{Limits, State, Step}
-use Rattle.store_core.specs.Stores.{IsStore}
-use Rattle.store_core.proofs.OverLaws.{kept_image}
+use Rattle.store_model.specs.Connection.{IsConnected, RestsOnTable, base_of, limits_of, state_of}
+use Rattle.store_model.specs.States.{Limits, State, Step}
+use Rattle.store_model.specs.Stores.{IsStore}
+use Rattle.store_model.proofs.OverLaws.{kept_image}
 use Rattle.ask_text.specs.Inputs.{request_text}
 use Rattle.ask_text.specs.Replies.{reply_text}
 use Rattle.ask_session.specs.Serving.{IsServingImage, acknowledges, calls_of, is_changing, reply_at, served_at}

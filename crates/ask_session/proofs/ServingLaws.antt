@@ -10,12 +10,12 @@ use Rattle.segment_layout.specs.Books.{book_end}
 use Rattle.segment_layout.specs.Bounds.{Loose, Tight}
 use Rattle.segment_layout.proofs.TightLaws.{tight_is_loose}
 use Rattle.table_rules.proofs.SequenceLaws.{sequence_wider}
-use Rattle.store_core.specs.Connection.{IsKeptImage, IsOver, StoreValue, SameOnTable, base_of, limits_of, state_of}
-use Rattle.store_core.specs.Stores.{IsStore}
-use Rattle.store_core.specs.States.{Facts, Served, Step, facts_of, refusal, unchanged}
+use Rattle.store_model.specs.Connection.{IsKeptImage, IsOver, StoreValue, SameOnTable, base_of, limits_of, state_of}
+use Rattle.store_model.specs.Stores.{IsStore}
+use Rattle.store_model.specs.States.{Facts, Served, Step, facts_of, refusal, unchanged}
 use Rattle.store_core.specs.Answers.{facts_at}
 use Rattle.store_core.proofs.StepLaws.{facts_same, served_by}
-use Rattle.store_core.proofs.OverLaws.{kept_image}
+use Rattle.store_model.proofs.OverLaws.{kept_image}
 use Rattle.store_core.proofs.OpenedLaws.{tight_now}
 use Rattle.ask_session.specs.declared.ends.End.{End}
 use Rattle.ask_session.specs.Ready.{CanServe}

@@ -2,8 +2,8 @@
 use Rattle.std.specs.Prelude.{◌≡◌, ℕ, ◌≤◌, false, IsTrue}
 use Rattle.disk_face.specs.Counts.{last}
 use Rattle.disk_face.specs.States as disk
-use Rattle.store_core.specs.Connection.{IsOver, StoreValue}
-use Rattle.store_core.specs.Stores.{IsStore}
+use Rattle.store_model.specs.Connection.{IsOver, StoreValue}
+use Rattle.store_model.specs.Stores.{IsStore}
 
 -- A store that isn't broken, over a disk that is ready.
 pub record CanServe (classes : ℕ) (s : StoreValue) (d : disk.State) : Type 0 where

@@ -11,9 +11,9 @@ use Rattle.map_model.specs.Requests.{Reply, Request}
 use Rattle.segment_layout.specs.Bounds.{Loose}
 use Rattle.table_rules.specs.Opening.{Opens}
 use Rattle.table_rules.specs.Sequences.{HasSequenceUpTo}
-use Rattle.store_core.specs.Connection.{IsConnected, RestsOnTable, base_of, limits_of, state_of}
-use Rattle.store_core.specs.Stores.{IsStore}
-use Rattle.store_core.specs.States.{Chain, Limits, State}
+use Rattle.store_model.specs.Connection.{IsConnected, RestsOnTable, base_of, limits_of, state_of}
+use Rattle.store_model.specs.Stores.{IsStore}
+use Rattle.store_model.specs.States.{Chain, Limits, State}
 use Rattle.ask_text.specs.Inputs.{HasText, request_text}
 use Rattle.ask_text.specs.Replies.{reply_text}
 use Rattle.ask_session.specs.declared.ends.End.{End}

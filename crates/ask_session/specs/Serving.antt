@@ -14,10 +14,10 @@ use Rattle.segment_layout.specs.Books.{next_book}
 use Rattle.segment_layout.specs.Bounds.{Loose}
 use Rattle.table_rules.specs.Opening.{Opens}
 use Rattle.table_rules.specs.Sequences.{HasSequenceUpTo}
-use Rattle.store_core.specs.Connection.{IsConnected, StoreValue, RestsOnTable, base_of, kept_map, limits_of, state_of}
-use Rattle.store_core.specs.Quiet.{quiet_calls}
+use Rattle.store_model.specs.Connection.{IsConnected, StoreValue, RestsOnTable, base_of, kept_map, limits_of, state_of}
+use Rattle.store_model.specs.Quiet.{quiet_calls}
 use Rattle.store_core.specs.Reads.{HasSinkCause}
-use Rattle.store_core.specs.States.{Limits, Served, State, Step, facts_of, refusal, served}
+use Rattle.store_model.specs.States.{Limits, Served, State, Step, facts_of, refusal, served}
 use Rattle.ask_text.specs.Replies.{reply_text}
 use Rattle.ask_session.specs.declared.ends.End.{End}
 use Rattle.ask_session.specs.declared.ends.End.TheVariants as ends

@@ -2,8 +2,8 @@
 use Rattle.std.specs.Prelude.{ℕ, Bool, false, List, [], ◌++◌, refl}
 use Rattle.std.specs.Coded.{Coded, code_by, coded×, coded_ℕ, coded_list, coded_bool}
 use Rattle.disk_face.specs.Streams.{SourceState}
-use Rattle.store_core.specs.Connection.{StoreValue}
-use Rattle.store_core.specs.Codes.{kept_code}
+use Rattle.store_model.specs.Connection.{StoreValue}
+use Rattle.store_model.specs.Codes.{kept_code}
 
 -- The store; the bytes that were read ahead; whether it ended; how many requests were answered, how many of
 -- these the last acknowledged checkpoint holds, and the disk's turn when it was acknowledged.

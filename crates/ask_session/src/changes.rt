@@ -3,7 +3,7 @@ ghost use Rattle.std.specs.Prelude.{◌≡◌, ◌<◌, ℕ, List, length};
 ghost use Rattle.size_class.specs.declared.TheConstants.{SIZE_MAX};
 ghost use Rattle.slot_codec.specs.Names.{is_name};
 ghost use Rattle.map_model.specs.Requests as ask;
-ghost use Rattle.store_core.specs.Quiet.{del_of, put_of};
+ghost use Rattle.store_model.specs.Quiet.{del_of, put_of};
 ghost use Rattle.ask_session.specs.Ready.{CanServe};
 ghost use Rattle.ask_session.specs.ReplyLines.{Answers, answer_change};
 

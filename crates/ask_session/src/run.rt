@@ -1,8 +1,8 @@
 //! A run of a session: one turn after another.
 ghost use Rattle.std.specs.Prelude.{◌≡◌, ◌≤◌, false, IsTrue};
 ghost use Rattle.disk_face.specs.Counts.{last};
-ghost use Rattle.store_core.specs.Connection.{IsConnected};
-ghost use Rattle.store_core.specs.Stores.{IsStore};
+ghost use Rattle.store_model.specs.Connection.{IsConnected};
+ghost use Rattle.store_model.specs.Stores.{IsStore};
 ghost use Rattle.ask_session.specs.Runs.{EndsRun};
 
 use crate::{End, Session, Turn};

@@ -3,8 +3,8 @@ ghost use Rattle.std.specs.Prelude.{◌≡◌, ◌≤◌, ℕ, List, false, leng
 ghost use Rattle.size_class.specs.declared.TheConstants.{SIZE_MAX};
 ghost use Rattle.map_model.specs.Requests as ask;
 ghost use Rattle.map_model.specs.Requests.{Request};
-ghost use Rattle.store_core.specs.Connection.{IsConnected};
-ghost use Rattle.store_core.specs.Quiet.{put_of};
+ghost use Rattle.store_model.specs.Connection.{IsConnected};
+ghost use Rattle.store_model.specs.Quiet.{put_of};
 ghost use Rattle.ask_text.specs.Asks.{ask_of};
 ghost use Rattle.ask_session.specs.ReplyLines.{Answers};
 ghost use Rattle.ask_session.specs.Inputs.{HasBody, HoldsSize};

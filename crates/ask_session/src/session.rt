@@ -1,8 +1,8 @@
 //! A session, and one turn of it.
 ghost use Rattle.std.specs.Prelude.{◌≡◌, ◌++◌, [], false, true, if◌then◌else◌, length, IfOk, IfErr, IsTrue};
 ghost use Rattle.disk_face.specs.Counts.{counted};
-ghost use Rattle.store_core.specs.Connection.{IsConnected};
-ghost use Rattle.store_core.specs.Stores.{IsStore};
+ghost use Rattle.store_model.specs.Connection.{IsConnected};
+ghost use Rattle.store_model.specs.Stores.{IsStore};
 ghost use Rattle.ask_session.specs.Inputs.{HasSourceCause};
 ghost use Rattle.ask_session.specs.Sittings.{new_sitting};
 ghost use Rattle.ask_session.specs.Turns.{IsTurn, is_ended, is_unserved, result_of};

@@ -21,11 +21,11 @@ use Rattle.map_model.specs.Requests.{Reply, Request}
 use Rattle.segment_layout.specs.Books.{Book}
 use Rattle.table_rules.specs.Opening.{Opens, OpensBy}
 use Rattle.table_rules.specs.Sequences.{HasSequenceUpTo}
-use Rattle.store_core.specs.Opened.{LeavesRoom, RestsOnFound, RoomOf, SameOnFound, most_by, most_found}
-use Rattle.store_core.specs.States as store
-use Rattle.store_core.specs.Plain.{IsPlain}
+use Rattle.store_model.specs.Opened.{LeavesRoom, RestsOnFound, RoomOf, SameOnFound, most_by, most_found}
+use Rattle.store_model.specs.States as store
+use Rattle.store_model.specs.Plain.{IsPlain}
 use Rattle.store_core.proofs.PlainLaws.{ArePlain, served_plain}
-use Rattle.store_core.proofs.OpeningLaws.{alike_itself}
+use Rattle.store_model.proofs.OpeningLaws.{alike_itself}
 use Rattle.ask_session.specs.Runs.{last_state}
 use Rattle.command_face.specs.declared.outcome.Outcome.{Outcome}
 use Rattle.costore_top.specs.Following.{LeavesRoomTwice, MayBegin}

@@ -5,8 +5,8 @@ use Rattle.slot_codec.specs.Choice as choice
 use Rattle.map_model.specs.Maps.{Map}
 use Rattle.map_model.specs.Requests.{Reply, Request}
 use Rattle.segment_layout.specs.Books.{Book}
-use Rattle.store_core.specs.Plain.{IsPlain}
-use Rattle.store_core.specs.States.{Chain, Limits, State, Step, served}
+use Rattle.store_model.specs.Plain.{IsPlain}
+use Rattle.store_model.specs.States.{Chain, Limits, State, Step, served}
 use Rattle.store_core.proofs.PlainLaws.{ArePlain, served_plain}
 use Rattle.ask_session.specs.Runs.{last_state}
 use Rattle.served_file.specs.Served.{Starts, state_after}

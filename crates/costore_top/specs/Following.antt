@@ -5,8 +5,8 @@ use Rattle.slot_codec.specs.Choice as choice
 use Rattle.map_model.specs.Maps.{Map}
 use Rattle.segment_layout.specs.Books.{Book}
 use Rattle.table_rules.specs.Opening.{OpensBy}
-use Rattle.store_core.specs.Opened.{LeavesRoom, most_found}
-use Rattle.store_core.specs.Plain.{IsPlain}
+use Rattle.store_model.specs.Opened.{LeavesRoom, most_found}
+use Rattle.store_model.specs.Plain.{IsPlain}
 
 -- A file opens to a book of version 1, by a table whose sequence is at most this, and leaves room for
 -- the saves of an opening.

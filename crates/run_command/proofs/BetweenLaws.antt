@@ -15,11 +15,11 @@ use Rattle.map_model.specs.Requests.{Request}
 use Rattle.segment_layout.specs.Books.{Book}
 use Rattle.table_rules.specs.Opening.{OpensBy}
 use Rattle.table_rules.specs.Sequences.{HasSequenceUpTo}
-use Rattle.store_core.specs.Connection.{IsOver, StoreValue, base_of, state_of}
-use Rattle.store_core.specs.Stores.{IsStore}
-use Rattle.store_core.specs.States as store
-use Rattle.store_core.specs.States.{Limits, Served, Step, served}
-use Rattle.store_core.specs.Opened.{IsFoundImage, LeavesRoom, RestsOnFound}
+use Rattle.store_model.specs.Connection.{IsOver, StoreValue, base_of, state_of}
+use Rattle.store_model.specs.Stores.{IsStore}
+use Rattle.store_model.specs.States as store
+use Rattle.store_model.specs.States.{Limits, Served, Step, served}
+use Rattle.store_model.specs.Opened.{IsFoundImage, LeavesRoom, RestsOnFound}
 use Rattle.ask_text.specs.Inputs.{Asks, BeginsNone}
 use Rattle.ask_text.specs.Replies.{reply_text}
 use Rattle.ask_session.specs.Sittings.{Sitting, new_sitting, unread}

@@ -19,10 +19,10 @@ use Rattle.segment_layout.specs.Bounds.{Loose}
 use Rattle.table_rules.specs.Opening.{Opens, OpensBy}
 use Rattle.table_rules.specs.Sequences.{HasSequenceUpTo}
 use Rattle.table_rules.proofs.SequenceLaws.{sequence_wider}
-use Rattle.store_core.specs.Connection.{StoreValue, base_of, limits_of, state_of}
-use Rattle.store_core.specs.States as store
-use Rattle.store_core.specs.States.{Limits, Served, Step, served}
-use Rattle.store_core.specs.Opened.{IsFoundImage, LeavesRoom, RestsOnFound}
+use Rattle.store_model.specs.Connection.{StoreValue, base_of, limits_of, state_of}
+use Rattle.store_model.specs.States as store
+use Rattle.store_model.specs.States.{Limits, Served, Step, served}
+use Rattle.store_model.specs.Opened.{IsFoundImage, LeavesRoom, RestsOnFound}
 use Rattle.ask_text.specs.Inputs.{Asks}
 use Rattle.ask_text.specs.Replies.{reply_text}
 use Rattle.ask_session.specs.Serving.{IsFront, IsServingImage, is_changing, is_disk, reply_at, served_at}

@@ -18,12 +18,12 @@ use Rattle.map_model.specs.Maps.{Map}
 use Rattle.map_model.specs.Requests.{Request}
 use Rattle.segment_layout.specs.Books.{Book, book_end}
 use Rattle.table_rules.specs.Opening.{OpensBy}
-use Rattle.store_core.specs.Connection.{StoreValue, state_of}
-use Rattle.store_core.specs.Plain.{IsPlain}
-use Rattle.store_core.specs.Stores.{IsStore}
-use Rattle.store_core.specs.States as store
-use Rattle.store_core.specs.Opened.{IsFoundImage, IsOpening, LeavesRoom, RestsOnFound, SameOnFound, found_base, state_at}
-use Rattle.store_core.proofs.OpeningLaws.{found_image}
+use Rattle.store_model.specs.Connection.{StoreValue, state_of}
+use Rattle.store_model.specs.Plain.{IsPlain}
+use Rattle.store_model.specs.Stores.{IsStore}
+use Rattle.store_model.specs.States as store
+use Rattle.store_model.specs.Opened.{IsFoundImage, IsOpening, LeavesRoom, RestsOnFound, SameOnFound, found_base, state_at}
+use Rattle.store_model.proofs.OpeningLaws.{found_image}
 use Rattle.reopen.specs.declared.fault.OpenFault.{OpenFault}
 use Rattle.reopen.specs.declared.fault.OpenFault.TheVariants as opening
 use Rattle.ask_text.specs.Inputs.{Asks}

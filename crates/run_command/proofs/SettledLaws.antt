@@ -22,7 +22,7 @@ use Rattle.segment_layout.proofs.SumLaws.{sum_by_same_places}
 use Rattle.table_rules.specs.Opening.{OpensBy, placed_table}
 use Rattle.table_rules.specs.Tables.{TableInLayout, boundary_of_kind, end_of_record, last_end, no_record, nth, sizes}
 use Rattle.placement_model.proofs.OpenedLaws.{opens_long}
-use Rattle.store_core.specs.Opened.{RestsOnFound, found_base}
+use Rattle.store_model.specs.Opened.{RestsOnFound, found_base}
 use Rattle.disk_face.specs.Counts.{counted, last}
 use Rattle.disk_face.specs.Moments.{Leaves, LeftOnly}
 use Rattle.disk_face.specs.States.{IsLawful, State}

@@ -17,12 +17,12 @@ use Rattle.segment_layout.specs.Books.{Book}
 use Rattle.segment_layout.specs.Bounds.{Loose}
 use Rattle.table_rules.specs.Opening.{OpensBy}
 use Rattle.table_rules.specs.Sequences.{HasSequenceUpTo}
-use Rattle.store_core.specs.Connection.{IsOver, StoreValue, RestsOnTable, base_of, limits_of, state_of}
-use Rattle.store_core.specs.Stores.{IsStore}
-use Rattle.store_core.specs.States as store
-use Rattle.store_core.specs.States.{Limits, Served, Step, served}
-use Rattle.store_core.specs.Opened.{IsFoundImage, LeavesRoom, RestsOnFound}
-use Rattle.store_core.proofs.OverLaws.{kept_image}
+use Rattle.store_model.specs.Connection.{IsOver, StoreValue, RestsOnTable, base_of, limits_of, state_of}
+use Rattle.store_model.specs.Stores.{IsStore}
+use Rattle.store_model.specs.States as store
+use Rattle.store_model.specs.States.{Limits, Served, Step, served}
+use Rattle.store_model.specs.Opened.{IsFoundImage, LeavesRoom, RestsOnFound}
+use Rattle.store_model.proofs.OverLaws.{kept_image}
 use Rattle.ask_text.specs.Inputs.{Asks}
 use Rattle.ask_session.specs.Serving.{IsServingImage, is_changing, is_disk, reply_at, served_at}
 use Rattle.ask_session.specs.Sittings.{Sitting, new_sitting, unread}

@@ -6,9 +6,9 @@ use Rattle.disk_face.specs.States.{State}
 use Rattle.disk_face.specs.declared.bay.Mounted.TheVariants.{There}
 use Rattle.disk_face.specs.Streams.{SinkState, SourceState}
 use Rattle.size_class.specs.declared.TheConstants.{CLASSES}
-use Rattle.store_core.specs.Connection.{IsConnected, StoreValue}
-use Rattle.store_core.specs.Opened.{IsOpening}
-use Rattle.store_core.specs.Stores.{IsStore}
+use Rattle.store_model.specs.Connection.{IsConnected, StoreValue}
+use Rattle.store_model.specs.Opened.{IsOpening}
+use Rattle.store_model.specs.Stores.{IsStore}
 use Rattle.ask_session.specs.Sittings.{Sitting, new_sitting}
 use Rattle.ask_session.specs.Runs.{EndsRun}
 use Rattle.ask_session.specs.declared.ends.End.{End}

@@ -17,8 +17,8 @@ use Rattle.disk_face.proofs.MomentLaws.{LeftOnly-after}
 use Rattle.slot_codec.specs.Spelling.{head_len}
 use Rattle.slot_codec.specs.declared.codec.SuperBlock.{SuperBlock}
 use Rattle.map_model.specs.Requests.{Request}
-use Rattle.store_core.specs.States as store
-use Rattle.store_core.specs.Opened.{IsFoundImage, LeavesRoom, RestsOnFound}
+use Rattle.store_model.specs.States as store
+use Rattle.store_model.specs.Opened.{IsFoundImage, LeavesRoom, RestsOnFound}
 use Rattle.ask_session.specs.Runs.{last_state}
 use Rattle.ask_session.proofs.RunLaws.{opens_with}
 use Rattle.run_command.specs.Headline.{HasMounted, HowFar, IsLong, NumbersLine, RunHolds, has_opened, is_session, is_whole, next_reply, next_saves, next_states, served_states}

@@ -16,9 +16,9 @@ use Rattle.segment_layout.specs.Books.{Book, book_end}
 use Rattle.segment_layout.specs.Bounds.{Loose}
 use Rattle.table_rules.specs.Opening.{OpensBy}
 use Rattle.table_rules.specs.Sequences.{HasSequenceUpTo}
-use Rattle.store_core.specs.States.{Limits, State, served}
-use Rattle.store_core.specs.Plain.{IsPlain}
-use Rattle.store_core.specs.Opened.{ContinuesFrom, LeavesRoom, RestsOnFound}
+use Rattle.store_model.specs.States.{Limits, State, served}
+use Rattle.store_model.specs.Plain.{IsPlain}
+use Rattle.store_model.specs.Opened.{ContinuesFrom, LeavesRoom, RestsOnFound}
 use Rattle.ask_text.specs.Inputs.{Asks}
 use Rattle.ask_text.specs.Replies.{reply_text}
 use Rattle.ask_session.specs.Serving.{is_changing}

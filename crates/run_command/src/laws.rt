@@ -7,7 +7,7 @@ ghost use Rattle.segment_layout.specs.Books.{Book};
 ghost use Rattle.map_model.specs.Maps.{Map};
 ghost use Rattle.map_model.specs.Requests.{Request};
 ghost use Rattle.table_rules.specs.Opening.{OpensBy};
-ghost use Rattle.store_core.specs.Plain.{IsPlain};
+ghost use Rattle.store_model.specs.Plain.{IsPlain};
 ghost use Rattle.ask_text.specs.Inputs.{Asks};
 ghost use Rattle.ask_session.specs.Runs.{budget};
 ghost use Rattle.command_face.specs.Mounting.{IsMounted, mounted};

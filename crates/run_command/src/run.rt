@@ -1,9 +1,9 @@
 //! The command `run`: a session over a file.
 ghost use Rattle.std.specs.Prelude.{◌≡◌, ◌⊎◌, false, true, None, Ok, IsTrue};
 ghost use Rattle.size_class.specs.declared.TheConstants.{CLASSES};
-ghost use Rattle.store_core.specs.Connection.{IsConnected};
-ghost use Rattle.store_core.specs.Opened.{IsOpening};
-ghost use Rattle.store_core.specs.Stores.{IsStore};
+ghost use Rattle.store_model.specs.Connection.{IsConnected};
+ghost use Rattle.store_model.specs.Opened.{IsOpening};
+ghost use Rattle.store_model.specs.Stores.{IsStore};
 ghost use Rattle.command_face.specs.Mounting.{IsMounted};
 ghost use Rattle.served_file.specs.Unserved.{IsRefusedService, NeverServed};
 ghost use Rattle.run_command.specs.Headline.{RunPromise, is_session};

@@ -16,10 +16,10 @@ use Rattle.segment_layout.specs.Books.{Book, book_end}
 use Rattle.table_rules.specs.Opening.{OpensBy}
 use Rattle.table_rules.specs.Sequences.{HasSequenceUpTo}
 use Rattle.table_rules.proofs.SequenceLaws.{sequence_wider}
-use Rattle.store_core.specs.Connection.{IsOver, StoreValue, RestsOnTable, base_of, state_of}
-use Rattle.store_core.specs.Stores.{IsStore}
-use Rattle.store_core.specs.Opened.{ContinuesFrom, IsFoundImage, IsOpened, IsOpening, LeavesRoom, OpenCallsOf, OpensFound, RestsOnFound, SameOnFound, found_base, most_by, most_found, state_at, turn_after_cut}
-use Rattle.store_core.proofs.OpeningLaws.{FoundSame, found_image, found_one}
+use Rattle.store_model.specs.Connection.{IsOver, StoreValue, RestsOnTable, base_of, state_of}
+use Rattle.store_model.specs.Stores.{IsStore}
+use Rattle.store_model.specs.Opened.{ContinuesFrom, IsFoundImage, IsOpened, IsOpening, LeavesRoom, OpenCallsOf, OpensFound, RestsOnFound, SameOnFound, found_base, most_by, most_found, state_at, turn_after_cut}
+use Rattle.store_model.proofs.OpeningLaws.{FoundSame, found_image, found_one}
 use Rattle.reopen.specs.declared.fault.OpenFault.{OpenFault}
 use Rattle.ask_session.specs.Runs.{most_sequence}
 use Rattle.served_file.specs.Served.{BeginsFrom, most_left, turn_opened}

@@ -9,12 +9,12 @@ use Rattle.slot_codec.specs.declared.codec.SuperBlock.{SuperBlock}
 use Rattle.slot_codec.proofs.ChoiceLaws.{chosen_sequence, table_chosen}
 use Rattle.segment_layout.specs.Books.{Book, book_end}
 use Rattle.segment_layout.specs.Bounds.{Tight}
-use Rattle.store_core.specs.Connection.{IsOver, StoreValue, RestsOnTable, base_of, state_of}
-use Rattle.store_core.specs.Stores.{IsStore}
-use Rattle.store_core.specs.Opened.{RestsOnFound}
+use Rattle.store_model.specs.Connection.{IsOver, StoreValue, RestsOnTable, base_of, state_of}
+use Rattle.store_model.specs.Stores.{IsStore}
+use Rattle.store_model.specs.Opened.{RestsOnFound}
 use Rattle.store_core.proofs.OpenedLaws.{tight_kept, tight_now}
-use Rattle.store_core.proofs.OpeningLaws.{alike_found}
-use Rattle.store_core.proofs.OverLaws.{same_block}
+use Rattle.store_model.proofs.OpeningLaws.{alike_found}
+use Rattle.store_model.proofs.OverLaws.{same_block}
 use Rattle.served_file.specs.Served.{EndsTight, IsNextStart}
 
 -- its data part is within bounds, now and once it goes back

@@ -16,10 +16,10 @@ use Rattle.reopen.specs.declared.fault.OpenFault.{OpenFault}
 use Rattle.reopen.specs.declared.fault.OpenFault.TheVariants as opening
 use Rattle.disk_face.specs.States.{State}
 use Rattle.disk_face.specs.Frames.{AfterMount, Unchanged}
-use Rattle.store_core.specs.States as store_state
-use Rattle.store_core.specs.Connection.{StoreValue}
-use Rattle.store_core.specs.Opened.{IsOpening, RefusesStore, RefusesUnchanged}
-use Rattle.store_core.specs.Plain.{IsPlain}
+use Rattle.store_model.specs.States as store_state
+use Rattle.store_model.specs.Connection.{StoreValue}
+use Rattle.store_model.specs.Opened.{IsOpening, RefusesStore, RefusesUnchanged}
+use Rattle.store_model.specs.Plain.{IsPlain}
 use Rattle.command_face.specs.Outcomes.{EndsBy, status_of}
 use Rattle.command_face.specs.Refusing.{IsRefused, stop_of}
 use Rattle.command_face.specs.declared.stop.StopReason.{StopReason}

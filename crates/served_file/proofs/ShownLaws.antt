@@ -2,7 +2,7 @@
 use Rattle.std.specs.Prelude.{◌≡◌, ◌⊎◌, ℕ, zero, suc, List, [], ◌∷◌}
 use Rattle.std.proofs.Common.{ap, sym, ◌∙◌, inl, inr}
 use Rattle.map_model.specs.Requests.{Reply, Request}
-use Rattle.store_core.specs.States.{Chain, Limits, State, Step, served}
+use Rattle.store_model.specs.States.{Chain, Limits, State, Step, served}
 use Rattle.ask_session.specs.Serving.{acknowledges}
 use Rattle.ask_session.specs.Runs.{SomeStep, last_state}
 use Rattle.ask_session.specs.Runs as run

@@ -12,8 +12,8 @@ use Rattle.map_model.specs.Requests.{Reply, Request}
 use Rattle.segment_layout.specs.Books.{Book, book_end}
 use Rattle.segment_layout.specs.Bounds.{Tight}
 use Rattle.table_rules.specs.Opening.{Opens, OpensBy}
-use Rattle.store_core.specs.States.{Chain, Limits, State, served}
-use Rattle.store_core.specs.Opened.{RestsOnFound, found_base, most_found, state_at, turn_after_cut}
+use Rattle.store_model.specs.States.{Chain, Limits, State, served}
+use Rattle.store_model.specs.Opened.{RestsOnFound, found_base, most_found, state_at, turn_after_cut}
 use Rattle.ask_session.specs.Serving.{acknowledges}
 use Rattle.ask_session.specs.Runs.{most_sequence}
 use Rattle.command_face.specs.declared.status.TheConstants.{DISK_FAILED, SINK_FAILED}

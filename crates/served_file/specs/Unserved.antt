@@ -5,8 +5,8 @@ use Rattle.map_model.specs.Maps.{Map}
 use Rattle.segment_layout.specs.Books.{Book}
 use Rattle.table_rules.specs.Opening.{Opens}
 use Rattle.reopen.specs.declared.fault.OpenFault.{OpenFault}
-use Rattle.store_core.specs.Plain as plain
-use Rattle.store_core.specs.Plain.{IsPlain}
+use Rattle.store_model.specs.Plain as plain
+use Rattle.store_model.specs.Plain.{IsPlain}
 use Rattle.command_face.specs.Refusing.{IsRefused, stop_of}
 use Rattle.command_face.specs.declared.stop.StopReason.{StopReason}
 

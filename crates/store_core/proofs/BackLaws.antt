@@ -13,10 +13,10 @@ use Rattle.placement_model.specs.LaidOut.{IsLaidOut, shown_book}
 use Rattle.placement_model.proofs.GuardLaws.{freed_nothing}
 use Rattle.placement_model.proofs.RiseLaws.{CellsRise-itself}
 use Rattle.store_core.specs.declared.store.Store.TheInside.{Inside}
-use Rattle.store_core.specs.Connection.{IsOver, StoreValue, limits_of, state_of}
+use Rattle.store_model.specs.Connection.{IsOver, StoreValue, limits_of, state_of}
 use Rattle.store_core.specs.Inside.{IsWhole, kept_of}
-use Rattle.store_core.specs.Stores.{IsStore}
-use Rattle.store_core.specs.States.{Step}
+use Rattle.store_model.specs.Stores.{IsStore}
+use Rattle.store_model.specs.States.{Step}
 
 abbrev pub gone_back : StoreValue → StoreValue
 gone_back s = record s { now = s.kept; book = s.kept_book }

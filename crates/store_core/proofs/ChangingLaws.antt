@@ -12,10 +12,10 @@ use Rattle.store_core.specs.declared.answers.Refusal.TheVariants as why
 use Rattle.store_core.specs.declared.answers.Done.{Done}
 use Rattle.store_core.specs.Answers.{AnswersChange, facts_at, is_disk, is_disk_fault, refusal_for, refused_by}
 use Rattle.store_core.specs.Changing.{IsChange}
-use Rattle.store_core.specs.Connection.{IsConnected, StoreValue, limits_of}
+use Rattle.store_model.specs.Connection.{IsConnected, StoreValue, limits_of}
 use Rattle.store_core.specs.Flushes.{ServesChange}
-use Rattle.store_core.specs.Quiet.{charges_of}
-use Rattle.store_core.specs.States.{refusal}
+use Rattle.store_model.specs.Quiet.{charges_of}
+use Rattle.store_model.specs.States.{refusal}
 use Rattle.store_core.proofs.ReadingLaws.{whole_if_served}
 use Rattle.store_core.proofs.RefusedLaws.{answers_refused, not_none, not_some}
 

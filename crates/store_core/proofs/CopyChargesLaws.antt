@@ -16,13 +16,13 @@ use Rattle.change_charges.specs.Charging.{PlacesNew, between, charged_by}
 use Rattle.change_charges.specs.declared.charge.ChargeResult.{ChargeResult}
 use Rattle.store_core.specs.declared.store.Store.TheInside.{Inside}
 use Rattle.store_core.specs.Answers.{refused_by}
-use Rattle.store_core.specs.Charges.{CanPut, ChargesParts, ChargesStore, IsChargedBy, change_of, quiet_place}
-use Rattle.store_core.specs.Connection.{StoreValue}
-use Rattle.store_core.specs.Flushing.{NeedsFlushAt, TakesOut, bytes_of}
+use Rattle.store_model.specs.Charges.{CanPut, ChargesParts, ChargesStore, IsChargedBy, change_of, quiet_place}
+use Rattle.store_model.specs.Connection.{StoreValue}
+use Rattle.store_model.specs.Flushing.{NeedsFlushAt, TakesOut, bytes_of}
 use Rattle.store_core.specs.Inside.{IsWhole, kept_of}
 use Rattle.store_core.specs.Plans.{IsDelPlan, IsPutPlan}
-use Rattle.store_core.specs.Quiet.{IsCharged, charges_of, del_of, put_of}
-use Rattle.store_core.proofs.ChargedLaws.{ChargesTo}
+use Rattle.store_model.specs.Quiet.{IsCharged, charges_of, del_of, put_of}
+use Rattle.store_model.proofs.ChargedLaws.{ChargesTo}
 use Rattle.store_core.proofs.FlushLaws.{del_loud, put_loud}
 use Rattle.store_core.proofs.PlanLaws.{del_served, put_served}
 

@@ -11,12 +11,12 @@ use Rattle.map_model.specs.Requests.{Change}
 use Rattle.placement_model.specs.Reads.{AllLieApart}
 use Rattle.store_core.specs.declared.answers.Refusal.{Refusal}
 use Rattle.store_core.specs.declared.answers.Done.{Done}
-use Rattle.store_core.specs.Connection.{IsKeptImage, IsOver, StoreValue, base_of}
+use Rattle.store_model.specs.Connection.{IsKeptImage, IsOver, StoreValue, base_of}
 use Rattle.store_core.specs.Changes.{ChangesQuietly, IsQuietChange}
-use Rattle.store_core.specs.Quiet.{quiet_calls}
-use Rattle.store_core.specs.Stores.{IsStore}
-use Rattle.store_core.proofs.EndLaws.{end_low}
-use Rattle.store_core.proofs.OverLaws.{kept_image, left_kept, rests_again, same_itself, same_written}
+use Rattle.store_model.specs.Quiet.{quiet_calls}
+use Rattle.store_model.specs.Stores.{IsStore}
+use Rattle.store_model.proofs.EndLaws.{end_low}
+use Rattle.store_model.proofs.OverLaws.{kept_image, left_kept, rests_again, same_itself, same_written}
 
 -- as many calls, with another answer of the same kind
 pub calls_ok : {A B E F : Type 0} {n : ℕ} {a d : disk.State} (x : A) (y : B)

@@ -18,12 +18,12 @@ use Rattle.flush_run.specs.Settling.{FlushEnds}
 use Rattle.store_core.specs.declared.answers.Refusal.TheVariants as why
 use Rattle.store_core.specs.declared.store.Store.TheInside.{Inside}
 use Rattle.store_core.specs.Answers.{facts_at, refused_by}
-use Rattle.store_core.specs.Connection.{IsConnected, IsOver, StoreValue, limits_of}
+use Rattle.store_model.specs.Connection.{IsConnected, IsOver, StoreValue, limits_of}
 use Rattle.store_core.specs.Flushes.{ServesChange}
-use Rattle.store_core.specs.Flushing.{BeforeChange, CanMakeFlush, HasMadeFlush, IsBegun, bytes_of, flight_of}
+use Rattle.store_model.specs.Flushing.{BeforeChange, CanMakeFlush, HasMadeFlush, IsBegun, bytes_of, flight_of}
 use Rattle.store_core.specs.Inside.{IsWhole, kept_of}
-use Rattle.store_core.specs.Quiet.{charges_of}
-use Rattle.store_core.specs.States.{refusal}
+use Rattle.store_model.specs.Quiet.{charges_of}
+use Rattle.store_model.specs.States.{refusal}
 use Rattle.store_core.proofs.FlushDoneLaws.{done_over, done_seen, done_whole, failed_seen, step_seen}
 use Rattle.store_core.proofs.FlushLaws.{some_flight}
 use Rattle.store_core.proofs.MadeFlushLaws.{IsFlown}

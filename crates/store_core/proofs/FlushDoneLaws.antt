@@ -30,15 +30,15 @@ use Rattle.flush_run.specs.Settling.{FlushEnds}
 use Rattle.store_core.specs.declared.answers.Refusal.{Refusal}
 use Rattle.store_core.specs.declared.answers.Done.{Done}
 use Rattle.store_core.specs.declared.store.Store.TheInside.{Inside}
-use Rattle.store_core.specs.Connection.{IsOver, StoreValue, RestsOnTable, base_of, limits_of, state_of}
-use Rattle.store_core.specs.Flushed.{IsFlushed}
+use Rattle.store_model.specs.Connection.{IsOver, StoreValue, RestsOnTable, base_of, limits_of, state_of}
+use Rattle.store_model.specs.Flushed.{IsFlushed}
 use Rattle.store_core.specs.Flushes.{IsFlush, IsFlushImage, flush_boundary, map_after, names_after, size_after}
-use Rattle.store_core.specs.Flushing.{CanMakeFlush, BeforeChange, flight_of}
+use Rattle.store_model.specs.Flushing.{CanMakeFlush, BeforeChange, flight_of}
 use Rattle.store_core.specs.Inside.{IsWhole, kept_of}
-use Rattle.store_core.specs.Quiet.{asked_after, charges_of}
-use Rattle.store_core.specs.States.{Facts, State, Step, refusal}
+use Rattle.store_model.specs.Quiet.{asked_after, charges_of}
+use Rattle.store_model.specs.States.{Facts, State, Step, refusal}
 use Rattle.store_core.specs.Answers.{facts_at}
-use Rattle.store_core.specs.Stores.{IsStore}
+use Rattle.store_model.specs.Stores.{IsStore}
 use Rattle.store_core.proofs.FlushLaws.{can_fly, flush_content, flush_left, flush_step, some_flight}
 use Rattle.store_core.proofs.FlushedLaws.{ended_only, ended_opens, ended_over, ended_rests, ended_state, ended_store, flushed_view, flushed_whole}
 use Rattle.store_core.proofs.QuietLaws.{quiet_by_book}

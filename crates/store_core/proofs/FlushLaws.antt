@@ -29,18 +29,18 @@ use Rattle.change_charges.proofs.EndLaws.{blank, in_blank}
 use Rattle.change_charges.proofs.GoneAboveLaws.{left_over}
 use Rattle.change_charges.proofs.SizedLaws.{sized_read}
 use Rattle.store_core.specs.declared.store.Store.TheInside.{Inside}
-use Rattle.store_core.specs.Connection.{IsOver, StoreValue, RestsOnTable, base_of, kept_map}
+use Rattle.store_model.specs.Connection.{IsOver, StoreValue, RestsOnTable, base_of, kept_map}
 use Rattle.store_core.specs.Flushes.{IsFlushImage, book_after, map_after}
-use Rattle.store_core.specs.Flushing.{CanMakeFlush, IsBegun, NeedsFlushAt, MayBegin, BeforeChange, bytes_of, flight_of}
+use Rattle.store_model.specs.Flushing.{CanMakeFlush, IsBegun, NeedsFlushAt, MayBegin, BeforeChange, bytes_of, flight_of}
 use Rattle.store_core.specs.Inside.{IsWhole, kept_of}
 use Rattle.store_core.specs.Keeps.{now_map}
-use Rattle.store_core.specs.Quiet.{charges_of, del_of, put_of}
-use Rattle.store_core.specs.States.{Limits, Served, State, Step, facts_of, refusal, served}
-use Rattle.store_core.specs.Stores.{IsStore}
+use Rattle.store_model.specs.Quiet.{charges_of, del_of, put_of}
+use Rattle.store_model.specs.States.{Limits, Served, State, Step, facts_of, refusal, served}
+use Rattle.store_model.specs.Stores.{IsStore}
 use Rattle.change_charges.proofs.EndLaws.{shown_balanced}
-use Rattle.store_core.proofs.OverLaws.{head_is, opens_again}
+use Rattle.store_model.proofs.OverLaws.{head_is, opens_again}
 use Rattle.store_core.proofs.StepLaws.{served_by}
-use Rattle.store_core.proofs.StoreLaws.{now_lies}
+use Rattle.store_model.proofs.StoreLaws.{now_lies}
 
 -- a change that isn't quiet is a step to the map and the book of after, which are kept
 pub flush_step : (limits : Limits) (s after : State) (c : Change)

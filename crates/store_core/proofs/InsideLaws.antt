@@ -11,10 +11,10 @@ use Rattle.extent_table.specs.Extents.{Extents, IsTable, Spots}
 use Rattle.placement_model.specs.Held.{IsFreed}
 use Rattle.placement_model.specs.LaidOut.{shown_book}
 use Rattle.store_core.specs.declared.store.Store.TheInside.{Inside}
-use Rattle.store_core.specs.Connection.{StoreValue, base_of}
+use Rattle.store_model.specs.Connection.{StoreValue, base_of}
 use Rattle.store_core.specs.Inside.{IsWhole, kept_of}
-use Rattle.store_core.specs.Stores.{IsStore}
-use Rattle.store_core.proofs.ChangeLaws.{with_now}
+use Rattle.store_model.specs.Stores.{IsStore}
+use Rattle.store_model.proofs.ChangeLaws.{with_now}
 
 -- What the fields of a store that isn't broken are to what contracts see of it.
 pub record IsOpened {C : ℕ} (s : Inside C) (t : StoreValue) : Type 0 where

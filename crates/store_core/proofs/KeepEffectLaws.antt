@@ -28,14 +28,14 @@ use Rattle.placement_model.proofs.GuardLaws.{freed_nothing}
 use Rattle.store_core.specs.declared.answers.Refusal.{Refusal}
 use Rattle.store_core.specs.declared.answers.Done.{Done}
 use Rattle.store_core.specs.declared.store.Store.TheInside.{Inside}
-use Rattle.store_core.specs.Connection.{IsConnected, IsOver, StoreValue, RestsOnTable, SameOnTable, base_of, limits_of, state_of}
+use Rattle.store_model.specs.Connection.{IsConnected, IsOver, StoreValue, RestsOnTable, SameOnTable, base_of, limits_of, state_of}
 use Rattle.store_core.specs.Inside.{IsWhole, kept_of}
 use Rattle.store_core.specs.Keeps.{OpensToKeptOrNow, KeepsNow, kept_now}
-use Rattle.store_core.specs.States.{Step}
-use Rattle.store_core.specs.Stores.{IsStore}
+use Rattle.store_model.specs.States.{Step}
+use Rattle.store_model.specs.Stores.{IsStore}
 use Rattle.store_core.proofs.InsideLaws.{opened}
 use Rattle.store_core.proofs.KeepLaws.{header_now, kept_opens, length-records_of, now_opens, over_kept, step_kept, store_kept, table_now}
-use Rattle.store_core.proofs.OverLaws.{same_itself}
+use Rattle.store_model.proofs.OverLaws.{same_itself}
 
 -- ---- what a save leaves
 

@@ -23,11 +23,11 @@ use Rattle.placement_model.proofs.LaidLaws.{valid_numbered}
 use Rattle.placement_model.proofs.RiseLaws.{CellsRise-itself}
 use Rattle.placement_model.proofs.ShownLaws.{book_shown}
 use Rattle.flush_run.proofs.SavedLaws.{map_from, new_image_opens, old_image_opens, saved_table_is, valid_at}
-use Rattle.store_core.specs.Connection.{IsOver, StoreValue, SameOnTable, base_of, kept_map, limits_of, state_of}
+use Rattle.store_model.specs.Connection.{IsOver, StoreValue, SameOnTable, base_of, kept_map, limits_of, state_of}
 use Rattle.store_core.specs.Keeps.{kept_now, now_map}
-use Rattle.store_core.specs.States.{Limits, Served, State, Step, facts_of, refusal}
-use Rattle.store_core.specs.Stores.{IsStore}
-use Rattle.store_core.proofs.OverLaws.{head_is, opens_again}
+use Rattle.store_model.specs.States.{Limits, Served, State, Step, facts_of, refusal}
+use Rattle.store_model.specs.Stores.{IsStore}
+use Rattle.store_model.proofs.OverLaws.{head_is, opens_again}
 use Rattle.store_core.proofs.StepLaws.{served_by}
 
 -- there are as many records as names

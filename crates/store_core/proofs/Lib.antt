@@ -1,21 +1,10 @@
 pub mod CauseLaws
-pub mod PieceLaws
-pub mod StateLaws
 pub mod StepLaws
 pub mod PlainLaws
-mod PlainLemmas
-mod VersionLaws
-pub mod StoreLaws
 pub mod ReadingLaws
-pub mod LineLaws
-pub mod ChargeLaws
-pub mod EndLaws
-pub mod HeldLaws
 pub mod PlanLaws
 pub mod BackLaws
-pub mod ChangeLaws
 pub mod InsideLaws
-pub mod OverLaws
 pub mod QuietLaws
 pub mod EffectLaws
 pub mod ReadLaws
@@ -25,20 +14,10 @@ pub mod OpenedLaws
 pub mod KeepLaws
 pub mod KeepEffectLaws
 pub mod FlushedLaws
-pub mod BeginLaws
-pub mod ChargedLaws
-pub mod StartingLaws
-pub mod BegunLaws
-pub mod MakeFlushLaws
 pub mod FlushLaws
 pub mod MadeFlushLaws
 pub mod FlushDoneLaws
 pub mod ServeLaws
 pub mod CopyChargesLaws
 pub mod FlushChangeLaws
-pub mod OpeningLaws
-pub mod StillStoreLaws
-pub mod StillLaws
-pub mod MovingLaws
-pub mod GoingLaws
 pub mod ResumedLaws

@@ -5,8 +5,8 @@ use Rattle.map_model.specs.Maps.{Map}
 use Rattle.map_model.specs.Requests as ask
 use Rattle.map_model.specs.Requests.{Change, Refused, Reply, Request, changed}
 use Rattle.segment_layout.specs.Books.{Book, digests_after, next_book}
-use Rattle.store_core.specs.Plain.{IsPlain}
-use Rattle.store_core.specs.States.{Limits, Served, State, accepted, facts_of, refusal, served, served_change}
+use Rattle.store_model.specs.Plain.{IsPlain}
+use Rattle.store_model.specs.States.{Limits, Served, State, accepted, facts_of, refusal, served, served_change}
 use Rattle.store_core.proofs.StepLaws.{served_as, served_by}
 
 -- the book of what stands, and that of the checkpoint

@@ -14,10 +14,10 @@ use Rattle.placement_model.proofs.QuietLaws.{quiet_then}
 use Rattle.store_core.specs.declared.answers.Refusal.{Refusal}
 use Rattle.store_core.specs.declared.answers.Refusal.TheVariants as why
 use Rattle.store_core.specs.Answers.{facts_at, refusal_for, refused_by}
-use Rattle.store_core.specs.Connection.{StoreValue, limits_of}
+use Rattle.store_model.specs.Connection.{StoreValue, limits_of}
 use Rattle.store_core.specs.Plans.{AcceptsName}
-use Rattle.store_core.specs.Quiet.{IsCharged, del_of, put_of}
-use Rattle.store_core.specs.States.{first_refusal, object_tests, refusal, worn_test}
+use Rattle.store_model.specs.Quiet.{IsCharged, del_of, put_of}
+use Rattle.store_model.specs.States.{first_refusal, object_tests, refusal, worn_test}
 use Rattle.store_core.proofs.ReadingLaws.{whole_if_served}
 
 -- a name that is accepted is the one that was asked for

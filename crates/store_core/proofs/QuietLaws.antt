@@ -15,17 +15,17 @@ use Rattle.placement_model.specs.Quiet.{QuietTo, gone_items}
 use Rattle.placement_model.specs.Reads.{read_at}
 use Rattle.placement_model.proofs.NextQuietLaws.{book_gone, book_put, next_quiet}
 use Rattle.placement_model.proofs.ReadLaws.{read_at-put, read_at-remove}
-use Rattle.store_core.specs.Connection.{IsOver, StoreValue, SameOnTable, base_of, limits_of, state_of}
+use Rattle.store_model.specs.Connection.{IsOver, StoreValue, SameOnTable, base_of, limits_of, state_of}
 use Rattle.store_core.specs.Changes.{ChangesQuietly}
 use Rattle.store_core.specs.Plans.{IsDelPlan, IsPutPlan}
-use Rattle.store_core.specs.Quiet.{added, charges_of, del_of, put_of, sizes_at}
-use Rattle.store_core.specs.States.{Facts, Limits, Served, State, Step, facts_of, no_saves, refusal, served}
-use Rattle.store_core.specs.Stores.{IsStore}
-use Rattle.store_core.proofs.ChangeLaws.{apart_kept, apart_now, place_ends, with_now}
-use Rattle.store_core.proofs.OverLaws.{checkpoint_again, kept_map_again, same_written}
+use Rattle.store_model.specs.Quiet.{added, charges_of, del_of, put_of, sizes_at}
+use Rattle.store_model.specs.States.{Facts, Limits, Served, State, Step, facts_of, no_saves, refusal, served}
+use Rattle.store_model.specs.Stores.{IsStore}
+use Rattle.store_model.proofs.ChangeLaws.{apart_kept, apart_now, place_ends, with_now}
+use Rattle.store_model.proofs.OverLaws.{checkpoint_again, kept_map_again, same_written}
 use Rattle.store_core.proofs.PlanLaws.{DelServed, PutServed, charged_quietly, del_served, put_served}
 use Rattle.store_core.proofs.StepLaws.{facts_same, served_by}
-use Rattle.store_core.proofs.StoreLaws.{now_lies}
+use Rattle.store_model.proofs.StoreLaws.{now_lies}
 
 -- ---- steps
 

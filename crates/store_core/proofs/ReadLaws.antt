@@ -15,17 +15,17 @@ use Rattle.store_core.specs.declared.answers.Moment.TheVariants as moment
 use Rattle.store_core.specs.declared.answers.Refusal.{Refusal}
 use Rattle.store_core.specs.declared.answers.Refusal.TheVariants as why
 use Rattle.store_core.specs.Answers.{AnswersRead, AnswersSpot, facts_at, refusal_for, refused_by, size_at}
-use Rattle.store_core.specs.Connection.{IsOver, StoreValue, base_of, limits_of, state_of}
+use Rattle.store_model.specs.Connection.{IsOver, StoreValue, base_of, limits_of, state_of}
 use Rattle.store_core.specs.Readings.{IsRead, asks_for, object_read, spot_read}
 use Rattle.store_core.specs.Reads.{GivesObject, HasSinkCause}
-use Rattle.store_core.specs.States.{Limits, State, accepted, refusal, unchanged}
-use Rattle.store_core.specs.Stores.{IsStore}
+use Rattle.store_model.specs.States.{Limits, State, accepted, refusal, unchanged}
+use Rattle.store_model.specs.Stores.{IsStore}
 use Rattle.store_core.proofs.CauseLaws.{calm_disk, calm_sink}
 use Rattle.store_core.proofs.ChangingLaws.{unchanged_itself}
 use Rattle.store_core.proofs.ReadingLaws.{IsFound, answers_read, gives_object, object_there, refused_read}
 use Rattle.store_core.proofs.RefusedLaws.{not_none}
 use Rattle.store_core.proofs.StepLaws.{read_step}
-use Rattle.store_core.proofs.StoreLaws.{kept_lies, now_lies}
+use Rattle.store_model.proofs.StoreLaws.{kept_lies, now_lies}
 
 -- ---- what is found, at each moment
 

@@ -10,11 +10,11 @@ use Rattle.placement_model.proofs.ReadLaws.{get-read_at}
 use Rattle.store_core.specs.declared.answers.Refusal.{Refusal}
 use Rattle.store_core.specs.declared.answers.Refusal.TheVariants as why
 use Rattle.store_core.specs.Answers.{AnswersRead, AnswersSpot, facts_at, refusal_for, refused_by}
-use Rattle.store_core.specs.Connection.{StoreValue, limits_of}
-use Rattle.store_core.specs.Stores.{IsStore}
+use Rattle.store_model.specs.Connection.{StoreValue, limits_of}
+use Rattle.store_model.specs.Stores.{IsStore}
 use Rattle.store_core.specs.Readings.{spot_read}
 use Rattle.store_core.specs.Reads.{GivesObject}
-use Rattle.store_core.specs.States.{object_in, refusal}
+use Rattle.store_model.specs.States.{object_in, refusal}
 
 -- ---- what is found
 

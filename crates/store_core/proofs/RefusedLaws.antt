@@ -7,9 +7,9 @@ use Rattle.store_core.specs.declared.answers.Refusal.{Refusal}
 use Rattle.store_core.specs.declared.answers.Refusal.TheVariants as why
 use Rattle.store_core.specs.Answers.{AnswersChange, facts_at, refusal_for, refused_by, refused_reply}
 use Rattle.store_core.specs.Plans.{AcceptsName}
-use Rattle.store_core.specs.Connection.{StoreValue, limits_of, state_of}
-use Rattle.store_core.specs.States.{Facts, Limits, State, Step, facts_of, refusal}
-use Rattle.store_core.specs.Stores.{IsStore}
+use Rattle.store_model.specs.Connection.{StoreValue, limits_of, state_of}
+use Rattle.store_model.specs.States.{Facts, Limits, State, Step, facts_of, refusal}
+use Rattle.store_model.specs.Stores.{IsStore}
 use Rattle.store_core.proofs.StepLaws.{facts_same, refused_step}
 
 pub not_none : {A : Type 0} {P : Type 0} (o : Option A) (x : A) → o ≡ Some x → IsNone o → P

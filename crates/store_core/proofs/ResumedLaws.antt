@@ -39,16 +39,16 @@ use Rattle.flush_run.proofs.LaidPlaceLaws.{new_cap}
 use Rattle.reopen.specs.declared.fault.OpenFault.TheVariants as fault_of
 use Rattle.reopen.specs.declared.state.Loaded.{Loaded}
 use Rattle.reopen.specs.Loads.{KeepsLoaded}
-use Rattle.store_core.specs.Plain.{IsPlainFrom, plain_seen}
-use Rattle.store_core.specs.Connection.{StoreValue, opened_store}
-use Rattle.store_core.specs.Flushed.{IsFlushed}
-use Rattle.store_core.specs.Opened.{ContinuesFrom, IsFresh, IsOpened, IsOpening, LeavesAlone, MostCallsOf, MovesOn, OpenCallsOf, OpensFound}
-use Rattle.store_core.specs.Resuming.{MakesStore, PacksAgain, StartsAgain}
+use Rattle.store_model.specs.Plain.{IsPlainFrom, plain_seen}
+use Rattle.store_model.specs.Connection.{StoreValue, opened_store}
+use Rattle.store_model.specs.Flushed.{IsFlushed}
+use Rattle.store_model.specs.Opened.{ContinuesFrom, IsFresh, IsOpened, IsOpening, LeavesAlone, MostCallsOf, MovesOn, OpenCallsOf, OpensFound}
+use Rattle.store_model.specs.Resuming.{MakesStore, PacksAgain, StartsAgain}
 use Rattle.change_charges.proofs.EndLaws.{names_differ_all, records_lie}
 use Rattle.store_core.proofs.FlushedLaws.{ended_over, ended_rests, ended_state, ended_store}
-use Rattle.store_core.proofs.GoingLaws.{begins_within, can_told, content_again, flight, left_again, phase, some_again}
-use Rattle.store_core.proofs.MovingLaws.{hands_again, same_divisor}
-use Rattle.store_core.proofs.OpeningLaws.{found_by, found_one}
+use Rattle.store_model.proofs.GoingLaws.{begins_within, can_told, content_again, flight, left_again, phase, some_again}
+use Rattle.store_model.proofs.MovingLaws.{hands_again, same_divisor}
+use Rattle.store_model.proofs.OpeningLaws.{found_by, found_one}
 
 -- as many names may be live in version 1 as there is room for
 cap_short : (names version : ℕ) → (version == 2) ≡ false → cap names version ≡ names

@@ -9,10 +9,10 @@ use Rattle.store_core.specs.declared.answers.Refusal.{Refusal}
 use Rattle.store_core.specs.declared.answers.Done.{Done}
 use Rattle.store_core.specs.Answers.{AnswersChange, done_reply, is_disk_fault, reply_of}
 use Rattle.store_core.specs.Changes.{IsQuietChange}
-use Rattle.store_core.specs.Connection.{IsConnected, StoreValue, limits_of, state_of}
+use Rattle.store_model.specs.Connection.{IsConnected, StoreValue, limits_of, state_of}
 use Rattle.store_core.specs.Flushes.{IsFlush, ServesChange}
-use Rattle.store_core.specs.Quiet.{charges_of}
-use Rattle.store_core.specs.States.{Step}
+use Rattle.store_model.specs.Quiet.{charges_of}
+use Rattle.store_model.specs.States.{Step}
 
 -- an answer that is Ok, or a fault of the disk, has the reply of the Ok
 replied : (quiet : Bool) (result : Result Done Refusal) (P : Reply → Type 0) → AnswersChange quiet None result

@@ -7,15 +7,15 @@ use Rattle.map_model.specs.Requests.{Refused, Reply, Request}
 use Rattle.extent_table.specs.declared.spot.Spot.{Spot}
 use Rattle.placement_model.specs.Reads.{AreNamed, object_at}
 use Rattle.placement_model.proofs.ReadLaws.{get-read_at}
-use Rattle.store_core.specs.Stores.{IsStore}
-use Rattle.store_core.specs.States.{Facts, Limits, State, Served, Step, accepted, facts_of, name_of, refusal, served, unchanged}
-use Rattle.store_core.specs.Connection.{IsOver, StoreValue, base_of, limits_of, state_of}
+use Rattle.store_model.specs.Stores.{IsStore}
+use Rattle.store_model.specs.States.{Facts, Limits, State, Served, Step, accepted, facts_of, name_of, refusal, served, unchanged}
+use Rattle.store_model.specs.Connection.{IsOver, StoreValue, base_of, limits_of, state_of}
 use Rattle.store_core.specs.Answers.{AnswersRead, facts_at, refusal_for, refused_by, refused_reply, reply_of}
 use Rattle.store_core.specs.declared.answers.Refusal.{Refusal}
 use Rattle.store_core.specs.declared.answers.Refusal.TheVariants as why
-use Rattle.store_core.proofs.StateLaws.{len-read_at, listing-read_at, volume-read_at}
-use Rattle.store_core.proofs.StoreLaws.{kept_lies, now_lies}
-use Rattle.store_core.specs.Lines.{listing_of}
+use Rattle.store_model.proofs.StateLaws.{len-read_at, listing-read_at, volume-read_at}
+use Rattle.store_model.proofs.StoreLaws.{kept_lies, now_lies}
+use Rattle.store_model.specs.Lines.{listing_of}
 use Rattle.extent_table.specs.Extents.{volume_of}
 
 -- what is served, by the refusal

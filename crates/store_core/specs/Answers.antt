@@ -8,8 +8,8 @@ use Rattle.extent_table.specs.declared.spot.Spot.{Spot}
 use Rattle.store_core.specs.declared.answers.Refusal.{Refusal}
 use Rattle.store_core.specs.declared.answers.Refusal.TheVariants as why
 use Rattle.store_core.specs.declared.answers.Done.{Done}
-use Rattle.store_core.specs.States.{Facts, refusal, name_of}
-use Rattle.store_core.specs.Connection.{StoreValue, limits_of}
+use Rattle.store_model.specs.States.{Facts, refusal, name_of}
+use Rattle.store_model.specs.Connection.{StoreValue, limits_of}
 
 -- ---- refusals
 

@@ -12,8 +12,8 @@ use Rattle.table_rules.specs.Sequences.{HasSequenceUpTo}
 use Rattle.placement_model.specs.LaidOut.{shown_book}
 use Rattle.store_core.specs.declared.answers.Refusal.{Refusal}
 use Rattle.store_core.specs.declared.answers.Done.{Done}
-use Rattle.store_core.specs.Connection.{StoreValue, RestsOnTable, IsKeptImage, base_of, kept_map}
-use Rattle.store_core.specs.Quiet.{IsCharged, asked_after, charges_of, quiet_calls}
+use Rattle.store_model.specs.Connection.{StoreValue, RestsOnTable, IsKeptImage, base_of, kept_map}
+use Rattle.store_model.specs.Quiet.{IsCharged, asked_after, charges_of, quiet_calls}
 
 -- a refusal: nothing changed, and no call of the disk failed
 pub record NothingChanged (old new : StoreValue) (before now : disk.State) : Type 0 where

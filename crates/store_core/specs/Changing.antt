@@ -8,9 +8,9 @@ use Rattle.store_core.specs.declared.answers.Refusal.{Refusal}
 use Rattle.store_core.specs.declared.answers.Done.{Done}
 use Rattle.store_core.specs.Answers.{AnswersChange, is_disk_fault, refused_by}
 use Rattle.store_core.specs.Changes.{IsQuietChange, NothingChanged}
-use Rattle.store_core.specs.Connection.{IsConnected, StoreValue}
+use Rattle.store_model.specs.Connection.{IsConnected, StoreValue}
 use Rattle.store_core.specs.Flushes.{IsFlush}
-use Rattle.store_core.specs.Quiet.{charges_of}
+use Rattle.store_model.specs.Quiet.{charges_of}
 
 -- A put or a removal answers the first refusal that applies, and then nothing changed. Else it is quiet, or a
 -- flush makes it: which of the two is known before. A store that isn't broken is over its disk, and it is

@@ -22,10 +22,10 @@ use Rattle.store_core.specs.declared.answers.Refusal.{Refusal}
 use Rattle.store_core.specs.declared.answers.Done.{Done}
 use Rattle.store_core.specs.Answers.{AnswersChange, done_reply, is_disk_fault, reply_of}
 use Rattle.store_core.specs.Changes.{IsQuietChange}
-use Rattle.store_core.specs.Connection.{IsConnected, StoreValue, RestsOnTable, base_of, kept_map, limits_of, state_of}
+use Rattle.store_model.specs.Connection.{IsConnected, StoreValue, RestsOnTable, base_of, kept_map, limits_of, state_of}
 use Rattle.store_core.specs.Keeps.{now_map}
-use Rattle.store_core.specs.Quiet.{asked_after, charges_of}
-use Rattle.store_core.specs.States.{Step}
+use Rattle.store_model.specs.Quiet.{asked_after, charges_of}
+use Rattle.store_model.specs.States.{Step}
 
 -- the map of a store over a file once it is changed, and its book then
 abbrev pub map_after : StoreValue → Change → List ℕ → Map

@@ -8,8 +8,8 @@ use Rattle.extent_table.specs.Extents.{IsTable}
 use Rattle.placement_model.specs.Held.{IsFreed}
 use Rattle.placement_model.specs.LaidOut.{shown_book}
 use Rattle.store_core.specs.declared.store.Store.TheInside.{Inside}
-use Rattle.store_core.specs.Connection.{StoreValue}
-use Rattle.store_core.specs.Stores.{IsStore}
+use Rattle.store_model.specs.Connection.{StoreValue}
+use Rattle.store_model.specs.Stores.{IsStore}
 
 abbrev pub kept_of : {C : ℕ} → Inside C → StoreValue
 kept_of {C} s =

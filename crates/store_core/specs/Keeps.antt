@@ -14,7 +14,7 @@ use Rattle.placement_model.specs.Reads.{read_at}
 use Rattle.store_core.specs.declared.answers.Refusal.{Refusal}
 use Rattle.store_core.specs.declared.answers.Refusal.TheVariants as why
 use Rattle.store_core.specs.declared.answers.Done.{Done}
-use Rattle.store_core.specs.Connection.{StoreValue, RestsOnTable, base_of, kept_map}
+use Rattle.store_model.specs.Connection.{StoreValue, RestsOnTable, base_of, kept_map}
 
 -- the answer is the refusal; where there is none, a checkpoint was saved, or the disk failed
 abbrev pub AnswersKeep : Option Refusal → Result Done Refusal → Type 0

@@ -6,8 +6,8 @@ use Rattle.extent_table.specs.declared.spot.Spot.{Spot}
 use Rattle.placement_model.specs.Quiet.{QuietTo, gone_items}
 use Rattle.store_core.specs.declared.answers.Refusal.{Refusal}
 use Rattle.store_core.specs.Answers.{refused_by}
-use Rattle.store_core.specs.Connection.{StoreValue}
-use Rattle.store_core.specs.Quiet.{IsCharged, del_of, put_of}
+use Rattle.store_model.specs.Connection.{StoreValue}
+use Rattle.store_model.specs.Quiet.{IsCharged, del_of, put_of}
 
 -- the answer is the refusal, or where there is none the name
 abbrev pub AcceptsName : Option Refusal → List ℕ → Result (List ℕ) Refusal → Type 0

@@ -13,9 +13,9 @@ use Rattle.store_core.specs.declared.answers.Refusal.TheVariants as why
 use Rattle.store_core.specs.declared.answers.Moment.{Moment}
 use Rattle.store_core.specs.declared.answers.Moment.TheVariants as moment
 use Rattle.store_core.specs.Answers.{AnswersRead, refused_by, reply_of, size_at}
-use Rattle.store_core.specs.Connection.{StoreValue, limits_of, state_of}
+use Rattle.store_model.specs.Connection.{StoreValue, limits_of, state_of}
 use Rattle.store_core.specs.Reads.{GivesObject, HasSinkCause}
-use Rattle.store_core.specs.States.{State, Step, object_in}
+use Rattle.store_model.specs.States.{State, Step, object_in}
 
 -- the request for the object of a name
 abbrev pub asks_for : Moment → List ℕ → Request

@@ -7,9 +7,9 @@ ghost use Rattle.extent_table.specs.Extents.{Extents};
 ghost use Rattle.flush_run.specs.Parts.{parts_of};
 ghost use Rattle.flush_run.specs.Shelved.{items_now, phase_now};
 ghost use Rattle.change_charges.specs.Starts.{IsWith};
-ghost use Rattle.store_core.specs.Charges.{CanPut, ChargesParts, change_of};
-ghost use Rattle.store_core.specs.Flushing.{CanStartAt, IsBegun, NeedsFlushAt, IsStarted, MayBegin, StartsPlaced, StartsWaiting, TakesOut};
-ghost use Rattle.store_core.specs.Quiet.{del_of, put_of};
+ghost use Rattle.store_model.specs.Charges.{CanPut, ChargesParts, change_of};
+ghost use Rattle.store_model.specs.Flushing.{CanStartAt, IsBegun, NeedsFlushAt, IsStarted, MayBegin, StartsPlaced, StartsWaiting, TakesOut};
+ghost use Rattle.store_model.specs.Quiet.{del_of, put_of};
 ghost use Rattle.flush_plan.specs.Lifts.{KeepsLifting};
 
 use crate::held::{add_gone, add_size, free_spot};

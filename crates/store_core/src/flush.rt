@@ -13,7 +13,7 @@ ghost use Rattle.flush_run.specs.Parts.{HandsValue, parts_of};
 ghost use Rattle.flush_run.specs.Settling.{FlushEnds};
 ghost use Rattle.flush_run.specs.Shelved.{items_now, phase_now};
 ghost use Rattle.flush_plan.specs.Lifts.{KeepsLifting};
-ghost use Rattle.store_core.specs.Flushing.{CanMakeFlush, HasMadeFlush, BeforeChange, flight_of};
+ghost use Rattle.store_model.specs.Flushing.{CanMakeFlush, HasMadeFlush, BeforeChange, flight_of};
 
 use crate::begin::{StartedFlush, start_change};
 use crate::plan::Charged;
@@ -25,10 +25,10 @@ use slot_codec::Name;
 
 impl<const C: usize> Store<C> {
     ghost use Rattle.store_core.specs.Answers.{refused_by};
-    ghost use Rattle.store_core.specs.Charges.{ChargesStore, change_of};
-    ghost use Rattle.store_core.specs.Connection.{IsConnected};
+    ghost use Rattle.store_model.specs.Charges.{ChargesStore, change_of};
+    ghost use Rattle.store_model.specs.Connection.{IsConnected};
     ghost use Rattle.store_core.specs.Flushes.{ServesChange};
-    ghost use Rattle.store_core.specs.Quiet.{charges_of};
+    ghost use Rattle.store_model.specs.Quiet.{charges_of};
 
     /// Makes a change that isn't quiet, as it was charged: puts an object, or where none comes, and there are
     /// no bytes, removes a name.

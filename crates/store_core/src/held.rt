@@ -4,7 +4,7 @@ ghost use Rattle.size_class.specs.Rows.{cells_of};
 ghost use Rattle.segment_layout.specs.Books.{some_size};
 ghost use Rattle.extent_table.specs.declared.spot.Spot.{Spot as AnySpot};
 ghost use Rattle.placement_model.specs.Held.{FreesSpot};
-ghost use Rattle.store_core.specs.Quiet.{CanFree, added, sizes_at};
+ghost use Rattle.store_model.specs.Quiet.{CanFree, added, sizes_at};
 
 use data_area::Ledger;
 use extent_table::Spot;

@@ -1,5 +1,5 @@
 //! What holds of stores and of requests, as contracts of functions that do nothing.
-ghost use Rattle.std.specs.Prelude.{◌≡◌, ℕ, ◌*◌, ◌<◌, ◌≤◌, ◌^◌, List, [], IfOk, Some};
+ghost use Rattle.std.specs.Prelude.{◌≡◌, ℕ, ◌*◌, ◌<◌, ◌≤◌, ◌^◌, List, IfOk, Some};
 ghost use Rattle.slot_codec.specs.Choice.{SlotTable as FoundTable};
 ghost use Rattle.map_model.specs.Maps.{Map};
 ghost use Rattle.map_model.specs.Requests as ask;
@@ -13,11 +13,11 @@ ghost use Rattle.placement_model.specs.Laid.{settled_table};
 ghost use Rattle.extent_table.specs.Extents.{IsTable, volume_of};
 ghost use Rattle.placement_model.specs.Reads.{AreNamed};
 ghost use Rattle.store_core.specs.Answers.{facts_at};
-ghost use Rattle.store_core.specs.Connection.{IsOver, StoreValue, SameOnTable, base_of, opened_store, state_of};
-ghost use Rattle.store_core.specs.Opened.{IsFoundImage, IsOpened, SameOnFound, state_at};
-ghost use Rattle.store_core.specs.Quiet.{charges_of};
-ghost use Rattle.store_core.specs.Stores.{IsStore};
-ghost use Rattle.store_core.specs.States.{Limits, Run, State, Step, facts_of, refusal};
+ghost use Rattle.store_model.specs.Connection.{IsOver, StoreValue, SameOnTable, base_of, opened_store, state_of};
+ghost use Rattle.store_model.specs.Opened.{IsFoundImage, IsOpened, SameOnFound, state_at};
+ghost use Rattle.store_model.specs.Quiet.{charges_of};
+ghost use Rattle.store_model.specs.Stores.{IsStore};
+ghost use Rattle.store_model.specs.States.{Limits, State, Step, facts_of, refusal};
 
 use crate::Store;
 use crate::memory::{Memory, no_bytes, store_with, take_memory};
@@ -28,11 +28,6 @@ use size_class::SIZE_MAX;
 use slot_codec::{NoMemory, SuperBlock, head_len};
 use slot_pair::SlotPair;
 use std::alloc::Global;
-
-/// A run of no requests leaves the state.
-pub fn an_empty_run()
-    ensures { (limits : Limits) (s t : State) → Run limits s [] [] t → t ≡ s }
-{}
 
 /// A refused request leaves the state, and what it is refused by depends on where the objects stand
 /// and on the sequence alone.

@@ -4,7 +4,7 @@ ghost use Rattle.arrayvec.specs.ArrayVec.{array_vec_len};
 ghost use Rattle.disk_face.specs.Streams.{Puts};
 ghost use Rattle.extent_table.specs.Extents.{IsTable};
 ghost use Rattle.slot_codec.specs.Names.{IsName};
-ghost use Rattle.store_core.specs.Lines.{IsMoved, line_of, lines_of, listing_of};
+ghost use Rattle.store_model.specs.Lines.{IsMoved, line_of, lines_of, listing_of};
 ghost use Rattle.store_core.specs.Reads.{HasSinkCause};
 
 use crate::Refusal;

@@ -5,10 +5,10 @@ ghost use Rattle.disk_face.specs.Streams.{Puts};
 ghost use Rattle.extent_table.specs.Extents.{volume_of};
 ghost use Rattle.map_model.specs.Requests as ask;
 ghost use Rattle.store_core.specs.Answers.{AnswersList, refused_by};
-ghost use Rattle.store_core.specs.Connection.{IsOver, limits_of, state_of};
-ghost use Rattle.store_core.specs.Lines.{lines_of, listing_of};
+ghost use Rattle.store_model.specs.Connection.{IsOver, limits_of, state_of};
+ghost use Rattle.store_model.specs.Lines.{lines_of, listing_of};
 ghost use Rattle.store_core.specs.Reads.{HasSinkCause};
-ghost use Rattle.store_core.specs.States.{Step};
+ghost use Rattle.store_model.specs.States.{Step};
 
 use crate::lines::put_lines;
 use crate::{Refusal, Stat, Store};

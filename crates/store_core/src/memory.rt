@@ -3,8 +3,8 @@ ghost use Rattle.std.specs.Prelude.{◌≡◌, ◌≤◌, [], vec_len, IfOk};
 ghost use Rattle.size_class.specs.Classes.{zero_row};
 ghost use Rattle.size_class.specs.Rows.{cells_of};
 ghost use Rattle.segment_layout.specs.Layouts.{caps_of, grid_of};
-ghost use Rattle.store_core.specs.Connection.{opened_store};
-ghost use Rattle.store_core.specs.Resuming.{MakesStore};
+ghost use Rattle.store_model.specs.Connection.{opened_store};
+ghost use Rattle.store_model.specs.Resuming.{MakesStore};
 
 use crate::Store;
 use data_area::Ledger;

@@ -10,9 +10,9 @@ ghost use Rattle.flush_run.specs.Shelved.{items_now, phase_now};
 ghost use Rattle.flush_plan.specs.Packs.{KeepsPacking};
 ghost use Rattle.reopen.specs.Loads.{KeepsLoaded, loaded_of};
 ghost use Rattle.slot_codec.specs.Spelling.{slot_at};
-ghost use Rattle.store_core.specs.Opened.{IsCut, IsOpening};
-ghost use Rattle.store_core.specs.Plain.{IsPlainFrom};
-ghost use Rattle.store_core.specs.Resuming.{PacksAgain, StartsAgain};
+ghost use Rattle.store_model.specs.Opened.{IsCut, IsOpening};
+ghost use Rattle.store_model.specs.Plain.{IsPlainFrom};
+ghost use Rattle.store_model.specs.Resuming.{PacksAgain, StartsAgain};
 
 use crate::Store;
 use crate::laws::store_of;

@@ -1,7 +1,7 @@
 //! Whether a put or a removal is served, and what it charges. Nothing changes yet.
 ghost use Rattle.std.specs.Prelude.{◌≡◌, ◌<◌, ◌≤◌, ◌^◌, false, Ok, Err};
 ghost use Rattle.map_model.specs.Requests as ask;
-ghost use Rattle.store_core.specs.Charges.{ChargesStore, quiet_place};
+ghost use Rattle.store_model.specs.Charges.{ChargesStore, quiet_place};
 
 use crate::{Refusal, Store};
 use change_charges::{ChargeResult, charge_change};
@@ -43,8 +43,8 @@ impl<const C: usize> Charged<C> {
 impl<const C: usize> Store<C> {
     ghost use Rattle.store_core.specs.Answers.{refused_by};
     ghost use Rattle.store_core.specs.Plans.{AcceptsName};
-    ghost use Rattle.store_core.specs.Quiet.{del_of, put_of};
-    ghost use Rattle.store_core.specs.Stores.{IsStore};
+    ghost use Rattle.store_model.specs.Quiet.{del_of, put_of};
+    ghost use Rattle.store_model.specs.Stores.{IsStore};
 
     /// Charges a change on a copy of the layout: the object that a name has, and a new one of `size` bytes,
     /// which is 0 where none comes.

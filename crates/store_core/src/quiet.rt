@@ -10,7 +10,7 @@ ghost use Rattle.segment_layout.specs.Layouts.{caps_of, divisor_of, grid_of};
 ghost use Rattle.map_model.specs.Requests as ask;
 ghost use Rattle.placement_model.specs.LaidOut.{shown_book};
 ghost use Rattle.placement_model.specs.Quiet.{QuietTo, gone_items};
-ghost use Rattle.store_core.specs.Quiet.{IsCharged, added, del_of, put_of, sizes_at, writes_of};
+ghost use Rattle.store_model.specs.Quiet.{IsCharged, added, del_of, put_of, sizes_at, writes_of};
 ghost use Rattle.store_core.specs.Plans.{IsDelPlan, IsPutPlan};
 
 use crate::held::{add_gone, add_size, free_spot};
@@ -26,9 +26,9 @@ use slot_codec::Name;
 impl<const C: usize> Store<C> {
     ghost use Rattle.store_core.specs.Answers.{AnswersChange, done_reply, is_disk_fault, reply_of};
     ghost use Rattle.store_core.specs.Changes.{ChangesQuietly, IsQuietChange, NothingChanged};
-    ghost use Rattle.store_core.specs.Connection.{IsConnected, IsOver, limits_of, state_of};
-    ghost use Rattle.store_core.specs.States.{Step};
-    ghost use Rattle.store_core.specs.Stores.{IsStore};
+    ghost use Rattle.store_model.specs.Connection.{IsConnected, IsOver, limits_of, state_of};
+    ghost use Rattle.store_model.specs.States.{Step};
+    ghost use Rattle.store_model.specs.Stores.{IsStore};
 
     /// Goes back to the last checkpoint: what stood then stands now.
     pub fn back(&mut self) -> Result<(), Refusal>

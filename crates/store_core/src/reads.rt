@@ -7,8 +7,8 @@ ghost use Rattle.extent_table.specs.Extents.{IsInRange};
 ghost use Rattle.placement_model.specs.Reads.{object_at};
 ghost use Rattle.map_model.specs.Requests as ask;
 ghost use Rattle.store_core.specs.Answers.{AnswersName, AnswersNumber, AnswersRead, AnswersSpot, refused_by, size_at};
-ghost use Rattle.store_core.specs.Connection.{IsConnected, base_of};
-ghost use Rattle.store_core.specs.Stores.{IsStore};
+ghost use Rattle.store_model.specs.Connection.{IsConnected, base_of};
+ghost use Rattle.store_model.specs.Stores.{IsStore};
 ghost use Rattle.store_core.specs.Readings.{IsRead, asks_for, spot_read};
 ghost use Rattle.store_core.specs.Reads.{GivesObject, HasSinkCause};
 

@@ -26,8 +26,8 @@ pub struct Store<const C: usize> {
 }
 
 impl<const C: usize> Model for Store<C> {
-    ghost use Rattle.store_core.specs.Connection.{StoreValue};
-    ghost use Rattle.store_core.specs.Codes.{kept_code};
+    ghost use Rattle.store_model.specs.Connection.{StoreValue};
+    ghost use Rattle.store_model.specs.Codes.{kept_code};
 
     ghost Value = { StoreValue };
 
@@ -41,7 +41,7 @@ impl<const C: usize> Model for Store<C> {
 }
 
 impl<const C: usize> Store<C> {
-    ghost use Rattle.store_core.specs.Stores.{IsStore};
+    ghost use Rattle.store_model.specs.Stores.{IsStore};
 
     /// Whether a changing call of this store failed.
     pub fn is_broken(&self) -> bool

@@ -18,8 +18,8 @@ use Rattle.extent_table.specs.declared.spot.Spot.{Spot}
 use Rattle.cost_laws.specs.Paid.{AsksNext}
 use Rattle.flush_run.specs.Calls.{IsOpenRow}
 use Rattle.change_charges.specs.Sized.{IsSizedBy}
-use Rattle.store_core.specs.Connection.{StoreValue}
-use Rattle.store_core.specs.Quiet.{added, asked_after, sizes_at}
+use Rattle.store_model.specs.Connection.{StoreValue}
+use Rattle.store_model.specs.Quiet.{added, asked_after, sizes_at}
 
 -- an object of any size, where its number is below the last value after
 added-index : (row : List ℕ) (size : ℕ) → length row ≡ width → IsOpenRow (added row size) → (d : ℕ)

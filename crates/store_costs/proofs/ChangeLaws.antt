@@ -20,11 +20,11 @@ use Rattle.store_core.specs.declared.answers.Done.{Done}
 use Rattle.store_core.specs.Answers.{AnswersChange, facts_at, is_disk_fault, refusal_for, refused_by}
 use Rattle.store_core.specs.Changes.{ChangesQuietly}
 use Rattle.store_core.specs.Changing.{IsChange}
-use Rattle.store_core.specs.Connection.{StoreValue, limits_of}
+use Rattle.store_model.specs.Connection.{StoreValue, limits_of}
 use Rattle.store_core.specs.Flushes.{ChangesByFlush, IsFlush}
-use Rattle.store_core.specs.Quiet.{charges_of}
-use Rattle.store_core.specs.States.{refusal}
-use Rattle.store_core.specs.Stores.{IsStore}
+use Rattle.store_model.specs.Quiet.{charges_of}
+use Rattle.store_model.specs.States.{refusal}
+use Rattle.store_model.specs.Stores.{IsStore}
 use Rattle.store_core.proofs.ReadingLaws.{whole_if_served}
 use Rattle.store_costs.specs.Calls.{IsSound}
 use Rattle.store_costs.specs.Paid.{HasOpenLedger, HasPaid, MovesNothing, StepIsPaidFor}

@@ -22,10 +22,10 @@ use Rattle.flush_run.specs.Calls.{IsOpenRow}
 use Rattle.store_core.specs.declared.answers.Refusal.{Refusal}
 use Rattle.store_core.specs.declared.answers.Done.{Done}
 use Rattle.store_core.specs.Changes.{ChangesQuietly}
-use Rattle.store_core.specs.Connection.{StoreValue}
+use Rattle.store_model.specs.Connection.{StoreValue}
 use Rattle.store_core.specs.Flushes.{ChangesByFlush, IsFlush}
-use Rattle.store_core.specs.Quiet.{asked_after, charges_of, sizes_at}
-use Rattle.store_core.specs.Stores.{IsStore}
+use Rattle.store_model.specs.Quiet.{asked_after, charges_of, sizes_at}
+use Rattle.store_model.specs.Stores.{IsStore}
 use Rattle.store_costs.specs.Paid.{HasOpenLedger, HasPaid, StepIsPaidFor}
 use Rattle.store_costs.proofs.AskedLaws.{asks_next, length-all_added}
 use Rattle.store_costs.proofs.WeighedLaws.{same_charges, sized_now, weighed_now}

@@ -11,9 +11,9 @@ use Rattle.store_core.specs.declared.answers.Refusal.{Refusal}
 use Rattle.store_core.specs.declared.answers.Done.{Done}
 use Rattle.store_core.specs.Answers.{refused_by}
 use Rattle.store_core.specs.Changing.{IsChange}
-use Rattle.store_core.specs.Connection.{StoreValue}
+use Rattle.store_model.specs.Connection.{StoreValue}
 use Rattle.store_core.specs.Keeps.{kept_now}
-use Rattle.store_core.specs.Stores.{IsStore}
+use Rattle.store_model.specs.Stores.{IsStore}
 use Rattle.store_costs.specs.Calls.{IsKeep, gone_back}
 use Rattle.store_costs.specs.Paid.{HasPaid, MovesNothing, StepIsPaidFor}
 use Rattle.store_costs.proofs.ChangeLaws.{no_rise, same_moves_nothing}

@@ -15,11 +15,11 @@ use Rattle.move_cost.specs.Costs.{IsCost, factor, potential, weigh}
 use Rattle.cost_laws.specs.Paid.{IsPaid}
 use Rattle.cost_laws.specs.Sessions.{IsPaidFor}
 use Rattle.cost_laws.proofs.PaidLaws.{paid_first, potential_none}
-use Rattle.store_core.specs.Connection.{IsOver, StoreValue, kept_map}
+use Rattle.store_model.specs.Connection.{IsOver, StoreValue, kept_map}
 use Rattle.store_core.specs.Keeps.{now_map}
-use Rattle.store_core.specs.Opened.{IsFresh, IsOpened}
-use Rattle.store_core.specs.States.{State}
-use Rattle.store_core.specs.Stores.{IsStore}
+use Rattle.store_model.specs.Opened.{IsFresh, IsOpened}
+use Rattle.store_model.specs.States.{State}
+use Rattle.store_model.specs.Stores.{IsStore}
 use Rattle.store_costs.specs.Calls.{IsCall, Session}
 use Rattle.store_costs.specs.Paid.{HasPaid}
 use Rattle.store_costs.proofs.ChangeLaws.{change_has_paid, nothing_has_paid, same_moves_nothing}

@@ -16,11 +16,11 @@ use Rattle.cost_laws.specs.Paid.{IsWeighed}
 use Rattle.change_charges.specs.Sized.{IsSizedBy}
 use Rattle.change_charges.proofs.EndLaws.{blank, in_blank, shown_balanced}
 use Rattle.change_charges.proofs.SizedLaws.{sized_read}
-use Rattle.store_core.specs.Connection.{IsOver, StoreValue, base_of, kept_map}
+use Rattle.store_model.specs.Connection.{IsOver, StoreValue, base_of, kept_map}
 use Rattle.store_core.specs.Keeps.{now_map}
-use Rattle.store_core.specs.Quiet.{charges_of}
-use Rattle.store_core.specs.Stores.{IsStore}
-use Rattle.store_core.proofs.StoreLaws.{kept_lies, now_lies}
+use Rattle.store_model.specs.Quiet.{charges_of}
+use Rattle.store_model.specs.Stores.{IsStore}
+use Rattle.store_model.proofs.StoreLaws.{kept_lies, now_lies}
 
 module _ {C : ℕ} (s : StoreValue) (h : IsStore C s) where
   abbrev k : ℕ

@@ -9,9 +9,9 @@ use Rattle.store_core.specs.declared.answers.Done.{Done}
 use Rattle.store_core.specs.Answers.{is_disk_fault, refused_by}
 use Rattle.store_core.specs.Changes.{NothingChanged}
 use Rattle.store_core.specs.Changing.{IsChange}
-use Rattle.store_core.specs.Connection.{StoreValue}
+use Rattle.store_model.specs.Connection.{StoreValue}
 use Rattle.store_core.specs.Keeps.{AnswersKeep, KeepsNow}
-use Rattle.store_core.specs.Stores.{IsStore}
+use Rattle.store_model.specs.Stores.{IsStore}
 use Rattle.store_costs.specs.Paid.{HasOpenLedger}
 
 -- a store is sound unless it is broken

@@ -4,7 +4,7 @@ use Rattle.size_class.specs.Classes.{width}
 use Rattle.cost_laws.specs.Moves.{rise}
 use Rattle.cost_laws.specs.Paid.{ArePaid, IsPaid}
 use Rattle.flush_run.specs.Calls.{IsOpenRow}
-use Rattle.store_core.specs.Connection.{StoreValue}
+use Rattle.store_model.specs.Connection.{StoreValue}
 
 -- no number of a store's ledger stands at its last value
 pub record HasOpenLedger (s : StoreValue) : Type 0 where

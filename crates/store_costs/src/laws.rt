@@ -11,10 +11,10 @@ ghost use Rattle.store_core.specs.declared.answers.Refusal.{Refusal};
 ghost use Rattle.store_core.specs.declared.answers.Done.{Done};
 ghost use Rattle.store_core.specs.Answers.{refused_by};
 ghost use Rattle.store_core.specs.Changing.{IsChange};
-ghost use Rattle.store_core.specs.Connection.{IsOver, StoreValue, kept_map};
+ghost use Rattle.store_model.specs.Connection.{IsOver, StoreValue, kept_map};
 ghost use Rattle.store_core.specs.Keeps.{now_map};
-ghost use Rattle.store_core.specs.Opened.{IsFresh, IsOpened};
-ghost use Rattle.store_core.specs.Stores.{IsStore};
+ghost use Rattle.store_model.specs.Opened.{IsFresh, IsOpened};
+ghost use Rattle.store_model.specs.Stores.{IsStore};
 ghost use Rattle.store_costs.specs.Calls.{IsCall, IsCounted, IsKeep, Session, gone_back};
 ghost use Rattle.store_costs.specs.Paid.{HasPaid, MovesNothing, StepIsPaidFor};
 

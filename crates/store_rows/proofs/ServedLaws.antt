@@ -9,7 +9,7 @@ use Rattle.store_core.specs.declared.answers.Refusal.{Refusal}
 use Rattle.store_core.specs.declared.answers.Done.{Done}
 use Rattle.store_core.specs.Changes.{IsQuietChange, NothingChanged}
 use Rattle.store_core.specs.Changing.{IsChange}
-use Rattle.store_core.specs.Connection.{IsConnected, IsOver, StoreValue}
+use Rattle.store_model.specs.Connection.{IsConnected, IsOver, StoreValue}
 use Rattle.store_core.specs.Flushes.{IsFlush}
 use Rattle.store_core.specs.Keeps.{KeepsNow}
 use Rattle.store_rows.specs.Served.{IsServed}

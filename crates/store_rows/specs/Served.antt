@@ -2,7 +2,7 @@
 use Rattle.std.specs.Prelude.{ℕ, IsTrue}
 use Rattle.size_class.specs.declared.TheConstants.{CLASSES}
 use Rattle.disk_face.specs.States as disk
-use Rattle.store_core.specs.Connection.{IsConnected, StoreValue}
+use Rattle.store_model.specs.Connection.{IsConnected, StoreValue}
 
 -- a store and its disk, between two requests
 pub record IsServed (s : StoreValue) (d : disk.State) : Type 0 where

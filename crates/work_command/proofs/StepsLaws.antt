@@ -14,8 +14,8 @@ use Rattle.size_class.specs.declared.TheConstants.{CLASSES, SIZE_MAX}
 use Rattle.map_model.specs.Maps.{Map}
 use Rattle.segment_layout.specs.Books.{Book}
 use Rattle.table_rules.specs.Opening.{Opens}
-use Rattle.store_core.specs.Connection.{StoreValue}
-use Rattle.store_core.specs.Opened.{IsOpening, RefusesStore}
+use Rattle.store_model.specs.Connection.{StoreValue}
+use Rattle.store_model.specs.Opened.{IsOpening, RefusesStore}
 use Rattle.reopen.specs.declared.fault.OpenFault.{OpenFault}
 use Rattle.command_face.specs.Mounting.{IsMounted, mounted}
 use Rattle.work_command.specs.Steps.{OpenWorkSteps, WorkSteps, IsAllDone, IsNotBegun, IsRefusal, IsStopped}

@@ -7,8 +7,8 @@ use Rattle.disk_face.specs.States.{State}
 use Rattle.disk_face.specs.Streams.{Puts, SinkState}
 use Rattle.disk_face.specs.declared.bay.Mounted.TheVariants.{There}
 use Rattle.size_class.specs.declared.TheConstants.{CLASSES}
-use Rattle.store_core.specs.Connection.{StoreValue}
-use Rattle.store_core.specs.Opened.{IsOpening}
+use Rattle.store_model.specs.Connection.{StoreValue}
+use Rattle.store_model.specs.Opened.{IsOpening}
 use Rattle.work_session.specs.Works.{HasDone, HasStopped}
 use Rattle.work_session.specs.declared.summary.Summary.{Summary}
 use Rattle.work_command.specs.Steps.{OpenWorkSteps, WorkSteps, jobs_of}

@@ -17,11 +17,11 @@ use Rattle.segment_layout.specs.Books.{Book, book_end}
 use Rattle.table_rules.specs.Opening.{Opens, OpensBy}
 use Rattle.table_rules.specs.Sequences.{HasSequenceUpTo}
 use Rattle.table_rules.proofs.SequenceLaws.{sequence_wider}
-use Rattle.store_core.specs.Connection.{IsOver, StoreValue, base_of, limits_of, state_of}
-use Rattle.store_core.specs.States as store
-use Rattle.store_core.specs.States.{Chain}
-use Rattle.store_core.specs.Opened.{IsFoundImage, LeavesRoom, RestsOnFound, found_base}
-use Rattle.store_core.proofs.OpeningLaws.{found_image}
+use Rattle.store_model.specs.Connection.{IsOver, StoreValue, base_of, limits_of, state_of}
+use Rattle.store_model.specs.States as store
+use Rattle.store_model.specs.States.{Chain}
+use Rattle.store_model.specs.Opened.{IsFoundImage, LeavesRoom, RestsOnFound, found_base}
+use Rattle.store_model.proofs.OpeningLaws.{found_image}
 use Rattle.ask_session.specs.Runs as run
 use Rattle.ask_session.specs.Runs.{IsRunImage, IsStepImage, last_state, most_sequence}
 use Rattle.ask_session.proofs.RunLaws.{opens_with}

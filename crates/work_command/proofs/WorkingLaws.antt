@@ -13,12 +13,12 @@ use Rattle.slot_pair.specs.declared.find.SlotFault.TheVariants as slot
 use Rattle.map_model.specs.Maps.{Map}
 use Rattle.segment_layout.specs.Books.{Book}
 use Rattle.table_rules.specs.Opening.{OpensBy}
-use Rattle.store_core.specs.Connection.{StoreValue}
-use Rattle.store_core.specs.States as store
-use Rattle.store_core.specs.Opened.{IsFoundImage, IsOpening, LeavesRoom, RestsOnFound, SameOnFound, state_at}
+use Rattle.store_model.specs.Connection.{StoreValue}
+use Rattle.store_model.specs.States as store
+use Rattle.store_model.specs.Opened.{IsFoundImage, IsOpening, LeavesRoom, RestsOnFound, SameOnFound, state_at}
 use Rattle.reopen.specs.declared.fault.OpenFault.{OpenFault}
 use Rattle.reopen.specs.declared.fault.OpenFault.TheVariants as opening
-use Rattle.store_core.specs.Plain.{IsPlain}
+use Rattle.store_model.specs.Plain.{IsPlain}
 use Rattle.work_command.specs.Steps.{OpenWorkSteps, WorkSteps, IsAllDone, IsNotBegun, IsRefusal, IsStopped}
 use Rattle.command_face.specs.Refusing.{stop_of}
 use Rattle.served_file.specs.Served.{IsNextStart, Starts, found_with}

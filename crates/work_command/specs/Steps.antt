@@ -7,8 +7,8 @@ use Rattle.disk_face.specs.Streams.{Puts}
 use Rattle.disk_face.specs.declared.bay.Mounted.TheVariants.{There}
 use Rattle.size_class.specs.declared.TheConstants.{CLASSES}
 use Rattle.map_model.specs.Requests.{Request}
-use Rattle.store_core.specs.Connection.{StoreValue}
-use Rattle.store_core.specs.Opened.{IsOpening}
+use Rattle.store_model.specs.Connection.{StoreValue}
+use Rattle.store_model.specs.Opened.{IsOpening}
 use Rattle.reopen.specs.declared.fault.OpenFault.{OpenFault}
 use Rattle.work_maker.specs.Jobs.{jobs}
 use Rattle.work_session.specs.Works.{HasDone, HasStopped}

@@ -15,9 +15,9 @@ use Rattle.map_model.specs.Requests.{Reply, Request}
 use Rattle.segment_layout.specs.Books.{Book, book_end}
 use Rattle.table_rules.specs.Opening.{OpensBy}
 use Rattle.table_rules.specs.Sequences.{HasSequenceUpTo}
-use Rattle.store_core.specs.States.{State}
-use Rattle.store_core.specs.Plain.{IsPlain}
-use Rattle.store_core.specs.Opened.{ContinuesFrom, LeavesRoom, RestsOnFound, found_base}
+use Rattle.store_model.specs.States.{State}
+use Rattle.store_model.specs.Plain.{IsPlain}
+use Rattle.store_model.specs.Opened.{ContinuesFrom, LeavesRoom, RestsOnFound, found_base}
 use Rattle.ask_session.specs.Runs as run
 use Rattle.ask_session.specs.Runs.{last_state}
 use Rattle.work_maker.specs.Jobs.{jobs}

@@ -1,8 +1,8 @@
 //! The command `work`: the jobs of a number over a file, and their summary.
 ghost use Rattle.std.specs.Prelude.{◌≡◌, ◌≤◌, false, None, Ok, IsTrue};
 ghost use Rattle.size_class.specs.declared.TheConstants.{CLASSES};
-ghost use Rattle.store_core.specs.Connection.{IsConnected};
-ghost use Rattle.store_core.specs.Opened.{IsFresh, IsOpening};
+ghost use Rattle.store_model.specs.Connection.{IsConnected};
+ghost use Rattle.store_model.specs.Opened.{IsFresh, IsOpening};
 ghost use Rattle.command_face.specs.Mounting.{IsMounted};
 ghost use Rattle.work_command.specs.Steps.{OpenWorkSteps, WorkSteps};
 ghost use Rattle.served_file.specs.Unserved.{IsRefusedService, NeverServed};

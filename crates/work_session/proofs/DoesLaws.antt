@@ -11,7 +11,7 @@ use Rattle.slot_pair.specs.Saves.{save_calls}
 use Rattle.map_model.specs.Requests as ask
 use Rattle.map_model.specs.Requests.{Change, Refused, Reply, Request}
 use Rattle.extent_table.specs.declared.spot.Spot.{Spot}
-use Rattle.store_core.proofs.StateLaws.{len-read_at}
+use Rattle.store_model.proofs.StateLaws.{len-read_at}
 use Rattle.store_core.specs.declared.answers.Refusal.{Refusal}
 use Rattle.store_core.specs.declared.answers.Refusal.TheVariants as why
 use Rattle.store_core.specs.declared.answers.Done.{Done}
@@ -19,14 +19,14 @@ use Rattle.store_core.specs.Answers.{AnswersChange, AnswersNumber, AnswersRead, 
 use Rattle.store_core.specs.Answers as store
 use Rattle.store_core.specs.Changes.{NothingChanged}
 use Rattle.store_core.specs.Changing.{IsChange}
-use Rattle.store_core.specs.Connection.{IsConnected, StoreValue, base_of, limits_of, state_of}
+use Rattle.store_model.specs.Connection.{IsConnected, StoreValue, base_of, limits_of, state_of}
 use Rattle.store_core.specs.Keeps.{AnswersKeep, kept_now}
-use Rattle.store_core.specs.Quiet.{charges_of}
-use Rattle.store_core.specs.States.{Served, State, Step, object_in}
-use Rattle.store_core.specs.Stores.{IsStore}
+use Rattle.store_model.specs.Quiet.{charges_of}
+use Rattle.store_model.specs.States.{Served, State, Step, object_in}
+use Rattle.store_model.specs.Stores.{IsStore}
 use Rattle.store_core.proofs.CauseLaws.{calm_disk, disk_cause_as}
 use Rattle.store_core.proofs.StepLaws.{always}
-use Rattle.store_core.proofs.StoreLaws.{small_if_there}
+use Rattle.store_model.proofs.StoreLaws.{small_if_there}
 use Rattle.segment_layout.specs.Books.{is_quiet}
 use Rattle.store_costs.specs.Calls.{IsKeep}
 use Rattle.store_costs.proofs.ChangeLaws.{same_moves_nothing}

@@ -30,13 +30,13 @@ use Rattle.store_core.specs.declared.answers.Done.{Done}
 use Rattle.store_core.specs.Answers.{AnswersChange, done_reply, refused_by}
 use Rattle.store_core.specs.Changes.{ChangesQuietly}
 use Rattle.store_core.specs.Changing.{IsChange}
-use Rattle.store_core.specs.Connection.{IsOver, StoreValue, base_of, limits_of, state_of}
+use Rattle.store_model.specs.Connection.{IsOver, StoreValue, base_of, limits_of, state_of}
 use Rattle.store_core.specs.Flushes.{ChangesByFlush, IsFlush, names_after, size_after}
 use Rattle.store_core.specs.Keeps.{now_map}
-use Rattle.store_core.specs.Quiet.{asked_after, charges_of, del_of, put_of, sizes_at}
-use Rattle.store_core.specs.States.{State, Step}
-use Rattle.store_core.specs.Stores.{IsStore}
-use Rattle.store_core.proofs.StoreLaws.{few_bytes, now_lies, small_if_there}
+use Rattle.store_model.specs.Quiet.{asked_after, charges_of, del_of, put_of, sizes_at}
+use Rattle.store_model.specs.States.{State, Step}
+use Rattle.store_model.specs.Stores.{IsStore}
+use Rattle.store_model.proofs.StoreLaws.{few_bytes, now_lies, small_if_there}
 use Rattle.store_costs.specs.Paid.{HasOpenLedger, HasPaid, MovesNothing}
 use Rattle.store_costs.proofs.ChangeLaws.{change_has_paid, nothing_has_paid}
 use Rattle.store_costs.proofs.MadeLaws.{flush_next, quiet_next}

@@ -9,9 +9,9 @@ use Rattle.map_model.specs.Requests as ask
 use Rattle.map_model.specs.Requests.{Reply, Request}
 use Rattle.move_cost.specs.Costs.{linear, potential}
 use Rattle.move_cost.specs.Lawful.{linear_is}
-use Rattle.store_core.specs.Connection.{StoreValue, limits_of, state_of}
-use Rattle.store_core.specs.Opened.{IsFresh}
-use Rattle.store_core.specs.States.{Chain, Limits, State}
+use Rattle.store_model.specs.Connection.{StoreValue, limits_of, state_of}
+use Rattle.store_model.specs.Opened.{IsFresh}
+use Rattle.store_model.specs.States.{Chain, Limits, State}
 use Rattle.store_costs.specs.Paid.{HasOpenLedger}
 use Rattle.store_costs.proofs.SessionLaws.{opened_has_paid}
 use Rattle.ask_text.specs.Replies.{reply_line_of}

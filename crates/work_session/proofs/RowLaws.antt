@@ -13,7 +13,7 @@ use Rattle.map_model.proofs.MapLaws.{sum_by-map}
 use Rattle.segment_layout.specs.Books.{volumes}
 use Rattle.segment_layout.proofs.BalanceLaws.{bytes_in}
 use Rattle.segment_layout.proofs.BookLaws.{volumes_of_sizes-index}
-use Rattle.store_core.specs.Quiet.{added}
+use Rattle.store_model.specs.Quiet.{added}
 
 -- ---- how far a row rises
 

@@ -10,11 +10,11 @@ use Rattle.segment_layout.specs.Books.{book_end}
 use Rattle.change_charges.proofs.SizedLaws.{sized_volume}
 use Rattle.move_cost.specs.Costs.{IsCost, factor, flat, linear, potential, seek}
 use Rattle.move_cost.specs.Lawful.{flat_is, linear_is, seek_is}
-use Rattle.store_core.specs.Connection.{IsOver, StoreValue, base_of, state_of}
-use Rattle.store_core.specs.States.{State}
-use Rattle.store_core.proofs.OverLaws.{kept_image}
-use Rattle.store_core.proofs.StateLaws.{len-read_at}
-use Rattle.store_core.proofs.StoreLaws.{now_lies}
+use Rattle.store_model.specs.Connection.{IsOver, StoreValue, base_of, state_of}
+use Rattle.store_model.specs.States.{State}
+use Rattle.store_model.proofs.OverLaws.{kept_image}
+use Rattle.store_model.proofs.StateLaws.{len-read_at}
+use Rattle.store_model.proofs.StoreLaws.{now_lies}
 use Rattle.store_costs.proofs.SessionLaws.{in_all}
 use Rattle.store_costs.proofs.WeighedLaws.{sized_now}
 use Rattle.ask_session.specs.Runs.{OpensToKept, last_state}

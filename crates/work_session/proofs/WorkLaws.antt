@@ -14,9 +14,9 @@ use Rattle.map_model.specs.Requests.{Reply, Request}
 use Rattle.segment_layout.specs.Bounds.{Loose}
 use Rattle.table_rules.specs.Sequences.{HasSequenceUpTo}
 use Rattle.table_rules.proofs.SequenceLaws.{sequence_wider}
-use Rattle.store_core.specs.Connection.{IsConnected, StoreValue, base_of, limits_of, state_of}
-use Rattle.store_core.specs.States.{Limits, State, Step}
-use Rattle.store_core.specs.Stores.{IsStore}
+use Rattle.store_model.specs.Connection.{IsConnected, StoreValue, base_of, limits_of, state_of}
+use Rattle.store_model.specs.States.{Limits, State, Step}
+use Rattle.store_model.specs.Stores.{IsStore}
 use Rattle.ask_session.specs.declared.ends.End.{End}
 use Rattle.ask_session.specs.declared.ends.End.TheVariants as ends
 use Rattle.ask_session.specs.Serving.{IsServingImage, Serves, is_changing, reply_at, served_at}

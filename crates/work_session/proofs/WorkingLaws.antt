@@ -3,8 +3,8 @@ use Rattle.std.specs.Prelude.{◌≡◌, ℕ, ◌+◌, ◌≤◌, List, [], ◌�
 use Rattle.std.proofs.Common.{arith, ap, sym, ◌∙◌, subst, append_assoc, length-append}
 use Rattle.disk_face.specs.States as disk
 use Rattle.map_model.specs.Requests.{Request}
-use Rattle.store_core.specs.Connection.{IsConnected, StoreValue, state_of}
-use Rattle.store_core.specs.Opened.{IsFresh}
+use Rattle.store_model.specs.Connection.{IsConnected, StoreValue, state_of}
+use Rattle.store_model.specs.Opened.{IsFresh}
 use Rattle.ask_text.specs.declared.reply.Reply as text
 use Rattle.ask_session.specs.declared.ends.End.{End}
 use Rattle.ask_session.specs.Serving.{reply_at}

@@ -5,8 +5,8 @@ use Rattle.slot_pair.specs.Saves.{save_calls}
 use Rattle.map_model.specs.Requests as ask
 use Rattle.map_model.specs.Requests.{Reply, Request}
 use Rattle.cost_laws.specs.Asked.{asked_row}
-use Rattle.store_core.specs.Quiet.{quiet_calls}
-use Rattle.store_core.specs.States.{State}
+use Rattle.store_model.specs.Quiet.{quiet_calls}
+use Rattle.store_model.specs.States.{State}
 
 -- ---- replies
 

@@ -9,9 +9,9 @@ use Rattle.map_model.specs.Requests.{Request}
 use Rattle.placement_model.specs.Limits.{most_bytes}
 use Rattle.flush_run.specs.Calls.{move_calls, risen}
 use Rattle.move_cost.specs.Costs.{IsCost, potential}
-use Rattle.store_core.specs.Connection.{StoreValue, state_of}
-use Rattle.store_core.specs.States.{State}
-use Rattle.store_core.specs.Stores.{IsStore}
+use Rattle.store_model.specs.Connection.{StoreValue, state_of}
+use Rattle.store_model.specs.States.{State}
+use Rattle.store_model.specs.Stores.{IsStore}
 use Rattle.store_costs.specs.Paid.{HasOpenLedger, HasPaid}
 use Rattle.ask_text.specs.Replies.{reply_line_of}
 use Rattle.ask_text.specs.declared.reply.Reply.{Reply}

@@ -15,9 +15,9 @@ use Rattle.segment_layout.specs.Bounds.{Loose}
 use Rattle.table_rules.specs.Opening.{Opens}
 use Rattle.table_rules.specs.Sequences.{HasSequenceUpTo}
 use Rattle.move_cost.specs.Costs.{factor, flat, linear, potential, seek, weigh}
-use Rattle.store_core.specs.Connection.{IsConnected, StoreValue, RestsOnTable, base_of, limits_of, state_of}
-use Rattle.store_core.specs.States.{Chain, Limits, State, served}
-use Rattle.store_core.specs.Stores.{IsStore}
+use Rattle.store_model.specs.Connection.{IsConnected, StoreValue, RestsOnTable, base_of, limits_of, state_of}
+use Rattle.store_model.specs.States.{Chain, Limits, State, served}
+use Rattle.store_model.specs.Stores.{IsStore}
 use Rattle.ask_session.specs.Runs.{IsRunImage, OpensToKept, last_state, most_sequence}
 use Rattle.work_session.specs.declared.summary.Cost.{Cost}
 use Rattle.work_session.specs.declared.summary.Summary.{Summary}

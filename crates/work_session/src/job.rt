@@ -1,8 +1,8 @@
 //! One job, done by a store.
 ghost use Rattle.std.specs.Prelude.{◌≡◌, ◌≤◌, ◌^◌, ◌<◌, ℕ, List, false, IsTrue, length};
-ghost use Rattle.store_core.specs.Connection.{IsConnected};
-ghost use Rattle.store_core.specs.Quiet.{del_of, put_of};
-ghost use Rattle.store_core.specs.Stores.{IsStore};
+ghost use Rattle.store_model.specs.Connection.{IsConnected};
+ghost use Rattle.store_model.specs.Quiet.{del_of, put_of};
+ghost use Rattle.store_model.specs.Stores.{IsStore};
 ghost use Rattle.map_model.specs.Requests as ask;
 ghost use Rattle.work_maker.specs.Jobs.{counting_bytes};
 ghost use Rattle.work_maker.specs.Making.{asked_by};

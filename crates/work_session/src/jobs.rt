@@ -1,7 +1,7 @@
 //! Jobs, done one after another.
 ghost use Rattle.std.specs.Prelude.{◌≡◌, ◌≤◌, ◌^◌, [], false, IfOk, IsTrue, OnErr, length};
-ghost use Rattle.store_core.specs.Connection.{IsConnected};
-ghost use Rattle.store_core.specs.Opened.{IsFresh};
+ghost use Rattle.store_model.specs.Connection.{IsConnected};
+ghost use Rattle.store_model.specs.Opened.{IsFresh};
 ghost use Rattle.work_maker.specs.Making.{jobs_left};
 ghost use Rattle.work_session.specs.Jobs.{IsPattern, IsWorking};
 ghost use Rattle.work_session.specs.Works.{HasStopped};

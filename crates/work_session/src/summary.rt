@@ -5,7 +5,7 @@ ghost use Rattle.byte_ranges.specs.Lists.{sum_below};
 ghost use Rattle.size_class.specs.Rows.{cells_of};
 ghost use Rattle.extent_table.specs.Extents.{volume_of};
 ghost use Rattle.segment_layout.specs.Books.{book_end};
-ghost use Rattle.store_core.specs.Stores.{IsStore};
+ghost use Rattle.store_model.specs.Stores.{IsStore};
 ghost use Rattle.work_session.specs.Jobs.{HasTally};
 ghost use Rattle.work_session.specs.Works.{EndsAt, IsLine, LinesOf};
 

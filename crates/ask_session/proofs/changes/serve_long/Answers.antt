@@ -1,6 +1,6 @@
 use Rattle.std.proofs.Common.{◌≡◌, true, false, arith, refl}
 use Rattle.slot_codec.specs.Names.{is_name}
-use Rattle.store_core.specs.Quiet.{put_of}
+use Rattle.store_model.specs.Quiet.{put_of}
 use Rattle.map_model.specs.Requests as ask
 use Rattle.ask_session.proofs.AnswerLaws.{long_is_refused, name_is_refused, refused_head}
 use Rattle.store_core.proofs.ChangingLaws.{unchanged_itself}

@@ -1,6 +1,6 @@
 use Rattle.std.proofs.Common.{sym, subst}
 use Rattle.store_core.specs.Answers.{refused_by, size_at}
-use Rattle.store_core.specs.Connection.{StoreValue, limits_of, state_of}
+use Rattle.store_model.specs.Connection.{StoreValue, limits_of, state_of}
 use Rattle.store_core.specs.Readings.{asks_for, object_read, spot_read}
 use Rattle.ask_session.specs.Serving.{Replies}
 use Rattle.ask_session.proofs.ReadReplyLaws.{asks_only, calls_none, cut_replies, found_replies, number_refused, number_served, object_long, object_served, refused_replies}

@@ -1,5 +1,5 @@
 use Rattle.std.proofs.Common.{◌≡◌, List, ℕ, ap, sym, subst, ◌∙◌}
-use Rattle.store_core.specs.Quiet.{del_of, put_of}
+use Rattle.store_model.specs.Quiet.{del_of, put_of}
 use Rattle.map_model.specs.Requests.{Request}
 use Rattle.map_model.specs.Requests as request
 use Rattle.ask_session.specs.Serving.{Replies}

@@ -2,8 +2,8 @@ use Rattle.std.specs.Prelude.{◌≡◌, Bool, List, ℕ, true, false, length}
 use Rattle.std.proofs.Common.{arith, lit<, subst, sym}
 use Rattle.flush_run.specs.Parts.{parts_of}
 use Rattle.flush_run.specs.Shelved.{phase_now}
-use Rattle.store_core.specs.Charges.{CanPut, ChargesParts, change_of}
-use Rattle.store_core.specs.Flushing.{IsBegun, NeedsFlushAt}
+use Rattle.store_model.specs.Charges.{CanPut, ChargesParts, change_of}
+use Rattle.store_model.specs.Flushing.{IsBegun, NeedsFlushAt}
 use Rattle.store_core.proofs.begin.start_change.Goals as goal
 
 pub start_put-requires : goal.start_put-requires

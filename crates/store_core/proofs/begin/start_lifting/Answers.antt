@@ -4,7 +4,7 @@ use Rattle.segment_layout.specs.Layouts.{caps_of, divisor_of}
 use Rattle.flush_run.specs.Hands.{suffix_items}
 use Rattle.flush_plan.specs.Lifts.{KeepsLifting}
 use Rattle.flush_plan.specs.Shelves.{course_of}
-use Rattle.store_core.proofs.BeginLaws.{items_from, start_begins, start_flush, start_low, start_on_shelf, started_now}
+use Rattle.store_model.proofs.BeginLaws.{items_from, start_begins, start_flush, start_low, start_on_shelf, started_now}
 use Rattle.store_core.proofs.begin.start_lifting.Goals as goal
 
 pub numbers-found-requires : goal.numbers-found-requires

@@ -8,7 +8,7 @@ use Rattle.change_charges.specs.Starts.{IsWith}
 use Rattle.change_charges.proofs.ChargedLaws.{class_low}
 use Rattle.flush_plan.specs.Shelves.{course_of}
 use Rattle.size_class.specs.declared.TheConstants.{SIZE_MAX}
-use Rattle.store_core.proofs.BeginLaws.{items_waiting, start_flush, start_holds, start_low, start_on_shelf, start_reach, start_waits}
+use Rattle.store_model.proofs.BeginLaws.{items_waiting, start_flush, start_holds, start_low, start_on_shelf, start_reach, start_waits}
 use Rattle.store_core.proofs.begin.start_waiting.Goals as goal
 
 pub numbers-found-requires : goal.numbers-found-requires

@@ -1,5 +1,5 @@
 use Rattle.std.proofs.Common.{◌∙◌, lit<, refl, sym}
-use Rattle.store_core.proofs.ChargedLaws.{old_can_free, old_small}
+use Rattle.store_model.proofs.ChargedLaws.{old_can_free, old_small}
 use Rattle.store_core.proofs.begin.take_out.Goals as goal
 
 pub free_spot-requires : goal.free_spot-requires

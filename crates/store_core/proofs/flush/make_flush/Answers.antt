@@ -1,6 +1,6 @@
 use Rattle.std.proofs.Common.{IsTrue, arith, lit<, rules, subst, sym}
 use Rattle.flush_run.proofs.LeftLaws.{left_then}
-use Rattle.store_core.proofs.MakeFlushLaws.{can_run, flown_then, grow_failed, write_within, written_flies, written_left}
+use Rattle.store_model.proofs.MakeFlushLaws.{can_run, flown_then, grow_failed, write_within, written_flies, written_left}
 use Rattle.store_core.proofs.flush.make_flush.Goals as goal
 
 pub returns-in_err-set_len-clause-left : goal.returns-in_err-set_len-clause-left

@@ -1,5 +1,5 @@
 use Rattle.std.proofs.Common.{arith, lit<}
-use Rattle.store_core.proofs.ChargeLaws.{class_low}
+use Rattle.store_model.proofs.ChargeLaws.{class_low}
 use Rattle.store_core.proofs.held.add_size.Goals as goal
 
 pub add-requires : goal.add-requires

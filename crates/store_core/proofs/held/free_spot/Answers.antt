@@ -1,7 +1,7 @@
 use Rattle.std.proofs.Common.{◌∙◌, ap, sym, refl, Some}
 use Rattle.extent_table.specs.declared.spot.Spot.{Spot}
 use Rattle.placement_model.proofs.FreedLaws.{frees_joined}
-use Rattle.store_core.proofs.HeldLaws.{same_spot}
+use Rattle.store_model.proofs.HeldLaws.{same_spot}
 use Rattle.store_core.proofs.held.free_spot.Goals as goal
 
 pub freed-requires-clause-apart : goal.freed-requires-clause-apart

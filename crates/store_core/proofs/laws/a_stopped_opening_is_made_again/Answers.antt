@@ -1,4 +1,4 @@
-use Rattle.store_core.proofs.OpeningLaws.{alike_found, alike_itself, opened_again}
+use Rattle.store_model.proofs.OpeningLaws.{alike_found, alike_itself, opened_again}
 use Rattle.store_core.proofs.laws.a_stopped_opening_is_made_again.Goals as goal
 
 pub returns-clause-state : goal.returns-clause-state

@@ -7,7 +7,7 @@ use Rattle.segment_layout.specs.Layouts.{caps_of, grid_of}
 use Rattle.table_rules.specs.Rules.{IsValid}
 use Rattle.extent_table.specs.Extents.{Extents, IsTable}
 use Rattle.placement_model.specs.Laid.{settled_table}
-use Rattle.store_core.specs.Resuming.{MakesStore}
+use Rattle.store_model.specs.Resuming.{MakesStore}
 use Rattle.store_core.proofs.laws.store_of.Goals as goal
 
 pub store_with-requires : goal.store_with-requires

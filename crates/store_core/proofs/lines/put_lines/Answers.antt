@@ -1,6 +1,6 @@
 use Rattle.std.proofs.Common.{◌∙◌, rules, arith, IsTrue}
 use Rattle.store_core.proofs.CauseLaws.{sink_cause_after, sink_cause_as}
-use Rattle.store_core.proofs.LineLaws.{gathered_all, gathered_front, gathered_more}
+use Rattle.store_model.proofs.LineLaws.{gathered_all, gathered_front, gathered_more}
 use Rattle.store_core.proofs.lines.put_lines.Goals as goal
 
 pub returns-in_err-make_room-clause-put : goal.returns-in_err-make_room-clause-put

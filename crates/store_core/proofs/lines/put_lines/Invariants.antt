@@ -1,5 +1,5 @@
 use Rattle.std.proofs.Common.{◌≡◌, IsTrue}
-use Rattle.store_core.proofs.LineLaws.{IsGathered}
+use Rattle.store_model.proofs.LineLaws.{IsGathered}
 use Rattle.store_core.proofs.lines.put_lines.Given as goal
 
 abbrev pub invariant-names : goal.invariant-names

@@ -3,9 +3,9 @@ use Rattle.std.proofs.Common.{lit<, subst, sym}
 use Rattle.flush_run.specs.Parts.{parts_of}
 use Rattle.flush_run.specs.Shelved.{items_now, phase_now}
 use Rattle.flush_plan.specs.Packs.{KeepsPacking}
-use Rattle.store_core.specs.Opened.{IsOpening}
-use Rattle.store_core.specs.Resuming.{PacksAgain}
-use Rattle.store_core.proofs.GoingLaws.{some_again}
+use Rattle.store_model.specs.Opened.{IsOpening}
+use Rattle.store_model.specs.Resuming.{PacksAgain}
+use Rattle.store_model.proofs.GoingLaws.{some_again}
 use Rattle.store_core.proofs.ResumedLaws.{again_done, again_failed, makes_store}
 use Rattle.store_core.proofs.open.go_on.Goals as goal
 

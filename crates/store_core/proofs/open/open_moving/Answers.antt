@@ -1,4 +1,4 @@
-use Rattle.store_core.proofs.OpeningLaws.{no_memory}
+use Rattle.store_model.proofs.OpeningLaws.{no_memory}
 use Rattle.store_core.proofs.open.open_moving.Goals as goal
 
 pub returns-in_default : goal.returns-in_default

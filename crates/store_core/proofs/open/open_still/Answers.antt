@@ -3,9 +3,9 @@ use Rattle.std.proofs.Common.{arith, ap, lit<, sym, subst}
 use Rattle.segment_layout.specs.Layouts.{caps_of}
 use Rattle.segment_layout.specs.Shapes.{end_of}
 use Rattle.slot_codec.specs.Spelling.{head_len}
-use Rattle.store_core.specs.Opened.{IsOpening}
-use Rattle.store_core.proofs.StillStoreLaws.{still_laid}
-use Rattle.store_core.proofs.StillLaws.{still_done, still_failed}
+use Rattle.store_model.specs.Opened.{IsOpening}
+use Rattle.store_model.proofs.StillStoreLaws.{still_laid}
+use Rattle.store_model.proofs.StillLaws.{still_done, still_failed}
 use Rattle.store_core.proofs.open.open_still.Goals as goal
 
 pub store_of-requires : goal.store_of-requires

@@ -6,7 +6,7 @@ use Rattle.flush_model.specs.Phases.{phase_of}
 use Rattle.flush_run.specs.Hands.{suffix_items}
 use Rattle.flush_plan.specs.Packs.{KeepsPacking}
 use Rattle.flush_plan.specs.Shelves.{PlanFrame, course_of}
-use Rattle.store_core.proofs.MovingLaws.{can_go_on, front}
+use Rattle.store_model.proofs.MovingLaws.{can_go_on, front}
 use Rattle.store_core.proofs.open.phase_again.Goals as goal
 
 pub numbers_again-numbers-requires : goal.numbers_again-numbers-requires

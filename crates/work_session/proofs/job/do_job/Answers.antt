@@ -1,6 +1,6 @@
 use Rattle.std.proofs.Common.{ap, arith, subst, sym, ◌∙◌}
 use Rattle.std.specs.Prelude.{◌≡◌, ◌≤◌, ◌+◌, ◌-◌, List, ℕ, drop, take}
-use Rattle.store_core.specs.Quiet.{put_of}
+use Rattle.store_model.specs.Quiet.{put_of}
 use Rattle.map_model.specs.Requests as ask
 use Rattle.work_maker.specs.Making.{asked_by}
 use Rattle.work_maker.specs.declared.job.Job.{Job}

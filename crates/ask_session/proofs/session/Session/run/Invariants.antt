@@ -1,5 +1,5 @@
 use Rattle.std.proofs.Common.{◌≡◌, ◌-◌, ◌≤◌, false}
-use Rattle.store_core.specs.Stores.{IsStore}
+use Rattle.store_model.specs.Stores.{IsStore}
 use Rattle.ask_session.specs.Runs.{HasRun}
 use Rattle.ask_session.proofs.session.Session.run.Given as goal
 

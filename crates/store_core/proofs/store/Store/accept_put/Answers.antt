@@ -9,9 +9,9 @@ use Rattle.map_model.specs.Requests as ask
 use Rattle.store_core.specs.declared.answers.Refusal.{Refusal}
 use Rattle.store_core.specs.declared.answers.Refusal.TheVariants as why
 use Rattle.store_core.specs.Answers.{refused_by}
-use Rattle.store_core.specs.Connection.{StoreValue}
+use Rattle.store_model.specs.Connection.{StoreValue}
 use Rattle.store_core.specs.Plans.{AcceptsName}
-use Rattle.store_core.specs.Quiet.{put_of}
+use Rattle.store_model.specs.Quiet.{put_of}
 use Rattle.store_core.proofs.store.Store.accept_put.Goals as goal
 use Rattle.store_core.proofs.store.Store.accept_put.Goals.{else-is_none-via-then-is_none+else-not-room, else-is_none-via-else-is_none}
 

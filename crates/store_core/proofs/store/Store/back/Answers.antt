@@ -1,6 +1,6 @@
 use Rattle.std.proofs.Common.{◌∙◌, ap, subst, sym}
-use Rattle.store_core.specs.Connection.{IsOver, StoreValue, limits_of, state_of}
-use Rattle.store_core.specs.States.{Step}
+use Rattle.store_model.specs.Connection.{IsOver, StoreValue, limits_of, state_of}
+use Rattle.store_model.specs.States.{Step}
 use Rattle.map_model.specs.Requests as ask
 use Rattle.store_core.proofs.BackLaws.{back_view, back_whole, gone_back, over_back, step_back}
 use Rattle.store_core.proofs.store.Store.back.Goals as goal

@@ -1,7 +1,7 @@
 use Rattle.std.specs.Prelude.{List, ℕ}
 use Rattle.std.proofs.Common.{subst}
 use Rattle.store_core.specs.Flushes.{ServesChange}
-use Rattle.store_core.specs.Quiet.{del_of}
+use Rattle.store_model.specs.Quiet.{del_of}
 use Rattle.store_core.proofs.ChangingLaws.{change_refused, change_served}
 use Rattle.store_core.proofs.PlanLaws.{accepted}
 use Rattle.store_core.proofs.RefusedLaws.{refused_change_step, unaccepted}

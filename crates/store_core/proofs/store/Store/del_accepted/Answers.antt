@@ -1,6 +1,6 @@
 use Rattle.std.proofs.Common.{◌∙◌, arith, inl, refl, rules, sym}
 use Rattle.segment_layout.specs.Layouts.{caps_of, divisor_of, grid_of}
-use Rattle.store_core.specs.Quiet.{del_of}
+use Rattle.store_model.specs.Quiet.{del_of}
 use Rattle.store_core.proofs.CopyChargesLaws.{charged_gone, charged_loud, charged_quiet, del_plan}
 use Rattle.store_core.proofs.EffectLaws.{no_effects}
 use Rattle.store_core.proofs.PlanLaws.{del_served}

@@ -4,11 +4,11 @@ use Rattle.size_class.specs.Rows.{cells_of}
 use Rattle.segment_layout.specs.Layouts.{grid_of}
 use Rattle.extent_table.specs.Extents.{Spots}
 use Rattle.placement_model.specs.Held.{FreesSpot}
-use Rattle.store_core.specs.Stores.{AreInRange}
-use Rattle.store_core.proofs.ChangeLaws.{can_free, place_ends, store_freed, store_put}
-use Rattle.store_core.proofs.EndLaws.{end_low}
+use Rattle.store_model.specs.Stores.{AreInRange}
+use Rattle.store_model.proofs.ChangeLaws.{can_free, place_ends, store_freed, store_put}
+use Rattle.store_model.proofs.EndLaws.{end_low}
 use Rattle.store_core.proofs.InsideLaws.{changed_view, changed_whole, opened}
-use Rattle.store_core.proofs.StoreLaws.{small_if_there}
+use Rattle.store_model.proofs.StoreLaws.{small_if_there}
 use Rattle.store_core.proofs.store.Store.enter.Goals as goal
 
 pub free_spot-requires : goal.free_spot-requires

@@ -5,9 +5,9 @@ use Rattle.flush_run.specs.Parts.{HandsValue}
 use Rattle.flush_run.specs.Shelved.{phase_now}
 use Rattle.map_model.specs.Requests as ask
 use Rattle.store_core.specs.Answers.{refused_by}
-use Rattle.store_core.specs.Charges.{ChargesStore, change_of}
-use Rattle.store_core.specs.Connection.{StoreValue}
-use Rattle.store_core.specs.Quiet.{charges_of}
+use Rattle.store_model.specs.Charges.{ChargesStore, change_of}
+use Rattle.store_model.specs.Connection.{StoreValue}
+use Rattle.store_model.specs.Quiet.{charges_of}
 use Rattle.store_core.proofs.CopyChargesLaws.{bytes_of_change, can_put, change_loud, charges_parts}
 use Rattle.store_core.proofs.FlushChangeLaws.{flush_can_run, flush_done, flush_done_whole, flush_failed, is_served}
 use Rattle.store_core.proofs.FlushLaws.{may_begin}

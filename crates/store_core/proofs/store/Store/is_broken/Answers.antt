@@ -1,5 +1,5 @@
 use Rattle.std.proofs.Common.{subst}
-use Rattle.store_core.specs.Stores.{IsStore}
+use Rattle.store_model.specs.Stores.{IsStore}
 use Rattle.store_core.proofs.store.Store.is_broken.Goals as goal
 
 pub returns-clause-sound : goal.returns-clause-sound

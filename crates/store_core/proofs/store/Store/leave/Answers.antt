@@ -5,10 +5,10 @@ use Rattle.segment_layout.specs.Layouts.{grid_of}
 use Rattle.extent_table.specs.Extents.{Spots}
 use Rattle.placement_model.specs.Held.{FreesSpot}
 use Rattle.placement_model.proofs.FreedLaws.{freed_gone}
-use Rattle.store_core.specs.Stores.{AreInRange}
-use Rattle.store_core.proofs.ChangeLaws.{can_free, store_gone}
+use Rattle.store_model.specs.Stores.{AreInRange}
+use Rattle.store_model.proofs.ChangeLaws.{can_free, store_gone}
 use Rattle.store_core.proofs.InsideLaws.{changed_whole, opened}
-use Rattle.store_core.proofs.StoreLaws.{small_if_there}
+use Rattle.store_model.proofs.StoreLaws.{small_if_there}
 use Rattle.store_core.proofs.store.Store.leave.Goals as goal
 
 pub free_spot-requires : goal.free_spot-requires

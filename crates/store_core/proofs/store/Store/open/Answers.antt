@@ -3,10 +3,10 @@ use Rattle.std.proofs.Common.{◌∙◌, inl, lit<, rules, subst, sym}
 use Rattle.reopen.specs.Loads.{IsLoadedFrom, KeepsLoaded, kind_of, loaded_of}
 use Rattle.reopen.specs.declared.state.State.{State}
 use Rattle.reopen.specs.declared.fault.OpenFault.{OpenFault}
-use Rattle.store_core.specs.Connection.{StoreValue}
-use Rattle.store_core.specs.Opened.{IsOpening}
-use Rattle.store_core.proofs.OpeningLaws.{opening_then, refused_reading}
-use Rattle.store_core.proofs.PlainLemmas.{plain_from, refused_version}
+use Rattle.store_model.specs.Connection.{StoreValue}
+use Rattle.store_model.specs.Opened.{IsOpening}
+use Rattle.store_model.proofs.OpeningLaws.{opening_then, refused_reading}
+use Rattle.store_model.proofs.PlainLemmas.{plain_from, refused_version}
 use Rattle.store_core.proofs.store.Store.open.Goals as goal
 
 pub returns-in_err-state : goal.returns-in_err-state

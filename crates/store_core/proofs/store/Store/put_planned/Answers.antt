@@ -1,8 +1,8 @@
 use Rattle.std.proofs.Common.{◌∙◌, ◌+◌, ap, arith, subst, IsTrue, length}
 use Rattle.byte_ranges.specs.Ranges.{overwritten}
 use Rattle.segment_layout.specs.Layouts.{caps_of, divisor_of, grid_of}
-use Rattle.store_core.specs.Quiet.{put_of}
-use Rattle.store_core.proofs.ChangeLaws.{apart_kept, place_ends}
+use Rattle.store_model.specs.Quiet.{put_of}
+use Rattle.store_model.proofs.ChangeLaws.{apart_kept, place_ends}
 use Rattle.store_core.proofs.EffectLaws.{calls_err, calls_ok, position_fits, quiet_effects}
 use Rattle.store_core.proofs.InsideLaws.{opened}
 use Rattle.store_core.proofs.PlanLaws.{put_served}

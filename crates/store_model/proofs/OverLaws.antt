@@ -22,9 +22,9 @@ use Rattle.table_rules.proofs.SequenceLaws.{sequence_of_slot}
 use Rattle.extent_table.specs.Extents.{Spots, records_of}
 use Rattle.placement_model.specs.Reads.{AllLieApart, AreNamed, EndWithin}
 use Rattle.placement_model.proofs.ReadLaws.{spot_of_record}
-use Rattle.store_core.specs.Connection.{HasCheckpoint, IsKeptImage, IsOver, StoreValue, RestsOnTable, SameOnTable, base_of, kept_map}
-use Rattle.store_core.specs.Stores.{IsStore}
-use Rattle.store_core.proofs.StoreLaws.{kept_lies}
+use Rattle.store_model.specs.Connection.{HasCheckpoint, IsKeptImage, IsOver, StoreValue, RestsOnTable, SameOnTable, base_of, kept_map}
+use Rattle.store_model.specs.Stores.{IsStore}
+use Rattle.store_model.proofs.StoreLaws.{kept_lies}
 
 -- ---- alike on a table
 

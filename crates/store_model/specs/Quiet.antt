@@ -12,7 +12,7 @@ use Rattle.segment_layout.specs.Books.{Charged, charge_all, new_item, some_size}
 use Rattle.extent_table.specs.declared.spot.Spot.{Spot}
 use Rattle.placement_model.specs.Held.{IsSpanOf}
 use Rattle.placement_model.specs.Quiet.{PlacedTo, QuietTo, gone_items}
-use Rattle.store_core.specs.Connection.{StoreValue}
+use Rattle.store_model.specs.Connection.{StoreValue}
 
 abbrev pub put_of : List ℕ → List ℕ → Change
 put_of name object = record { name = name; object = Some object }

@@ -12,7 +12,7 @@ use Rattle.extent_table.specs.declared.spot.Spot.{Spot}
 use Rattle.flush_run.specs.Parts.{HandsValue}
 use Rattle.change_charges.specs.Charging.{PlacesNew, between, charged_by, gone_charged}
 use Rattle.change_charges.specs.declared.charge.ChargeResult.{ChargeResult}
-use Rattle.store_core.specs.Connection.{StoreValue}
+use Rattle.store_model.specs.Connection.{StoreValue}
 
 -- An old object and a new one of a size were charged, each whether or not the other found room: the layout
 -- after has the grid that they leave.

@@ -10,8 +10,8 @@ use Rattle.placement_model.specs.Reads.{EndWithin}
 use Rattle.placement_model.proofs.EnterLaws.{by_name}
 use Rattle.placement_model.proofs.LaidOutLaws.{laid_below, laid_within}
 use Rattle.placement_model.proofs.VolumeLaws.{volume_small}
-use Rattle.store_core.specs.Connection.{IsOver, StoreValue, base_of}
-use Rattle.store_core.specs.Stores.{IsStore}
+use Rattle.store_model.specs.Connection.{IsOver, StoreValue, base_of}
+use Rattle.store_model.specs.Stores.{IsStore}
 
 -- objects lie within the file that a store is over, those of now and those of the last checkpoint
 pub now_lies : {classes : ℕ} (s : StoreValue) (file : List ℕ) → IsStore classes s → IsOver classes s file

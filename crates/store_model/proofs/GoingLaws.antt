@@ -32,11 +32,11 @@ use Rattle.flush_run.specs.Parts.{HandsValue}
 use Rattle.flush_run.specs.Runs.{CanResume}
 use Rattle.reopen.specs.declared.state.Loaded.{Loaded}
 use Rattle.reopen.specs.Loads.{KeepsLoaded}
-use Rattle.store_core.specs.Plain.{IsPlainFrom, plain_seen}
-use Rattle.store_core.specs.Opened.{IsFoundImage, LeavesRoom, RestsOnFound, RoomOf, most_by}
-use Rattle.store_core.specs.Resuming.{PacksAgain, StartsAgain}
-use Rattle.store_core.proofs.MovingLaws.{again, book_saved, hands_again, numbers, same_divisor, whole}
-use Rattle.store_core.proofs.OpeningLaws.{opens_alike}
+use Rattle.store_model.specs.Plain.{IsPlainFrom, plain_seen}
+use Rattle.store_model.specs.Opened.{IsFoundImage, LeavesRoom, RestsOnFound, RoomOf, most_by}
+use Rattle.store_model.specs.Resuming.{PacksAgain, StartsAgain}
+use Rattle.store_model.proofs.MovingLaws.{again, book_saved, hands_again, numbers, same_divisor, whole}
+use Rattle.store_model.proofs.OpeningLaws.{opens_alike}
 
 module _ {C : ℕ} (x : Loaded C) (loads : KeepsLoaded x) (moving : x.header.kind ≡ kind.Moving) (few : C ≤ 32)
     (wide : SIZE_MAX < 2 ^ C) (y : HandsValue) (starts : StartsAgain x y) (p : PlanState)

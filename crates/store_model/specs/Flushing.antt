@@ -30,7 +30,7 @@ use Rattle.change_charges.specs.Charging.{charged_by}
 use Rattle.change_charges.specs.Lifting.{BeginsLift}
 use Rattle.change_charges.specs.Sized.{IsSizedBy, object_size}
 use Rattle.change_charges.specs.Starts.{CanStart, IsWith, IsWithout, WasBefore}
-use Rattle.store_core.specs.Quiet.{added, sizes_at}
+use Rattle.store_model.specs.Quiet.{added, sizes_at}
 
 -- ---- before the change
 

@@ -21,9 +21,9 @@ use Rattle.placement_model.proofs.PlaceLaws.{place_apart, place_within}
 use Rattle.placement_model.proofs.QuietLaws.{quiet_rises}
 use Rattle.placement_model.proofs.RiseLaws.{CellsRise-then}
 use Rattle.held_guard.specs.Freed.{Freed}
-use Rattle.store_core.specs.Connection.{StoreValue}
-use Rattle.store_core.specs.Quiet.{CanFree, IsCharged}
-use Rattle.store_core.specs.Stores.{AreInRange, IsStore}
+use Rattle.store_model.specs.Connection.{StoreValue}
+use Rattle.store_model.specs.Quiet.{CanFree, IsCharged}
+use Rattle.store_model.specs.Stores.{AreInRange, IsStore}
 
 -- a store with other objects: its book is what the layout shows of them
 abbrev pub with_now : ℕ → StoreValue → Spots → List (List ℕ) → List ℕ → StoreValue

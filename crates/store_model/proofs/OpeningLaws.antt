@@ -32,10 +32,10 @@ use Rattle.flush_run.specs.Calls.{piece_calls}
 use Rattle.flush_run.proofs.CallLaws.{calls_none, calls_wider}
 use Rattle.reopen.specs.declared.fault.OpenFault.{OpenFault}
 use Rattle.reopen.specs.declared.fault.OpenFault.TheVariants as fault
-use Rattle.store_core.specs.Connection.{IsOver, StoreValue, SameOnTable, base_of, state_of}
-use Rattle.store_core.specs.Opened.{HasOpenCalls, IsFoundImage, IsOpened, IsOpening, OpensFound, RefusesStore, RefusesUnchanged, RestsOnFound, SameOnFound, found_base, MostCallsOf, most_by, most_found, state_at}
-use Rattle.store_core.specs.Stores.{IsStore}
-use Rattle.store_core.proofs.OverLaws.{by_index, head_is}
+use Rattle.store_model.specs.Connection.{IsOver, StoreValue, SameOnTable, base_of, state_of}
+use Rattle.store_model.specs.Opened.{HasOpenCalls, IsFoundImage, IsOpened, IsOpening, OpensFound, RefusesStore, RefusesUnchanged, RestsOnFound, SameOnFound, found_base, MostCallsOf, most_by, most_found, state_at}
+use Rattle.store_model.specs.Stores.{IsStore}
+use Rattle.store_model.proofs.OverLaws.{by_index, head_is}
 
 -- ---- what is found is one
 

@@ -9,7 +9,7 @@ use Rattle.std.specs.FinMap as fin
 use Rattle.disk_face.specs.Streams.{Puts}
 use Rattle.extent_table.specs.declared.spot.Spot.{Spot}
 use Rattle.extent_table.specs.Extents.{Spots}
-use Rattle.store_core.specs.Lines.{IsMoved, line_of, lines_of, listing_of}
+use Rattle.store_model.specs.Lines.{IsMoved, line_of, lines_of, listing_of}
 
 abbrev listed : List ℕ × Spot → List ℕ × ℕ
 listed e = (e.0, e.1.size)

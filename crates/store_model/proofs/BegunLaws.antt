@@ -23,10 +23,10 @@ use Rattle.flush_run.specs.Parts.{HandsValue}
 use Rattle.change_charges.specs.Charging.{PlacesNew, between, new_charged}
 use Rattle.change_charges.specs.Starts.{IsLoud, IsWith, IsWithout}
 use Rattle.change_charges.proofs.EndLaws.{end_small, most_end}
-use Rattle.store_core.specs.Flushing.{CanStartAt, IsBegun, NeedsFlushAt, IsStarted, MayBegin, StartsPlaced, StartsWaiting, TakesOut}
-use Rattle.store_core.specs.Quiet.{added, del_of, put_of, sizes_at}
-use Rattle.store_core.proofs.ChargedLaws.{ChargesTo, can_start_at, started_at, is_loud, places_here}
-use Rattle.store_core.proofs.StartingLaws.{del_starts, begun_removed, put_starts, begun_placed, placed_low, wait_starts, wait_some, wait_high, begun_waiting}
+use Rattle.store_model.specs.Flushing.{CanStartAt, IsBegun, NeedsFlushAt, IsStarted, MayBegin, StartsPlaced, StartsWaiting, TakesOut}
+use Rattle.store_model.specs.Quiet.{added, del_of, put_of, sizes_at}
+use Rattle.store_model.proofs.ChargedLaws.{ChargesTo, can_start_at, started_at, is_loud, places_here}
+use Rattle.store_model.proofs.StartingLaws.{del_starts, begun_removed, put_starts, begun_placed, placed_low, wait_starts, wait_some, wait_high, begun_waiting}
 
 module _ {classes : ℕ} {kept_grid : List (List ℕ)} {x0 : HandsValue} (may : MayBegin classes kept_grid x0)
     (name : List ℕ) where

@@ -4,7 +4,7 @@ use Rattle.size_class.specs.declared.TheConstants.{SIZE_MAX}
 use Rattle.slot_codec.specs.Choice as choice
 use Rattle.extent_table.specs.Extents.{Spots}
 use Rattle.placement_model.specs.LaidOut.{shown_book}
-use Rattle.store_core.specs.Connection.{StoreValue}
+use Rattle.store_model.specs.Connection.{StoreValue}
 
 -- A store has this slot in use, and these places now and at its checkpoint, in a layout with these capacities
 -- and this grid. Of the bytes moved and asked for nothing is said, nor whether the store is broken.

@@ -22,7 +22,7 @@ use Rattle.change_charges.proofs.ReachLaws.{reach_low, reach_past_wall}
 use Rattle.change_charges.proofs.SuffixLaws.{items_with}
 use Rattle.change_charges.proofs.ShelfLaws.{start_shelf}
 use Rattle.flush_plan.specs.Shelves.{PlanFrame, IsOnShelf, course_of}
-use Rattle.store_core.specs.Flushing.{CanStartAt, IsStarted}
+use Rattle.store_model.specs.Flushing.{CanStartAt, IsStarted}
 
 module _ {classes b k : ℕ} {caps : List ℕ} {grid : List (List ℕ)} {e : Extents}
     (at : CanStartAt classes b k caps grid e) where

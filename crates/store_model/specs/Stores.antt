@@ -7,7 +7,7 @@ use Rattle.extent_table.specs.declared.spot.Spot.{Spot}
 use Rattle.extent_table.specs.Extents.{IsInRange, Spots}
 use Rattle.placement_model.specs.LaidOut.{IsLaidOut, shown_book}
 use Rattle.placement_model.specs.Rises.{CellsRise}
-use Rattle.store_core.specs.Connection.{StoreValue}
+use Rattle.store_model.specs.Connection.{StoreValue}
 
 -- places and sizes are numbers that a record of the file can hold
 abbrev pub AreInRange : Spots → Type 0

@@ -23,10 +23,10 @@ use Rattle.reopen.specs.declared.fault.OpenFault.{OpenFault}
 use Rattle.reopen.specs.declared.fault.OpenFault.TheVariants as fault
 use Rattle.slot_pair.specs.Finding.{HasDiskCause}
 use Rattle.slot_pair.specs.declared.find.SlotFault.TheVariants as slot
-use Rattle.store_core.specs.Connection.{IsOver, StoreValue, RestsOnTable, base_of, state_of}
-use Rattle.store_core.specs.Plain.{IsUnserved}
-use Rattle.store_core.specs.Stores.{IsStore}
-use Rattle.store_core.specs.States.{State}
+use Rattle.store_model.specs.Connection.{IsOver, StoreValue, RestsOnTable, base_of, state_of}
+use Rattle.store_model.specs.Plain.{IsUnserved}
+use Rattle.store_model.specs.Stores.{IsStore}
+use Rattle.store_model.specs.States.{State}
 
 -- ---- what is found
 

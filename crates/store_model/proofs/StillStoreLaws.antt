@@ -37,12 +37,12 @@ use Rattle.placement_model.proofs.RiseLaws.{CellsRise-itself}
 use Rattle.placement_model.proofs.ShownLaws.{book_shown}
 use Rattle.reopen.specs.declared.state.Loaded.{Loaded}
 use Rattle.reopen.specs.Loads.{KeepsLoaded}
-use Rattle.store_core.specs.Plain.{IsPlainFrom, plain_seen}
-use Rattle.store_core.specs.Connection.{IsOver, StoreValue, base_of, kept_map, opened_store, state_of}
-use Rattle.store_core.specs.Opened.{IsFoundImage, IsFresh, SameOnFound, most_found, state_at}
-use Rattle.store_core.specs.Stores.{IsStore}
+use Rattle.store_model.specs.Plain.{IsPlainFrom, plain_seen}
+use Rattle.store_model.specs.Connection.{IsOver, StoreValue, base_of, kept_map, opened_store, state_of}
+use Rattle.store_model.specs.Opened.{IsFoundImage, IsFresh, SameOnFound, most_found, state_at}
+use Rattle.store_model.specs.Stores.{IsStore}
 use Rattle.table_rules.proofs.SequenceLaws.{sequence_of_table}
-use Rattle.store_core.proofs.OpeningLaws.{found_low, opens_alike}
+use Rattle.store_model.proofs.OpeningLaws.{found_low, opens_alike}
 
 -- what a settled table keeps of its classes isn't seen in the other numbers of its header
 below_still : (classes size_max k len : ℕ) (h : Header) (spots : Spots)

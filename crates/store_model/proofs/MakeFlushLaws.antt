@@ -30,7 +30,7 @@ use Rattle.flush_run.proofs.LeftLaws.{left_then}
 use Rattle.flush_run.proofs.MoveLaws.{content_grown, left_grown, moved_within, opens_grown}
 use Rattle.change_charges.specs.Lifting.{BeginsLift}
 use Rattle.change_charges.specs.Sized.{object_size}
-use Rattle.store_core.specs.Flushing.{CanMakeFlush, HasMadeFlush, IsAtStart, BeforeChange, bytes_of, flight_of, spots_after}
+use Rattle.store_model.specs.Flushing.{CanMakeFlush, HasMadeFlush, IsAtStart, BeforeChange, bytes_of, flight_of, spots_after}
 
 -- the size of a new object is the number of its bytes
 size_of_bytes : (c : Change) → object_size c.object ≡ length (bytes_of c)

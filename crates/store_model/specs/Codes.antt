@@ -8,7 +8,7 @@ use Rattle.slot_codec.specs.declared.codec.SuperBlock.{SuperBlock}
 use Rattle.map_model.specs.Maps.{Map, name_cmp}
 use Rattle.segment_layout.specs.Books.{Book}
 use Rattle.extent_table.specs.Extents.{Spots, spot_code}
-use Rattle.store_core.specs.Connection.{StoreValue}
+use Rattle.store_model.specs.Connection.{StoreValue}
 
 abbrev pub spots_code : Coded Spots
 spots_code = fin.code (coded_list coded_ℕ) spot_code

@@ -30,8 +30,8 @@ use Rattle.change_charges.proofs.LiftStartLaws.{pending_high, pending_is_free, p
 use Rattle.change_charges.proofs.LooseLaws.{pending_loose, placed_loose, removed_loose}
 use Rattle.change_charges.proofs.ReachLaws.{reach_low, reach_past_wall, wall_past_end}
 use Rattle.change_charges.proofs.StartLaws.{placed_within}
-use Rattle.store_core.specs.Flushing.{IsBegun, IsStarted, MayBegin, BeforeChange, book_before, flight_of}
-use Rattle.store_core.specs.Quiet.{added, del_of, put_of, sizes_at}
+use Rattle.store_model.specs.Flushing.{IsBegun, IsStarted, MayBegin, BeforeChange, book_before, flight_of}
+use Rattle.store_model.specs.Quiet.{added, del_of, put_of, sizes_at}
 
 module _ {classes : ℕ} {kept_grid : List (List ℕ)} {x0 : HandsValue} (may : MayBegin classes kept_grid x0)
     (name : List ℕ) where

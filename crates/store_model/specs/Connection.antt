@@ -15,7 +15,7 @@ use Rattle.extent_table.specs.declared.spot.Spot.{Spot}
 use Rattle.extent_table.specs.Extents.{Spots, records_of}
 use Rattle.placement_model.specs.Laid.{book_at}
 use Rattle.placement_model.specs.Reads.{read_at}
-use Rattle.store_core.specs.States.{Limits, State}
+use Rattle.store_model.specs.States.{Limits, State}
 
 -- What a store keeps, as its contracts see it: the slot in use, where the objects stand now and where they
 -- stood at the last checkpoint, the books of both, whether it is broken, and the bytes moved and asked for.

@@ -19,8 +19,8 @@ use Rattle.flush_run.specs.Parts.{HandsValue}
 use Rattle.change_charges.specs.Charging.{PlacesNew, between, charged_by}
 use Rattle.change_charges.specs.Starts.{CanStart, IsLoud}
 use Rattle.change_charges.proofs.StartLaws.{outcome_loud}
-use Rattle.store_core.specs.Flushing.{CanStartAt, NeedsFlushAt, IsStarted, MayBegin}
-use Rattle.store_core.specs.Quiet.{CanFree}
+use Rattle.store_model.specs.Flushing.{CanStartAt, NeedsFlushAt, IsStarted, MayBegin}
+use Rattle.store_model.specs.Quiet.{CanFree}
 
 -- what was charged on the layout of some parts
 pub record ChargesTo (x : HandsValue) (o : Option Spot) (size k : ℕ) (caps : List ℕ) (after : List (List ℕ))

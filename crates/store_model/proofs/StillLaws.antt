@@ -25,13 +25,13 @@ use Rattle.placement_model.specs.Reads.{read_at}
 use Rattle.reopen.specs.declared.fault.OpenFault.TheVariants as fault_of
 use Rattle.reopen.specs.declared.state.Loaded.{Loaded}
 use Rattle.reopen.specs.Loads.{KeepsLoaded}
-use Rattle.store_core.specs.Plain.{IsPlainFrom, plain_seen}
-use Rattle.store_core.specs.Connection.{StoreValue, RestsOnTable, SameOnTable, base_of, opened_store}
-use Rattle.store_core.specs.Opened.{ContinuesFrom, IsCut, IsFoundImage, IsOpened, IsOpening, OpenCallsOf, OpensFound, LeavesAlone, MostCallsOf, RestsOnFound, found_base, most_found, turn_after_cut}
+use Rattle.store_model.specs.Plain.{IsPlainFrom, plain_seen}
+use Rattle.store_model.specs.Connection.{StoreValue, RestsOnTable, SameOnTable, base_of, opened_store}
+use Rattle.store_model.specs.Opened.{ContinuesFrom, IsCut, IsFoundImage, IsOpened, IsOpening, OpenCallsOf, OpensFound, LeavesAlone, MostCallsOf, RestsOnFound, found_base, most_found, turn_after_cut}
 use Rattle.table_rules.proofs.SequenceLaws.{sequence_of_table}
-use Rattle.store_core.proofs.OpeningLaws.{found_by, found_itself, found_low, found_one, found_spots, left_same, still_rests}
-use Rattle.store_core.proofs.OverLaws.{same_itself}
-use Rattle.store_core.proofs.StillStoreLaws.{same_base, book_is, book_ends, still_over, still_state, len_low, resized_image, cut_len, cut_opens, cut_slot, still_fresh}
+use Rattle.store_model.proofs.OpeningLaws.{found_by, found_itself, found_low, found_one, found_spots, left_same, still_rests}
+use Rattle.store_model.proofs.OverLaws.{same_itself}
+use Rattle.store_model.proofs.StillStoreLaws.{same_base, book_is, book_ends, still_over, still_state, len_low, resized_image, cut_len, cut_opens, cut_slot, still_fresh}
 
 module _ {C : ℕ} (x : Loaded C) (loads : KeepsLoaded x) (still : x.header.kind ≡ kind.Settled) (few : C ≤ 32)
     (wide : SIZE_MAX < 2 ^ C) where

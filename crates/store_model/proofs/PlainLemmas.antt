@@ -17,10 +17,10 @@ use Rattle.reopen.specs.Loads.{IsLoadedFrom, digests_loaded, table_seen}
 use Rattle.reopen.specs.declared.fault.OpenFault.{OpenFault}
 use Rattle.reopen.specs.declared.fault.OpenFault.TheVariants as fault
 use Rattle.reopen.specs.declared.state.Loaded.{Loaded}
-use Rattle.store_core.specs.Connection.{StoreValue}
-use Rattle.store_core.specs.Opened.{IsOpening}
-use Rattle.store_core.specs.Plain.{IsPlainFrom, IsUnserved}
-use Rattle.store_core.proofs.OpeningLaws.{refused_reading}
+use Rattle.store_model.specs.Connection.{StoreValue}
+use Rattle.store_model.specs.Opened.{IsOpening}
+use Rattle.store_model.specs.Plain.{IsPlainFrom, IsUnserved}
+use Rattle.store_model.proofs.OpeningLaws.{refused_reading}
 
 pub plain_from : {C : ℕ} (file : List ℕ) (x : Loaded C) → IsLoadedFrom file x
     → (x.header.version == 2) ≡ false → IsPlainFrom file x

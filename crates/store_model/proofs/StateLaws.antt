@@ -12,7 +12,7 @@ use Rattle.extent_table.specs.declared.spot.Spot.{Spot}
 use Rattle.extent_table.specs.Extents.{Spots, volume_of}
 use Rattle.byte_ranges.proofs.RangeLaws.{length-bytes_at}
 use Rattle.std.proofs.lemmas.List.Sums.{sum_by-cons}
-use Rattle.store_core.specs.Lines.{listing_of}
+use Rattle.store_model.specs.Lines.{listing_of}
 use Rattle.placement_model.specs.Reads.{AreNamed, EndWithin, object_at, read_at}
 use Rattle.placement_model.proofs.ReadLaws.{found_by_name, get-read_at}
 

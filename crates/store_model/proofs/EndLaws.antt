@@ -4,8 +4,8 @@ use Rattle.std.proofs.Common.{arith}
 use Rattle.size_class.specs.declared.TheConstants.{SIZE_MAX}
 use Rattle.segment_layout.specs.Shapes.{end_of}
 use Rattle.change_charges.proofs.EndLaws.{end_small}
-use Rattle.store_core.specs.Connection.{StoreValue}
-use Rattle.store_core.specs.Stores.{IsStore}
+use Rattle.store_model.specs.Connection.{StoreValue}
+use Rattle.store_model.specs.Stores.{IsStore}
 
 pub end_low : {classes : ℕ} (s : StoreValue) → IsStore classes s
     → end_of s.in_use.block.k s.book.caps < 2 ^ 48

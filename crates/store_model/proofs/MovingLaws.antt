@@ -34,7 +34,7 @@ use Rattle.placement_model.specs.Laid.{laid, moving_header}
 use Rattle.placement_model.proofs.EnterLaws.{by_name}
 use Rattle.placement_model.proofs.GoneLaws.{apart_by_name}
 use Rattle.placement_model.proofs.GuardLaws.{freed_nothing}
-use Rattle.store_core.proofs.VersionLaws.{valid_as}
+use Rattle.store_model.proofs.VersionLaws.{valid_as}
 use Rattle.placement_model.proofs.LaidOutLaws.{class_in_use}
 use Rattle.placement_model.proofs.QuietLaws.{IsGrid-wider}
 use Rattle.flush_model.specs.declared.item.Item.{Item}

@@ -1,0 +1,12 @@
+pub mod States
+pub mod Connection
+pub mod Codes
+pub mod Stores
+pub mod Quiet
+pub mod Flushed
+pub mod Lines
+pub mod Flushing
+pub mod Charges
+pub mod Plain
+pub mod Opened
+pub mod Resuming
