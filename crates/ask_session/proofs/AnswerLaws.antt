@@ -394,17 +394,3 @@ keep_answers {classes} s new a d result h answer refused keeps step over broken 
         (Some w) h.whole is) answer)
         (refused (subst (λ (o : Option Refusal). IsSome o) (sym (refused_is s ask.keep
         (Some w) h.whole is)) refl))
-
--- ---- too long
-
-pub name_is_refused : (s : StoreValue) (name object : List ℕ) → is_name name ≡ false
-    → refusal (limits_of s) (facts_at s (ask.change (put_of name object))) (ask.change (put_of name object))
-    ≡ Some ask.bad_name
-name_is_refused s name object is = rw is refl
-
-pub long_is_refused : (s : StoreValue) (name object : List ℕ) → is_name name ≡ true → SIZE_MAX < length object
-    → refusal (limits_of s) (facts_at s (ask.change (put_of name object))) (ask.change (put_of name object))
-    ≡ Some ask.too_long
-long_is_refused s name object is long =
-    let big : nat_lt SIZE_MAX (length object) ≡ true = lt-ltb SIZE_MAX (length object) long in
-    rw (is, big) refl

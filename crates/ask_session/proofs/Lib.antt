@@ -13,3 +13,4 @@ pub mod GrowingLaws
 pub mod MakesLaws
 pub mod RunLaws
 pub mod ServingLaws
+pub mod TooLongLaws

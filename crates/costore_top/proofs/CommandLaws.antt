@@ -256,14 +256,18 @@ module _ (o : Outcome) (old new : Devices) (from rest : SourceState) (same_bay s
     keeps = λ is. absurd (cc);
     formats = λ f k names is. absurd (cc);
     silent = λ is. absurd (cc);
-    unread = λ _. record { input = input; no_session = working_plain o.status always.known; numbers = numbers
-        };
+    unread = λ _. record {
+      input = input;
+      no_session = working_plain o.status always.known;
+      numbers = numbers;
+    };
     headline = λ is. absurd (cc);
     session = λ is. absurd (cc);
     jobs = λ f n k is.
         let same : number ≡ n = cc in
-        let also : count ≡ k = cc in
-        (λ told. subst (λ x. WorkPromise x k o.status old new) same
-            (subst (λ x. WorkPromise number x o.status old new) also (promise told)),
-        subst (λ x. WorkAlways x o.status old new) also always);
+        let also : count ≡ k = cc in (
+          λ told. subst (λ x. WorkPromise x k o.status old new) same
+              (subst (λ x. WorkPromise number x o.status old new) also (promise told)),
+          subst (λ x. WorkAlways x o.status old new) also always,
+        );
   }

@@ -69,7 +69,7 @@ module _ (words : List (List ℕ)) (none : MeansNone words) (o : Outcome) (disk 
 
   module _ (line : IsTrue out.tells
       → PutsLast out.given after.given (line_at {A = Unit {0}} (Err stop.Words))
-          (Rose out.faults after.faults)) where
+      (Rose out.faults after.faults)) where
     pub answers_nothing : AnswersByItsFile words o.status (devices disk out) (devices disk after)
     answers_nothing = record {
       ends = λ x m. absurd (none x m);

@@ -150,7 +150,7 @@ module _ {t : choice.SlotTable} {m : Map} {b : Book} {old z : State} {out after 
     (below : z.turn < last) where
   pub run_followed : {requests : List Request} {end : List ℕ} {x : Outcome} {from rest : SourceState}
       → RunHolds (found_with t.chosen.block t m b) requests end x (devices old out) (devices z after) from
-          rest
+      rest
       → LeftOnly z old.turn (MayBegin (most_left t.chosen.block.k t))
   run_followed {x = x} r image since =
       let room = room_once t twice in

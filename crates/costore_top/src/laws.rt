@@ -62,13 +62,13 @@ pub fn a_crash_may_be_followed_by_a_call<B: Bay, I: Source, O: Sink>()
         → OpensBy CLASSES SIZE_MAX t (B.state old).file m b
         → Asks (I.state from).left requests end
         → RunPromise o (devices (B.state old) (O.state out)) (devices (B.state new) (O.state after))
-            (I.state from) (I.state rest)
+        (I.state from) (I.state rest)
         → LeavesRoomTwice t → RestsOnFound t (B.state old) → (B.state new).turn < last
         → LeftOnly (B.state new) (B.state old).turn (MayBegin (most_left t.chosen.block.k t)) }
     ensures work { (t : choice.SlotTable) (m : Map) (b : Book) (number count status : ℕ) (old new : B)
         (out after : O) → IsPlain b → OpensBy CLASSES SIZE_MAX t (B.state old).file m b
         → WorkPromise number count status (devices (B.state old) (O.state out))
-            (devices (B.state new) (O.state after))
+        (devices (B.state new) (O.state after))
         → LeavesRoomTwice t → RestsOnFound t (B.state old) → (B.state new).turn < last
         → LeftOnly (B.state new) (B.state old).turn (MayBegin (most_left t.chosen.block.k t)) }
     ensures calm { (t : choice.SlotTable) (m : Map) (b : Book) (requests : List Request) (end : List ℕ)
@@ -76,13 +76,13 @@ pub fn a_crash_may_be_followed_by_a_call<B: Bay, I: Source, O: Sink>()
         → OpensBy CLASSES SIZE_MAX t (B.state old).file m b
         → Asks (I.state from).left requests end
         → RunPromise o (devices (B.state old) (O.state out)) (devices (B.state new) (O.state after))
-            (I.state from) (I.state rest)
+        (I.state from) (I.state rest)
         → LeavesRoomTwice t → IsCalm (B.state old).faults (B.state new).faults
         → MayBegin (most_left t.chosen.block.k t) (B.state new).file }
     ensures calm_work { (t : choice.SlotTable) (m : Map) (b : Book) (number count status : ℕ) (old new : B)
         (out after : O) → IsPlain b → OpensBy CLASSES SIZE_MAX t (B.state old).file m b
         → WorkPromise number count status (devices (B.state old) (O.state out))
-            (devices (B.state new) (O.state after))
+        (devices (B.state new) (O.state after))
         → LeavesRoomTwice t → IsCalm (B.state old).faults (B.state new).faults
         → MayBegin (most_left t.chosen.block.k t) (B.state new).file }
     ensures low { (t : choice.SlotTable) (file : List ℕ) (m : Map) (b : Book)

@@ -13,7 +13,7 @@ use Rattle.command_face.specs.Devices.{devices}
 module _ (old z : State) (from rest : SourceState) (out mid after : SinkState)
     (end : Result (Unit {0}) StopReason)
     (status : ℕ) (is : status ≡ status_at end) (keeps : KeepsRun (devices old out) (devices z mid) from rest
-        (status_at end))
+    (status_at end))
     (line : IsTrue mid.tells → PutsLast mid.given after.given (line_at end)
     (Rose mid.faults after.faults)) where
   pub line_after : IsTrue out.tells

@@ -131,7 +131,7 @@ module _ {D I O : Type 0} (disk_of : D → State) (source_of : I → SourceState
         (λ is. omega (arith, is)) since (λ calm has. omega (arith, rose, calm.same, calm.below))
         (λ calm. absurd (omega (arith, rose, calm.same, calm.below)))
         (Err stop.Disk) refl tt (line_out (Err stop.Disk) line)
-            (none_far 7 requests end (source_of from) (source_of rest) refl
+        (none_far 7 requests end (source_of from) (source_of rest) refl
         (λ is. omega (arith, is)) (λ is. omega (arith, is)) (λ is. omega (arith, is))
         (λ is. omega (arith, is)) (λ is. absurd (omega (arith, is))))
 
@@ -149,7 +149,7 @@ module _ {D I O : Type 0} (disk_of : D → State) (source_of : I → SourceState
         (λ has. absurd (never_true (sym (ap is_mounted is) ∙ has))) (λ calm has. never_true has)
         (λ calm. next_found (mount.same_file told) (rests_first t m b old z mount told o))
         (Err stop.NoFile) refl tt (line_out (Err stop.NoFile) line)
-            (none_far 3 requests end (source_of from) (source_of rest) refl
+        (none_far 3 requests end (source_of from) (source_of rest) refl
         (λ is. omega (arith, is)) (λ is. omega (arith, is)) (λ is. omega (arith, is))
         (λ is. omega (arith, is)) (λ is. absurd (omega (arith, is))))
 
@@ -209,8 +209,8 @@ module _ {D I O : Type 0} (disk_of : D → State) (source_of : I → SourceState
           opened_by t m b old first mount told o z x.store calm_mount x.opening in
           subst (λ (y : SessionEnd). Runs (outcome_of y)) (sym x.ended)
           (subst (λ (u : SuperBlock). RunHolds (found_with u t m b) requests end
-              (outcome_of (unserved stop.NoMemory z.turn)) (devices old (sink_of out)) (devices z after)
-              (source_of from) (source_of rest)) op.block
+          (outcome_of (unserved stop.NoMemory z.turn)) (devices old (sink_of out)) (devices z after)
+          (source_of from) (source_of rest)) op.block
           (unserved_runs x.store.in_use.block (state_of x.store z.file)
           (record { state = op.state; sequence = op.sequence }) (lawful now) left_before op.later op.left
           (λ rests below calm settled opened image since.
@@ -228,7 +228,7 @@ module _ {D I O : Type 0} (disk_of : D → State) (source_of : I → SourceState
   module _ (first : D) (mount : AfterMount old (disk_of first))
       (calm_mount : (disk_of first).faults ≡ old.faults)
       (e : SessionEnd) (s : StoreValue) (mid : D) (opens : IsOpening CLASSES (disk_of first) (disk_of mid)
-          (Ok s))
+      (Ok s))
       (new : Sitting) (line : PutsEnd e.end) where
     op : Opened t m b old (disk_of mid) s
     op = opened_by t m b old (disk_of first) mount told o (disk_of mid) s calm_mount opens
@@ -288,8 +288,8 @@ module _ {D I O : Type 0} (disk_of : D → State) (source_of : I → SourceState
 
         carried : (status : ℕ) → status ≡ status_at ending
             → RunHolds (found_with s.in_use.block t m b) requests end (counts_of status y.sitting)
-                (devices old (sink_of out)) (devices (disk_of y.mid_disk) after) (source_of from)
-                (source_of rest)
+            (devices old (sink_of out)) (devices (disk_of y.mid_disk) after) (source_of from)
+            (source_of rest)
             → Runs (outcome_of e)
         carried status is runs =
             let same : outcome_of e ≡ counts_of status y.sitting = ap outcome_of ended ∙ (λ i. record {
@@ -300,13 +300,13 @@ module _ {D I O : Type 0} (disk_of : D → State) (source_of : I → SourceState
             }) in
             subst Runs (sym same)
             (subst (λ (x : D). RunHolds (found_with t.chosen.block t m b) requests end
-                (counts_of status y.sitting) (devices old (sink_of out)) (devices (disk_of x) after)
-                (source_of from) (source_of rest))
+            (counts_of status y.sitting) (devices old (sink_of out)) (devices (disk_of x) after)
+            (source_of from) (source_of rest))
             (sym (y.same_disk unserved_how))
             (subst (λ (u : SuperBlock). RunHolds (found_with u t m b) requests end
-                (counts_of status y.sitting) (devices old (sink_of out)) (devices (disk_of y.mid_disk) after)
-                (source_of from)
-                (source_of rest)) op.block runs))
+            (counts_of status y.sitting) (devices old (sink_of out)) (devices (disk_of y.mid_disk) after)
+            (source_of from)
+            (source_of rest)) op.block runs))
 
     session_by : (how : End)
         → (y : EndsRun disk_of source_of sink_of CLASSES s0 new mid now from rest out mid_out how)
@@ -352,15 +352,15 @@ module _ {D I O : Type 0} (disk_of : D → State) (source_of : I → SourceState
     session_by ends.Disk y sound ended =
         subst (λ (x : SessionEnd). Runs (outcome_of x)) (sym ended)
         (subst (λ (u : SuperBlock). RunHolds (found_with u t m b) requests end
-            (outcome_of (ended_as ends.Disk new)) (devices old (sink_of out)) (devices z after)
-            (source_of from) (source_of rest)) op.block
+        (outcome_of (ended_as ends.Disk new)) (devices old (sink_of out)) (devices z after)
+        (source_of from) (source_of rest)) op.block
         (disk_failed (so_far ends.Disk y) ends.Disk
         y.last_turn after (Err stop.Disk) tt (y.fewer refl) (line_now ends.Disk y sound ended) refl refl))
     session_by ends.Sink y sound ended =
         subst (λ (x : SessionEnd). Runs (outcome_of x)) (sym ended)
         (subst (λ (u : SuperBlock). RunHolds (found_with u t m b) requests end
-            (outcome_of (ended_as ends.Sink new)) (devices old (sink_of out)) (devices z after)
-            (source_of from) (source_of rest)) op.block
+        (outcome_of (ended_as ends.Sink new)) (devices old (sink_of out)) (devices z after)
+        (source_of from) (source_of rest)) op.block
         (sink_failed (so_far ends.Sink y) ends.Sink
         y.last_turn after (Err stop.Sink) tt (y.fewer refl) (line_now ends.Sink y sound ended) refl refl
         sound))

@@ -130,7 +130,7 @@ pub settled_still : (t : choice.SlotTable) (m : Map) (b : Book) (old : State)
     → LeftOnly z (turn_opened t b old) (λ image. length image ≡ found_base t + book_end t.chosen.block.k b)
 settled_still t m b old o lawful same left rests below settled opened image since =
     let ends = ends_with_layout t m b old o settled (omega (arith, same, below)) (omega (arith, same, opened))
-        in
+    in
     let long = λ (may : old.may_leave image). (rests image may).same_length ∙ ends.same_length in
     elim ((left rests).each (turn_opened t b old) image (omega (arith, ends.same_turn)) since)
     as (λ _. length image ≡ found_base t + book_end t.chosen.block.k b) [

@@ -51,7 +51,7 @@ module _ {D I O : Type 0} (disk_of : D → State) (source_of : I → SourceState
   pub steps_unbegun : (first now : D) (from : I) (out : O) (store : StoreValue) (turn : ℕ) (e : SessionEnd)
       → IsOpening CLASSES (disk_of first) (disk_of now) (Ok store) → turn ≡ (disk_of now).turn
       → e ≡ unserved stop.NoMemory turn → OpenRunSteps (seen_by disk_of source_of sink_of)
-          (held first from out) (held now from out) e
+      (held first from out) (held now from out) e
   steps_unbegun first now from out store turn e opening at is = inl (
     inr (record {
       store = store;
@@ -65,7 +65,7 @@ module _ {D I O : Type 0} (disk_of : D → State) (source_of : I → SourceState
   pub steps_unopened : (first now : D) (from : I) (out : O) (why : OpenFault) (turn : ℕ) (e : SessionEnd)
       → IsOpening CLASSES (disk_of first) (disk_of now) (Err why) → turn ≡ (disk_of now).turn
       → e ≡ unserved (stop_of why) turn → OpenRunSteps (seen_by disk_of source_of sink_of)
-          (held first from out) (held now from out) e
+      (held first from out) (held now from out) e
   steps_unopened first now from out why turn e opening at is = inl (
     inl (record {
       fault = why;
@@ -81,7 +81,7 @@ module _ {D I O : Type 0} (disk_of : D → State) (source_of : I → SourceState
       → AfterMount (disk_of before) (disk_of now) → (disk_of before).faults ≤ (disk_of now).faults
       → IsNotThere file (disk_of before) (disk_of now) (why ≡ stop.Disk) (why ≡ stop.NoFile)
       → e ≡ unserved why 0 → RunSteps (seen_by disk_of source_of sink_of) file (held before from out)
-          (held now from out) e
+      (held now from out) e
   steps_unmounted file before now from out why e mount later is ended = inl (
     record {
       mount = mount;

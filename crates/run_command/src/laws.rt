@@ -29,9 +29,9 @@ pub fn requests_are_served<B: Bay, I: Source, O: Sink>()
         → OpensBy CLASSES SIZE_MAX t (B.state old).file m b
         → Asks (I.state from).left requests [] → length requests < budget
         → RunPromise o (devices (B.state old) (O.state out)) (devices (B.state new) (O.state after))
-            (I.state from) (I.state rest)
+        (I.state from) (I.state rest)
         → RunAlways o (devices (B.state old) (O.state out)) (devices (B.state new) (O.state after))
-            (I.state from) (I.state rest) (rest ≡ from)
+        (I.state from) (I.state rest) (rest ≡ from)
         → IsMounted file false (B.state new).last_mount (o.status ≡ DISK_FAILED) (o.status ≡ NO_FILE)
         → (B.state new).last_mount ≡ mounted file false There
         → IsCalm (B.state old).faults (B.state new).faults

@@ -13,7 +13,9 @@ ghost use Rattle.run_command.specs.Sessions.{RunAlways, OpenRunSteps, RunSteps, 
 ghost use Rattle.run_command.specs.Sessions.{held, seen_by};
 
 use ask_session::{End, Session};
-use command_face::{DISK_FAILED, NO_FILE, NO_STORE, Outcome, StopReason, finish, mount_there, stop_of};
+use command_face::{
+    DISK_FAILED, NO_FILE, NO_STORE, Outcome, StopReason, finish, mount_there, stop_of,
+};
 use disk_face::{Bay, Disk, Sink, Source};
 use size_class::CLASSES;
 use std::alloc::Global;
@@ -40,7 +42,7 @@ pub fn run_file<B: Bay, I: Source, O: Sink>(
     requires { (B.state bay.old).last_mount ≡ None }
     ensures headline { IsTrue (B.state bay.old).tells → IsTrue (I.state input.old).tells
         → RunPromise result (devices (B.state bay.old) (O.state output.old))
-            (devices (B.state bay.new) (O.state output.new)) (I.state input.old) (I.state input.new) }
+        (devices (B.state bay.new) (O.state output.new)) (I.state input.old) (I.state input.new) }
     ensures refused { IsTrue (B.state bay.old).tells → NeverServed (B.state bay.old).file
         → Ends (IsRefusedService (B.state bay.old).file) result.status (O.state output.old)
         (O.state output.new) }
@@ -113,7 +115,7 @@ fn serve_store<D: Disk, I: Source, O: Sink>(
     requires turn { turn ≡ (D.state disk.old).turn }
     ensures { (first : D) → IsOpening CLASSES (D.state first) (D.state disk.old) (Ok store)
         → OpenRunSteps (seen_by D.state I.state O.state) (held first input.old output.old)
-            (held disk.new input.new output.new) result }
+        (held disk.new input.new output.new) result }
 {
     match Session::new(alloc, store, turn) {
         Ok(mut session) => {

@@ -78,8 +78,7 @@ rows_of_zeros : (n : ℕ) → flat_map (flat_map number) (replicate n (replicate
 rows_of_zeros zero = refl
 rows_of_zeros (suc n) =
     ap (λ xs. xs ++ flat_map (flat_map number) (replicate n (replicate 32 0))) (numbers_of_zeros 32)
-    ∙ ap (λ xs. zeros 256 ++ xs) (rows_of_zeros n)
-    ∙ zeros_join 256 (256 * n) (256 * suc n) (omega arith)
+    ∙ ap (λ xs. zeros 256 ++ xs) (rows_of_zeros n) ∙ zeros_join 256 (256 * n) (256 * suc n) (omega arith)
 
 first_header_bytes : header_bytes first_header ≡ first_bytes ++ zeros 8464
 unfolding first_header
@@ -139,8 +138,7 @@ slot_written front names len =
     let opened : overwritten (front ++ first_bytes ++ zeros m ++ zeros (slot_len names + 1)) (gate_at names 0)
     gate ≡ front ++ first_bytes ++ zeros m ++ gate ++ zeros (slot_len names) =
     zeros_written (front ++ first_bytes ++ zeros m) gate (gate_at names 0) (slot_len names + 1) at
-    (omega arith)
-    ∙ ap (λ k. front ++ first_bytes ++ zeros m ++ gate ++ zeros k) (omega arith)
+    (omega arith) ∙ ap (λ k. front ++ first_bytes ++ zeros m ++ gate ++ zeros k) (omega arith)
     in
     let header : first_bytes ++ zeros m ≡ header_bytes first_header ++ zeros (80 * names) =
     ap (λ xs. first_bytes ++ xs) (sym (zeros_join 8464 (80 * names) m refl))
@@ -148,8 +146,7 @@ slot_written front names len =
     ∙ ap (λ xs. xs ++ zeros (80 * names)) (sym first_header_bytes)
     in
     ap (λ xs. overwritten (overwritten xs superblock_len first_bytes) (gate_at names 0) gate) blank
-    ∙ ap (λ xs. overwritten xs (gate_at names 0) gate) begun
-    ∙ opened
+    ∙ ap (λ xs. overwritten xs (gate_at names 0) gate) begun ∙ opened
     ∙ ap (λ xs. xs ++ gate ++ zeros (slot_len names)) (append_assoc front first_bytes (zeros m))
     ∙ ap (λ xs. front ++ xs ++ gate ++ zeros (slot_len names)) header
     ∙ ap (λ xs. xs ++ zeros (slot_len names))

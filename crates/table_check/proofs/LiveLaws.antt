@@ -194,12 +194,12 @@ module _ (rs : List Record) (n : ℕ) (low : n < length rs) (volumes : List ℕ)
             let read : slice_index (set volumes d sum) c ≡ sum =
             get_or-set_at volumes d c sum 0 e (omega (arith, wide, so_far.long)) in
             let same_place : slice_index volumes d
-                ≡ slice_index volumes c = ap (slice_index volumes) (sym e) in
+            ≡ slice_index volumes c = ap (slice_index volumes) (sym e) in
             omega (arith, read, same_place, same, ap (λ b. cond b r.size 0) of_class)
         | inr other ↦
             let apart : c ≡ d → ⊥ = λ e. eqb-false (class_of r.size) c other (sym (e ∙ class)) in
             let of_other : is_of c r ≡ false = ap (λ b. nat_lt 0 r.size && b) other
-                ∙ with_false (nat_lt 0 r.size)
+            ∙ with_false (nat_lt 0 r.size)
             in
             omega (
               arith,

@@ -25,7 +25,7 @@ module _ {D : Type 0} (disk_of : D → State) (number count : ℕ) (first mid no
       → HasDone CLASSES s (jobs_of number count s) (disk_of mid) (disk_of now) x → text ≡ summary_text x
       → (IsTrue out.tells → Puts out.given put.given text end) → OnErr end (end ≡ Err stop.Sink)
       → put.tells ≡ out.tells → HasCause out.faults put.faults end → OpenWorkSteps disk_of number count
-          (devices (disk_of first) out) (devices (disk_of now) put) end
+      (devices (disk_of first) out) (devices (disk_of now) put) end
   steps_all x text end done is puts only told cause = inr (record {
     store = s;
     mid = mid;
@@ -40,7 +40,7 @@ module _ {D : Type 0} (disk_of : D → State) (number count : ℕ) (first mid no
 
   pub steps_stop : HasStopped CLASSES s (jobs_of number count s) (disk_of mid) (disk_of now) → put ≡ out
       → OpenWorkSteps disk_of number count (devices (disk_of first) out) (devices (disk_of now) put)
-          (Err stop.Disk)
+      (Err stop.Disk)
   steps_stop stopped same = inl (
     inr (inr (record {
       store = s;
@@ -88,7 +88,7 @@ module _ {D : Type 0} (disk_of : D → State) (file : List ℕ) (number count : 
   pub steps_mounted : (first : D) (put : SinkState) (end : Result (Unit {0}) StopReason)
       → AfterMount old (disk_of first) → (disk_of first).last_mount ≡ mounted file false There
       → (disk_of first).faults ≡ old.faults → OpenWorkSteps disk_of number count (devices (disk_of first) out)
-          (devices now put) end
+      (devices now put) end
       → WorkSteps disk_of file number count (devices old out) (devices now put) end
   steps_mounted first put end mount there calm steps =
       inr (record { first = first; mount = mount; there = there; calm = calm; steps = steps })

@@ -111,7 +111,7 @@ module _ (t : choice.SlotTable) (m : Map) (b : Book) (old : State) (lawful : IsL
       -- the superblock of the store is that of the table found
       over_block : {mid : State} {s : StoreValue} (n : ℕ) → Opened t m b old mid s
           → WorkHolds (found_with s.in_use.block t m b) number count n (devices old out) (devices z after) →
-              Works n
+          Works n
       over_block n op works = subst (λ (u : SuperBlock). WorkHolds (found_with u t m b) number count n
           (devices old out) (devices z after))
           op.block works

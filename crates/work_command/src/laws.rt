@@ -31,9 +31,9 @@ pub fn jobs_are_done<B: Bay, O: Sink>()
         (old new : B)
         (out after : O) → IsPlain b → OpensBy CLASSES SIZE_MAX t (B.state old).file m b
         → WorkPromise number count status (devices (B.state old) (O.state out))
-            (devices (B.state new) (O.state after))
+        (devices (B.state new) (O.state after))
         → WorkAlways count status (devices (B.state old) (O.state out))
-            (devices (B.state new) (O.state after))
+        (devices (B.state new) (O.state after))
         → IsMounted file false (B.state new).last_mount (status ≡ DISK_FAILED) (status ≡ NO_FILE)
         → (B.state new).last_mount ≡ mounted file false There
         → IsCalm (B.state old).faults (B.state new).faults

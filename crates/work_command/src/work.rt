@@ -11,7 +11,9 @@ ghost use Rattle.command_face.specs.Devices.{devices};
 ghost use Rattle.work_command.specs.Working.{WorkPromise, WorkAlways};
 
 use crate::summary::summary_text;
-use command_face::{DISK_FAILED, NO_FILE, Outcome, StopReason, finish, mount_there, put_whole, stop_of};
+use command_face::{
+    DISK_FAILED, NO_FILE, Outcome, StopReason, finish, mount_there, put_whole, stop_of,
+};
 use disk_face::{Bay, Disk, Sink};
 use size_class::CLASSES;
 use std::alloc::Global;
@@ -103,7 +105,7 @@ fn work_store<D: Disk, O: Sink>(
     requires most { count ≤ 1000000 }
     ensures { (first : D) → IsOpening CLASSES (D.state first) (D.state disk.old) (Ok store)
         → OpenWorkSteps D.state number count (devices (D.state first) (O.state output.old))
-            (devices (D.state disk.new) (O.state output.new)) result }
+        (devices (D.state disk.new) (O.state output.new)) result }
 {
     match do_work(alloc, store, disk, number, count) {
         Ok(summary) => put_whole(output, summary_text(&summary).as_slice()),

@@ -2,7 +2,8 @@ use Rattle.std.proofs.Common.{◌≡◌, true, false, arith, refl}
 use Rattle.slot_codec.specs.Names.{is_name}
 use Rattle.store_model.specs.Quiet.{put_of}
 use Rattle.map_model.specs.Requests as ask
-use Rattle.ask_session.proofs.AnswerLaws.{long_is_refused, name_is_refused, refused_head}
+use Rattle.ask_session.proofs.AnswerLaws.{refused_head}
+use Rattle.ask_session.proofs.TooLongLaws.{long_is_refused, name_is_refused}
 use Rattle.store_core.proofs.ChangingLaws.{unchanged_itself}
 use Rattle.ask_session.proofs.changes.serve_long.Goals as goal
 

@@ -29,8 +29,8 @@ returns-clause-headline g c = λ told source t m b requests end plain o asks.
       kept_done = e.kept_done;
       kept_turn = e.kept_turn;
     }) (devices (g.B.Disk.state c.args.bay.now) (g.O.Sink.state c.args.output.now))
-        (devices (g.B.Disk.state c.serve_file-ended.new.bay) (g.O.Sink.state c.finish-outcome.new.output))
-        (g.I.Source.state c.args.input.now) (g.I.Source.state c.serve_file-ended.new.input)) (sym status)
+    (devices (g.B.Disk.state c.serve_file-ended.new.bay) (g.O.Sink.state c.finish-outcome.new.output))
+    (g.I.Source.state c.args.input.now) (g.I.Source.state c.serve_file-ended.new.input)) (sym status)
     (headline g.B.Disk.state g.I.Source.state g.O.Sink.state g.met.B.Disk.lawful c.args.bay.now
     c.serve_file-ended.new.bay c.args.input.now c.serve_file-ended.new.input c.args.output.now
     c.serve_file-ended.new.output (g.O.Sink.state c.finish-outcome.new.output) told source t m b requests end

@@ -23,7 +23,7 @@ returns-clause-works g c = λ told t m b plain opens.
     let status : c.finish.result.status ≡ status_at c.work_over-end.result =
     ap (λ (x : Outcome). x.status) c.finish.ensures.status in
     subst (λ n. WorkHolds (found_with t.chosen.block t m b) c.args.number c.args.count n (devices old out)
-        (devices new after)) (sym status)
+    (devices new after)) (sym status)
     (works t m b old (g.met.B.Disk.lawful c.args.bay.now) told plain opens g.B.Disk.state c.args.number
     c.args.count new out put after
     c.args.file.now c.work_over-end.result c.work_over-end.ensures

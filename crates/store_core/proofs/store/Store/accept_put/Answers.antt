@@ -73,5 +73,5 @@ returns-clause-answer g c =
           ap (λ b. not b && nat_le t.in_use.block.names (fin.len t.now)) (sym live ∙ there)
     ] in
     accepts t name c.args.bytes.now c.unworn.result said.0 said.1
-        (omega (arith, c.if-bytes-gt-SIZE_MAX.false))
+    (omega (arith, c.if-bytes-gt-SIZE_MAX.false))
     room c.unworn.ensures.worn (λ early. c.unworn.ensures.fresh early ∙ ap (λ x. Ok x) said.2)

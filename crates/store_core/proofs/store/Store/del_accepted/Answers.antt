@@ -9,9 +9,16 @@ use Rattle.store_core.proofs.ServeLaws.{serves_quietly}
 use Rattle.store_core.proofs.store.Store.del_accepted.Goals as goal
 
 pub charge-charged-requires : goal.charge-charged-requires
-charge-charged-requires g c =
-    (omega arith, (omega arith, ((del_served c.args.self.now c.args.name.now c.requires.served).whole,
-    omega arith)))
+charge-charged-requires g c = (
+  omega arith,
+  (
+    omega arith,
+    (
+      (del_served c.args.self.now c.args.name.now c.requires.served).whole,
+      omega arith,
+    ),
+  ),
+)
 
 pub leave-requires : goal.leave-requires
 leave-requires g c =
