@@ -5,7 +5,7 @@ ghost use Rattle.std.specs.Prelude.{◌≡◌, ◌≢◌, [], IsErr, IsOk, IfOk}
 ghost use Rattle.std.specs.IoError.{error_kind};
 ghost use Rattle.std.specs.Process.{exit_status};
 
-use costore_top::{Outcome, costore, may_change};
+use costore_top::{HELP, Outcome, costore, may_change};
 use disk_file::{
     Cause, FileBay, StdSink, StdSource, Use, hold_numbers, is_own_errors, is_own_stream,
 };
@@ -161,10 +161,7 @@ fn asks_for_help(words: &[&str]) -> bool {
 
 /// Puts the page of `--help` on standard error.
 fn put_page(rt: &HostRuntime) {
-    let mut bay = FileBay::reading(rt);
-    let mut input = StdSource::new(rt.stdin());
-    let mut page = StdSink::new(rt.stderr());
-    let _ = costore(rt.alloc(), &["--help"], &mut bay, &mut input, &mut page);
+    let _ = eprint!(rt; "{HELP}");
 }
 
 /// The words of a command line that couldn't be read: where one isn't text there are none, and so no
