@@ -10,7 +10,7 @@ ghost use Rattle.segment_layout.specs.Balance.{IsFilled};
 ghost use Rattle.move_cost.specs.Costs.{IsCost, factor, rate, weigh, potential};
 ghost use Rattle.cost_laws.specs.Asked.{asked_row};
 ghost use Rattle.cost_laws.specs.Cells.{HasNoneFrom, NoCellFalls};
-ghost use Rattle.cost_laws.specs.Sessions.{IsPaidFor};
+ghost use Rattle.cost_laws.specs.Sessions.{Account, IsPaidFor, after_change, gone_back, kept, opened};
 ghost use Rattle.cost_laws.specs.Moves.{MovesNext, next_grid, rise};
 ghost use Rattle.cost_laws.specs.Buffers.{PassedOver};
 ghost use Rattle.cost_laws.specs.Paid.{IsWeighed, ArePaid, AsksNext, IsPaid};
@@ -79,26 +79,21 @@ pub fn a_session_is_paid_for()
 /// potential was at first.
 pub fn each_request_is_paid_for()
     ensures begins { (C k : ℕ) (cost : ℕ → ℕ) (m : Map) (book : Book) → IsWeighed C k cost m book
-        → IsPaidFor C k cost (potential C cost k book.grid) m m book book zero_row zero_row }
-    ensures keep { (C k : ℕ) (cost : ℕ → ℕ) (first : ℕ) (m kept : Map) (book kept_book : Book)
-        → (moved asked : List ℕ) → IsPaidFor C k cost first m kept book kept_book moved asked
-        → IsPaidFor C k cost first m m book book moved asked }
-    ensures back { (C k : ℕ) (cost : ℕ → ℕ) (first : ℕ) (m kept : Map) (book kept_book : Book)
-        → (moved asked : List ℕ) → IsPaidFor C k cost first m kept book kept_book moved asked
-        → IsPaidFor C k cost first kept kept kept_book kept_book moved asked }
-    ensures quiet { (C k : ℕ) (cost : ℕ → ℕ) (first : ℕ) (m kept : Map) (book kept_book : Book)
-        → (moved asked : List ℕ) → IsPaidFor C k cost first m kept book kept_book moved asked
-        → (c : Change) (moved_then asked_then : List ℕ) → HasNoneFrom C (next_grid k m book c)
-        → MovesNext (next_book k m book c) (changed c m) moved moved_then → AsksNext m c asked asked_then
-        → (next_book k m book c).quiet ≡ true → IsPaidFor C k cost first (changed c m) kept
-        (next_book k m book c).book kept_book moved_then asked_then }
-    ensures flush { (C k : ℕ) (cost : ℕ → ℕ) (first : ℕ) (m kept : Map) (book kept_book : Book)
-        → (moved asked : List ℕ) → IsPaidFor C k cost first m kept book kept_book moved asked
-        → (c : Change) (moved_then asked_then : List ℕ) → HasNoneFrom C (next_grid k m book c)
-        → MovesNext (next_book k m book c) (changed c m) moved moved_then → AsksNext m c asked asked_then
-        → IsPaidFor C k cost first (changed c m) (changed c m)
-        (next_book k m book c).book (next_book k m book c).book moved_then asked_then }
-    ensures in_all { (C k : ℕ) (cost : ℕ → ℕ) (first : ℕ) (m kept : Map) (book kept_book : Book)
-        → (moved asked : List ℕ) → IsPaidFor C k cost first m kept book kept_book moved asked
-        → weigh C cost moved ≤ factor k * weigh C cost asked + first }
+        → IsPaidFor C k cost (potential C cost k book.grid) (opened m book) }
+    ensures keep { (C k : ℕ) (cost : ℕ → ℕ) (first : ℕ) (a : Account) → IsPaidFor C k cost first a
+        → IsPaidFor C k cost first (kept a) }
+    ensures back { (C k : ℕ) (cost : ℕ → ℕ) (first : ℕ) (a : Account) → IsPaidFor C k cost first a
+        → IsPaidFor C k cost first (gone_back a) }
+    ensures quiet { (C k : ℕ) (cost : ℕ → ℕ) (first : ℕ) (a : Account) → IsPaidFor C k cost first a
+        → (c : Change) (moved asked : List ℕ) → HasNoneFrom C (next_grid k a.map a.book c)
+        → MovesNext (next_book k a.map a.book c) (changed c a.map) a.moved moved
+        → AsksNext a.map c a.asked asked → (next_book k a.map a.book c).quiet ≡ true
+        → IsPaidFor C k cost first (after_change k c moved asked a) }
+    ensures flush { (C k : ℕ) (cost : ℕ → ℕ) (first : ℕ) (a : Account) → IsPaidFor C k cost first a
+        → (c : Change) (moved asked : List ℕ) → HasNoneFrom C (next_grid k a.map a.book c)
+        → MovesNext (next_book k a.map a.book c) (changed c a.map) a.moved moved
+        → AsksNext a.map c a.asked asked
+        → IsPaidFor C k cost first (kept (after_change k c moved asked a)) }
+    ensures in_all { (C k : ℕ) (cost : ℕ → ℕ) (first : ℕ) (a : Account) → IsPaidFor C k cost first a
+        → weigh C cost a.moved ≤ factor k * weigh C cost a.asked + first }
 {}

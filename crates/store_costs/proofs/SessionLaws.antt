@@ -16,12 +16,11 @@ use Rattle.cost_laws.specs.Paid.{IsPaid}
 use Rattle.cost_laws.specs.Sessions.{IsPaidFor}
 use Rattle.cost_laws.proofs.PaidLaws.{paid_first, potential_none}
 use Rattle.store_model.specs.Connection.{IsOver, StoreValue, kept_map}
-use Rattle.store_core.specs.Keeps.{now_map}
 use Rattle.store_model.specs.Opened.{IsFresh, IsOpened}
 use Rattle.store_model.specs.States.{State}
 use Rattle.store_model.specs.Stores.{IsStore}
 use Rattle.store_costs.specs.Calls.{IsCall, Session}
-use Rattle.store_costs.specs.Paid.{HasPaid}
+use Rattle.store_costs.specs.Paid.{HasPaid, account_of}
 use Rattle.store_costs.proofs.ChangeLaws.{change_has_paid, nothing_has_paid, same_moves_nothing}
 use Rattle.store_costs.proofs.MadeLaws.{one_book}
 use Rattle.store_costs.proofs.OtherLaws.{back_has_less, back_has_paid, keep_moves_nothing}
@@ -137,8 +136,7 @@ in_all C cost first s paid = omega (arith, paid.paid)
 
 pub both_books_paid : (C : ℕ) (cost : ℕ → ℕ) (first : ℕ) (s : StoreValue) (file : List ℕ) → IsCost C cost
     → IsStore C s → IsOver C s file → HasPaid C cost first s
-    → IsPaidFor C s.in_use.block.k cost first (now_map s file) (kept_map s file) s.book s.kept_book s.moved
-    s.asked
+    → IsPaidFor C s.in_use.block.k cost first (account_of s file)
 both_books_paid C cost first s file is h over paid = record {
   weighed = weighed_by_file s file cost h over is;
   kept_weighed = kept_by_file s file cost h over is;

@@ -1,10 +1,12 @@
 -- What it is that the moves of a store's calls, and of a whole session, are paid for.
-use Rattle.std.specs.Prelude.{◌≡◌, ℕ, length}
+use Rattle.std.specs.Prelude.{◌≡◌, ℕ, List, length}
 use Rattle.size_class.specs.Classes.{width}
 use Rattle.cost_laws.specs.Moves.{rise}
 use Rattle.cost_laws.specs.Paid.{ArePaid, IsPaid}
+use Rattle.cost_laws.specs.Sessions.{Account}
 use Rattle.flush_run.specs.Calls.{IsOpenRow}
-use Rattle.store_model.specs.Connection.{StoreValue}
+use Rattle.store_model.specs.Connection.{StoreValue, kept_map}
+use Rattle.store_core.specs.Keeps.{now_map}
 
 -- no number of a store's ledger stands at its last value
 pub record HasOpenLedger (s : StoreValue) : Type 0 where
@@ -29,3 +31,14 @@ pub record MovesNothing (old new : StoreValue) : Type 0 where
   pub asked : new.asked ≡ old.asked
   pub book : new.book ≡ old.book
   pub divisor : new.in_use.block.k ≡ old.in_use.block.k
+
+-- the maps of a store over its file, its books and its ledger
+abbrev pub account_of : StoreValue → List ℕ → Account
+account_of s file = record {
+  map = now_map s file;
+  book = s.book;
+  kept_map = kept_map s file;
+  kept_book = s.kept_book;
+  moved = s.moved;
+  asked = s.asked;
+}

@@ -16,7 +16,7 @@ ghost use Rattle.store_core.specs.Keeps.{now_map};
 ghost use Rattle.store_model.specs.Opened.{IsFresh, IsOpened};
 ghost use Rattle.store_model.specs.Stores.{IsStore};
 ghost use Rattle.store_costs.specs.Calls.{IsCall, IsCounted, IsKeep, Session, gone_back};
-ghost use Rattle.store_costs.specs.Paid.{HasPaid, MovesNothing, StepIsPaidFor};
+ghost use Rattle.store_costs.specs.Paid.{HasPaid, MovesNothing, StepIsPaidFor, account_of};
 
 use disk_face::Disk;
 
@@ -78,8 +78,7 @@ pub fn a_session_of_a_store_is_paid_for<D: Disk>()
         → weigh C cost t.moved ≤ factor t.in_use.block.k * weigh C cost t.asked }
     ensures books { (C : ℕ) (cost : ℕ → ℕ) (first : ℕ) (s : StoreValue) (file : List ℕ) → IsCost C cost
         → IsStore C s → IsOver C s file → HasPaid C cost first s
-        → IsPaidFor C s.in_use.block.k cost first (now_map s file) (kept_map s file) s.book s.kept_book
-        s.moved s.asked }
+        → IsPaidFor C s.in_use.block.k cost first (account_of s file) }
     ensures in_all { (C : ℕ) (cost : ℕ → ℕ) (first : ℕ) (s : StoreValue) → HasPaid C cost first s
         → weigh C cost s.moved ≤ factor s.in_use.block.k * weigh C cost s.asked + first }
     ensures again { (C : ℕ) (s t : StoreValue) (file now : List ℕ) → IsOver C s file → IsOpened C file now t
