@@ -74,9 +74,8 @@ fn count_from<S: Shelf, const C: usize>(
         (from_place (start_of (divisor_of layout.now) (caps_of layout.now) b) (S.items shelf.now)) }
     requires high { pending ≤ 2 ^ 31 }
     requires class { 1 ≤ pending → class_of_lem pending < C }
-    ensures { IsCount C (divisor_of layout.now) (caps_of layout.now) pending
-        (from_place (start_of (divisor_of layout.now) (caps_of layout.now) b) (S.items shelf.now))
-        (cells_of result.volumes) result.largest result.in_payload result.in_buffers }
+    ensures { IsCount (divisor_of layout.now) (caps_of layout.now) pending
+        (from_place (start_of (divisor_of layout.now) (caps_of layout.now) b) (S.items shelf.now)) result }
 {
     let starts = starts_of(layout);
     let caps = layout.caps();

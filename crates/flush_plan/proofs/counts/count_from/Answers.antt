@@ -16,6 +16,7 @@ use Rattle.flush_model.proofs.BoundLaws.{class_small, end_small, flush_below, we
 use Rattle.flush_model.proofs.NumbersLaws.{item_ends}
 use Rattle.flush_model.proofs.PlaceLaws.{start_adds}
 use Rattle.flush_model.proofs.SumLaws.{AreSums, buffers_fit, payload_fits, stands_is, sums_fit, sums_more, sums_whole}
+use Rattle.flush_plan.specs.declared.counts.Count.{Count}
 use Rattle.flush_plan.specs.Counts.{IsCount}
 use Rattle.flush_plan.specs.Shelves.{from_place, IsRank}
 use Rattle.flush_plan.proofs.ShelfLaws.{from_at, from_length, got_has}
@@ -104,14 +105,15 @@ standing g c stands is = stands_is g.row.C (divisor_of c.args.layout.now) (caps_
     c.caps-caps.ensures c.starts_of-starts.ensures is
 
 -- once all are counted
-count_whole : (C k : ℕ) (caps : List ℕ) (items : List Item) (pending i : ℕ) (volumes : List ℕ)
-    (largest in_payload in_buffers : ℕ)
-    → AreSums C k caps items pending i volumes largest in_payload in_buffers → C ≤ length volumes
-    → length items ≤ i → IsCount C k caps pending items volumes largest in_payload in_buffers
-count_whole C k caps items pending i volumes largest in_payload in_buffers so wide ended =
+count_whole : {C : ℕ} (k : ℕ) (caps : List ℕ) (items : List Item) (pending i : ℕ) (count : Count C)
+    → AreSums C k caps items pending i (cells_of count.volumes) count.largest count.in_payload
+    count.in_buffers
+    → C ≤ length (cells_of count.volumes) → length items ≤ i → IsCount k caps pending items count
+count_whole {C} k caps items pending i count so wide ended =
     let all : take i items ≡ items = take_all i items ended in
     record {
-      totals = sums_whole C k caps items pending i volumes largest in_payload in_buffers so ended wide;
+      totals = sums_whole C k caps items pending i (cells_of count.volumes) count.largest count.in_payload
+          count.in_buffers so ended wide;
       most = so.most ∙ ap (λ xs. largest_of xs pending) all;
       payload = so.payload ∙ ap (weight (stands_in_payload k caps)) all;
       buffers = so.buffers ∙ ap (weight (λ it. not (stands_in_payload k caps it))) all;
@@ -216,7 +218,6 @@ returns g c =
     let first = c.rank_from-first.result in
     let is = rank_is layout c.args.b c.start.result first xs c.start.ensures.place
     c.rank_from-first.ensures in
-    count_whole g.row.C k caps (from_place (start_of k caps c.args.b) xs) c.args.pending
-    (c.ranks.rank - first) (cells_of c.ranks.volumes) c.ranks.largest c.ranks.in_payload c.ranks.in_buffers
+    count_whole k caps (from_place (start_of k caps c.args.b) xs) c.args.pending (c.ranks.rank - first) _
     c.ranks.invariant.1 (full c.ranks.volumes c.requires.fits)
     (omega (arith, c.ranks-test.false, c.len-len.ensures, from_length (start_of k caps c.args.b) xs first is))
