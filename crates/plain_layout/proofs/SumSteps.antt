@@ -10,15 +10,8 @@ use Rattle.map_model.proofs.MapLaws.{sum_by-map}
 use Rattle.segment_layout.specs.Books.{volumes_of_sizes}
 use Rattle.segment_layout.proofs.BalanceLaws.{bytes_in}
 use Rattle.segment_layout.proofs.BookLaws.{sum_by-filter, volumes_of_sizes-index}
-use Rattle.segment_layout.proofs.StepLaws.{passing_more}
 use Rattle.segment_layout.proofs.SumLaws.{sum_by_le_places}
 use Rattle.table_rules.specs.Tables.{is_of, no_record, size_sum, sizes}
-
-pub size_sum_more : (p : Record → Bool) (rs : List Record) (i : ℕ) → i < length rs
-    → size_sum (filter p (take (i + 1) rs))
-    ≡ size_sum (filter p (take i rs)) + cond (p (slice_index_or rs i no_record))
-    (slice_index_or rs i no_record).size 0
-size_sum_more p rs i h = passing_more (λ (r : Record). r.size) p rs i no_record h
 
 counting_at : (first n i : ℕ) → i < n → slice_index (counting_from first n) i ≡ first + i
 counting_at first zero i h = absurd (omega (arith, h))

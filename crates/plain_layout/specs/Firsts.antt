@@ -1,9 +1,7 @@
--- The rules of the program by those of the definitions, and the first place of each.
-use Rattle.std.specs.Prelude.{ℕ, ◌<◌}
+-- The rules of the program by those of the definitions.
 use Rattle.plain_layout.specs.declared.first.Rule as plain
 use Rattle.plain_layout.specs.declared.first.Rule.TheVariants.{SizeFits, EmptyAtZero, EndsWithin, KindFits, NothingAbove, RowFits, LowerStands, ApartFromEarlier, Balances, BuffersFull, RoomToResume, PlacesToResume}
-use Rattle.table_rules.specs.Rules.{Rule, RuleAt, places_of, size_fits, empty_at_zero, ends_within, kind_fits, nothing_above, row_fits, lower_stands, apart_from_earlier, balances, buffers_full, room_to_resume, places_to_resume}
-use Rattle.table_rules.specs.Tables.{TableInLayout}
+use Rattle.table_rules.specs.Rules.{Rule, size_fits, empty_at_zero, ends_within, kind_fits, nothing_above, row_fits, lower_stands, apart_from_earlier, balances, buffers_full, room_to_resume, places_to_resume}
 
 abbrev pub named : plain.Rule → Rule
 named SizeFits = size_fits
@@ -18,9 +16,3 @@ named Balances = balances
 named BuffersFull = buffers_full
 named RoomToResume = room_to_resume
 named PlacesToResume = places_to_resume
-
--- a rule is broken at a place, and at no lesser one
-pub record BreaksAt (rule : Rule) (t : TableInLayout) (at : ℕ) : Type 0 where
-  pub here : at < places_of rule t
-  pub before : (i : ℕ) → i < at → RuleAt rule t i
-  pub broken : RuleAt rule t at → ⊥

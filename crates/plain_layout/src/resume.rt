@@ -130,7 +130,7 @@ impl Table {
     }
 
     /// The sizes together of the suffix records below the wall that stand above a place.
-    #[tactic(auto, using(crate::proofs::SumSteps::size_sum_more))]
+    #[tactic(auto, using(table_rules::proofs::TableLaws::size_sum_more))]
     fn sizes_above(&self, place: u64) -> u128
         ensures sum { result ≡ sizes_above (placed self.now) place }
         ensures small { result < 2 ^ 127 }

@@ -21,7 +21,7 @@ impl Table {
     }
 
     /// The bytes of the objects of a class.
-    #[tactic(auto, using(crate::proofs::SumSteps::size_sum_more))]
+    #[tactic(auto, using(table_rules::proofs::TableLaws::size_sum_more))]
     pub fn live(&self, c: u8) -> u128
         ensures sum { result ≡ live (placed self.now) c }
         ensures small { result < 2 ^ 127 }
@@ -36,7 +36,7 @@ impl Table {
     }
 
     /// The bytes of the objects of a class that lie in its payload segment.
-    #[tactic(auto, using(crate::proofs::SumSteps::size_sum_more))]
+    #[tactic(auto, using(table_rules::proofs::TableLaws::size_sum_more))]
     pub fn live_in_payload(&self, c: u8) -> u128
         requires divisor { 1 ≤ self.now.k }
         ensures sum { result ≡ live_in_payload (placed self.now) c }
@@ -52,7 +52,7 @@ impl Table {
     }
 
     /// The bytes of the objects of a class that lie in a buffer.
-    #[tactic(auto, using(crate::proofs::SumSteps::size_sum_more))]
+    #[tactic(auto, using(table_rules::proofs::TableLaws::size_sum_more))]
     pub fn live_in_buffer(&self, j: u8, c: u8) -> u128
         requires divisor { 1 ≤ self.now.k }
         ensures sum { result ≡ live_in_buffer (placed self.now) j c }

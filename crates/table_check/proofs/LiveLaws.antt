@@ -8,20 +8,14 @@ use Rattle.byte_ranges.specs.Lists.{below, sum_below}
 use Rattle.byte_ranges.proofs.ListLaws.{zeros_at}
 use Rattle.size_class.specs.Classes.{class_of, width, cell}
 use Rattle.slot_codec.specs.declared.codec.Record.{Record}
-use Rattle.segment_layout.proofs.StepLaws.{passing_more}
 use Rattle.table_rules.specs.Tables.{TableInLayout, is_of, lies_in_buffer, lies_in_payload, no_record, size_sum}
+use Rattle.table_rules.proofs.TableLaws.{size_sum_more}
 use Rattle.extent_table.specs.declared.spot.Spot.{Spot}
 use Rattle.table_check.specs.declared.frame.Frame.{Frame}
 use Rattle.table_check.specs.Live.{IsFull, IsLive, at_spot, in_buffer, in_payload}
 use Rattle.table_check.specs.Placed.{framed}
 
 -- ---- a sum over the first records, and its bound
-
-pub size_sum_more : (p : Record → Bool) (rs : List Record) (i : ℕ) → i < length rs
-    → size_sum (filter p (take (i + 1) rs))
-    ≡ size_sum (filter p (take i rs)) + cond (p (slice_index_or rs i no_record))
-    (slice_index_or rs i no_record).size 0
-size_sum_more p rs i h = passing_more (λ (r : Record). r.size) p rs i no_record h
 
 pub sum_below_none : (f : ℕ → ℕ) → sum_below 0 f ≡ 0
 unfolding sum_below below

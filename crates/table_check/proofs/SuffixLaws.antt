@@ -10,7 +10,8 @@ use Rattle.table_rules.specs.Tables.{TableInLayout, end_of_record, is_below_wall
 use Rattle.table_rules.specs.Rules.{AllHold, apart_from_earlier, moving_places, places_to_resume}
 use Rattle.extent_table.specs.Extents.{Extents, records_of}
 use Rattle.table_check.specs.declared.frame.Frame.{Frame}
-use Rattle.table_check.specs.Firsts.{BreaksAt, IsLeast}
+use Rattle.table_rules.specs.Breaks.{BreaksAt}
+use Rattle.table_check.specs.Firsts.{IsLeast}
 use Rattle.table_check.specs.Orders.{IsByPlace}
 use Rattle.table_check.specs.Placed.{placed, ranked}
 use Rattle.table_check.specs.Suffixes.{HasWideGap, IsInOrder, StandsBesideWall}

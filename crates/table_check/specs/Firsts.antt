@@ -1,13 +1,7 @@
--- The first rule that is broken, rule by rule.
+-- The rules that hold, up to the first that is broken.
 use Rattle.std.specs.Prelude.{ℕ, ◌<◌, ◌≤◌}
 use Rattle.table_rules.specs.Tables.{TableInLayout}
-use Rattle.table_rules.specs.Rules.{Rule, RuleAt, AllHold, number_of, places_of}
-
--- a rule is broken at a place, and at no lesser one
-pub record BreaksAt (rule : Rule) (t : TableInLayout) (at : ℕ) : Type 0 where
-  pub here : at < places_of rule t
-  pub before : (i : ℕ) → i < at → RuleAt rule t i
-  pub broken : RuleAt rule t at → ⊥
+use Rattle.table_rules.specs.Rules.{Rule, AllHold, number_of}
 
 -- each rule with a lesser number holds at all its places
 abbrev pub HoldBelow : ℕ → TableInLayout → Type 0

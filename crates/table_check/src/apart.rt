@@ -3,7 +3,7 @@ ghost use Rattle.std.specs.Prelude.{◌≡◌, ◌≤◌, ◌<◌, ◌+◌, ◌�
 ghost use Rattle.extent_table.specs.Extents.{records_of};
 ghost use Rattle.table_rules.specs.Tables.{end_of_record};
 ghost use Rattle.table_rules.specs.Rules.{AllHold, ApartFromEarlier, apart_from_earlier};
-ghost use Rattle.table_check.specs.Firsts.{BreaksAt};
+ghost use Rattle.table_rules.specs.Breaks.{BreaksAt};
 ghost use Rattle.table_check.specs.Placed.{placed, ranked};
 
 use crate::frame::Frame;

@@ -4,7 +4,7 @@ ghost use Rattle.byte_ranges.specs.Lists.{sum_below};
 ghost use Rattle.size_class.specs.Classes.{cell, width};
 ghost use Rattle.table_rules.specs.Tables.{dead_in_buffer, live_in_buffer, table_boundary};
 ghost use Rattle.table_rules.specs.Rules.{AllHold, Balances, balances};
-ghost use Rattle.table_check.specs.Firsts.{BreaksAt};
+ghost use Rattle.table_rules.specs.Breaks.{BreaksAt};
 ghost use Rattle.table_check.specs.Live.{IsFull, IsLive, at_spot, in_buffer, in_payload};
 ghost use Rattle.table_check.specs.Placed.{framed, placed, ranked};
 

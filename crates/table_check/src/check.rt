@@ -6,7 +6,8 @@ ghost use Rattle.slot_codec.specs.declared.codec.Kind.TheVariants.{Settled, Movi
 ghost use Rattle.segment_layout.specs.Layouts.{caps_of, divisor_of, grid_of};
 ghost use Rattle.table_rules.specs.Rules.{AllHold, FirstBroken, IsValid, last_of, number_of};
 ghost use Rattle.table_check.specs.Checked.{checked, of_kind};
-ghost use Rattle.table_check.specs.Firsts.{BreaksAt, HoldBelow};
+ghost use Rattle.table_rules.specs.Breaks.{BreaksAt};
+ghost use Rattle.table_check.specs.Firsts.{HoldBelow};
 ghost use Rattle.table_check.specs.Tried.{named};
 ghost use Rattle.table_check.specs.Placed.{placed};
 ghost use Rattle.extent_table.specs.Extents.{records_of};

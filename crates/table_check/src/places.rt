@@ -4,7 +4,7 @@ ghost use Rattle.size_class.specs.Classes.{cell, width};
 ghost use Rattle.segment_layout.specs.Shapes.{buffer_of, taken_in};
 ghost use Rattle.table_rules.specs.Tables.{StandsInBuffer, table_boundary, last_end};
 ghost use Rattle.table_rules.specs.Rules.{AllHold, BuffersFull, EmptyAtZero, EndsWithin, KindFits, LowerStands, NothingAbove, RowFits, RuleAt, SizeFits, number_of, places_of};
-ghost use Rattle.table_check.specs.Firsts.{BreaksAt};
+ghost use Rattle.table_rules.specs.Breaks.{BreaksAt};
 ghost use Rattle.table_check.specs.PlaceRules.{named};
 ghost use Rattle.table_check.specs.Placed.{placed, ranked};
 

@@ -1,7 +1,7 @@
 use Rattle.std.proofs.Common.{arith, ap, sym, subst, ◌∙◌}
 use Rattle.std.specs.Prelude.{min}
 use Rattle.table_rules.specs.Rules.{places_to_resume}
-use Rattle.table_check.specs.Firsts.{BreaksAt}
+use Rattle.table_rules.specs.Breaks.{BreaksAt}
 use Rattle.table_check.specs.Placed.{placed}
 use Rattle.table_check.proofs.SuffixLaws.{first_of_three}
 use Rattle.table_check.proofs.resume.first_misplaced.Goals as goal
