@@ -1,11 +1,8 @@
 //! Whether a table that was read keeps the rules of its kind, and the layout that it gives.
-ghost use Rattle.std.specs.Prelude.{◌≡◌, ◌≤◌, ◌<◌, ◌^◌, ◌↔◌, IsTrue, IsOk, IfOk, IfErr, IsNone, IfSome, length, vec_capacity};
-ghost use Rattle.std.specs.FinMap as fin;
-ghost use Rattle.slot_codec.specs.Reading.{all_in_range};
+ghost use Rattle.std.specs.Prelude.{◌≡◌, ◌≤◌, ◌↔◌, IsOk, IfOk, IfErr, IsNone, IfSome, length, vec_capacity};
 ghost use Rattle.slot_codec.specs.declared.codec.Kind.TheVariants.{Settled, Moving};
-ghost use Rattle.segment_layout.specs.Layouts.{caps_of, divisor_of, grid_of};
 ghost use Rattle.table_rules.specs.Rules.{AllHold, FirstBroken, IsValid, last_of, number_of};
-ghost use Rattle.table_check.specs.Checked.{checked, of_kind};
+ghost use Rattle.table_check.specs.Checked.{CanCheck, IsLayoutOf, checked, of_kind};
 ghost use Rattle.table_rules.specs.Breaks.{BreaksAt};
 ghost use Rattle.table_check.specs.Firsts.{HoldBelow};
 ghost use Rattle.table_check.specs.Tried.{named};
@@ -44,31 +41,14 @@ pub fn check_settled<const C: usize>(
     length: u64,
     order: &mut Vec<u32>,
 ) -> Result<Layout<C>, TableFault>
-    requires fits { C ≤ 32 }
-    requires wide { SIZE_MAX < 2 ^ C }
-    requires low { 2 ≤ k }
-    requires high { k ≤ 64 }
-    requires ranges { IsTrue (all_in_range header.now) }
-    requires room { fin.len table.now.now ≤ vec_capacity order.old }
+    requires can { CanCheck C k header.now table.now.now (vec_capacity order.old) }
     ensures valid { IsOk result ↔ IsValid (checked C k length Settled header.now table.now.now) }
-    ensures divisor { IfOk result (λ layout. divisor_of layout ≡ k) }
-    ensures caps { IfOk result (λ layout. caps_of layout ≡ header.now.caps) }
-    ensures used { IfOk result (λ layout. grid_of layout ≡ header.now.used) }
+    ensures layout { IfOk result (IsLayoutOf k header.now) }
     ensures broken { IfErr result (λ fault. FirstBroken (checked C k length Settled header.now table.now.now)
         fault.rule fault.at) }
     ensures capacity { vec_capacity order.new ≡ vec_capacity order.old }
 {
-    let frame = framed(
-        C as u8,
-        SIZE_MAX,
-        k,
-        length,
-        with_kind(Kind::Settled, header),
-    );
-    match first_broken(table, &frame, order) {
-        Some(fault) => Err(fault),
-        None => Ok(layout_of(table, &frame)),
-    }
+    check_as(Kind::Settled, table, header, k, length, order)
 }
 
 /// Tries a table under a header as a moving one, as `check_settled` does a settled one. At Ok the
@@ -80,27 +60,33 @@ pub fn check_moving<const C: usize>(
     length: u64,
     order: &mut Vec<u32>,
 ) -> Result<Layout<C>, TableFault>
-    requires fits { C ≤ 32 }
-    requires wide { SIZE_MAX < 2 ^ C }
-    requires low { 2 ≤ k }
-    requires high { k ≤ 64 }
-    requires ranges { IsTrue (all_in_range header.now) }
-    requires room { fin.len table.now.now ≤ vec_capacity order.old }
+    requires can { CanCheck C k header.now table.now.now (vec_capacity order.old) }
     ensures valid { IsOk result ↔ IsValid (checked C k length Moving header.now table.now.now) }
-    ensures divisor { IfOk result (λ layout. divisor_of layout ≡ k) }
-    ensures caps { IfOk result (λ layout. caps_of layout ≡ header.now.caps) }
-    ensures used { IfOk result (λ layout. grid_of layout ≡ header.now.used) }
+    ensures layout { IfOk result (IsLayoutOf k header.now) }
     ensures broken { IfErr result (λ fault. FirstBroken (checked C k length Moving header.now table.now.now)
         fault.rule fault.at) }
     ensures capacity { vec_capacity order.new ≡ vec_capacity order.old }
 {
-    let frame = framed(
-        C as u8,
-        SIZE_MAX,
-        k,
-        length,
-        with_kind(Kind::Moving, header),
-    );
+    check_as(Kind::Moving, table, header, k, length, order)
+}
+
+/// Tries a table under a header as one of a kind, whatever kind the header has.
+fn check_as<const C: usize>(
+    kind: Kind,
+    table: &Table,
+    header: &Header,
+    k: u64,
+    length: u64,
+    order: &mut Vec<u32>,
+) -> Result<Layout<C>, TableFault>
+    requires can { CanCheck C k header.now table.now.now (vec_capacity order.old) }
+    ensures valid { IsOk result ↔ IsValid (checked C k length kind header.now table.now.now) }
+    ensures layout { IfOk result (IsLayoutOf k header.now) }
+    ensures broken { IfErr result (λ fault. FirstBroken (checked C k length kind header.now table.now.now)
+        fault.rule fault.at) }
+    ensures capacity { vec_capacity order.new ≡ vec_capacity order.old }
+{
+    let frame = framed(C as u8, SIZE_MAX, k, length, with_kind(kind, header));
     match first_broken(table, &frame, order) {
         Some(fault) => Err(fault),
         None => Ok(layout_of(table, &frame)),
@@ -119,9 +105,7 @@ fn layout_of<const C: usize>(table: &Table, frame: &Frame) -> Layout<C>
     requires fits { C ≤ 32 }
     requires same { frame.now.classes ≡ C }
     requires valid { IsValid (placed table.now frame.now) }
-    ensures divisor { divisor_of result ≡ frame.now.k }
-    ensures caps { caps_of result ≡ frame.now.header.caps }
-    ensures used { grid_of result ≡ frame.now.header.used }
+    ensures layout { IsLayoutOf frame.now.k frame.now.header result }
 {
     Layout::of(
         frame.k,
