@@ -10,20 +10,12 @@ use Rattle.slot_codec.specs.declared.codec.CodecFault.{CodecFault}
 use Rattle.slot_pair.specs.Finding.{Refuses}
 use Rattle.slot_pair.specs.declared.find.SlotFault.{SlotFault}
 use Rattle.slot_pair.specs.declared.find.SlotFault.TheVariants as fault
+use Rattle.slot_pair.proofs.RefusalLaws.{refuses_on}
 use Rattle.plain_layout.specs.Refusals.{RefusesBy, behind}
 use Rattle.plain_layout.specs.declared.opened.Refusal.{Refusal}
 use Rattle.plain_layout.specs.declared.opened.Refusal.TheVariants as refusal
 
 -- what is refused stays refused when one goes on
-pub refuses_on : {A B : Type 0} (r : Result A SlotRefusal) (f : A → Result B SlotRefusal) (why : SlotFault)
-    → Refuses r why → Refuses (r >>= f) why
-refuses_on r f fault.Disk h = h
-refuses_on r f fault.Short h = ap (λ x. x >>= f) h
-refuses_on r f fault.Unformatted h = ap (λ x. x >>= f) h
-refuses_on r f fault.NoGate h = ap (λ x. x >>= f) h
-refuses_on r f fault.SameSequence h = ap (λ x. x >>= f) h
-refuses_on r f (fault.Codec g at) h = ap (λ x. x >>= f) h
-
 pub refuses_by_on : {A B : Type 0} (r : Result A SlotRefusal) (f : A → Result B SlotRefusal) (why : Refusal)
     → RefusesBy r why → RefusesBy (r >>= f) why
 refuses_by_on r f (refusal.Slot g) h = refuses_on r f g h

@@ -1,43 +1,24 @@
 -- From the parts of a table to the table.
-use Rattle.std.specs.Prelude.{◌≡◌, refl, ℕ, ◌==◌, List, [], map, Option, None, Result, Ok, is_some}
+use Rattle.std.specs.Prelude.{◌≡◌, ℕ, ◌==◌, List, [], map, Option, None, Ok, is_some}
 use Rattle.std.proofs.Common.{ap, inl, inr, sym, subst, ◌∙◌}
 use Rattle.std.proofs.lemmas.Bool.{cases_Bool, cond-true, cond-false}
 use Rattle.byte_ranges.specs.Lists.{◌>>=◌}
-use Rattle.slot_codec.specs.Choice.{SlotRefusal, Chosen, SlotTable, slot_in_use, chosen, digests_in, plain, records_of, table_of, table_with}
+use Rattle.slot_codec.specs.Choice.{Chosen, slot_in_use, chosen, digests_in, plain, records_of, table_of, table_with}
 use Rattle.slot_codec.specs.declared.codec.Record.{Record}
 use Rattle.slot_codec.proofs.StepLaws.{bind_ok, from_ok}
 use Rattle.slot_pair.specs.Finding.{Refuses, chosen_of}
 use Rattle.slot_pair.specs.declared.find.SlotFault.{SlotFault}
+use Rattle.slot_pair.proofs.RefusalLaws.{by_records, refuses_on, with_records}
 use Rattle.plain_layout.specs.Refusals.{RefusesBy, behind}
 use Rattle.plain_layout.specs.Opened.{IsReadFrom, RefusesToOpen}
 use Rattle.plain_layout.specs.declared.opened.Opened.{Opened}
 use Rattle.plain_layout.specs.declared.opened.Refusal.{Refusal}
 use Rattle.plain_layout.specs.declared.opened.Refusal.TheVariants as refusal
-use Rattle.plain_layout.proofs.Reading.{refuses_on, refuses_by_on}
-
-with_records : Chosen → List Record → Result SlotTable SlotRefusal
-with_records c rs = Ok (table_with c rs)
-
-of_chosen : List ℕ → Chosen → Result SlotTable SlotRefusal
-of_chosen file c = records_of file c >>= with_records c
-
-by_chosen : (file : List ℕ) → table_of file ≡ (chosen file >>= of_chosen file)
-unfolding table_of of_chosen with_records
-by_chosen file = refl
+use Rattle.plain_layout.proofs.Reading.{refuses_by_on}
 
 -- a refusal to find the slot in use
 pub no_slot : (file : List ℕ) (why : SlotFault) → Refuses (slot_in_use file) why → Refuses (chosen file) why
 no_slot file why h = refuses_on (slot_in_use file) _ why h
-
--- a refusal of its header
-pub no_header : (file : List ℕ) (why : SlotFault) → Refuses (chosen file) why → Refuses (table_of file) why
-no_header file why h = subst (λ x. Refuses x why) (sym (by_chosen file))
-    (refuses_on (chosen file) (of_chosen file) why h)
-
-by_records : (file : List ℕ) (c : Chosen) → chosen file ≡ Ok c
-    → table_of file ≡ (records_of file c >>= with_records c)
-unfolding of_chosen
-by_records file c h = by_chosen file ∙ ap (λ x. x >>= of_chosen file) h
 
 -- a refusal of its records
 pub no_records : (file : List ℕ) (c : Chosen) (why : Refusal) → chosen file ≡ Ok c

@@ -1,4 +1,3 @@
-mod RefusalLaws
 mod RecordLaws
 mod PieceLaws
 mod TableLaws

@@ -23,7 +23,7 @@ use Rattle.extent_table.proofs.RollLaws.{rolled-push}
 use Rattle.placement_model.specs.Orders.{SetSoFar, spot_of}
 use Rattle.placement_model.proofs.OrderLaws.{set_more}
 use Rattle.reopen.specs.Records.{SetPiece, SetThrough, all_records}
-use Rattle.reopen.proofs.RefusalLaws.{refuses_on}
+use Rattle.slot_pair.proofs.RefusalLaws.{refuses_on}
 
 -- a record that is read behind a name rises above it
 pub rises_after : (version : ℕ) (bytes : List ℕ) (before : Option (List ℕ)) (r : Record)

@@ -1,6 +1,7 @@
 use Rattle.std.proofs.Common.{rules, IsTrue, sym, subst}
 use Rattle.slot_pair.specs.Finding.{chosen_of}
-use Rattle.plain_layout.proofs.Tables.{no_slot, no_header, no_records, a_table}
+use Rattle.slot_pair.proofs.RefusalLaws.{no_header}
+use Rattle.plain_layout.proofs.Tables.{no_slot, no_records, a_table}
 use Rattle.plain_layout.proofs.opened.read_table.Goals as goal
 
 pub returns-in-Err-clause-refused : goal.returns-in-Err-clause-refused

@@ -4,7 +4,8 @@ use Rattle.disk_face.proofs.FrameLaws.{Unchanged-trans}
 use Rattle.slot_codec.proofs.CapLaws.{cap-low}
 use Rattle.slot_pair.specs.Finding.{chosen_of}
 use Rattle.extent_table.specs.Extents.{Extents}
-use Rattle.reopen.proofs.TableLaws.{no_header, no_records}
+use Rattle.slot_pair.proofs.RefusalLaws.{no_header}
+use Rattle.reopen.proofs.TableLaws.{no_records}
 use Rattle.reopen.proofs.table.read_table.Goals as goal
 
 pub returns-in-Err-clause-refused : goal.returns-in-Err-clause-refused
