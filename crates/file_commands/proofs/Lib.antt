@@ -1,4 +1,3 @@
-mod Pieces
 mod GettingLaws
 mod LooksLaws
 mod AnswerLaws

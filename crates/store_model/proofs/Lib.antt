@@ -1,4 +1,3 @@
-pub mod PieceLaws
 pub mod StateLaws
 pub mod PlainLemmas
 pub mod VersionLaws

@@ -1,7 +1,7 @@
 use Rattle.std.proofs.Common.{rules, arith, IsTrue}
 use Rattle.std.proofs.lemmas.Grind.{common_steps}
 use Rattle.disk_face.proofs.FrameLaws.{Unchanged-trans}
-use Rattle.file_commands.proofs.Pieces.{put_more, put_front}
+use Rattle.byte_ranges.proofs.PieceLaws.{put_more, put_front}
 use Rattle.file_commands.proofs.copy.put_bytes.Goals as goal
 
 pub pieces-preserved : goal.pieces-preserved

@@ -3,7 +3,7 @@ use Rattle.std.proofs.lemmas.Grind.{common_steps}
 use Rattle.std.proofs.lemmas.List.{length-take-le}
 use Rattle.disk_face.proofs.FrameLaws.{Unchanged-trans}
 use Rattle.store_core.proofs.CauseLaws.{disk_cause_after, disk_cause_as, sink_cause_after, sink_cause_as}
-use Rattle.store_model.proofs.PieceLaws.{put_more, put_front}
+use Rattle.byte_ranges.proofs.PieceLaws.{put_more, put_front}
 use Rattle.store_core.proofs.copy.put_bytes.Goals as goal
 
 pub pieces-preserved : goal.pieces-preserved
