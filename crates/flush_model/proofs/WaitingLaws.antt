@@ -208,53 +208,82 @@ module _ (p : PlanState) (is : IsLaying p) (mv : Move) (next : IsNextLay p.k p.n
 -- ---- at most twice
 
 -- the bytes of a class that were lifted and those that are packed are together at most the class's
-pub lifted_and_packed : (p : PlanState) (c : ℕ) → lifted_in p c + packed_in p c ≤ class_total p.items c
-lifted_and_packed p c =
-    omega (
+module _ (p : PlanState) (c : ℕ) where
+  abbrev lifted : Item → Bool
+  lifted it = (it.class == c) && is_lifted p.numbers p.pending it
+
+  abbrev packed : Item → Bool
+  packed it = (it.class == c) && (is_below_wall p.numbers it && is_packed p.numbers p.items it)
+
+  each : (it : Item) → Contains p.items it
+      → cond (lifted it) it.size 0 + cond (packed it) it.size 0 ≤ cond (it.class == c) it.size 0
+  each it has = elim (cases_Bool (it.class == c)) [
+    | inr other ↦ omega (
       arith,
-      total_is lifted p.items,
-      total_is packed p.items,
-      total_is (λ it. it.class == c) p.items,
-      sum_by_both (λ it. cond (lifted it) it.size 0) (λ it. cond (packed it) it.size 0) p.items,
-      sum_by_le_in (λ it. cond (lifted it) it.size 0 + cond (packed it) it.size 0)
-          (λ it. cond (it.class == c) it.size 0) p.items each,
+      cond-false (lifted it) it.size 0 (and_left (it.class == c) (is_lifted p.numbers p.pending it) other),
+      cond-false (packed it) it.size 0 (and_left (it.class == c)
+          (is_below_wall p.numbers it && is_packed p.numbers p.items it) other),
     )
-  where
-    lifted : Item → Bool
-    lifted it = (it.class == c) && is_lifted p.numbers p.pending it
-
-    packed : Item → Bool
-    packed it = (it.class == c) && (is_below_wall p.numbers it && is_packed p.numbers p.items it)
-
-    each : (it : Item) → Contains p.items it
-        → cond (lifted it) it.size 0 + cond (packed it) it.size 0 ≤ cond (it.class == c) it.size 0
-    each it has = elim (cases_Bool (it.class == c)) [
-      | inr other ↦ omega (
+    | inl is ↦ elim (cases_lt it.place p.numbers.wall) [
+      | inl low ↦ omega (
         arith,
-        cond-false (lifted it) it.size 0 (and_left (it.class == c) (is_lifted p.numbers p.pending it) other),
-        cond-false (packed it) it.size 0 (and_left (it.class == c)
-            (is_below_wall p.numbers it && is_packed p.numbers p.items it) other),
+        cond-true (it.class == c) it.size 0 is,
+        cond-false (lifted it) it.size 0 (and_right (it.class == c) (is_lifted p.numbers p.pending it)
+            (and_left (nat_le p.numbers.wall it.place) (nat_lt it.place (p.numbers.reach - p.pending))
+            (lt-leb p.numbers.wall it.place low))),
+        cond_at_most (packed it) it.size,
       )
-      | inl is ↦ elim (cases_lt it.place p.numbers.wall) [
-        | inl low ↦ omega (
-          arith,
-          cond-true (it.class == c) it.size 0 is,
-          cond-false (lifted it) it.size 0 (and_right (it.class == c) (is_lifted p.numbers p.pending it)
-              (and_left (nat_le p.numbers.wall it.place) (nat_lt it.place (p.numbers.reach - p.pending))
-              (lt-leb p.numbers.wall it.place low))),
-          cond_at_most (packed it) it.size,
-        )
-        | inr past ↦ omega (
-          arith,
-          cond-true (it.class == c) it.size 0 is,
-          cond-false (packed it) it.size 0 (and_right (it.class == c)
-              (is_below_wall p.numbers it && is_packed p.numbers p.items it)
-              (and_left (is_below_wall p.numbers it) (is_packed p.numbers p.items it)
-              (le-ltb it.place p.numbers.wall past))),
-          cond_at_most (lifted it) it.size,
-        )
-      ]
+      | inr past ↦ omega (
+        arith,
+        cond-true (it.class == c) it.size 0 is,
+        cond-false (packed it) it.size 0 (and_right (it.class == c)
+            (is_below_wall p.numbers it && is_packed p.numbers p.items it)
+            (and_left (is_below_wall p.numbers it) (is_packed p.numbers p.items it)
+            (le-ltb it.place p.numbers.wall past))),
+        cond_at_most (lifted it) it.size,
+      )
     ]
+  ]
+
+  pub lifted_and_packed : lifted_in p c + packed_in p c ≤ class_total p.items c
+  lifted_and_packed =
+      omega (
+        arith,
+        total_is lifted p.items,
+        total_is packed p.items,
+        total_is (λ it. it.class == c) p.items,
+        sum_by_both (λ it. cond (lifted it) it.size 0) (λ it. cond (packed it) it.size 0) p.items,
+        sum_by_le_in (λ it. cond (lifted it) it.size 0 + cond (packed it) it.size 0)
+            (λ it. cond (it.class == c) it.size 0) p.items each,
+      )
+
+  -- where an item is pending, they leave its bytes out
+  pub lifted_and_packed_without : (m : Item) → Contains p.items m → p.numbers.wall ≤ m.place
+      → p.numbers.reach - p.pending ≤ m.place
+      → lifted_in p c + packed_in p c + cond (m.class == c) m.size 0 ≤ class_total p.items c
+  lifted_and_packed_without m has past last =
+      omega (
+        arith,
+        total_is lifted p.items,
+        total_is packed p.items,
+        total_is (λ it. it.class == c) p.items,
+        sum_by_both (λ it. cond (lifted it) it.size 0) (λ it. cond (packed it) it.size 0) p.items,
+        sum_by_more_in (λ it. cond (lifted it) it.size 0 + cond (packed it) it.size 0)
+            (λ it. cond (it.class == c) it.size 0) m (cond (m.class == c) m.size 0) p.items has
+            (omega (arith, not_lifted, not_packed)) each,
+      )
+    where
+      not_lifted : cond (lifted m) m.size 0 ≡ 0
+      not_lifted = cond-false (lifted m) m.size 0
+          (and_right (m.class == c) (is_lifted p.numbers p.pending m)
+          (and_right (nat_le p.numbers.wall m.place) (nat_lt m.place (p.numbers.reach - p.pending))
+          (le-ltb m.place (p.numbers.reach - p.pending) last)))
+
+      not_packed : cond (packed m) m.size 0 ≡ 0
+      not_packed = cond-false (packed m) m.size 0
+          (and_right (m.class == c) (is_below_wall p.numbers m && is_packed p.numbers p.items m)
+          (and_left (is_below_wall p.numbers m) (is_packed p.numbers p.items m)
+          (le-ltb m.place p.numbers.wall past)))
 
 -- and the laid bytes of a class are at most the class's
 pub laid_at_most : (p : PlanState) (c : ℕ) → laid_in p c ≤ class_total p.items c
@@ -276,69 +305,4 @@ laid_at_most p c = omega (
         cond-false (laid it) it.size 0
             (and_left (it.class == c) (is_laid p.k p.numbers p.items it) other),
       )
-    ]
-
--- where an item is pending, they leave its bytes out
-pub lifted_and_packed_without : (p : PlanState) (c : ℕ) (m : Item) → Contains p.items m
-    → p.numbers.wall ≤ m.place
-    → p.numbers.reach - p.pending ≤ m.place
-    → lifted_in p c + packed_in p c + cond (m.class == c) m.size 0 ≤ class_total p.items c
-lifted_and_packed_without p c m has past last =
-    omega (
-      arith,
-      total_is lifted p.items,
-      total_is packed p.items,
-      total_is (λ it. it.class == c) p.items,
-      sum_by_both (λ it. cond (lifted it) it.size 0) (λ it. cond (packed it) it.size 0) p.items,
-      sum_by_more_in (λ it. cond (lifted it) it.size 0 + cond (packed it) it.size 0)
-          (λ it. cond (it.class == c) it.size 0) m (cond (m.class == c) m.size 0) p.items has
-          (omega (arith, not_lifted, not_packed)) each,
-    )
-  where
-    lifted : Item → Bool
-    lifted it = (it.class == c) && is_lifted p.numbers p.pending it
-
-    packed : Item → Bool
-    packed it = (it.class == c) && (is_below_wall p.numbers it && is_packed p.numbers p.items it)
-
-    not_lifted : cond (lifted m) m.size 0 ≡ 0
-    not_lifted = cond-false (lifted m) m.size 0
-        (and_right (m.class == c) (is_lifted p.numbers p.pending m)
-        (and_right (nat_le p.numbers.wall m.place) (nat_lt m.place (p.numbers.reach - p.pending))
-        (le-ltb m.place (p.numbers.reach - p.pending) last)))
-
-    not_packed : cond (packed m) m.size 0 ≡ 0
-    not_packed = cond-false (packed m) m.size 0
-        (and_right (m.class == c) (is_below_wall p.numbers m && is_packed p.numbers p.items m)
-        (and_left (is_below_wall p.numbers m) (is_packed p.numbers p.items m)
-        (le-ltb m.place p.numbers.wall past)))
-
-    each : (it : Item) → Contains p.items it
-        → cond (lifted it) it.size 0 + cond (packed it) it.size 0 ≤ cond (it.class == c) it.size 0
-    each it there = elim (cases_Bool (it.class == c)) [
-      | inr other ↦ omega (
-        arith,
-        cond-false (lifted it) it.size 0 (and_left (it.class == c) (is_lifted p.numbers p.pending it) other),
-        cond-false (packed it) it.size 0 (and_left (it.class == c)
-            (is_below_wall p.numbers it && is_packed p.numbers p.items it) other),
-      )
-      | inl is ↦ elim (cases_lt it.place p.numbers.wall) [
-        | inl low ↦ omega (
-          arith,
-          cond-true (it.class == c) it.size 0 is,
-          cond-false (lifted it) it.size 0 (and_right (it.class == c) (is_lifted p.numbers p.pending it)
-              (and_left (nat_le p.numbers.wall it.place) (nat_lt it.place (p.numbers.reach - p.pending))
-              (lt-leb p.numbers.wall it.place low))),
-          cond_at_most (packed it) it.size,
-        )
-        | inr high ↦ omega (
-          arith,
-          cond-true (it.class == c) it.size 0 is,
-          cond-false (packed it) it.size 0 (and_right (it.class == c)
-              (is_below_wall p.numbers it && is_packed p.numbers p.items it)
-              (and_left (is_below_wall p.numbers it) (is_packed p.numbers p.items it)
-              (le-ltb it.place p.numbers.wall high))),
-          cond_at_most (lifted it) it.size,
-        )
-      ]
     ]
