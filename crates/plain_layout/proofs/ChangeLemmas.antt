@@ -14,33 +14,29 @@ use Rattle.segment_layout.specs.Books as books
 use Rattle.segment_layout.specs.Books.{Charged, Reshaped, below_class, buffered_after, charge_all, charge_change, charge_one, found_room, is_below_class, is_new_buffered, item_of, new_item, next_book, old_item, reshaped, volumes, volumes_of_sizes}
 use Rattle.segment_layout.proofs.ChargingLaws.{charge_all-append, last_found, tried_one}
 use Rattle.segment_layout.proofs.NextLaws.{after_here, after_other, names_after}
-use Rattle.plain_layout.specs.Changes.{IsNext, enters, finds_last, is_of_lower, sized, stays_buffered}
+use Rattle.plain_layout.specs.Changes.{IsNext, IsReshaped, enters, finds_last, is_of_lower, sized, stays_buffered}
 use Rattle.plain_layout.specs.declared.change.Next as plain
 use Rattle.plain_layout.proofs.ChargeSteps.{finds, last_next}
 
 pub next_of : (next : plain.Next) (k : ℕ) (caps : List ℕ) (grid : List (List ℕ)) (items after : List ℕ)
-    → next.quiet ≡ (reshaped k caps (charge_all k caps grid items) (volumes_of_sizes after)).quiet
-    → next.boundary ≡ (reshaped k caps (charge_all k caps grid items) (volumes_of_sizes after)).boundary
-    → next.found_last ≡ finds_last (charge_all k caps grid items) → next.book.k ≡ k
-    → next.book.caps ≡ (reshaped k caps (charge_all k caps grid items) (volumes_of_sizes after)).caps
-    → next.book.used ≡ (reshaped k caps (charge_all k caps grid items) (volumes_of_sizes after)).grid
+    → IsReshaped k caps grid items after next
     → (m : Map) (book : books.Book) (c : Change) → book.caps ≡ caps → book.grid ≡ grid
     → old_item m book c.name ++ new_item c ≡ items → map length (fin.values (changed c m)) ≡ after
     → IsNext next k m book c
 unfolding next_book
-next_of next k caps grid items after q b l d v g m book c ec eg ei ea =
+next_of next k caps grid items after x m book c ec eg ei ea =
     let charged : charge_change k m book c
     ≡ charge_all k caps grid items = λ i. charge_all k (ec i) (eg i) (ei i) in
     let shape : reshaped k book.caps (charge_change k m book c) (volumes (changed c m))
     ≡ reshaped k caps (charge_all k caps grid items) (volumes_of_sizes after) =
     λ i. reshaped k (ec i) (charged i) (volumes_of_sizes (ea i)) in
     record {
-      quiet = q ∙ sym (ap (λ (r : Reshaped). r.quiet) shape);
-      boundary = b ∙ sym (ap (λ (r : Reshaped). r.boundary) shape);
-      found_last = l ∙ sym (ap finds_last charged);
-      divisor = d;
-      caps = v ∙ sym (ap (λ (r : Reshaped). r.caps) shape);
-      grid = g ∙ sym (ap (λ (r : Reshaped). r.grid) shape);
+      quiet = x.quiet ∙ sym (ap (λ (r : Reshaped). r.quiet) shape);
+      boundary = x.boundary ∙ sym (ap (λ (r : Reshaped). r.boundary) shape);
+      found_last = x.last ∙ sym (ap finds_last charged);
+      divisor = x.divisor;
+      caps = x.capacities ∙ sym (ap (λ (r : Reshaped). r.caps) shape);
+      grid = x.used ∙ sym (ap (λ (r : Reshaped). r.grid) shape);
     }
 
 item_by_size : (o : Option (List ℕ)) → item_of o ≡ sized (option_map length o)

@@ -3,7 +3,7 @@ use Rattle.std.specs.Prelude.{◌≡◌, ℕ, nat_lt, Bool, false, ◌&&◌, ◌
 use Rattle.size_class.specs.Classes.{class_of}
 use Rattle.map_model.specs.Maps.{Map}
 use Rattle.map_model.specs.Requests.{Change}
-use Rattle.segment_layout.specs.Books.{Book, Charged, charge_change, charge_one, next_book, some_size}
+use Rattle.segment_layout.specs.Books.{Book, Charged, charge_all, charge_change, charge_one, next_book, reshaped, some_size, volumes_of_sizes}
 use Rattle.plain_layout.specs.declared.change.Next.{Next}
 
 -- the grid after one item is charged
@@ -34,6 +34,19 @@ is_of_lower b (Some size) = nat_lt (class_of size) b
 abbrev pub stays_buffered : Next → Bool → Bool → Option ℕ → Bool
 stays_buffered next was is_changed size = (if is_changed then enters next.found_last size else was)
     && (next.quiet || is_of_lower next.boundary size)
+
+-- The numbers are what charging these items does to those of before, where the objects have these sizes after
+-- it.
+pub record IsReshaped (k : ℕ) (caps : List ℕ) (grid : List (List ℕ)) (items after : List ℕ) (next : Next)
+    : Type 0 where
+  pub quiet : next.quiet ≡ (reshaped k caps (charge_all k caps grid items) (volumes_of_sizes after)).quiet
+  pub boundary : next.boundary
+      ≡ (reshaped k caps (charge_all k caps grid items) (volumes_of_sizes after)).boundary
+  pub capacities : next.book.caps
+      ≡ (reshaped k caps (charge_all k caps grid items) (volumes_of_sizes after)).caps
+  pub used : next.book.used ≡ (reshaped k caps (charge_all k caps grid items) (volumes_of_sizes after)).grid
+  pub divisor : next.book.k ≡ k
+  pub last : next.found_last ≡ finds_last (charge_all k caps grid items)
 
 -- The numbers are those of what a change does to a book.
 pub record IsNext (next : Next) (k : ℕ) (m : Map) (book : Book) (c : Change) : Type 0 where

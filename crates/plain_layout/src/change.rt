@@ -3,7 +3,7 @@ ghost use Rattle.std.specs.Prelude.{◌≡◌, ◌≤◌, ◌<◌, ◌^◌, ◌+
 ghost use Rattle.std.specs.FinMap as fin;
 ghost use Rattle.std.specs.FinSet as set;
 ghost use Rattle.std.specs.Option.{option_map};
-ghost use Rattle.plain_layout.specs.Changes.{IsNext, enters, finds_last, is_of_lower, sized, stays_buffered};
+ghost use Rattle.plain_layout.specs.Changes.{IsNext, IsReshaped, enters, finds_last, is_of_lower, sized, stays_buffered};
 ghost use Rattle.segment_layout.specs.Books as books;
 ghost use Rattle.segment_layout.specs.Books.{charge_all, new_item, next_book, old_item, reshaped, volumes_of_sizes};
 ghost use Rattle.map_model.specs.Maps.{Map};
@@ -32,19 +32,7 @@ impl Book {
     pub fn next(&self, items: &[u64], after: &[u64]) -> Next
         requires divisor { 1 ≤ self.now.k }
         requires fits { sum after.now < 2 ^ 64 }
-        ensures quiet { result.quiet ≡ (reshaped self.now.k self.now.caps
-            (charge_all self.now.k self.now.caps self.now.used items.now)
-            (volumes_of_sizes after.now)).quiet }
-        ensures boundary { result.boundary
-            ≡ (reshaped self.now.k self.now.caps (charge_all self.now.k self.now.caps self.now.used items.now)
-            (volumes_of_sizes after.now)).boundary }
-        ensures caps { result.book.caps ≡ (reshaped self.now.k self.now.caps
-            (charge_all self.now.k self.now.caps self.now.used items.now) (volumes_of_sizes after.now)).caps }
-        ensures used { result.book.used ≡ (reshaped self.now.k self.now.caps
-            (charge_all self.now.k self.now.caps self.now.used items.now) (volumes_of_sizes after.now)).grid }
-        ensures divisor { result.book.k ≡ self.now.k }
-        ensures last { result.found_last
-            ≡ finds_last (charge_all self.now.k self.now.caps self.now.used items.now) }
+        ensures numbers { IsReshaped self.now.k self.now.caps self.now.used items.now after.now result }
         ensures book { (m : Map) (book : books.Book) (c : Change) → book.caps ≡ self.now.caps
             → book.grid ≡ self.now.used → old_item m book c.name ++ new_item c ≡ items.now
             → map length (fin.values (changed c m)) ≡ after.now

@@ -1,9 +1,21 @@
+use Rattle.plain_layout.specs.Changes.{IsReshaped}
 use Rattle.plain_layout.proofs.ChangeLemmas.{next_of}
 use Rattle.plain_layout.proofs.book.Book.next.Goals as goal
 
-pub returns-clause-book : goal.returns-clause-book
-returns-clause-book c =
+pub returns : goal.returns
+returns c =
     let self = c.args.self.now in
     let e = c.reshaped.ensures in
-    next_of c.reshaped.result self.k self.caps self.used c.args.items.now c.args.after.now e.quiet e.boundary
-    e.last e.divisor e.caps e.used
+    let numbers : IsReshaped self.k self.caps self.used c.args.items.now c.args.after.now c.reshaped.result
+    = record {
+      quiet = e.quiet;
+      boundary = e.boundary;
+      capacities = e.caps;
+      used = e.used;
+      divisor = e.divisor;
+      last = e.last;
+    } in
+    record {
+      numbers = numbers;
+      book = next_of c.reshaped.result self.k self.caps self.used c.args.items.now c.args.after.now numbers;
+    }
