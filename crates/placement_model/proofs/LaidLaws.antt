@@ -6,19 +6,11 @@ use Rattle.slot_codec.specs.declared.codec.Kind.{Kind}
 use Rattle.slot_codec.specs.declared.codec.Kind.TheVariants.{Settled, Moving}
 use Rattle.table_rules.specs.Tables.{TableInLayout, book_of, last_end, nth, end_of_record}
 use Rattle.table_rules.specs.Rules.{KeepsPlaces, CanResume, IsMore, IsValid, KindFits}
+use Rattle.table_rules.proofs.HeaderLaws.{places_renumbered}
 use Rattle.placement_model.specs.Laid.{numbered}
 
 pub places_numbered : (q n : ℕ) (t : TableInLayout) → KeepsPlaces t → KeepsPlaces (numbered q n t)
-places_numbered q n t p = record {
-  sizes = p.sizes;
-  empty = p.empty;
-  above = p.above;
-  rows = p.rows;
-  stands = p.stands;
-  apart = p.apart;
-  balance = λ c h. record { buffers = (p.balance c h).buffers; payload = (p.balance c h).payload };
-  full = λ c h. record { entry = (p.full c h).entry; full = (p.full c h).full };
-}
+places_numbered q n t p = places_renumbered t.header.version q n t.data_len t p
 
 front_numbered : (q n : ℕ) (t : TableInLayout) (kind : Kind) → KindFits t kind
     → KindFits (numbered q n t) kind

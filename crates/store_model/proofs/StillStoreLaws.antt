@@ -41,6 +41,7 @@ use Rattle.store_model.specs.Plain.{IsPlainFrom, plain_seen}
 use Rattle.store_model.specs.Connection.{IsOver, StoreValue, base_of, kept_map, opened_store, state_of}
 use Rattle.store_model.specs.Opened.{IsFoundImage, IsFresh, SameOnFound, most_found, state_at}
 use Rattle.store_model.specs.Stores.{IsStore}
+use Rattle.table_rules.proofs.HeaderLaws.{below_rekinded}
 use Rattle.table_rules.proofs.SequenceLaws.{sequence_of_table}
 use Rattle.store_model.proofs.OpeningLaws.{found_low, opens_alike}
 
@@ -48,19 +49,8 @@ use Rattle.store_model.proofs.OpeningLaws.{found_low, opens_alike}
 below_still : (classes size_max k len : ℕ) (h : Header) (spots : Spots)
     → KeepsBelow classes (laid classes size_max k len h spots)
     → KeepsBelow classes (settled_table classes size_max k h.caps h.used spots)
-below_still classes size_max k len h spots keeps = record {
-  sizes = keeps.sizes;
-  empty = keeps.empty;
-  lower = keeps.lower;
-  rows = keeps.rows;
-  stands = keeps.stands;
-  apart = keeps.apart;
-  balance = λ c low. record {
-    buffers = (keeps.balance c low).buffers;
-    payload = (keeps.balance c low).payload;
-  };
-  full = λ c low. record { entry = (keeps.full c low).entry; full = (keeps.full c low).full };
-}
+below_still classes size_max k len h spots keeps = below_rekinded 1 kind.Settled 0 0 0 0 0 (end_of k h.caps)
+    classes (laid classes size_max k len h spots) keeps
 
 module _ {C : ℕ} (x : Loaded C) (loads : KeepsLoaded x) (still : x.header.kind ≡ kind.Settled) (few : C ≤ 32)
     (wide : SIZE_MAX < 2 ^ C) where

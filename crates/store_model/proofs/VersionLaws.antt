@@ -4,6 +4,7 @@ use Rattle.std.proofs.Common.{subst, sym}
 use Rattle.slot_codec.specs.declared.codec.Kind.{Kind}
 use Rattle.slot_codec.specs.declared.codec.Kind.TheVariants.{Settled, Moving}
 use Rattle.table_rules.specs.Tables.{TableInLayout, last_end, nth, end_of_record}
+use Rattle.table_rules.proofs.HeaderLaws.{places_renumbered}
 use Rattle.table_rules.specs.Rules.{IsMore, IsValid, KeepsPlaces, KindFits}
 
 -- a table with another version, sequence and count in its header
@@ -11,16 +12,7 @@ abbrev versioned : ℕ → ℕ → ℕ → TableInLayout → TableInLayout
 versioned v q n t = record t { header = record t.header { version = v; sequence = q; count = n } }
 
 places_versioned : (v q n : ℕ) (t : TableInLayout) → KeepsPlaces t → KeepsPlaces (versioned v q n t)
-places_versioned v q n t p = record {
-  sizes = p.sizes;
-  empty = p.empty;
-  above = p.above;
-  rows = p.rows;
-  stands = p.stands;
-  apart = p.apart;
-  balance = λ c h. record { buffers = (p.balance c h).buffers; payload = (p.balance c h).payload };
-  full = λ c h. record { entry = (p.full c h).entry; full = (p.full c h).full };
-}
+places_versioned v q n t p = places_renumbered v q n t.data_len t p
 
 front_versioned : (v q n : ℕ) (t : TableInLayout) (kind : Kind) → KindFits t kind
     → KindFits (versioned v q n t) kind

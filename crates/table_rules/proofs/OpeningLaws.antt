@@ -15,6 +15,7 @@ use Rattle.segment_layout.specs.Books.{Book, with_digests}
 use Rattle.table_rules.specs.Tables.{TableInLayout, map_of, book_of, nth, end_of_record, last_end}
 use Rattle.table_rules.specs.Opening.{OpensBy, placed_table}
 use Rattle.table_rules.specs.Objects.{SameObjects, HasRoomFor, AllApart}
+use Rattle.table_rules.proofs.HeaderLaws.{places_renumbered}
 use Rattle.table_rules.specs.Rules.{IsValid, KeepsPlaces, CanResume, KindFits, IsMore}
 
 same_map_of : (base : ℕ) (rs : List Record) (a b : List ℕ) → SameObjects base rs a b
@@ -26,16 +27,7 @@ same_map_of base (r ∷ rs) a b h =
     λ i. fin.insert (same_map_of base rs a b h.3 i) r.name (object i)
 
 places_longer : (t : TableInLayout) (n : ℕ) → KeepsPlaces t → KeepsPlaces (record t { data_len = n })
-places_longer t n p = record {
-  sizes = p.sizes;
-  empty = p.empty;
-  above = p.above;
-  rows = p.rows;
-  stands = p.stands;
-  apart = p.apart;
-  balance = λ c h. record { buffers = (p.balance c h).buffers; payload = (p.balance c h).payload };
-  full = λ c h. record { entry = (p.full c h).entry; full = (p.full c h).full };
-}
+places_longer t n p = places_renumbered t.header.version t.header.sequence t.header.count n t p
 
 resume_longer : (t : TableInLayout) (n : ℕ) → CanResume t → CanResume (record t { data_len = n })
 resume_longer t n r = record {
