@@ -5,7 +5,7 @@ use Rattle.std.proofs.Math.Nat.{mul-le-mul_left}
 use Rattle.std.proofs.lemmas.List.Sums.{sum_by-cons}
 use Rattle.std.proofs.lemmas.Bool.{cases_lt, cond-true, cond-false, le-leb, lt-leb}
 use Rattle.byte_ranges.specs.Lists.{counting_from, sum_below}
-use Rattle.segment_layout.proofs.SumLaws.{sum_from, sum_below_is, sum_below_agree, sum_below_zero, sum_below_times, inside, inside_here, inside_below, sum_below_inside}
+use Rattle.segment_layout.proofs.SumLaws.{sum_from, sum_from_split, sum_below_is, sum_below_agree, sum_below_zero, sum_below_times, inside, inside_here, inside_below, sum_below_inside}
 
 -- at most n numbers lie among the n from a first one on
 pub few_ones : (all first n : ℕ) → sum_below all (inside first n) ≤ n
@@ -50,23 +50,6 @@ pub from-above : (b j : ℕ) (f : ℕ → ℕ) → b ≤ j → from b f j ≡ f 
 from-above b j f high = cond-true (nat_le b j) (f j) 0 (le-leb b j high)
 
 -- ---- sums in two parts
-
-sum_from_split : (first n m : ℕ) (f : ℕ → ℕ)
-    → sum_from first (n + m) f ≡ sum_from first n f + sum_from (first + n) m f
-sum_from_split first zero m f =
-    let at : first + 0 ≡ first = omega arith in
-    let all : 0 + m ≡ m = omega arith in
-    let e : sum_from first (0 + m) f ≡ sum_from first m f = ap (λ x. sum_from first x f) all in
-    let g : sum_from (first + 0) m f ≡ sum_from first m f = ap (λ x. sum_from x m f) at in
-    omega (arith, e, g)
-sum_from_split first (suc n) m f =
-    let at : sum_from first (suc n + m) f ≡ sum_from first (suc (n + m)) f =
-    (let e : suc n + m ≡ suc (n + m) = omega arith in ap (λ x. sum_from first x f) e) in
-    let last : sum_from (first + 1 + n) m f ≡ sum_from (first + suc n) m f =
-    (let e : first + 1 + n ≡ first + suc n = omega arith in ap (λ x. sum_from x m f) e) in
-    let next : (x : ℕ) → sum_from first (suc x) f ≡ f first + sum_from (first + 1) x f =
-    λ x. sum_by-cons (λ y. y) (f first) (map f (counting_from (first + 1) x)) in
-    omega (arith, at, last, next (n + m), next n, sum_from_split (first + 1) n m f)
 
 sum_from_none : (first n : ℕ) (f : ℕ → ℕ) → ((i : ℕ) → first ≤ i → f i ≡ 0) → sum_from first n f ≡ 0
 sum_from_none first zero f none = refl

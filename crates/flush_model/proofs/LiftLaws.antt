@@ -7,7 +7,7 @@ use Rattle.std.proofs.lemmas.List.{get_or-take, length-take-le, take-take}
 use Rattle.size_class.specs.Classes.{width}
 use Rattle.size_class.proofs.ClassLaws.{class_below}
 use Rattle.segment_layout.specs.Shapes.{buffer_of, buffer_start, end_of, start_of}
-use Rattle.segment_layout.proofs.ShapeLaws.{start_of-le}
+use Rattle.segment_layout.proofs.ShapeLaws.{start_of-le, start_of-rises}
 use Rattle.flush_model.specs.declared.item.Item.{Item}
 use Rattle.flush_model.specs.declared.item.Move.{Move}
 use Rattle.flush_model.specs.declared.item.Numbers.{Numbers}
@@ -16,21 +16,6 @@ use Rattle.flush_model.specs.Phases.{AreItems, AreLifting, lifted_in, PlanState}
 use Rattle.flush_model.proofs.ListLaws.{cond_at_most, sum_by_le_in, sum_by_more_in}
 use Rattle.flush_model.proofs.ItemLaws.{after_is, items_after, items_within, same_or_apart, target, total_is, weight_moves}
 use Rattle.flush_model.proofs.PackLaws.{is_over, laid_length_after, over_parts, sizes_over_is}
-
--- the segments of a class end before those of a later class begin (placement_model has the same)
-pub start_of-rises : (k : ℕ) (caps : List ℕ) (c d : ℕ) → c < d → d ≤ length caps
-    → start_of k caps c + (slice_index caps c + buffer_of k (slice_index caps c)) ≤ start_of k caps d
-start_of-rises k caps c d less within =
-    let front = take d caps in
-    let long : length front ≡ d = length-take-le d caps within in
-    let same : take c front ≡ take c caps = take-take c d caps (omega (arith, less)) in
-    omega (
-      arith,
-      start_of-le k front c (omega (arith, less, long)),
-      ap (end_of k) same,
-      get_or-take d caps c 0 less,
-      ap (buffer_of k) (get_or-take d caps c 0 less),
-    )
 
 pub payload_parts : (k : ℕ) (caps : List ℕ) (it : Item) → IsTrue (stands_in_payload k caps it)
     → (start_of k caps it.class ≤ it.place) × (it.place + it.size ≤ buffer_start k caps it.class)

@@ -7,7 +7,7 @@ use Rattle.byte_ranges.specs.Lists.{sum_below}
 use Rattle.size_class.specs.Classes.{width}
 use Rattle.size_class.proofs.ClassLaws.{class_below}
 use Rattle.segment_layout.specs.Shapes.{buffer_of, buffer_start, end_of, start_of}
-use Rattle.segment_layout.proofs.ShapeLaws.{start_of-le, buffer_of-times}
+use Rattle.segment_layout.proofs.ShapeLaws.{start_of-le, buffer_of-times, start_of-rises}
 use Rattle.map_model.specs.Maps.{largest, volume}
 use Rattle.segment_layout.proofs.SumLaws.{sum_below_le, sum_below_term, sum_below_times, sum_by_below, sum_by_places}
 use Rattle.flush_model.specs.declared.item.Item.{Item}
@@ -17,7 +17,7 @@ use Rattle.flush_model.specs.Phases.{AreItems, CanFlush}
 use Rattle.flush_model.specs.LooseReach.{ReachIsLoose}
 use Rattle.flush_model.proofs.ListLaws.{sum_by_le_in, sum_by_same_in, sum_by_both}
 use Rattle.flush_model.proofs.ItemLaws.{items_within, total_is}
-use Rattle.flush_model.proofs.LiftLaws.{payload_parts, start_of-rises}
+use Rattle.flush_model.proofs.LiftLaws.{payload_parts}
 use Rattle.flush_model.proofs.LargestLaws.{largest-from, largest-le, largest-of}
 
 pub start_of-le_start : (k : ℕ) (caps : List ℕ) (b c : ℕ) → b ≤ c → c ≤ length caps

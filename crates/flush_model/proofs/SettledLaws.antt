@@ -9,7 +9,7 @@ use Rattle.byte_ranges.specs.Lists.{counting_from}
 use Rattle.size_class.specs.Classes.{IsRow, width}
 use Rattle.size_class.proofs.ClassLaws.{class_below}
 use Rattle.segment_layout.specs.Shapes.{buffer_of, buffer_start, end_of, settled_caps, start_of}
-use Rattle.segment_layout.proofs.ShapeLaws.{caps-settled_above, end_of-next, length-settled_caps}
+use Rattle.segment_layout.proofs.ShapeLaws.{caps-settled_above, end_of-next, length-settled_caps, start_of-settled}
 use Rattle.flush_model.specs.declared.item.Item.{Item}
 use Rattle.flush_model.specs.declared.item.Numbers.{Numbers}
 use Rattle.flush_model.specs.Plans.{class_total, in_class, laid_length}
@@ -17,12 +17,6 @@ use Rattle.flush_model.specs.Phases.{PlanState}
 use Rattle.flush_model.specs.Settlements.{IsPlaced, KeepsSettled, new_caps, new_end, Settlement}
 use Rattle.flush_model.proofs.ListLaws.{sum_by_more_in, sum_by_none_in}
 use Rattle.flush_model.proofs.FinalLaws.{class_total_is, earlier, earlier_le, earlier_later, earlier_sum_is, in_class_counts, laid_length_split, segment}
-
--- laying out anew leaves where the suffix begins (placement_model has the same)
-start_of-settled : (k b : ℕ) (caps volumes : List ℕ) → b ≤ length caps
-    → start_of k (settled_caps b caps volumes) b ≡ start_of k caps b
-start_of-settled k b caps volumes within =
-    ap (end_of k) (take_at (take b caps) (drop b volumes) b (length-take-le b caps within))
 
 -- the new segments begin where laying counts from
 pub start_of_settled : (k b c : ℕ) (caps volumes : List ℕ) (items : List Item) → length caps ≡ width

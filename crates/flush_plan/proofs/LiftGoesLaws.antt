@@ -5,7 +5,7 @@ use Rattle.std.proofs.lemmas.List.Sorted.{Contains-permutation, IsPermutation-sy
 use Rattle.std.proofs.lemmas.Bool.{cases_lt, cases_order, not_from_false}
 use Rattle.size_class.specs.Classes.{IsRow, width}
 use Rattle.segment_layout.specs.Shapes.{buffer_start, end_of, start_of}
-use Rattle.segment_layout.proofs.ShapeLaws.{start_of-le}
+use Rattle.segment_layout.proofs.ShapeLaws.{start_of-le, start_of-rises}
 use Rattle.flush_model.specs.declared.item.Item.{Item}
 use Rattle.flush_model.specs.declared.item.Move.{Move}
 use Rattle.flush_model.specs.declared.item.Numbers.{Numbers}
@@ -16,7 +16,7 @@ use Rattle.flush_model.specs.Steps.{IsLiftStep}
 use Rattle.flush_model.proofs.BeginLaws.{begun, begun_below, begun_small, HasBegun, push_each}
 use Rattle.flush_model.proofs.ItemLaws.{after_is, same_or_apart}
 use Rattle.flush_model.proofs.LargestLaws.{largest-permuted}
-use Rattle.flush_model.proofs.LiftLaws.{lift_ends_before, lift_past, lifted_after, lifted_in_none, payload_parts, start_of-rises}
+use Rattle.flush_model.proofs.LiftLaws.{lift_ends_before, lift_past, lifted_after, lifted_in_none, payload_parts}
 use Rattle.flush_model.proofs.PhaseLaws.{below_after, lifting_moved, small_after}
 use Rattle.flush_model.proofs.SortLaws.{below_permuted, items_permuted, lifted_permuted, lifting_permuted, small_permuted, suits_permuted, total_permuted}
 use Rattle.flush_model.proofs.StepLaws.{lift_step}

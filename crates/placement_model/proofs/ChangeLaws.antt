@@ -6,7 +6,7 @@ use Rattle.size_class.specs.Classes.{width, class_of, row, cell}
 use Rattle.size_class.proofs.ClassLaws.{class_below}
 use Rattle.slot_codec.specs.declared.codec.Record.{Record}
 use Rattle.segment_layout.specs.Shapes.{buffer_for, buffer_of, buffer_start, start_of, taken_in, with_entry}
-use Rattle.segment_layout.proofs.ShapeLaws.{cell-with_entry_class, cell-with_entry_row, cell-with_entry_same, taken-with_entry_le, taken-with_entry_other, taken-with_entry_same}
+use Rattle.segment_layout.proofs.ShapeLaws.{cell-with_entry_class, cell-with_entry_row, cell-with_entry_same, taken-with_entry_le, taken-with_entry_other, taken-with_entry_same, start_of-rises}
 use Rattle.segment_layout.proofs.LayoutLaws.{taken_nothing}
 use Rattle.segment_layout.proofs.ChargeLaws.{RoomIn, room_of_buffer}
 use Rattle.segment_layout.proofs.BalanceLaws.{filled_by_charge}
@@ -15,7 +15,6 @@ use Rattle.segment_layout.proofs.BookLaws.{sum_by-filter}
 use Rattle.segment_layout.proofs.SumLaws.{sum_below_le, sum_by_same_places}
 use Rattle.table_rules.specs.Tables.{TableInLayout, no_record, nth, end_of_record, is_of, lies_within, lies_in_buffer, live_in_buffer, dead_in_buffer}
 use Rattle.table_rules.specs.Suffixes.{KeepsBelow, Stands}
-use Rattle.placement_model.proofs.SegmentLaws.{start_of-rises}
 use Rattle.placement_model.specs.Changes.{charged}
 
 pub same_or_not : (i j : ℕ) → (i ≡ j) ⊎ (i ≢ j)

@@ -15,7 +15,7 @@ use Rattle.slot_codec.specs.declared.codec.Record.{Record}
 use Rattle.map_model.proofs.MapLaws.{name_order, same_name-is, same_name-itself}
 use Rattle.map_model.specs.Weights.{same_name}
 use Rattle.segment_layout.specs.Shapes.{buffer_for, buffer_of, buffer_start, start_of, taken_in, with_entry}
-use Rattle.segment_layout.proofs.ShapeLaws.{cell-with_entry_same, taken-with_entry_same}
+use Rattle.segment_layout.proofs.ShapeLaws.{cell-with_entry_same, taken-with_entry_same, start_of-rises}
 use Rattle.segment_layout.specs.Balance.{IsFilled}
 use Rattle.segment_layout.proofs.BookLaws.{sum_by-filter}
 use Rattle.segment_layout.proofs.SumLaws.{sum_below_le}
@@ -28,7 +28,7 @@ use Rattle.placement_model.specs.Weights.{weight, weight_at}
 use Rattle.placement_model.specs.Laid.{laid}
 use Rattle.placement_model.specs.Reads.{AreNamed}
 use Rattle.placement_model.proofs.ReadLaws.{AreNamed-insert, SpotOf, record_at, spot_of_record}
-use Rattle.placement_model.proofs.SegmentLaws.{lies_parts, start_of-rises}
+use Rattle.placement_model.proofs.SegmentLaws.{lies_parts}
 use Rattle.placement_model.proofs.SpotSumLaws.{records_sum-insert}
 use Rattle.placement_model.proofs.ChangeLaws.{after, charged_below, in_grid, in_row, more_in_cell, room, same_live, within_from}
 use Rattle.placement_model.specs.Changes.{charged, charged_spot}

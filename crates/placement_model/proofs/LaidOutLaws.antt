@@ -9,7 +9,7 @@ use Rattle.size_class.proofs.ClassLaws.{class_below, class_low, power_rises}
 use Rattle.segment_layout.specs.Shapes.{buffer_of, buffer_start, end_of, start_of, taken_in}
 use Rattle.segment_layout.specs.Balance.{IsFilled}
 use Rattle.segment_layout.proofs.LayoutLaws.{taken_nothing}
-use Rattle.segment_layout.proofs.ShapeLaws.{end_of-split, start_of-le}
+use Rattle.segment_layout.proofs.ShapeLaws.{end_of-split, start_of-le, start_of-rises}
 use Rattle.table_rules.specs.Suffixes.{KeepsBelow, Stands}
 use Rattle.table_rules.specs.Tables.{HasFullRows, TableInLayout, end_of_record, nth, lies_within, lies_in_payload}
 use Rattle.table_rules.specs.Rules.{KeepsPlaces}
@@ -25,7 +25,7 @@ use Rattle.placement_model.specs.Quiet.{InPayload, is_in_payload}
 use Rattle.placement_model.specs.Reads.{AreNamed, EndWithin}
 use Rattle.placement_model.proofs.EnterLaws.{by_name}
 use Rattle.placement_model.proofs.QuietLaws.{IsGrid-wider, in_payload_from, in_payload_is}
-use Rattle.placement_model.proofs.SegmentLaws.{lies_parts, start_of-rises}
+use Rattle.placement_model.proofs.SegmentLaws.{lies_parts}
 use Rattle.placement_model.proofs.WholeLaws.{places_from_below}
 
 module _ (classes size_max k : ℕ) (caps : List ℕ) (grid : List (List ℕ)) (spots : Spots) where

@@ -9,6 +9,7 @@ use Rattle.size_class.proofs.ClassLaws.{class_below}
 use Rattle.slot_codec.specs.declared.codec.Record.{Record}
 use Rattle.segment_layout.specs.Shapes.{buffer_for, buffer_start, end_of, start_of, taken_in, with_entry}
 use Rattle.segment_layout.proofs.ChargeLaws.{RoomIn, finds_room, room_of_buffer}
+use Rattle.segment_layout.proofs.ShapeLaws.{start_of-rises}
 use Rattle.extent_table.specs.declared.spot.Spot.{Spot}
 use Rattle.extent_table.specs.Extents.{Spots, record_of}
 use Rattle.placement_model.specs.LaidOut.{IsLaidOut}
@@ -19,7 +20,7 @@ use Rattle.placement_model.proofs.EnterLaws.{by_name}
 use Rattle.placement_model.proofs.LaidOutLaws.{laid_below, laid_filled, laid_stands}
 use Rattle.placement_model.proofs.QuietLaws.{found_one, some_size-some}
 use Rattle.placement_model.proofs.RiseLaws.{taken-rises}
-use Rattle.placement_model.proofs.SegmentLaws.{lies_parts, start_of-rises}
+use Rattle.placement_model.proofs.SegmentLaws.{lies_parts}
 
 -- the buffer that a new object of at least 1 byte found
 pub placed_found : (k : ℕ) (caps : List ℕ) (mid after : List (List ℕ)) (size place : ℕ) → 1 ≤ size

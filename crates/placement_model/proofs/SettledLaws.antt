@@ -9,7 +9,7 @@ use Rattle.size_class.proofs.ClassLaws.{class_below, class_low, length-zero_row,
 use Rattle.slot_codec.specs.declared.codec.Record.{Record}
 use Rattle.map_model.proofs.MapLaws.{sum_by-map}
 use Rattle.segment_layout.specs.Shapes.{buffer_of, buffer_start, end_of, settled_caps, start_of, taken_in}
-use Rattle.segment_layout.proofs.ShapeLaws.{IsGrid-settled, caps-settled_above, caps-settled_below, cell-settled_above, length-settled_caps}
+use Rattle.segment_layout.proofs.ShapeLaws.{IsGrid-settled, caps-settled_above, caps-settled_below, cell-settled_above, length-settled_caps, start_of-rises}
 use Rattle.segment_layout.proofs.LayoutLaws.{taken_nothing}
 use Rattle.segment_layout.specs.Books.{volumes_of_sizes}
 use Rattle.segment_layout.proofs.BalanceLaws.{bytes_in}
@@ -20,7 +20,7 @@ use Rattle.table_rules.specs.Tables.{HasFullRows, TableInLayout, StandsInBuffer,
 use Rattle.table_rules.specs.Rules.{KeepsPlaces}
 use Rattle.table_rules.proofs.TableLaws.{zero_cell}
 use Rattle.placement_model.specs.Laid.{new_caps, settled_at, AreLaid}
-use Rattle.placement_model.proofs.SegmentLaws.{lies_parts, start_of-rises}
+use Rattle.placement_model.proofs.SegmentLaws.{lies_parts}
 
 module _ (b : ℕ) (t : TableInLayout) (h : HasFullRows t) (fits : b ≤ t.classes)
     (top : t.size_max < 2 ^ t.classes) (keeps : KeepsPlaces (suffix_at b t)) where
