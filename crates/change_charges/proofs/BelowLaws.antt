@@ -30,7 +30,7 @@ use Rattle.placement_model.proofs.JoinLaws.{empty_below}
 use Rattle.placement_model.proofs.LaidOutLaws.{full_rows, laid_filled, laid_places, laid_stand, place_of_lying}
 use Rattle.placement_model.proofs.QuietLaws.{found_one, gone_elsewhere, gone_here, in_payload_from, in_payload_is, some_size-some}
 use Rattle.placement_model.proofs.ReadLaws.{AreNamed-insert, AreNamed-remove}
-use Rattle.placement_model.proofs.EntryLaws.{remove-absent}
+use Rattle.map_model.proofs.MapLaws.{remove-absent}
 use Rattle.change_charges.specs.Below.{IsLaidBelow}
 use Rattle.change_charges.specs.Charging.{between, gone_charged, size_at}
 use Rattle.change_charges.proofs.ChargedLaws.{gone_tried, loud_grid}

@@ -25,7 +25,7 @@ use Rattle.placement_model.specs.LaidOut.{IsLaidOut, shown_book}
 use Rattle.placement_model.specs.Laid.{settled_table}
 use Rattle.placement_model.specs.Limits.{most_bytes}
 use Rattle.placement_model.specs.Reads.{AreNamed, EndWithin, read_at}
-use Rattle.placement_model.proofs.EntryLaws.{first_of_both, second_of_both}
+use Rattle.map_model.proofs.MapLaws.{first_of_both, second_of_both}
 use Rattle.placement_model.proofs.LaidOutLaws.{full_rows, laid_places, laid_within}
 use Rattle.placement_model.proofs.ReadLaws.{spot_of_record}
 use Rattle.placement_model.proofs.ShownLaws.{book_shown}

@@ -21,7 +21,7 @@ use Rattle.placement_model.specs.Laid.{laid, moving_header}
 use Rattle.placement_model.specs.LaidOut.{shown_book}
 use Rattle.placement_model.specs.Quiet.{PlacedTo}
 use Rattle.placement_model.specs.Reads.{AreNamed, LiesApart}
-use Rattle.placement_model.proofs.EntryLaws.{get-remove_here, insert-remove}
+use Rattle.map_model.proofs.MapLaws.{get-remove_here, insert-remove}
 use Rattle.flush_model.specs.declared.item.Numbers.{Numbers}
 use Rattle.flush_model.specs.Begins.{Begins, with_pending}
 use Rattle.flush_model.specs.Plans.{numbers_of}

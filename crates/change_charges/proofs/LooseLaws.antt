@@ -12,7 +12,7 @@ use Rattle.slot_codec.specs.Spelling.{head_len}
 use Rattle.span_math.specs.declared.span.Span.{Span}
 use Rattle.map_model.specs.Maps.{Map, largest, volume}
 use Rattle.map_model.specs.Requests.{Change, changed}
-use Rattle.map_model.proofs.MapLaws.{get-insert_here, largest-each, largest-remove, sum_by-map, volume-remove}
+use Rattle.map_model.proofs.MapLaws.{get-insert_here, insert-remove, largest-each, largest-remove, sum_by-map, volume-remove}
 use Rattle.segment_layout.specs.Balance.{IsBalanced}
 use Rattle.segment_layout.specs.Books.{Book, is_quiet, next_book}
 use Rattle.segment_layout.specs.Bounds.{Loose, Tight}
@@ -25,7 +25,6 @@ use Rattle.extent_table.specs.Extents.{Extents, Spots, volume_of}
 use Rattle.placement_model.specs.Held.{FreesSpot}
 use Rattle.placement_model.specs.LaidOut.{shown_book}
 use Rattle.placement_model.specs.Quiet.{PlacedTo}
-use Rattle.placement_model.proofs.EntryLaws.{insert-remove}
 use Rattle.placement_model.proofs.SpotSumLaws.{volume_of-weights}
 use Rattle.flush_model.specs.declared.item.Item.{Item}
 use Rattle.flush_model.specs.declared.item.Numbers.{Numbers}

@@ -19,7 +19,7 @@ use Rattle.placement_model.specs.Quiet.{PlacedTo, gone_items}
 use Rattle.placement_model.specs.Reads.{AllLieApart}
 use Rattle.placement_model.specs.Rises.{CellsRise}
 use Rattle.placement_model.proofs.EnterLaws.{by_name}
-use Rattle.placement_model.proofs.EntryLaws.{get-remove_here, insert-remove}
+use Rattle.map_model.proofs.MapLaws.{get-remove_here, insert-remove}
 use Rattle.placement_model.proofs.FreedLaws.{freed_gone, freed_put, off_kept}
 use Rattle.placement_model.proofs.LaidOutLaws.{laid_below}
 use Rattle.placement_model.proofs.PlaceLaws.{place_apart, place_within}

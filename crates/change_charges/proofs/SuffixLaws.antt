@@ -16,11 +16,10 @@ use Rattle.std.specs.FinMap.Entries.{below_all, by_order, find, is_sorted, put}
 use Rattle.size_class.specs.Classes.{class_of}
 use Rattle.slot_codec.specs.Names.{name_cmp}
 use Rattle.map_model.specs.Weights.{same_name}
-use Rattle.map_model.proofs.MapLaws.{name_order, same_name-is, same_name-itself}
+use Rattle.map_model.proofs.MapLaws.{first_of_both, get-insert_here, name_order, same_name-is, same_name-itself, second_of_both}
 use Rattle.extent_table.specs.declared.spot.Spot.{Spot}
 use Rattle.extent_table.specs.Extents.{Extents, HasKeys, Keys, Spots}
 use Rattle.extent_table.specs.Rising.{below_each, of_mapped}
-use Rattle.placement_model.proofs.EntryLaws.{first_of_both, get-insert_here, second_of_both}
 use Rattle.placement_model.proofs.ReadLaws.{found_by_name}
 use Rattle.flush_model.specs.declared.item.Item.{Item}
 use Rattle.flush_run.specs.Hands.{key_or_zero, spot_item, suffix_items}

@@ -20,7 +20,7 @@ use Rattle.placement_model.specs.Laid.{settled_header, settled_table}
 use Rattle.placement_model.specs.LaidOut.{IsLaidOut}
 use Rattle.placement_model.specs.Quiet.{PlacedTo, QuietTo, gone_items, is_in_payload}
 use Rattle.placement_model.proofs.EnterLaws.{entered_below}
-use Rattle.placement_model.proofs.EntryLaws.{get-remove_here, insert-remove, remove-absent}
+use Rattle.map_model.proofs.MapLaws.{get-remove_here, insert-remove, remove-absent}
 use Rattle.placement_model.proofs.GoneLaws.{gone_buffered, gone_payload}
 use Rattle.placement_model.proofs.JoinLaws.{empty_below}
 use Rattle.placement_model.proofs.LaidOutLaws.{laid_below, laid_filled, laid_from_below, laid_stand, place_of_lying}

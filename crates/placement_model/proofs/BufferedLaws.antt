@@ -9,12 +9,11 @@ use Rattle.std.specs.FinMap.Entries.{below_all, find, is_sorted}
 use Rattle.std.specs.FinSet as set
 use Rattle.slot_codec.specs.Names.{IsName, name_cmp}
 use Rattle.slot_codec.specs.declared.codec.Record.{Record}
-use Rattle.map_model.proofs.MapLaws.{name_order, names_differ, same_name-is}
+use Rattle.map_model.proofs.MapLaws.{find_past, first_of_both, name_order, names_differ, same_name-is, second_of_both}
 use Rattle.map_model.specs.Weights.{same_name}
 use Rattle.extent_table.specs.declared.spot.Spot.{Spot}
 use Rattle.extent_table.specs.Extents.{Spots, record_of, records_of}
 use Rattle.extent_table.proofs.ExtentLaws.{records_of-all}
-use Rattle.placement_model.proofs.EntryLaws.{find_past, first_of_both, second_of_both}
 use Rattle.placement_model.specs.Buffered.{chosen_names, passes}
 use Rattle.placement_model.specs.Reads.{AreNamed}
 use Rattle.placement_model.proofs.ReadLaws.{AreNamed-insert, AreNamed-remove}

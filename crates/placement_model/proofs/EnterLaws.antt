@@ -13,7 +13,7 @@ use Rattle.slot_codec.specs.Names.{IsName}
 use Rattle.slot_codec.specs.declared.codec.Header.{Header}
 use Rattle.slot_codec.specs.declared.codec.Record.{Record}
 use Rattle.map_model.proofs.MapLaws.{name_order, same_name-is, same_name-itself}
-use Rattle.map_model.specs.Weights.{same_name}
+use Rattle.map_model.specs.Weights.{same_name, weight, weight_at}
 use Rattle.segment_layout.specs.Shapes.{buffer_for, buffer_of, buffer_start, start_of, taken_in, with_entry}
 use Rattle.segment_layout.proofs.ShapeLaws.{cell-with_entry_same, taken-with_entry_same, start_of-rises}
 use Rattle.segment_layout.specs.Balance.{IsFilled}
@@ -24,7 +24,6 @@ use Rattle.table_rules.specs.Suffixes.{KeepsBelow, Stands}
 use Rattle.extent_table.specs.declared.spot.Spot.{Spot}
 use Rattle.extent_table.specs.Extents.{Spots, record_of, records_of}
 use Rattle.extent_table.specs.Rising.{records_of-rise}
-use Rattle.placement_model.specs.Weights.{weight, weight_at}
 use Rattle.placement_model.specs.Laid.{laid}
 use Rattle.placement_model.specs.Reads.{AreNamed}
 use Rattle.placement_model.proofs.ReadLaws.{AreNamed-insert, SpotOf, record_at, spot_of_record}

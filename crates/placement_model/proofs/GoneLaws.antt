@@ -9,7 +9,7 @@ use Rattle.size_class.specs.Classes.{width, class_of, cell}
 use Rattle.slot_codec.specs.declared.codec.Header.{Header}
 use Rattle.slot_codec.specs.declared.codec.Record.{Record}
 use Rattle.map_model.proofs.MapLaws.{name_order, same_name-itself}
-use Rattle.map_model.specs.Weights.{same_name}
+use Rattle.map_model.specs.Weights.{same_name, weight}
 use Rattle.segment_layout.specs.Shapes.{buffer_for, with_entry}
 use Rattle.segment_layout.proofs.ShapeLaws.{cell-with_entry_same}
 use Rattle.segment_layout.specs.Balance.{IsFilled}
@@ -19,7 +19,6 @@ use Rattle.table_rules.specs.Tables.{Apart, TableInLayout, dead_in_buffer, is_of
 use Rattle.table_rules.specs.Suffixes.{KeepsBelow, Stands}
 use Rattle.extent_table.specs.declared.spot.Spot.{Spot}
 use Rattle.extent_table.specs.Extents.{Spots, record_of, records_of}
-use Rattle.placement_model.specs.Weights.{weight}
 use Rattle.placement_model.specs.Laid.{laid}
 use Rattle.placement_model.specs.Reads.{AreNamed}
 use Rattle.placement_model.proofs.ReadLaws.{AreNamed-remove, record_at, spot_of_record}

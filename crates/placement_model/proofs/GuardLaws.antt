@@ -6,14 +6,12 @@ use Rattle.std.proofs.lemmas.Bool.{cases_Bool, cond-true, cond-false, and_from, 
 use Rattle.std.proofs.lemmas.List.Sums.{sum_by-cons}
 use Rattle.std.proofs.lemmas.Option.{same_Some}
 use Rattle.std.specs.FinMap as fin
-use Rattle.map_model.proofs.MapLaws.{name_order, same_name-is, same_name-itself}
-use Rattle.map_model.specs.Weights.{same_name}
+use Rattle.map_model.proofs.MapLaws.{name_order, same_name-is, same_name-itself, weights-agree, weights-remove}
+use Rattle.map_model.specs.Weights.{same_name, weight, weight_at}
 use Rattle.span_math.specs.declared.span.Span.{Span}
 use Rattle.held_guard.specs.Freed.{Joins}
 use Rattle.extent_table.specs.declared.spot.Spot.{Spot}
 use Rattle.extent_table.specs.Extents.{Spots}
-use Rattle.placement_model.proofs.EntryLaws.{weights-agree, weights-remove}
-use Rattle.placement_model.specs.Weights.{weight, weight_at}
 use Rattle.placement_model.specs.Held.{IsFreed, IsSpanOf, is_at, is_freed}
 use Rattle.placement_model.specs.Reads.{LiesApart}
 

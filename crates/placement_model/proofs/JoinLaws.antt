@@ -8,7 +8,7 @@ use Rattle.size_class.specs.Classes.{width, class_of}
 use Rattle.slot_codec.specs.Names.{IsName}
 use Rattle.slot_codec.specs.declared.codec.Header.{Header}
 use Rattle.slot_codec.specs.declared.codec.Record.{Record}
-use Rattle.map_model.specs.Weights.{same_name}
+use Rattle.map_model.specs.Weights.{same_name, weight}
 use Rattle.map_model.proofs.MapLaws.{same_name-itself}
 use Rattle.segment_layout.proofs.BookLaws.{sum_by-filter}
 use Rattle.segment_layout.proofs.SumLaws.{sum_below_agree}
@@ -16,7 +16,6 @@ use Rattle.table_rules.specs.Suffixes.{KeepsBelow, Stands}
 use Rattle.table_rules.specs.Tables.{Apart, TableInLayout, dead_in_buffer, is_of, lies_in_buffer, lies_in_payload, live_in_buffer, live_in_payload, nth}
 use Rattle.extent_table.specs.declared.spot.Spot.{Spot}
 use Rattle.extent_table.specs.Extents.{Spots, record_of, records_of}
-use Rattle.placement_model.specs.Weights.{weight}
 use Rattle.placement_model.specs.Laid.{laid}
 use Rattle.placement_model.specs.Reads.{AreNamed}
 use Rattle.placement_model.proofs.ReadLaws.{AreNamed-insert, spot_of_record}

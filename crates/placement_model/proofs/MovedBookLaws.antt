@@ -10,7 +10,7 @@ use Rattle.slot_codec.specs.Names.{IsName}
 use Rattle.slot_codec.specs.declared.codec.Header.{Header}
 use Rattle.slot_codec.specs.declared.codec.Record.{Record}
 use Rattle.map_model.proofs.MapLaws.{name_order, names_differ, same_name-is, sum_by-map}
-use Rattle.map_model.specs.Weights.{same_name}
+use Rattle.map_model.specs.Weights.{same_name, weight}
 use Rattle.segment_layout.specs.Shapes.{settled_caps, settled_grid}
 use Rattle.segment_layout.specs.Books.{volumes_of_sizes}
 use Rattle.segment_layout.proofs.BalanceLaws.{bytes_in}
@@ -20,7 +20,6 @@ use Rattle.extent_table.specs.declared.spot.Spot.{Spot}
 use Rattle.extent_table.specs.Extents.{Spots, record_of, records_of}
 use Rattle.placement_model.proofs.BufferedLaws.{contains-chosen}
 use Rattle.placement_model.specs.Buffered.{chosen_names, passes}
-use Rattle.placement_model.specs.Weights.{weight}
 use Rattle.placement_model.specs.Laid.{laid}
 use Rattle.placement_model.specs.Reads.{AreNamed}
 use Rattle.placement_model.proofs.ReadLaws.{AreNamed-insert}

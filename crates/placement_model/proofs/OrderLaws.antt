@@ -11,12 +11,11 @@ use Rattle.std.specs.FinMap.Entries.{find, put, is_sorted, by_order, below_all}
 use Rattle.slot_codec.specs.Choice.{plain, rises}
 use Rattle.slot_codec.specs.Names.{IsName, name_cmp}
 use Rattle.slot_codec.specs.declared.codec.Record.{Record}
-use Rattle.map_model.proofs.MapLaws.{name_order, same_name-is, same_name-itself}
+use Rattle.map_model.proofs.MapLaws.{entries-empty, find_past, first_of_both, name_order, same_name-is, same_name-itself, second_of_both}
 use Rattle.map_model.specs.Weights.{same_name}
 use Rattle.extent_table.specs.declared.spot.Spot.{Spot}
 use Rattle.extent_table.specs.Extents.{Spots, record_of}
 use Rattle.extent_table.proofs.ExtentLaws.{records_of-all}
-use Rattle.placement_model.proofs.EntryLaws.{entries-empty, find_past, first_of_both, second_of_both}
 use Rattle.placement_model.specs.Reads.{AreNamed}
 use Rattle.placement_model.proofs.ReadLaws.{AreNamed-insert}
 use Rattle.placement_model.specs.Orders.{spot_of, IsUpTo, SetSoFar}

@@ -4,12 +4,11 @@ use Rattle.std.proofs.Common.{arith, ◌∙◌, ap}
 use Rattle.std.specs.FinMap as fin
 use Rattle.slot_codec.specs.Names.{IsName}
 use Rattle.slot_codec.specs.declared.codec.Record.{Record}
-use Rattle.map_model.proofs.MapLaws.{sum_by-map}
+use Rattle.map_model.proofs.MapLaws.{sum_by-map, weights-insert, weights-remove}
 use Rattle.extent_table.specs.declared.spot.Spot.{Spot}
 use Rattle.extent_table.specs.Extents.{Spots, record_of, records_of, volume_of}
 use Rattle.extent_table.proofs.ExtentLaws.{records_of-all}
-use Rattle.placement_model.proofs.EntryLaws.{weights-insert, weights-remove}
-use Rattle.placement_model.specs.Weights.{weight_at, weights}
+use Rattle.map_model.specs.Weights.{weight_at, weights}
 use Rattle.placement_model.specs.Reads.{AreNamed}
 use Rattle.placement_model.proofs.ReadLaws.{AreNamed-insert, AreNamed-remove}
 

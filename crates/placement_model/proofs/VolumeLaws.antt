@@ -11,8 +11,8 @@ use Rattle.extent_table.specs.declared.spot.Spot.{Spot}
 use Rattle.extent_table.specs.Extents.{Spots, records_of, volume_of}
 use Rattle.extent_table.proofs.ExtentLaws.{records_of-few}
 use Rattle.placement_model.specs.LaidOut.{IsLaidOut}
-use Rattle.placement_model.specs.Weights.{weight, weight_at}
-use Rattle.placement_model.proofs.EntryLaws.{weights-insert, weights-remove}
+use Rattle.map_model.specs.Weights.{weight, weight_at}
+use Rattle.map_model.proofs.MapLaws.{weights-insert, weights-remove}
 use Rattle.placement_model.proofs.LaidOutLaws.{laid_below}
 use Rattle.placement_model.proofs.SpotSumLaws.{records_sum, volume_of-weights}
 

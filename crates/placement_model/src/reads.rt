@@ -5,7 +5,7 @@ ghost use Rattle.byte_ranges.specs.Ranges.{SameOutside};
 ghost use Rattle.slot_codec.specs.Names.{IsName};
 ghost use Rattle.extent_table.specs.declared.spot.Spot.{Spot};
 ghost use Rattle.extent_table.specs.Extents.{Spots, record_of, records_of, volume_of};
-ghost use Rattle.placement_model.specs.Weights.{weight_at, weights};
+ghost use Rattle.map_model.specs.Weights.{weight_at, weights};
 ghost use Rattle.slot_codec.specs.Choice.{Chosen, InUse, chosen, plain, rises, slot_in_use};
 ghost use Rattle.slot_codec.specs.Reading.{read_header, worn_from};
 ghost use Rattle.slot_codec.specs.declared.codec.Header.{Header};

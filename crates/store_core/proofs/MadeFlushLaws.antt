@@ -8,8 +8,7 @@ use Rattle.segment_layout.specs.Books.{charge_all, item_of, some_size, volumes, 
 use Rattle.segment_layout.proofs.ShapeLaws.{caps-settled_above}
 use Rattle.map_model.specs.Maps.{Map}
 use Rattle.map_model.specs.Weights.{same_name}
-use Rattle.map_model.proofs.MapLaws.{name_order}
-use Rattle.placement_model.proofs.EntryLaws.{get-remove_here, insert-remove}
+use Rattle.map_model.proofs.MapLaws.{get-remove_here, insert-remove, name_order}
 use Rattle.extent_table.specs.declared.spot.Spot.{Spot}
 use Rattle.table_rules.specs.Tables.{sizes}
 use Rattle.placement_model.specs.Quiet.{gone_items}

@@ -7,13 +7,12 @@ use Rattle.std.specs.FinMap as fin
 use Rattle.size_class.specs.Classes.{class_of}
 use Rattle.size_class.specs.declared.TheConstants.{SIZE_MAX}
 use Rattle.slot_codec.specs.Names.{IsName}
-use Rattle.map_model.proofs.MapLaws.{name_order}
+use Rattle.map_model.proofs.MapLaws.{get-remove_here, insert-remove, name_order}
 use Rattle.segment_layout.specs.Books.{is_quiet, some_size}
 use Rattle.segment_layout.specs.Shapes.{end_of}
 use Rattle.extent_table.specs.declared.spot.Spot.{Spot}
 use Rattle.extent_table.specs.Extents.{Extents, Spots}
 use Rattle.placement_model.specs.Quiet.{PlacedTo}
-use Rattle.placement_model.proofs.EntryLaws.{get-remove_here, insert-remove}
 use Rattle.flush_model.specs.Phases.{PlanState}
 use Rattle.flush_model.specs.Plans.{numbers_of}
 use Rattle.flush_run.specs.Hands.{suffix_items}

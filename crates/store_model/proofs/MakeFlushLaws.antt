@@ -16,7 +16,7 @@ use Rattle.table_rules.proofs.SequenceLaws.{sequence_of_table}
 use Rattle.extent_table.specs.declared.spot.Spot.{Spot}
 use Rattle.extent_table.specs.Extents.{Spots}
 use Rattle.placement_model.specs.Reads.{AreNamed, LiesApart, read_at}
-use Rattle.placement_model.proofs.EntryLaws.{insert-remove}
+use Rattle.map_model.proofs.MapLaws.{insert-remove}
 use Rattle.placement_model.proofs.ReadLaws.{AreNamed-remove, read_at-put}
 use Rattle.flush_model.specs.declared.item.Item.{Item}
 use Rattle.flush_model.specs.Phases.{PlanState}

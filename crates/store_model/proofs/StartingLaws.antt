@@ -14,7 +14,7 @@ use Rattle.extent_table.specs.Extents.{Extents, Spots}
 use Rattle.placement_model.specs.Held.{FreesSpot}
 use Rattle.placement_model.specs.Quiet.{PlacedTo}
 use Rattle.placement_model.specs.Reads.{read_at}
-use Rattle.placement_model.proofs.EntryLaws.{insert-remove}
+use Rattle.map_model.proofs.MapLaws.{insert-remove}
 use Rattle.flush_model.specs.declared.item.Numbers.{Numbers}
 use Rattle.flush_model.specs.Phases.{PlanState}
 use Rattle.flush_model.specs.Plans.{numbers_of}

@@ -14,11 +14,10 @@ use Rattle.map_model.specs.Maps.{Map}
 use Rattle.map_model.specs.Requests as ask
 use Rattle.map_model.specs.Requests.{Change, Reply, Request, changed}
 use Rattle.map_model.specs.Weights.{same_name}
-use Rattle.map_model.proofs.MapLaws.{name_order}
+use Rattle.map_model.proofs.MapLaws.{get-remove_here, insert-remove, name_order}
 use Rattle.segment_layout.specs.Books.{is_quiet, new_item, some_size}
 use Rattle.extent_table.specs.declared.spot.Spot.{Spot}
 use Rattle.extent_table.specs.Extents.{Spots}
-use Rattle.placement_model.proofs.EntryLaws.{get-remove_here, insert-remove}
 use Rattle.placement_model.specs.Reads.{EndWithin, read_at}
 use Rattle.flush_run.specs.Parts.{size_in}
 use Rattle.change_charges.specs.Sized.{IsSizedBy}
