@@ -23,11 +23,12 @@ use Rattle.flush_model.specs.Plans.{IsInBuffer, ItemsApart, numbers_of, stands_i
 use Rattle.flush_model.proofs.NumbersLaws.{reach_is}
 use Rattle.flush_run.specs.Hands.{spot_item, suffix_items}
 use Rattle.change_charges.specs.Items.{is_from, item_at}
-use Rattle.change_charges.specs.Starts.{CanStart, IsWith}
+use Rattle.change_charges.specs.Starts.{CanStart, IsWith, flush_start}
 use Rattle.change_charges.proofs.SuffixLaws.{has_item, key_other, keys_differ, pairs_of, stands_at}
 
 module _ (classes size_max : ℕ) (caps : List ℕ) (grid kept_grid : List (List ℕ)) (b : ℕ) (u : choice.InUse)
-    (e : Extents) (spans : List Span) (h : CanStart classes size_max caps grid kept_grid b u e spans) where
+    (e : Extents) (spans : List Span)
+    (h : CanStart classes size_max (flush_start caps grid kept_grid b u e spans)) where
   abbrev k : ℕ
   k = u.block.k
 

@@ -38,46 +38,31 @@ use Rattle.flush_run.specs.FlushFrames.{FlushFrame, IsFreeSpace}
 use Rattle.flush_run.specs.Hands.{AllEndBy, HandsMatchPlan, suffix_items}
 use Rattle.flush_run.specs.Shelved.{phase_now}
 use Rattle.flush_plan.specs.Shelves.{course_of}
-use Rattle.change_charges.specs.Starts.{CanStart, IsWith}
+use Rattle.table_rules.proofs.HeaderLaws.{below_rekinded}
+use Rattle.change_charges.specs.Starts.{CanStart, IsWith, flush_start}
 use Rattle.change_charges.proofs.ReachLaws.{all_end, kept_end, reach_low, reach_past_wall, wall_past_end}
 
 -- the header of a table whose suffix, from class b on, isn't laid out anew yet
 abbrev pub begun_header : ℕ → ℕ → ℕ → List ℕ → List (List ℕ) → Header
-begun_header b wall slack caps grid =
-    record {
-      version = 1;
-      kind = Moving;
-      boundary = b;
-      sequence = 0;
-      count = 0;
-      wall = wall;
-      slack = slack;
-      caps = caps;
-      used = grid;
-    }
+begun_header b wall slack caps grid = record (settled_header caps grid) {
+  kind = Moving;
+  boundary = b;
+  wall = wall;
+  slack = slack;
+}
 
 -- what a table keeps of the classes below a boundary isn't seen in the other numbers of its header
 pub below_begun : (classes size_max k len more b wall slack : ℕ) (caps : List ℕ) (grid : List (List ℕ))
     (spots : Spots)
     → KeepsBelow b (laid classes size_max k len (settled_header caps grid) spots)
     → KeepsBelow b (laid classes size_max k more (begun_header b wall slack caps grid) spots)
-below_begun classes size_max k len more b wall slack caps grid spots keeps = record {
-  sizes = keeps.sizes;
-  empty = keeps.empty;
-  lower = keeps.lower;
-  rows = keeps.rows;
-  stands = keeps.stands;
-  apart = keeps.apart;
-  balance = λ c low. record {
-    buffers = (keeps.balance c low).buffers;
-    payload = (keeps.balance c low).payload;
-  };
-  full = λ c low. record { entry = (keeps.full c low).entry; full = (keeps.full c low).full };
-}
+below_begun classes size_max k len more b wall slack caps grid spots keeps =
+    below_rekinded 1 Moving b 0 0 wall slack more b
+    (laid classes size_max k len (settled_header caps grid) spots) keeps
 
 module _ (f : FlushFrame) (caps : List ℕ) (grid kept_grid : List (List ℕ)) (b : ℕ) (u : choice.InUse)
     (e : Extents)
-    (spans : List Span) (h : CanStart f.classes f.size_max caps grid kept_grid b u e spans)
+    (spans : List Span) (h : CanStart f.classes f.size_max (flush_start caps grid kept_grid b u e spans))
     (base : f.base ≡ head_len u.block.names) where
   abbrev k : ℕ
   k = u.block.k

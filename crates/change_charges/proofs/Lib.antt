@@ -1,6 +1,4 @@
 pub mod ChargedLaws
-pub mod GoneAboveLaws
-pub mod BelowLaws
 pub mod SuffixLaws
 pub mod StartLaws
 pub mod CanFlushLaws

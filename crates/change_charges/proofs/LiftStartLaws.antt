@@ -29,13 +29,13 @@ use Rattle.flush_run.specs.FlushFrames.{FlushFrame, IsFreeSpace}
 use Rattle.flush_run.specs.Hands.{AllEndBy, HandsMatchPlan, suffix_items}
 use Rattle.flush_run.specs.Shelved.{phase_now}
 use Rattle.flush_plan.specs.Shelves.{course_of}
-use Rattle.change_charges.specs.Charging.{between, new_charged}
+use Rattle.placement_model.specs.Tried.{between, new_charged}
 use Rattle.change_charges.specs.Items.{item_at}
 use Rattle.change_charges.specs.Lifting.{BeginsLift}
-use Rattle.change_charges.specs.Starts.{CanStart, IsLoud, IsWith, IsWithout, WasBefore}
+use Rattle.change_charges.specs.Starts.{CanStart, IsLoud, IsWith, IsWithout, WasBefore, flush_start}
 use Rattle.change_charges.proofs.CanFlushLaws.{begins_pending}
 use Rattle.change_charges.proofs.ChargedLaws.{class_low, new_some}
-use Rattle.change_charges.proofs.GoneAboveLaws.{left_over}
+use Rattle.placement_model.proofs.GoneLaws.{left_over}
 use Rattle.change_charges.proofs.HandsLaws.{hands_alone, hands_pending, pending_free}
 use Rattle.change_charges.proofs.NextBookLaws.{begun, book_begun, buffered_pending, buffered_placed, buffered_removed, names}
 use Rattle.change_charges.proofs.ReachLaws.{kept_end, reach_past_wall, wall_past_end}
@@ -68,7 +68,7 @@ module _ (f : FlushFrame) (caps : List ℕ) (grid kept_grid : List (List ℕ)) (
 
   module _ (l : IsLoud k caps grid old 0 after b) where
     -- a flush may begin once the name is gone
-    pub removed_starts : CanStart f.classes f.size_max caps after kept_grid b u gone freed
+    pub removed_starts : CanStart f.classes f.size_max (flush_start caps after kept_grid b u gone freed)
     removed_starts = started_without f.classes f.size_max caps grid kept_grid u e spans h name 0 after b
         (omega arith) l
         gone without freed frees
@@ -146,7 +146,7 @@ module _ (f : FlushFrame) (caps : List ℕ) (grid kept_grid : List (List ℕ)) (
 
     module _ (place key : ℕ) (placed : PlacedTo k caps mid size after place) (put : Extents)
         (joins : IsWith name (record { place = place; size = size }) key gone put) where
-      pub placed_starts : CanStart f.classes f.size_max caps after kept_grid b u put freed
+      pub placed_starts : CanStart f.classes f.size_max (flush_start caps after kept_grid b u put freed)
       placed_starts = started_with f.classes f.size_max caps grid kept_grid u e spans h name size after b
           small l gone
           without freed frees is place key placed put joins
@@ -193,7 +193,7 @@ module _ (f : FlushFrame) (caps : List ℕ) (grid kept_grid : List (List ℕ)) (
     -- ---- whose object waits
 
     module _ (missed : is_quiet (new_charged k caps mid size) ≡ false) where
-      pub pending_starts : CanStart f.classes f.size_max caps after kept_grid b u gone freed
+      pub pending_starts : CanStart f.classes f.size_max (flush_start caps after kept_grid b u gone freed)
       pending_starts = started_without f.classes f.size_max caps grid kept_grid u e spans h name size after
           b small l
           gone without freed frees

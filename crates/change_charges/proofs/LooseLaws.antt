@@ -40,9 +40,9 @@ use Rattle.flush_run.specs.Hands.{HandsMatchPlan, spot_item, suffix_items}
 use Rattle.flush_run.specs.Shelved.{phase_now}
 use Rattle.flush_plan.specs.Shelves.{course_of}
 use Rattle.flush_run.proofs.LaidPlaceLaws.{end_is}
-use Rattle.change_charges.specs.Charging.{between, new_charged, size_at}
+use Rattle.placement_model.specs.Tried.{between, new_charged, size_at}
 use Rattle.change_charges.specs.Items.{is_from, item_at}
-use Rattle.change_charges.specs.Starts.{CanStart, IsLoud, IsWith, IsWithout, WasBefore}
+use Rattle.change_charges.specs.Starts.{CanStart, IsLoud, IsWith, IsWithout, WasBefore, flush_start}
 use Rattle.change_charges.proofs.CanFlushLaws.{begins_alone, can_flush}
 use Rattle.change_charges.proofs.ChargedLaws.{gone_some, new_some, one_missed}
 use Rattle.change_charges.proofs.LiftStartLaws.{pending_begins, pending_hands, pending_items, pending_starts, placed_hands, placed_starts, removed_hands, removed_starts}
@@ -73,7 +73,8 @@ sized_low m spots sized name s there =
     omega (arith, v.2, largest-each m name v.0 v.1)
 
 module _ (classes size_max : ℕ) (caps : List ℕ) (grid kept_grid : List (List ℕ)) (b : ℕ) (u : choice.InUse)
-    (e : Extents) (spans : List Span) (h : CanStart classes size_max caps grid kept_grid b u e spans) where
+    (e : Extents) (spans : List Span)
+    (h : CanStart classes size_max (flush_start caps grid kept_grid b u e spans)) where
   abbrev divisor : ℕ
   divisor = u.block.k
 

@@ -31,7 +31,7 @@ use Rattle.placement_model.proofs.NextQuietLaws.{old_item-is}
 use Rattle.placement_model.proofs.QuietLaws.{charge_all-split, found_one, some_size-some}
 use Rattle.placement_model.proofs.SegmentLaws.{buffer_start-rises, lies_parts}
 use Rattle.change_charges.proofs.HandsLaws.{begun_header}
-use Rattle.change_charges.specs.Charging.{between, charged_by, gone_charged, new_charged}
+use Rattle.placement_model.specs.Tried.{between, charged_by, gone_charged, new_charged}
 use Rattle.change_charges.specs.Starts.{IsLoud, WasBefore}
 use Rattle.change_charges.proofs.EndLaws.{blank, in_blank}
 use Rattle.change_charges.specs.Sized.{IsSizedBy, object_size}

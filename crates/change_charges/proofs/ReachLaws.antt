@@ -28,13 +28,14 @@ use Rattle.flush_model.proofs.ItemLaws.{total_is}
 use Rattle.flush_model.proofs.LargestLaws.{largest-le}
 use Rattle.flush_model.proofs.NumbersLaws.{reach_is, wall_over_old_end}
 use Rattle.flush_run.specs.Hands.{AllEndBy, suffix_items}
-use Rattle.change_charges.specs.Starts.{CanStart}
+use Rattle.change_charges.specs.Starts.{CanStart, flush_start}
 use Rattle.change_charges.proofs.CanFlushLaws.{can_flush}
 use Rattle.change_charges.proofs.EndLaws.{end_small, most_end}
 use Rattle.change_charges.proofs.SuffixLaws.{has_item}
 
 module _ (classes size_max : ℕ) (caps : List ℕ) (grid kept_grid : List (List ℕ)) (b : ℕ) (u : choice.InUse)
-    (e : Extents) (spans : List Span) (h : CanStart classes size_max caps grid kept_grid b u e spans) where
+    (e : Extents) (spans : List Span)
+    (h : CanStart classes size_max (flush_start caps grid kept_grid b u e spans)) where
   abbrev k : ℕ
   k = u.block.k
 

@@ -19,7 +19,7 @@ use Rattle.flush_run.specs.Shelved.{shelf_of}
 use Rattle.flush_run.proofs.FreeLaws.{suffix_item}
 use Rattle.flush_run.proofs.OverLaws.{lower_before, shelf_holds}
 use Rattle.flush_run.proofs.ShelfLaws.{on_shelf}
-use Rattle.change_charges.specs.Starts.{CanStart}
+use Rattle.change_charges.specs.Starts.{CanStart, flush_start}
 use Rattle.change_charges.proofs.AgainLaws.{items_can}
 use Rattle.change_charges.proofs.CanFlushLaws.{can_flush}
 use Rattle.change_charges.proofs.HandsLaws.{begun_header, below_begun}
@@ -27,7 +27,8 @@ use Rattle.flush_plan.specs.Shelves.{IsOnShelf}
 
 -- where a flush may begin
 module _ (classes size_max : ℕ) (caps : List ℕ) (grid kept_grid : List (List ℕ)) (b : ℕ) (u : choice.InUse)
-    (e : Extents) (spans : List Span) (h : CanStart classes size_max caps grid kept_grid b u e spans) where
+    (e : Extents) (spans : List Span)
+    (h : CanStart classes size_max (flush_start caps grid kept_grid b u e spans)) where
   abbrev k : ℕ
   k = u.block.k
 

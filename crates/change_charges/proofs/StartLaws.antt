@@ -25,11 +25,12 @@ use Rattle.placement_model.proofs.LaidOutLaws.{laid_below}
 use Rattle.placement_model.proofs.PlaceLaws.{place_apart, place_within}
 use Rattle.placement_model.proofs.QuietLaws.{quiet_rises}
 use Rattle.placement_model.proofs.RiseLaws.{CellsRise-itself, CellsRise-then}
-use Rattle.change_charges.specs.Below.{IsLaidBelow}
-use Rattle.change_charges.specs.Charging.{between, charged_by, gone_charged, new_charged, size_at}
-use Rattle.change_charges.specs.Starts.{CanStart, IsLoud, IsWith, IsWithout, WasBefore}
-use Rattle.change_charges.proofs.BelowLaws.{below_gone, below_new, laid_is_below}
-use Rattle.change_charges.proofs.ChargedLaws.{both_grid, gone_tried, loud_grid, new_tried, trigger_gone, trigger_low, trigger_new}
+use Rattle.placement_model.specs.Below.{IsLaidBelow}
+use Rattle.placement_model.specs.Tried.{between, charged_by, gone_charged, new_charged, size_at}
+use Rattle.change_charges.specs.Starts.{CanStart, IsLoud, IsWith, IsWithout, WasBefore, flush_start}
+use Rattle.placement_model.proofs.BelowLaws.{below_gone, below_new, laid_is_below}
+use Rattle.placement_model.proofs.TriedLaws.{gone_tried, loud_grid, new_tried}
+use Rattle.change_charges.proofs.ChargedLaws.{both_grid, trigger_gone, trigger_low, trigger_new}
 
 -- what the answer of the charges says: with the boundary of its class it is such a change
 pub outcome_loud : (k : ℕ) (caps : List ℕ) (grid after : List (List ℕ)) (old : Option Spot) (size : ℕ)
@@ -151,7 +152,7 @@ module _ (classes size_max : ℕ) (caps : List ℕ) (grid kept_grid : List (List
         (frees : FreesSpot old (fin.get e.kept name) spans freed) where
       -- The name is gone: a flush may begin, or waits for the new object alone.
       pub started_without : after ≡ mid
-          → CanStart classes size_max caps after kept_grid b u gone freed
+          → CanStart classes size_max (flush_start caps after kept_grid b u gone freed)
       started_without same = record {
         block = h.block;
         table = without.table;
@@ -171,7 +172,7 @@ module _ (classes size_max : ℕ) (caps : List ℕ) (grid kept_grid : List (List
       pub started_with : IsName name → (place key : ℕ) → PlacedTo k caps mid size after place
           → (put : Extents)
           → IsWith name (record { place = place; size = size }) key gone put
-          → CanStart classes size_max caps after kept_grid b u put freed
+          → CanStart classes size_max (flush_start caps after kept_grid b u put freed)
       started_with is place key placed put joins =
           let s : Spot = record { place = place; size = size } in
           let now : put.now ≡ fin.insert (fin.remove e.now name) name s = joins.now

@@ -1,6 +1,5 @@
 pub mod Charging
 pub mod Items
-pub mod Below
 pub mod Starts
 pub mod Sized
 pub mod Lifting

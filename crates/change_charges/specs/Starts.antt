@@ -12,8 +12,8 @@ use Rattle.extent_table.specs.Extents.{Extents, IsTable}
 use Rattle.placement_model.specs.Both.{HoldsBoth}
 use Rattle.placement_model.specs.Held.{IsFreed}
 use Rattle.placement_model.specs.LaidOut.{IsLaidOut}
-use Rattle.change_charges.specs.Below.{IsLaidBelow}
-use Rattle.change_charges.specs.Charging.{charged_by}
+use Rattle.placement_model.specs.Below.{IsLaidBelow}
+use Rattle.placement_model.specs.Tried.{charged_by}
 
 -- Before the change the layout holds what stands and what was kept, and the spans are those that were freed.
 pub record WasBefore (classes size_max : ℕ) (caps : List ℕ) (grid kept_grid : List (List ℕ))
@@ -52,16 +52,38 @@ pub record IsWith (name : List ℕ) (spot : Spot) (key : ℕ) (e after : Extents
   pub cap : after.cap ≡ e.cap
   pub table : IsTable after
 
--- A flush from class b on may begin, or wait for a pending object alone: each object stands in a segment, of
--- the classes below b all rules are kept, and no buffer from b on has an entry of them.
-pub record CanStart (classes size_max : ℕ) (caps : List ℕ) (grid kept_grid : List (List ℕ)) (b : ℕ)
-    (u : choice.InUse) (e : Extents) (spans : List Span) : Type 0 where
-  pub block : IsSuperBlock u.block
-  pub table : IsTable e
-  pub names : e.names ≡ u.block.names
+-- What a flush from a class on begins with: the layout, the grid of the last checkpoint, the slot in use, the
+-- table, and the spans that the checkpoint holds though nothing stands there now.
+pub record FlushStart : Type 0 where
+  pub caps : List ℕ
+  pub grid : List (List ℕ)
+  pub kept_grid : List (List ℕ)
+  pub from : ℕ
+  pub in_use : choice.InUse
+  pub objects : Extents
+  pub spans : List Span
+
+abbrev pub flush_start : List ℕ → List (List ℕ) → List (List ℕ) → ℕ → choice.InUse → Extents → List Span
+    → FlushStart
+flush_start caps grid kept_grid b u e spans = record {
+  caps = caps;
+  grid = grid;
+  kept_grid = kept_grid;
+  from = b;
+  in_use = u;
+  objects = e;
+  spans = spans;
+}
+
+-- It may begin, or wait for a pending object alone: each object stands in a segment, of the classes below all
+-- rules are kept, and no buffer from there on has an entry of them.
+pub record CanStart (classes size_max : ℕ) (s : FlushStart) : Type 0 where
+  pub block : IsSuperBlock s.in_use.block
+  pub table : IsTable s.objects
+  pub names : s.objects.names ≡ s.in_use.block.names
   pub small : size_max ≤ SIZE_MAX
-  pub low : b < classes
-  pub boundary : is_boundary grid b ≡ true
-  pub below : IsLaidBelow classes size_max u.block.k caps grid b e.now
-  pub kept : IsLaidOut classes size_max u.block.k caps kept_grid e.kept
-  pub freed : IsFreed spans e.now e.kept
+  pub low : s.from < classes
+  pub boundary : is_boundary s.grid s.from ≡ true
+  pub below : IsLaidBelow classes size_max s.in_use.block.k s.caps s.grid s.from s.objects.now
+  pub kept : IsLaidOut classes size_max s.in_use.block.k s.caps s.kept_grid s.objects.kept
+  pub freed : IsFreed s.spans s.objects.now s.objects.kept

@@ -1,8 +1,10 @@
 //! The charges of a put and of a removal, each tried whether or not the other found room.
-ghost use Rattle.std.specs.Prelude.{◌≡◌, ◌<◌, ◌≤◌, ◌^◌, ◌&&◌, IfSome, IsFalse, IsNone, Some, false, is_some};
-ghost use Rattle.segment_layout.specs.Books.{is_quiet, trigger};
+ghost use Rattle.std.specs.Prelude.{◌≡◌, ◌<◌, ◌≤◌, ◌^◌, IfSome, IsFalse, IsNone, Some};
+ghost use Rattle.segment_layout.specs.Books.{is_quiet};
+ghost use Rattle.segment_layout.specs.Charges.{KeepsSegments};
 ghost use Rattle.segment_layout.specs.Layouts.{caps_of, divisor_of, grid_of};
-ghost use Rattle.change_charges.specs.Charging.{PlacesNew, between, charged_by, gone_charged, lesser, size_at};
+ghost use Rattle.placement_model.specs.Tried.{between, gone_charged, size_at};
+ghost use Rattle.change_charges.specs.Charging.{IsChargedBy, PlacesNew, lesser};
 
 use extent_table::Spot;
 use segment_layout::Layout;
@@ -32,23 +34,8 @@ pub fn charge_change<const C: usize>(
     requires wide { SIZE_MAX < 2 ^ C }
     requires old_small { IfSome old (λ s. s.size ≤ SIZE_MAX) }
     requires small { size ≤ SIZE_MAX }
-    ensures grid { grid_of layout.new
-        ≡ (charged_by (divisor_of layout.old) (caps_of layout.old) (grid_of layout.old) old size).grid }
-    ensures gone { result.gone
-        ≡ is_quiet (gone_charged (divisor_of layout.old) (caps_of layout.old) (grid_of layout.old) old) }
-    ensures place { PlacesNew (divisor_of layout.old) (caps_of layout.old)
-        (between (divisor_of layout.old) (caps_of layout.old) (grid_of layout.old) old) size
-        (grid_of layout.new) result.place }
-    ensures quiet { is_quiet
-        (charged_by (divisor_of layout.old) (caps_of layout.old) (grid_of layout.old) old size)
-        ≡ (result.gone && is_some result.place) }
-    ensures class { result.class
-        ≡ trigger (charged_by (divisor_of layout.old) (caps_of layout.old) (grid_of layout.old) old size) }
-    ensures in_use { is_quiet
-        (charged_by (divisor_of layout.old) (caps_of layout.old) (grid_of layout.old) old size) ≡ false
-        → result.class < C }
-    ensures divisor { divisor_of layout.new ≡ divisor_of layout.old }
-    ensures caps { caps_of layout.new ≡ caps_of layout.old }
+    ensures charged { IsChargedBy (divisor_of layout.old) (caps_of layout.old) (grid_of layout.old) old size
+        layout.new result }
 {
     let gone = charge_gone(layout, old);
     let place = charge_new(layout, size);
@@ -90,8 +77,7 @@ fn charge_gone<const C: usize>(layout: &mut Layout<C>, old: Option<Spot>) -> boo
     ensures grid { grid_of layout.new
         ≡ between (divisor_of layout.old) (caps_of layout.old) (grid_of layout.old) old }
     ensures some { IsFalse result → 1 ≤ size_at old }
-    ensures divisor { divisor_of layout.new ≡ divisor_of layout.old }
-    ensures caps { caps_of layout.new ≡ caps_of layout.old }
+    ensures frame { KeepsSegments layout.old layout.new }
 {
     match old {
         Some(spot) if spot.size > 0 => charge_spot(layout, spot),
@@ -109,8 +95,7 @@ fn charge_spot<const C: usize>(layout: &mut Layout<C>, spot: Spot) -> bool
         (gone_charged (divisor_of layout.old) (caps_of layout.old) (grid_of layout.old) (Some spot)) }
     ensures grid { grid_of layout.new
         ≡ between (divisor_of layout.old) (caps_of layout.old) (grid_of layout.old) (Some spot) }
-    ensures divisor { divisor_of layout.new ≡ divisor_of layout.old }
-    ensures caps { caps_of layout.new ≡ caps_of layout.old }
+    ensures frame { KeepsSegments layout.old layout.new }
 {
     let class = class_of(spot.size);
     if layout.in_payload(class, spot.place) {
@@ -129,8 +114,7 @@ fn charge_new<const C: usize>(layout: &mut Layout<C>, size: u64) -> Option<u64>
     ensures place { PlacesNew (divisor_of layout.old) (caps_of layout.old) (grid_of layout.old) size
         (grid_of layout.new) result }
     ensures none { IsNone result → 1 ≤ size }
-    ensures divisor { divisor_of layout.new ≡ divisor_of layout.old }
-    ensures caps { caps_of layout.new ≡ caps_of layout.old }
+    ensures frame { KeepsSegments layout.old layout.new }
 {
     if size == 0 {
         return Some(0);

@@ -27,16 +27,19 @@ use Rattle.placement_model.specs.Changes.{charged}
 use Rattle.placement_model.proofs.ChangeLaws.{charged_below, in_grid, in_row, more_in_cell, room, same_live, same_or_not}
 use Rattle.placement_model.proofs.EnterLaws.{by_name, names_of_places, spot_is, turn}
 
--- what is left was there
-left_over : (spots : Spots) (name q : List ℕ) (x : Spot) → fin.get (fin.remove spots name) q ≡ Some x
-    → fin.get spots q ≡ Some x
+-- what is left was there, under another name
+pub left_over : (spots : Spots) (name q : List ℕ) (x : Spot) → fin.get (fin.remove spots name) q ≡ Some x
+    → (same_name q name ≡ false) × (fin.get spots q ≡ Some x)
 left_over spots name q x is =
-    elim (cases_Bool (same_name q name)) [
+    elim (cases_Bool (same_name q name)) as (λ _. (same_name q name ≡ false) × (fin.get spots q ≡ Some x)) [
       | inl same ↦ absurd (let none : None
           ≡ Some x = sym (cond-true (same_name q name) None (fin.get spots q) same)
           ∙ sym (fin.get-remove name_order spots name q) ∙ is in cc)
-      | inr other ↦ sym (cond-false (same_name q name) None (fin.get spots q) other)
-          ∙ sym (fin.get-remove name_order spots name q) ∙ is
+      | inr other ↦ (
+        other,
+        sym (cond-false (same_name q name) None (fin.get spots q) other)
+            ∙ sym (fin.get-remove name_order spots name q) ∙ is,
+      )
     ]
 
 pub each_removed : (P : Record → Type 0) (spots : Spots) (name : List ℕ) → AreNamed spots
@@ -48,12 +51,15 @@ each_removed P spots name named old i low =
     let r = slice_index_or (records_of rest) i no_record in
     let o = spot_of_record rest (AreNamed-remove spots name named) i low in
     subst P (sym (spot_is rest r o)) (by_name P spots named old r.name o.spot
-    (left_over spots name r.name o.spot o.is))
+    (left_over spots name r.name o.spot o.is).1)
+
+-- no two records share a byte
+abbrev pub RecordsApart : Spots → Type 0
+RecordsApart spots = (i : ℕ) → i < length (records_of spots) → (h : ℕ) → h < i
+    → Apart (slice_index_or (records_of spots) h no_record) (slice_index_or (records_of spots) i no_record)
 
 -- records of two names share no byte, where those of two places don't
-pub apart_by_name : (spots : Spots) → AreNamed spots
-    → ((i : ℕ) → i < length (records_of spots) → (h : ℕ) → h < i
-    → Apart (slice_index_or (records_of spots) h no_record) (slice_index_or (records_of spots) i no_record))
+pub apart_by_name : (spots : Spots) → AreNamed spots → RecordsApart spots
     → (a c : List ℕ) (x y : Spot) → fin.get spots a ≡ Some x → fin.get spots c ≡ Some y
     → same_name a c ≡ false → Apart (record_of (a, x)) (record_of (c, y))
 apart_by_name spots named apart a c x y is also differ =
@@ -75,6 +81,22 @@ apart_by_name spots named apart a c x y is also differ =
             absurd (let tied : same_name a c ≡ true = ap (same_name a) (sym same) ∙ same_name-itself a in cc)
       ]
     ]
+
+-- nor does what is left
+pub gone_apart : (spots : Spots) → AreNamed spots → (name : List ℕ) → RecordsApart spots
+    → RecordsApart (fin.remove spots name)
+gone_apart spots named name apart i low h less =
+    let rest = fin.remove spots name in
+    let names = AreNamed-remove spots name named in
+    let r = slice_index_or (records_of rest) h no_record in
+    let q = slice_index_or (records_of rest) i no_record in
+    let o = spot_of_record rest names h (omega (arith, less, low)) in
+    let p = spot_of_record rest names i low in
+    subst (λ x. Apart x q) (sym (spot_is rest r o))
+    (subst (λ x. Apart (record_of (r.name, o.spot)) x) (sym (spot_is rest q p))
+    (apart_by_name spots named apart r.name q.name o.spot p.spot
+    (left_over spots name r.name o.spot o.is).1 (left_over spots name q.name p.spot p.is).1
+    (names_of_places rest h i less low)))
 
 module _ (classes size_max k len : ℕ) (header : Header) (b : ℕ) (spots : Spots) (named : AreNamed spots)
     (name : List ℕ) (s : Spot) (there : fin.get spots name ≡ Some s) where
@@ -114,21 +136,6 @@ module _ (classes size_max k len : ℕ) (header : Header) (b : ℕ) (spots : Spo
         sum_by-filter (λ (r : Record). r.size) p (records_of (fin.remove spots name)),
       )
 
-  rest_apart : KeepsBelow b before → (i : ℕ) → i < length gone.records → (h : ℕ) → h < i
-      → Apart (nth gone h) (nth gone i)
-  rest_apart keeps i low h less =
-      let rest = fin.remove spots name in
-      let names = AreNamed-remove spots name named in
-      let r = nth gone h in
-      let q = nth gone i in
-      let o = spot_of_record rest names h (omega (arith, less, low)) in
-      let p = spot_of_record rest names i low in
-      subst (λ x. Apart x q) (sym (spot_is rest r o))
-      (subst (λ x. Apart (record_of (r.name, o.spot)) x) (sym (spot_is rest q p))
-      (apart_by_name spots named keeps.apart r.name q.name o.spot p.spot
-      (left_over spots name r.name o.spot o.is) (left_over spots name q.name p.spot p.is)
-      (names_of_places rest h i less low)))
-
   -- An object that stood in a buffer, or had no bytes, is gone: nothing is charged.
   pub gone_buffered : (lies_in_payload before (class_of s.size) (record_of (name, s)) ≡ false) ⊎ (s.size ≡ 0)
       → KeepsBelow b before → KeepsBelow b gone
@@ -139,7 +146,7 @@ module _ (classes size_max k len : ℕ) (header : Header) (b : ℕ) (spots : Spo
     rows = keeps.rows;
     stands = each_removed (λ (r : Record). 0 < r.size → class_of r.size < b → Stands gone r) spots name named
         keeps.stands;
-    apart = rest_apart keeps;
+    apart = gone_apart spots named name keeps.apart;
     balance = λ c low. record {
       buffers = λ i wide. omega (arith, fewer_in_buffer i c, (keeps.balance c low).buffers i wide);
       payload = omega (
@@ -184,7 +191,7 @@ module _ (classes size_max k len : ℕ) (header : Header) (b : ℕ) (spots : Spo
         rows = one.rows;
         stands = each_removed (λ (r : Record). 0 < r.size → class_of r.size < b
             → Stands (charged gone s.size j) r) spots name named one.stands;
-        apart = rest_apart keeps;
+        apart = gone_apart spots named name keeps.apart;
         balance = λ c low. record {
           buffers = λ i wide. omega (
             arith,

@@ -21,7 +21,7 @@ use Rattle.placement_model.specs.Reads.{AreNamed}
 use Rattle.placement_model.proofs.ReadLaws.{AreNamed-insert, spot_of_record}
 use Rattle.placement_model.proofs.SpotSumLaws.{records_sum-insert}
 use Rattle.placement_model.proofs.EnterLaws.{each_inserted, inserted, names_of_places, spot_is, turn}
-use Rattle.placement_model.proofs.GoneLaws.{apart_by_name}
+use Rattle.placement_model.proofs.UnseenLaws.{inserted_apart, same_balance}
 use Rattle.placement_model.specs.Joins.{IsAlone, empty_spot}
 
 module _ (classes size_max k len : ℕ) (header : Header) (b : ℕ) (spots : Spots) (named : AreNamed spots)
@@ -60,52 +60,6 @@ module _ (classes size_max k len : ℕ) (header : Header) (b : ℕ) (spots : Spo
         no_weight g c low,
       )
 
-  same_in_buffer : (i c : ℕ) → c < b → live_in_buffer joined i c ≡ live_in_buffer before i c
-  same_in_buffer i c low =
-      sum_by-filter (λ (r : Record). r.size) (λ r. is_of c r && lies_in_buffer before i r)
-      (records_of (fin.insert spots name s)) ∙ same_sum (lies_in_buffer before i) c low
-      ∙ sym (sum_by-filter (λ (r : Record). r.size) (λ r. is_of c r && lies_in_buffer before i r)
-      (records_of spots))
-
-  same_in_payload : (c : ℕ) → c < b → live_in_payload joined c ≡ live_in_payload before c
-  same_in_payload c low =
-      sum_by-filter (λ (r : Record). r.size) (λ r. is_of c r && lies_in_payload before c r)
-      (records_of (fin.insert spots name s)) ∙ same_sum (lies_in_payload before c) c low
-      ∙ sym (sum_by-filter (λ (r : Record). r.size) (λ r. is_of c r && lies_in_payload before c r)
-      (records_of spots))
-
-  all_apart : KeepsBelow b before → IsAlone spots name s → (i : ℕ) → i < length joined.records → (h : ℕ)
-      → h < i → Apart (nth joined h) (nth joined i)
-  all_apart keeps alone i low h less =
-      let all = fin.insert spots name s in
-      let names = AreNamed-insert spots name s named is in
-      let r = nth joined h in
-      let q = nth joined i in
-      let o = spot_of_record all names h (omega (arith, less, low)) in
-      let p = spot_of_record all names i low in
-      let differ : same_name r.name q.name ≡ false = names_of_places all h i less low in
-      subst (λ x. Apart x q) (sym (spot_is all r o))
-      (subst (λ x. Apart (record_of (r.name, o.spot)) x) (sym (spot_is all q p))
-      (elim (inserted spots name r.name s o.spot o.is)
-      as (λ x. Apart (record_of (r.name, o.spot)) (record_of (q.name, p.spot))) [
-        | inl first ↦ elim (inserted spots name q.name s p.spot p.is)
-            as (λ x. Apart (record_of (r.name, o.spot)) (record_of (q.name, p.spot))) [
-              | inl second ↦ absurd (let same : same_name r.name q.name
-                  ≡ true = (λ j. same_name (first.0 j) (second.0 j)) ∙ same_name-itself name in cc)
-              | inr second ↦ subst (λ (x : Spot). Apart (record_of (r.name, x)) (record_of (q.name, p.spot)))
-                  (sym first.1) (alone q.name p.spot second.1)
-            ]
-        | inr first ↦ elim (inserted spots name q.name s p.spot p.is)
-            as (λ x. Apart (record_of (r.name, o.spot)) (record_of (q.name, p.spot))) [
-              | inl second ↦ subst (λ (x : Spot). Apart (record_of (r.name, o.spot)) (record_of (q.name, x)))
-                  (sym second.1) (turn (record_of (name, s)) (record_of (r.name, o.spot))
-                  (alone r.name o.spot first.1))
-              | inr second ↦ apart_by_name spots named keeps.apart r.name q.name o.spot p.spot first.1
-                  second.1
-                  differ
-            ]
-      ]))
-
   joined_below : s.size ≤ size_max → (s.size ≡ 0 → s.place ≡ 0) → IsAlone spots name s → KeepsBelow b before
       → KeepsBelow b joined
   joined_below small empty alone keeps = record {
@@ -115,17 +69,9 @@ module _ (classes size_max k len : ℕ) (header : Header) (b : ℕ) (spots : Spo
     rows = keeps.rows;
     stands = each_inserted (λ (r : Record). 0 < r.size → class_of r.size < b → Stands before r) spots name s
         named is (λ some low. unheard some low) keeps.stands;
-    apart = all_apart keeps alone;
-    balance = λ c low. record {
-      buffers = λ i wide. omega (arith, same_in_buffer i c low, (keeps.balance c low).buffers i wide);
-      payload = omega (
-        arith,
-        (keeps.balance c low).payload,
-        same_in_payload c low,
-        sum_below_agree width (λ i. dead_in_buffer joined i c) (λ i. dead_in_buffer before i c)
-            (λ i wide. omega (arith, same_in_buffer i c low)),
-      );
-    };
+    apart = inserted_apart spots named name is s keeps.apart (λ q x there differ. alone q x there);
+    balance = λ c low. same_balance classes size_max k len header spots (fin.insert spots name s) c
+        (λ g. same_sum g c low) (keeps.balance c low);
     full = λ c low. record { entry = (keeps.full c low).entry; full = (keeps.full c low).full };
   }
     where

@@ -21,7 +21,7 @@ use Rattle.placement_model.specs.Reads.{AreNamed}
 use Rattle.placement_model.proofs.ReadLaws.{AreNamed-insert, spot_of_record}
 use Rattle.placement_model.proofs.SpotSumLaws.{records_sum-insert}
 use Rattle.placement_model.proofs.EnterLaws.{by_name, each_inserted, inserted, names_of_places, spot_is, turn}
-use Rattle.placement_model.proofs.GoneLaws.{apart_by_name}
+use Rattle.placement_model.proofs.UnseenLaws.{inserted_apart, same_balance}
 
 module _ (classes size_max k len : ℕ) (header : Header) (spots : Spots) (named : AreNamed spots)
     (name : List ℕ) (s t : Spot) (there : fin.get spots name ≡ Some s) (same_size : t.size ≡ s.size) where
@@ -63,53 +63,6 @@ module _ (classes size_max k len : ℕ) (header : Header) (spots : Spots) (named
         not_counted g c t low same_size,
       )
 
-  same_in_buffer : (i c : ℕ) → c < class_of s.size → live_in_buffer moved i c ≡ live_in_buffer before i c
-  same_in_buffer i c low =
-      sum_by-filter (λ (r : Record). r.size) (λ r. is_of c r && lies_in_buffer before i r)
-      (records_of (fin.insert spots name t)) ∙ same_sum (lies_in_buffer before i) c low
-      ∙ sym (sum_by-filter (λ (r : Record). r.size) (λ r. is_of c r && lies_in_buffer before i r)
-      (records_of spots))
-
-  same_in_payload : (c : ℕ) → c < class_of s.size → live_in_payload moved c ≡ live_in_payload before c
-  same_in_payload c low =
-      sum_by-filter (λ (r : Record). r.size) (λ r. is_of c r && lies_in_payload before c r)
-      (records_of (fin.insert spots name t)) ∙ same_sum (lies_in_payload before c) c low
-      ∙ sym (sum_by-filter (λ (r : Record). r.size) (λ r. is_of c r && lies_in_payload before c r)
-      (records_of spots))
-
-  moved_apart : KeepsPlaces before → ((q : List ℕ) (x : Spot) → fin.get spots q ≡ Some x
-      → same_name q name ≡ false → Apart (record_of (name, t)) (record_of (q, x))) → (i : ℕ)
-      → i < length moved.records → (h : ℕ) → h < i → Apart (nth moved h) (nth moved i)
-  moved_apart keeps apart i low h less =
-      let all = fin.insert spots name t in
-      let names = AreNamed-insert spots name t named is_a_name in
-      let r = nth moved h in
-      let q = nth moved i in
-      let o = spot_of_record all names h (omega (arith, less, low)) in
-      let p = spot_of_record all names i low in
-      let differ : same_name r.name q.name ≡ false = names_of_places all h i less low in
-      subst (λ x. Apart x q) (sym (spot_is all r o))
-      (subst (λ x. Apart (record_of (r.name, o.spot)) x) (sym (spot_is all q p))
-      (elim (inserted spots name r.name t o.spot o.is)
-      as (λ x. Apart (record_of (r.name, o.spot)) (record_of (q.name, p.spot))) [
-        | inl first ↦ elim (inserted spots name q.name t p.spot p.is)
-            as (λ x. Apart (record_of (r.name, o.spot)) (record_of (q.name, p.spot))) [
-              | inl second ↦ absurd (let same : same_name r.name q.name
-                  ≡ true = (λ j. same_name (first.0 j) (second.0 j)) ∙ same_name-itself name in cc)
-              | inr second ↦ subst (λ (x : Spot). Apart (record_of (r.name, x)) (record_of (q.name, p.spot)))
-                  (sym first.1) (apart q.name p.spot second.1 second.0)
-            ]
-        | inr first ↦ elim (inserted spots name q.name t p.spot p.is)
-            as (λ x. Apart (record_of (r.name, o.spot)) (record_of (q.name, p.spot))) [
-              | inl second ↦ subst (λ (x : Spot). Apart (record_of (r.name, o.spot)) (record_of (q.name, x)))
-                  (sym second.1) (turn (record_of (name, t)) (record_of (r.name, o.spot))
-                  (apart r.name o.spot first.1 first.0))
-              | inr second ↦ apart_by_name spots named keeps.apart r.name q.name o.spot p.spot first.1
-                  second.1
-                  differ
-            ]
-      ]))
-
   -- A moving table keeps the rules of places when an object of its suffix stands elsewhere, apart from all
   -- others.
   pub moved_places : KeepsPlaces before → 0 < s.size → table_boundary before ≤ class_of s.size
@@ -133,21 +86,9 @@ module _ (classes size_max k len : ℕ) (header : Header) (spots : Spots) (named
               (and_parts (nat_lt 0 t.size) (nat_lt (class_of t.size) (table_boundary before)) lower).1,
         )))
         keeps.stands;
-    apart = moved_apart keeps apart;
-    balance = λ c low. record {
-      buffers = λ i wide. omega (
-        arith,
-        same_in_buffer i c (omega (arith, low, high)),
-        (keeps.balance c low).buffers i wide,
-      );
-      payload = omega (
-        arith,
-        (keeps.balance c low).payload,
-        same_in_payload c (omega (arith, low, high)),
-        sum_below_agree width (λ i. dead_in_buffer moved i c) (λ i. dead_in_buffer before i c)
-            (λ i wide. omega (arith, same_in_buffer i c (omega (arith, low, high)))),
-      );
-    };
+    apart = inserted_apart spots named name is_a_name t keeps.apart apart;
+    balance = λ c low. same_balance classes size_max k len header spots (fin.insert spots name t) c
+        (λ g. same_sum g c (omega (arith, low, high))) (keeps.balance c low);
     full = λ c low. record { entry = (keeps.full c low).entry; full = (keeps.full c low).full };
   }
     where

@@ -12,11 +12,12 @@ use Rattle.segment_layout.specs.declared.layout.Layout.{Layout}
 use Rattle.extent_table.specs.declared.spot.Spot.{Spot}
 use Rattle.placement_model.specs.Quiet.{QuietTo, gone_items}
 use Rattle.flush_run.specs.Parts.{HandsValue, parts_of}
-use Rattle.change_charges.specs.Charging.{PlacesNew, between, charged_by}
+use Rattle.placement_model.specs.Tried.{between, charged_by}
+use Rattle.change_charges.specs.Charging.{IsChargedBy, PlacesNew}
 use Rattle.change_charges.specs.declared.charge.ChargeResult.{ChargeResult}
 use Rattle.store_core.specs.declared.store.Store.TheInside.{Inside}
 use Rattle.store_core.specs.Answers.{refused_by}
-use Rattle.store_model.specs.Charges.{CanPut, ChargesParts, ChargesStore, IsChargedBy, change_of, quiet_place}
+use Rattle.store_model.specs.Charges.{CanPut, ChargesParts, ChargesStore, change_of, quiet_place}
 use Rattle.store_model.specs.Connection.{StoreValue}
 use Rattle.store_model.specs.Flushing.{NeedsFlushAt, TakesOut, bytes_of}
 use Rattle.store_core.specs.Inside.{IsWhole, kept_of}

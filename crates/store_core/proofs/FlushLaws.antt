@@ -24,9 +24,9 @@ use Rattle.placement_model.proofs.ReadLaws.{read_at-remove}
 use Rattle.flush_model.specs.Phases.{PlanState}
 use Rattle.flush_run.specs.FlushFrames.{IsOldOrNew, LeavesOldOrNew}
 use Rattle.flush_run.specs.Parts.{HandsValue, parts_of}
-use Rattle.change_charges.specs.Charging.{charged_by}
+use Rattle.placement_model.specs.Tried.{charged_by}
 use Rattle.change_charges.proofs.EndLaws.{blank, in_blank}
-use Rattle.change_charges.proofs.GoneAboveLaws.{left_over}
+use Rattle.placement_model.proofs.GoneLaws.{left_over}
 use Rattle.change_charges.proofs.SizedLaws.{sized_read}
 use Rattle.store_core.specs.declared.store.Store.TheInside.{Inside}
 use Rattle.store_model.specs.Connection.{IsOver, StoreValue, RestsOnTable, base_of, kept_map}

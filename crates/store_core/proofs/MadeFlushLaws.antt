@@ -14,7 +14,7 @@ use Rattle.table_rules.specs.Tables.{sizes}
 use Rattle.placement_model.specs.Quiet.{gone_items}
 use Rattle.flush_model.specs.Plans.{class_total}
 use Rattle.flush_run.proofs.LaidPlaceLaws.{new_cap}
-use Rattle.change_charges.specs.Charging.{charged_by}
+use Rattle.placement_model.specs.Tried.{charged_by}
 use Rattle.change_charges.specs.Sized.{IsSizedBy, object_size}
 use Rattle.change_charges.proofs.SizedLaws.{sized_gone, sized_put, sized_volumes}
 use Rattle.std.proofs.lemmas.Bool.{cond-false}

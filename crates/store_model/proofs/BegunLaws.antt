@@ -19,7 +19,8 @@ use Rattle.flush_run.specs.Hands.{suffix_items}
 use Rattle.flush_run.specs.Shelved.{phase_now}
 use Rattle.flush_plan.specs.Shelves.{course_of}
 use Rattle.flush_run.specs.Parts.{HandsValue}
-use Rattle.change_charges.specs.Charging.{PlacesNew, between, new_charged}
+use Rattle.placement_model.specs.Tried.{between, new_charged}
+use Rattle.change_charges.specs.Charging.{PlacesNew}
 use Rattle.change_charges.specs.Starts.{IsLoud, IsWith, IsWithout}
 use Rattle.change_charges.proofs.EndLaws.{end_small, most_end}
 use Rattle.store_model.specs.Flushing.{CanStartAt, IsBegun, NeedsFlushAt, IsStarted, MayBegin, StartsPlaced, StartsWaiting, TakesOut}

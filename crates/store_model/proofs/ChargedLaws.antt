@@ -16,8 +16,9 @@ use Rattle.placement_model.proofs.FreedLaws.{span_apart, span_room}
 use Rattle.held_guard.specs.Freed.{Freed}
 use Rattle.flush_model.specs.Phases.{PlanState}
 use Rattle.flush_run.specs.Parts.{HandsValue}
-use Rattle.change_charges.specs.Charging.{PlacesNew, between, charged_by}
-use Rattle.change_charges.specs.Starts.{CanStart, IsLoud}
+use Rattle.placement_model.specs.Tried.{between, charged_by}
+use Rattle.change_charges.specs.Charging.{PlacesNew}
+use Rattle.change_charges.specs.Starts.{CanStart, IsLoud, flush_start}
 use Rattle.change_charges.proofs.StartLaws.{outcome_loud}
 use Rattle.store_model.specs.Flushing.{CanStartAt, NeedsFlushAt, IsStarted, MayBegin}
 use Rattle.store_model.specs.Quiet.{CanFree}
@@ -36,13 +37,13 @@ pub record ChargesTo (x : HandsValue) (o : Option Spot) (size k : ℕ) (caps : L
 -- a flush begins at a layout with the same numbers
 pub can_start_at : {classes b k : ℕ} {caps caps2 : List ℕ} {grid : List (List ℕ)} {e : Extents}
     (kept_grid : List (List ℕ)) (x : HandsValue) (spans : List Span)
-    → CanStart classes SIZE_MAX caps grid kept_grid b x.in_use e spans → k ≡ x.in_use.block.k → caps2 ≡ caps
+    → CanStart classes SIZE_MAX (flush_start caps grid kept_grid b x.in_use e spans) → k ≡ x.in_use.block.k → caps2 ≡ caps
     → CanStartAt classes b k caps2 grid e
 can_start_at {classes} {b} {k} {caps} {caps2} {grid} {e} kept_grid x spans start divisor same = record {
   kept_grid = kept_grid;
   u = x.in_use;
   spans = spans;
-  start = subst (λ (y : List ℕ). CanStart classes SIZE_MAX y grid kept_grid b x.in_use e spans)
+  start = subst (λ (y : List ℕ). CanStart classes SIZE_MAX (flush_start y grid kept_grid b x.in_use e spans))
       (sym same) start;
   divisor = divisor;
 }

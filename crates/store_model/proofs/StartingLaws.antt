@@ -23,9 +23,9 @@ use Rattle.flush_run.specs.Hands.{suffix_items}
 use Rattle.flush_run.specs.Shelved.{phase_now}
 use Rattle.flush_plan.specs.Shelves.{course_of}
 use Rattle.flush_run.specs.Parts.{HandsValue}
-use Rattle.change_charges.specs.Charging.{between, charged_by, new_charged}
+use Rattle.placement_model.specs.Tried.{between, charged_by, new_charged}
 use Rattle.change_charges.specs.Lifting.{BeginsLift}
-use Rattle.change_charges.specs.Starts.{CanStart, IsLoud, IsWith, IsWithout, WasBefore}
+use Rattle.change_charges.specs.Starts.{CanStart, IsLoud, IsWith, IsWithout, WasBefore, flush_start}
 use Rattle.change_charges.proofs.LiftStartLaws.{pending_high, pending_is_free, pending_lifts, pending_some, pending_starts, placed_free, placed_in_reach, placed_lifts, placed_starts, removed_lifts, removed_starts}
 use Rattle.change_charges.proofs.LooseLaws.{pending_loose, placed_loose, removed_loose}
 use Rattle.change_charges.proofs.ReachLaws.{reach_low, reach_past_wall, wall_past_end}
@@ -70,7 +70,7 @@ module _ {classes : ℕ} {kept_grid : List (List ℕ)} {x0 : HandsValue} (may : 
       abbrev del_flight : ℕ → BeforeChange → FlushFrame
       del_flight reach g = flight_of classes x0 (del_of name) reach g
 
-      pub del_starts : CanStart classes SIZE_MAX x0.caps after kept_grid b x0.in_use gone freed
+      pub del_starts : CanStart classes SIZE_MAX (flush_start x0.caps after kept_grid b x0.in_use gone freed)
       del_starts = removed_starts (del_flight 0 some_setting) x0.caps x0.grid kept_grid x0.in_use x0.table
           x0.spans h may.base name after b gone without freed frees l
 
@@ -149,7 +149,7 @@ module _ {classes : ℕ} {kept_grid : List (List ℕ)} {x0 : HandsValue} (may : 
       module _ (place : ℕ) (placed : PlacedTo k x0.caps (between k x0.caps x0.grid old) size
           after place) where
         pub put_starts : (key : ℕ) (put : Extents) → IsWith name (spot_at place) key gone put
-            → CanStart classes SIZE_MAX x0.caps after kept_grid b x0.in_use put freed
+            → CanStart classes SIZE_MAX (flush_start x0.caps after kept_grid b x0.in_use put freed)
         put_starts key put joins = placed_starts (put_flight 0 some_setting) x0.caps x0.grid kept_grid
             x0.in_use x0.table x0.spans h may.base name after b gone without freed frees is object small l
             place key placed
@@ -223,7 +223,7 @@ module _ {classes : ℕ} {kept_grid : List (List ℕ)} {x0 : HandsValue} (may : 
       -- whose object waits
 
       module _ (missed : is_quiet (new_charged k x0.caps (between k x0.caps x0.grid old) size) ≡ false) where
-        pub wait_starts : CanStart classes SIZE_MAX x0.caps after kept_grid b x0.in_use gone freed
+        pub wait_starts : CanStart classes SIZE_MAX (flush_start x0.caps after kept_grid b x0.in_use gone freed)
         wait_starts = pending_starts (put_flight 0 some_setting) x0.caps x0.grid kept_grid x0.in_use x0.table
             x0.spans h may.base name after b gone without freed frees is object small l missed
 

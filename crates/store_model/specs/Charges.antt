@@ -1,31 +1,15 @@
 -- What a put or a removal charges, tried on a copy of the layout, and what it is then: quiet, or one that
 -- needs a flush.
-use Rattle.std.specs.Prelude.{◌≡◌, ◌⊎◌, ℕ, ◌<◌, ◌≤◌, Bool, true, false, ◌&&◌, if◌then◌else◌, is_some, IsSome, List, length, Option, Some, None}
+use Rattle.std.specs.Prelude.{◌≡◌, ◌⊎◌, ℕ, ◌<◌, ◌≤◌, Bool, true, if◌then◌else◌, IsSome, List, length, Option, Some, None}
 use Rattle.std.specs.FinMap as fin
 use Rattle.size_class.specs.declared.TheConstants.{SIZE_MAX}
 use Rattle.slot_codec.specs.Names.{IsName}
 use Rattle.map_model.specs.Requests.{Change}
-use Rattle.segment_layout.specs.Books.{is_quiet, trigger}
-use Rattle.segment_layout.specs.Layouts.{caps_of, divisor_of, grid_of}
 use Rattle.segment_layout.specs.declared.layout.Layout.{Layout}
-use Rattle.extent_table.specs.declared.spot.Spot.{Spot}
 use Rattle.flush_run.specs.Parts.{HandsValue}
-use Rattle.change_charges.specs.Charging.{PlacesNew, between, charged_by, gone_charged}
+use Rattle.change_charges.specs.Charging.{IsChargedBy}
 use Rattle.change_charges.specs.declared.charge.ChargeResult.{ChargeResult}
 use Rattle.store_model.specs.Connection.{StoreValue}
-
--- An old object and a new one of a size were charged, each whether or not the other found room: the layout
--- after has the grid that they leave.
-pub record IsChargedBy {C : ℕ} (k : ℕ) (caps : List ℕ) (grid : List (List ℕ)) (old : Option Spot) (size : ℕ)
-    (after : Layout C) (r : ChargeResult) : Type 0 where
-  pub same_grid : grid_of after ≡ (charged_by k caps grid old size).grid
-  pub gone_found : r.gone ≡ is_quiet (gone_charged k caps grid old)
-  pub new_place : PlacesNew k caps (between k caps grid old) size (grid_of after) r.place
-  pub quiet : is_quiet (charged_by k caps grid old size) ≡ (r.gone && is_some r.place)
-  pub least : r.class ≡ trigger (charged_by k caps grid old size)
-  pub in_use : is_quiet (charged_by k caps grid old size) ≡ false → r.class < C
-  pub divisor : divisor_of after ≡ k
-  pub same_caps : caps_of after ≡ caps
 
 -- the charges of a name's object and a new one: of a store, and of the parts of a flush
 abbrev pub ChargesStore : {C : ℕ} → StoreValue → List ℕ → ℕ → Layout C → ChargeResult → Type 0

@@ -26,10 +26,10 @@ use Rattle.flush_run.specs.Hands.{suffix_items}
 use Rattle.flush_run.specs.Parts.{KeepsSettling, HandsValue, SameSizes}
 use Rattle.flush_run.specs.Shelved.{phase_now}
 use Rattle.flush_plan.specs.Shelves.{course_of}
-use Rattle.change_charges.specs.Charging.{charged_by}
+use Rattle.placement_model.specs.Tried.{charged_by}
 use Rattle.change_charges.specs.Lifting.{BeginsLift}
 use Rattle.change_charges.specs.Sized.{IsSizedBy, object_size}
-use Rattle.change_charges.specs.Starts.{CanStart, IsWith, IsWithout, WasBefore}
+use Rattle.change_charges.specs.Starts.{CanStart, IsWith, IsWithout, WasBefore, flush_start}
 use Rattle.store_model.specs.Quiet.{added, sizes_at}
 
 -- ---- before the change
@@ -62,7 +62,7 @@ pub record CanStartAt (classes b k : ℕ) (caps : List ℕ) (grid : List (List �
   pub kept_grid : List (List ℕ)
   pub u : choice.InUse
   pub spans : List Span
-  pub start : CanStart classes SIZE_MAX caps grid kept_grid b u e spans
+  pub start : CanStart classes SIZE_MAX (flush_start caps grid kept_grid b u e spans)
   pub divisor : k ≡ u.block.k
 
 -- Lifting begins with the items of a table, and nothing pending.

@@ -32,16 +32,7 @@ returns-clause-charges g c =
     let cc = c.charge_change-outcome in
     subst (λ (x : StoreValue). ChargesStore x c.args.name.now c.args.size cc.new.layout cc.result)
     c.self.view_is
-    (charged_here c.self.invariant.divisor c.get-old.ensures (record {
-      same_grid = cc.ensures.grid;
-      gone_found = cc.ensures.gone;
-      new_place = cc.ensures.place;
-      quiet = cc.ensures.quiet;
-      least = cc.ensures.class;
-      in_use = cc.ensures.in_use;
-      divisor = cc.ensures.divisor;
-      same_caps = cc.ensures.caps;
-    }))
+    (charged_here c.self.invariant.divisor c.get-old.ensures cc.ensures.charged)
 
 pub returns-clause-sound : goal.returns-clause-sound
 returns-clause-sound g c = (opened c.self.inside c.args.self.now c.self.view_is c.self.invariant

@@ -31,10 +31,10 @@ use Rattle.placement_model.proofs.LaidOutLaws.{full_rows, laid_filled, laid_plac
 use Rattle.placement_model.proofs.QuietLaws.{found_one, gone_elsewhere, gone_here, in_payload_from, in_payload_is, some_size-some}
 use Rattle.placement_model.proofs.ReadLaws.{AreNamed-insert, AreNamed-remove}
 use Rattle.map_model.proofs.MapLaws.{remove-absent}
-use Rattle.change_charges.specs.Below.{IsLaidBelow}
-use Rattle.change_charges.specs.Charging.{between, gone_charged, size_at}
-use Rattle.change_charges.proofs.ChargedLaws.{gone_tried, loud_grid}
-use Rattle.change_charges.proofs.GoneAboveLaws.{gone_above}
+use Rattle.placement_model.specs.Below.{IsLaidBelow}
+use Rattle.placement_model.specs.Tried.{between, gone_charged, size_at}
+use Rattle.placement_model.proofs.TriedLaws.{gone_tried, loud_grid}
+use Rattle.placement_model.proofs.GoneAboveLaws.{gone_above}
 
 module _ (classes size_max k : ℕ) (caps : List ℕ) (b : ℕ) where
   -- a settled layout keeps the rules of all classes
