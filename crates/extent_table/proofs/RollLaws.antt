@@ -1,8 +1,9 @@
 -- The records of a table with their digests: without them they are those of the map, and in version 2 they
 -- give the digests of the table.
-use Rattle.std.proofs.Common.{◌≡◌, ℕ, zero, suc, ◌<◌, ◌≤◌, ◌==◌, Bool, true, false, cond, List, [], ◌∷◌, ◌++◌, map, filter, length, Option, Some, None, is_some, refl, ap, sym, ◌∙◌, arith}
+use Rattle.std.proofs.Common.{◌≡◌, ℕ, zero, suc, ◌<◌, ◌≤◌, ◌==◌, Bool, true, false, cond, List, [], ◌∷◌, ◌++◌, map, filter, length, Option, Some, None, is_some, option_map, refl, ap, sym, ◌∙◌, arith}
 use Rattle.std.proofs.lemmas.Cmp.{nat_list_cmp_total, tied_itself}
 use Rattle.std.proofs.lemmas.List.{length-map, map-append}
+use Rattle.std.proofs.lemmas.Option.{slice_get-map}
 use Rattle.std.specs.List.{slice_get}
 use Rattle.std.specs.Ordering.{eq_by_cmp, is_eq, is_lt}
 use Rattle.std.specs.declared.cmp.Ordering.{Ordering}
@@ -16,7 +17,7 @@ use Rattle.slot_codec.specs.declared.codec.Record.{Record}
 use Rattle.extent_table.specs.declared.spot.Spot.{Spot}
 use Rattle.extent_table.specs.Extents.{Spots, Extents, IsTable, digest_or_zeros, digests_seen, record_of, records_of, rolled, with_digest}
 use Rattle.extent_table.specs.Rising.{records_of-rise}
-use Rattle.extent_table.proofs.ExtentLaws.{records_of-all, records_of-few}
+use Rattle.extent_table.proofs.ExtentLaws.{records_of-all, records_of-few, records_of-nth}
 use Rattle.extent_table.proofs.MapLemmas.{tie_of}
 
 plain_rows : (digests : Digests) (es : List (List ℕ × Spot))
@@ -40,6 +41,17 @@ rolled-few e table =
 -- a digest of 32 bytes stays
 pub digest_stays : (d : List ℕ) → length d ≡ digest_len → digest_or_zeros (Some d) ≡ d
 digest_stays d is = rw is refl
+
+-- the record of a rank is that of the entry, with its digest
+pub rolled-nth : (e : Extents) → IsTable e → (n : ℕ) (name : List ℕ) (spot : Spot) (digest : List ℕ)
+    → slice_get (fin.entries e.now) n ≡ Some (name, spot) → fin.get e.digests name ≡ Some digest
+    → slice_get (rolled e.now e.digests) n
+    ≡ Some (record (record_of (name, spot)) { digest = digest })
+rolled-nth e table n name spot digest entry is =
+    slice_get-map (with_digest e.digests) (records_of e.now) n
+    ∙ ap (option_map (with_digest e.digests)) (records_of-nth e.now table.now_named n (name, spot) entry)
+    ∙ ap (λ d. Some (record (record_of (name, spot)) { digest = d }))
+    (ap digest_or_zeros is ∙ digest_stays digest (table.digests.long name digest is))
 
 -- the digests of the names of a list, each under its own name
 find_rows : (digests : Digests) (q : List ℕ) (es : List (List ℕ × Spot))

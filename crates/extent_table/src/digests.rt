@@ -7,7 +7,7 @@ use slot_codec::NoMemory;
 use std::alloc::Global;
 
 /// What a key has that was given no digest.
-const NONE: [u8; 32] = [0; 32];
+const NONE: &[u8; 32] = &[0; 32];
 
 /// No digests, and room for those of some keys.
 pub(crate) fn digests_with_room(alloc: Global, room: usize) -> Result<Vec<[u8; 32]>, NoMemory>
@@ -25,8 +25,16 @@ pub(crate) fn digest_at(digests: &[[u8; 32]], key: u32) -> [u8; 32]
     ensures value { result ≡ digest_in digests.now key }
     ensures long { length result ≡ 32 }
 {
+    *digest_there(digests, key)
+}
+
+/// The digest at a key, where it stands. It looks at the list's length alone.
+pub(crate) fn digest_there(digests: &[[u8; 32]], key: u32) -> &[u8; 32]
+    ensures value { result.now ≡ digest_in digests.now key }
+    ensures long { length result.now ≡ 32 }
+{
     if (key as usize) < digests.len() {
-        digests[key as usize]
+        &digests[key as usize]
     } else {
         NONE
     }
@@ -49,11 +57,11 @@ fn put(digests: &mut Vec<[u8; 32]>, room: usize, key: u32, digest: [u8; 32])
         digests[at] = digest;
         return;
     }
-    if digest == NONE {
+    if digest == *NONE {
         return;
     }
     'zeros: while digests.len() < at {
-        digests.push_reserved(NONE);
+        digests.push_reserved(*NONE);
     }
     digests.push_reserved(digest);
 }

@@ -83,6 +83,11 @@ fn reach(kept: &mut Vec<Kept>, room: usize, key: usize)
     ensures count { count_by is_change kept.new.items ≡ count_by is_change kept.old.items }
     ensures capacity { vec_capacity kept.new ≡ vec_capacity kept.old }
 {
+    // New names come with the next key: one record is pushed without a loop over the gap.
+    if kept.len() == key {
+        kept.push_reserved(Kept::Same);
+        return;
+    }
     'records: while kept.len() <= key {
         kept.push_reserved(Kept::Same);
     }

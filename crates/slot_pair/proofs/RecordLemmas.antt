@@ -2,10 +2,10 @@
 use Rattle.std.proofs.Common.{◌≡◌, ℕ, ◌+◌, ◌*◌, ◌<◌, ◌≤◌, List, [], ◌∷◌, ◌++◌, length, min, take, drop, refl, sym, ap, ◌∙◌, arith, length-drop}
 use Rattle.std.proofs.lemmas.Grind.{flat_map-append}
 use Rattle.std.proofs.lemmas.List.{append-nil, get_or-drop, take_more}
-use Rattle.std.proofs.lemmas.Option.{get_or_from_slice_get, slice_get_within}
+use Rattle.std.proofs.lemmas.Option.{get_or_from_slice_get, same_Some, slice_get_within}
 use Rattle.std.proofs.lemmas.Slice.{take-put_mid}
 use Rattle.std.proofs.Math.Seq.{take-add}
-use Rattle.std.specs.Prelude.{flat_map, get_or, slice_get, Some}
+use Rattle.std.specs.Prelude.{flat_map, get_or, option_map, slice_get, None, Option, Some}
 use borrow.Rule.Slice.PartMut.{put_mid}
 use Rattle.byte_ranges.specs.Ranges.{SameOutside, bytes_at, overwritten}
 use Rattle.byte_ranges.proofs.RangeLaws.{bytes_at-append, bytes_at-overwritten, bytes_at-same, overwritten-below, length-overwritten}
@@ -13,6 +13,12 @@ use Rattle.slot_codec.specs.Spelling.{header_bytes, record_bytes, record_len}
 use Rattle.slot_codec.specs.declared.codec.Header.{Header}
 use Rattle.slot_codec.specs.declared.codec.Record.{Record}
 use Rattle.slot_pair.specs.Saves.{HasTable}
+
+-- what a function gave of a value that may be there, it gave of one that is
+pub mapped : {A B : Type 0} (f : A → B) (o : Option A) (b : B) → option_map f o ≡ Some b
+    → (a : A) × (o ≡ Some a) × (f a ≡ b)
+mapped f None b is = absurd (cc)
+mapped f (Some a) b is = (a, refl, same_Some (f a) b is)
 
 -- one record more
 more_records : (spell : Record → List ℕ) (rs : List Record) (first i : ℕ) (r : Record)

@@ -10,7 +10,7 @@ ghost use Rattle.slot_pair.specs.Saves.{HasTable};
 ghost use Rattle.disk_face.specs.Writes.{WritesWithin};
 
 use disk_face::{Disk, DiskFault};
-use slot_codec::{HEADER_LEN, Header, Roll, record_len, write_header, write_record};
+use slot_codec::{HEADER_LEN, Header, Roll, record_len, write_header};
 
 /// How many records one write has at most.
 const RECORDS_A_WRITE: u64 = 512;
@@ -174,8 +174,7 @@ fn spell_records<R: Roll>(roll: &R, version: u8, len: usize, first: u64, n: u64,
         ≡ flat_map (record_bytes version) (take n (drop first (R.records roll.now))) }
 {
     'records: for i in 0..n {
-        let record = roll.nth(first + i);
         let at = len * i as usize;
-        write_record(&record, version, &mut out[at..at + len]);
+        roll.write_nth(first + i, version, &mut out[at..at + len]);
     }
 }
