@@ -9,7 +9,7 @@ use Rattle.segment_layout.specs.Books.{is_quiet, trigger}
 use Rattle.segment_layout.specs.Shapes.{boundary_of, is_boundary}
 use Rattle.extent_table.specs.declared.spot.Spot.{Spot}
 use Rattle.extent_table.specs.Extents.{Extents, IsTable}
-use Rattle.placement_model.specs.Both.{HoldsBoth}
+use Rattle.placement_model.specs.Both.{HoldsBoth, placing}
 use Rattle.placement_model.specs.Held.{IsFreed}
 use Rattle.placement_model.specs.LaidOut.{IsLaidOut}
 use Rattle.placement_model.specs.Below.{IsLaidBelow}
@@ -23,7 +23,7 @@ pub record WasBefore (classes size_max : ℕ) (caps : List ℕ) (grid kept_grid 
   pub table : IsTable e
   pub names : e.names ≡ u.block.names
   pub small : size_max ≤ SIZE_MAX
-  pub both : HoldsBoth classes size_max u.block.k caps grid kept_grid e.now e.kept spans
+  pub both : HoldsBoth classes size_max u.block.k caps (placing grid e.now) (placing kept_grid e.kept) spans
 
 -- A change that isn't quiet: where an old object goes and a new one of a size comes, of 0 bytes where none
 -- comes, one of its charges finds no room. The grid is the one that they leave, and b the boundary of the

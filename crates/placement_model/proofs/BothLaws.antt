@@ -7,7 +7,7 @@ use Rattle.slot_codec.specs.Names.{IsName}
 use Rattle.span_math.specs.declared.span.Span.{Span}
 use Rattle.segment_layout.specs.Shapes.{end_of}
 use Rattle.extent_table.specs.Extents.{Spots}
-use Rattle.placement_model.specs.Both.{HoldsBoth}
+use Rattle.placement_model.specs.Both.{HoldsBoth, placing}
 use Rattle.placement_model.specs.Held.{FreesSpot}
 use Rattle.placement_model.specs.Quiet.{PlacedTo, QuietTo, gone_items}
 use Rattle.placement_model.specs.Reads.{AllLieApart}
@@ -21,9 +21,10 @@ use Rattle.placement_model.proofs.RiseLaws.{CellsRise-itself, CellsRise-then}
 use Rattle.segment_layout.specs.Books.{some_size}
 
 module _ (classes size_max k : ℕ) (caps : List ℕ) (grid kept_grid : List (List ℕ)) (now kept : Spots)
-    (spans : List Span) (h : HoldsBoth classes size_max k caps grid kept_grid now kept spans) where
+    (spans : List Span)
+    (h : HoldsBoth classes size_max k caps (placing grid now) (placing kept_grid kept) spans) where
   -- a checkpoint, and going back to it
-  pub both_kept : HoldsBoth classes size_max k caps grid grid now now []
+  pub both_kept : HoldsBoth classes size_max k caps (placing grid now) (placing grid now) []
   both_kept = record {
     now_laid = h.now_laid;
     kept_laid = h.now_laid;
@@ -31,7 +32,7 @@ module _ (classes size_max k : ℕ) (caps : List ℕ) (grid kept_grid : List (Li
     freed = freed_nothing now;
   }
 
-  pub both_back : HoldsBoth classes size_max k caps kept_grid kept_grid kept kept []
+  pub both_back : HoldsBoth classes size_max k caps (placing kept_grid kept) (placing kept_grid kept) []
   both_back = record {
     now_laid = h.kept_laid;
     kept_laid = h.kept_laid;
@@ -44,7 +45,8 @@ module _ (classes size_max k : ℕ) (caps : List ℕ) (grid kept_grid : List (Li
     pub both_gone : (after : List (List ℕ)) (freed : List Span)
         → QuietTo k caps grid (gone_items k caps (fin.get now name)) after
         → FreesSpot (fin.get now name) (fin.get kept name) spans freed
-        → HoldsBoth classes size_max k caps after kept_grid (fin.remove now name) kept freed
+        → HoldsBoth classes size_max k caps (placing after (fin.remove now name)) (placing kept_grid kept)
+        freed
     both_gone after freed gone frees = record {
       now_laid = laid_gone classes size_max k caps grid now h.now_laid name after gone;
       kept_laid = h.kept_laid;
@@ -78,8 +80,9 @@ module _ (classes size_max k : ℕ) (caps : List ℕ) (grid kept_grid : List (Li
       -- an object is put
       pub both_put : IsName name → size ≤ size_max → (freed : List Span)
           → FreesSpot (fin.get now name) (fin.get kept name) spans freed
-          → HoldsBoth classes size_max k caps after kept_grid
-          (fin.insert now name (record { place = place; size = size })) kept freed
+          → HoldsBoth classes size_max k caps
+          (placing after (fin.insert now name (record { place = place; size = size })))
+          (placing kept_grid kept) freed
       both_put is small freed frees =
           let laid = laid_put classes size_max k caps grid now h.now_laid name is size mid after place small
           gone placed in

@@ -15,7 +15,7 @@ use Rattle.slot_pair.specs.declared.find.SlotFault.{SlotFault}
 use Rattle.extent_table.specs.Extents.{Extents, Spots, records_of, with_digest}
 use Rattle.placement_model.specs.Orders.{SetSoFar}
 use Rattle.placement_model.proofs.OrderLaws.{set_none}
-use Rattle.reopen.specs.Records.{AreSet, ReadSoFar, ReadThrough, SetPiece, all_records}
+use Rattle.reopen.specs.Records.{AreSet, ReadSoFar, ReadThrough, SetPiece, all_records, rows}
 use Rattle.reopen.proofs.RecordLaws.{all_from_none, all_to_none}
 
 pub Unchanged-refl : (d : State) → IsTrue d.is_ready → Unchanged d d
@@ -35,7 +35,7 @@ set_empty spots empty = subst (λ (s : Spots). SetSoFar s None (records_of s)) (
 
 -- before the first piece
 pub read_none : (version l at count : ℕ) (old : Extents) (d : State) → IsTrue d.is_ready → old.now ≡ fin.empty
-    → ReadThrough version l at count 0 None old old d d
+    → ReadThrough (rows version l at count) 0 None old old d d
 read_none version l at count old d ready empty =
     let set = set_empty old.now empty in
     let none : fin.len old.now ≡ 0 = ap (λ (s : Spots). fin.len s) empty ∙ set_none.count in
@@ -76,9 +76,9 @@ next_piece version l done file at left n before few =
 -- one piece more
 read_on : (version l : ℕ) (file : List ℕ) (at count done n : ℕ) (last after : Option (List ℕ))
     (old new : Extents)
-    → done + n ≤ count → ReadSoFar version l file at count done last old
-    → SetPiece version l (bytes_at file (at + l * done) (l * n)) (at + l * done) n last after old new
-    → ReadSoFar version l file at count (done + n) after new
+    → done + n ≤ count → ReadSoFar (rows version l at count) file done last old
+    → SetPiece (rows version l (at + l * done) n) (bytes_at file (at + l * done) (l * n)) last after old new
+    → ReadSoFar (rows version l at count) file (done + n) after new
 read_on version l file at count done n last after old new few t piece =
     let left = count - done in
     let rest = count - (done + n) in
@@ -99,14 +99,13 @@ read_on version l file at count done n last after old new few t piece =
 
 pub read_more : (version l at count done n : ℕ) (last after : Option (List ℕ)) (old now new : Extents)
     (first current next : State) → done + n ≤ count
-    → ReadThrough version l at count done last old now first current
+    → ReadThrough (rows version l at count) done last old now first current
     → SetSoFar new.now after (records_of new.now) → fin.len new.now ≡ fin.len now.now + n
     → new.kept ≡ now.kept → new.names ≡ now.names
-    → (IsTrue current.tells → SetPiece version l (bytes_at current.file (at + l * done) (l * n))
-    (at + l * done)
-    n last after now new)
+    → (IsTrue current.tells → SetPiece (rows version l (at + l * done) n)
+    (bytes_at current.file (at + l * done) (l * n)) last after now new)
     → Unchanged current next → next.faults ≡ current.faults
-    → ReadThrough version l at count (done + n) after old new first next
+    → ReadThrough (rows version l at count) (done + n) after old new first next
 read_more version l at count done n last after old now new first current next few t set counted kept names
     piece
     frame calm =
@@ -119,9 +118,8 @@ read_more version l at count done n last after old now new first current next fe
       read = λ told.
           let told' : IsTrue current.tells = subst IsTrue (sym t.frame.stays.told) told in
           read_on version l first.file at count done n last after now new few (t.read told)
-          (subst (λ (file : List ℕ). SetPiece version l (bytes_at file (at + l * done) (l * n))
-          (at + l * done) n
-          last after now new) (t.frame.same_file told) (piece told'));
+          (subst (λ (file : List ℕ). SetPiece (rows version l (at + l * done) n)
+          (bytes_at file (at + l * done) (l * n)) last after now new) (t.frame.same_file told) (piece told'));
       frame = Unchanged-trans t.frame frame;
       calm = calm ∙ t.calm;
     }
@@ -129,7 +127,7 @@ read_more version l at count done n last after old now new first current next fe
 -- a piece is refused
 pub read_refused : (version l at count done n : ℕ) (last : Option (List ℕ)) (old now : Extents)
     (first current : State) (why : SlotFault) → done + n ≤ count
-    → ReadThrough version l at count done last old now first current → IsTrue first.tells
+    → ReadThrough (rows version l at count) done last old now first current → IsTrue first.tells
     → (IsTrue current.tells → (front : List Record) (m : ℕ) (more : List ℕ)
     → Refuses (all_records version front (n + m) (bytes_at current.file (at + l * done) (l * n) ++ more)
     (at + l * done) last) why)
@@ -149,7 +147,7 @@ read_refused version l at count done n last old now first current why few t told
 
 -- after the last piece
 pub read_all : (version l at count done : ℕ) (last : Option (List ℕ)) (old now : Extents)
-    (first current : State) → count ≤ done → ReadThrough version l at count done last old now first current
+    (first current : State) → count ≤ done → ReadThrough (rows version l at count) done last old now first current
     → IsTrue first.tells
     → AreSet (read_records version count (bytes_at first.file at (l * count)) at None) now
 read_all version l at count done last old now first current end t told =

@@ -22,7 +22,7 @@ use Rattle.extent_table.specs.Extents.{Extents, Spots, records_of, rolled}
 use Rattle.extent_table.proofs.RollLaws.{rolled-push}
 use Rattle.placement_model.specs.Orders.{SetSoFar, spot_of}
 use Rattle.placement_model.proofs.OrderLaws.{set_more}
-use Rattle.reopen.specs.Records.{SetPiece, SetThrough, all_records}
+use Rattle.reopen.specs.Records.{SetPiece, SetThrough, all_records, rows}
 use Rattle.slot_pair.proofs.RefusalLaws.{refuses_on}
 
 -- a record that is read behind a name rises above it
@@ -92,7 +92,7 @@ back_of l text more from within =
 
 -- before the first record
 pub through_none : (version l : ℕ) (text : List ℕ) (at n : ℕ) (before : Option (List ℕ)) (old : Extents)
-    → SetSoFar old.now before (records_of old.now) → SetThrough version l text at n 0 before before old old
+    → SetSoFar old.now before (records_of old.now) → SetThrough (rows version l at n) text 0 before before old old
 through_none version l text at n before old set = record {
   set = set;
   count = omega arith;
@@ -156,11 +156,11 @@ one_refused version l is done k text at before f =
 -- one record more
 pub through_more : (version l : ℕ) → l ≡ record_len version → (text : List ℕ) (at n i : ℕ)
     (before last : Option (List ℕ)) (old now new : Extents)
-    (r : Record) → i < n → length text ≡ l * n → SetThrough version l text at n i before last old now
+    (r : Record) → i < n → length text ≡ l * n → SetThrough (rows version l at n) text i before last old now
     → record_after version (bytes_at text (l * i) l) last ≡ Ok r → IsName r.name
     → length r.digest ≡ digest_len → new.now ≡ fin.insert now.now r.name (spot_of r)
     → new.digests ≡ fin.insert now.digests r.name r.digest → new.kept ≡ now.kept → new.names ≡ now.names
-    → SetThrough version l text at n (i + 1) before (Some r.name) old new
+    → SetThrough (rows version l at n) text (i + 1) before (Some r.name) old new
 through_more version l len text at n i before last old now new r low long t read is whole inserted digested
     kept names =
     let more = set_more now.now last (records_of now.now) r t.set is
@@ -205,7 +205,7 @@ through_more version l len text at n i before last old now new r low long t read
 pub through_refused : (version l : ℕ) → l ≡ record_len version → (text : List ℕ) (at n i : ℕ)
     (before last : Option (List ℕ)) (old now : Extents)
     (f : CodecFault) (p : ℕ) → i < n → length text ≡ l * n
-    → SetThrough version l text at n i before last old now
+    → SetThrough (rows version l at n) text i before last old now
     → record_after version (bytes_at text (l * i) l) last ≡ Err f → p ≡ at + l * i
     → (front : List Record) (m : ℕ) (more : List ℕ)
     → Refuses (all_records version front (n + m) (text ++ more) at before) (fault.Codec f p)
@@ -220,8 +220,8 @@ through_refused version l len text at n i before last old now f p low long t rea
 
 -- after the last record, what stands behind the text is still to be read
 pub through_all : (version l : ℕ) (text : List ℕ) (at n : ℕ) (before last : Option (List ℕ))
-    (old now : Extents) → length text ≡ l * n → SetThrough version l text at n n before last old now
-    → SetPiece version l text at n before last old now
+    (old now : Extents) → length text ≡ l * n → SetThrough (rows version l at n) text n before last old now
+    → SetPiece (rows version l at n) text before last old now
 through_all version l text at n before last old now long t = record {
   done = t.done;
   same = t.same;

@@ -22,10 +22,21 @@ unfoldable pub all_records : ℕ → List Record → ℕ → List ℕ → ℕ �
 all_records version done n text at before = read_records version n text at before >>= λ rest. Ok
     (done ++ rest)
 
--- Of n records of a text in a version, each of which has so many bytes, the first i were read and set:
--- whatever was read before and stands behind the text, all records are the same as before.
-pub record SetThrough (version len : ℕ) (text : List ℕ) (at n i : ℕ) (before last : Option (List ℕ))
-    (old now : Extents) : Type 0
+-- records that stand one behind another: their version, the bytes of each, where the first begins, and how many
+-- they are
+pub record Rows : Type 0 where
+  pub version : ℕ
+  pub len : ℕ
+  pub at : ℕ
+  pub count : ℕ
+
+abbrev pub rows : ℕ → ℕ → ℕ → ℕ → Rows
+rows version len at count = record { version = version; len = len; at = at; count = count }
+
+-- Of the records of a text the first i were read and set: whatever was read before and stands behind the text,
+-- all records are the same as before.
+pub record SetThrough (r : Rows) (text : List ℕ) (i : ℕ) (before last : Option (List ℕ)) (old now : Extents)
+    : Type 0
   where
     pub set : SetSoFar now.now last (records_of now.now)
     pub count : fin.len now.now ≡ fin.len old.now + i
@@ -34,37 +45,36 @@ pub record SetThrough (version len : ℕ) (text : List ℕ) (at n i : ℕ) (befo
     pub done : List Record
     pub same : rolled now.now now.digests ≡ rolled old.now old.digests ++ done
     pub read : (front : List Record) (m : ℕ) (more : List ℕ)
-        → all_records version front (n + m) (text ++ more) at before
-        ≡ all_records version (front ++ done) (n - i + m) (drop (len * i) text ++ more) (at + len * i) last
+        → all_records r.version front (r.count + m) (text ++ more) r.at before
+        ≡ all_records r.version (front ++ done) (r.count - i + m) (drop (r.len * i) text ++ more)
+        (r.at + r.len * i) last
 
--- The records of a text in a version were read and set, whatever was read before and stands behind it.
-pub record SetPiece (version len : ℕ) (text : List ℕ) (at n : ℕ) (before last : Option (List ℕ))
-    (old now : Extents) : Type 0
+-- The records of a text were read and set, whatever was read before and stands behind it.
+pub record SetPiece (r : Rows) (text : List ℕ) (before last : Option (List ℕ)) (old now : Extents) : Type 0
   where
     pub done : List Record
     pub same : rolled now.now now.digests ≡ rolled old.now old.digests ++ done
     pub read : (front : List Record) (m : ℕ) (more : List ℕ)
-        → all_records version front (n + m) (text ++ more) at before
-        ≡ all_records version (front ++ done) m more (at + len * n) last
+        → all_records r.version front (r.count + m) (text ++ more) r.at before
+        ≡ all_records r.version (front ++ done) m more (r.at + r.len * r.count) last
 
--- Of the records that stand in a file at a position, in a version and of so many bytes each, the first were
--- read, and they are those of a table.
-pub record ReadSoFar (version len : ℕ) (file : List ℕ) (at count done : ℕ) (last : Option (List ℕ))
-    (now : Extents) : Type 0 where
-  pub records : List Record
-  pub same : rolled now.now now.digests ≡ records
-  pub read : read_records version count (bytes_at file at (len * count)) at None
-      ≡ all_records version records (count - done) (bytes_at file (at + len * done) (len * (count - done)))
-      (at + len * done) last
+-- Of the records that stand in a file the first were read, and they are those of a table.
+pub record ReadSoFar (r : Rows) (file : List ℕ) (done : ℕ) (last : Option (List ℕ)) (now : Extents) : Type 0
+  where
+    pub records : List Record
+    pub same : rolled now.now now.digests ≡ records
+    pub read : read_records r.version r.count (bytes_at file r.at (r.len * r.count)) r.at None
+        ≡ all_records r.version records (r.count - done)
+        (bytes_at file (r.at + r.len * done) (r.len * (r.count - done))) (r.at + r.len * done) last
 
--- Of the records that stand on a disk at a position, the first were read and set.
-pub record ReadThrough (version len at count done : ℕ) (last : Option (List ℕ)) (old now : Extents)
+-- Of the records that stand on a disk the first were read and set.
+pub record ReadThrough (r : Rows) (done : ℕ) (last : Option (List ℕ)) (old now : Extents)
     (first later : State) : Type 0 where
-  pub few : done ≤ count
+  pub few : done ≤ r.count
   pub set : SetSoFar now.now last (records_of now.now)
   pub counted : fin.len now.now ≡ done
   pub kept : now.kept ≡ old.kept
   pub names : now.names ≡ old.names
-  pub read : IsTrue first.tells → ReadSoFar version len first.file at count done last now
+  pub read : IsTrue first.tells → ReadSoFar r first.file done last now
   pub frame : Unchanged first later
   pub calm : later.faults ≡ first.faults

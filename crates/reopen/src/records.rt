@@ -11,7 +11,7 @@ ghost use Rattle.slot_codec.specs.declared.codec.Record.{Record};
 ghost use Rattle.slot_pair.specs.Finding.{HasDiskCause, Refuses};
 ghost use Rattle.extent_table.specs.Extents.{records_of};
 ghost use Rattle.placement_model.specs.Orders.{SetSoFar};
-ghost use Rattle.reopen.specs.Records.{AreSet, SetPiece, SetThrough, all_records};
+ghost use Rattle.reopen.specs.Records.{AreSet, SetPiece, SetThrough, all_records, rows};
 
 use disk_face::{Disk, read};
 use extent_table::{BulkLoad, Spot};
@@ -115,8 +115,8 @@ fn set_piece<D: Disk>(
     ensures count { OnOk result (fin.len load.new.now ≡ fin.len load.old.now + n) }
     ensures kept { OnOk result (load.new.kept ≡ load.old.kept) }
     ensures names { OnOk result (load.new.names ≡ load.old.names) }
-    ensures read { IsTrue (D.state disk.old).tells → OnOk result (SetPiece version len
-        (bytes_at (D.state disk.old).file at (len * n)) at n last.old last.new load.old load.new) }
+    ensures read { IsTrue (D.state disk.old).tells → OnOk result (SetPiece (rows version len at n)
+        (bytes_at (D.state disk.old).file at (len * n)) last.old last.new load.old load.new) }
     ensures refused { IsTrue (D.state disk.old).tells → IfErr result (λ why. (front : List Record) (m : ℕ)
         (more : List ℕ) → Refuses (all_records version front (n + m)
         (bytes_at (D.state disk.old).file at (len * n) ++ more) at last.old) why) }
@@ -148,7 +148,8 @@ fn set_records(
     requires small { at + len * n < 2 ^ 63 }
     requires set { SetSoFar load.old.now last.old (records_of load.old.now) }
     requires names { fin.len load.old.now + n ≤ load.old.names }
-    ensures set { OnOk result (SetThrough version len text.now at n n last.old last.new load.old load.new) }
+    ensures set { OnOk result (SetThrough (rows version len at n) text.now n last.old last.new load.old
+        load.new) }
     ensures refused { IfErr result (λ why. (front : List Record) (m : ℕ) (more : List ℕ)
         → Refuses (all_records version front (n + m) (text.now ++ more) at last.old) why) }
     ensures only { IfErr result (λ why. why ≢ SlotFault.Disk) }

@@ -19,7 +19,7 @@ use Rattle.slot_codec.proofs.StepLaws.{from_ok}
 use Rattle.slot_codec.proofs.SuperBlockLaws.{superblock_read}
 use Rattle.slot_codec.specs.declared.codec.SuperBlock.{SuperBlock}
 use Rattle.slot_codec.specs.declared.codec.Header.{Header}
-use Rattle.slot_pair.specs.Formats.{HasFirstTable, HasOneMore, IsNoStore, IsNoStoreOrEmpty, IsUnfinished, block_for, first_bytes, first_chosen, first_header, first_in_use, first_slot, first_table, formatted_file, unsealed_file, with_first_slot}
+use Rattle.slot_pair.specs.Formats.{HasFirstTable, HasOneMore, IsNoStore, IsNoStoreOrEmpty, IsUnfinished, block_for, first_bytes, first_chosen, first_header, first_in_use, first_slot, formatted_file, unsealed_file, with_first_slot}
 
 -- a file that is no store, by what a store has
 no_store : (file : List ℕ) → ((c : Chosen) → chosen file ≡ Ok c → ⊥) → IsNoStore file

@@ -1,6 +1,6 @@
 -- What is left by each of the three steps of a save.
 use Rattle.std.specs.Prelude.{◌≡◌, ℕ, ◌+◌, ◌-◌, ◌*◌, ◌^◌, ◌<◌, ◌≤◌, Bool, true, false, IsTrue, List, length, Ok, refl}
-use Rattle.std.proofs.Common.{arith, ap, sym, subst, inl, inr}
+use Rattle.std.proofs.Common.{arith, sym, subst, inl, inr}
 use Rattle.byte_ranges.specs.Ranges.{SameFrom, SameOutside}
 use Rattle.disk_face.specs.Moments.{Rests}
 use Rattle.disk_face.proofs.MomentLaws.{Leaves-trans, Leaves-weaken}
@@ -15,7 +15,7 @@ use Rattle.slot_codec.specs.Spelling.{cap, gate_at, head_len, header_len, record
 use Rattle.slot_codec.specs.declared.codec.Header.{Header}
 use Rattle.slot_codec.specs.declared.codec.Record.{Record}
 use Rattle.slot_pair.proofs.SaveLaws.{IsBeside, IsFilled, alike-refl, beside_data, beside_keeps, body_beside, closing_beside, closing_data, closing_keeps, filled_in_use, filled_saved, gate_filled}
-use Rattle.slot_pair.specs.Saves.{HasOldOrNewTable, HasTable, IsSaved, IsWhole, LeavesEither, SaveLeaves, closing_at, closing_len, next_chosen, next_header, next_in_use}
+use Rattle.slot_pair.specs.Saves.{HasOldOrNewTable, HasTable, IsSaveDone, IsWhole, LeavesEither, SaveLeaves, closing_at, closing_len, next_header, next_in_use}
 use Rattle.disk_face.specs.Writes.{IsRewritten, WritesWithin}
 
 -- what is known as a save begins
@@ -219,19 +219,22 @@ module _ {u : InUse} {h : Header} {rs : List Record} {a b c : State} where
           (opening_either b.file image k.begins is fresh k.beside written.table same)
 
   -- and it is open
-  pub opened_in_use : IsWritten u h rs a b → WritesWithin (gate_at u.block.names (1 - u.slot)) 1 b c
+  pub save_done : IsWritten u h rs a b → WritesWithin (gate_at u.block.names (1 - u.slot)) 1 b c
       → (IsTrue b.tells → is_open c.file (gate_at u.block.names (1 - u.slot)) ≡ true)
-      → slot_in_use c.file ≡ Ok (next_in_use u)
-  opened_in_use written w gate =
-      let k = written.closed in
-      filled_in_use u h rs a.file c.file k.begins.in_use (omega (arith, k.begins.sequence))
-      (opening_filled written c.file (w.others k.told)) (gate k.told)
+      → (IsTrue b.tells → Rests c) → IsSaveDone u h rs c
+  save_done written w gate rests = record {
+    in_use = in_use;
+    saved = λ fresh. filled_saved u h rs a.file c.file k.begins.in_use k.begins.names
+        (header_fits k.begins fresh) k.begins.roll k.begins.ranges k.begins.digests filled in_use;
+    rests = rests k.told;
+  }
+    where
+      k : IsClosed u h rs a b
+      k = written.closed
 
-  pub opened_saved : IsWritten u h rs a b → WritesWithin (gate_at u.block.names (1 - u.slot)) 1 b c
-      → (IsTrue b.tells → is_open c.file (gate_at u.block.names (1 - u.slot)) ≡ true)
-      → u.sequence + 1 < worn_from h.kind → IsSaved (next_chosen u h (length rs)) rs c.file
-  opened_saved written w gate fresh =
-      let k = written.closed in
-      filled_saved u h rs a.file c.file k.begins.in_use k.begins.names (header_fits k.begins fresh)
-      k.begins.roll k.begins.ranges k.begins.digests (opening_filled written c.file (w.others k.told))
-      (opened_in_use written w gate)
+      filled : IsFilled u h rs a.file c.file
+      filled = opening_filled written c.file (w.others k.told)
+
+      in_use : slot_in_use c.file ≡ Ok (next_in_use u)
+      in_use = filled_in_use u h rs a.file c.file k.begins.in_use (omega (arith, k.begins.sequence)) filled
+          (gate k.told)

@@ -1,5 +1,5 @@
 -- What a file is formatted to, and what stands there before it is whole.
-use Rattle.std.specs.Prelude.{◌≡◌, ◌⊎◌, ℕ, ◌+◌, ◌-◌, ◌*◌, ◌<◌, ◌≤◌, false, List, [], ◌∷◌, ◌++◌, length, replicate, IsErr, None, Ok}
+use Rattle.std.specs.Prelude.{◌≡◌, ◌⊎◌, ℕ, ◌+◌, ◌-◌, ◌<◌, ◌≤◌, false, List, [], ◌∷◌, ◌++◌, length, replicate, IsErr, None, Ok}
 use Rattle.byte_ranges.specs.Ranges.{SameBelow, overwritten, resized}
 use Rattle.slot_codec.specs.Choice as choice
 use Rattle.slot_codec.specs.Spelling.{gate_at, gate_open, head_len, header_bytes, room_len, slot_len, superblock_bytes, superblock_len, zeros}

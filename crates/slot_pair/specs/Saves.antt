@@ -1,13 +1,23 @@
 -- What a save of a checkpoint leaves.
-use Rattle.std.specs.Prelude.{◌≡◌, ◌⊎◌, ℕ, ◌+◌, ◌-◌, ◌*◌, ◌/◌, ◌<◌, ◌≤◌, true, if◌then◌else◌, List, [], length, flat_map, slice_index_or, Ok}
+use Rattle.std.specs.Prelude.{◌≡◌, ◌⊎◌, ℕ, ◌+◌, ◌-◌, ◌*◌, ◌/◌, ◌^◌, ◌<◌, ◌≤◌, IsTrue, true, if◌then◌else◌, List, [], length, flat_map, slice_index_or, Ok}
 use Rattle.byte_ranges.specs.Ranges.{SameBelow, SameFrom, bytes_at}
-use Rattle.disk_face.specs.Moments.{Leaves}
+use Rattle.disk_face.specs.Moments.{Leaves, Rests}
 use Rattle.disk_face.specs.States.{State}
 use Rattle.slot_codec.specs.Choice as choice
-use Rattle.slot_codec.specs.Reading.{worn_from}
-use Rattle.slot_codec.specs.Spelling.{gate_at, head_len, header_bytes, header_len, record_bytes, record_len, slot_at}
+use Rattle.slot_codec.specs.Readable.{AreInRange}
+use Rattle.slot_codec.specs.Reading.{all_in_range, is_version, worn_from}
+use Rattle.slot_codec.specs.Spelling.{cap, gate_at, head_len, header_bytes, header_len, record_bytes, record_len, slot_at}
 use Rattle.slot_codec.specs.declared.codec.Header.{Header}
 use Rattle.slot_codec.specs.declared.codec.Record.{Record}
+
+-- What is asked of a save: a sequence is left, the header is of a version and its numbers are in range, and
+-- the slot has room for the records, whose numbers are in range.
+pub record CanSave (u : choice.InUse) (h : Header) (rs : List Record) : Type 0 where
+  pub fresh : u.sequence < 2 ^ 62 - 1
+  pub version : IsTrue (is_version h.version)
+  pub ranges : IsTrue (all_in_range h)
+  pub records : AreInRange rs
+  pub count : length rs ≤ cap u.block.names h.version
 
 -- the changing calls of a save of so many records
 abbrev pub save_calls : ℕ → ℕ
@@ -16,6 +26,11 @@ save_calls count = 6 + (count + 511) / 512
 -- the slot in use after the next save
 abbrev pub next_in_use : choice.InUse → choice.InUse
 next_in_use u = record { block = u.block; slot = 1 - u.slot; sequence = u.sequence + 1; other_open = true }
+
+-- the pair after a save, which answered the sequence that it has then
+pub record IsNextPair (u v : choice.InUse) (sequence : ℕ) : Type 0 where
+  pub answer : sequence ≡ u.sequence + 1
+  pub pair : v ≡ next_in_use u
 
 -- the header that the next save writes
 abbrev pub next_header : choice.InUse → Header → ℕ → Header
@@ -38,6 +53,13 @@ pub record KeepsTable (c : choice.Chosen) (file image : List ℕ) : Type 0 where
 pub record IsSaved (c : choice.Chosen) (records : List Record) (image : List ℕ) : Type 0 where
   pub slot : choice.chosen image ≡ Ok c
   pub table : choice.table_of image ≡ Ok (choice.table_with c records)
+
+-- Once a save is done, the other slot is in use, with the table where the header isn't worn, and a crash
+-- leaves what reads give.
+pub record IsSaveDone (u : choice.InUse) (h : Header) (rs : List Record) (b : State) : Type 0 where
+  pub in_use : choice.slot_in_use b.file ≡ Ok (next_in_use u)
+  pub saved : u.sequence + 1 < worn_from h.kind → IsSaved (next_chosen u h (length rs)) rs b.file
+  pub rests : Rests b
 
 -- What a save may leave at any moment, from images that had `may_leave`: the old table beside what an
 -- old image, or the content, has from the data on; or the new table beside what the content has there.

@@ -1,13 +1,11 @@
 //! The pair of slots of an open file.
-ghost use Rattle.std.specs.Prelude.{◌≡◌, ◌+◌, ◌-◌, ◌^◌, ◌<◌, ◌≤◌, Ok, Err, IfOk, IfErr, IsTrue, OnErr, OnOk, length};
+ghost use Rattle.std.specs.Prelude.{◌≡◌, ◌≤◌, Ok, IfOk, IfErr, IsTrue, OnErr, OnOk, length};
 ghost use Rattle.disk_face.specs.Frames.{Calls, Unchanged};
-ghost use Rattle.disk_face.specs.Moments.{Rests};
 ghost use Rattle.slot_codec.specs.Choice.{chosen, slot_in_use};
-ghost use Rattle.slot_codec.specs.Readable.{AreInRange, IsSuperBlock};
-ghost use Rattle.slot_codec.specs.Reading.{all_in_range, is_version, worn_from};
-ghost use Rattle.slot_codec.specs.Spelling.{cap, head_len, slot_at};
+ghost use Rattle.slot_codec.specs.Readable.{IsSuperBlock};
+ghost use Rattle.slot_codec.specs.Spelling.{head_len, slot_at};
 ghost use Rattle.slot_pair.specs.Finding.{HasDiskCause, Refuses, chosen_header, in_use_of};
-ghost use Rattle.slot_pair.specs.Saves.{IsSaved, SaveLeaves, next_chosen, next_in_use, save_calls};
+ghost use Rattle.slot_pair.specs.Saves.{CanSave, IsNextPair, IsSaveDone, SaveLeaves, save_calls};
 ghost use Rattle.disk_face.specs.Writes.{KeepsDisk};
 
 use crate::body::write_table;
@@ -104,26 +102,15 @@ impl SlotPair {
     ) -> Result<u64, DiskFault>
         requires ready { IsTrue (D.state disk.old).is_ready }
         requires room { 57344 ≤ length buf.old }
-        requires fresh { self.old.sequence < 2 ^ 62 - 1 }
-        requires version { IsTrue (is_version header.now.version) }
-        requires ranges { IsTrue (all_in_range header.now) }
-        requires records { AreInRange (R.records roll.now) }
-        requires count { length (R.records roll.now) ≤ cap self.old.block.names header.now.version }
-        requires long { IsTrue (D.state disk.old).tells
-            → head_len self.old.block.names ≤ length (D.state disk.old).file }
+        requires save { CanSave self.old header.now (R.records roll.now) }
         requires in_use { IsTrue (D.state disk.old).tells
             → slot_in_use (D.state disk.old).file ≡ Ok self.old }
-        ensures answer { IfOk result (λ q. q ≡ self.old.sequence + 1) }
-        ensures pair { OnOk result (self.new ≡ next_in_use self.old) }
+        ensures pair { IfOk result (IsNextPair self.old self.new) }
         ensures same_pair { OnErr result (self.new ≡ self.old) }
         ensures calls { Calls (save_calls (length (R.records roll.now))) (D.state disk.old) (D.state disk.new)
             result }
-        ensures in_use { IsTrue (D.state disk.old).tells
-            → OnOk result (slot_in_use (D.state disk.new).file ≡ Ok (next_in_use self.old)) }
-        ensures saved { IsTrue (D.state disk.old).tells → self.old.sequence + 1 < worn_from header.now.kind
-            → OnOk result (IsSaved (next_chosen self.old header.now (length (R.records roll.now)))
-            (R.records roll.now) (D.state disk.new).file) }
-        ensures rests { IsTrue (D.state disk.old).tells → OnOk result (Rests (D.state disk.new)) }
+        ensures done { IsTrue (D.state disk.old).tells
+            → OnOk result (IsSaveDone self.old header.now (R.records roll.now) (D.state disk.new)) }
         ensures left { IsTrue (D.state disk.old).tells
             → SaveLeaves self.old header.now (R.records roll.now) (D.state disk.old) (D.state disk.new) }
         ensures frame { KeepsDisk (D.state disk.old) (D.state disk.new) }

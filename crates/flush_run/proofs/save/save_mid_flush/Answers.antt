@@ -1,4 +1,4 @@
-use Rattle.std.proofs.Common.{ap, arith, rules, subst, sym}
+use Rattle.std.proofs.Common.{ap, arith, refl, rules, subst, sym}
 use Rattle.disk_face.specs.Frames.{Calls}
 use Rattle.slot_codec.proofs.CapLaws.{cap-one}
 use Rattle.slot_codec.specs.Spelling.{cap}
@@ -10,17 +10,20 @@ use Rattle.flush_run.proofs.HeldLaws.{save_mid_flush, save_mid_flush-done, save_
 use Rattle.flush_run.proofs.RolledLaws.{rolled_count, rolled_left, rolled_saved}
 use Rattle.flush_run.proofs.save.save_mid_flush.Goals as goal
 
-pub save-requires-clause-records : goal.save-requires-clause-records
-save-requires-clause-records g c = rolled_in_range c.args.hands.now.table c.requires.table
-
-pub save-requires-clause-count : goal.save-requires-clause-count
-save-requires-clause-count g c = omega (
-  arith,
-  rolled-few c.args.hands.now.table c.requires.table,
-  c.requires.names,
-  ap (cap c.args.hands.now.slots.block.names) c.requires.version,
-  cap-one c.args.hands.now.slots.block.names,
-)
+pub save-requires-clause-save : goal.save-requires-clause-save
+save-requires-clause-save g c = record {
+  fresh = c.requires.fresh;
+  version = rw c.requires.version refl;
+  ranges = c.requires.ranges;
+  records = rolled_in_range c.args.hands.now.table c.requires.table;
+  count = omega (
+    arith,
+    rolled-few c.args.hands.now.table c.requires.table,
+    c.requires.names,
+    ap (cap c.args.hands.now.slots.block.names) c.requires.version,
+    cap-one c.args.hands.now.slots.block.names,
+  );
+}
 
 pub returns-in_err-save-clause-left : goal.returns-in_err-save-clause-left
 returns-in_err-save-clause-left g c f told s was fresh =
@@ -58,11 +61,11 @@ returns-clause-flies g c f told s was =
     save_mid_flush-done f _ _ _ _ s
     (rolled_left u c.args.header.now e.now e.digests one (c.save.ensures.left told))
     (λ fresh. rolled_saved u c.args.header.now e.now e.digests one d.file
-    (c.in_ok-save.ensures.saved told fresh))
-    (c.in_ok-save.ensures.in_use told) (c.in_ok-save.ensures.rests told) was
+    ((c.in_ok-save.ensures.done told).saved fresh))
+    (c.in_ok-save.ensures.done told).in_use (c.in_ok-save.ensures.done told).rests was
     in
     subst (λ v. MidFlush f v c.keep.new.self.now c.keep.new.self.kept d.file d.may_leave)
-    (sym c.in_ok-save.ensures.pair)
+    (sym c.in_ok-save.ensures.pair.pair)
     (subst (λ k. MidFlush f (next_in_use u) c.keep.new.self.now k d.file d.may_leave)
     (sym c.keep.ensures.kept)
     (subst (λ n. MidFlush f (next_in_use u) n e.now d.file d.may_leave) (sym c.keep.ensures.now) saved))
@@ -75,5 +78,5 @@ returns-clause-opened g c f told fresh s was =
     let one = c.requires.version in
     save_mid_flush-opened f _ _ _ _ s
     (rolled_left u c.args.header.now e.now e.digests one (c.save.ensures.left told))
-    (rolled_saved u c.args.header.now e.now e.digests one d.file (c.in_ok-save.ensures.saved told fresh))
-    (c.in_ok-save.ensures.in_use told) (c.in_ok-save.ensures.rests told) was
+    (rolled_saved u c.args.header.now e.now e.digests one d.file ((c.in_ok-save.ensures.done told).saved fresh))
+    (c.in_ok-save.ensures.done told).in_use (c.in_ok-save.ensures.done told).rests was

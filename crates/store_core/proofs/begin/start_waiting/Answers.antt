@@ -37,11 +37,13 @@ overflow_sub-place g c =
     let holds = start_holds c.requires.start c.args.size c.requires.small in
     omega (arith, holds, ap (λ n. n.reach) found)
 
-pub set-key-requires-clause-place : goal.set-key-requires-clause-place
-set-key-requires-clause-place g c =
+pub set-key-requires-clause-range : goal.set-key-requires-clause-range
+set-key-requires-clause-range g c =
     let found = c.numbers-found.ensures (suffix_items c.args.b c.args.hands.now.table)
-    (start_on_shelf c.requires.start) in
-    omega (arith, ap (λ n. n.reach) found, start_reach c.requires.start c.args.size c.requires.small)
+    (start_on_shelf c.requires.start) in (
+      omega (arith, ap (λ n. n.reach) found, start_reach c.requires.start c.args.size c.requires.small),
+      omega (arith, c.requires.small),
+    )
 
 pub new-requires : goal.new-requires
 new-requires g c =

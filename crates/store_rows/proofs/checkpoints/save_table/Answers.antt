@@ -1,4 +1,5 @@
-use Rattle.std.proofs.Common.{arith, ap, subst, sym, ◌≡◌, ◌≤◌}
+use Rattle.std.proofs.Common.{arith, ap, rules, subst, sym, ◌≡◌, ◌≤◌}
+use Rattle.std.proofs.lemmas.Grind.{common_steps}
 use Rattle.std.proofs.lemmas.List.{length-map}
 use Rattle.std.proofs.Math.Nat.{le_trans}
 use Rattle.std.specs.FinMap as fin
@@ -9,11 +10,8 @@ use Rattle.slot_codec.specs.Choice.{InUse}
 use Rattle.slot_codec.specs.Spelling.{cap}
 use Rattle.store_rows.proofs.checkpoints.save_table.Goals as goal
 
-pub save-requires-clause-records : goal.save-requires-clause-records
-save-requires-clause-records g c = rolled_in_range c.args.table.now c.count.ensures.table
-
-pub save-requires-clause-count : goal.save-requires-clause-count
-save-requires-clause-count g c =
+pub save-requires-clause-save : goal.save-requires-clause-save
+save-requires-clause-save g c =
     let found = c.expect-found.result.block.names in
     let names = c.of-pair.result.block.names in
     let v = c.args.header.now.version in
@@ -23,4 +21,10 @@ save-requires-clause-count g c =
     let fits : fin.len c.args.table.now.now ≤ cap names v = omega (arith, few, same) in
     let now = c.args.table.now in
     let same_count = length-map (records_of now.now) (with_digest now.digests) in
-    subst (λ n. n ≤ cap names v) (sym same_count) (le_trans (records_of-few now.now) fits)
+    record {
+      fresh = grind (arith, common_steps);
+      version = c.is_known.ensures (search rules);
+      ranges = c.requires.ranges;
+      records = rolled_in_range now c.count.ensures.table;
+      count = subst (λ n. n ≤ cap names v) (sym same_count) (le_trans (records_of-few now.now) fits);
+    }

@@ -47,8 +47,7 @@ set-requires g c =
             | inl there ↦ inl (subst (λ (m : Spots). IsSome (fin.get m name)) (sym o.now) there)
             | inr room ↦ inr (omega (arith, room, o.cap, ap (λ (m : Spots). fin.len m) o.now))
           ];
-      place = omega (arith, low, end_low t o.store);
-      size = omega (arith, c.requires.small);
+      range = (omega (arith, low, end_low t o.store), omega (arith, c.requires.small));
     }
 
 pub invariant_of-self : goal.invariant_of-self

@@ -1,4 +1,4 @@
-use Rattle.std.proofs.Common.{◌∙◌, ap, arith, rules, true}
+use Rattle.std.proofs.Common.{◌∙◌, ap, arith, refl, rules, true}
 use Rattle.store_model.specs.Connection.{StoreValue}
 use Rattle.std.specs.Vec.{with_items}
 use Rattle.size_class.specs.declared.TheConstants.{SIZE_MAX}
@@ -14,21 +14,28 @@ use Rattle.store_core.proofs.EffectLaws.{calls_err, calls_ok}
 use Rattle.store_core.proofs.KeepEffectLaws.{keep_done, keep_failed, keep_over, keep_step, kept_view, kept_whole}
 use Rattle.store_core.proofs.store.Store.save_now.Goals as goal
 
-pub save-requires-clause-records : goal.save-requires-clause-records
-save-requires-clause-records g c = rolled_in_range c.self.inside.hands.table
-    (c.self.invariant.table (ap (λ (x : StoreValue). x.is_broken) c.self.view_is ∙ c.requires.whole))
-
-pub save-requires-clause-count : goal.save-requires-clause-count
-save-requires-clause-count g c =
+pub save-requires-clause-save : goal.save-requires-clause-save
+save-requires-clause-save g c =
     let names = c.self.inside.hands.slots.block.names in
-    omega (
-      arith,
-      rolled-few c.self.inside.hands.table
-          (c.self.invariant.table (ap (λ (x : StoreValue). x.is_broken) c.self.view_is ∙ c.requires.whole)),
-      c.self.invariant.room,
-      ap (λ (h : Header). cap names h.version) c.settled_header-next.ensures.header,
-      cap-one names,
-    )
+    let table = c.self.invariant.table
+    (ap (λ (x : StoreValue). x.is_broken) c.self.view_is ∙ c.requires.whole) in
+    record {
+      fresh = omega (
+        arith,
+        c.requires.fresh,
+        ap (λ (x : StoreValue). x.in_use.sequence) c.self.view_is,
+      );
+      version = rw c.settled_header-next.ensures.header refl;
+      ranges = c.settled_header-next.ensures.ranges;
+      records = rolled_in_range c.self.inside.hands.table table;
+      count = omega (
+        arith,
+        rolled-few c.self.inside.hands.table table,
+        c.self.invariant.room,
+        ap (λ (h : Header). cap names h.version) c.settled_header-next.ensures.header,
+        cap-one names,
+      );
+    }
 
 pub returns-in-Err-clause-kept : goal.returns-in-Err-clause-kept
 returns-in-Err-clause-kept g c =
@@ -48,7 +55,7 @@ returns-in-Err-clause-kept g c =
 
 pub invariant_of-self : goal.invariant_of-self
 invariant_of-self g c = kept_whole c.self.inside c.self.invariant c.keep_spots.new.table
-    c.keep_spots.new.guard c.save.new.self _ c.in-Ok.ensures.pair c.keep_spots.ensures.now
+    c.keep_spots.new.guard c.save.new.self _ c.in-Ok.ensures.pair.pair c.keep_spots.ensures.now
     c.keep_spots.ensures.kept
     c.keep_spots.ensures.table c.keep_spots.ensures.names c.keep_spots.ensures.cap c.keep_spots.ensures.empty
     c.keep_spots.ensures.room
@@ -58,26 +65,29 @@ pub returns-in-Ok-clause-kept : goal.returns-in-Ok-clause-kept
 returns-in-Ok-clause-kept g c =
     keep_done c.self.inside c.args.self.now c.self.view_is c.self.invariant c.requires.whole c.requires.fresh
     c.settled_header-next.result c.settled_header-next.ensures.header c.requires.over c.save.ensures.left
-    c.save.ensures.frame c.in-Ok.ensures.saved c.in-Ok.ensures.in_use _
+    c.save.ensures.frame (λ told. (c.in-Ok.ensures.done told).saved)
+    (λ told. (c.in-Ok.ensures.done told).in_use) _
     (kept_view c.self.inside c.self.invariant c.keep_spots.new.table c.keep_spots.new.guard c.save.new.self
-    (with_items c.self.inside.hands.buf c.save.new.buf) c.in-Ok.ensures.pair c.keep_spots.ensures.now
-    c.keep_spots.ensures.kept) _ c.in-Ok.ensures.rests
+    (with_items c.self.inside.hands.buf c.save.new.buf) c.in-Ok.ensures.pair.pair c.keep_spots.ensures.now
+    c.keep_spots.ensures.kept) _ (λ told. (c.in-Ok.ensures.done told).rests)
     (calls_ok _ _ c.in-Ok.ensures.calls)
 
 pub returns-in-Ok-clause-step : goal.returns-in-Ok-clause-step
 returns-in-Ok-clause-step g c =
     keep_step c.self.inside c.args.self.now c.self.view_is c.self.invariant c.requires.whole c.requires.fresh
     c.settled_header-next.result c.settled_header-next.ensures.header c.requires.over c.save.ensures.left
-    c.save.ensures.frame c.in-Ok.ensures.saved c.in-Ok.ensures.in_use _
+    c.save.ensures.frame (λ told. (c.in-Ok.ensures.done told).saved)
+    (λ told. (c.in-Ok.ensures.done told).in_use) _
     (kept_view c.self.inside c.self.invariant c.keep_spots.new.table c.keep_spots.new.guard c.save.new.self
-    (with_items c.self.inside.hands.buf c.save.new.buf) c.in-Ok.ensures.pair c.keep_spots.ensures.now
+    (with_items c.self.inside.hands.buf c.save.new.buf) c.in-Ok.ensures.pair.pair c.keep_spots.ensures.now
     c.keep_spots.ensures.kept)
 
 pub returns-in-Ok-clause-over : goal.returns-in-Ok-clause-over
 returns-in-Ok-clause-over g c unbroken =
     keep_over c.self.inside c.args.self.now c.self.view_is c.self.invariant c.requires.whole c.requires.fresh
     c.settled_header-next.result c.settled_header-next.ensures.header c.requires.over c.save.ensures.left
-    c.save.ensures.frame c.in-Ok.ensures.saved c.in-Ok.ensures.in_use _
+    c.save.ensures.frame (λ told. (c.in-Ok.ensures.done told).saved)
+    (λ told. (c.in-Ok.ensures.done told).in_use) _
     (kept_view c.self.inside c.self.invariant c.keep_spots.new.table c.keep_spots.new.guard c.save.new.self
-    (with_items c.self.inside.hands.buf c.save.new.buf) c.in-Ok.ensures.pair c.keep_spots.ensures.now
+    (with_items c.self.inside.hands.buf c.save.new.buf) c.in-Ok.ensures.pair.pair c.keep_spots.ensures.now
     c.keep_spots.ensures.kept)
