@@ -1,9 +1,9 @@
 //! Copying a range of a file in pieces of a buffer.
-ghost use Rattle.std.specs.Prelude.{◌≡◌, ◌⊎◌, ◌+◌, ◌<◌, ◌≤◌, ◌^◌, length, OnOk, IsTrue};
+ghost use Rattle.std.specs.Prelude.{◌≡◌, ◌+◌, ◌≤◌, length, OnOk, IsTrue};
 ghost use Rattle.byte_ranges.specs.Ranges.{bytes_at, overwritten};
 ghost use Rattle.disk_face.specs.Counts.{HasCause, counted};
 ghost use Rattle.disk_face.specs.Writes.{WritesWithin};
-ghost use Rattle.data_area.specs.Pieces.{pieces};
+ghost use Rattle.data_area.specs.Copies.{CanCopy, CopyCalls};
 
 use disk_face::{Disk, DiskFault, read};
 
@@ -16,20 +16,12 @@ pub fn copy<D: Disk>(
     buf: &mut [u8],
 ) -> Result<(), DiskFault>
     requires ready { IsTrue (D.state disk.old).is_ready }
-    requires some { 0 < length buf.old }
-    requires source { from + size < 2 ^ 63 }
-    requires target { to + size < 2 ^ 63 }
-    requires apart { (from + size ≤ to) ⊎ (to + size ≤ from) }
-    requires from_within { IsTrue (D.state disk.old).tells → from + size ≤ length (D.state disk.old).file }
-    requires to_within { IsTrue (D.state disk.old).tells → to + size ≤ length (D.state disk.old).file }
+    requires can { CanCopy from to size (length buf.old) (D.state disk.old) }
     ensures copied { IsTrue (D.state disk.old).tells
         → OnOk result ((D.state disk.new).file ≡ overwritten (D.state disk.old).file to
         (bytes_at (D.state disk.old).file from size)) }
     ensures writes { WritesWithin to size (D.state disk.old) (D.state disk.new) }
-    ensures calls { 0 < size → OnOk result
-        ((D.state disk.new).turn ≡ counted (D.state disk.old).turn (pieces (length buf.old) size)) }
-    ensures most { (D.state disk.new).turn ≤ counted (D.state disk.old).turn (pieces (length buf.old) size) }
-    ensures cause { HasCause (D.state disk.old).faults (D.state disk.new).faults result }
+    ensures calls { CopyCalls size (length buf.old) (D.state disk.old) (D.state disk.new) result }
 {
     let mut done = 0;
     'pieces: while done < size {

@@ -1,11 +1,10 @@
 //! Moving an object within the data part.
-ghost use Rattle.std.specs.Prelude.{◌≡◌, ◌⊎◌, ◌+◌, ◌-◌, ◌<◌, ◌≤◌, ◌^◌, length, min, slice_index, slice_set, OnErr, OnOk, IsTrue};
+ghost use Rattle.std.specs.Prelude.{◌≡◌, ◌+◌, length, OnOk, IsTrue};
 ghost use Rattle.byte_ranges.specs.Ranges.{bytes_at, overwritten};
-ghost use Rattle.size_class.specs.Classes.{class_of};
 ghost use Rattle.size_class.specs.Rows.{cells_of};
-ghost use Rattle.disk_face.specs.Counts.{HasCause, counted};
 ghost use Rattle.disk_face.specs.Writes.{WritesWithin};
-ghost use Rattle.data_area.specs.Pieces.{pieces};
+ghost use Rattle.data_area.specs.Copies.{CanCopy, CopyCalls};
+ghost use Rattle.data_area.specs.Moves.{CountsMove, IsMovable};
 
 use crate::Ledger;
 use crate::copy::copy;
@@ -26,32 +25,15 @@ pub fn move_object<D: Disk, const C: usize>(
     ledger: &mut Ledger<C>,
 ) -> Result<(), DiskFault>
     requires ready { IsTrue (D.state disk.old).is_ready }
-    requires some { 0 < length buf.old }
-    requires low { 1 ≤ from.size }
-    requires high { from.size ≤ 2 ^ 31 }
-    requires class { class_of from.size < C }
-    requires classes { C ≤ 32 }
-    requires source { base + from.place + from.size < 2 ^ 63 }
-    requires target { base + to + from.size < 2 ^ 63 }
-    requires apart { (from.place + from.size ≤ to) ⊎ (to + from.size ≤ from.place) }
-    requires from_within { IsTrue (D.state disk.old).tells
-        → base + from.place + from.size ≤ length (D.state disk.old).file }
-    requires to_within { IsTrue (D.state disk.old).tells
-        → base + to + from.size ≤ length (D.state disk.old).file }
+    requires object { IsMovable C from.size }
+    requires can { CanCopy (base + from.place) (base + to) from.size (length buf.old) (D.state disk.old) }
     ensures moved { IsTrue (D.state disk.old).tells
         → OnOk result ((D.state disk.new).file ≡ overwritten (D.state disk.old).file (base + to)
         (bytes_at (D.state disk.old).file (base + from.place) from.size)) }
     ensures writes { WritesWithin (base + to) from.size (D.state disk.old) (D.state disk.new) }
-    ensures calls { OnOk result
-        ((D.state disk.new).turn ≡ counted (D.state disk.old).turn (pieces (length buf.old) from.size)) }
-    ensures most { (D.state disk.new).turn
-        ≤ counted (D.state disk.old).turn (pieces (length buf.old) from.size) }
-    ensures cause { HasCause (D.state disk.old).faults (D.state disk.new).faults result }
-    ensures ledger { OnOk result (cells_of ledger.new.moved ≡ slice_set (cells_of ledger.old.moved)
-        (class_of from.size) (min (slice_index (cells_of ledger.old.moved) (class_of from.size) + from.size)
-        (2 ^ 64 - 1))) }
-    ensures asked { cells_of ledger.new.asked ≡ cells_of ledger.old.asked }
-    ensures unmoved { OnErr result (cells_of ledger.new.moved ≡ cells_of ledger.old.moved) }
+    ensures calls { CopyCalls from.size (length buf.old) (D.state disk.old) (D.state disk.new) result }
+    ensures ledger { CountsMove from.size (cells_of ledger.old.moved) (cells_of ledger.new.moved)
+        (cells_of ledger.old.asked) (cells_of ledger.new.asked) result }
 {
     copy(disk, base + from.place, base + to, from.size, buf)?;
     ledger.moved.add(class_of(from.size), from.size);

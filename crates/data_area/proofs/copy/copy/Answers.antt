@@ -1,4 +1,4 @@
-use Rattle.std.proofs.Common.{◌≡◌, ◌+◌, ◌-◌, ◌≤◌, ◌∙◌, ℕ, IsTrue, length, arith, inl, inr, subst, sym, refl}
+use Rattle.std.proofs.Common.{◌≡◌, ◌+◌, ◌-◌, ◌≤◌, ◌∙◌, ℕ, IsTrue, length, arith, inl, inr, rules, subst, sym, refl}
 use Rattle.std.proofs.lemmas.Bool.{cases_lt}
 use Rattle.std.proofs.lemmas.List.{length-take-le}
 use Rattle.std.specs.Prelude.{◌⊎◌, take}
@@ -16,7 +16,7 @@ pieces-init g c =
       copied = λ told. copied_none old.file c.args.from c.args.to;
       calm = refl;
       upto = omega arith;
-      made = made_none old.turn (length c.args.buf.now) c.args.size c.requires.some;
+      made = made_none old.turn (length c.args.buf.now) c.args.size c.requires.can.some;
     }
 
 pub pieces-preserved : goal.pieces-preserved
@@ -40,8 +40,8 @@ pieces-preserved g c =
       copied = λ told.
           let told1 : IsTrue (state c.pieces.disk).tells = subst IsTrue (sym so_far.writes.stays.told) told in
           copied_more old.file (state c.pieces.disk).file (state c.copy_piece.new.disk).file
-          c.args.from c.args.to c.args.size done n c.requires.apart (c.requires.from_within told)
-          (c.requires.to_within told) upto (so_far.copied told)
+          c.args.from c.args.to c.args.size done n c.requires.can.apart (c.requires.can.from_within told)
+          (c.requires.can.to_within told) upto (so_far.copied told)
           (subst (λ k. (state c.copy_piece.new.disk).file
           ≡ overwritten (state c.pieces.disk).file (c.args.to + done)
           (bytes_at (state c.pieces.disk).file (c.args.from + done) k)) len
@@ -60,3 +60,13 @@ returns-in_err-copy_piece-clause-writes g c =
     let upto : c.pieces.done + n ≤ c.args.size = omega arith in
     within-trans c.pieces.invariant.writes
     (within-wider c.args.to c.args.size (omega arith) (omega (arith, upto, len)) c.copy_piece.ensures.writes)
+
+pub returns-in_err-copy_piece-clause-calls : goal.returns-in_err-copy_piece-clause-calls
+returns-in_err-copy_piece-clause-calls g c =
+    let first = (g.D.Disk.state c.args.disk.now).turn in
+    let now = (g.D.Disk.state c.pieces.disk).turn in
+    let most = c.copy_piece.ensures.most in
+    let all = made_most first now (g.D.Disk.state c.copy_piece.new.disk).turn (length c.args.buf.now)
+    c.args.size c.pieces.done c.requires.can.some (omega arith) c.pieces.invariant.made (omega (arith, most))
+    in
+    record { all = search rules; most = omega (arith, all, most); cause = search rules }
