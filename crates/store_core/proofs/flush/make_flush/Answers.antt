@@ -28,21 +28,18 @@ run-requires g c = (
       (
         search rules,
         (
-          c.requires.buffer,
+          record { buffer = c.requires.buffer; few = c.requires.fits },
           (
-            c.requires.fits,
             (
-              (
-                _,
-                can_run c.requires.start.3 _ (λ told.
-                    let mid = subst IsTrue c.write_new.ensures.writes.stays.told told in
-                    let first = subst IsTrue c.set_len.ensures.frame.stays.told mid in
-                    written_flies c.requires.start.3 first _ (search rules) c.set_len.ensures.frame
-                    (c.in_ok-set_len.ensures.resized first) c.write_new.ensures.writes mid
-                    (c.in_ok-write_new.ensures.written mid)),
-              ),
-              c.requires.keeps,
+              _,
+              can_run c.requires.start.3 _ (λ told.
+                  let mid = subst IsTrue c.write_new.ensures.writes.stays.told told in
+                  let first = subst IsTrue c.set_len.ensures.frame.stays.told mid in
+                  written_flies c.requires.start.3 first _ (search rules) c.set_len.ensures.frame
+                  (c.in_ok-set_len.ensures.resized first) c.write_new.ensures.writes mid
+                  (c.in_ok-write_new.ensures.written mid)),
             ),
+            c.requires.keeps,
           ),
         ),
       ),

@@ -25,15 +25,12 @@ resume-requires g c =
           (
             r.ready,
             (
-              starts.buffer,
+              record { buffer = starts.buffer; few = r.fits },
               (
-                r.fits,
-                (
-                  some_again c.args.found r.loads r.moving r.fits r.wide (parts_of c.hands_of-hands.result)
-                      starts _ packs (g.D.Disk.state c.args.disk.now) r.from,
-                  subst (λ e. KeepsPacking g.row.C phase (items_now phase.course e)) (sym starts.table)
-                      c.phase_again-phase.ensures.keeps,
-                ),
+                some_again c.args.found r.loads r.moving r.fits r.wide (parts_of c.hands_of-hands.result)
+                    starts _ packs (g.D.Disk.state c.args.disk.now) r.from,
+                subst (λ e. KeepsPacking g.row.C phase (items_now phase.course e)) (sym starts.table)
+                    c.phase_again-phase.ensures.keeps,
               ),
             ),
           ),
@@ -54,9 +51,9 @@ store_with-requires g c =
         lit< tt,
         makes_store c.args.found r.loads r.moving r.fits r.wide (parts_of c.hands_of-hands.result) starts
             _ packs (g.D.Disk.state c.args.disk.now) (g.D.Disk.state c.resume.new.disk) r.from
-            c.resume.new.hands c.resume.ensures.left c.resume.ensures.made c.resume.ensures.few
-            c.resume.ensures.saves
-            c.in-Ok.ensures.ends c.in-Ok.ensures.one r.plain,
+            c.resume.new.hands c.resume.ensures.left c.resume.ensures.made c.resume.ensures.saves.few
+            c.resume.ensures.saves.most
+            c.in-Ok.ensures.ends c.in-Ok.ensures.done.one r.plain,
       ),
     )
 
@@ -72,9 +69,9 @@ returns-in-Ok g c =
     c.phase_again-phase.ensures.again in
     subst (λ s. IsOpening g.row.C a d (Ok s)) (sym c.store_with.ensures)
     (again_done c.args.found r.loads r.moving r.fits r.wide (parts_of c.hands_of-hands.result) starts _ packs
-    a d r.from c.resume.new.hands c.resume.ensures.left c.resume.ensures.made c.resume.ensures.few
-    c.resume.ensures.saves
-    c.in-Ok.ensures.ends c.in-Ok.ensures.one _ c.in-Ok.ensures.calls c.in-Ok.ensures.cause)
+    a d r.from c.resume.new.hands c.resume.ensures.left c.resume.ensures.made c.resume.ensures.saves.few
+    c.resume.ensures.saves.most
+    c.in-Ok.ensures.ends c.in-Ok.ensures.done.one _ c.in-Ok.ensures.done.calls c.in-Ok.ensures.cause)
 
 pub returns-in-Err : goal.returns-in-Err
 returns-in-Err g c =
@@ -86,5 +83,5 @@ returns-in-Err g c =
     c.phase_again-phase.ensures.again in
     again_failed c.args.found r.loads r.moving r.fits r.wide (parts_of c.hands_of-hands.result) starts _ packs
     (g.D.Disk.state c.args.disk.now) (g.D.Disk.state c.resume.new.disk) r.from c.resume.new.hands
-    c.resume.ensures.left c.resume.ensures.made c.resume.ensures.few c.resume.ensures.saves c.in-Err.field-0
-    c.in-Err.ensures.cause
+    c.resume.ensures.left c.resume.ensures.made c.resume.ensures.saves.few c.resume.ensures.saves.most
+    c.in-Err.field-0 c.in-Err.ensures.cause
