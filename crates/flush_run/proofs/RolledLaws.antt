@@ -1,22 +1,32 @@
--- What a save of a table in version 1 leaves: its records have no digests there.
-use Rattle.std.specs.Prelude.{◌≡◌, ℕ, List, length, filter, Ok, None, Result, refl}
-use Rattle.std.proofs.Common.{ap, sym, subst, ◌∙◌, inl, inr}
+-- What a save of a table leaves: its records with their digests, which they don't have in version 1.
+use Rattle.std.specs.Prelude.{◌≡◌, ℕ, List, length, Ok, None}
+use Rattle.std.proofs.Common.{ap, sym, ◌∙◌, inl, inr}
 use Rattle.std.proofs.lemmas.List.{length-map}
-use Rattle.std.specs.FinMap as fin
 use Rattle.disk_face.specs.States.{State}
 use Rattle.disk_face.proofs.MomentLaws.{Leaves-weaken}
 use Rattle.slot_codec.specs.Choice as choice
 use Rattle.slot_codec.specs.declared.codec.Header.{Header}
-use Rattle.slot_codec.specs.declared.codec.Record.{Record}
 use Rattle.slot_pair.specs.Saves.{HasOldOrNewTable, IsSaved, LeavesEither, SaveLeaves, next_chosen}
-use Rattle.extent_table.specs.Extents.{Spots, records_of, rolled, with_digest}
-use Rattle.extent_table.proofs.RollLaws.{rolled-plain}
+use Rattle.extent_table.specs.Extents.{Extents, IsTable, Spots, records_of, rolled, with_digest}
+use Rattle.extent_table.proofs.RollLaws.{rolled-plain, rolled-seen}
 use Rattle.flush_run.specs.Saves.{saved_table}
-use Rattle.flush_run.proofs.SavedLaws.{saved_table_is}
+use Rattle.flush_run.proofs.SavedLaws.{plain_table_is}
 
 pub rolled_count : (now : Spots) (digests : choice.Digests)
     → length (rolled now digests) ≡ length (records_of now)
 rolled_count now digests = length-map (records_of now) (with_digest digests)
+
+-- the table that a save writes, in each version
+pub rolled_table_is : (u : choice.InUse) (h : Header) (e : Extents) → IsTable e
+    → choice.table_with (next_chosen u h (length (rolled e.now e.digests))) (rolled e.now e.digests)
+    ≡ saved_table u h e
+rolled_table_is u h e table = λ i. record {
+  chosen = next_chosen u h (length (rolled e.now e.digests));
+  records = rolled-plain e.now e.digests i;
+  digests = rolled-seen h.version e table i;
+}
+
+-- ---- in version 1
 
 module _ (u : choice.InUse) (h : Header) (now : Spots) (digests : choice.Digests) (one : h.version ≡ 1) where
   -- the table that is saved is that of the records without digests
@@ -31,7 +41,7 @@ module _ (u : choice.InUse) (h : Header) (now : Spots) (digests : choice.Digests
         chosen = next_chosen u h (count i);
         records = plain i;
         digests = none i;
-      }) ∙ sym (saved_table_is u h now one)
+      }) ∙ sym (plain_table_is u h now one)
 
   pub rolled_saved : (image : List ℕ)
       → IsSaved (next_chosen u h (length (rolled now digests))) (rolled now digests) image

@@ -1,10 +1,11 @@
 //! The end of a flush: the settled table is saved, and the file is cut to where its layout ends.
 ghost use Rattle.std.specs.Prelude.{◌≡◌, ◌+◌, ◌-◌, ◌<◌, ◌≤◌, ◌^◌, ℕ, List, [], length, vec_len, OnErr, OnOk, IsTrue, Ok};
+ghost use Rattle.std.specs.FinMap as fin;
 ghost use Rattle.disk_face.specs.Counts.{HasCause};
 ghost use Rattle.disk_face.specs.Frames.{Calls};
 ghost use Rattle.slot_codec.specs.Choice.{slot_in_use};
-ghost use Rattle.slot_codec.specs.Reading.{all_in_range, worn_from};
-ghost use Rattle.slot_codec.specs.Spelling.{head_len};
+ghost use Rattle.slot_codec.specs.Reading.{all_in_range, is_version, worn_from};
+ghost use Rattle.slot_codec.specs.Spelling.{cap, head_len};
 ghost use Rattle.slot_pair.specs.Saves.{next_in_use, save_calls};
 ghost use Rattle.extent_table.specs.Extents.{IsTable, records_of, with_now_kept};
 ghost use Rattle.flush_run.specs.FlushFrames.{IsMidFlush, FlushFrame, LeavesOldOrNew};
@@ -34,23 +35,23 @@ pub(crate) fn settle_mid_flush<D: Disk, const C: usize>(
 ) -> Result<(), DiskFault>
     requires ready { IsTrue (D.state disk.old).is_ready }
     requires room { 57344 ≤ vec_len hands.old.buf }
-    requires version { header.now.version ≡ 1 }
+    requires version { IsTrue (is_version header.now.version) }
     requires fresh { hands.old.slots.sequence + 1 < worn_from header.now.kind }
     requires ranges { IsTrue (all_in_range header.now) }
     requires table { IsTable hands.old.table }
-    requires names { hands.old.table.names ≤ hands.old.slots.block.names }
+    requires count { fin.len hands.old.table.now ≤ cap hands.old.slots.block.names header.now.version }
     requires long { IsTrue (D.state disk.old).tells
         → head_len hands.old.slots.block.names ≤ length (D.state disk.old).file }
     requires in_use { IsTrue (D.state disk.old).tells
         → slot_in_use (D.state disk.old).file ≡ Ok hands.old.slots }
     ensures settled { (f : FlushFrame) (end : ℕ) → IsTrue (D.state disk.old).tells → f.base + end ≡ len
-        → IsSaveable f hands.old.slots hands.old.table.now header.now
+        → IsSaveable f hands.old.slots hands.old.table header.now
         → CanCut f hands.old.slots hands.old.table.now header.now end
         → IsMidFlush f hands.old.slots hands.old.table (D.state disk.old)
         → OnOk result (IsSettled f hands.new.slots hands.new.table.now end (D.state disk.new).file
         (D.state disk.new).may_leave) }
     ensures left { (f : FlushFrame) (end : ℕ) → IsTrue (D.state disk.old).tells → f.base + end ≡ len
-        → IsSaveable f hands.old.slots hands.old.table.now header.now
+        → IsSaveable f hands.old.slots hands.old.table header.now
         → CanCut f hands.old.slots hands.old.table.now header.now end
         → IsMidFlush f hands.old.slots hands.old.table (D.state disk.old)
         → LeavesOldOrNew f (hands.old.slots.sequence + 1) (D.state disk.old) (D.state disk.new) }
@@ -103,7 +104,7 @@ pub(crate) fn settle<D: Disk, const C: usize>(
 {
     let numbers = settled.numbers();
     hands.layout.settle(numbers.boundary, &settled.volumes());
-    let header = settled_header(&hands.layout);
+    let header = settled_header(&hands.layout, hands.version);
     let len = hands.base + hands.layout.end();
     settle_mid_flush(disk, &header, len, hands)?;
     Ok(())

@@ -4,8 +4,8 @@ ghost use Rattle.std.specs.Prelude.{◌≡◌, ◌⊎◌, ◌+◌, ◌-◌, ◌<
 ghost use Rattle.std.specs.FinMap as fin;
 ghost use Rattle.disk_face.specs.Counts.{HasCause, counted};
 ghost use Rattle.slot_codec.specs.Choice.{InUse, slot_in_use};
-ghost use Rattle.slot_codec.specs.Reading.{all_in_range};
-ghost use Rattle.slot_codec.specs.Spelling.{head_len};
+ghost use Rattle.slot_codec.specs.Reading.{all_in_range, is_version};
+ghost use Rattle.slot_codec.specs.Spelling.{cap, head_len};
 ghost use Rattle.slot_pair.specs.Saves.{save_calls};
 ghost use Rattle.size_class.specs.Classes.{class_of};
 ghost use Rattle.size_class.specs.Rows.{cells_of};
@@ -37,11 +37,11 @@ pub(crate) fn free_target<D: Disk, const C: usize>(
 ) -> Result<bool, DiskFault>
     requires ready { IsTrue (D.state disk.old).is_ready }
     requires room { 57344 ≤ vec_len hands.old.buf }
-    requires version { header.now.version ≡ 1 }
+    requires version { IsTrue (is_version header.now.version) }
     requires fresh { hands.old.slots.sequence < 2 ^ 62 - 1 }
     requires ranges { IsTrue (all_in_range header.now) }
     requires table { IsTable hands.old.table }
-    requires names { hands.old.table.names ≤ hands.old.slots.block.names }
+    requires count { fin.len hands.old.table.now ≤ cap hands.old.slots.block.names header.now.version }
     requires long { IsTrue (D.state disk.old).tells
         → head_len hands.old.slots.block.names ≤ length (D.state disk.old).file }
     requires in_use { IsTrue (D.state disk.old).tells
@@ -49,11 +49,11 @@ pub(crate) fn free_target<D: Disk, const C: usize>(
     ensures answer { IfOk result (λ saved. FreesTarget saved target hands.old.slots hands.new.slots
         hands.old.table hands.new.table hands.old.guard.spans hands.new.guard.spans) }
     ensures flies { (f : FlushFrame) → IsTrue (D.state disk.old).tells
-        → IsSaveable f hands.old.slots hands.old.table.now header.now
+        → IsSaveable f hands.old.slots hands.old.table header.now
         → IsMidFlush f hands.old.slots hands.old.table (D.state disk.old)
         → OnOk result (IsMidFlush f hands.new.slots hands.new.table (D.state disk.new)) }
     ensures left { (f : FlushFrame) → IsTrue (D.state disk.old).tells
-        → IsSaveable f hands.old.slots hands.old.table.now header.now
+        → IsSaveable f hands.old.slots hands.old.table header.now
         → IsMidFlush f hands.old.slots hands.old.table (D.state disk.old)
         → LeavesOldOrNew f (hands.old.slots.sequence + 1) (D.state disk.old) (D.state disk.new) }
     ensures most { (D.state disk.new).turn

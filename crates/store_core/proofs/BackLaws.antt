@@ -81,6 +81,7 @@ module _ {C : ℕ} (s : Inside C) (whole : IsWhole s) (table : Extents) (guard :
   back_whole is_table names cap spans room = record {
     classes = whole.classes;
     wide = whole.wide;
+    version = whole.version;
     base = whole.base;
     few = whole.few;
     buf = whole.buf;

@@ -26,6 +26,7 @@ use Rattle.flush_run.specs.declared.hands.Hands.{Hands}
 use Rattle.flush_run.specs.Calls.{CallsSoFar, piece_calls}
 use Rattle.flush_run.specs.FlushFrames.{FlushFrame}
 use Rattle.flush_run.specs.Parts.{HandsValue, parts_of, size_in}
+use Rattle.flush_run.proofs.VersionLaws.{plain_book}
 use Rattle.flush_run.specs.Settling.{FlushEnds}
 use Rattle.store_core.specs.declared.answers.Refusal.{Refusal}
 use Rattle.store_core.specs.declared.answers.Done.{Done}
@@ -60,6 +61,9 @@ module _ {C : ℕ} (s : Inside C) (c : Change) (hands1 : Hands C) (p : PlanState
 
   same_base : hands2.base ≡ s.hands.base
   same_base = w.made.keeps.base ∙ ap (λ (y : HandsValue). y.base) w.begun.rest
+
+  plain : hands2.version ≡ 1
+  plain = w.made.keeps.version ∙ ap (λ (y : HandsValue). y.version) w.begun.rest ∙ w.whole.version
 
   same_buffer : vec_len hands2.buf ≡ 65536
   same_buffer = w.made.keeps.buffer ∙ ap (λ (y : HandsValue). y.buffer) w.begun.rest ∙ w.whole.buf
@@ -167,6 +171,7 @@ module _ {C : ℕ} (s : Inside C) (c : Change) (hands1 : Hands C) (p : PlanState
   failed_whole = record {
     classes = w.whole.classes;
     wide = w.whole.wide;
+    version = plain;
     base = same_base ∙ w.whole.base ∙ ap (λ (b : SuperBlock). head_len b.names) (sym same_block);
     few = omega (arith, w.whole.few, ap (λ (b : SuperBlock). b.names) same_block);
     buf = same_buffer;
@@ -226,7 +231,9 @@ module _ {C : ℕ} (s : Inside C) (c : Change) (hands1 : Hands C) (p : PlanState
       -- the flush began as it would for any map of these sizes, so the book is the next one of each
       book_is : (m : Map) → IsSizedBy m ks.now
           → (kept_of done_inside).book ≡ (next_book ks.in_use.block.k m ks.book c).book
-      book_is m sized = any_ends.book ∙ sym (w.begun.lifts any.0 any.1.sized).book
+      book_is m sized =
+          plain_book (parts_of hands2) (kept_of done_inside).book plain refl any_ends.book
+          ∙ sym (w.begun.lifts any.0 any.1.sized).book
           ∙ (w.begun.lifts (record any.0 { map = m }) sized).book
 
       names_now : hands2.table.names ≡ hands2.slots.block.names
@@ -240,11 +247,11 @@ module _ {C : ℕ} (s : Inside C) (c : Change) (hands1 : Hands C) (p : PlanState
 
       pub done_store : IsStore C (kept_of done_inside)
       done_store = ended_store hands2 (flight_of C x0 c p.numbers.reach any.0) d any_ends names_now block_now
-          (kept_of done_inside) view
+          plain (kept_of done_inside) view
 
       pub done_whole : IsWhole done_inside
-      done_whole = flushed_whole s hands2 w.whole same_block same_base same_buffer any_ends.divisor same_names
-          same_cap same_room any_ends.table any_ends.kept any_ends.empty done_store
+      done_whole = flushed_whole s hands2 w.whole plain same_block same_base same_buffer any_ends.divisor
+          same_names same_cap same_room any_ends.table any_ends.kept any_ends.empty done_store
 
       abbrev told_flight : IsTrue a.tells → FlushFrame
       told_flight told = flight_of C x0 c p.numbers.reach (record {
@@ -263,7 +270,7 @@ module _ {C : ℕ} (s : Inside C) (c : Change) (hands1 : Hands C) (p : PlanState
         still = w.made.keeps.disk.stays.told ∙ told
 
         pub done_over : IsOver C (kept_of done_inside) d.file
-        done_over = ended_over hands2 (told_flight told) d (told_ends told) names_now block_now
+        done_over = ended_over hands2 (told_flight told) d (told_ends told) names_now block_now plain
             (kept_of done_inside) view base_now still
 
         pub done_step : refusal (limits_of ks) (facts_at ks (ask.change c)) (ask.change c) ≡ None
@@ -272,7 +279,7 @@ module _ {C : ℕ} (s : Inside C) (c : Change) (hands1 : Hands C) (p : PlanState
             (state_of (kept_of done_inside) d.file)
         done_step calm needs_flush =
             let h = w.whole.sound w.unbroken in
-            let is = ended_state hands2 (told_flight told) d (told_ends told) names_now block_now
+            let is = ended_state hands2 (told_flight told) d (told_ends told) names_now block_now plain
             (kept_of done_inside) view base_now still in
             flush_step (limits_of ks) (state_of ks a.file) (state_of (kept_of done_inside) d.file) c
             (ap (λ (f : Facts). refusal (limits_of ks) f (ask.change c))
@@ -299,13 +306,13 @@ module _ {C : ℕ} (s : Inside C) (c : Change) (hands1 : Hands C) (p : PlanState
           asked = asked_is;
           saved = omega (arith, low, same_sequence);
         };
-        opened = λ told. ended_opens hands2 (told_flight told) d (told_ends told) names_now block_now
+        opened = λ told. ended_opens hands2 (told_flight told) d (told_ends told) names_now block_now plain
             (kept_of done_inside) view base_now (still told);
         content = content_is;
         left = left_is;
-        rests = λ told. ended_only hands2 (told_flight told) d (told_ends told) names_now block_now
+        rests = λ told. ended_only hands2 (told_flight told) d (told_ends told) names_now block_now plain
             (kept_of done_inside) view base_now (still told);
-        on_table = λ told. ended_rests hands2 (told_flight told) d (told_ends told) names_now block_now
+        on_table = λ told. ended_rests hands2 (told_flight told) d (told_ends told) names_now block_now plain
             (kept_of done_inside) view base_now (still told);
         few_saves = few_saves_is;
         calls = subst (λ n. CallsSoFar a.turn d.turn ks.moved (cells_of hands2.ledger.moved) 4

@@ -106,6 +106,7 @@ module _ {C : ℕ} (s : Inside C) (whole : IsWhole s) (unbroken : s.broken ≡ f
     cap = whole.cap ∙ sym whole.room;
     room = whole.guard_room;
     divisor = whole.divisor;
+    version = whole.version;
   }
 
   pub put_loud : (name object : List ℕ) → is_quiet (charges_of ks (put_of name object)) ≡ false

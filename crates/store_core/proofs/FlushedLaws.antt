@@ -22,6 +22,7 @@ use Rattle.placement_model.proofs.RiseLaws.{CellsRise-itself}
 use Rattle.flush_run.specs.declared.hands.Hands.{Hands}
 use Rattle.flush_run.specs.FlushFrames.{FlushFrame}
 use Rattle.flush_run.specs.Parts.{parts_of}
+use Rattle.flush_run.proofs.VersionLaws.{plain_book}
 use Rattle.flush_run.specs.Settling.{FlushEnds, IsSettled}
 use Rattle.store_core.specs.declared.store.Store.TheInside.{Inside}
 use Rattle.store_model.specs.Connection.{IsOver, StoreValue, RestsOnTable, SameOnTable, base_of, kept_map, state_of}
@@ -58,6 +59,7 @@ flushed_is u now caps grid s is = λ i. record s {
 module _ {C : ℕ} (hands : Hands C) (flight : FlushFrame) (d : disk.State)
     (ends : FlushEnds C (record flight { classes = C; size_max = SIZE_MAX }) (parts_of hands) d)
     (names : hands.table.names ≡ hands.slots.block.names) (block : IsSuperBlock hands.slots.block)
+    (version : hands.version ≡ 1)
     (s : StoreValue)
     (is : IsFlushed C hands.slots hands.table.now (caps_of hands.layout) (grid_of hands.layout) s) where
   abbrev f : FlushFrame
@@ -95,9 +97,12 @@ module _ {C : ℕ} (hands : Hands C) (flight : FlushFrame) (d : disk.State)
     map_is : read_at (base_of as_flushed) file hands.table.now ≡ f.new_map
     map_is = (λ i. map_of ((base ∙ settled.base) i) file (sym settled.records i)) ∙ sym settled.opens.same_map
 
+    shown : as_flushed.book ≡ f.new_book
+    shown = plain_book (parts_of hands) as_flushed.book version refl ends.book
+
     opens_in : OpensBy C SIZE_MAX settled.t file (kept_map as_flushed file) as_flushed.kept_book
     opens_in = subst (λ (m : Map). OpensBy C SIZE_MAX settled.t file m as_flushed.kept_book) (sym map_is)
-        (subst (λ (b : Book). OpensBy C SIZE_MAX settled.t file f.new_map b) (sym ends.book) settled.opens)
+        (subst (λ (b : Book). OpensBy C SIZE_MAX settled.t file f.new_map b) (sym shown) settled.opens)
 
     -- it is over its file, and a crash leaves only that
     pub ended_over : IsOver C s file
@@ -128,8 +133,8 @@ module _ {C : ℕ} (hands : Hands C) (flight : FlushFrame) (d : disk.State)
     ended_state = ap (λ (x : StoreValue). state_of x file) (sym same) ∙ (λ i. record {
       map = map_is i;
       kept = map_is i;
-      book = ends.book i;
-      kept_book = ends.book i;
+      book = shown i;
+      kept_book = shown i;
       sequence = hands.slots.sequence;
     })
 
@@ -152,15 +157,17 @@ module _ {C : ℕ} (s : Inside C) (hands : Hands C) where
         kept;
   }
 
-  pub flushed_whole : IsWhole s → hands.slots.block ≡ s.hands.slots.block → hands.base ≡ s.hands.base
+  pub flushed_whole : IsWhole s → hands.version ≡ 1 → hands.slots.block ≡ s.hands.slots.block
+      → hands.base ≡ s.hands.base
       → vec_len hands.buf ≡ 65536 → divisor_of hands.layout ≡ hands.slots.block.k
       → hands.table.names ≡ s.hands.table.names → hands.table.cap ≡ s.hands.table.cap
       → hands.guard.room ≡ s.hands.guard.room → IsTable hands.table
       → hands.table.kept ≡ hands.table.now → hands.guard.spans ≡ [] → IsStore C (kept_of flushed_inside)
       → IsWhole flushed_inside
-  flushed_whole whole block base buf divisor names cap room table kept spans store = record {
+  flushed_whole whole version block base buf divisor names cap room table kept spans store = record {
     classes = whole.classes;
     wide = whole.wide;
+    version = version;
     base = base ∙ whole.base ∙ ap (λ b. head_len b.names) (sym block);
     few = omega (arith, whole.few, ap (λ b. b.names) block);
     buf = buf;

@@ -76,6 +76,7 @@ module _ {C : ℕ} (s : Inside C) (t : StoreValue) (is : kept_of s ≡ t) (whole
   changed_whole is_table names cap room divisor store freed = record {
     classes = whole.classes;
     wide = whole.wide;
+    version = whole.version;
     base = whole.base;
     few = whole.few;
     buf = whole.buf;

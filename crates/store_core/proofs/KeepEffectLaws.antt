@@ -201,6 +201,7 @@ module _ {C : ℕ} (s : Inside C) (whole : IsWhole s) (table : Extents) (guard :
       record {
         classes = whole.classes;
         wide = whole.wide;
+        version = whole.version;
         base = whole.base ∙ ap head_len (sym names_stay);
         few = omega (arith, whole.few, names_stay);
         buf = full;

@@ -22,7 +22,7 @@ use Rattle.placement_model.specs.Reads.{AreNamed}
 use Rattle.placement_model.proofs.LaidLaws.{valid_numbered}
 use Rattle.placement_model.proofs.RiseLaws.{CellsRise-itself}
 use Rattle.placement_model.proofs.ShownLaws.{book_shown}
-use Rattle.flush_run.proofs.SavedLaws.{map_from, new_image_opens, old_image_opens, saved_table_is, valid_at}
+use Rattle.flush_run.proofs.SavedLaws.{map_from, new_image_opens, old_image_opens, plain_table_is, valid_at}
 use Rattle.store_model.specs.Connection.{IsOver, StoreValue, SameOnTable, base_of, kept_map, limits_of, state_of}
 use Rattle.store_core.specs.Keeps.{kept_now, now_map}
 use Rattle.store_model.specs.States.{Limits, Served, State, Step, facts_of, refusal}
@@ -116,7 +116,7 @@ module _ {classes : ℕ} (s : StoreValue) (h : IsStore classes s) where
       pub now_opens : OpensBy classes SIZE_MAX (table_now s) image (now_map s file) s.book
       now_opens = subst (λ (b : Book). OpensBy classes SIZE_MAX (table_now s) image (now_map s file) b)
           (sym book_is) (new_image_opens classes SIZE_MAX (table_now s) (records_of s.now) file image
-          (saved_table_is s.in_use (header_now s) s.now refl) valid_now saved same)
+          (plain_table_is s.in_use (header_now s) s.now refl) valid_now saved same)
 
       map_kept : now_map s image ≡ now_map s file
       map_kept = map_from base (records_of s.now) file image same

@@ -68,6 +68,7 @@ pub record IsNew {C : ℕ} (s : Inside C) : Type 0 where
   pub guard_room : s.hands.guard.room ≡ s.hands.slots.block.names
   pub moved : cells_of s.hands.ledger.moved ≡ zero_row
   pub asked : cells_of s.hands.ledger.asked ≡ zero_row
+  pub version : s.hands.version ≡ 1
   pub base : s.hands.base ≡ head_len s.hands.slots.block.names
   pub buf : vec_len s.hands.buf ≡ 65536
   pub unbroken : s.broken ≡ false
@@ -107,6 +108,7 @@ module _ {C : ℕ} (s : Inside C) (n : IsNew s) where
   new_whole = record {
     classes = n.few;
     wide = n.wide;
+    version = n.version;
     base = n.base;
     few = n.block.names_high;
     buf = n.buf;

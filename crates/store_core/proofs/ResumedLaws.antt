@@ -230,6 +230,9 @@ module _ {C : ℕ} (x : Loaded C) (loads : KeepsLoaded x) (moving : x.header.kin
       block_now : IsSuperBlock hands.slots.block
       block_now = subst IsSuperBlock (sym block_found) loads.ranges
 
+      plain : hands.version ≡ 1
+      plain = made.keeps.version ∙ starts.version
+
       -- a store may be made of the hands
       pub makes_store : (x.header.version == 2) ≡ false → MakesStore hands
       makes_store other = record {
@@ -244,6 +247,7 @@ module _ {C : ℕ} (x : Loaded C) (loads : KeepsLoaded x) (moving : x.header.kin
         table = any_ends.table;
         spans = any_ends.empty;
         guard_room = made.keeps.room ∙ starts.room ∙ ap (λ (z : SuperBlock). z.names) (sym block_found);
+        version = plain;
         base = made.keeps.base ∙ starts.base ∙ ap (λ (z : SuperBlock). head_len z.names) (sym block_found);
         buffer = made.keeps.buffer ∙ starts.buffer;
       }
@@ -262,7 +266,7 @@ module _ {C : ℕ} (x : Loaded C) (loads : KeepsLoaded x) (moving : x.header.kin
       again_fresh : IsFresh C s
       again_fresh = record {
         whole = refl;
-        store = ended_store hands any.0 last any_ends names_now block_now s is_flushed;
+        store = ended_store hands any.0 last any_ends names_now block_now plain s is_flushed;
         same_now = refl;
         same_book = refl;
         moved = refl;
@@ -289,7 +293,8 @@ module _ {C : ℕ} (x : Loaded C) (loads : KeepsLoaded x) (moving : x.header.kin
           b = here.new_book;
           found = (from told).opens;
           block = block_found;
-          state = ended_state hands here last told_ends names_now block_now s is_flushed base_now still_told;
+          state = ended_state hands here last told_ends names_now block_now plain s is_flushed base_now
+              still_told;
           continues = subst (λ z. ContinuesFrom z x.header.sequence hands.slots.sequence) (sym moving) (
             omega (arith, later, ap (λ (u : choice.InUse). u.sequence) starts.in_use, loads.sequence),
             omega (arith, few_saves, ap (λ (u : choice.InUse). u.sequence) starts.in_use, loads.sequence),
@@ -321,8 +326,8 @@ module _ {C : ℕ} (x : Loaded C) (loads : KeepsLoaded x) (moving : x.header.kin
             left = left_again x loads moving few wide y starts p packs first last
                 (hands.slots.sequence + 1) few_most
                 left told (from told);
-            rests = λ rests. ended_rests hands here last told_ends names_now block_now s is_flushed base_now
-                still_told;
+            rests = λ rests. ended_rests hands here last told_ends names_now block_now plain s is_flushed
+                base_now still_told;
             calls = subst (λ z. OpenCallsOf z
                 (plain_seen x) here.new_map here.new_book first.file first.turn last.turn s)
                 (sym moving) moves_on;
@@ -335,7 +340,7 @@ module _ {C : ℕ} (x : Loaded C) (loads : KeepsLoaded x) (moving : x.header.kin
           → HasCause {E = E} first.faults last.faults (Ok z) → IsOpening C first last (Ok s)
       again_done z calls cause = record {
         opened = λ told. again_opened told;
-        over = λ told. ended_over hands (f told) last (told_ends told) names_now block_now s is_flushed
+        over = λ told. ended_over hands (f told) last (told_ends told) names_now block_now plain s is_flushed
             (base_now told) (still_told told);
         fresh = again_fresh;
         refused = λ told. tt;

@@ -31,6 +31,7 @@ kept_of {C} s =
 pub record IsWhole {C : ℕ} (s : Inside C) : Type 0 where
   pub classes : C ≤ 32
   pub wide : SIZE_MAX < 2 ^ C
+  pub version : s.hands.version ≡ 1
   pub base : s.hands.base ≡ head_len s.hands.slots.block.names
   pub few : s.hands.slots.block.names ≤ 65536
   pub buf : vec_len s.hands.buf ≡ 65536

@@ -57,7 +57,7 @@ impl<const C: usize> Store<C> {
         ensures over { IsConnected C self.new (D.state disk.new) }
         ensures broken { self.new.is_broken ≡ is_disk_fault result }
     {
-        let next = settled_header(&self.hands.layout);
+        let next = settled_header(&self.hands.layout, 1);
         let hands = &mut self.hands;
         match hands.slots.save(disk, &next, &hands.table, &mut hands.buf) {
             Ok(_) => {

@@ -105,6 +105,7 @@ pub fn store_of<const C: usize>(
         ledger: no_bytes(),
         buf,
         base: head_len(block.names),
+        version: 1,
     };
     Ok(store_with(hands))
 }

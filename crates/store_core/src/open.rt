@@ -202,5 +202,6 @@ fn hands_of<const C: usize>(found: Loaded<C>, guard: Guard, buf: Vec<u8>) -> Han
         ledger: no_bytes(),
         buf,
         base: head_len(block.names),
+        version: 1,
     }
 }

@@ -30,6 +30,7 @@ use Rattle.flush_model.specs.Phases.{PlanState, phase_of}
 use Rattle.flush_run.specs.FlushFrames.{IsMidFlush, FlushFrame, IsOldOrNew, LeavesOldOrNew}
 use Rattle.flush_run.specs.Parts.{HandsValue}
 use Rattle.flush_run.specs.Runs.{CanResume}
+use Rattle.flush_run.proofs.VersionLaws.{fits_plain}
 use Rattle.reopen.specs.declared.state.Loaded.{Loaded}
 use Rattle.reopen.specs.Loads.{KeepsLoaded}
 use Rattle.store_model.specs.Plain.{IsPlainFrom, plain_seen}
@@ -60,6 +61,7 @@ module _ {C : ℕ} (x : Loaded C) (loads : KeepsLoaded x) (moving : x.header.kin
     grid = grid_of x.layout;
     spans = [];
     base = base;
+    version = 1;
   }
 
   there_is : there ≡ y
@@ -71,6 +73,7 @@ module _ {C : ℕ} (x : Loaded C) (loads : KeepsLoaded x) (moving : x.header.kin
     grid = sym starts.grid i;
     spans = sym starts.spans i;
     base = (same_base ∙ sym starts.base) i;
+    version = sym starts.version i;
   }
 
   abbrev pub phase : PlanState
@@ -100,6 +103,9 @@ module _ {C : ℕ} (x : Loaded C) (loads : KeepsLoaded x) (moving : x.header.kin
         hands = hands_again x loads moving few wide n v fresh rests m book (divisor_of x.layout)
             (same_divisor x loads moving few wide) p.items
             (IsPermutation-sym _ p.items packs.items);
+        version = fits_plain refl (hands_again x loads moving few wide n v fresh rests m book
+            (divisor_of x.layout) (same_divisor x loads moving few wide) p.items
+            (IsPermutation-sym _ p.items packs.items));
         book = book_saved x loads moving few wide n v;
         same_base = refl;
         divisor = refl;

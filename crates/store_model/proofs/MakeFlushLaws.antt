@@ -27,6 +27,7 @@ use Rattle.flush_run.specs.Runs.{CanRun, HasRun}
 use Rattle.flush_run.proofs.CallLaws.{calls_none, calls_then, calls_wider}
 use Rattle.flush_run.proofs.FlightLaws.{checkpoint_sequence, content_written, left_written, opens_written}
 use Rattle.flush_run.proofs.LeftLaws.{left_then}
+use Rattle.flush_run.proofs.VersionLaws.{book_plain, fits_plain}
 use Rattle.flush_run.proofs.MoveLaws.{content_grown, left_grown, moved_within, opens_grown}
 use Rattle.change_charges.specs.Lifting.{BeginsLift}
 use Rattle.change_charges.specs.Sized.{object_size}
@@ -84,6 +85,9 @@ module _ {classes : ℕ} {x0 : HandsValue} {c : Change} {g : BeforeChange} {x : 
   same_in_use : x.in_use ≡ x0.in_use
   same_in_use = ap (λ (y : HandsValue). y.in_use) can.begun.rest
 
+  same_version : x.version ≡ 1
+  same_version = ap (λ (y : HandsValue). y.version) can.begun.rest ∙ can.may.version
+
   -- the sequence before any save, and one more
   abbrev most : ℕ
   most = x.in_use.sequence + 1
@@ -113,7 +117,8 @@ module _ {classes : ℕ} {x0 : HandsValue} {c : Change} {g : BeforeChange} {x : 
     lifts = record {
       goes = record {
         hands = begins.hands;
-        book = begins.book;
+        version = fits_plain same_version begins.hands;
+        book = book_plain x same_version begins.book refl;
         same_base = sym same_base;
         divisor = can.begun.divisor;
         same_classes = refl;
@@ -325,6 +330,7 @@ flown_then {b} {items} {first} {mid} {now} {x} {x2} kept faults few r saves = re
     keys = r.keeps.keys;
     digests = r.keeps.digests;
     block = r.keeps.block;
+    version = r.keeps.version;
     divisor = r.keeps.divisor;
     room = r.keeps.room;
     asked = r.keeps.asked;

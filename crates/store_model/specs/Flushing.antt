@@ -41,6 +41,7 @@ pub record MayBegin (classes : ℕ) (kept_grid : List (List ℕ)) (x : HandsValu
   pub cap : x.table.cap ≡ x.table.names
   pub room : x.room ≡ x.in_use.block.names
   pub divisor : x.divisor ≡ x.in_use.block.k
+  pub version : x.version ≡ 1
 
 -- a charge of the change finds no room
 abbrev pub NeedsFlushAt : HandsValue → List ℕ → ℕ → Type 0

@@ -28,6 +28,7 @@ pub record StartsAgain {C : ℕ} (x : Loaded C) (y : HandsValue) : Type 0 where
   pub moved : y.moved ≡ zero_row
   pub buffer : y.buffer ≡ 65536
   pub base : y.base ≡ head_len x.block.names
+  pub version : y.version ≡ 1
 
 -- The phase has the items of the table's suffix, and the wall and the slack of its header.
 pub record PacksAgain {C : ℕ} (x : Loaded C) (p : PlanState) : Type 0 where
@@ -52,4 +53,5 @@ pub record MakesStore {C : ℕ} (hands : Hands C) : Type 0 where
   pub spans : hands.guard.spans ≡ []
   pub guard_room : hands.guard.room ≡ hands.slots.block.names
   pub base : hands.base ≡ head_len hands.slots.block.names
+  pub version : hands.version ≡ 1
   pub buffer : vec_len hands.buf ≡ 65536

@@ -1,7 +1,6 @@
 use Rattle.std.proofs.Common.{arith, refl, sym, subst, ◌∙◌, ap}
 use Rattle.flush_model.specs.Phases.{IsLaidWhole, moved_by}
 use Rattle.flush_plan.specs.Lays.{KeepsLaying, Lay}
-use Rattle.slot_codec.specs.declared.codec.Header.{Header}
 use Rattle.flush_run.specs.Loops.{MidLay, LaysPaid}
 use Rattle.flush_run.specs.Parts.{parts_of}
 use Rattle.flush_run.proofs.LeftLaws.{left_then, left_wider, none_of, source_within, still_told, target_within, told_before}
@@ -11,7 +10,7 @@ use Rattle.flush_run.specs.Parts.{size_in}
 use Rattle.flush_run.specs.Shelved.{items_now, phase_now}
 use Rattle.flush_run.proofs.ShelvedLaws.{phase_moved, phase_same}
 use Rattle.flush_run.proofs.SizeLaws.{sizes_moved}
-use Rattle.flush_run.proofs.LayLaws.{lay_begins, lay_calls, lay_can, lay_falls, lay_few, lay_few_part, lay_fresh, lay_goes, lay_head, lay_keeps, lay_made, lay_most, lay_most_saved, lay_names, lay_next, lay_over, lay_part, lay_part_saved, lay_pays, lay_saveable, lay_saves, lay_slot, lay_space, lay_target}
+use Rattle.flush_run.proofs.LayLaws.{lay_begins, lay_calls, lay_can, lay_falls, lay_few, lay_few_part, lay_fresh, lay_goes, lay_head, lay_keeps, lay_made, lay_most, lay_most_saved, lay_names, lay_next, lay_over, lay_part, lay_part_saved, lay_pays, lay_saveable, lay_saves, lay_slot, lay_space, lay_target, lay_version}
 use Rattle.flush_run.proofs.lay.lay_all.Goals as goal
 
 pub moves-init : goal.moves-init
@@ -37,14 +36,17 @@ free_target-requires g c =
         (
           omega (arith, i.made.keeps.buffer, c.requires.buffer),
           (
-            ap (λ (h : Header). h.version) c.requires.moving,
+            lay_version i start step c.requires.moving,
             (
               lay_fresh i start step,
               (
                 c.requires.ranges,
                 (
                   (i.all c.requires.start.0 start).lays.goes.hands.table,
-                  (lay_names i start step, (λ told. lay_head i start told, λ told. lay_slot i start told)),
+                  (
+                    lay_names i start step c.requires.moving,
+                    (λ told. lay_head i start told, λ told. lay_slot i start told),
+                  ),
                 ),
               ),
             ),

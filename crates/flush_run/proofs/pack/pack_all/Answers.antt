@@ -2,7 +2,6 @@ use Rattle.std.proofs.Common.{arith, refl, sym, subst, ap, ◌∙◌}
 use Rattle.flush_model.specs.Phases.{lifted_in}
 use Rattle.flush_model.specs.Phases.{IsPackedWhole, moved_by}
 use Rattle.flush_plan.specs.Packs.{KeepsPacking, Pack}
-use Rattle.slot_codec.specs.declared.codec.Header.{Header}
 use Rattle.flush_run.specs.Loops.{MidPack, PacksPaid}
 use Rattle.flush_run.specs.Parts.{parts_of}
 use Rattle.flush_run.proofs.LeftLaws.{left_then, left_wider, none_of, source_within, still_told, target_within, told_before}
@@ -12,7 +11,7 @@ use Rattle.flush_run.specs.Parts.{size_in}
 use Rattle.flush_run.specs.Shelved.{items_now, phase_now}
 use Rattle.flush_run.proofs.ShelvedLaws.{phase_moved, phase_same}
 use Rattle.flush_run.proofs.SizeLaws.{sizes_moved}
-use Rattle.flush_run.proofs.PackLaws.{pack_begins, pack_calls, pack_can, pack_falls, pack_few, pack_few_part, pack_fresh, pack_goes, pack_head, pack_keeps, pack_made, pack_most, pack_most_saved, pack_names, pack_next, pack_over, pack_part, pack_part_saved, pack_pays, pack_saveable, pack_saves, pack_slot, pack_space, pack_target}
+use Rattle.flush_run.proofs.PackLaws.{pack_begins, pack_calls, pack_can, pack_falls, pack_few, pack_few_part, pack_fresh, pack_goes, pack_head, pack_keeps, pack_made, pack_most, pack_most_saved, pack_names, pack_next, pack_over, pack_part, pack_part_saved, pack_pays, pack_saveable, pack_saves, pack_slot, pack_space, pack_target, pack_version}
 use Rattle.flush_run.proofs.pack.pack_all.Goals as goal
 
 pub moves-init : goal.moves-init
@@ -38,14 +37,17 @@ free_target-requires g c =
         (
           omega (arith, i.made.keeps.buffer, c.requires.buffer),
           (
-            ap (λ (h : Header). h.version) c.requires.moving,
+            pack_version i start step c.requires.moving,
             (
               pack_fresh i start step,
               (
                 c.requires.ranges,
                 (
                   (i.all c.requires.start.0 start).packs.goes.hands.table,
-                  (pack_names i start step, (λ told. pack_head i start told, λ told. pack_slot i start told)),
+                  (
+                    pack_names i start step c.requires.moving,
+                    (λ told. pack_head i start told, λ told. pack_slot i start told),
+                  ),
                 ),
               ),
             ),

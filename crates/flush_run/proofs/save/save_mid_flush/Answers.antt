@@ -1,35 +1,27 @@
-use Rattle.std.proofs.Common.{ap, arith, refl, rules, subst, sym}
+use Rattle.std.proofs.Common.{arith, rules, subst, sym}
 use Rattle.disk_face.specs.Frames.{Calls}
-use Rattle.slot_codec.proofs.CapLaws.{cap-one}
-use Rattle.slot_codec.specs.Spelling.{cap}
 use Rattle.slot_pair.specs.Saves.{next_in_use, save_calls}
-use Rattle.extent_table.proofs.RollLaws.{rolled-few}
+use Rattle.extent_table.proofs.ExtentLaws.{records_of-few}
 use Rattle.extent_table.proofs.SaveLaws.{rolled_in_range}
 use Rattle.flush_run.specs.FlushFrames.{MidFlush}
 use Rattle.flush_run.proofs.HeldLaws.{save_mid_flush, save_mid_flush-done, save_mid_flush-opened}
-use Rattle.flush_run.proofs.RolledLaws.{rolled_count, rolled_left, rolled_saved}
+use Rattle.flush_run.proofs.RolledLaws.{rolled_count}
 use Rattle.flush_run.proofs.save.save_mid_flush.Goals as goal
 
 pub save-requires-clause-save : goal.save-requires-clause-save
-save-requires-clause-save g c = record {
-  fresh = c.requires.fresh;
-  version = rw c.requires.version refl;
-  ranges = c.requires.ranges;
-  records = rolled_in_range c.args.hands.now.table c.requires.table;
-  count = omega (
-    arith,
-    rolled-few c.args.hands.now.table c.requires.table,
-    c.requires.names,
-    ap (cap c.args.hands.now.slots.block.names) c.requires.version,
-    cap-one c.args.hands.now.slots.block.names,
-  );
-}
+save-requires-clause-save g c =
+    let e = c.args.hands.now.table in
+    record {
+      fresh = c.requires.fresh;
+      version = c.requires.version;
+      ranges = c.requires.ranges;
+      records = rolled_in_range e c.requires.table;
+      count = omega (arith, rolled_count e.now e.digests, records_of-few e.now, c.requires.count);
+    }
 
 pub returns-in_err-save-clause-left : goal.returns-in_err-save-clause-left
 returns-in_err-save-clause-left g c f told s was fresh =
-    let e = c.args.hands.now.table in
-    save_mid_flush f _ _ _ _ s (rolled_left c.args.hands.now.slots c.args.header.now e.now e.digests
-    c.requires.version (c.save.ensures.left told)) was fresh
+    save_mid_flush f _ _ _ _ c.requires.table s (c.save.ensures.left told) was fresh
 
 pub returns-in_err-save-clause-calls : goal.returns-in_err-save-clause-calls
 returns-in_err-save-clause-calls g c =
@@ -47,22 +39,17 @@ returns-clause-calls g c =
 
 pub returns-clause-left : goal.returns-clause-left
 returns-clause-left g c f told s was fresh =
-    let e = c.args.hands.now.table in
-    save_mid_flush f _ _ _ _ s (rolled_left c.args.hands.now.slots c.args.header.now e.now e.digests
-    c.requires.version (c.save.ensures.left told)) was fresh
+    save_mid_flush f _ _ _ _ c.requires.table s (c.save.ensures.left told) was fresh
 
 pub returns-clause-flies : goal.returns-clause-flies
 returns-clause-flies g c f told s was =
     let d = g.D.Disk.state c.save.new.disk in
     let u = c.args.hands.now.slots in
     let e = c.args.hands.now.table in
-    let one = c.requires.version in
+    let done = c.in_ok-save.ensures.done told in
     let saved =
-    save_mid_flush-done f _ _ _ _ s
-    (rolled_left u c.args.header.now e.now e.digests one (c.save.ensures.left told))
-    (λ fresh. rolled_saved u c.args.header.now e.now e.digests one d.file
-    ((c.in_ok-save.ensures.done told).saved fresh))
-    (c.in_ok-save.ensures.done told).in_use (c.in_ok-save.ensures.done told).rests was
+    save_mid_flush-done f _ _ _ _ c.requires.table s (c.save.ensures.left told) done.saved done.in_use
+    done.rests was
     in
     subst (λ v. MidFlush f v c.keep.new.self.now c.keep.new.self.kept d.file d.may_leave)
     (sym c.in_ok-save.ensures.pair.pair)
@@ -72,11 +59,6 @@ returns-clause-flies g c f told s was =
 
 pub returns-clause-opened : goal.returns-clause-opened
 returns-clause-opened g c f told fresh s was =
-    let d = g.D.Disk.state c.save.new.disk in
-    let u = c.args.hands.now.slots in
-    let e = c.args.hands.now.table in
-    let one = c.requires.version in
-    save_mid_flush-opened f _ _ _ _ s
-    (rolled_left u c.args.header.now e.now e.digests one (c.save.ensures.left told))
-    (rolled_saved u c.args.header.now e.now e.digests one d.file ((c.in_ok-save.ensures.done told).saved fresh))
-    (c.in_ok-save.ensures.done told).in_use (c.in_ok-save.ensures.done told).rests was
+    let done = c.in_ok-save.ensures.done told in
+    save_mid_flush-opened f _ _ _ _ c.requires.table s (c.save.ensures.left told)
+    (done.saved fresh) done.in_use done.rests was

@@ -19,7 +19,7 @@ returns-in_err-set_len-clause-left g c f end told len s cut was fresh =
     let a = D.state c.save_mid_flush.new.disk in
     let b = D.state c.set_len.new.self in
     let u = c.args.hands.now.slots in
-    let now = c.args.hands.now.table.now in
+    let t = c.args.hands.now.table in
     let h = c.args.header.now in
     let saved = c.in_ok-save_mid_flush.ensures.opened f told c.requires.fresh s was in
     let told1 : IsTrue a.tells = subst IsTrue (sym c.save_mid_flush.ensures.keeps.disk.stays.told) told in
@@ -32,8 +32,8 @@ returns-in_err-set_len-clause-left g c f end told len s cut was fresh =
     in
     let left = c.save_mid_flush.ensures.left f told s was fresh in (
       λ rests. Leaves-trans (left.0 rests)
-          (cut_held f u now h end cut saved follows c.set_len.ensures.frame.time),
-      content_is_new f u now h end cut a.file a.may_leave saved b.file either,
+          (cut_held f u t h end cut saved follows c.set_len.ensures.frame.time),
+      content_is_new f u t h end cut a.file a.may_leave saved b.file either,
     )
 
 pub returns-clause-left : goal.returns-clause-left
@@ -43,7 +43,7 @@ returns-clause-left g c f end told len s cut was fresh =
     let b = D.state c.set_len.new.self in
     let e = D.state c.sync.new.self in
     let u = c.args.hands.now.slots in
-    let now = c.args.hands.now.table.now in
+    let t = c.args.hands.now.table in
     let h = c.args.header.now in
     let saved = c.in_ok-save_mid_flush.ensures.opened f told c.requires.fresh s was in
     let told1 : IsTrue a.tells = subst IsTrue (sym c.save_mid_flush.ensures.keeps.disk.stays.told) told in
@@ -57,9 +57,9 @@ returns-clause-left g c f end told len s cut was fresh =
     in
     let left = c.save_mid_flush.ensures.left f told s was fresh in (
       λ rests. Leaves-trans (left.0 rests)
-          (Leaves-trans (cut_held f u now h end cut saved follows c.set_len.ensures.frame.time)
-          (sync_held f u now h end a cut saved follows c.sync.ensures.frame.time)),
-      content_is_new f u now h end cut a.file a.may_leave saved e.file (inr is),
+          (Leaves-trans (cut_held f u t h end cut saved follows c.set_len.ensures.frame.time)
+          (sync_held f u t h end a cut saved follows c.sync.ensures.frame.time)),
+      content_is_new f u t h end cut a.file a.may_leave saved e.file (inr is),
     )
 
 pub returns-clause-settled : goal.returns-clause-settled
@@ -69,7 +69,7 @@ returns-clause-settled g c f end told len s cut was =
     let b = D.state c.set_len.new.self in
     let e = D.state c.sync.new.self in
     let u = c.args.hands.now.slots in
-    let now = c.args.hands.now.table.now in
+    let t = c.args.hands.now.table in
     let h = c.args.header.now in
     let saved = c.in_ok-save_mid_flush.ensures.opened f told c.requires.fresh s was in
     let told1 : IsTrue a.tells = subst IsTrue (sym c.save_mid_flush.ensures.keeps.disk.stays.told) told in
@@ -83,6 +83,6 @@ returns-clause-settled g c f end told len s cut was =
     (sym c.in_ok-save_mid_flush.ensures.pair)
     (subst (λ (x : _). IsSettled f (next_in_use u) x.now end e.file e.may_leave)
     (sym c.in_ok-save_mid_flush.ensures.table)
-    (settled f u now h end cut a.file a.may_leave saved e.file e.may_leave is
+    (settled f u t h end cut a.file a.may_leave saved e.file e.may_leave is
     (subst (λ (x : List ℕ). Only x e.may_leave) (sym (c.sync.ensures.frame.same_file told2)) only))))
     c.sync.ensures.rests

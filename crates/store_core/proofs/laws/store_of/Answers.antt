@@ -1,4 +1,4 @@
-use Rattle.std.proofs.Common.{◌∙◌, ap, arith, lit<, subst, sym}
+use Rattle.std.proofs.Common.{◌∙◌, ap, arith, lit<, refl, subst, sym}
 use Rattle.size_class.specs.declared.TheConstants.{SIZE_MAX}
 use Rattle.slot_codec.specs.Readable.{IsSuperBlock}
 use Rattle.slot_codec.specs.Spelling.{head_len}
@@ -26,6 +26,7 @@ store_with-requires g c =
           ledger = c.no_bytes.result;
           buf = c.in_ok-guard.field-0.buf;
           base = c.head_len.result;
+          version = 1;
         })) (sym c.narrow.ensures.only) (record {
           few = r.classes;
           wide = r.wide;
@@ -40,6 +41,7 @@ store_with-requires g c =
           spans = made.none;
           guard_room = made.guard_room ∙ ap (λ (b : SuperBlock). b.names) same;
           base = c.head_len.ensures ∙ ap (λ (b : SuperBlock). head_len b.names) same;
+          version = refl;
           buffer = made.buffer;
         }),
       ),

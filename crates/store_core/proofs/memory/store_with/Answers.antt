@@ -32,6 +32,7 @@ is_new g c =
       guard_room = r.guard_room;
       moved = c.no_bytes-hands.ensures.moved;
       asked = c.no_bytes-hands.ensures.asked;
+      version = r.version;
       base = r.base;
       buf = r.buffer;
       unbroken = refl;
