@@ -2,6 +2,7 @@
 use Rattle.std.specs.Prelude.{◌≡◌, ℕ, Bool, true, false, List, ◌++◌, length, codes, Option, Some, None, Result, Ok, Err, IfErr, IfOk, IsTrue, refl}
 use Rattle.std.proofs.Common.{ap, sym, ◌∙◌, subst}
 use Rattle.std.specs.FinMap as fin
+use Rattle.disk_face.specs.Devices.{devices}
 use Rattle.disk_face.specs.States as disk
 use Rattle.disk_face.specs.Frames.{Unchanged}
 use Rattle.disk_face.specs.Streams.{SinkState}
@@ -65,7 +66,8 @@ module _ {classes : ℕ} (r : Request) (s : StoreValue) (a : disk.State) (h : Ca
       → HasSinkCause ends.Sink out mid x → IfOk result (λ kept. kept ≡ false)
       → (IsTrue a.tells → IsTrue mid.tells → PutsText (object ++ codes "\n") mid.given after.given result)
       → IfErr result IsServingFault → HasDiskCause ends.Disk a.faults d.faults result
-      → HasSinkCause ends.Sink mid after result → Replies classes r s s a d out after result
+      → HasSinkCause ends.Sink mid after result
+      → Replies classes r s s (devices a out) (devices d after) result
   found_replies d out mid after x result same ok first first_cause kept puts only disk_cause sink_cause =
       reads_replies r s a d out after result h asks same stays (λ told. ap acknowledges (reply_is told)) kept
       (λ told sink. puts_as _ _ out.given after.given result (text_is told)
@@ -85,7 +87,8 @@ module _ {classes : ℕ} (r : Request) (s : StoreValue) (a : disk.State) (h : Ca
   pub cut_replies : (out mid : SinkState) (end : End) → end ≡ ends.Sink
       → (IsTrue out.tells → PutsText {T = Unit {0}} (first_line (head.Data size)) out.given mid.given
       (Err end))
-      → HasSinkCause {T = Unit {0}} ends.Sink out mid (Err end) → Replies classes r s s a a out mid (Err end)
+      → HasSinkCause {T = Unit {0}} ends.Sink out mid (Err end)
+      → Replies classes r s s (devices a out) (devices a mid) (Err end)
   cut_replies out mid end sink_end first cause =
       reads_replies r s a a out mid (Err end) h asks (unchanged_itself a h.ready) stays
       (λ told. ap acknowledges (reply_is told)) tt
@@ -125,7 +128,7 @@ module _ {classes : ℕ} (s : StoreValue) (a : disk.State) (h : CanServe classes
       → HasSinkCause ends.Sink out mid x → IfOk result (λ kept. kept ≡ false)
       → (IsTrue mid.tells → PutsText (lines_of (listing_of s.now)) mid.given after.given result)
       → IfErr result (λ end. end ≡ ends.Sink) → HasSinkCause ends.Sink mid after result
-      → Replies classes ask.list s s a a out after result
+      → Replies classes ask.list s s (devices a out) (devices a after) result
   listed_replies out mid after x result ok first first_cause kept puts only sink_cause =
       reads_replies ask.list s a a out after result h refl (unchanged_itself a h.ready) list_stays
       (λ told. ap acknowledges (list_reply told)) kept
@@ -154,7 +157,7 @@ module _ {classes : ℕ} (s : StoreValue) (a : disk.State) (h : CanServe classes
       → (IsTrue out.tells → PutsText {T = Unit {0}} (first_line (head.List count)) out.given mid.given
       (Err end))
       → HasSinkCause {T = Unit {0}} ends.Sink out mid (Err end)
-      → Replies classes ask.list s s a a out mid (Err end)
+      → Replies classes ask.list s s (devices a out) (devices a mid) (Err end)
   cut_list out mid end sink_end first cause =
       reads_replies ask.list s a a out mid (Err end) h refl (unchanged_itself a h.ready) list_stays
       (λ told. ap acknowledges (list_reply told)) tt
@@ -212,7 +215,8 @@ pub refused_replies : {classes : ℕ} (r : Request) (s : StoreValue) (a : disk.S
     (x : Refusal)
     (answer : Result text.Reply End) (result : Result Bool End) → CanServe classes s a
     → refused_by s r ≡ Some x
-    → answer ≡ answer_of x → PutsAnswer out after answer result → Replies classes r s s a a out after result
+    → answer ≡ answer_of x → PutsAnswer out after answer result
+    → Replies classes r s s (devices a out) (devices a after) result
 refused_replies {classes} r s a out after x answer result h is same puts =
     let w = refused_with s r x h.whole is in
     let e : Ok (head.Refused (told_for w.0)) ≡ answer = sym (answer_is w.0) ∙ ap answer_of (sym w.2)

@@ -2,6 +2,7 @@
 use Rattle.std.specs.Prelude.{◌≡◌, ◌≢◌, ◌⊎◌, ℕ, ◌+◌, Bool, true, false, not, ◌&&◌, is_some, List, [], ◌∷◌, ◌++◌, codes, length, Option, Some, None, Result, Ok, Err, IfErr, IfOk, IsTrue, refl}
 use Rattle.std.proofs.Common.{ap, sym, ◌∙◌, subst, inl, inr, append-nil}
 use Rattle.std.specs.FinMap as fin
+use Rattle.disk_face.specs.Devices.{devices}
 use Rattle.disk_face.specs.States as disk
 use Rattle.disk_face.specs.Frames.{Unchanged}
 use Rattle.disk_face.specs.Streams.{SinkState}
@@ -106,7 +107,7 @@ if_ok_with (Err e) f p = tt
 pub answers_replies : {classes : ℕ} (r : Request) (s new : StoreValue) (a d : disk.State)
     (out after : SinkState)
     (answer : Result text.Reply End) (result : Result Bool End) → Answers classes r s new a d answer
-    → PutsAnswer out after answer result → Replies classes r s new a d out after result
+    → PutsAnswer out after answer result → Replies classes r s new (devices a out) (devices d after) result
 answers_replies r s new a d out after (Ok x) result h p = record {
   serves = serves_as r s new a d (Ok x) result (sym calm) h.serves;
   kept = λ told. if_ok_with result (λ kept is. is ∙ ap is_kept (h.replied told)
@@ -125,7 +126,8 @@ answers_replies r s new a d out after (Ok x) result h p = record {
     calm : is_disk_fault result ≡ false
     calm = sink_calm result p.only
 answers_replies {classes} r s new a d out after (Err end) result h p =
-    subst (λ (x : Result Bool End). Replies classes r s new a d out after x) (sym p.ended) (record {
+    subst (λ (x : Result Bool End). Replies classes r s new (devices a out) (devices d after) x)
+    (sym p.ended) (record {
       serves = serves_as r s new a d (Err end) (Err end) refl h.serves;
       kept = λ told. tt;
       puts = λ told sink. puts_none (reply_text (reply_at s a.file r)) out.given after.given end p.same;
@@ -137,6 +139,15 @@ answers_replies {classes} r s new a d out after (Err end) result h p =
       sink_cause = calm_sink (λ is. no_sink_fault (Err end) (ap is_disk h.only) is) p.faults p.told;
     })
 
+-- the same of a request that is this one
+pub replied_as : {classes : ℕ} {r asked : Request} {s new : StoreValue} {a d : disk.State}
+    {out after : SinkState} {answer : Result text.Reply End} {result : Result Bool End} → r ≡ asked
+    → Answers classes asked s new a d answer → PutsAnswer out after answer result
+    → Replies classes r s new (devices a out) (devices d after) result
+replied_as {classes} {r} {asked} {s} {new} {a} {d} {out} {after} {answer} {result} is h p =
+    subst (λ (x : Request). Replies classes x s new (devices a out) (devices d after) result) (sym is)
+    (answers_replies asked s new a d out after answer result h p)
+
 -- ---- reads
 
 pub reads_replies : {classes : ℕ} (r : Request) (s : StoreValue) (a d : disk.State) (out after : SinkState)
@@ -147,7 +158,7 @@ pub reads_replies : {classes : ℕ} (r : Request) (s : StoreValue) (a d : disk.S
     → PutsText (reply_text (reply_at s a.file r)) out.given after.given result)
     → IfErr result IsServingFault → HasDiskCause ends.Disk a.faults d.faults result
     → HasSinkCause ends.Sink out after result
-    → Replies classes r s s a d out after result
+    → Replies classes r s s (devices a out) (devices d after) result
 reads_replies r s a d out after result h asks same stays plain kept puts only disk_cause sink_cause = record {
   serves = serves_same s r a d result h same stays (ap (λ (b : Bool). b && is_disk_fault result) asks);
   kept = λ told. if_ok_with result (λ x is. is ∙ sym (plain told)) kept;

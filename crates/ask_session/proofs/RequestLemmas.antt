@@ -10,12 +10,12 @@ use Rattle.ask_text.specs.declared.ask.Ask.{Ask}
 use Rattle.ask_text.specs.declared.ask.Ask.TheVariants as ask
 use Rattle.ask_text.proofs.AskLaws.{lacks-line, line_one}
 use Rattle.ask_text.proofs.Cuts.{cut_once}
-use Rattle.ask_session.specs.Inputs.{HasBody, HoldsObject, IsRead, LacksObject, size_asked}
+use Rattle.ask_session.specs.Inputs.{BeginsRequest, HasBody, HoldsObject, LacksObject, size_asked}
 use Rattle.ask_session.proofs.LineLemmas.{text_is}
 
 -- a request without an object is its line
 bare : (told : Type 0) (input rest body : List ℕ) (r : Request) → HasText r → HasBody body r → body_of r ≡ []
-    → (told → input ≡ line_of (ask_of r) ++ 10 ∷ rest) → IsRead told input rest (ask_of r) body
+    → (told → input ≡ line_of (ask_of r) ++ 10 ∷ rest) → BeginsRequest told input rest (ask_of r) body
 bare told input rest body r text has none is = record {
   request = r;
   text = text;
@@ -27,7 +27,7 @@ bare told input rest body r text has none is = record {
 }
 
 pub read_bare : (told : Type 0) (input rest body : List ℕ) (a : Ask) → IsAsk a → size_asked a ≡ None
-    → (told → input ≡ line_of a ++ 10 ∷ rest) → IsRead told input rest a body
+    → (told → input ≡ line_of a ++ 10 ∷ rest) → BeginsRequest told input rest a body
 read_bare told input rest body (ask.Put name size) text none is = absurd (cc)
 read_bare told input rest body (ask.Get name) text none is = bare told input rest body
     (request.get name) text tt refl is
@@ -46,7 +46,7 @@ put_request name object = request.change (record { name = name; object = Some ob
 -- a request with an object
 read_put : (told : Type 0) (input mid rest body name : List ℕ) (size : ℕ) → IsAsk (ask.Put name size)
     → (told → input ≡ line_of (ask.Put name size) ++ 10 ∷ mid) → HoldsObject told mid (10 ∷ rest) size body
-    → IsRead told input rest (ask.Put name size) body
+    → BeginsRequest told input rest (ask.Put name size) body
 unfolding put_request
 read_put told input mid rest body name size text is h =
     let same : ask_of (put_request name h.object) ≡ ask.Put name size = ap (ask.Put name) h.long in
@@ -66,7 +66,7 @@ read_put told input mid rest body name size text is h =
 pub read_sized : (told : Type 0) (input mid rest body : List ℕ) (a : Ask) (size : ℕ) → IsAsk a
     → Some size ≡ size_asked a
     → (told → input ≡ line_of a ++ 10 ∷ mid) → HoldsObject told mid (10 ∷ rest) size body
-    → IsRead told input rest a body
+    → BeginsRequest told input rest a body
 read_sized told input mid rest body (ask.Put name n) size text some is h =
     let same : size ≡ n = (cc) in
     read_put told input mid rest body name n text is

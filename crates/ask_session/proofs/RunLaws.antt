@@ -6,7 +6,6 @@ use Rattle.std.proofs.lemmas.Grind.{flat_map-append}
 use Rattle.disk_face.specs.Counts.{counted, last}
 use Rattle.disk_face.specs.States as disk
 use Rattle.disk_face.specs.States.{IsLawful}
-use Rattle.disk_face.specs.Streams.{SinkState, SourceState}
 use Rattle.disk_face.specs.Moments.{Leaves, LeftOnly}
 use Rattle.disk_face.proofs.FrameLaws.{Stays-trans}
 use Rattle.disk_face.proofs.MomentLaws.{Leaves-none, Leaves-trans, Leaves-weaken, LeftOnly-after}
@@ -20,12 +19,14 @@ use Rattle.segment_layout.specs.Bounds.{Loose}
 use Rattle.table_rules.specs.Opening.{Opens}
 use Rattle.table_rules.specs.Sequences.{HasSequenceUpTo}
 use Rattle.table_rules.proofs.SequenceLaws.{sequence_wider}
-use Rattle.store_model.specs.Connection.{IsConnected, RestsOnTable, base_of, limits_of, state_of}
+use Rattle.store_model.specs.Connection.{RestsOnTable, base_of, limits_of, state_of}
 use Rattle.store_model.specs.States.{Limits, State, Step}
 use Rattle.store_model.specs.Stores.{IsStore}
 use Rattle.store_model.proofs.OverLaws.{kept_image}
 use Rattle.ask_text.specs.Inputs.{request_text}
 use Rattle.ask_text.specs.Replies.{reply_text}
+use Rattle.ask_session.specs.Outside.{Outside}
+use Rattle.ask_session.specs.Ready.{MayGoOn}
 use Rattle.ask_session.specs.Serving.{IsServingImage, acknowledges, calls_of, is_changing, reply_at, served_at}
 use Rattle.ask_session.specs.Sittings.{Sitting, unread}
 use Rattle.ask_session.specs.Turns.{IsAnswered, IsTurn}
@@ -44,13 +45,23 @@ opens_with {classes} image {m} {m'} {b} {b'} maps books is =
     subst (λ (x : Map). Opens classes SIZE_MAX image x b') (sym maps)
     (subst (λ (y : Book). Opens classes SIZE_MAX image m y) (sym books) is)
 
-module _ {classes : ℕ} (old : Sitting) (a : disk.State) (old_in : SourceState) (old_out : SinkState) (n : ℕ)
-    (mid : Sitting) (b : disk.State) (mid_in : SourceState) (mid_out : SinkState)
-    (new : Sitting) (d : disk.State) (new_in : SourceState) (new_out : SinkState)
-    (ran : HasRun classes old mid a b old_in mid_in old_out mid_out n)
-    (x : IsAnswered classes mid new b d mid_in new_in mid_out new_out)
-    (told_source : new_in.tells ≡ mid_in.tells) (calm_source : new_in.faults ≡ mid_in.faults)
-    (lawful : IsLawful d) (sound : new.store.is_broken ≡ false → IsStore classes new.store) where
+-- a run, and one more request that was answered
+module _ {classes : ℕ} {old mid : Sitting} {start_side mid_side : Outside} {n : ℕ} (new : Sitting)
+    (new_side : Outside)
+    (ran : HasRun classes old mid start_side mid_side n) (x : IsAnswered classes mid new mid_side new_side)
+    (told_source : new_side.source.tells ≡ mid_side.source.tells)
+    (calm_source : new_side.source.faults ≡ mid_side.source.faults)
+    (lawful : IsLawful new_side.disk) (sound : new.store.is_broken ≡ false → IsStore classes new.store) where
+  -- the disk before the run, before the request, and after it
+  abbrev a : disk.State
+  a = start_side.disk
+
+  abbrev b : disk.State
+  b = mid_side.disk
+
+  abbrev d : disk.State
+  d = new_side.disk
+
   abbrev r : Request
   r = x.served.request
 
@@ -73,7 +84,7 @@ module _ {classes : ℕ} (old : Sitting) (a : disk.State) (old_in : SourceState)
   told_b : IsTrue a.tells → IsTrue b.tells
   told_b told = subst IsTrue (sym ran.frame.stays.told) told
 
-  told_o : IsTrue old_out.tells → IsTrue mid_out.tells
+  told_o : IsTrue start_side.sink.tells → IsTrue mid_side.sink.tells
   told_o told = subst IsTrue (sym ran.sink_told) told
 
   same_limits : limits_of mid.store ≡ limits
@@ -243,7 +254,7 @@ module _ {classes : ℕ} (old : Sitting) (a : disk.State) (old_in : SourceState)
       (length ran.replies + 1) else last_kept old.done old.kept_done ran.replies)
       (sym is))
 
-  pub has_run_more : HasRun classes old new a d old_in new_in old_out new_out (n + 1)
+  pub has_run_more : HasRun classes old new start_side new_side (n + 1)
   has_run_more = record {
     requests = ran.requests ++ r ∷ [];
     replies = ran.replies ++ reply ∷ [];
@@ -254,9 +265,10 @@ module _ {classes : ℕ} (old : Sitting) (a : disk.State) (old_in : SourceState)
         let first = ran.whole told in
         let second = x.served.whole (subst IsTrue (sym ran.source_told) told) in
         first ∙ ap (λ (xs : List ℕ). flat_map request_text ran.requests ++ xs) second
-        ∙ sym (append_assoc (flat_map request_text ran.requests) (request_text r) (unread new new_in))
+        ∙ sym (append_assoc (flat_map request_text ran.requests) (request_text r)
+        (unread new new_side.source))
         ∙ ap (λ (xs : List ℕ). xs
-        ++ unread new new_in) (sym (flat_map-append request_text ran.requests (r ∷ [])
+        ++ unread new new_side.source) (sym (flat_map-append request_text ran.requests (r ∷ [])
         ∙ ap (λ (xs : List ℕ). flat_map request_text ran.requests ++ xs) (append-nil (request_text r))));
     chain = λ told. chain_more limits start t ran.requests ran.replies ran.states r reply (ran.chain told)
         (subst (λ (y : State). Step limits y r reply t) (ran.newest told) (step told));
@@ -265,8 +277,9 @@ module _ {classes : ℕ} (old : Sitting) (a : disk.State) (old_in : SourceState)
         let first = ran.puts told sink in
         let second = (x.served.replies.puts (told_b told) (told_o sink)).all in
         second ∙ ap (λ (xs : List ℕ). xs ++ reply_text reply) first
-        ∙ append_assoc old_out.given (flat_map reply_text ran.replies) (reply_text reply)
-        ∙ ap (λ (xs : List ℕ). old_out.given ++ xs) (sym (flat_map-append reply_text ran.replies (reply ∷ [])
+        ∙ append_assoc start_side.sink.given (flat_map reply_text ran.replies) (reply_text reply)
+        ∙ ap (λ (xs : List ℕ). start_side.sink.given ++ xs)
+        (sym (flat_map-append reply_text ran.replies (reply ∷ [])
         ∙ ap (λ (xs : List ℕ). flat_map reply_text ran.replies ++ xs) (append-nil (reply_text reply))));
     done = omega (arith, x.done, ran.done);
     kept_done = λ told. x.kept_done ∙ kept_now x.kept told (kept_is told);
@@ -318,10 +331,9 @@ module _ {classes : ℕ} (old : Sitting) (a : disk.State) (old_in : SourceState)
   }
 
 -- no request was answered yet
-pub has_run_none : {classes : ℕ} (s : Sitting) (a : disk.State) (i : SourceState) (o : SinkState)
-    → s.store.is_broken ≡ false → IsConnected classes s.store a → IsTrue a.is_ready → s.done ≤ last
-    → HasRun classes s s a a i i o o 0
-has_run_none {classes} s a i o whole over ready fits = record {
+pub has_run_none : {classes : ℕ} (s : Sitting) (o : Outside) → MayGoOn classes s o.disk → s.done ≤ last
+    → HasRun classes s s o o 0
+has_run_none {classes} s o may fits = record {
   requests = [];
   replies = [];
   states = [];
@@ -330,17 +342,17 @@ has_run_none {classes} s a i o whole over ready fits = record {
   whole = λ told. refl;
   chain = λ told. tt;
   newest = λ told. refl;
-  puts = λ told sink. sym (append-nil o.given);
+  puts = λ told sink. sym (append-nil o.sink.given);
   done = omega (arith, fits);
   kept_done = λ told. refl;
   block = refl;
-  unbroken = whole;
-  over = over;
+  unbroken = may.whole;
+  over = may.over;
   rests = λ told rests. rests;
-  left = λ told rests. Leaves-none a (IsRunImage classes s.store.in_use.block.k (base_of s.store)
-      (state_of s.store a.file) []);
+  left = λ told rests. Leaves-none o.disk (IsRunImage classes s.store.in_use.block.k (base_of s.store)
+      (state_of s.store o.disk.file) []);
   reach = λ told. le-max_left s.store.in_use.sequence (2 ^ 61 + 2 * s.store.in_use.block.k);
-  numbered = λ told rests. Leaves-none a (HasSequenceUpTo (most_sequence s.store.in_use.block.k
+  numbered = λ told rests. Leaves-none o.disk (HasSequenceUpTo (most_sequence s.store.in_use.block.k
       s.store.in_use.sequence));
   since = λ told rests below low was. was;
   kept_turn = λ low. low;
@@ -349,7 +361,7 @@ has_run_none {classes} s a i o whole over ready fits = record {
   calls = λ told m turn. turn;
   frame = record {
     no_turn_back = omega arith;
-    stays = record { ready = ready; told = refl; images_told = refl; same_mount = refl };
+    stays = record { ready = may.ready; told = refl; images_told = refl; same_mount = refl };
   };
   source_told = refl;
   source_calm = refl;
@@ -361,22 +373,20 @@ has_run_none {classes} s a i o whole over ready fits = record {
 -- ---- the end
 
 -- the last turn is no answer
-pub last_turn_of : (classes n : ℕ) (s new : Sitting) (before now : disk.State) (from rest : SourceState)
-    (out after : SinkState) (end : End) → IsTurn classes s new before now from rest out after (turn.Ended end)
-    → IsLastTurn classes n s new before now from rest out after end
-last_turn_of classes n s new before now from rest out after ends.End is = is
-last_turn_of classes n s new before now from rest out after ends.Line is = is
-last_turn_of classes n s new before now from rest out after ends.Disk is = is
-last_turn_of classes n s new before now from rest out after ends.Source is = is
-last_turn_of classes n s new before now from rest out after ends.Sink is = is
-last_turn_of classes n s new before now from rest out after ends.Budget is = absurd (is)
+pub last_turn_of : (classes n : ℕ) (s new : Sitting) (before now : Outside) (end : End)
+    → IsTurn classes s new before now (turn.Ended end) → IsLastTurn classes n s new before now end
+last_turn_of classes n s new before now ends.End is = is
+last_turn_of classes n s new before now ends.Line is = is
+last_turn_of classes n s new before now ends.Disk is = is
+last_turn_of classes n s new before now ends.Source is = is
+last_turn_of classes n s new before now ends.Sink is = is
+last_turn_of classes n s new before now ends.Budget is = absurd (is)
 
-pub not_budget : (classes : ℕ) (s new : Sitting) (before now : disk.State) (from rest : SourceState)
-    (out after : SinkState) (end : End) → IsTurn classes s new before now from rest out after (turn.Ended end)
-    → true ≡ (if is_budget end then false else true)
-not_budget classes s new before now from rest out after ends.End is = refl
-not_budget classes s new before now from rest out after ends.Line is = refl
-not_budget classes s new before now from rest out after ends.Disk is = refl
-not_budget classes s new before now from rest out after ends.Source is = refl
-not_budget classes s new before now from rest out after ends.Sink is = refl
-not_budget classes s new before now from rest out after ends.Budget is = absurd (is)
+pub not_budget : (classes : ℕ) (s new : Sitting) (before now : Outside) (end : End)
+    → IsTurn classes s new before now (turn.Ended end) → true ≡ (if is_budget end then false else true)
+not_budget classes s new before now ends.End is = refl
+not_budget classes s new before now ends.Line is = refl
+not_budget classes s new before now ends.Disk is = refl
+not_budget classes s new before now ends.Source is = refl
+not_budget classes s new before now ends.Sink is = refl
+not_budget classes s new before now ends.Budget is = absurd (is)

@@ -78,7 +78,7 @@ HasBody body (ask.change c) = of c.object
 HasBody body _ = Unit {0}
 
 -- A request stood in front of the input: it asks for this, and its object stands in the buffer.
-pub record IsRead (told : Type 0) (input rest : List ℕ) (a : Ask) (body : List ℕ) : Type 0 where
+pub record BeginsRequest (told : Type 0) (input rest : List ℕ) (a : Ask) (body : List ℕ) : Type 0 where
   pub request : Request
   pub text : HasText request
   pub asked : ask_of request ≡ a

@@ -1,9 +1,10 @@
--- What a session asks of a store and its disk before each request.
+-- What is asked of a session, its store and its disk before each request.
 use Rattle.std.specs.Prelude.{◌≡◌, ℕ, ◌≤◌, false, IsTrue}
 use Rattle.disk_face.specs.Counts.{last}
 use Rattle.disk_face.specs.States as disk
-use Rattle.store_model.specs.Connection.{IsOver, StoreValue}
+use Rattle.store_model.specs.Connection.{IsConnected, IsOver, StoreValue}
 use Rattle.store_model.specs.Stores.{IsStore}
+use Rattle.ask_session.specs.Sittings.{Sitting}
 
 -- A store that isn't broken, over a disk that is ready.
 pub record CanServe (classes : ℕ) (s : StoreValue) (d : disk.State) : Type 0 where
@@ -12,3 +13,11 @@ pub record CanServe (classes : ℕ) (s : StoreValue) (d : disk.State) : Type 0 w
   pub over : IsTrue d.tells → IsOver classes s d.file
   pub ready : IsTrue d.is_ready
   pub fits : d.turn ≤ last
+
+-- A session that may go on: it hasn't ended, and its store isn't broken and is connected to a disk that is
+-- ready.
+pub record MayGoOn (classes : ℕ) (s : Sitting) (d : disk.State) : Type 0 where
+  pub ready : IsTrue d.is_ready
+  pub over : IsConnected classes s.store d
+  pub whole : s.store.is_broken ≡ false
+  pub fresh : s.ended ≡ false

@@ -2,8 +2,6 @@
 use Rattle.std.specs.Prelude.{◌≡◌, ◌⊎◌, ℕ, ◌+◌, ◌-◌, ◌*◌, ◌^◌, ◌<◌, ◌≤◌, max, Bool, true, false, if◌then◌else◌, List, [], ◌∷◌, ◌++◌, length, flat_map, Err, IsTrue}
 use Rattle.std.specs.List.{AllByRecursion}
 use Rattle.disk_face.specs.Counts.{counted, last}
-use Rattle.disk_face.specs.States as disk
-use Rattle.disk_face.specs.Streams.{SinkState, SourceState}
 use Rattle.disk_face.specs.Moments.{Leaves, LeftOnly}
 use Rattle.disk_face.specs.Writes.{KeepsDisk}
 use Rattle.size_class.specs.declared.TheConstants.{SIZE_MAX}
@@ -19,6 +17,7 @@ use Rattle.ask_text.specs.Replies.{reply_text}
 use Rattle.ask_session.specs.declared.ends.End.{End}
 use Rattle.ask_session.specs.declared.ends.End.TheVariants as ends
 use Rattle.ask_session.specs.declared.ends.Turn.TheVariants as turn
+use Rattle.ask_session.specs.Outside.{Held, Outside, Seen, outside_of}
 use Rattle.ask_session.specs.Serving.{acknowledges, calls_of}
 use Rattle.ask_session.specs.Sittings.{Sitting, unread}
 use Rattle.ask_session.specs.Turns.{IsTurn, is_unserved}
@@ -84,50 +83,51 @@ IsRunImage classes k base s states image = SomeStep (IsStepImage classes k base 
 -- sequence is at most the greatest that requests leave. Since the last acknowledged checkpoint a crash
 -- leaves what opens to that alone, and the calls of the requests after it were made. The turn that is
 -- told never falls, and stays while no checkpoint was acknowledged.
-pub record HasRun (classes : ℕ) (old new : Sitting) (before now : disk.State) (from rest : SourceState)
-    (out after : SinkState) (n : ℕ) : Type 0 where
+pub record HasRun (classes : ℕ) (old new : Sitting) (before now : Outside) (n : ℕ) : Type 0 where
   pub requests : List Request
   pub replies : List Reply
   pub states : List State
   pub count : length requests ≡ n
   pub texts : AllByRecursion HasText requests
-  pub whole : IsTrue from.tells → unread old from ≡ flat_map request_text requests ++ unread new rest
-  pub chain : IsTrue before.tells → Chain (limits_of old.store) (state_of old.store before.file) requests
-      replies states
-  pub newest : IsTrue before.tells → state_of new.store now.file
-      ≡ last_state (state_of old.store before.file) states
-  pub puts : IsTrue before.tells → IsTrue out.tells → after.given ≡ out.given ++ flat_map reply_text replies
+  pub whole : IsTrue before.source.tells
+      → unread old before.source ≡ flat_map request_text requests ++ unread new now.source
+  pub chain : IsTrue before.disk.tells → Chain (limits_of old.store) (state_of old.store before.disk.file)
+      requests replies states
+  pub newest : IsTrue before.disk.tells → state_of new.store now.disk.file
+      ≡ last_state (state_of old.store before.disk.file) states
+  pub puts : IsTrue before.disk.tells → IsTrue before.sink.tells
+      → now.sink.given ≡ before.sink.given ++ flat_map reply_text replies
   pub done : new.done ≡ counted old.done n
-  pub kept_done : IsTrue before.tells → new.kept_done ≡ last_kept old.done old.kept_done replies
+  pub kept_done : IsTrue before.disk.tells → new.kept_done ≡ last_kept old.done old.kept_done replies
   pub block : new.store.in_use.block ≡ old.store.in_use.block
   pub unbroken : new.store.is_broken ≡ false
-  pub over : IsConnected classes new.store now
-  pub rests : IsTrue before.tells → RestsOnTable (base_of old.store) old.store.kept before
-      → RestsOnTable (base_of new.store) new.store.kept now
-  pub left : IsTrue before.tells → RestsOnTable (base_of old.store) old.store.kept before
-      → Leaves before now (IsRunImage classes old.store.in_use.block.k (base_of old.store)
-      (state_of old.store before.file) states)
-  pub reach : IsTrue before.tells → new.store.in_use.sequence
+  pub over : IsConnected classes new.store now.disk
+  pub rests : IsTrue before.disk.tells → RestsOnTable (base_of old.store) old.store.kept before.disk
+      → RestsOnTable (base_of new.store) new.store.kept now.disk
+  pub left : IsTrue before.disk.tells → RestsOnTable (base_of old.store) old.store.kept before.disk
+      → Leaves before.disk now.disk (IsRunImage classes old.store.in_use.block.k (base_of old.store)
+      (state_of old.store before.disk.file) states)
+  pub reach : IsTrue before.disk.tells → new.store.in_use.sequence
       ≤ most_sequence old.store.in_use.block.k old.store.in_use.sequence
-  pub numbered : IsTrue before.tells → RestsOnTable (base_of old.store) old.store.kept before
-      → Leaves before now (HasSequenceUpTo (most_sequence old.store.in_use.block.k
+  pub numbered : IsTrue before.disk.tells → RestsOnTable (base_of old.store) old.store.kept before.disk
+      → Leaves before.disk now.disk (HasSequenceUpTo (most_sequence old.store.in_use.block.k
       old.store.in_use.sequence))
-  pub since : IsTrue before.tells → RestsOnTable (base_of old.store) old.store.kept before → now.turn < last
-      → old.kept_turn ≤ before.turn
-      → LeftOnly before old.kept_turn (OpensToKept classes (state_of old.store before.file))
-      → LeftOnly now new.kept_turn (OpensToKept classes (state_of new.store now.file))
-  pub kept_turn : old.kept_turn ≤ before.turn → new.kept_turn ≤ now.turn
-  pub turn_rises : old.kept_turn ≤ before.turn → old.kept_turn ≤ new.kept_turn
+  pub since : IsTrue before.disk.tells → RestsOnTable (base_of old.store) old.store.kept before.disk
+      → now.disk.turn < last → old.kept_turn ≤ before.disk.turn
+      → LeftOnly before.disk old.kept_turn (OpensToKept classes (state_of old.store before.disk.file))
+      → LeftOnly now.disk new.kept_turn (OpensToKept classes (state_of new.store now.disk.file))
+  pub kept_turn : old.kept_turn ≤ before.disk.turn → new.kept_turn ≤ now.disk.turn
+  pub turn_rises : old.kept_turn ≤ before.disk.turn → old.kept_turn ≤ new.kept_turn
   pub unkept : (new.kept_turn ≡ old.kept_turn) ⊎ (0 < new.kept_done)
-  pub calls : IsTrue before.tells → (m : ℕ) → before.turn ≡ counted old.kept_turn m
-      → now.turn ≡ counted new.kept_turn (calls_since (limits_of old.store) m
-      (state_of old.store before.file) states requests replies)
-  pub frame : KeepsDisk before now
-  pub source_told : rest.tells ≡ from.tells
-  pub source_calm : rest.faults ≡ from.faults
-  pub sink_told : after.tells ≡ out.tells
-  pub sink_calm : after.faults ≡ out.faults
-  pub disk_later : before.faults ≤ now.faults
+  pub calls : IsTrue before.disk.tells → (m : ℕ) → before.disk.turn ≡ counted old.kept_turn m
+      → now.disk.turn ≡ counted new.kept_turn (calls_since (limits_of old.store) m
+      (state_of old.store before.disk.file) states requests replies)
+  pub frame : KeepsDisk before.disk now.disk
+  pub source_told : now.source.tells ≡ before.source.tells
+  pub source_calm : now.source.faults ≡ before.source.faults
+  pub sink_told : now.sink.tells ≡ before.sink.tells
+  pub sink_calm : now.sink.faults ≡ before.sink.faults
+  pub disk_later : before.disk.faults ≤ now.disk.faults
 
 abbrev pub is_budget : End → Bool
 is_budget ends.Budget = true
@@ -138,42 +138,29 @@ is_budget ends.Source = false
 is_budget ends.Sink = false
 
 -- the last turn of a run, by its end
-abbrev pub IsLastTurn : ℕ → ℕ → Sitting → Sitting → disk.State → disk.State → SourceState → SourceState
-    → SinkState
-    → SinkState → End → Type 0
-IsLastTurn classes n s new before now from rest out after ends.Budget = (n ≡ budget) × (new ≡ s)
-IsLastTurn classes n s new before now from rest out after ends.End =
-    IsTurn classes s new before now from rest out after (turn.Ended ends.End)
-IsLastTurn classes n s new before now from rest out after ends.Line =
-    IsTurn classes s new before now from rest out after (turn.Ended ends.Line)
-IsLastTurn classes n s new before now from rest out after ends.Disk =
-    IsTurn classes s new before now from rest out after (turn.Ended ends.Disk)
-IsLastTurn classes n s new before now from rest out after ends.Source =
-    IsTurn classes s new before now from rest out after (turn.Ended ends.Source)
-IsLastTurn classes n s new before now from rest out after ends.Sink =
-    IsTurn classes s new before now from rest out after (turn.Ended ends.Sink)
+abbrev pub IsLastTurn : ℕ → ℕ → Sitting → Sitting → Outside → Outside → End → Type 0
+IsLastTurn classes n s new before now ends.Budget = (n ≡ budget) × (new ≡ s)
+IsLastTurn classes n s new before now ends.End = IsTurn classes s new before now (turn.Ended ends.End)
+IsLastTurn classes n s new before now ends.Line = IsTurn classes s new before now (turn.Ended ends.Line)
+IsLastTurn classes n s new before now ends.Disk = IsTurn classes s new before now (turn.Ended ends.Disk)
+IsLastTurn classes n s new before now ends.Source = IsTurn classes s new before now (turn.Ended ends.Source)
+IsLastTurn classes n s new before now ends.Sink = IsTurn classes s new before now (turn.Ended ends.Sink)
 
 -- A run and its end: after the last request that was answered one more turn ended the session, or as many
--- were answered as may be. `mid` are the devices before that turn, which are those after it where no request
--- was served.
-pub record EndsRun {D I O : Type 0} (disk_of : D → disk.State) (source_of : I → SourceState) (sink_of : O
-    → SinkState)
-    (classes : ℕ) (old new : Sitting) (before now : D) (from rest : I) (out after : O)
-    (end : End) : Type 0 where
+-- were answered as may be. `mid` are the devices before that turn, of which disk and sink are those after it
+-- where no request was served.
+pub record EndsRun {D I O : Type 0} (seen : Seen D I O) (classes : ℕ) (old new : Sitting)
+    (before now : Held D I O) (end : End) : Type 0 where
   pub sitting : Sitting
-  pub mid_disk : D
-  pub mid_source : I
-  pub mid_sink : O
+  pub mid : Held D I O
   pub n : ℕ
-  pub ran : HasRun classes old sitting (disk_of before) (disk_of mid_disk) (source_of from)
-      (source_of mid_source)
-      (sink_of out) (sink_of mid_sink) n
+  pub ran : HasRun classes old sitting (outside_of seen before) (outside_of seen mid) n
   pub few : n ≤ budget
   pub fewer : is_budget end ≡ false → n < budget
-  pub last_turn : IsLastTurn classes n sitting new (disk_of mid_disk) (disk_of now) (source_of mid_source)
-      (source_of rest) (sink_of mid_sink) (sink_of after) end
+  pub last_turn : IsLastTurn classes n sitting new (outside_of seen mid) (outside_of seen now) end
   pub sound : new.store.is_broken ≡ false → IsStore classes new.store
-  pub same_disk : is_unserved (turn.Ended end) ≡ true → now ≡ mid_disk
-  pub same_sink : is_unserved (turn.Ended end) ≡ true → after ≡ mid_sink
+  pub same_disk : is_unserved (turn.Ended end) ≡ true → now.disk ≡ mid.disk
+  pub same_sink : is_unserved (turn.Ended end) ≡ true → now.sink ≡ mid.sink
   pub ended : new.ended ≡ (if is_budget end then false else true)
-  pub cause : HasSourceCause {T = Unit {0}} (source_of mid_source).faults (source_of rest).faults (Err end)
+  pub cause : HasSourceCause {T = Unit {0}} (seen.source mid.source).faults (seen.source now.source).faults
+      (Err end)

@@ -3,7 +3,7 @@ use Rattle.std.specs.Prelude.{◌≡◌, ◌⊎◌, ℕ, ◌+◌, ◌-◌, ◌<�
 use Rattle.disk_face.specs.Counts.{counted}
 use Rattle.disk_face.specs.Frames.{Unchanged}
 use Rattle.disk_face.specs.States as disk
-use Rattle.disk_face.specs.Streams.{SinkState}
+use Rattle.disk_face.specs.Devices.{Devices}
 use Rattle.disk_face.specs.Moments.{Leaves}
 use Rattle.disk_face.specs.Writes.{KeepsDisk}
 use Rattle.slot_pair.specs.Finding.{HasDiskCause}
@@ -141,16 +141,17 @@ IsServingFault ends.Budget = ⊥
 -- A request was served and its reply put, or a front of it where a device failed: nothing where the disk
 -- failed in a change. The answer is whether the reply acknowledges a checkpoint; whatever the disk
 -- tells, it says so only where `ok kept` was put.
-pub record Replies (classes : ℕ) (r : Request) (old new : StoreValue) (before now : disk.State)
-    (out after : SinkState)
+pub record Replies (classes : ℕ) (r : Request) (old new : StoreValue) (before now : Devices)
     (result : Result Bool End) : Type 0 where
-  pub serves : Serves classes r old new before now result
-  pub kept : IsTrue before.tells → IfOk result (λ kept. kept ≡ acknowledges (reply_at old before.file r))
-  pub puts : IsTrue before.tells → IsTrue out.tells
-      → PutsText (reply_text (reply_at old before.file r)) out.given after.given result
-  pub said : IsTrue out.tells → result ≡ Ok true → after.given ≡ out.given ++ codes "ok kept\n"
-  pub nothing : IsTrue out.tells → is_changing r ≡ true → is_disk_fault result ≡ true
-      → after.given ≡ out.given
+  pub serves : Serves classes r old new before.disk now.disk result
+  pub kept : IsTrue before.disk.tells
+      → IfOk result (λ kept. kept ≡ acknowledges (reply_at old before.disk.file r))
+  pub puts : IsTrue before.disk.tells → IsTrue before.sink.tells
+      → PutsText (reply_text (reply_at old before.disk.file r)) before.sink.given now.sink.given result
+  pub said : IsTrue before.sink.tells → result ≡ Ok true
+      → now.sink.given ≡ before.sink.given ++ codes "ok kept\n"
+  pub nothing : IsTrue before.sink.tells → is_changing r ≡ true → is_disk_fault result ≡ true
+      → now.sink.given ≡ before.sink.given
   pub only : IfErr result IsServingFault
-  pub disk_cause : HasDiskCause ends.Disk before.faults now.faults result
-  pub sink_cause : HasSinkCause ends.Sink out after result
+  pub disk_cause : HasDiskCause ends.Disk before.disk.faults now.disk.faults result
+  pub sink_cause : HasSinkCause ends.Sink before.sink now.sink result

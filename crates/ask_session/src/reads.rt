@@ -1,5 +1,6 @@
 //! Requests whose reply is an object or a list.
 ghost use Rattle.std.specs.Prelude.{◌≡◌, ◌++◌, false, codes, IfErr, IfOk, IsTrue, None};
+ghost use Rattle.disk_face.specs.Devices.{devices};
 ghost use Rattle.disk_face.specs.Frames.{Unchanged};
 ghost use Rattle.slot_pair.specs.Finding.{HasDiskCause};
 ghost use Rattle.map_model.specs.Requests as ask;
@@ -26,8 +27,9 @@ pub(crate) fn serve_object<const C: usize, D: Disk, O: Sink>(
     output: &mut O,
 ) -> Result<bool, End>
     requires can { CanServe C store.old (D.state disk.old) }
-    ensures { Replies C (asks_for moment name.now) store.old store.new (D.state disk.old) (D.state disk.new)
-        (O.state output.old) (O.state output.new) result }
+    ensures { Replies C (asks_for moment name.now) store.old store.new
+        (devices (D.state disk.old) (O.state output.old)) (devices (D.state disk.new) (O.state output.new))
+        result }
 {
     match store.size_of(moment, name) {
         Ok(size) => match say(output, &Reply::Data { size }) {
@@ -45,8 +47,8 @@ pub(crate) fn serve_list<const C: usize, D: Disk, O: Sink>(
     output: &mut O,
 ) -> Result<bool, End>
     requires can { CanServe C store.old (D.state disk.old) }
-    ensures { Replies C ask.list store.old store.new (D.state disk.old) (D.state disk.new)
-        (O.state output.old) (O.state output.new) result }
+    ensures { Replies C ask.list store.old store.new (devices (D.state disk.old) (O.state output.old))
+        (devices (D.state disk.new) (O.state output.new)) result }
 {
     match store.stat() {
         Ok(stat) => match say(output, &Reply::List { count: stat.names }) {

@@ -1,7 +1,7 @@
 //! Reading a request.
 ghost use Rattle.std.specs.Prelude.{◌≡◌, ◌≤◌, ◌++◌, [], IfOk, IfErr, IsTrue, Err, vec_capacity};
 ghost use Rattle.ask_text.specs.Inputs.{BeginsNone};
-ghost use Rattle.ask_session.specs.Inputs.{HasSourceCause, HoldsSize, IsInputFault, IsRead, size_asked};
+ghost use Rattle.ask_session.specs.Inputs.{BeginsRequest, HasSourceCause, HoldsSize, IsInputFault, size_asked};
 
 use crate::End;
 use crate::ahead::Ahead;
@@ -18,7 +18,7 @@ pub(crate) fn read_request<I: Source>(
     body: &mut Vec<u8>,
 ) -> Result<Ask, End>
     requires room { SIZE_MAX ≤ vec_capacity body.old }
-    ensures read { IfOk result (λ ask. IsRead (IsTrue (I.state input.old).tells)
+    ensures read { IfOk result (λ ask. BeginsRequest (IsTrue (I.state input.old).tells)
         (ahead.old ++ (I.state input.old).left) (ahead.new ++ (I.state input.new).left) ask body.new.items) }
     ensures long { IfOk result (λ ask. HoldsSize ask body.new.items) }
     ensures only { IfErr result IsInputFault }

@@ -1,8 +1,9 @@
 //! A run of a session: one turn after another.
-ghost use Rattle.std.specs.Prelude.{◌≡◌, ◌≤◌, false, IsTrue};
+ghost use Rattle.std.specs.Prelude.{◌≡◌, ◌≤◌, false};
 ghost use Rattle.disk_face.specs.Counts.{last};
-ghost use Rattle.store_model.specs.Connection.{IsConnected};
 ghost use Rattle.store_model.specs.Stores.{IsStore};
+ghost use Rattle.ask_session.specs.Outside.{held, seen_by};
+ghost use Rattle.ask_session.specs.Ready.{MayGoOn};
 ghost use Rattle.ask_session.specs.Runs.{EndsRun};
 
 use crate::{End, Session, Turn};
@@ -20,12 +21,9 @@ impl<const C: usize> Session<C> {
         input: &mut I,
         output: &mut O,
     ) -> End
-        requires ready { IsTrue (D.state disk.old).is_ready }
-        requires over { IsConnected C self.old.store (D.state disk.old) }
-        requires whole { self.old.store.is_broken ≡ false }
-        requires fresh { self.old.ended ≡ false }
-        ensures { EndsRun D.state I.state O.state C self.old self.new disk.old disk.new input.old input.new
-            output.old output.new result }
+        requires { MayGoOn C self.old (D.state disk.old) }
+        ensures { EndsRun (seen_by D.state I.state O.state) C self.old self.new
+            (held disk.old input.old output.old) (held disk.new input.new output.new) result }
     {
         self.is_sound();
         let mut n = 0;

@@ -1,5 +1,6 @@
 //! Serving a request.
 ghost use Rattle.std.specs.Prelude.{◌≡◌, ◌≤◌, ℕ, List, false, length, take, IsTrue};
+ghost use Rattle.disk_face.specs.Devices.{devices};
 ghost use Rattle.size_class.specs.declared.TheConstants.{SIZE_MAX};
 ghost use Rattle.map_model.specs.Requests as ask;
 ghost use Rattle.map_model.specs.Requests.{Request};
@@ -34,7 +35,8 @@ pub(crate) fn serve<const C: usize, D: Disk, O: Sink>(
     requires whole { store.old.is_broken ≡ false }
     requires room { HoldsSize ask.now body.now }
     ensures { (r : Request) → ask_of r ≡ ask.now → HasBody body.now r → Replies C r store.old store.new
-        (D.state disk.old) (D.state disk.new) (O.state output.old) (O.state output.new) result }
+        (devices (D.state disk.old) (O.state output.old)) (devices (D.state disk.new) (O.state output.new))
+        result }
 {
     can_serve(store, disk);
     match ask {

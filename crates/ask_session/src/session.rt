@@ -1,9 +1,10 @@
 //! A session, and one turn of it.
-ghost use Rattle.std.specs.Prelude.{◌≡◌, ◌++◌, [], false, true, if◌then◌else◌, length, IfOk, IfErr, IsTrue};
+ghost use Rattle.std.specs.Prelude.{◌≡◌, false, true, if◌then◌else◌, IfOk, IfErr};
 ghost use Rattle.disk_face.specs.Counts.{counted};
-ghost use Rattle.store_model.specs.Connection.{IsConnected};
 ghost use Rattle.store_model.specs.Stores.{IsStore};
 ghost use Rattle.ask_session.specs.Inputs.{HasSourceCause};
+ghost use Rattle.ask_session.specs.Outside.{outside};
+ghost use Rattle.ask_session.specs.Ready.{MayGoOn};
 ghost use Rattle.ask_session.specs.Sittings.{new_sitting};
 ghost use Rattle.ask_session.specs.Turns.{IsTurn, is_ended, is_unserved, result_of};
 
@@ -80,12 +81,10 @@ impl<const C: usize> Session<C> {
         input: &mut I,
         output: &mut O,
     ) -> Turn
-        requires ready { IsTrue (D.state disk.old).is_ready }
-        requires over { IsConnected C self.old.store (D.state disk.old) }
-        requires whole { self.old.store.is_broken ≡ false }
-        requires fresh { self.old.ended ≡ false }
-        ensures turn { IsTurn C self.old self.new (D.state disk.old) (D.state disk.new) (I.state input.old)
-            (I.state input.new) (O.state output.old) (O.state output.new) result }
+        requires { MayGoOn C self.old (D.state disk.old) }
+        ensures turn { IsTurn C self.old self.new
+            (outside (D.state disk.old) (I.state input.old) (O.state output.old))
+            (outside (D.state disk.new) (I.state input.new) (O.state output.new)) result }
         ensures ended { self.new.ended ≡ is_ended result }
         ensures sound { self.new.store.is_broken ≡ false → IsStore C self.new.store }
         ensures same_disk { is_unserved result ≡ true → disk.new ≡ disk.old }

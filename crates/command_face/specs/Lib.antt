@@ -3,5 +3,4 @@ pub mod Refusing
 pub mod Faults
 pub mod Outcomes
 pub mod Layers
-pub mod Devices
 pub mod Lines

@@ -6,7 +6,7 @@ use Rattle.disk_face.specs.Frames.{Untouched}
 use Rattle.disk_face.specs.States.{State}
 use Rattle.disk_face.specs.Streams.{Puts, SinkState, SourceState}
 use Rattle.disk_face.proofs.MomentLaws.{Leaves-none}
-use Rattle.command_face.specs.Devices.{Devices}
+use Rattle.disk_face.specs.Devices.{Devices}
 use Rattle.command_face.specs.Layers.{Answers, IsCommandReason, KeepsAt, PutsNone}
 use Rattle.command_face.specs.Mounting.{IsMounted}
 use Rattle.command_face.specs.Outcomes.{Ends, EndsBy}

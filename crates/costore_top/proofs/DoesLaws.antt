@@ -2,7 +2,7 @@
 use Rattle.std.specs.Prelude.{◌≡◌, ◌⊎◌, ◌↔◌, ℕ, true, List, IsTrue, IsFalse}
 use Rattle.std.proofs.Common.{ap, refl, sym, subst}
 use Rattle.disk_face.specs.Streams.{SourceState}
-use Rattle.command_face.specs.Devices.{Devices}
+use Rattle.disk_face.specs.Devices.{Devices}
 use Rattle.command_face.specs.Mounting.{IsMounted}
 use Rattle.command_face.specs.Outcomes.{Ends}
 use Rattle.command_face.specs.declared.outcome.Outcome.{Outcome}

@@ -30,7 +30,7 @@ use Rattle.ask_session.specs.Runs.{last_state}
 use Rattle.command_face.specs.declared.outcome.Outcome.{Outcome}
 use Rattle.costore_top.specs.Following.{LeavesRoomTwice, MayBegin}
 use Rattle.served_file.specs.Served.{IsNextStart, OpensToBeing, OpensToKept, limits_with, most_left, state_after, found_with}
-use Rattle.command_face.specs.Devices.{devices}
+use Rattle.disk_face.specs.Devices.{devices}
 use Rattle.run_command.specs.Headline.{RunHolds}
 use Rattle.work_command.specs.Working.{WorkHolds}
 use Rattle.costore_top.proofs.PlainStates.{chain_plain, last_plain, starts_plain}

@@ -6,7 +6,7 @@ use Rattle.disk_face.specs.Frames.{Untouched}
 use Rattle.disk_face.specs.States.{State}
 use Rattle.disk_face.specs.Streams.{SinkState, SourceState}
 use Rattle.disk_face.specs.declared.bay.Mounted.TheVariants.{There}
-use Rattle.command_face.specs.Devices.{Devices, devices}
+use Rattle.disk_face.specs.Devices.{Devices, devices}
 use Rattle.command_face.specs.Layers.{Answers, IsCommandReason, Keeps, KeepsAt, PutsNone}
 use Rattle.command_face.specs.Mounting.{IsMounted, mounted, not_there}
 use Rattle.command_face.specs.Outcomes.{PutsLast, line_at, status_at}

@@ -2,7 +2,7 @@
 use Rattle.std.specs.Prelude.{◌≡◌, ◌≢◌, ◌⊎◌, ℕ, List, Bool, true, false, IsTrue, IsFalse, length}
 use Rattle.disk_face.specs.Frames.{Untouched}
 use Rattle.disk_face.specs.Streams.{SourceState}
-use Rattle.command_face.specs.Devices.{Devices}
+use Rattle.disk_face.specs.Devices.{Devices}
 use Rattle.command_face.specs.Layers.{Keeps}
 use Rattle.command_face.specs.Mounting.{IsMounted}
 use Rattle.command_face.specs.Outcomes.{Ends, PutsLine}

@@ -1,6 +1,6 @@
 //! The command that the words ask for.
 ghost use Rattle.std.specs.Prelude.{◌≡◌, None};
-ghost use Rattle.command_face.specs.Devices.{devices};
+ghost use Rattle.disk_face.specs.Devices.{devices};
 ghost use Rattle.costore_top.specs.Does.{Does};
 ghost use Rattle.costore_top.specs.Words.{IsCommand, command_of};
 

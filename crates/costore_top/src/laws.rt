@@ -18,7 +18,7 @@ ghost use Rattle.costore_top.specs.Following.{LeavesRoomTwice, MayBegin};
 ghost use Rattle.served_file.specs.Served.{most_left};
 ghost use Rattle.run_command.specs.Headline.{RunPromise};
 ghost use Rattle.command_face.specs.Outcomes.{Ends, status_at};
-ghost use Rattle.command_face.specs.Devices.{devices};
+ghost use Rattle.disk_face.specs.Devices.{devices};
 ghost use Rattle.costore_top.specs.Answering.{IsAnswer};
 ghost use Rattle.file_commands.specs.Texts.{check_text, map_text};
 ghost use Rattle.work_command.specs.Working.{WorkPromise};

@@ -1,6 +1,6 @@
 //! The top call: what the program does with its words, its disk and its streams.
 ghost use Rattle.std.specs.Prelude.{◌≡◌, ◌⊎◌, ◌↔◌, ℕ, List, None, Err, IsTrue, true};
-ghost use Rattle.command_face.specs.Devices.{devices};
+ghost use Rattle.disk_face.specs.Devices.{devices};
 ghost use Rattle.run_command.specs.Headline.{RunPromise, is_session};
 ghost use Rattle.run_command.specs.Sessions.{RunAlways};
 ghost use Rattle.work_command.specs.Working.{WorkPromise, WorkAlways};

@@ -32,7 +32,7 @@ use Rattle.command_face.specs.declared.outcome.Outcome.{Outcome}
 use Rattle.run_command.proofs.RunLists.{Splits, begins_none, none_next, splits}
 use Rattle.served_file.proofs.OpeningLaws.{Opened}
 use Rattle.served_file.proofs.OverLaws.{tight_over, next_over}
-use Rattle.command_face.specs.Devices.{devices}
+use Rattle.disk_face.specs.Devices.{devices}
 use Rattle.run_command.proofs.SoFarLaws.{SoFar, View, view, newest, starts, done_is, few_done, ran_of, number, crash_c, numbered_c, reach_c, since_c, long_c, told_c, calls_c, over_c}
 
 module _ (h : SoFar) where

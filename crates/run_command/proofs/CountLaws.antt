@@ -3,13 +3,12 @@ use Rattle.std.specs.Prelude.{◌≡◌, ◌≢◌, ◌↔◌, ℕ, ◌+◌, ◌
 use Rattle.std.proofs.Common.{arith, ap, sym, ◌∙◌, subst, inl, inr}
 use Rattle.disk_face.specs.Counts.{counted, last}
 use Rattle.disk_face.specs.Mounts.{is_mounted}
-use Rattle.disk_face.specs.States as disk
-use Rattle.disk_face.specs.Streams.{SinkState, SourceState}
 use Rattle.size_class.specs.declared.TheConstants.{CLASSES}
 use Rattle.map_model.specs.Requests.{Reply, Request}
 use Rattle.store_model.specs.Connection.{StoreValue, limits_of, state_of}
 use Rattle.store_model.specs.States.{Chain, Limits, State}
 use Rattle.ask_session.specs.Serving.{acknowledges}
+use Rattle.ask_session.specs.Outside.{Held, Seen, held}
 use Rattle.ask_session.specs.Sittings.{Sitting, new_sitting}
 use Rattle.ask_session.specs.Runs.{EndsRun, budget, last_kept}
 use Rattle.ask_session.specs.Turns.{SameCounts}
@@ -24,7 +23,6 @@ use Rattle.command_face.specs.declared.stop.StopReason.TheVariants as stop
 use Rattle.run_command.specs.declared.run.SessionEnd.{SessionEnd}
 use Rattle.run_command.proofs.ClauseLaws.{session_keeps}
 use Rattle.command_face.proofs.UnopenedLaws.{not_status}
-use Rattle.run_command.specs.Sessions.{held, seen_by}
 
 -- there are as many replies as requests
 chain_long : (limits : Limits) (s : State) (rs : List Request) (replies : List Reply) (states : List State)
@@ -61,13 +59,10 @@ none_counted why turn told mounted other = record {
   kept = λ is. omega arith;
 }
 
-module _ {D I O : Type 0} (disk_of : D → disk.State) (source_of : I → SourceState) (sink_of : O → SinkState)
-    (mid now : D) (from rest : I) (out mid_out : O) (s : StoreValue) (new : Sitting) (told mounted : Type 0)
-    (tells : told → IsTrue (disk_of mid).tells) (there : mounted) where
+module _ {D I O : Type 0} (seen : Seen D I O) (start now : Held D I O) (s : StoreValue) (new : Sitting)
+    (told mounted : Type 0) (tells : told → IsTrue (seen.disk start.disk).tells) (there : mounted) where
   abbrev Session : End → Type 0
-  Session how = EndsRun disk_of source_of sink_of CLASSES
-      (new_sitting s (disk_of mid).turn) new mid now from rest out
-      mid_out how
+  Session how = EndsRun seen CLASSES (new_sitting s (seen.disk start.disk).turn) new start now how
 
   abbrev HasThese : End → Type 0
   HasThese how = HasCounted (outcome_of (ended_as how new)) told mounted
@@ -79,15 +74,14 @@ module _ {D I O : Type 0} (disk_of : D → disk.State) (source_of : I → Source
     numbers : (status_at (end_of how new.done) ≡ 11) ↔ (new.done ≡ budget) → HasThese how
     numbers limit = record {
       none = λ is. elim is as (λ _. (new.done ≡ 0) × (new.kept_done ≡ 0)) [
-        | inl unserved ↦ absurd ((session_keeps disk_of source_of sink_of mid now from rest out mid_out s new
-            how y).served unserved)
+        | inl unserved ↦ absurd ((session_keeps seen start now s new how y).served unserved)
         | inr gone ↦ absurd (gone there)
       ];
       few = omega (arith, done_is, y.few);
       limit = limit;
       kept = λ is.
-          let long = chain_long (limits_of s) (state_of s (disk_of mid).file) y.ran.requests y.ran.replies
-          y.ran.states (y.ran.chain (tells is)) in
+          let long = chain_long (limits_of s) (state_of s (seen.disk start.disk).file) y.ran.requests
+          y.ran.replies y.ran.states (y.ran.chain (tells is)) in
           let within = kept_within 0 0 y.ran.replies (omega arith)
           (omega (arith, long, y.ran.count, y.few)) in
           omega (arith, same.kept_done, y.ran.kept_done (tells is), within, long, y.ran.count, done_is);
@@ -118,37 +112,34 @@ module _ {D I O : Type 0} (disk_of : D → disk.State) (source_of : I → Source
       } in
       numbers ends.Budget y same (λ is. done_is ends.Budget y same ∙ y.last_turn.0, λ is. refl)
 
-module _ {D I O : Type 0} (disk_of : D → disk.State) (source_of : I → SourceState) (sink_of : O → SinkState)
-    (file : List ℕ) (before now : D) (from rest : I) (out mid_out : O) (e : SessionEnd) where
+module _ {D I O : Type 0} (seen : Seen D I O) (file : List ℕ) (before now : Held D I O)
+    (e : SessionEnd) where
   abbrev All : SessionEnd → Type 0
-  All x = HasCounted (outcome_of x) (IsTrue (disk_of before).tells) (HasMounted (disk_of now))
+  All x = HasCounted (outcome_of x) (IsTrue (seen.disk before.disk).tells) (HasMounted (seen.disk now.disk))
 
   none_of : (why : StopReason) (turn : ℕ) → status_of why ≢ 11 → e ≡ unserved why turn → All e
   none_of why turn other is = subst All (sym is)
-      (none_counted why turn (IsTrue (disk_of before).tells) (HasMounted (disk_of now)) other)
+      (none_counted why turn (IsTrue (seen.disk before.disk).tells) (HasMounted (seen.disk now.disk)) other)
 
-  pub has_counted : RunSteps (seen_by disk_of source_of sink_of) file (held before from out)
-      (held now rest mid_out) e
-      → All e
+  pub has_counted : RunSteps seen file before now e → All e
   has_counted (inl (is, source, sink)) = elim is.which as (λ _. All e) [
     | inl failed ↦ none_of stop.Disk 0 (λ n. omega (arith, n)) failed.0
     | inr gone ↦ none_of stop.NoFile 0 (λ n. omega (arith, n)) gone.0
   ]
   has_counted (inr x) = by x.steps
     where
-      by : OpenRunSteps (seen_by disk_of source_of sink_of) (held x.first from out) (held now rest mid_out) e
-          → All e
-      by (inl (inl is, source, sink)) = none_of (stop_of is.fault) (disk_of now).turn
+      by : OpenRunSteps seen (held x.first before.source before.sink) now e → All e
+      by (inl (inl is, source, sink)) = none_of (stop_of is.fault) (seen.disk now.disk).turn
           (not_status is.fault 11 (λ n. omega (arith, n)) (λ n. omega (arith, n)) (λ n. omega (arith, n)))
           is.ended
       by (inl (inr is, source, sink)) =
-          none_of stop.NoMemory (disk_of now).turn (λ n. omega (arith, n)) is.ended
+          none_of stop.NoMemory (seen.disk now.disk).turn (λ n. omega (arith, n)) is.ended
       by (inr y) =
-          let keeps = session_keeps disk_of source_of sink_of y.mid now from rest out mid_out y.store y.new
-          y.end y.ran in
+          let begun = held y.mid before.source before.sink in
+          let keeps = session_keeps seen begun now y.store y.new y.end y.ran in
           let stays = y.opening.frame.stays in
           subst All (sym y.ended)
-          (session_counted disk_of source_of sink_of y.mid now from rest out mid_out y.store y.new
-          (IsTrue (disk_of before).tells) (HasMounted (disk_of now))
+          (session_counted seen begun now y.store y.new (IsTrue (seen.disk before.disk).tells)
+          (HasMounted (seen.disk now.disk))
           (λ told. stays.told ∙ x.mount.told ∙ told)
           (ap is_mounted (keeps.same_mount ∙ stays.same_mount ∙ x.there)) y.end y.ran)

@@ -26,6 +26,7 @@ use Rattle.store_model.specs.Opened.{IsFoundImage, LeavesRoom, RestsOnFound}
 use Rattle.ask_text.specs.Inputs.{Asks}
 use Rattle.ask_text.specs.Replies.{reply_text}
 use Rattle.ask_session.specs.Serving.{IsFront, IsServingImage, is_changing, is_disk, reply_at, served_at}
+use Rattle.ask_session.specs.Outside.{outside}
 use Rattle.ask_session.specs.Sittings.{Sitting, new_sitting, unread}
 use Rattle.ask_session.specs.Turns.{IsStopped}
 use Rattle.ask_session.specs.Runs as run
@@ -40,7 +41,7 @@ use Rattle.command_face.specs.declared.stop.StopReason.{StopReason}
 use Rattle.command_face.specs.declared.outcome.Outcome.{Outcome}
 use Rattle.run_command.proofs.RunLists.{IsNext, Splits, next_is, splits}
 use Rattle.served_file.proofs.OpeningLaws.{Opened, requests_low}
-use Rattle.command_face.specs.Devices.{devices}
+use Rattle.disk_face.specs.Devices.{devices}
 use Rattle.run_command.proofs.SoFarLaws.{SoFar, View, view, newest, starts, done_is, few_done, ran_of, number, last_shows, last_kept_shows, turn_c, crash_c, numbered_c, reach_c, since_c, calls_c, told_now}
 
 module _ (h : SoFar) where
@@ -54,7 +55,7 @@ module _ (h : SoFar) where
   -- ---- a device failed while a request was served or its reply was put
 
   module _ {new : Sitting} {z : State} {o2 : SinkState} {rest : SourceState} (bad : End)
-      (x : IsStopped CLASSES s1 new c z i1 rest o1 o2 bad) where
+      (x : IsStopped CLASSES s1 new (outside c i1 o1) (outside z rest o2) bad) where
     abbrev pub r : Request
     r = x.served.request
 

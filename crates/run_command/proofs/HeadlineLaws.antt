@@ -6,7 +6,7 @@ use Rattle.disk_face.specs.States.{IsLawful, State}
 use Rattle.disk_face.specs.Frames.{AfterMount, Unchanged}
 use Rattle.disk_face.specs.Moments.{Leaves, LeftOnly}
 use Rattle.disk_face.specs.Mounts.{is_mounted}
-use Rattle.disk_face.specs.Streams.{SinkState, SourceState}
+use Rattle.disk_face.specs.Streams.{SinkState}
 use Rattle.disk_face.specs.declared.bay.Mounted.TheVariants.{Absent}
 use Rattle.disk_face.proofs.MomentLaws.{Leaves-call, Leaves-trans, Leaves-weaken}
 use Rattle.size_class.specs.declared.TheConstants.{CLASSES, SIZE_MAX}
@@ -27,6 +27,7 @@ use Rattle.store_model.proofs.OpeningLaws.{found_image}
 use Rattle.reopen.specs.declared.fault.OpenFault.{OpenFault}
 use Rattle.reopen.specs.declared.fault.OpenFault.TheVariants as opening
 use Rattle.ask_text.specs.Inputs.{Asks}
+use Rattle.ask_session.specs.Outside.{Held, Seen, held}
 use Rattle.ask_session.specs.Sittings.{Sitting, new_sitting}
 use Rattle.ask_session.specs.Turns.{IsUnserved, is_unserved}
 use Rattle.ask_session.specs.declared.ends.Turn.TheVariants as turn
@@ -38,7 +39,7 @@ use Rattle.served_file.specs.Served.{IsNextStart, Starts, turn_opened, found_wit
 use Rattle.run_command.specs.Headline.{HasMounted, HowFar, RunHolds}
 use Rattle.command_face.specs.Mounting.{mounted}
 use Rattle.command_face.specs.Outcomes.{PutsLast, line_at, status_at}
-use Rattle.run_command.specs.Sessions.{IsServed, IsUnbegun, IsUnopened, OpenRunSteps, RunSteps, ended_as, end_of, outcome_of, unserved}
+use Rattle.run_command.specs.Sessions.{IsUnbegun, IsUnopened, OpenRunSteps, RunSteps, RunsMounted, ended_as, end_of, outcome_of, unserved}
 use Rattle.command_face.specs.declared.stop.StopReason.{StopReason}
 use Rattle.command_face.specs.declared.stop.StopReason.TheVariants as stop
 use Rattle.run_command.specs.declared.run.SessionEnd.{SessionEnd}
@@ -53,8 +54,7 @@ use Rattle.run_command.proofs.SoFarLaws.{SoFar}
 use Rattle.run_command.proofs.UnservedLaws.{never_true, none_far, unserved_runs}
 use Rattle.served_file.proofs.RefusedLaws.{WhyUnopened, why_unopened, begins_itself}
 use Rattle.served_file.proofs.RefusedLaws.WhyUnopened.{disk, memory}
-use Rattle.command_face.specs.Devices.{devices}
-use Rattle.run_command.specs.Sessions.{held, seen_by}
+use Rattle.disk_face.specs.Devices.{devices}
 
 -- the numbers of a session, with a status
 abbrev counts_of : ℕ → Sitting → Outcome
@@ -63,32 +63,33 @@ counts_of status x =
 
 -- ---- the whole
 
-module _ {D I O : Type 0} (disk_of : D → State) (source_of : I → SourceState) (sink_of : O → SinkState)
-    (lawful : (d : D) → IsLawful (disk_of d)) (before now : D) (from rest : I) (out mid_out : O)
-    (after : SinkState)
-    (told : IsTrue (disk_of before).tells) (told_source : IsTrue (source_of from).tells)
+module _ {D I O : Type 0} (seen : Seen D I O) (lawful : (d : D) → IsLawful (seen.disk d))
+    (before now : Held D I O) (after : SinkState)
+    (told : IsTrue (seen.disk before.disk).tells) (told_source : IsTrue (seen.source before.source).tells)
     (t : choice.SlotTable) (m : Map) (b : Book) (requests : List Request) (end : List ℕ)
-    (plain : IsPlain b) (o : OpensBy CLASSES SIZE_MAX t (disk_of before).file m b)
-    (asks : Asks (source_of from).left requests end) where
+    (plain : IsPlain b) (o : OpensBy CLASSES SIZE_MAX t (seen.disk before.disk).file m b)
+    (asks : Asks (seen.source before.source).left requests end) where
   abbrev old : State
-  old = disk_of before
+  old = seen.disk before.disk
 
   abbrev z : State
-  z = disk_of now
+  z = seen.disk now.disk
 
   -- the line of an end is put behind what the session put
   abbrev PutsEnd : Result (Unit {0}) StopReason → Type 0
-  PutsEnd ending = IsTrue (sink_of out).tells → PutsLast (sink_of mid_out).given after.given (line_at ending)
-      (Rose (sink_of out).faults after.faults)
+  PutsEnd ending = IsTrue (seen.sink before.sink).tells
+      → PutsLast (seen.sink now.sink).given after.given (line_at ending)
+      (Rose (seen.sink before.sink).faults after.faults)
 
   abbrev Runs : Outcome → Type 0
-  Runs x = RunHolds (found_with t.chosen.block t m b) requests end x (devices old (sink_of out))
-      (devices z after) (source_of from) (source_of rest)
+  Runs x = RunHolds (found_with t.chosen.block t m b) requests end x (devices old (seen.sink before.sink))
+      (devices z after) (seen.source before.source) (seen.source now.source)
 
   left_before : old.turn < last → RestsOnFound t old
       → LeftOnly old old.turn (IsFoundImage CLASSES t m b (length old.file))
   left_before below rests image since =
-      found_image CLASSES t old.file m b o image (rests image ((lawful before).only_now image below since))
+      found_image CLASSES t old.file m b o image (rests image
+      ((lawful before.disk).only_now image below since))
 
   -- ---- no session
 
@@ -113,11 +114,12 @@ module _ {D I O : Type 0} (disk_of : D → State) (source_of : I → SourceState
     rests = rests;
   }
 
-  module _ (same_source : rest ≡ from) (same_sink : mid_out ≡ out) where
-    line_out : (ending : Result (Unit {0}) StopReason) → PutsEnd ending → IsTrue (sink_of out).tells
-        → PutsLast (sink_of out).given after.given (line_at ending) (Rose (sink_of out).faults after.faults)
-    line_out ending line sink_told = subst (λ (x : O). PutsLast (sink_of x).given after.given (line_at ending)
-        (Rose (sink_of out).faults after.faults)) same_sink (line sink_told)
+  module _ (same_source : now.source ≡ before.source) (same_sink : now.sink ≡ before.sink) where
+    line_out : (ending : Result (Unit {0}) StopReason) → PutsEnd ending → IsTrue (seen.sink before.sink).tells
+        → PutsLast (seen.sink before.sink).given after.given (line_at ending)
+        (Rose (seen.sink before.sink).faults after.faults)
+    line_out ending line sink_told = subst (λ (x : O). PutsLast (seen.sink x).given after.given
+        (line_at ending) (Rose (seen.sink before.sink).faults after.faults)) same_sink (line sink_told)
 
     -- the disk failed before a session began
     failed_before : (k : ℕ) → old.turn ≤ z.turn
@@ -125,13 +127,14 @@ module _ {D I O : Type 0} (disk_of : D → State) (source_of : I → SourceState
         → Rose old.faults z.faults → (HasMounted z → k ≡ z.turn) → PutsEnd (Err stop.Disk)
         → Runs (outcome_of (unserved stop.Disk k))
     failed_before k later left rose since line =
-        unserved_runs t.chosen.block found_start found_starts (lawful now) left_before later left
+        unserved_runs t.chosen.block found_start found_starts (lawful now.disk) left_before later left
         (λ rests below calm settled opened. absurd (omega (arith, rose, calm.same, calm.below)))
-        requests end (source_of from) (source_of rest) (sink_of out) after 7 k refl refl
+        requests end (seen.source before.source) (seen.source now.source) (seen.sink before.sink) after 7 k
+        refl refl
         (λ is. omega (arith, is)) since (λ calm has. omega (arith, rose, calm.same, calm.below))
         (λ calm. absurd (omega (arith, rose, calm.same, calm.below)))
         (Err stop.Disk) refl tt (line_out (Err stop.Disk) line)
-        (none_far 7 requests end (source_of from) (source_of rest) refl
+        (none_far 7 requests end (seen.source before.source) (seen.source now.source) refl
         (λ is. omega (arith, is)) (λ is. omega (arith, is)) (λ is. omega (arith, is))
         (λ is. omega (arith, is)) (λ is. absurd (omega (arith, is))))
 
@@ -140,23 +143,25 @@ module _ {D I O : Type 0} (disk_of : D → State) (source_of : I → SourceState
         (Err stop.NoFile)
         → Runs (outcome_of (unserved stop.NoFile 0))
     absent c mount is line =
-        unserved_runs t.chosen.block found_start found_starts (lawful now) left_before mount.time.later
+        unserved_runs t.chosen.block found_start found_starts (lawful now.disk) left_before mount.time.later
         (λ room. left_first t m b old z mount told o)
-        (λ rests below calm settled opened. settled_still t m b old o (lawful before) mount.same_turn
+        (λ rests below calm settled opened. settled_still t m b old o (lawful before.disk) mount.same_turn
         (λ rests. Leaves-call old.may_leave mount.time mount.images) rests below settled opened)
-        requests end (source_of from) (source_of rest) (sink_of out) after 3 0 refl refl
+        requests end (seen.source before.source) (seen.source now.source) (seen.sink before.sink) after 3 0
+        refl refl
         (λ is. omega (arith, is))
         (λ has. absurd (never_true (sym (ap is_mounted is) ∙ has))) (λ calm has. never_true has)
         (λ calm. next_found (mount.same_file told) (rests_first t m b old z mount told o))
         (Err stop.NoFile) refl tt (line_out (Err stop.NoFile) line)
-        (none_far 3 requests end (source_of from) (source_of rest) refl
+        (none_far 3 requests end (seen.source before.source) (seen.source now.source) refl
         (λ is. omega (arith, is)) (λ is. omega (arith, is)) (λ is. omega (arith, is))
         (λ is. omega (arith, is)) (λ is. absurd (omega (arith, is))))
 
-    no_memory : HowFar 10 0 requests end (source_of from) (source_of rest)
-    no_memory = none_far 10 requests end (source_of from) (source_of rest) refl (λ is. omega (arith, is))
+    no_memory : HowFar 10 0 requests end (seen.source before.source) (seen.source now.source)
+    no_memory = none_far 10 requests end (seen.source before.source) (seen.source now.source) refl
+        (λ is. omega (arith, is))
         (λ is. omega (arith, is)) (λ is. omega (arith, is)) (λ is. omega (arith, is))
-        (λ _. ap source_of same_source)
+        (λ _. ap seen.source same_source)
 
     module _ (first : State) (mount : AfterMount old first) (calm_mount : first.faults ≡ old.faults) where
       -- nothing was changed for want of memory
@@ -168,13 +173,14 @@ module _ {D I O : Type 0} (disk_of : D → State) (source_of : I → SourceState
           let still = λ (rests : RestsOnFound t old).
           Leaves-trans (Leaves-call old.may_leave mount.time mount.images)
           (Leaves-weaken old.may_leave mount.images same.since) in
-          unserved_runs t.chosen.block found_start found_starts (lawful now) left_before
+          unserved_runs t.chosen.block found_start found_starts (lawful now.disk) left_before
           (omega (arith, same.same_turn, mount.same_turn))
           (λ room rests. Leaves-weaken (IsFoundImage CLASSES t m b (length old.file))
           (λ image may. found_image CLASSES t old.file m b o image (rests image may)) (still rests))
-          (λ rests below calm settled opened. settled_still t m b old o (lawful before)
+          (λ rests below calm settled opened. settled_still t m b old o (lawful before.disk)
           (same.same_turn ∙ mount.same_turn) still rests below settled opened)
-          requests end (source_of from) (source_of rest) (sink_of out) after 10 z.turn refl refl
+          requests end (seen.source before.source) (seen.source now.source) (seen.sink before.sink) after 10
+          z.turn refl refl
           (λ is. omega (arith, is)) (λ has. refl) (λ calm has. never_true has)
           (λ calm. next_found file (λ rests image left. subst (λ (f : List ℕ). SameOnFound t f image)
           (sym file) (rests image (mount.images image (same.images image left)))))
@@ -209,15 +215,16 @@ module _ {D I O : Type 0} (disk_of : D → State) (source_of : I → SourceState
           opened_by t m b old first mount told o z x.store calm_mount x.opening in
           subst (λ (y : SessionEnd). Runs (outcome_of y)) (sym x.ended)
           (subst (λ (u : SuperBlock). RunHolds (found_with u t m b) requests end
-          (outcome_of (unserved stop.NoMemory z.turn)) (devices old (sink_of out)) (devices z after)
-          (source_of from) (source_of rest)) op.block
+          (outcome_of (unserved stop.NoMemory z.turn)) (devices old (seen.sink before.sink)) (devices z after)
+          (seen.source before.source) (seen.source now.source)) op.block
           (unserved_runs x.store.in_use.block (state_of x.store z.file)
-          (record { state = op.state; sequence = op.sequence }) (lawful now) left_before op.later op.left
+          (record { state = op.state; sequence = op.sequence }) (lawful now.disk) left_before op.later op.left
           (λ rests below calm settled opened image since.
-          (op.rests rests image ((lawful now).only_now image below
+          (op.rests rests image ((lawful now.disk).only_now image below
           (subst (λ (k : ℕ). z.left_since k image) (sym (op.turn settled)) since))).same_length
           ∙ op.over.same_length)
-          requests end (source_of from) (source_of rest) (sink_of out) after 10 z.turn refl refl
+          requests end (seen.source before.source) (seen.source now.source) (seen.sink before.sink) after 10
+          z.turn refl refl
           (λ is. omega (arith, is)) (λ has. refl) (λ calm has. never_true has)
           (λ calm. next_over t x.store old z x.store.in_use.sequence op.sound op.over op.block (omega arith)
           op.rests) (Err stop.NoMemory) refl tt (line_out (Err stop.NoMemory)
@@ -225,21 +232,20 @@ module _ {D I O : Type 0} (disk_of : D → State) (source_of : I → SourceState
 
   -- ---- a session
 
-  module _ (first : D) (mount : AfterMount old (disk_of first))
-      (calm_mount : (disk_of first).faults ≡ old.faults)
-      (e : SessionEnd) (s : StoreValue) (mid : D) (opens : IsOpening CLASSES (disk_of first) (disk_of mid)
+  module _ (first : D) (mount : AfterMount old (seen.disk first))
+      (calm_mount : (seen.disk first).faults ≡ old.faults)
+      (e : SessionEnd) (s : StoreValue) (mid : D) (opens : IsOpening CLASSES (seen.disk first) (seen.disk mid)
       (Ok s))
       (new : Sitting) (line : PutsEnd e.end) where
-    op : Opened t m b old (disk_of mid) s
-    op = opened_by t m b old (disk_of first) mount told o (disk_of mid) s calm_mount opens
+    op : Opened t m b old (seen.disk mid) s
+    op = opened_by t m b old (seen.disk first) mount told o (seen.disk mid) s calm_mount opens
 
     abbrev s0 : Sitting
-    s0 = new_sitting s (disk_of mid).turn
+    s0 = new_sitting s (seen.disk mid).turn
 
     -- the session up to its last turn
-    abbrev so_far : (how : End) → EndsRun disk_of source_of sink_of CLASSES s0 new mid now from rest out
-        mid_out how
-        → SoFar
+    abbrev so_far : (how : End)
+        → EndsRun seen CLASSES s0 new (held mid before.source before.sink) now how → SoFar
     so_far how y = record {
       t = t;
       m = m;
@@ -247,17 +253,17 @@ module _ {D I O : Type 0} (disk_of : D → State) (source_of : I → SourceState
       requests = requests;
       end = end;
       old = old;
-      a = disk_of mid;
+      a = seen.disk mid;
       s = s;
       op = op;
       lawful_a = lawful mid;
       left_before = left_before;
-      from = source_of from;
-      i1 = source_of y.mid_source;
-      out = sink_of out;
-      o1 = sink_of y.mid_sink;
+      from = seen.source before.source;
+      i1 = seen.source y.mid.source;
+      out = seen.sink before.sink;
+      o1 = seen.sink y.mid.sink;
       s1 = y.sitting;
-      c = disk_of y.mid_disk;
+      c = seen.disk y.mid.disk;
       n = y.n;
       asks = asks;
       told_source = told_source;
@@ -266,7 +272,7 @@ module _ {D I O : Type 0} (disk_of : D → State) (source_of : I → SourceState
     }
 
     module _ (how : End)
-        (y : EndsRun disk_of source_of sink_of CLASSES s0 new mid now from rest out mid_out how)
+        (y : EndsRun seen CLASSES s0 new (held mid before.source before.sink) now how)
         (sound : new.store.is_broken ≡ false → IsStore CLASSES new.store) (ended : e ≡ ended_as how new) where
       abbrev ending : Result (Unit {0}) StopReason
       ending = end_of how new.done
@@ -280,16 +286,18 @@ module _ {D I O : Type 0} (disk_of : D → State) (source_of : I → SourceState
         sound_mid = subst (IsStore CLASSES) un.store
             (sound (ap (λ (k : StoreValue). k.is_broken) un.store ∙ y.ran.unbroken))
 
-        line_mid : IsTrue (sink_of out).tells
-            → PutsLast (sink_of y.mid_sink).given after.given (line_at ending)
-            (Rose (sink_of out).faults after.faults)
-        line_mid sink_told = subst (λ (x : O). PutsLast (sink_of x).given after.given (line_at ending)
-            (Rose (sink_of out).faults after.faults)) (y.same_sink unserved_how) (line_now sink_told)
+        line_mid : IsTrue (seen.sink before.sink).tells
+            → PutsLast (seen.sink y.mid.sink).given after.given (line_at ending)
+            (Rose (seen.sink before.sink).faults after.faults)
+        line_mid sink_told = subst (λ (x : O). PutsLast (seen.sink x).given after.given (line_at ending)
+            (Rose (seen.sink before.sink).faults after.faults)) (y.same_sink unserved_how)
+            (line_now sink_told)
 
         carried : (status : ℕ) → status ≡ status_at ending
             → RunHolds (found_with s.in_use.block t m b) requests end (counts_of status y.sitting)
-            (devices old (sink_of out)) (devices (disk_of y.mid_disk) after) (source_of from)
-            (source_of rest)
+            (devices old (seen.sink before.sink)) (devices (seen.disk y.mid.disk) after)
+            (seen.source before.source)
+            (seen.source now.source)
             → Runs (outcome_of e)
         carried status is runs =
             let same : outcome_of e ≡ counts_of status y.sitting = ap outcome_of ended ∙ (λ i. record {
@@ -300,23 +308,24 @@ module _ {D I O : Type 0} (disk_of : D → State) (source_of : I → SourceState
             }) in
             subst Runs (sym same)
             (subst (λ (x : D). RunHolds (found_with t.chosen.block t m b) requests end
-            (counts_of status y.sitting) (devices old (sink_of out)) (devices (disk_of x) after)
-            (source_of from) (source_of rest))
+            (counts_of status y.sitting) (devices old (seen.sink before.sink)) (devices (seen.disk x) after)
+            (seen.source before.source) (seen.source now.source))
             (sym (y.same_disk unserved_how))
             (subst (λ (u : SuperBlock). RunHolds (found_with u t m b) requests end
-            (counts_of status y.sitting) (devices old (sink_of out)) (devices (disk_of y.mid_disk) after)
-            (source_of from)
-            (source_of rest)) op.block runs))
+            (counts_of status y.sitting) (devices old (seen.sink before.sink))
+            (devices (seen.disk y.mid.disk) after)
+            (seen.source before.source)
+            (seen.source now.source)) op.block runs))
 
     session_by : (how : End)
-        → (y : EndsRun disk_of source_of sink_of CLASSES s0 new mid now from rest out mid_out how)
+        → (y : EndsRun seen CLASSES s0 new (held mid before.source before.sink) now how)
         → (new.store.is_broken ≡ false → IsStore CLASSES new.store) → e ≡ ended_as how new
         → Runs (outcome_of e)
     session_by ends.End y sound ended =
         let un = y.last_turn.0 in
         carried ends.End y sound ended un refl 0 refl
         (input_ended (so_far ends.End y) after
-        (source_of rest)
+        (seen.source now.source)
         (sound_mid ends.End y sound ended un refl) (Ok tt) tt (line_mid ends.End y sound ended un refl) refl
         (y.fewer refl) (y.last_turn.1 (y.ran.source_told ∙ told_source)))
     session_by ends.Line y sound ended =
@@ -326,14 +335,14 @@ module _ {D I O : Type 0} (disk_of : D → State) (source_of : I → SourceState
         let numbered : counted new.done 1 ≡ y.sitting.done + 1 = omega (arith, un.counts.done, done) in
         carried ends.Line y sound ended un refl 2 refl
         (line_failed (so_far ends.Line y) after
-        (source_of rest)
+        (seen.source now.source)
         (sound_mid ends.Line y sound ended un refl) (Err (stop.Line (counted new.done 1))) numbered
         (line_mid ends.Line y sound ended un refl) refl (y.fewer refl) begins.0 begins.1)
     session_by ends.Source y sound ended =
         let un = y.last_turn in
         carried ends.Source y sound ended un refl 8 refl
         (source_failed (so_far ends.Source y) after
-        (source_of rest) (sound_mid ends.Source y sound ended un refl) (Err stop.Source) tt
+        (seen.source now.source) (sound_mid ends.Source y sound ended un refl) (Err stop.Source) tt
         (line_mid ends.Source y sound ended un refl) refl (y.fewer refl))
     session_by ends.Budget y sound ended =
         let same : new ≡ y.sitting = y.last_turn.1 in
@@ -347,20 +356,20 @@ module _ {D I O : Type 0} (disk_of : D → State) (source_of : I → SourceState
         } in
         carried ends.Budget y sound ended un refl 11 refl
         (all_answered (so_far ends.Budget y) after
-        (source_of rest) (sound_mid ends.Budget y sound ended un refl) (Err stop.Budget) tt
+        (seen.source now.source) (sound_mid ends.Budget y sound ended un refl) (Err stop.Budget) tt
         (line_mid ends.Budget y sound ended un refl) refl y.last_turn.0)
     session_by ends.Disk y sound ended =
         subst (λ (x : SessionEnd). Runs (outcome_of x)) (sym ended)
         (subst (λ (u : SuperBlock). RunHolds (found_with u t m b) requests end
-        (outcome_of (ended_as ends.Disk new)) (devices old (sink_of out)) (devices z after)
-        (source_of from) (source_of rest)) op.block
+        (outcome_of (ended_as ends.Disk new)) (devices old (seen.sink before.sink)) (devices z after)
+        (seen.source before.source) (seen.source now.source)) op.block
         (disk_failed (so_far ends.Disk y) ends.Disk
         y.last_turn after (Err stop.Disk) tt (y.fewer refl) (line_now ends.Disk y sound ended) refl refl))
     session_by ends.Sink y sound ended =
         subst (λ (x : SessionEnd). Runs (outcome_of x)) (sym ended)
         (subst (λ (u : SuperBlock). RunHolds (found_with u t m b) requests end
-        (outcome_of (ended_as ends.Sink new)) (devices old (sink_of out)) (devices z after)
-        (source_of from) (source_of rest)) op.block
+        (outcome_of (ended_as ends.Sink new)) (devices old (seen.sink before.sink)) (devices z after)
+        (seen.source before.source) (seen.source now.source)) op.block
         (sink_failed (so_far ends.Sink y) ends.Sink
         y.last_turn after (Err stop.Sink) tt (y.fewer refl) (line_now ends.Sink y sound ended) refl refl
         sound))
@@ -368,19 +377,19 @@ module _ {D I O : Type 0} (disk_of : D → State) (source_of : I → SourceState
   -- ---- all of them
 
   runs_served : (file : List ℕ) (e : SessionEnd)
-      → IsServed (seen_by disk_of source_of sink_of) file (held before from out) (held now rest mid_out) e
+      → RunsMounted seen file before now e
       → PutsEnd e.end → Runs (outcome_of e)
   runs_served c e x line = by x.steps
     where
-      by : OpenRunSteps (seen_by disk_of source_of sink_of) (held x.first from out) (held now rest mid_out) e
+      by : OpenRunSteps seen (held x.first before.source before.sink) now e
           → Runs (outcome_of e)
-      by (inl ((inl is), source, sink)) = unopened source sink (disk_of x.first) x.mount x.calm e is line
-      by (inl ((inr is), source, sink)) = unbegun source sink (disk_of x.first) x.mount x.calm e is line
+      by (inl ((inl is), source, sink)) = unopened source sink (seen.disk x.first) x.mount x.calm e is line
+      by (inl ((inr is), source, sink)) = unbegun source sink (seen.disk x.first) x.mount x.calm e is line
       by (inr y) = session_by x.first x.mount x.calm e y.store y.mid y.opening y.new line y.end y.ran y.sound
           y.ended
 
   pub headline : (file : List ℕ) (e : SessionEnd)
-      → RunSteps (seen_by disk_of source_of sink_of) file (held before from out) (held now rest mid_out) e
+      → RunSteps seen file before now e
       → PutsEnd e.end → Runs (outcome_of e)
   headline c e (inl (is, source, sink)) line = elim is.which as (λ _. Runs (outcome_of e)) [
     | inl failed ↦ subst (λ (y : SessionEnd). Runs (outcome_of y)) (sym failed.0) (failed_before source sink 0

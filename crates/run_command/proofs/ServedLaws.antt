@@ -16,7 +16,7 @@ use Rattle.command_face.specs.Mounting.{IsMounted, mounted}
 use Rattle.run_command.specs.Headline.{RunHolds, is_session}
 use Rattle.run_command.specs.Sessions.{KeepsRun}
 use Rattle.command_face.specs.declared.outcome.Outcome.{Outcome}
-use Rattle.command_face.specs.Devices.{devices}
+use Rattle.disk_face.specs.Devices.{devices}
 use Rattle.served_file.specs.Served.{found_by}
 use Rattle.run_command.proofs.StepsLaws.{not_both}
 

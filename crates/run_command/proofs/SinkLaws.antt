@@ -25,6 +25,7 @@ use Rattle.store_model.specs.Opened.{IsFoundImage, LeavesRoom, RestsOnFound}
 use Rattle.store_model.proofs.OverLaws.{kept_image}
 use Rattle.ask_text.specs.Inputs.{Asks}
 use Rattle.ask_session.specs.Serving.{IsServingImage, is_changing, is_disk, reply_at, served_at}
+use Rattle.ask_session.specs.Outside.{outside}
 use Rattle.ask_session.specs.Sittings.{Sitting, new_sitting, unread}
 use Rattle.ask_session.specs.Turns.{IsStopped}
 use Rattle.ask_session.specs.Runs.{HasRun, budget, last_kept, last_state}
@@ -40,7 +41,7 @@ use Rattle.command_face.specs.declared.outcome.Outcome.{Outcome}
 use Rattle.run_command.proofs.RunLists.{IsNext, Splits, next_is, served_sequence, splits}
 use Rattle.served_file.proofs.OpeningLaws.{Opened}
 use Rattle.served_file.proofs.OverLaws.{tight_over, next_over}
-use Rattle.command_face.specs.Devices.{devices}
+use Rattle.disk_face.specs.Devices.{devices}
 use Rattle.run_command.proofs.SoFarLaws.{SoFar, View, view, newest, starts, ran_of, number, turn_c, numbered_c, long_c, told_c, told_now}
 use Rattle.run_command.proofs.FailedLaws as while_served
 
@@ -53,7 +54,7 @@ module _ (h : SoFar) where
   open v use {u, limits, start, states, last_one, split}
 
   module _ {new : Sitting} {z : State} {o2 : SinkState} {rest : SourceState} (bad : End)
-      (x : IsStopped CLASSES s1 new c z i1 rest o1 o2 bad) where
+      (x : IsStopped CLASSES s1 new (outside c i1 o1) (outside z rest o2) bad) where
     abbrev r : Request
     r = x.served.request
 

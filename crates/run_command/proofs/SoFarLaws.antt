@@ -23,6 +23,7 @@ use Rattle.store_model.specs.States.{Limits, Served, Step, served}
 use Rattle.store_model.specs.Opened.{IsFoundImage, LeavesRoom, RestsOnFound}
 use Rattle.store_model.proofs.OverLaws.{kept_image}
 use Rattle.ask_text.specs.Inputs.{Asks}
+use Rattle.ask_session.specs.Outside.{outside}
 use Rattle.ask_session.specs.Sittings.{Sitting, new_sitting, unread}
 use Rattle.ask_session.specs.Runs as run
 use Rattle.ask_session.specs.Runs.{HasRun, IsRunImage, IsStepImage, budget, calls_since, last_kept, last_state, most_sequence}
@@ -57,7 +58,7 @@ pub record SoFar : Type 1 where
   pub n : ℕ
   pub asks : Asks from.left requests end
   pub told_source : IsTrue from.tells
-  pub ran : HasRun CLASSES (new_sitting s a.turn) s1 a c from i1 out o1 n
+  pub ran : HasRun CLASSES (new_sitting s a.turn) s1 (outside a from out) (outside c i1 o1) n
   pub few : n ≤ budget
 
 -- The same, in the words of the headline: the superblock, the limits, the state at the start, the states

@@ -17,39 +17,37 @@ use Rattle.command_face.specs.Mounting.{IsMounted, mounted}
 use Rattle.command_face.specs.Refusing.{stop_of}
 use Rattle.served_file.specs.Unserved.{IsRefusedService, NeverServed}
 use Rattle.run_command.specs.Headline.{HasMounted, IsKeptTurn, is_session}
+use Rattle.ask_session.specs.Outside.{Held, Outside, Seen, held, outside, outside_of, served_devices}
 use Rattle.ask_session.specs.declared.ends.End.{End}
 use Rattle.ask_session.specs.declared.ends.End.TheVariants as ends
 use Rattle.command_face.specs.Outcomes.{EndsBy, status_at, status_of}
-use Rattle.run_command.specs.Sessions.{IsServed, IsUnserved, KeepsRun, OpenRunSteps, RunSteps, end_of, outcome_of, unserved}
+use Rattle.run_command.specs.Sessions.{HasSession, IsUnserved, KeepsRun, OpenRunSteps, RunSteps, RunsMounted, end_of, outcome_of, unserved}
 use Rattle.command_face.specs.declared.stop.StopReason.TheVariants as stop
 use Rattle.run_command.specs.declared.run.SessionEnd.{SessionEnd}
 use Rattle.run_command.proofs.ClauseLaws.{SessionKeeps, session_keeps}
 use Rattle.command_face.proofs.UnopenedLaws.{status_unopened, not_status, disk_by, mount_untouched}
 use Rattle.served_file.proofs.RefusedLaws.{opened_plain, refused_unchanged, refuses_service}
-use Rattle.command_face.specs.Devices.{devices}
-use Rattle.run_command.specs.Sessions.{held, seen_by}
 
 pub not_both : {A : Type 0} → false ≡ true → A
 not_both is = absurd (cc)
 
 -- the devices, the mount, and the turn that is told
-pub record Whole (file : List ℕ) (old z : State) (from rest : SourceState) (out mid_out : SinkState)
-    (same : Type 0)
-    (e : SessionEnd) : Type 0 where
-  pub keeps : KeepsRun (devices old out) (devices z mid_out) from rest (status_at e.end)
-  pub mounted : IsMounted file false z.last_mount (status_at e.end ≡ 7) (status_at e.end ≡ 3)
-  pub turn : IsKeptTurn (outcome_of e) (HasMounted z) old.turn z.turn
+pub record Whole (file : List ℕ) (before now : Outside) (same : Type 0) (e : SessionEnd) : Type 0 where
+  pub keeps : KeepsRun (served_devices before) (served_devices now) before.source now.source
+      (status_at e.end)
+  pub mounted : IsMounted file false now.disk.last_mount (status_at e.end ≡ 7) (status_at e.end ≡ 3)
+  pub turn : IsKeptTurn (outcome_of e) (HasMounted now.disk) before.disk.turn now.disk.turn
   pub unread : IsUnserved (status_at e.end) → same
 
-module _ (file : List ℕ) (old z : State) (from rest : SourceState) (out mid_out : SinkState)
-    (same : Type 0) where
+module _ (file : List ℕ) (before now : Outside) (same : Type 0) where
   abbrev Is : SessionEnd → Type 0
-  Is e = Whole file old z from rest out mid_out same e
+  Is e = Whole file before now same e
 
   -- no stream was called
-  no_stream : (status : ℕ) → AfterMount old z → old.faults ≤ z.faults
-      → (status ≡ 7 → Rose old.faults z.faults) → status ≢ 8 → status ≢ 9
-      → rest ≡ from → mid_out ≡ out → KeepsRun (devices old out) (devices z mid_out) from rest status
+  no_stream : (status : ℕ) → AfterMount before.disk now.disk → before.disk.faults ≤ now.disk.faults
+      → (status ≡ 7 → Rose before.disk.faults now.disk.faults) → status ≢ 8 → status ≢ 9
+      → now.source ≡ before.source → now.sink ≡ before.sink
+      → KeepsRun (served_devices before) (served_devices now) before.source now.source status
   no_stream status mount later rose eight nine source sink = record {
     later = later;
     rose = rose;
@@ -64,8 +62,9 @@ module _ (file : List ℕ) (old z : State) (from rest : SourceState) (out mid_ou
     sink_told = ap (λ (x : SinkState). x.tells) sink;
   }
 
-  mount_failed : AfterMount old z → old.faults ≤ z.faults → Rose old.faults z.faults → z.last_mount ≡ None
-      → rest ≡ from → mid_out ≡ out → same → Is (unserved stop.Disk 0)
+  mount_failed : AfterMount before.disk now.disk → before.disk.faults ≤ now.disk.faults
+      → Rose before.disk.faults now.disk.faults → now.disk.last_mount ≡ None
+      → now.source ≡ before.source → now.sink ≡ before.sink → same → Is (unserved stop.Disk 0)
   mount_failed mount later rose none source sink is_same = record {
     keeps = no_stream 7 mount later (λ is. rose) (λ is. omega (arith, is))
         (λ is. omega (arith, is)) source sink;
@@ -82,8 +81,9 @@ module _ (file : List ℕ) (old z : State) (from rest : SourceState) (out mid_ou
     unread = λ is. is_same;
   }
 
-  file_absent : AfterMount old z → z.faults ≡ old.faults → z.last_mount ≡ mounted file false Absent
-      → rest ≡ from → mid_out ≡ out → same → Is (unserved stop.NoFile 0)
+  file_absent : AfterMount before.disk now.disk → now.disk.faults ≡ before.disk.faults
+      → now.disk.last_mount ≡ mounted file false Absent
+      → now.source ≡ before.source → now.sink ≡ before.sink → same → Is (unserved stop.NoFile 0)
   file_absent mount calm is source sink is_same = record {
     keeps = no_stream 3 mount (omega (arith, calm)) (λ is. absurd (omega (arith, is)))
         (λ is. omega (arith, is))
@@ -98,18 +98,19 @@ module _ (file : List ℕ) (old z : State) (from rest : SourceState) (out mid_ou
     unread = λ is. is_same;
   }
 
-  module _ (first : State) (mount : AfterMount old first) (calm : first.faults ≡ old.faults)
+  module _ (first : State) (mount : AfterMount before.disk first) (calm : first.faults ≡ before.disk.faults)
       (there : first.last_mount ≡ mounted file false There) (e : SessionEnd) where
-    mounted_there : z.last_mount ≡ first.last_mount → status_at e.end ≢ 3
-        → IsMounted file false z.last_mount (status_at e.end ≡ 7) (status_at e.end ≡ 3)
+    mounted_there : now.disk.last_mount ≡ first.last_mount → status_at e.end ≢ 3
+        → IsMounted file false now.disk.last_mount (status_at e.end ≡ 7) (status_at e.end ≡ 3)
     mounted_there stays three = record {
       answer = inr (inl (stays ∙ there));
       absent = (λ is. absurd (three is), λ is. not_both (ap is_mounted (sym is ∙ stays ∙ there)));
     }
 
-    turn_there : z.last_mount ≡ first.last_mount → first.turn ≤ e.kept_turn → e.kept_turn ≤ z.turn
-        → ((status_at e.end ≡ 4) ⊎ (status_at e.end ≡ 10) → e.kept_turn ≡ z.turn)
-        → IsKeptTurn (outcome_of e) (HasMounted z) old.turn z.turn
+    turn_there : now.disk.last_mount ≡ first.last_mount → first.turn ≤ e.kept_turn
+        → e.kept_turn ≤ now.disk.turn
+        → ((status_at e.end ≡ 4) ⊎ (status_at e.end ≡ 10) → e.kept_turn ≡ now.disk.turn)
+        → IsKeptTurn (outcome_of e) (HasMounted now.disk) before.disk.turn now.disk.turn
     turn_there stays low high refused = record {
       unopened = λ is. absurd (is (ap is_mounted (stays ∙ there)));
       low = λ has. omega (arith, mount.same_turn, low);
@@ -120,11 +121,12 @@ module _ (file : List ℕ) (old z : State) (from rest : SourceState) (out mid_ou
     -- a session was begun, after opening at `mid`
     served : (mid : State) → first.faults ≤ mid.faults → first.turn ≤ mid.turn
         → mid.tells ≡ first.tells → mid.tells_images ≡ first.tells_images → mid.last_mount ≡ first.last_mount
-        → SessionKeeps mid z from rest out mid_out e.end mid.turn e.kept_turn → Is e
+        → SessionKeeps (outside mid before.source before.sink) now e.end e.kept_turn → Is e
     served mid later turns told images stays k = record {
       keeps = record {
         later = omega (arith, calm, later, k.later);
-        rose = λ is. rose_before old.faults mid.faults z.faults (omega (arith, calm, later)) (k.rose is);
+        rose = λ is. rose_before before.disk.faults mid.faults now.disk.faults (omega (arith, calm, later))
+            (k.rose is);
         no_turn_back = omega (arith, mount.same_turn, turns, k.no_turn_back);
         told = k.told ∙ told ∙ mount.told;
         images_told = k.images_told ∙ images ∙ mount.images_told;
@@ -148,15 +150,19 @@ module _ (file : List ℕ) (old z : State) (from rest : SourceState) (out mid_ou
         rose_before a b c low rose = omega (arith, low, rose)
 
     -- no session was begun, though the file was there
-    unserved_there : first.faults ≤ z.faults → first.turn ≤ z.turn → z.tells ≡ first.tells
-        → z.tells_images ≡ first.tells_images → z.last_mount ≡ first.last_mount → e.kept_turn ≡ z.turn
-        → (status_at e.end ≡ 7 → Rose first.faults z.faults) → status_at e.end ≢ 0 → status_at e.end ≢ 3
-        → status_at e.end ≢ 8 → status_at e.end ≢ 9 → rest ≡ from → mid_out ≡ out → same → Is e
+    unserved_there : first.faults ≤ now.disk.faults → first.turn ≤ now.disk.turn
+        → now.disk.tells ≡ first.tells
+        → now.disk.tells_images ≡ first.tells_images → now.disk.last_mount ≡ first.last_mount
+        → e.kept_turn ≡ now.disk.turn
+        → (status_at e.end ≡ 7 → Rose first.faults now.disk.faults) → status_at e.end ≢ 0
+        → status_at e.end ≢ 3
+        → status_at e.end ≢ 8 → status_at e.end ≢ 9 → now.source ≡ before.source → now.sink ≡ before.sink
+        → same → Is e
     unserved_there later turns told images stays turn rose zero three eight nine source sink is_same =
         record {
           keeps = record {
             later = omega (arith, calm, later);
-            rose = λ is. subst (λ (n : ℕ). Rose n z.faults) calm (rose is);
+            rose = λ is. subst (λ (n : ℕ). Rose n now.disk.faults) calm (rose is);
             no_turn_back = omega (arith, mount.same_turn, turns);
             told = told ∙ mount.told;
             images_told = images ∙ mount.images_told;
@@ -172,32 +178,39 @@ module _ (file : List ℕ) (old z : State) (from rest : SourceState) (out mid_ou
           unread = λ is. is_same;
         }
 
-module _ {D I O : Type 0} (disk_of : D → State) (source_of : I → SourceState) (sink_of : O → SinkState)
-    (file : List ℕ) (before now : D) (from rest : I) (out mid_out : O) (e : SessionEnd) where
+module _ {D I O : Type 0} (seen : Seen D I O) (file : List ℕ) (before now : Held D I O)
+    (e : SessionEnd) where
   abbrev old : State
-  old = disk_of before
+  old = seen.disk before.disk
 
   abbrev z : State
-  z = disk_of now
+  z = seen.disk now.disk
 
   abbrev Same : Type 0
-  Same = (rest ≡ from) × (mid_out ≡ out)
+  Same = (now.source ≡ before.source) × (now.sink ≡ before.sink)
 
   abbrev All : SessionEnd → Type 0
-  All x = Whole file old z (source_of from) (source_of rest) (sink_of out) (sink_of mid_out) Same x
+  All x = Whole file (outside_of seen before) (outside_of seen now) Same x
 
-  whole_served : IsServed (seen_by disk_of source_of sink_of) file (held before from out)
-      (held now rest mid_out) e → All e
+  -- what a session left
+  keeps_of : {first : D} (y : HasSession seen (held first before.source before.sink) now e)
+      → SessionKeeps (outside_of seen (held y.mid before.source before.sink)) (outside_of seen now) e.end
+      e.kept_turn
+  keeps_of y =
+      let begun = held y.mid before.source before.sink in
+      subst (λ (w : SessionEnd). SessionKeeps (outside_of seen begun) (outside_of seen now) w.end w.kept_turn)
+      (sym y.ended) (session_keeps seen begun now y.store y.new y.end y.ran)
+
+  whole_served : RunsMounted seen file before now e → All e
   whole_served x = by x.steps
     where
-      by : OpenRunSteps (seen_by disk_of source_of sink_of) (held x.first from out) (held now rest mid_out) e
-          → All e
+      by : OpenRunSteps seen (held x.first before.source before.sink) now e → All e
       by (inl (inl is, source, sink)) =
           let f = is.opening.frame in
           let why : e.end ≡ Err (stop_of is.fault) = ap (λ (y : SessionEnd). y.end) is.ended in
           let status : status_at e.end ≡ status_of (stop_of is.fault) = ap status_at why in
-          unserved_there file old z (source_of from) (source_of rest) (sink_of out) (sink_of mid_out) Same
-          (disk_of x.first) x.mount x.calm x.there e is.opening.cause.later f.no_turn_back f.stays.told
+          unserved_there file (outside_of seen before) (outside_of seen now) Same (seen.disk x.first) x.mount
+          x.calm x.there e is.opening.cause.later f.no_turn_back f.stays.told
           f.stays.images_told f.stays.same_mount (ap (λ (y : SessionEnd). y.kept_turn) is.ended)
           (λ seven. is.opening.cause.rose
           (ap (λ (y : OpenFault). Err y) (disk_by is.fault (sym status ∙ seven))))
@@ -209,72 +222,64 @@ module _ {D I O : Type 0} (disk_of : D → State) (source_of : I → SourceState
           (sym status ∙ n))
           (λ n. not_status is.fault 9 (λ y. omega (arith, y)) (λ y. omega (arith, y)) (λ y. omega (arith, y))
           (sym status ∙ n))
-          (ap source_of source) (ap sink_of sink) (source, sink)
+          (ap seen.source source) (ap seen.sink sink) (source, sink)
       by (inl (inr is, source, sink)) =
           let f = is.opening.frame in
           let status : status_at e.end ≡ 10 = ap (λ (y : SessionEnd). status_at y.end) is.ended in
-          unserved_there file old z (source_of from) (source_of rest) (sink_of out) (sink_of mid_out) Same
-          (disk_of x.first) x.mount x.calm x.there e is.opening.cause.later f.no_turn_back f.stays.told
+          unserved_there file (outside_of seen before) (outside_of seen now) Same (seen.disk x.first) x.mount
+          x.calm x.there e is.opening.cause.later f.no_turn_back f.stays.told
           f.stays.images_told f.stays.same_mount (ap (λ (y : SessionEnd). y.kept_turn) is.ended)
           (λ n. absurd (omega (arith, n, status))) (λ n. omega (arith, n, status))
           (λ n. omega (arith, n, status))
           (λ n. omega (arith, n, status)) (λ n. omega (arith, n, status))
-          (ap source_of source) (ap sink_of sink) (source, sink)
+          (ap seen.source source) (ap seen.sink sink) (source, sink)
       by (inr y) =
           let f = y.opening.frame in
-          served file old z (source_of from) (source_of rest) (sink_of out) (sink_of mid_out) Same
-          (disk_of x.first) x.mount x.calm x.there e (disk_of y.mid) y.opening.cause.later
+          served file (outside_of seen before) (outside_of seen now) Same (seen.disk x.first)
+          x.mount x.calm x.there e (seen.disk y.mid) y.opening.cause.later
           f.no_turn_back f.stays.told f.stays.images_told f.stays.same_mount
-          (subst (λ (w : SessionEnd). SessionKeeps (disk_of y.mid) z (source_of from) (source_of rest)
-          (sink_of out)
-          (sink_of mid_out) w.end (disk_of y.mid).turn w.kept_turn) (sym y.ended)
-          (session_keeps disk_of source_of sink_of y.mid now from rest out mid_out y.store y.new y.end y.ran))
+          (keeps_of y)
 
-  pub whole : RunSteps (seen_by disk_of source_of sink_of) file (held before from out) (held now rest mid_out)
-      e → All e
+  pub whole : RunSteps seen file before now e → All e
   whole (inl (is, source, sink)) = elim is.which as (λ _. All e) [
     | inl failed ↦ subst All (sym failed.0)
-        (mount_failed file old z (source_of from) (source_of rest) (sink_of out)
-        (sink_of mid_out) Same is.mount is.later failed.2 failed.1 (ap source_of source) (ap sink_of sink)
+        (mount_failed file (outside_of seen before) (outside_of seen now) Same is.mount is.later failed.2
+        failed.1 (ap seen.source source) (ap seen.sink sink)
         (source, sink))
     | inr gone ↦ subst All (sym gone.0)
-        (file_absent file old z (source_of from) (source_of rest) (sink_of out)
-        (sink_of mid_out) Same is.mount gone.2 gone.1 (ap source_of source) (ap sink_of sink) (source, sink))
+        (file_absent file (outside_of seen before) (outside_of seen now) Same is.mount gone.2 gone.1
+        (ap seen.source source) (ap seen.sink sink) (source, sink))
   ]
   whole (inr x) = whole_served x
 
   -- ---- a file that is refused
 
   -- it stays as it is
-  pub untouched : RunSteps (seen_by disk_of source_of sink_of) file (held before from out)
-      (held now rest mid_out) e
-      → (status_at e.end ≡ 3) ⊎ (status_at e.end ≡ 4) → Untouched old z
+  pub untouched : RunSteps seen file before now e → (status_at e.end ≡ 3) ⊎ (status_at e.end ≡ 4)
+      → Untouched old z
   untouched (inl (is, source, sink)) status = mount_untouched old z is.mount is.later
   untouched (inr x) status = by x.steps status
     where
-      by : OpenRunSteps (seen_by disk_of source_of sink_of) (held x.first from out) (held now rest mid_out) e
+      by : OpenRunSteps seen (held x.first before.source before.sink) now e
           → (status_at e.end ≡ 3) ⊎ (status_at e.end ≡ 4) → Untouched old z
       by (inl (inl is, source, sink)) (inl three) = absurd (not_status is.fault 3 (λ y. omega (arith, y))
           (λ y. omega (arith, y)) (λ y. omega (arith, y))
           (sym (ap (λ (y : SessionEnd). status_at y.end) is.ended) ∙ three))
       by (inl (inl is, source, sink)) (inr four) = Untouched-then
-          (mount_untouched old (disk_of x.first) x.mount (omega (arith, x.calm)))
-          (refused_unchanged (disk_of x.first) z is.fault
+          (mount_untouched old (seen.disk x.first) x.mount (omega (arith, x.calm)))
+          (refused_unchanged (seen.disk x.first) z is.fault
           (sym (ap (λ (y : SessionEnd). status_at y.end) is.ended) ∙ four) is.opening.unchanged)
       by (inl (inr is, source, sink)) status =
           let ten : status_at e.end ≡ 10 = ap (λ (y : SessionEnd). status_at y.end) is.ended in
           absurd (elim status as (λ _. ⊥) [ inl n ↦ omega (arith, n, ten) | inr n ↦ omega (arith, n, ten) ])
       by (inr y) status =
-          let k = subst (λ (w : SessionEnd). SessionKeeps (disk_of y.mid) z (source_of from) (source_of rest)
-          (sink_of out) (sink_of mid_out) w.end (disk_of y.mid).turn w.kept_turn) (sym y.ended)
-          (session_keeps disk_of source_of sink_of y.mid now from rest out mid_out y.store y.new y.end y.ran)
-          in
+          let k = keeps_of y in
           absurd (elim status as (λ _. ⊥) [ inl n ↦ k.served (inl n) | inr n ↦ k.served (inr (inl n)) ])
 
   -- a file that isn't served ends the command as its first refusal says, or as its version does
   pub refused_by : IsTrue old.tells → NeverServed old.file
-      → RunSteps (seen_by disk_of source_of sink_of) file (held before from out) (held now rest mid_out) e
-      → EndsBy (IsRefusedService old.file) [] e.end × (mid_out ≡ out)
+      → RunSteps seen file before now e
+      → EndsBy (IsRefusedService old.file) [] e.end × (now.sink ≡ before.sink)
   refused_by told never (inl (is, source, sink)) = (
     elim is.which as (λ _. EndsBy (IsRefusedService old.file) [] e.end) [
       | inl failed ↦ subst (λ (y : SessionEnd). EndsBy (IsRefusedService old.file) [] y.end) (sym failed.0)
@@ -285,21 +290,21 @@ module _ {D I O : Type 0} (disk_of : D → State) (source_of : I → SourceState
   )
   refused_by told never (inr x) = by x.steps
     where
-      told_first : IsTrue (disk_of x.first).tells
+      told_first : IsTrue (seen.disk x.first).tells
       told_first = x.mount.told ∙ told
 
-      same_file : (disk_of x.first).file ≡ old.file
+      same_file : (seen.disk x.first).file ≡ old.file
       same_file = x.mount.same_file told
 
-      never_opened : (a : State) (s : StoreValue) → IsOpening CLASSES (disk_of x.first) a (Ok s) → ⊥
+      never_opened : (a : State) (s : StoreValue) → IsOpening CLASSES (seen.disk x.first) a (Ok s) → ⊥
       never_opened a s is =
           let o = is.opened told_first in
-          never o.m o.b (opened_plain (disk_of x.first) a s told_first is)
+          never o.m o.b (opened_plain (seen.disk x.first) a s told_first is)
           (subst (λ (f : List ℕ). Opens CLASSES SIZE_MAX f o.m o.b) same_file
           (record { table = o.table; opens = o.found }))
 
-      by : OpenRunSteps (seen_by disk_of source_of sink_of) (held x.first from out) (held now rest mid_out) e
-          → EndsBy (IsRefusedService old.file) [] e.end × (mid_out ≡ out)
+      by : OpenRunSteps seen (held x.first before.source before.sink) now e
+          → EndsBy (IsRefusedService old.file) [] e.end × (now.sink ≡ before.sink)
       by (inl (inl is, source, sink)) = (
         subst (λ (y : SessionEnd). EndsBy (IsRefusedService old.file) [] y.end) (sym is.ended)
             (refuses_service old.file is.fault (subst (λ (f : List ℕ). RefusesStore CLASSES f is.fault)
@@ -307,7 +312,7 @@ module _ {D I O : Type 0} (disk_of : D → State) (source_of : I → SourceState
         sink,
       )
       by (inl (inr is, source, sink)) = absurd (never_opened z is.store is.opening)
-      by (inr y) = absurd (never_opened (disk_of y.mid) y.store y.opening)
+      by (inr y) = absurd (never_opened (seen.disk y.mid) y.store y.opening)
 
   -- ---- the statuses
 
@@ -327,16 +332,14 @@ module _ {D I O : Type 0} (disk_of : D → State) (source_of : I → SourceState
   known_unopened n (inr (inl seven)) = inl (ap is_session seven)
   known_unopened n (inr (inr ten)) = inl (ap is_session ten)
 
-  pub known : RunSteps (seen_by disk_of source_of sink_of) file (held before from out) (held now rest mid_out)
-      e
-      → IsKnown (status_at e.end)
+  pub known : RunSteps seen file before now e → IsKnown (status_at e.end)
   known (inl (is, source, sink)) = elim is.which as (λ _. IsKnown (status_at e.end)) [
     | inl failed ↦ inl (ap (λ (y : SessionEnd). is_session (status_at y.end)) failed.0)
     | inr gone ↦ inl (ap (λ (y : SessionEnd). is_session (status_at y.end)) gone.0)
   ]
   known (inr x) = by x.steps
     where
-      by : OpenRunSteps (seen_by disk_of source_of sink_of) (held x.first from out) (held now rest mid_out) e
+      by : OpenRunSteps seen (held x.first before.source before.sink) now e
           → IsKnown (status_at e.end)
       by (inl (inl is, source, sink)) = subst (λ (y : SessionEnd). IsKnown (status_at y.end)) (sym is.ended)
           (known_unopened (status_of (stop_of is.fault)) (status_unopened is.fault))

@@ -25,7 +25,7 @@ use Rattle.run_command.specs.Headline.{HasMounted, HowFar, IsLong, NumbersLine, 
 use Rattle.served_file.proofs.OpeningLaws.{found_numbered, start_low}
 use Rattle.command_face.specs.declared.stop.StopReason.{StopReason}
 use Rattle.command_face.specs.declared.outcome.Outcome.{Outcome}
-use Rattle.command_face.specs.Devices.{devices}
+use Rattle.disk_face.specs.Devices.{devices}
 
 pub never_true : IsTrue false → ⊥
 never_true is = let e : true ≡ false = sym is in absurd (cc)

@@ -27,7 +27,7 @@ use Rattle.command_face.specs.Outcomes.{PutsLast, line_at, status_at}
 use Rattle.command_face.specs.declared.stop.StopReason.{StopReason}
 use Rattle.command_face.specs.declared.stop.StopReason.TheVariants as stop
 use Rattle.command_face.specs.declared.outcome.Outcome.{Outcome}
-use Rattle.command_face.specs.Devices.{Devices}
+use Rattle.disk_face.specs.Devices.{Devices}
 use Rattle.served_file.specs.Served.{Found, found_by, limits_with, Starts, Ran, state_after, OpensTo, has_failed, EndsTight, OpensToKept, OpensToBeing, most_left, IsNextStart, turn_opened}
 use Rattle.command_face.specs.declared.status.TheConstants.{DISK_FAILED, DONE, FAULTY_REQUEST, NO_FILE, NO_MEMORY, NO_STORE, SINK_FAILED, SOURCE_FAILED, TOO_MANY}
 
@@ -146,14 +146,18 @@ pub record IsTold (opened kept_done kept_turn : ℕ) : Type 0 where
   pub low : opened ≤ kept_turn
   pub first : kept_done ≡ 0 → kept_turn ≡ opened
 
+-- a file is mounted
+abbrev pub HasMounted : disk.State → Type 0
+HasMounted d = IsTrue (is_mounted d.last_mount)
+
 -- What a crash leaves: at any moment an acknowledged checkpoint or the one then being written; since the
 -- last was acknowledged that one alone, or the one then being written; and once a sink failed at the reply
 -- of a checkpoint, that checkpoint.
 pub record IsCrashSafe {limits : Limits} {start : State} {requests : List Request} {n : ℕ}
-    (ran : Ran limits start requests n) (o : Outcome) (opened : Type 0) (old new : disk.State) : Type 0 where
+    (ran : Ran limits start requests n) (o : Outcome) (old new : disk.State) : Type 0 where
   pub crash : LeftOnly new old.turn (λ image. OpensToKept start ran.replies ran.states image
       ⊎ OpensToBeing o.status limits (last_state start ran.states) ran.others image)
-  pub since : opened → LeftOnly new o.kept_turn
+  pub since : HasMounted new → LeftOnly new o.kept_turn
       (λ image. OpensTo (state_after start ran.states o.kept_done) image
       ⊎ OpensToBeing o.status limits (last_state start ran.states) ran.others image)
   pub safe : o.status ≡ SINK_FAILED → NextIsSafe limits (last_state start ran.states) ran.others new.may_leave
@@ -177,10 +181,6 @@ pub record IsAcknowledged (limits : Limits) (start : State) (answered : List Req
       → now ≡ counted o.kept_turn (calls_since limits 0 start states answered replies)
 
 -- ---- the whole
-
--- a file is mounted
-abbrev pub HasMounted : disk.State → Type 0
-HasMounted d = IsTrue (is_mounted d.last_mount)
 
 -- What a session over a file does that has a superblock, opens by a table to a map and a book, and whose
 -- input asks for these requests and then has `end`. What is said of images is said of a disk that rested on
@@ -214,7 +214,7 @@ pub record RunHolds (found : Found) (requests : List Request) (end : List ℕ) (
       → IsTold (turn_opened found.table found.b old.disk) o.kept_done o.kept_turn
   -- a crash at any moment
   pub crash : LeavesRoom found.table → RestsOnFound found.table old.disk → new.disk.turn < last
-      → IsCrashSafe ran o (HasMounted new.disk) old.disk new.disk
+      → IsCrashSafe ran o old.disk new.disk
   pub numbered : LeavesRoom found.table → RestsOnFound found.table old.disk → new.disk.turn < last
       → LeftOnly new.disk old.disk.turn (HasSequenceUpTo (most_left found.block.k found.table))
   -- what is acknowledged, and the turns since where the disk failed in a request that only reads, or before

@@ -4,17 +4,18 @@ use Rattle.disk_face.specs.Counts.{Rose, counted}
 use Rattle.disk_face.specs.Frames.{AfterMount, Untouched}
 use Rattle.disk_face.specs.declared.bay.Mounted.TheVariants.{There}
 use Rattle.disk_face.specs.States.{State}
-use Rattle.disk_face.specs.Streams.{SinkState, SourceState}
+use Rattle.disk_face.specs.Streams.{SourceState}
 use Rattle.size_class.specs.declared.TheConstants.{CLASSES}
 use Rattle.store_model.specs.Connection.{StoreValue}
 use Rattle.store_model.specs.Opened.{IsOpening}
 use Rattle.store_model.specs.Stores.{IsStore}
 use Rattle.reopen.specs.declared.fault.OpenFault.{OpenFault}
+use Rattle.ask_session.specs.Outside.{Held, Seen, held}
 use Rattle.ask_session.specs.Sittings.{Sitting, new_sitting}
 use Rattle.ask_session.specs.Runs.{EndsRun, budget}
 use Rattle.ask_session.specs.declared.ends.End.{End}
 use Rattle.ask_session.specs.declared.ends.End.TheVariants as ends
-use Rattle.command_face.specs.Devices.{Devices}
+use Rattle.disk_face.specs.Devices.{Devices}
 use Rattle.command_face.specs.Mounting.{IsNotThere, mounted}
 use Rattle.command_face.specs.Outcomes.{PutsLine, status_at}
 use Rattle.run_command.specs.Headline.{HasMounted, IsKeptTurn}
@@ -60,24 +61,6 @@ pub record IsUnbegun (before now : State) (e : SessionEnd) : Type 0 where
   pub opening : IsOpening CLASSES before now (Ok store)
   pub ended : e ≡ unserved stop.NoMemory now.turn
 
--- how the devices of a session are seen
-pub record Seen (D I O : Type 0) : Type 1 where
-  pub disk : D → State
-  pub source : I → SourceState
-  pub sink : O → SinkState
-
--- the devices themselves, before or after
-pub record Held (D I O : Type 0) : Type 0 where
-  pub disk : D
-  pub source : I
-  pub sink : O
-
-abbrev pub seen_by : {D I O : Type 0} → (D → State) → (I → SourceState) → (O → SinkState) → Seen D I O
-seen_by disk source sink = record { disk = disk; source = source; sink = sink }
-
-abbrev pub held : {D I O : Type 0} → D → I → O → Held D I O
-held disk source sink = record { disk = disk; source = source; sink = sink }
-
 -- It was opened, at `mid`, and a session of its store ran to its end.
 pub record HasSession {D I O : Type 0} (seen : Seen D I O) (before now : Held D I O) (e : SessionEnd)
     : Type 0 where
@@ -86,8 +69,8 @@ pub record HasSession {D I O : Type 0} (seen : Seen D I O) (before now : Held D 
   pub new : Sitting
   pub end : End
   pub opening : IsOpening CLASSES (seen.disk before.disk) (seen.disk mid) (Ok store)
-  pub ran : EndsRun seen.disk seen.source seen.sink CLASSES (new_sitting store (seen.disk mid).turn) new
-      mid now.disk before.source now.source before.sink now.sink end
+  pub ran : EndsRun seen CLASSES (new_sitting store (seen.disk mid).turn) new
+      (held mid before.source before.sink) now end
   pub sound : new.store.is_broken ≡ false → IsStore CLASSES new.store
   pub ended : e ≡ ended_as end new
 
@@ -106,7 +89,7 @@ pub record IsUnmounted (file : List ℕ) (before now : State) (e : SessionEnd) :
   pub which : IsNotThere file before now (e ≡ unserved stop.Disk 0) (e ≡ unserved stop.NoFile 0)
 
 -- It was mounted, at `first`, and a session over it went so.
-pub record IsServed {D I O : Type 0} (seen : Seen D I O) (file : List ℕ) (before now : Held D I O)
+pub record RunsMounted {D I O : Type 0} (seen : Seen D I O) (file : List ℕ) (before now : Held D I O)
     (e : SessionEnd) : Type 0 where
   pub first : D
   pub mount : AfterMount (seen.disk before.disk) (seen.disk first)
@@ -119,7 +102,7 @@ abbrev pub RunSteps : {D I O : Type 0} → Seen D I O → List ℕ → Held D I 
 RunSteps seen file before now e =
     (IsUnmounted file (seen.disk before.disk) (seen.disk now.disk) e
     × (now.source ≡ before.source) × (now.sink ≡ before.sink))
-    ⊎ IsServed seen file before now e
+    ⊎ RunsMounted seen file before now e
 
 -- What the command that serves requests does to its devices. No count falls, and a device's own fault comes
 -- only where its count rose; where all is done the sink's didn't. What is told stays told.

@@ -11,7 +11,7 @@ ghost use Rattle.store_model.specs.Plain.{IsPlain};
 ghost use Rattle.ask_text.specs.Inputs.{Asks};
 ghost use Rattle.ask_session.specs.Runs.{budget};
 ghost use Rattle.command_face.specs.Mounting.{IsMounted, mounted};
-ghost use Rattle.command_face.specs.Devices.{devices};
+ghost use Rattle.disk_face.specs.Devices.{devices};
 ghost use Rattle.run_command.specs.Headline.{RunPromise};
 ghost use Rattle.run_command.specs.Sessions.{RunAlways};
 

@@ -4,13 +4,13 @@ ghost use Rattle.size_class.specs.declared.TheConstants.{CLASSES};
 ghost use Rattle.store_model.specs.Connection.{IsConnected};
 ghost use Rattle.store_model.specs.Opened.{IsOpening};
 ghost use Rattle.store_model.specs.Stores.{IsStore};
+ghost use Rattle.ask_session.specs.Outside.{held, seen_by};
 ghost use Rattle.command_face.specs.Mounting.{IsMounted};
 ghost use Rattle.served_file.specs.Unserved.{IsRefusedService, NeverServed};
 ghost use Rattle.run_command.specs.Headline.{RunPromise, is_session};
 ghost use Rattle.command_face.specs.Outcomes.{Ends};
-ghost use Rattle.command_face.specs.Devices.{devices};
+ghost use Rattle.disk_face.specs.Devices.{devices};
 ghost use Rattle.run_command.specs.Sessions.{RunAlways, OpenRunSteps, RunSteps, end_of, ended_as, unserved};
-ghost use Rattle.run_command.specs.Sessions.{held, seen_by};
 
 use ask_session::{End, Session};
 use command_face::{

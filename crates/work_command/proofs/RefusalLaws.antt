@@ -9,7 +9,7 @@ use Rattle.command_face.specs.Outcomes.{status_at}
 use Rattle.command_face.specs.declared.stop.StopReason.{StopReason}
 use Rattle.command_face.specs.declared.stop.StopReason.TheVariants as stop
 use Rattle.served_file.proofs.RefusedLaws.{never_mounted}
-use Rattle.command_face.specs.Devices.{devices}
+use Rattle.disk_face.specs.Devices.{devices}
 
 module _ {D : Type 0} (disk_of : D → State) (file : List ℕ) (number count : ℕ) (old z : State)
     (out put : SinkState) (end : Result (Unit {0}) StopReason) (told : IsTrue old.tells)

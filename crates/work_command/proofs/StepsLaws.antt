@@ -27,7 +27,7 @@ use Rattle.command_face.specs.declared.stop.StopReason.{StopReason}
 use Rattle.command_face.specs.declared.stop.StopReason.TheVariants as stop
 use Rattle.command_face.proofs.UnopenedLaws.{disk_by, mount_untouched, not_status, status_unopened}
 use Rattle.served_file.proofs.RefusedLaws.{opened_plain, refused_unchanged, refuses_service}
-use Rattle.command_face.specs.Devices.{devices}
+use Rattle.disk_face.specs.Devices.{devices}
 
 pub not_both : {A : Type 0} → false ≡ true → A
 not_both is = absurd (cc)

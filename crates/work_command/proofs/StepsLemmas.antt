@@ -16,7 +16,7 @@ use Rattle.work_command.specs.Summaries.{summary_text}
 use Rattle.command_face.specs.Mounting.{IsNotThere, mounted}
 use Rattle.command_face.specs.declared.stop.StopReason.{StopReason}
 use Rattle.command_face.specs.declared.stop.StopReason.TheVariants as stop
-use Rattle.command_face.specs.Devices.{devices}
+use Rattle.disk_face.specs.Devices.{devices}
 
 module _ {D : Type 0} (disk_of : D → State) (number count : ℕ) (first mid now : D) (out put : SinkState)
     (s : StoreValue)

@@ -16,7 +16,7 @@ use Rattle.command_face.specs.declared.stop.StopReason.{StopReason}
 use Rattle.command_face.specs.declared.stop.StopReason.TheVariants as stop
 use Rattle.command_face.proofs.StatusLaws.{calm_by, Puts-front}
 use Rattle.command_face.proofs.UnopenedLaws.{status_unopened}
-use Rattle.command_face.specs.Devices.{devices}
+use Rattle.disk_face.specs.Devices.{devices}
 use Rattle.work_command.proofs.StepsLaws.{not_both}
 
 -- after a summary no line is put

@@ -37,7 +37,7 @@ use Rattle.work_command.specs.Working.{WorkHolds, has_worked, is_working}
 use Rattle.served_file.proofs.OpeningLaws.{Opened, found_numbered, requests_low, start_low}
 use Rattle.served_file.proofs.OverLaws.{next_over, tight_over}
 use Rattle.served_file.proofs.ShownLaws.{Shows, first_kept, last_shown, some_weaker}
-use Rattle.command_face.specs.Devices.{devices}
+use Rattle.disk_face.specs.Devices.{devices}
 
 -- there is a job
 some_of : (requests : List Request) (n : ℕ) → length requests ≡ n + 1 → requests ≢ []

@@ -31,7 +31,7 @@ use Rattle.work_command.proofs.SummaryLaws.{summary_put}
 use Rattle.served_file.proofs.RefusedLaws.{WhyUnopened, begins_itself, why_unopened}
 use Rattle.served_file.proofs.RefusedLaws.WhyUnopened.{disk, memory}
 use Rattle.served_file.proofs.OpeningLaws.{Opened, left_first, left_opening, opened_by, opens_first, rests_first, told_first}
-use Rattle.command_face.specs.Devices.{devices}
+use Rattle.disk_face.specs.Devices.{devices}
 use Rattle.work_command.proofs.WorkLaws.{all_done, in_a_job, none_begun, none_done}
 
 module _ (t : choice.SlotTable) (m : Map) (b : Book) (old : State) (lawful : IsLawful old)

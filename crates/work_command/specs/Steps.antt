@@ -13,7 +13,7 @@ use Rattle.reopen.specs.declared.fault.OpenFault.{OpenFault}
 use Rattle.work_maker.specs.Jobs.{jobs}
 use Rattle.work_session.specs.Works.{HasDone, HasStopped}
 use Rattle.work_session.specs.declared.summary.Summary.{Summary}
-use Rattle.command_face.specs.Devices.{Devices, devices}
+use Rattle.disk_face.specs.Devices.{Devices, devices}
 use Rattle.command_face.specs.Mounting.{IsNotThere, mounted}
 use Rattle.command_face.specs.Refusing.{stop_of}
 use Rattle.work_command.specs.Summaries.{summary_text}

@@ -24,7 +24,7 @@ use Rattle.work_maker.specs.Jobs.{jobs}
 use Rattle.work_session.specs.Counts.{asked_in, calls_in}
 use Rattle.work_session.specs.Works.{ArePaidLines, CountsOf, LinesOf}
 use Rattle.work_session.specs.declared.summary.Summary.{Summary}
-use Rattle.command_face.specs.Devices.{Devices}
+use Rattle.disk_face.specs.Devices.{Devices}
 use Rattle.served_file.specs.Served.{EndsTight, Found, found_by, IsNextStart, OpensTo, OpensToBeing, OpensToKept, Ran, Starts, limits_with, most_left}
 use Rattle.command_face.specs.Outcomes.{PutsLast, PutsLine}
 use Rattle.served_file.specs.Unserved.{NeverServed}

@@ -8,7 +8,7 @@ ghost use Rattle.map_model.specs.Maps.{Map};
 ghost use Rattle.table_rules.specs.Opening.{OpensBy};
 ghost use Rattle.store_model.specs.Plain.{IsPlain};
 ghost use Rattle.command_face.specs.Mounting.{IsMounted, mounted};
-ghost use Rattle.command_face.specs.Devices.{devices};
+ghost use Rattle.disk_face.specs.Devices.{devices};
 ghost use Rattle.work_command.specs.Summaries.{eleven_jobs, summary_text};
 ghost use Rattle.work_command.specs.Working.{WorkPromise, WorkAlways};
 

@@ -7,7 +7,7 @@ ghost use Rattle.command_face.specs.Mounting.{IsMounted};
 ghost use Rattle.work_command.specs.Steps.{OpenWorkSteps, WorkSteps};
 ghost use Rattle.served_file.specs.Unserved.{IsRefusedService, NeverServed};
 ghost use Rattle.command_face.specs.Outcomes.{Ends};
-ghost use Rattle.command_face.specs.Devices.{devices};
+ghost use Rattle.disk_face.specs.Devices.{devices};
 ghost use Rattle.work_command.specs.Working.{WorkPromise, WorkAlways};
 
 use crate::summary::summary_text;

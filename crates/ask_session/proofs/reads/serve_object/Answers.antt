@@ -1,4 +1,5 @@
 use Rattle.std.proofs.Common.{sym, subst}
+use Rattle.disk_face.specs.Devices.{devices}
 use Rattle.store_core.specs.Answers.{refused_by, size_at}
 use Rattle.store_model.specs.Connection.{StoreValue, limits_of, state_of}
 use Rattle.store_core.specs.Readings.{asks_for, object_read, spot_read}
@@ -15,8 +16,9 @@ returns-in-Ok-say g c =
     let h = c.requires.can in
     let served = (number_served (refused_by s (asks_for m name)) (size_at (spot_read s (asks_for m name)))
     c.in-Ok.size c.in-Ok.ensures).0 in
-    subst (λ (x : StoreValue). Replies g.row.C (asks_for m name) s x a (g.D.Disk.state c.give.new.disk)
-    (g.O.Sink.state c.args.output.now) (g.O.Sink.state c.give.new.output) c.give.result)
+    subst (λ (x : StoreValue). Replies g.row.C (asks_for m name) s x
+    (devices a (g.O.Sink.state c.args.output.now))
+    (devices (g.D.Disk.state c.give.new.disk) (g.O.Sink.state c.give.new.output)) c.give.result)
     (sym c.give.ensures.store)
     (found_replies (asks_for m name) s a h (object_read (state_of s a.file) (asks_for m name)) c.in-Ok.size
     (asks_only m name) (object_served s a m name h served)

@@ -1,6 +1,6 @@
 -- Each command, from what its crate says of it.
 use Rattle.std.proofs.Common.{◌≡◌, Ok, ap, refl, subst, sym}
-use Rattle.command_face.specs.Devices.{devices}
+use Rattle.disk_face.specs.Devices.{devices}
 use Rattle.file_commands.specs.Getting.{IsObject}
 use Rattle.file_commands.specs.Texts.{IsChecked, IsMapped}
 use Rattle.costore_top.specs.Answering.{IsAnswer}

@@ -4,7 +4,7 @@ use Rattle.costore_top.proofs.DoesLaws.{answers_by_it, formats_safely, headline_
 use Rattle.costore_top.proofs.FaultyLaws.{answers_nothing, formats_nothing, keeps_all, mounts_nothing, reads_nothing, words_faulty}
 use Rattle.costore_top.specs.Commands.{run, work}
 use Rattle.costore_top.specs.Words.{command_of, texts}
-use Rattle.command_face.specs.Devices.{devices}
+use Rattle.disk_face.specs.Devices.{devices}
 use Rattle.costore_top.proofs.top.costore.Goals as goal
 
 pub returns-in-Some : goal.returns-in-Some

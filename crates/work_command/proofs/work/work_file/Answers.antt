@@ -5,7 +5,7 @@ use Rattle.served_file.specs.Unserved.{IsRefusedService}
 use Rattle.command_face.specs.Outcomes.{status_at}
 use Rattle.work_command.specs.Working.{WorkHolds, WorkAlways}
 use Rattle.command_face.specs.declared.outcome.Outcome.{Outcome}
-use Rattle.command_face.specs.Devices.{devices}
+use Rattle.disk_face.specs.Devices.{devices}
 use Rattle.served_file.specs.Served.{found_with}
 use Rattle.work_command.proofs.StepsLaws.{refused_work, whole}
 use Rattle.work_command.proofs.SummaryLaws.{ends_by_line, keeps_line, line_only, summary_of}

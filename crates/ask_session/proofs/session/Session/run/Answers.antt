@@ -1,4 +1,5 @@
 use Rattle.std.proofs.Common.{◌≡◌, arith, refl, false, true, ◌∙◌}
+use Rattle.ask_session.specs.Outside.{held, outside}
 use Rattle.ask_session.proofs.RunLaws.{has_run_more, has_run_none, last_turn_of, not_budget}
 use Rattle.ask_session.proofs.session.Session.run.Goals as goal
 
@@ -7,8 +8,8 @@ turns-init g c = record {
   few = omega arith;
   sound = c.is_sound.ensures.store;
   fresh = c.requires.fresh;
-  ran = has_run_none c.args.self.now (g.D.Disk.state c.args.disk.now) (g.I.Source.state c.args.input.now)
-      (g.O.Sink.state c.args.output.now) c.requires.whole c.requires.over c.requires.ready
+  ran = has_run_none c.args.self.now (outside (g.D.Disk.state c.args.disk.now)
+      (g.I.Source.state c.args.input.now) (g.O.Sink.state c.args.output.now)) c.requires
       c.is_sound.ensures.count;
 }
 
@@ -17,46 +18,41 @@ turns-preserved g c = record {
   few = omega arith;
   sound = c.in-Answered.ensures.sound;
   fresh = grind (arith, c.in-Answered.ensures.ended);
-  ran = has_run_more c.args.self.now (g.D.Disk.state c.args.disk.now) (g.I.Source.state c.args.input.now)
-      (g.O.Sink.state c.args.output.now) c.turns.n c.turns.self (g.D.Disk.state c.turns.disk)
-      (g.I.Source.state c.turns.input) (g.O.Sink.state c.turns.output) c.one.new.self
-      (g.D.Disk.state c.one.new.disk) (g.I.Source.state c.one.new.input) (g.O.Sink.state c.one.new.output)
+  ran = has_run_more c.one.new.self (outside (g.D.Disk.state c.one.new.disk)
+      (g.I.Source.state c.one.new.input) (g.O.Sink.state c.one.new.output))
       c.turns.invariant.ran c.in-Answered.ensures.turn c.in-Answered.ensures.told
       (c.in-Answered.ensures.cause.calm refl)
       (g.met.D.Disk.lawful c.one.new.disk) c.in-Answered.ensures.sound;
 }
 
 pub returns-in-Ended : goal.returns-in-Ended
-returns-in-Ended g c = record {
-  sitting = c.turns.self;
-  mid_disk = c.turns.disk;
-  mid_source = c.turns.input;
-  mid_sink = c.turns.output;
-  n = c.turns.n;
-  ran = c.turns.invariant.ran;
-  few = omega arith;
-  fewer = λ is. omega arith;
-  last_turn = last_turn_of g.row.C c.turns.n c.turns.self c.one.new.self (g.D.Disk.state c.turns.disk)
-      (g.D.Disk.state c.one.new.disk) (g.I.Source.state c.turns.input) (g.I.Source.state c.one.new.input)
-      (g.O.Sink.state c.turns.output)
-      (g.O.Sink.state c.one.new.output) c.in-Ended.end c.in-Ended.ensures.turn;
-  sound = c.in-Ended.ensures.sound;
-  same_disk = c.in-Ended.ensures.same_disk;
-  same_sink = c.in-Ended.ensures.same_sink;
-  ended = c.in-Ended.ensures.ended
-      ∙ not_budget g.row.C c.turns.self c.one.new.self (g.D.Disk.state c.turns.disk)
-      (g.D.Disk.state c.one.new.disk) (g.I.Source.state c.turns.input) (g.I.Source.state c.one.new.input)
-      (g.O.Sink.state c.turns.output)
-      (g.O.Sink.state c.one.new.output) c.in-Ended.end c.in-Ended.ensures.turn;
-  cause = c.in-Ended.ensures.cause;
-}
+returns-in-Ended g c =
+    let before = outside (g.D.Disk.state c.turns.disk) (g.I.Source.state c.turns.input)
+    (g.O.Sink.state c.turns.output) in
+    let now = outside (g.D.Disk.state c.one.new.disk) (g.I.Source.state c.one.new.input)
+    (g.O.Sink.state c.one.new.output) in
+    record {
+      sitting = c.turns.self;
+      mid = held c.turns.disk c.turns.input c.turns.output;
+      n = c.turns.n;
+      ran = c.turns.invariant.ran;
+      few = omega arith;
+      fewer = λ is. omega arith;
+      last_turn = last_turn_of g.row.C c.turns.n c.turns.self c.one.new.self before now c.in-Ended.end
+          c.in-Ended.ensures.turn;
+      sound = c.in-Ended.ensures.sound;
+      same_disk = c.in-Ended.ensures.same_disk;
+      same_sink = c.in-Ended.ensures.same_sink;
+      ended = c.in-Ended.ensures.ended
+          ∙ not_budget g.row.C c.turns.self c.one.new.self before now c.in-Ended.end
+          c.in-Ended.ensures.turn;
+      cause = c.in-Ended.ensures.cause;
+    }
 
 pub returns : goal.returns
 returns g c = record {
   sitting = c.turns.self;
-  mid_disk = c.turns.disk;
-  mid_source = c.turns.input;
-  mid_sink = c.turns.output;
+  mid = held c.turns.disk c.turns.input c.turns.output;
   n = c.turns.n;
   ran = c.turns.invariant.ran;
   few = c.turns.invariant.few;

@@ -1,4 +1,4 @@
--- The devices of a command, as its contract sees them before or after.
+-- The devices of a call, as its contract sees them before or after.
 use Rattle.disk_face.specs.States.{State}
 use Rattle.disk_face.specs.Streams.{SinkState}
 
