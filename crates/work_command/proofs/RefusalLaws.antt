@@ -3,7 +3,7 @@ use Rattle.std.specs.Prelude.{◌≡◌, ℕ, List, Result, Ok, Err, OnErr, IsTr
 use Rattle.std.proofs.Common.{arith, ap, sym, ◌∙◌, inl, inr}
 use Rattle.disk_face.specs.States.{State}
 use Rattle.disk_face.specs.Streams.{SinkState}
-use Rattle.work_command.specs.Steps.{OpenWorkSteps, WorkSteps}
+use Rattle.work_command.specs.Steps.{OpenWorkSteps, WorkSteps, jobs_numbered}
 use Rattle.served_file.specs.Unserved.{NeverServed}
 use Rattle.command_face.specs.Outcomes.{status_at}
 use Rattle.command_face.specs.declared.stop.StopReason.{StopReason}
@@ -14,7 +14,7 @@ use Rattle.disk_face.specs.Devices.{devices}
 module _ {D : Type 0} (disk_of : D → State) (file : List ℕ) (number count : ℕ) (old z : State)
     (out put : SinkState) (end : Result (Unit {0}) StopReason) (told : IsTrue old.tells)
     (four : status_at end ≡ 4) where
-  pub never_worked : WorkSteps disk_of file number count (devices old out) (devices z put) end
+  pub never_worked : WorkSteps disk_of file (jobs_numbered number count) (devices old out) (devices z put) end
       → NeverServed old.file
   never_worked (inl (is, same)) = elim is.which as (λ _. NeverServed old.file) [
     | inl failed ↦ absurd (omega (arith, four, ap status_at failed.0))
@@ -22,8 +22,8 @@ module _ {D : Type 0} (disk_of : D → State) (file : List ℕ) (number count : 
   ]
   never_worked (inr x) = by x.steps
     where
-      by : OpenWorkSteps disk_of number count (devices (disk_of x.first) out) (devices z put) end →
-          NeverServed old.file
+      by : OpenWorkSteps disk_of (jobs_numbered number count) (devices (disk_of x.first) out)
+          (devices z put) end → NeverServed old.file
       by (inl (inl is, same)) = never_mounted old (disk_of x.first) z is.fault x.mount is.opening told
           (sym (ap status_at is.ended) ∙ four)
       by (inl (inr (inl is), same)) = absurd (omega (arith, four, ap status_at is.ended))

@@ -18,7 +18,7 @@ use Rattle.store_model.specs.Connection.{StoreValue}
 use Rattle.store_model.specs.Opened.{IsOpening, RefusesStore}
 use Rattle.reopen.specs.declared.fault.OpenFault.{OpenFault}
 use Rattle.command_face.specs.Mounting.{IsMounted, mounted}
-use Rattle.work_command.specs.Steps.{OpenWorkSteps, WorkSteps, IsAllDone, IsNotBegun, IsRefusal, IsStopped}
+use Rattle.work_command.specs.Steps.{OpenWorkSteps, WorkSteps, IsAllDone, IsNotBegun, IsRefusal, IsStopped, jobs_numbered}
 use Rattle.command_face.specs.Refusing.{stop_of}
 use Rattle.served_file.specs.Unserved.{IsRefusedService, NeverServed}
 use Rattle.command_face.specs.Outcomes.{EndsBy, status_at, status_of}
@@ -187,7 +187,8 @@ module _ {D : Type 0} (disk_of : D → State) (file : List ℕ) (number count : 
     rose_before : (a b c : ℕ) → a ≤ b → Rose b c → Rose a c
     rose_before a b c low rose = omega (arith, low, rose)
 
-    in_job : IsStopped disk_of number count first z end → put ≡ out → All file number count old z out put
+    in_job : IsStopped disk_of (jobs_numbered number count) first z end → put ≡ out
+        → All file number count old z out put
         (status_at end)
     in_job x same = carried (Err stop.Disk) x.ended
         (stopped_there file number count old z out put first mount calm there
@@ -198,8 +199,8 @@ module _ {D : Type 0} (disk_of : D → State) (file : List ℕ) (number count : 
         same
         (λ is. absurd (omega (arith, is))))
 
-    summed : IsAllDone disk_of number count (devices first out) (devices z put) end → All file number count
-        old z out put
+    summed : IsAllDone disk_of (jobs_numbered number count) (devices first out) (devices z put) end
+        → All file number count old z out put
         (status_at end)
     summed x = by end refl x.only x.cause
       where
@@ -221,7 +222,7 @@ module _ {D : Type 0} (disk_of : D → State) (file : List ℕ) (number count : 
             (λ n. omega (arith, n)) (λ n. omega (arith, n)) (λ n. omega (arith, n)) cause.later
             (λ n. cause.rose) (λ n. absurd (omega (arith, n))) x.told)
 
-  pub whole : WorkSteps disk_of file number count (devices old out) (devices z put) end
+  pub whole : WorkSteps disk_of file (jobs_numbered number count) (devices old out) (devices z put) end
       → Whole file old z out put (status_at end)
   whole (inl (is, same)) = elim is.which as (λ _. All file number count old z out put (status_at end)) [
     | inl failed ↦ carried (Err stop.Disk) failed.0
@@ -231,8 +232,9 @@ module _ {D : Type 0} (disk_of : D → State) (file : List ℕ) (number count : 
   ]
   whole (inr x) = by x.steps
     where
-      by : OpenWorkSteps disk_of number count (devices (disk_of x.first) out) (devices z put) end → All file
-          number count old z out put
+      by : OpenWorkSteps disk_of (jobs_numbered number count) (devices (disk_of x.first) out)
+          (devices z put) end
+          → All file number count old z out put
           (status_at end)
       by (inl (inl is, same)) = refusal (disk_of x.first) x.mount x.calm x.there is same
       by (inl (inr (inl is), same)) = not_begun (disk_of x.first) x.mount x.calm x.there is same
@@ -241,7 +243,7 @@ module _ {D : Type 0} (disk_of : D → State) (file : List ℕ) (number count : 
 
   -- a file that isn't served ends the command as its first refusal says, or as its version does
   pub refused_work : IsTrue old.tells → NeverServed old.file
-      → WorkSteps disk_of file number count (devices old out) (devices z put) end
+      → WorkSteps disk_of file (jobs_numbered number count) (devices old out) (devices z put) end
       → EndsBy (IsRefusedService old.file) [] end × (put ≡ out)
   refused_work told never (inl (is, same)) = (
     elim is.which as (λ _. EndsBy (IsRefusedService old.file) [] end) [
@@ -265,7 +267,8 @@ module _ {D : Type 0} (disk_of : D → State) (file : List ℕ) (number count : 
           (subst (λ (f : List ℕ). Opens CLASSES SIZE_MAX f o.m o.b) same_file
           (record { table = o.table; opens = o.found }))
 
-      by : OpenWorkSteps disk_of number count (devices (disk_of x.first) out) (devices z put) end
+      by : OpenWorkSteps disk_of (jobs_numbered number count) (devices (disk_of x.first) out)
+          (devices z put) end
           → EndsBy (IsRefusedService old.file) [] end
           × (put ≡ out)
       by (inl (inl is, same)) = (

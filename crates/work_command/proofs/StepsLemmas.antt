@@ -11,7 +11,7 @@ use Rattle.store_model.specs.Connection.{StoreValue}
 use Rattle.store_model.specs.Opened.{IsOpening}
 use Rattle.work_session.specs.Works.{HasDone, HasStopped}
 use Rattle.work_session.specs.declared.summary.Summary.{Summary}
-use Rattle.work_command.specs.Steps.{OpenWorkSteps, WorkSteps, jobs_of}
+use Rattle.work_command.specs.Steps.{OpenWorkSteps, WorkSteps, jobs_of, jobs_numbered}
 use Rattle.work_command.specs.Summaries.{summary_text}
 use Rattle.command_face.specs.Mounting.{IsNotThere, mounted}
 use Rattle.command_face.specs.declared.stop.StopReason.{StopReason}
@@ -22,9 +22,11 @@ module _ {D : Type 0} (disk_of : D → State) (number count : ℕ) (first mid no
     (s : StoreValue)
     (opening : IsOpening CLASSES (disk_of first) (disk_of mid) (Ok s)) where
   pub steps_all : (x : Summary) (text : List ℕ) (end : Result (Unit {0}) StopReason)
-      → HasDone CLASSES s (jobs_of number count s) (disk_of mid) (disk_of now) x → text ≡ summary_text x
+      → HasDone CLASSES s (jobs_of (jobs_numbered number count) s) (disk_of mid) (disk_of now) x
+      → text ≡ summary_text x
       → (IsTrue out.tells → Puts out.given put.given text end) → OnErr end (end ≡ Err stop.Sink)
-      → put.tells ≡ out.tells → HasCause out.faults put.faults end → OpenWorkSteps disk_of number count
+      → put.tells ≡ out.tells → HasCause out.faults put.faults end
+      → OpenWorkSteps disk_of (jobs_numbered number count)
       (devices (disk_of first) out) (devices (disk_of now) put) end
   steps_all x text end done is puts only told cause = inr (record {
     store = s;
@@ -38,8 +40,10 @@ module _ {D : Type 0} (disk_of : D → State) (number count : ℕ) (first mid no
     told = told;
   })
 
-  pub steps_stop : HasStopped CLASSES s (jobs_of number count s) (disk_of mid) (disk_of now) → put ≡ out
-      → OpenWorkSteps disk_of number count (devices (disk_of first) out) (devices (disk_of now) put)
+  pub steps_stop : HasStopped CLASSES s (jobs_of (jobs_numbered number count) s) (disk_of mid) (disk_of now)
+      → put ≡ out
+      → OpenWorkSteps disk_of (jobs_numbered number count) (devices (disk_of first) out)
+      (devices (disk_of now) put)
       (Err stop.Disk)
   steps_stop stopped same = inl (
     inr (inr (record {
@@ -52,7 +56,8 @@ module _ {D : Type 0} (disk_of : D → State) (number count : ℕ) (first mid no
     same,
   )
 
-  pub steps_nothing : disk_of now ≡ disk_of mid → put ≡ out → OpenWorkSteps disk_of number count
+  pub steps_nothing : disk_of now ≡ disk_of mid → put ≡ out
+      → OpenWorkSteps disk_of (jobs_numbered number count)
       (devices (disk_of first) out) (devices (disk_of now) put) (Err stop.NoMemory)
   steps_nothing still same = inl (
     inr (inl (record {
@@ -72,7 +77,7 @@ module _ {D : Type 0} (disk_of : D → State) (file : List ℕ) (number count : 
 
   pub steps_unmounted : (why : StopReason) → AfterMount old now → old.faults ≤ now.faults
       → IsNotThere file old now (why ≡ stop.Disk) (why ≡ stop.NoFile)
-      → WorkSteps disk_of file number count (devices old out) (devices now out) (Err why)
+      → WorkSteps disk_of file (jobs_numbered number count) (devices old out) (devices now out) (Err why)
   steps_unmounted why mount later is = inl (
     record {
       mount = mount;
@@ -87,8 +92,9 @@ module _ {D : Type 0} (disk_of : D → State) (file : List ℕ) (number count : 
 
   pub steps_mounted : (first : D) (put : SinkState) (end : Result (Unit {0}) StopReason)
       → AfterMount old (disk_of first) → (disk_of first).last_mount ≡ mounted file false There
-      → (disk_of first).faults ≡ old.faults → OpenWorkSteps disk_of number count (devices (disk_of first) out)
+      → (disk_of first).faults ≡ old.faults
+      → OpenWorkSteps disk_of (jobs_numbered number count) (devices (disk_of first) out)
       (devices now put) end
-      → WorkSteps disk_of file number count (devices old out) (devices now put) end
+      → WorkSteps disk_of file (jobs_numbered number count) (devices old out) (devices now put) end
   steps_mounted first put end mount there calm steps =
       inr (record { first = first; mount = mount; there = there; calm = calm; steps = steps })

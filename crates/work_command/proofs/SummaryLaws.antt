@@ -6,7 +6,7 @@ use Rattle.disk_face.specs.Counts.{Rose}
 use Rattle.disk_face.specs.States.{State}
 use Rattle.disk_face.specs.Streams.{Puts, SinkState}
 use Rattle.work_maker.proofs.ListLaws.{how_many}
-use Rattle.work_command.specs.Steps.{OpenWorkSteps, WorkSteps, IsAllDone}
+use Rattle.work_command.specs.Steps.{OpenWorkSteps, WorkSteps, IsAllDone, jobs_numbered}
 use Rattle.command_face.specs.Faults.{line_of}
 use Rattle.command_face.specs.Refusing.{stop_of}
 use Rattle.command_face.specs.Outcomes.{Ends, EndsBy, IsFront, PutsLast, PutsLine, line_at, status_at, status_of}
@@ -42,7 +42,8 @@ module _ {D : Type 0} (disk_of : D → State) (number count : ℕ) (z : State) (
     (end : Result (Unit {0}) StopReason) (line : IsTrue put.tells
     → PutsLast put.given after.given (line_at end) (Rose put.faults after.faults)) where
   -- where all jobs were done a summary is put, or a front of it
-  pub summary_put : {first : State} (x : IsAllDone disk_of number count (devices first out) (devices z put)
+  pub summary_put : {first : State}
+      (x : IsAllDone disk_of (jobs_numbered number count) (devices first out) (devices z put)
       end)
       → IsTrue out.tells → PutsLast out.given after.given (summary_text x.summary) (status_at end ≡ 9)
   summary_put x told = by end x.only (x.puts told) (line (x.told ∙ told))
@@ -76,7 +77,8 @@ module _ {D : Type 0} (disk_of : D → State) (number count : ℕ) (z : State) (
   unworked_refusal n (inr (inr ten)) = ap has_worked ten
 
   -- what the summary says on any disk
-  pub summary_of : {file : List ℕ} {old : State} → WorkSteps disk_of file number count (devices old out)
+  pub summary_of : {file : List ℕ} {old : State}
+      → WorkSteps disk_of file (jobs_numbered number count) (devices old out)
       (devices z put) end
       → IsTrue (has_worked (status_at end)) → PutsSummary count (status_at end) out after
   summary_of (inl (is, same)) worked = elim is.which as (λ _. PutsSummary count (status_at end) out after) [
@@ -85,7 +87,8 @@ module _ {D : Type 0} (disk_of : D → State) (number count : ℕ) (z : State) (
   ]
   summary_of (inr x) worked = by x.steps
     where
-      by : OpenWorkSteps disk_of number count (devices (disk_of x.first) out) (devices z put) end
+      by : OpenWorkSteps disk_of (jobs_numbered number count) (devices (disk_of x.first) out)
+          (devices z put) end
           → PutsSummary count (status_at end) out after
       by (inl (inl is, same)) = unworked (Err (stop_of is.fault)) is.ended
           (unworked_refusal (status_of (stop_of is.fault)) (status_unopened is.fault)) worked

@@ -29,7 +29,7 @@ use Rattle.work_maker.specs.Jobs.{jobs}
 use Rattle.work_maker.proofs.ListLaws.{how_many}
 use Rattle.work_session.specs.Works.{ArePaidLines, HasDone, HasStopped, IsJobImage}
 use Rattle.work_session.specs.declared.summary.Summary.{Summary}
-use Rattle.work_command.specs.Steps.{jobs_of}
+use Rattle.work_command.specs.Steps.{jobs_of, jobs_numbered}
 use Rattle.served_file.specs.Served.{EndsTight, IsNextStart, OpensTo, OpensToBeing, OpensToKept, Starts, limits_with, most_left, turn_opened, found_with}
 use Rattle.command_face.specs.Outcomes.{PutsLast}
 use Rattle.work_command.specs.Summaries.{summary_text}
@@ -179,7 +179,7 @@ module _ (t : choice.SlotTable) (m : Map) (b : Book) (old : State) (lawful : IsL
           image (requests_low t u.k s.in_use.sequence op.most)) left)
 
       -- the disk failed in a job
-      pub in_a_job : HasStopped CLASSES s (jobs_of number count s) mid z
+      pub in_a_job : HasStopped CLASSES s (jobs_of (jobs_numbered number count) s) mid z
           → WorkHolds (found_with u t m b) number count 7 (devices old out) (devices z after)
       in_a_job x = record {
         start = start;
@@ -220,9 +220,9 @@ module _ (t : choice.SlotTable) (m : Map) (b : Book) (old : State) (lawful : IsL
       }
 
       -- all jobs were done
-      module _ (x : Summary) (d : HasDone CLASSES s (jobs_of number count s) mid z x) where
+      module _ (x : Summary) (d : HasDone CLASSES s (jobs_of (jobs_numbered number count) s) mid z x) where
         abbrev requests : List Request
-        requests = jobs_of number count s
+        requests = jobs_of (jobs_numbered number count) s
 
         chain_d : Chain (limits_of s) start requests d.replies d.states
         chain_d = d.ran.chain op.told

@@ -19,7 +19,7 @@ use Rattle.store_model.specs.Opened.{IsFoundImage, IsOpening, LeavesRoom, RestsO
 use Rattle.reopen.specs.declared.fault.OpenFault.{OpenFault}
 use Rattle.reopen.specs.declared.fault.OpenFault.TheVariants as opening
 use Rattle.store_model.specs.Plain.{IsPlain}
-use Rattle.work_command.specs.Steps.{OpenWorkSteps, WorkSteps, IsAllDone, IsNotBegun, IsRefusal, IsStopped}
+use Rattle.work_command.specs.Steps.{OpenWorkSteps, WorkSteps, IsAllDone, IsNotBegun, IsRefusal, IsStopped, jobs_numbered}
 use Rattle.command_face.specs.Refusing.{stop_of}
 use Rattle.served_file.specs.Served.{IsNextStart, Starts, found_with}
 use Rattle.command_face.specs.Outcomes.{PutsLast, line_at, status_at, status_of}
@@ -129,7 +129,7 @@ module _ (t : choice.SlotTable) (m : Map) (b : Book) (old : State) (lawful : IsL
           carried (Err stop.NoMemory) x.ended (over_block 10 op
           (none_done t m b old lawful o number count out after op 10 refl refl))
 
-      in_job : IsStopped disk_of number count first z end → Works (status_at end)
+      in_job : IsStopped disk_of (jobs_numbered number count) first z end → Works (status_at end)
       in_job x =
           let op : Opened t m b old (disk_of x.mid) x.store =
           opened_by t m b old first mount told o (disk_of x.mid) x.store calm_mount x.opening in
@@ -138,7 +138,8 @@ module _ (t : choice.SlotTable) (m : Map) (b : Book) (old : State) (lawful : IsL
 
       -- ---- all jobs were done
 
-      summed : IsAllDone disk_of number count (devices first out) (devices z put) end → PutsEnd end → Works
+      summed : IsAllDone disk_of (jobs_numbered number count) (devices first out) (devices z put) end
+          → PutsEnd end → Works
           (status_at end)
       summed x line = by end refl x.only
         where
@@ -163,7 +164,7 @@ module _ (t : choice.SlotTable) (m : Map) (b : Book) (old : State) (lawful : IsL
   -- ---- all of them
 
   pub works : (file : List ℕ) (end : Result (Unit {0}) StopReason)
-      → WorkSteps disk_of file number count (devices old out) (devices z put) end
+      → WorkSteps disk_of file (jobs_numbered number count) (devices old out) (devices z put) end
       → PutsEnd end
       → Works (status_at end)
   works c end (inl (is, same)) line = elim is.which as (λ _. Works (status_at end)) [
@@ -174,8 +175,8 @@ module _ (t : choice.SlotTable) (m : Map) (b : Book) (old : State) (lawful : IsL
   ]
   works c end (inr x) line = by x.steps
     where
-      by : OpenWorkSteps disk_of number count (devices (disk_of x.first) out) (devices z put) end → Works
-          (status_at end)
+      by : OpenWorkSteps disk_of (jobs_numbered number count) (devices (disk_of x.first) out)
+          (devices z put) end → Works (status_at end)
       by (inl (inl is, same)) = refusal (disk_of x.first) x.mount x.calm end is
       by (inl (inr (inl is), same)) = not_begun (disk_of x.first) x.mount x.calm end is
       by (inl (inr (inr is), same)) = in_job (disk_of x.first) x.mount x.calm end is

@@ -20,9 +20,17 @@ use Rattle.work_command.specs.Summaries.{summary_text}
 use Rattle.command_face.specs.declared.stop.StopReason.{StopReason}
 use Rattle.command_face.specs.declared.stop.StopReason.TheVariants as stop
 
--- the jobs of a number for a store
-abbrev pub jobs_of : ℕ → ℕ → StoreValue → List Request
-jobs_of number count s = jobs number count s.in_use.block.names
+-- which jobs are asked for: those of a number, and how many
+pub record NumberedJobs : Type 0 where
+  pub number : ℕ
+  pub count : ℕ
+
+abbrev pub jobs_numbered : ℕ → ℕ → NumberedJobs
+jobs_numbered number count = record { number = number; count = count }
+
+-- these jobs for a store
+abbrev pub jobs_of : NumberedJobs → StoreValue → List Request
+jobs_of asked s = jobs asked.number asked.count s.in_use.block.names
 
 -- the file wasn't opened
 pub record IsRefusal (before now : State) (end : Result (Unit {0}) StopReason) : Type 0 where
@@ -37,34 +45,34 @@ pub record IsNotBegun (before now : State) (end : Result (Unit {0}) StopReason) 
   pub ended : end ≡ Err stop.NoMemory
 
 -- It was opened, at `mid`, and the disk failed in a job.
-pub record IsStopped {D : Type 0} (disk_of : D → State) (number count : ℕ) (before now : State)
+pub record IsStopped {D : Type 0} (disk_of : D → State) (asked : NumberedJobs) (before now : State)
     (end : Result (Unit {0}) StopReason) : Type 0 where
   pub store : StoreValue
   pub mid : D
   pub opening : IsOpening CLASSES before (disk_of mid) (Ok store)
-  pub stopped : HasStopped CLASSES store (jobs_of number count store) (disk_of mid) now
+  pub stopped : HasStopped CLASSES store (jobs_of asked store) (disk_of mid) now
   pub ended : end ≡ Err stop.Disk
 
 -- It was opened, at `mid`, all jobs were done, and their summary was put, unless the sink failed.
-pub record IsAllDone {D : Type 0} (disk_of : D → State) (number count : ℕ) (before now : Devices)
+pub record IsAllDone {D : Type 0} (disk_of : D → State) (asked : NumberedJobs) (before now : Devices)
     (end : Result (Unit {0}) StopReason) : Type 0 where
   pub store : StoreValue
   pub mid : D
   pub opening : IsOpening CLASSES before.disk (disk_of mid) (Ok store)
   pub summary : Summary
-  pub done : HasDone CLASSES store (jobs_of number count store) (disk_of mid) now.disk summary
+  pub done : HasDone CLASSES store (jobs_of asked store) (disk_of mid) now.disk summary
   pub puts : IsTrue before.sink.tells → Puts before.sink.given now.sink.given (summary_text summary) end
   pub only : OnErr end (end ≡ Err stop.Sink)
   pub cause : HasCause before.sink.faults now.sink.faults end
   pub told : now.sink.tells ≡ before.sink.tells
 
 -- The jobs over an open file went so; but for a summary nothing was put.
-abbrev pub OpenWorkSteps : {D : Type 0} → (D → State) → ℕ → ℕ → Devices → Devices
+abbrev pub OpenWorkSteps : {D : Type 0} → (D → State) → NumberedJobs → Devices → Devices
     → Result (Unit {0}) StopReason → Type 0
-OpenWorkSteps disk_of number count before now end =
+OpenWorkSteps disk_of asked before now end =
     ((IsRefusal before.disk now.disk end ⊎ IsNotBegun before.disk now.disk end
-    ⊎ IsStopped disk_of number count before.disk now.disk end) × (now.sink ≡ before.sink))
-    ⊎ IsAllDone disk_of number count before now end
+    ⊎ IsStopped disk_of asked before.disk now.disk end) × (now.sink ≡ before.sink))
+    ⊎ IsAllDone disk_of asked before now end
 
 -- The file wasn't mounted.
 pub record IsNotMounted (file : List ℕ) (before now : State) (end : Result (Unit {0}) StopReason)
@@ -74,17 +82,17 @@ pub record IsNotMounted (file : List ℕ) (before now : State) (end : Result (Un
   pub which : IsNotThere file before now (end ≡ Err stop.Disk) (end ≡ Err stop.NoFile)
 
 -- It was mounted, at `first`, and the jobs over it went so.
-pub record IsWorked {D : Type 0} (disk_of : D → State) (file : List ℕ) (number count : ℕ)
+pub record IsWorked {D : Type 0} (disk_of : D → State) (file : List ℕ) (asked : NumberedJobs)
     (before now : Devices) (end : Result (Unit {0}) StopReason) : Type 0 where
   pub first : D
   pub mount : AfterMount before.disk (disk_of first)
   pub there : (disk_of first).last_mount ≡ mounted file false There
   pub calm : (disk_of first).faults ≡ before.disk.faults
-  pub steps : OpenWorkSteps disk_of number count (devices (disk_of first) before.sink) now end
+  pub steps : OpenWorkSteps disk_of asked (devices (disk_of first) before.sink) now end
 
 -- A command that does jobs went so; where its file wasn't mounted, nothing was put.
-abbrev pub WorkSteps : {D : Type 0} → (D → State) → List ℕ → ℕ → ℕ → Devices → Devices
+abbrev pub WorkSteps : {D : Type 0} → (D → State) → List ℕ → NumberedJobs → Devices → Devices
     → Result (Unit {0}) StopReason → Type 0
-WorkSteps disk_of file number count before now end =
+WorkSteps disk_of file asked before now end =
     (IsNotMounted file before.disk now.disk end × (now.sink ≡ before.sink))
-    ⊎ IsWorked disk_of file number count before now end
+    ⊎ IsWorked disk_of file asked before now end

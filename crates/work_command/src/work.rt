@@ -4,7 +4,7 @@ ghost use Rattle.size_class.specs.declared.TheConstants.{CLASSES};
 ghost use Rattle.store_model.specs.Connection.{IsConnected};
 ghost use Rattle.store_model.specs.Opened.{IsFresh, IsOpening};
 ghost use Rattle.command_face.specs.Mounting.{IsMounted};
-ghost use Rattle.work_command.specs.Steps.{OpenWorkSteps, WorkSteps};
+ghost use Rattle.work_command.specs.Steps.{OpenWorkSteps, WorkSteps, jobs_numbered};
 ghost use Rattle.served_file.specs.Unserved.{IsRefusedService, NeverServed};
 ghost use Rattle.command_face.specs.Outcomes.{Ends};
 ghost use Rattle.disk_face.specs.Devices.{devices};
@@ -60,7 +60,8 @@ fn work_over<B: Bay, O: Sink>(
     requires none { (B.state bay.old).last_mount ≡ None }
     requires least { 1 ≤ count }
     requires most { count ≤ 1000000 }
-    ensures { WorkSteps B.state file.now number count (devices (B.state bay.old) (O.state output.old))
+    ensures { WorkSteps B.state file.now (jobs_numbered number count)
+        (devices (B.state bay.old) (O.state output.old))
         (devices (B.state bay.new) (O.state output.new)) result }
 {
     match mount_there(bay, file) {
@@ -80,7 +81,8 @@ fn work_from<D: Disk, O: Sink>(
     requires ready { IsTrue (D.state disk.old).is_ready }
     requires least { 1 ≤ count }
     requires most { count ≤ 1000000 }
-    ensures { OpenWorkSteps D.state number count (devices (D.state disk.old) (O.state output.old))
+    ensures { OpenWorkSteps D.state (jobs_numbered number count)
+        (devices (D.state disk.old) (O.state output.old))
         (devices (D.state disk.new) (O.state output.new)) result }
 {
     match Store::open(alloc, disk) {
@@ -104,7 +106,7 @@ fn work_store<D: Disk, O: Sink>(
     requires least { 1 ≤ count }
     requires most { count ≤ 1000000 }
     ensures { (first : D) → IsOpening CLASSES (D.state first) (D.state disk.old) (Ok store)
-        → OpenWorkSteps D.state number count (devices (D.state first) (O.state output.old))
+        → OpenWorkSteps D.state (jobs_numbered number count) (devices (D.state first) (O.state output.old))
         (devices (D.state disk.new) (O.state output.new)) result }
 {
     match do_work(alloc, store, disk, number, count) {
