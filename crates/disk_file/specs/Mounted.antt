@@ -43,6 +43,14 @@ pub record HasName (usage : Use) (answer : Mounted) (s : State) (marks : Marks) 
 abbrev pub IsAtRest : Use → Mounted → State → Type 0
 IsAtRest usage answer s = usage ≡ meant.Changing → IsTrue (has_file answer) → IsTrue s.tells → Rests s
 
+-- What a mount leaves of a file that it found or made: its lock is held, no standard stream uses it, and one
+-- that may be changed is at rest, with a name that is safe.
+pub record IsTaken (usage : Use) (answer : Mounted) (old new : Marks) (s : State) : Type 0 where
+  pub held : IsTrue old.tells → IsHeld usage answer new
+  pub own : IsTrue old.tells → IsTrue (has_file answer) → IsFalse (old.is_stream usage)
+  pub rests : IsAtRest usage answer s
+  pub named : IsTrue old.tells → HasName usage answer s new
+
 -- Nothing stands in the way of a mount: nobody else holds the file, and the name is that of a file, or of
 -- nothing, where what is to be made may be changed.
 pub record CanMount (usage : Use) (make : Bool) (name : List ℕ) (marks : Marks) : Type 0 where

@@ -4,7 +4,7 @@ ghost use Rattle.disk_face.specs.Frames.{AfterMount};
 ghost use Rattle.disk_face.specs.Moments.{Rests};
 ghost use Rattle.disk_face.specs.Mounts.{has_file};
 ghost use Rattle.disk_file.specs.Hosts.{SameHold, SameWorld, can_open, opened_by};
-ghost use Rattle.disk_file.specs.Mounted.{CanMount, HasName, IsAtRest, IsHeld};
+ghost use Rattle.disk_file.specs.Mounted.{CanMount, IsTaken};
 
 use crate::cause::Cause;
 use crate::host::{Host, How, Kind, Use};
@@ -25,12 +25,8 @@ pub fn find_or_make<H: Host>(
     ensures made { result ≡ Ok Mounted.Made
         → IsTrue make × (IsTrue (H.state host.old).tells → (H.state host.new).file ≡ []) }
     ensures absent { result ≡ Ok Mounted.Absent → IsFalse make }
-    ensures held { IsTrue (H.marks host.old).tells → IfOk result (λ a. IsHeld usage a (H.marks host.new)) }
-    ensures own { IsTrue (H.marks host.old).tells → IfOk result (λ a. IsTrue (has_file a)
-        → IsFalse ((H.marks host.old).is_stream usage)) }
-    ensures rests { IfOk result (λ a. IsAtRest usage a (H.state host.new)) }
-    ensures named { IsTrue (H.marks host.old).tells
-        → IfOk result (λ a. HasName usage a (H.state host.new) (H.marks host.new)) }
+    ensures taken { IfOk result (λ a. IsTaken usage a (H.marks host.old) (H.marks host.new)
+        (H.state host.new)) }
     ensures serves { IsFalse (H.marks host.old).may_fail → CanMount usage make name.now (H.marks host.old)
         → IsOk result }
     ensures frame { AfterMount (H.state host.old) (H.state host.new) }
