@@ -20,7 +20,7 @@ use Rattle.store_core.specs.declared.store.Store.TheInside.{Inside}
 use Rattle.store_core.specs.Answers.{facts_at, refused_by}
 use Rattle.store_model.specs.Connection.{IsConnected, IsOver, StoreValue, limits_of}
 use Rattle.store_core.specs.Flushes.{ServesChange}
-use Rattle.store_model.specs.Flushing.{BeforeChange, CanMakeFlush, HasMadeFlush, IsBegun, bytes_of, flight_of}
+use Rattle.store_model.specs.Flushing.{BeforeChange, CanMakeFlush, HasMadeFlush, IsBegun, bytes_of, flight_of, lift_start}
 use Rattle.store_core.specs.Inside.{IsWhole, kept_of}
 use Rattle.store_model.specs.Quiet.{charges_of}
 use Rattle.store_model.specs.States.{refusal}
@@ -66,7 +66,7 @@ module _ {C : ℕ} (s : Inside C) (t : StoreValue) (is : kept_of s ≡ t) (whole
   over_here told = subst (λ (x : StoreValue). IsOver C x a.file) (sym is) (over can.whole told)
 
   pub flush_can_run : (x : HandsValue) × (e : Change) × (g : BeforeChange)
-      × CanMakeFlush C x e g (parts_of hands1) p place bytes a
+      × CanMakeFlush C x e g (parts_of hands1) (lift_start p place) bytes a
   flush_can_run =
       let any = some_flight s whole unbroken c (parts_of hands1) p place bytes begun can.named object fresh a
       over_here in
@@ -74,7 +74,7 @@ module _ {C : ℕ} (s : Inside C) (t : StoreValue) (is : kept_of s ≡ t) (whole
 
   module _ (hands2 : Hands C) (d : disk.State)
       (left : (x : HandsValue) (e : Change) (g : BeforeChange)
-      → CanMakeFlush C x e g (parts_of hands1) p place bytes a
+      → CanMakeFlush C x e g (parts_of hands1) (lift_start p place) bytes a
       → IsTrue a.tells → LeavesOldOrNew (flight_of C x e p.numbers.reach g) (hands2.slots.sequence + 1) a d)
       (made : HasMadeFlush p.numbers.boundary p.items a d (parts_of hands1) (parts_of hands2))
       (needs_flush : is_quiet (charges_of t c) ≡ false) where
@@ -102,7 +102,7 @@ module _ {C : ℕ} (s : Inside C) (t : StoreValue) (is : kept_of s ≡ t) (whole
         (λ sound. absurd (cc)) refl
 
     module _ (ends : (x : HandsValue) (e : Change) (g : BeforeChange)
-        → CanMakeFlush C x e g (parts_of hands1) p place bytes a
+        → CanMakeFlush C x e g (parts_of hands1) (lift_start p place) bytes a
         → FlushEnds C (flight_of C x e p.numbers.reach g) (parts_of hands2) d)
         (low : hands1.slots.sequence + 1 ≤ hands2.slots.sequence)
         (high : hands2.slots.sequence ≤ hands1.slots.sequence + 2 * hands1.slots.block.k)

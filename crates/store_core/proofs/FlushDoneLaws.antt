@@ -34,7 +34,7 @@ use Rattle.store_core.specs.declared.store.Store.TheInside.{Inside}
 use Rattle.store_model.specs.Connection.{IsOver, StoreValue, RestsOnTable, base_of, limits_of, state_of}
 use Rattle.store_model.specs.Flushed.{IsFlushed}
 use Rattle.store_core.specs.Flushes.{IsFlush, IsFlushImage, flush_boundary, map_after, names_after, size_after}
-use Rattle.store_model.specs.Flushing.{CanMakeFlush, BeforeChange, flight_of}
+use Rattle.store_model.specs.Flushing.{CanMakeFlush, BeforeChange, flight_of, lift_start}
 use Rattle.store_core.specs.Inside.{IsWhole, kept_of}
 use Rattle.store_model.specs.Quiet.{asked_after, charges_of}
 use Rattle.store_model.specs.States.{Facts, State, Step, refusal}
@@ -209,7 +209,7 @@ module _ {C : ℕ} (s : Inside C) (c : Change) (hands1 : Hands C) (p : PlanState
   -- ---- where it was done
 
   module _ (ends : (x : HandsValue) (e : Change) (g : BeforeChange)
-      → CanMakeFlush C x e g (parts_of hands1) p place bytes a
+      → CanMakeFlush C x e g (parts_of hands1) (lift_start p place) bytes a
       → FlushEnds C (flight_of C x e p.numbers.reach g) (parts_of hands2) d)
       (low : hands1.slots.sequence + 1 ≤ hands2.slots.sequence)
       (high : hands2.slots.sequence ≤ hands1.slots.sequence + 2 * hands1.slots.block.k)
@@ -217,7 +217,7 @@ module _ {C : ℕ} (s : Inside C) (c : Change) (hands1 : Hands C) (p : PlanState
       abbrev done_inside : Inside C
       done_inside = record s { hands = hands2; kept_layout = hands2.layout }
 
-      any : (g : BeforeChange) × CanMakeFlush C x0 c g (parts_of hands1) p place bytes a
+      any : (g : BeforeChange) × CanMakeFlush C x0 c g (parts_of hands1) (lift_start p place) bytes a
       any = some_flight s w.whole w.unbroken c (parts_of hands1) p place bytes w.begun w.name w.object
           w.fresh a w.over
 
@@ -348,7 +348,7 @@ module _ {C : ℕ} (s : Inside C) (c : Change) (hands1 : Hands C) (p : PlanState
   })) a d (Err why)) is (failed_flush s c hands1 p place bytes hands2 a d w why fault cause)
 
   module _ (ends : (x : HandsValue) (e : Change) (g : BeforeChange)
-      → CanMakeFlush C x e g (parts_of hands1) p place bytes a
+      → CanMakeFlush C x e g (parts_of hands1) (lift_start p place) bytes a
       → FlushEnds C (flight_of C x e p.numbers.reach g) (parts_of hands2) d)
       (low : hands1.slots.sequence + 1 ≤ hands2.slots.sequence)
       (high : hands2.slots.sequence ≤ hands1.slots.sequence + 2 * hands1.slots.block.k)

@@ -31,7 +31,7 @@ use Rattle.change_charges.proofs.SizedLaws.{sized_read}
 use Rattle.store_core.specs.declared.store.Store.TheInside.{Inside}
 use Rattle.store_model.specs.Connection.{IsOver, StoreValue, RestsOnTable, base_of, kept_map}
 use Rattle.store_core.specs.Flushes.{IsFlushImage, book_after, map_after}
-use Rattle.store_model.specs.Flushing.{CanMakeFlush, IsBegun, NeedsFlushAt, MayBegin, BeforeChange, bytes_of, flight_of}
+use Rattle.store_model.specs.Flushing.{CanMakeFlush, IsBegun, NeedsFlushAt, MayBegin, BeforeChange, bytes_of, flight_of, lift_start}
 use Rattle.store_core.specs.Inside.{IsWhole, kept_of}
 use Rattle.store_core.specs.Keeps.{now_map}
 use Rattle.store_model.specs.Quiet.{charges_of, del_of, put_of}
@@ -135,7 +135,7 @@ module _ {C : ℕ} (s : Inside C) (whole : IsWhole s) (unbroken : s.broken ≡ f
       (a : disk.State) where
     module _ (over : IsOver C ks a.file) (rests : Bool)
         (given : IsTrue rests → RestsOnTable (base_of ks) ks.kept a) where
-      pub can_fly : CanMakeFlush C x0 c (setting a.file rests) x p place bytes a
+      pub can_fly : CanMakeFlush C x0 c (setting a.file rests) x (lift_start p place) bytes a
       can_fly = record {
         kept_grid = grid_of s.kept_layout;
         may = may_begin;
@@ -179,7 +179,7 @@ module _ {C : ℕ} (s : Inside C) (whole : IsWhole s) (unbroken : s.broken ≡ f
       kept_map = kept_map ks a.file;
       kept_book = ks.kept_book;
       is_at_rest = false;
-    }) x p place bytes a
+    }) x (lift_start p place) bytes a
     can_fly_untold none = record {
       kept_grid = grid_of s.kept_layout;
       may = may_begin;
@@ -193,9 +193,9 @@ module _ {C : ℕ} (s : Inside C) (whole : IsWhole s) (unbroken : s.broken ≡ f
     }
 
     pub some_flight : (IsTrue a.tells → IsOver C ks a.file) → (g : BeforeChange) × CanMakeFlush C x0 c g
-        x p place bytes a
+        x (lift_start p place) bytes a
     some_flight over = elim (cases_Bool a.tells) as (λ _. (g : BeforeChange)
-        × CanMakeFlush C x0 c g x p place bytes a) [
+        × CanMakeFlush C x0 c g x (lift_start p place) bytes a) [
           | inl told ↦ (
             setting a.file false,
             can_fly (over told) false (λ t. absurd (let e : false ≡ true = t in cc)),

@@ -27,7 +27,7 @@ use Rattle.flush_run.specs.Parts.{HandsValue, parts_of, size_in}
 use Rattle.store_core.specs.declared.store.Store.TheInside.{Inside}
 use Rattle.store_model.specs.Connection.{IsOver, StoreValue}
 use Rattle.store_core.specs.Flushes.{names_after, size_after}
-use Rattle.store_model.specs.Flushing.{CanMakeFlush, HasMadeFlush, IsBegun, BeforeChange, bytes_of, flight_of, spots_after}
+use Rattle.store_model.specs.Flushing.{CanMakeFlush, HasMadeFlush, IsBegun, BeforeChange, bytes_of, flight_of, spots_after, lift_start}
 use Rattle.store_core.specs.Inside.{IsWhole, kept_of}
 use Rattle.store_model.specs.Quiet.{charges_of}
 
@@ -42,7 +42,7 @@ pub record IsFlown {C : ℕ} (s : Inside C) (c : Change) (hands1 : Hands C) (p :
   pub fresh : s.hands.slots.sequence < 2 ^ 61
   pub over : IsTrue a.tells → IsOver C (kept_of s) a.file
   pub left : (x : HandsValue) (e : Change) (g : BeforeChange)
-      → CanMakeFlush C x e g (parts_of hands1) p place bytes a
+      → CanMakeFlush C x e g (parts_of hands1) (lift_start p place) bytes a
       → IsTrue a.tells → LeavesOldOrNew (flight_of C x e p.numbers.reach g) (hands2.slots.sequence + 1) a d
   pub made : HasMadeFlush p.numbers.boundary p.items a d (parts_of hands1) (parts_of hands2)
 
@@ -69,7 +69,7 @@ sized_after m spots c place sized = by c.object
 
 pub items_total : {classes : ℕ} {x0 : HandsValue} {c : Change} {g : BeforeChange} {x : HandsValue} {p :
     PlanState} {place : ℕ}
-    {bytes : List ℕ} {a : disk.State} → CanMakeFlush classes x0 c g x p place bytes a → (m : Map)
+    {bytes : List ℕ} {a : disk.State} → CanMakeFlush classes x0 c g x (lift_start p place) bytes a → (m : Map)
     → IsSizedBy m x0.table.now → (q : ℕ) → p.numbers.boundary ≤ q
     → class_total p.items q ≡ slice_index (volumes (changed c m)) q
 items_total {classes} {x0} {c} {g} {x} {p} {place} can m sized q high =

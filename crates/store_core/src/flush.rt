@@ -13,7 +13,7 @@ ghost use Rattle.flush_run.specs.Parts.{HandsValue, parts_of};
 ghost use Rattle.flush_run.specs.Settling.{FlushEnds};
 ghost use Rattle.flush_run.specs.Shelved.{items_now, phase_now};
 ghost use Rattle.flush_plan.specs.Lifts.{KeepsLifting};
-ghost use Rattle.store_model.specs.Flushing.{CanMakeFlush, HasMadeFlush, BeforeChange, flight_of};
+ghost use Rattle.store_model.specs.Flushing.{CanMakeFlush, HasMadeFlush, BeforeChange, flight_of, lift_start};
 
 use crate::begin::{StartedFlush, start_change};
 use crate::plan::Charged;
@@ -75,16 +75,18 @@ pub(crate) fn make_flush<D: Disk, const C: usize>(
     requires fits { C ≤ 32 }
     requires start { (x0 : HandsValue) × (c : Change) × (g : BeforeChange)
         × CanMakeFlush C x0 c g (parts_of hands.old)
-        (phase_now begun.phase.course hands.old.table) begun.place bytes.now (D.state disk.old) }
+        (lift_start (phase_now begun.phase.course hands.old.table) begun.place) bytes.now (D.state disk.old) }
     requires keeps { KeepsLifting C begun.phase (items_now begun.phase.course hands.old.table) }
     ensures ends { (x0 : HandsValue) (c : Change) (g : BeforeChange)
         → CanMakeFlush C x0 c g (parts_of hands.old)
-        (phase_now begun.entry.phase.course hands.old.table) begun.entry.place bytes.now (D.state disk.old)
+        (lift_start (phase_now begun.entry.phase.course hands.old.table) begun.entry.place) bytes.now
+        (D.state disk.old)
         → OnOk result (FlushEnds C (flight_of C x0 c begun.entry.phase.course.numbers.reach g)
         (parts_of hands.new) (D.state disk.new)) }
     ensures left { (x0 : HandsValue) (c : Change) (g : BeforeChange)
         → CanMakeFlush C x0 c g (parts_of hands.old)
-        (phase_now begun.entry.phase.course hands.old.table) begun.entry.place bytes.now (D.state disk.old)
+        (lift_start (phase_now begun.entry.phase.course hands.old.table) begun.entry.place) bytes.now
+        (D.state disk.old)
         → IsTrue (D.state disk.old).tells
         → LeavesOldOrNew (flight_of C x0 c begun.entry.phase.course.numbers.reach g)
         (hands.new.slots.sequence + 1) (D.state disk.old) (D.state disk.new) }

@@ -31,7 +31,7 @@ use Rattle.flush_run.proofs.VersionLaws.{book_plain, fits_plain}
 use Rattle.flush_run.proofs.MoveLaws.{content_grown, left_grown, moved_within, opens_grown}
 use Rattle.change_charges.specs.Lifting.{BeginsLift}
 use Rattle.change_charges.specs.Sized.{object_size}
-use Rattle.store_model.specs.Flushing.{CanMakeFlush, HasMadeFlush, IsAtStart, BeforeChange, bytes_of, flight_of, spots_after}
+use Rattle.store_model.specs.Flushing.{CanMakeFlush, HasMadeFlush, IsAtStart, BeforeChange, bytes_of, flight_of, spots_after, lift_start}
 
 -- the size of a new object is the number of its bytes
 size_of_bytes : (c : Change) → object_size c.object ≡ length (bytes_of c)
@@ -56,7 +56,7 @@ opens_either f kept file may_leave o most few low = record {
 
 module _ {classes : ℕ} {x0 : HandsValue} {c : Change} {g : BeforeChange} {x : HandsValue} {p :
     PlanState} {place : ℕ}
-    {bytes : List ℕ} {a : disk.State} (can : CanMakeFlush classes x0 c g x p place bytes a) where
+    {bytes : List ℕ} {a : disk.State} (can : CanMakeFlush classes x0 c g x (lift_start p place) bytes a) where
   abbrev k : ℕ
   k = x0.in_use.block.k
 

@@ -176,19 +176,26 @@ pub record IsAtStart (classes : ℕ) (x : HandsValue) (c : Change) (reach : ℕ)
       reach = end_of x.in_use.block.k x.caps;
     }) x.table.kept d.file d.may_leave
 
+-- what lifting begins with: the plan, and the place of the new object
+pub record LiftStart : Type 0 where
+  pub plan : PlanState
+  pub place : ℕ
+
+abbrev pub lift_start : PlanState → ℕ → LiftStart
+lift_start plan place = record { plan = plan; place = place }
+
 -- A flush may make its device calls: the change was made in the table and the layout of these parts, and the
 -- disk is as it was before.
 pub record CanMakeFlush (classes : ℕ) (x0 : HandsValue) (c : Change) (g : BeforeChange) (x : HandsValue)
-    (p : PlanState) (place : ℕ)
-    (bytes : List ℕ) (d : disk.State) : Type 0 where
+    (lift : LiftStart) (bytes : List ℕ) (d : disk.State) : Type 0 where
   pub kept_grid : List (List ℕ)
   pub may : MayBegin classes kept_grid x0
-  pub begun : IsBegun classes x0 c x p place
+  pub begun : IsBegun classes x0 c x lift.plan lift.place
   pub sized : IsSizedBy g.map x0.table.now
   pub name : IsName c.name
   pub object : bytes_of c ≡ bytes
   pub fresh : x0.in_use.sequence < 2 ^ 61
-  pub start : IsTrue d.tells → IsAtStart classes x0 c p.numbers.reach g d
+  pub start : IsTrue d.tells → IsAtStart classes x0 c lift.plan.numbers.reach g d
 
 -- What a flush has made, whether or not it failed: of its parts only the slot in use, the table, the layout,
 -- the guard's spans and the bytes moved change; each name has an object of the same size; no byte of a class
