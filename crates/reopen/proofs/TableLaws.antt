@@ -7,10 +7,20 @@ use Rattle.slot_codec.specs.declared.codec.Header.{Header}
 use Rattle.slot_codec.specs.declared.codec.Kind.{Kind}
 use Rattle.slot_pair.specs.Finding.{Refuses}
 use Rattle.slot_pair.specs.declared.find.SlotFault.{SlotFault}
-use Rattle.slot_pair.proofs.RefusalLaws.{by_records, refuses_on, with_records}
+use Rattle.slot_pair.proofs.RefusalLaws.{by_records, no_header, refuses_on, with_records}
 use Rattle.extent_table.specs.Extents.{Spots}
 use Rattle.placement_model.specs.Laid.{laid}
 use Rattle.table_check.specs.Checked.{checked, of_kind}
+use Rattle.reopen.specs.Refusals.{RefusesBy}
+use Rattle.reopen.specs.declared.fault.OpenFault.{OpenFault}
+use Rattle.reopen.specs.declared.fault.OpenFault.TheVariants as fault
+
+-- a refusal of its header, or there was no memory for it
+pub no_header_there : (file : List ℕ) (why : OpenFault) → RefusesBy (chosen file) why
+    → RefusesBy (table_of file) why
+no_header_there file (fault.Slot f) h = no_header file f h
+no_header_there file (fault.Table broken) h = h
+no_header_there file fault.NoMemory h = h
 
 -- a refusal of its records
 pub no_records : (file : List ℕ) (c : Chosen) (why : SlotFault) → chosen file ≡ Ok c

@@ -16,6 +16,7 @@ use Rattle.table_rules.specs.Tables.{book_of}
 use Rattle.extent_table.specs.Extents.{IsTable, digests_seen, records_of}
 use Rattle.placement_model.specs.Laid.{laid}
 use Rattle.placement_model.specs.Reads.{read_at}
+use Rattle.reopen.specs.declared.state.BoxedLoaded.{BoxedLoaded}
 use Rattle.reopen.specs.declared.state.Loaded.{Loaded}
 use Rattle.reopen.specs.declared.state.State.{State}
 use Rattle.reopen.specs.declared.state.State.TheVariants as state
@@ -27,6 +28,17 @@ loaded_of (state.Moving x) = x
 abbrev pub kind_of : {C : ℕ} → State C → Kind
 kind_of (state.Still x) = kind.Settled
 kind_of (state.Moving x) = kind.Moving
+
+-- what was loaded, wherever its header and its layout stand
+abbrev pub unboxed : {C : ℕ} → BoxedLoaded C → Loaded C
+unboxed x =
+    record {
+      block = x.block;
+      slots = x.slots;
+      header = x.header.value;
+      table = x.table;
+      layout = x.layout.value;
+    }
 
 -- the digests of the table that was read: none in version 1
 abbrev pub digests_loaded : {C : ℕ} → Loaded C → Option choice.Digests

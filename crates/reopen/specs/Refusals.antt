@@ -3,7 +3,10 @@ use Rattle.std.specs.Prelude.{◌≡◌, ℕ, List, Result, Ok}
 use Rattle.size_class.specs.declared.TheConstants.{SIZE_MAX}
 use Rattle.slot_codec.specs.Choice as choice
 use Rattle.slot_codec.specs.Choice.{SlotRefusal}
+use Rattle.slot_codec.specs.declared.codec.Header.{Header}
 use Rattle.slot_pair.specs.Finding.{Refuses}
+use Rattle.extent_table.specs.Extents.{Spots}
+use Rattle.placement_model.specs.Laid.{laid}
 use Rattle.table_rules.specs.Opening.{placed_table}
 use Rattle.table_rules.specs.Rules.{FirstBroken}
 use Rattle.table_check.specs.declared.fault.TableFault.{TableFault}
@@ -27,3 +30,10 @@ abbrev pub RefusesBy : {A : Type 0} → Result A SlotRefusal → OpenFault → T
 RefusesBy expected (fault.Slot f) = Refuses expected f
 RefusesBy expected (fault.Table broken) = ⊥
 RefusesBy expected fault.NoMemory = Unit {0}
+
+-- the refusal is the first rule that a table breaks, unless there is no memory for its layout
+abbrev pub BreaksLaid : ℕ → ℕ → ℕ → Header → Spots → OpenFault → Type 0
+BreaksLaid classes k data_len header spots (fault.Slot f) = ⊥
+BreaksLaid classes k data_len header spots (fault.Table broken) =
+    FirstBroken (laid classes SIZE_MAX k data_len header spots) broken.rule broken.at
+BreaksLaid classes k data_len header spots fault.NoMemory = Unit {0}

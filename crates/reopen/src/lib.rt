@@ -1,10 +1,11 @@
 //! The state of a file: its slot in use, its table, and the layout in which the objects stand.
 #![tactic(auto)]
 
+mod boxed;
 mod fault;
 mod records;
 mod state;
 mod table;
 
 pub use fault::OpenFault;
-pub use state::{Loaded, State, read_state};
+pub use state::{BoxedLoaded, Loaded, State, load_state, read_state};

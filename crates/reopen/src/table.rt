@@ -2,15 +2,17 @@
 ghost use Rattle.std.specs.Prelude.{◌≡◌, ◌+◌, ◌*◌, ◌≤◌, Ok, IfOk, IfErr, IfSome, OnOk, IsTrue, length, vec_capacity, vec_len};
 ghost use Rattle.std.specs.FinMap as fin;
 ghost use Rattle.disk_face.specs.Frames.{Unchanged};
-ghost use Rattle.slot_codec.specs.Choice.{chosen, records_of, table_of};
+ghost use Rattle.slot_codec.specs.Choice.{chosen, records_of, slot_in_use, table_of};
+ghost use Rattle.slot_codec.specs.Readable.{IsSuperBlock};
 ghost use Rattle.slot_codec.specs.Spelling.{head_len, record_len};
-ghost use Rattle.slot_pair.specs.Finding.{HasDiskCause, Refuses, chosen_of};
+ghost use Rattle.slot_pair.specs.Finding.{HasDiskCause, Refuses, chosen_of, in_use_of};
 ghost use Rattle.extent_table.specs.Extents as extents;
 ghost use Rattle.reopen.specs.Records.{AreSet};
 ghost use Rattle.reopen.specs.Refusals.{RefusesBy};
-ghost use Rattle.reopen.specs.Tables.{IsFound, IsFoundIn, IsRead, IsReadFrom};
+ghost use Rattle.reopen.specs.Tables.{IsFound, IsFoundIn, IsHeader, IsRead, IsReadFrom};
 
 use crate::OpenFault;
+use crate::boxed::boxed;
 use crate::records::{RECORDS_A_READ, set_all};
 use disk_face::{Disk, length_of};
 use extent_table::{BulkLoad, Table};
@@ -24,7 +26,7 @@ use std::alloc::Global;
 #[derive(Drop)]
 pub(crate) struct TableRead {
     pub found: Found,
-    pub header: Header,
+    pub header: Box<Header>,
     pub table: Table,
     pub order: Vec<u32>,
     pub data_len: u64,
@@ -50,14 +52,14 @@ pub(crate) fn read_table<D: Disk>(alloc: Global, disk: &mut D) -> Result<TableRe
         (D.state disk.new).faults result }
     ensures frame { Unchanged (D.state disk.old) (D.state disk.new) }
 {
-    let (found, header) = match find_header(disk) {
+    let (found, header) = match find_header(alloc, disk) {
         Ok(found) => found,
-        Err(fault) => return Err(OpenFault::Slot(fault)),
+        Err(fault) => return Err(fault),
     };
     let Some(mut room) = room_for(alloc, found.block.names, header.version) else {
         return Err(OpenFault::NoMemory);
     };
-    if let Err(fault) = load_records(disk, &found, &header, &mut room.load, &mut room.buf) {
+    if let Err(fault) = load_records(disk, &found, &*header, &mut room.load, &mut room.buf) {
         return Err(OpenFault::Slot(fault));
     }
     let Ok(length) = length_of(disk) else {
@@ -76,20 +78,52 @@ pub(crate) fn read_table<D: Disk>(alloc: Global, disk: &mut D) -> Result<TableRe
 }
 
 /// The slot in use, with the sequence of its header, and its header.
-fn find_header<D: Disk>(disk: &mut D) -> Result<(Found, Header), SlotFault>
+fn find_header<D: Disk>(alloc: Global, disk: &mut D) -> Result<(Found, Box<Header>), OpenFault>
     requires ready { IsTrue (D.state disk.old).is_ready }
-    ensures found { IfOk result (λ r. IsFound r.0 r.1) }
+    ensures found { IfOk result (λ r. IsFound r.0 r.1.value) }
     ensures told { IsTrue (D.state disk.old).tells
-        → IfOk result (λ r. IsFoundIn (D.state disk.old).file r.0 r.1) }
+        → IfOk result (λ r. IsFoundIn (D.state disk.old).file r.0 r.1.value) }
     ensures refused { IsTrue (D.state disk.old).tells
-        → IfErr result (Refuses (chosen (D.state disk.old).file)) }
-    ensures cause { HasDiskCause SlotFault.Disk (D.state disk.old).faults (D.state disk.new).faults result }
+        → IfErr result (RefusesBy (chosen (D.state disk.old).file)) }
+    ensures cause { HasDiskCause (OpenFault.Slot SlotFault.Disk) (D.state disk.old).faults
+        (D.state disk.new).faults result }
     ensures frame { Unchanged (D.state disk.old) (D.state disk.new) }
 {
-    let found = choose(disk)?;
-    let header = read_chosen_header(disk, &found)?;
+    let found = match choose(disk) {
+        Ok(found) => found,
+        Err(fault) => return Err(OpenFault::Slot(fault)),
+    };
+    let header = header_of(alloc, disk, &found)?;
     let sequence = header.sequence;
     Ok((Found { sequence, ..found }, header))
+}
+
+/// The header of the slot in use that was found. On the stack it stands while it is read, and no longer.
+#[inline(never)]
+fn header_of<D: Disk>(alloc: Global, disk: &mut D, found: &Found) -> Result<Box<Header>, OpenFault>
+    requires ready { IsTrue (D.state disk.old).is_ready }
+    requires block { IsSuperBlock found.now.block }
+    requires slot { found.now.slot ≤ 1 }
+    requires long { IsTrue (D.state disk.old).tells
+        → head_len found.now.block.names ≤ length (D.state disk.old).file }
+    requires found { IsTrue (D.state disk.old).tells
+        → slot_in_use (D.state disk.old).file ≡ Ok (in_use_of found.now) }
+    ensures header { IfOk result (λ header. IsHeader found.now.block.names header.value) }
+    ensures read { IsTrue (D.state disk.old).tells
+        → IfOk result (λ header. chosen (D.state disk.old).file ≡ Ok (chosen_of found.now header.value)) }
+    ensures sequence { IsTrue (D.state disk.old).tells
+        → IfOk result (λ header. header.value.sequence ≡ found.now.sequence) }
+    ensures refused { IsTrue (D.state disk.old).tells
+        → IfErr result (RefusesBy (chosen (D.state disk.old).file)) }
+    ensures cause { HasDiskCause (OpenFault.Slot SlotFault.Disk) (D.state disk.old).faults
+        (D.state disk.new).faults result }
+    ensures frame { Unchanged (D.state disk.old) (D.state disk.new) }
+{
+    let read = read_chosen_header(disk, found);
+    match &read {
+        Ok(header) => boxed(alloc, header),
+        Err(fault) => Err(OpenFault::Slot(*fault)),
+    }
 }
 
 /// Sets the records of the slot in use in a table that has no names yet.

@@ -5,8 +5,8 @@ use Rattle.reopen.proofs.table.find_header.Goals as goal
 pub returns : goal.returns
 returns g c = grind (arith, common_steps)
 
-pub returns-in_err-found : goal.returns-in_err-found
-returns-in_err-found g c = grind (arith, common_steps)
+pub returns-in-Err : goal.returns-in-Err
+returns-in-Err g c = grind (arith, common_steps)
 
 pub returns-in_err-header : goal.returns-in_err-header
 returns-in_err-header g c = grind (arith, common_steps)

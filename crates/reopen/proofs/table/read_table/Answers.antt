@@ -2,15 +2,15 @@ use Rattle.std.proofs.Common.{ap, arith, IsTrue, subst, sym}
 use Rattle.std.proofs.lemmas.Grind.{common_steps}
 use Rattle.disk_face.proofs.FrameLaws.{Unchanged-trans}
 use Rattle.slot_codec.proofs.CapLaws.{cap-low}
-use Rattle.slot_pair.specs.Finding.{chosen_of}
+use Rattle.slot_codec.specs.Choice.{records_of}
+use Rattle.slot_pair.specs.Finding.{Refuses, chosen_of}
 use Rattle.extent_table.specs.Extents.{Extents}
-use Rattle.slot_pair.proofs.RefusalLaws.{no_header}
-use Rattle.reopen.proofs.TableLaws.{no_records}
+use Rattle.reopen.proofs.TableLaws.{no_header_there, no_records}
 use Rattle.reopen.proofs.table.read_table.Goals as goal
 
 pub returns-in-Err-clause-refused : goal.returns-in-Err-clause-refused
 returns-in-Err-clause-refused g c = λ told.
-    no_header (g.D.Disk.state c.args.disk.now).file c.in-Err.fault (c.in-Err.ensures.refused told)
+    no_header_there (g.D.Disk.state c.args.disk.now).file c.in-Err.fault (c.in-Err.ensures.refused told)
 
 pub returns-in-Err-load_records-clause-refused : goal.returns-in-Err-load_records-clause-refused
 returns-in-Err-load_records-clause-refused g c = λ told.
@@ -18,8 +18,10 @@ returns-in-Err-load_records-clause-refused g c = λ told.
     subst IsTrue (sym c.find_header.ensures.frame.stays.told) told in
     let same = c.find_header.ensures.frame.same_file told in
     let bad = rw same at (c.in-Err-load_records.ensures.refused told') in
-    no_records (g.D.Disk.state c.args.disk.now).file (chosen_of c.in-Ok.found.0 c.in-Ok.found.1)
-    c.in-Err-load_records.fault (c.in-Ok.ensures.told told).read bad
+    let file = (g.D.Disk.state c.args.disk.now).file in
+    let fault = c.in-Err-load_records.fault in
+    no_records file (chosen_of c.in-Ok.found.0 c.in-Ok.found.1.value) fault (c.in-Ok.ensures.told told).read
+    (subst (λ h. Refuses (records_of file (chosen_of c.in-Ok.found.0 h)) fault) c.deref-2.ensures bad)
 
 pub returns-in_default : goal.returns-in_default
 returns-in_default g c = grind (arith, common_steps)
@@ -29,7 +31,7 @@ narrow-requires-clause-low g c =
     let found = c.in-Ok.found.0 in
     omega (
       arith,
-      cap-low found.block.names c.in-Ok.found.1.version,
+      cap-low found.block.names c.deref-3.result.now.version,
       c.cap.ensures,
       c.keep.ensures.names,
       ap (λ (e : Extents). e.names) c.into_table-table.ensures,
