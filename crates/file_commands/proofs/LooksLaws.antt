@@ -1,11 +1,12 @@
 -- A step that looks at a file, and then asks for its length.
-use Rattle.std.specs.Prelude.{Ok, Err, refl}
+use Rattle.std.specs.Prelude.{◌≡◌, Result, Ok, Err, IfErr, refl}
 use Rattle.std.proofs.Common.{◌∙◌, arith, subst}
 use Rattle.disk_face.specs.Counts.{HasCause, Rose}
 use Rattle.disk_face.specs.Frames.{Unchanged}
 use Rattle.disk_face.specs.States.{State}
 use Rattle.disk_face.proofs.FrameLaws.{Unchanged-trans}
 use Rattle.command_face.specs.Layers.{Looks}
+use Rattle.command_face.specs.declared.stop.StopReason.{StopReason}
 use Rattle.command_face.specs.declared.stop.StopReason.TheVariants as stop
 
 module _ {T U A E : Type 0} (a b d : State) (x : T) (looks : Looks a b (Ok x)) (same : Unchanged b d) where
@@ -33,3 +34,25 @@ module _ {T U A E : Type 0} (a b d : State) (x : T) (looks : Looks a b (Ok x)) (
     };
     frame = Unchanged-trans looks.frame same;
   }
+
+-- what a step found is looked through, and no device is asked
+pub looks_through : {T U : Type 0} (a b : State) (x : T) → Looks a b (Ok x) → (r : Result U StopReason)
+    → IfErr r (λ why. why ≡ stop.Missing) → Looks a b r
+looks_through a b x looks (Ok y) only = record {
+  only = tt;
+  cause = record {
+    later = looks.cause.later;
+    rose = λ is. absurd (cc);
+    calm = λ other. looks.cause.calm (λ is. absurd (cc));
+  };
+  frame = looks.frame;
+}
+looks_through a b x looks (Err why) only = record {
+  only = (λ is. absurd (cc), λ is. absurd (cc), λ is. absurd (cc));
+  cause = record {
+    later = looks.cause.later;
+    rose = λ is. absurd (cc);
+    calm = λ other. looks.cause.calm (λ is. absurd (cc));
+  };
+  frame = looks.frame;
+}

@@ -1,7 +1,7 @@
 //! The command `check`: one line about the file.
 ghost use Rattle.std.specs.Prelude.{◌≡◌, ◌≢◌, ◌≤◌, None, Ok, Err, IfOk, IfErr, IsTrue, length};
 ghost use Rattle.disk_face.specs.Frames.{Unchanged};
-ghost use Rattle.reopen.specs.Loads.{KeepsLoaded, table_seen};
+ghost use Rattle.reopen.specs.Loads.{KeepsLoaded, table_seen, unboxed};
 ghost use Rattle.file_commands.specs.Getting.{StopsAs};
 ghost use Rattle.command_face.specs.Layers.{Answers, HasCausesAt, IsCommandReason, Looks, PutsNone};
 ghost use Rattle.file_commands.specs.Texts.{IsChecked, check_text, kind_text};
@@ -11,7 +11,7 @@ use crate::load::load;
 use arrayvec::ArrayVec;
 use command_face::{StopReason, push, put_whole};
 use disk_face::{Disk, Sink, length_of};
-use reopen::Loaded;
+use reopen::BoxedLoaded;
 use size_class::CLASSES;
 use slot_codec::{Kind, head_len};
 use std::alloc::Global;
@@ -55,9 +55,9 @@ fn store_line<D: Disk>(alloc: Global, disk: &mut D) -> Result<ArrayVec<u8, 4096>
 }
 
 /// The line about the file of a table, which has this length.
-fn line_of(loaded: &Loaded<CLASSES>, length: u64) -> ArrayVec<u8, 4096>
-    requires loaded { KeepsLoaded loaded.now }
-    ensures { result.items ≡ check_text (table_seen loaded.now None) length }
+fn line_of(loaded: &BoxedLoaded<CLASSES>, length: u64) -> ArrayVec<u8, 4096>
+    requires loaded { KeepsLoaded (unboxed loaded.now) }
+    ensures { result.items ≡ check_text (table_seen (unboxed loaded.now) None) length }
 {
     let data = length.saturating_sub(head_len(loaded.block.names));
     let count = loaded.table.count();

@@ -2,7 +2,7 @@
 ghost use Rattle.std.specs.Prelude.{◌≡◌, ◌≢◌, ◌+◌, ◌^◌, ◌<◌, ◌≤◌, List, ℕ, Ok, Err, IfOk, IfErr, IsTrue, length};
 ghost use Rattle.byte_ranges.specs.Ranges.{bytes_at};
 ghost use Rattle.disk_face.specs.Frames.{Unchanged};
-ghost use Rattle.reopen.specs.Loads.{IsLoadedFrom, KeepsLoaded};
+ghost use Rattle.reopen.specs.Loads.{IsLoadedFrom, KeepsLoaded, unboxed};
 ghost use Rattle.file_commands.specs.Getting.{IsObject, StopsAs};
 ghost use Rattle.command_face.specs.Layers.{Answers, HasCausesAt, IsCommandReason, Looks, PutsNone};
 
@@ -10,7 +10,7 @@ use crate::copy::{put_bytes, take_piece};
 use crate::load::load;
 use command_face::StopReason;
 use disk_face::{Disk, Sink};
-use reopen::Loaded;
+use reopen::BoxedLoaded;
 use size_class::CLASSES;
 use slot_codec::{Name, head_len};
 use std::alloc::Global;
@@ -57,16 +57,16 @@ fn locate<D: Disk>(alloc: Global, disk: &mut D, name: &Name) -> Result<(u64, u64
 }
 
 /// Where the object of a name begins in the file of a table, and how many bytes it has.
-fn spot_in(loaded: &Loaded<CLASSES>, name: &Name) -> Result<(u64, u64), StopReason>
-    requires loaded { KeepsLoaded loaded.now }
-    ensures found { (file : List ℕ) → IsLoadedFrom file loaded.now → IfOk result (λ at. IsObject name.now file
-        (Ok (bytes_at file at.0 at.1))) }
-    ensures within { (file : List ℕ) → IsLoadedFrom file loaded.now → IfOk result (λ at. at.0 + at.1
-        ≤ length file) }
+fn spot_in(loaded: &BoxedLoaded<CLASSES>, name: &Name) -> Result<(u64, u64), StopReason>
+    requires loaded { KeepsLoaded (unboxed loaded.now) }
+    ensures found { (file : List ℕ) → IsLoadedFrom file (unboxed loaded.now)
+        → IfOk result (λ at. IsObject name.now file (Ok (bytes_at file at.0 at.1))) }
+    ensures within { (file : List ℕ) → IsLoadedFrom file (unboxed loaded.now)
+        → IfOk result (λ at. at.0 + at.1 ≤ length file) }
     ensures ranges { IfOk result (λ at. at.0 + at.1 < 2 ^ 64) }
     ensures only { IfErr result (λ why. why ≡ StopReason.Missing) }
-    ensures missing { (file : List ℕ) → IsLoadedFrom file loaded.now → IfErr result (λ why. IsObject name.now
-        file (Err why)) }
+    ensures missing { (file : List ℕ) → IsLoadedFrom file (unboxed loaded.now)
+        → IfErr result (λ why. IsObject name.now file (Err why)) }
 {
     match loaded.table.get(name) {
         Some(spot) => Ok((head_len(loaded.block.names) + spot.place, spot.size)),

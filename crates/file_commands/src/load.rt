@@ -1,29 +1,29 @@
 //! The table of a file that a command only reads.
 ghost use Rattle.std.specs.Prelude.{IfOk, IfErr, IsTrue};
-ghost use Rattle.reopen.specs.Loads.{IsLoadedFrom, KeepsLoaded};
+ghost use Rattle.reopen.specs.Loads.{IsLoadedFrom, KeepsLoaded, unboxed};
 ghost use Rattle.command_face.specs.Refusing.{IsRefused, stop_of};
 ghost use Rattle.file_commands.specs.Getting.{StopsAs};
 ghost use Rattle.command_face.specs.Layers.{IsCommandReason, Looks};
 
 use command_face::{StopReason, stop_of};
 use disk_face::Disk;
-use reopen::{Loaded, State, read_state};
+use reopen::{BoxedLoaded, load_state};
 use size_class::CLASSES;
 use std::alloc::Global;
 
 /// The table of a file between requests, or within a flush that was interrupted.
-pub fn load<D: Disk>(alloc: Global, disk: &mut D) -> Result<Loaded<CLASSES>, StopReason>
+pub fn load<D: Disk>(alloc: Global, disk: &mut D) -> Result<BoxedLoaded<CLASSES>, StopReason>
     requires ready { IsTrue (D.state disk.old).is_ready }
-    ensures loaded { IfOk result KeepsLoaded }
-    ensures told { IsTrue (D.state disk.old).tells → IfOk result (IsLoadedFrom (D.state disk.old).file) }
+    ensures loaded { IfOk result (λ loaded. KeepsLoaded (unboxed loaded)) }
+    ensures told { IsTrue (D.state disk.old).tells
+        → IfOk result (λ loaded. IsLoadedFrom (D.state disk.old).file (unboxed loaded)) }
     ensures stopped { IsTrue (D.state disk.old).tells
         → IfErr result (StopsAs (IsRefused (D.state disk.old).file)) }
     ensures looks { Looks (D.state disk.old) (D.state disk.new) result }
     ensures plain { IfErr result IsCommandReason }
 {
-    match read_state(alloc, disk) {
-        Ok(State::Still(loaded)) => Ok(loaded),
-        Ok(State::Moving(loaded)) => Ok(loaded),
+    match load_state(alloc, disk) {
+        Ok(loaded) => Ok(loaded),
         Err(fault) => Err(stop_of(fault)),
     }
 }

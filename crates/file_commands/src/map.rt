@@ -10,7 +10,7 @@ ghost use Rattle.slot_codec.specs.Names.{IsName};
 ghost use Rattle.slot_codec.specs.Reading.{all_in_range};
 ghost use Rattle.table_check.specs.Frames.{AreSmall};
 ghost use Rattle.extent_table.specs.Extents.{IsTable, record_of, records_of};
-ghost use Rattle.reopen.specs.Loads.{KeepsLoaded, table_seen};
+ghost use Rattle.reopen.specs.Loads.{KeepsLoaded, table_seen, unboxed};
 ghost use Rattle.command_face.specs.Layers.{Answers, HasCausesAt, IsCommandReason, PutsNone};
 ghost use Rattle.file_commands.specs.Texts.{Gathers, IsMapped, class_line, map_text, moving_line, object_line};
 
@@ -20,7 +20,7 @@ use arrayvec::ArrayVec;
 use command_face::{StopReason, push};
 use disk_face::{Disk, Sink};
 use extent_table::{Spot, Table};
-use reopen::Loaded;
+use reopen::BoxedLoaded;
 use size_class::CLASSES;
 use slot_codec::{Header, Kind, Name};
 use std::alloc::Global;
@@ -43,18 +43,19 @@ pub fn map<D: Disk, O: Sink>(alloc: Global, disk: &mut D, output: &mut O) -> Res
 }
 
 /// Puts the lines of a table.
-fn put_map<O: Sink>(loaded: &Loaded<CLASSES>, output: &mut O) -> Result<(), StopReason>
-    requires loaded { KeepsLoaded loaded.now }
+fn put_map<O: Sink>(loaded: &BoxedLoaded<CLASSES>, output: &mut O) -> Result<(), StopReason>
+    requires loaded { KeepsLoaded (unboxed loaded.now) }
     ensures put { IsTrue (O.state output.old).tells
-        → Puts (O.state output.old).given (O.state output.new).given (map_text (table_seen loaded.now None))
-        result }
+        → Puts (O.state output.old).given (O.state output.new).given
+        (map_text (table_seen (unboxed loaded.now) None)) result }
     ensures only { OnErr result (result ≡ Err StopReason.Sink) }
     ensures told { (O.state output.new).tells ≡ (O.state output.old).tells }
     ensures cause { HasCause (O.state output.old).faults (O.state output.new).faults result }
 {
     let mut piece = ArrayVec::new();
-    push_moving(&mut piece, &loaded.header);
-    put_classes(&mut piece, loaded.block.k, &loaded.header, output)?;
+    let header = &*loaded.header;
+    push_moving(&mut piece, header);
+    put_classes(&mut piece, loaded.block.k, header, output)?;
     put_objects(&mut piece, &loaded.table, output)?;
     put_rest(&piece, output)
 }

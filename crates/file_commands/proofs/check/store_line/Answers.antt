@@ -1,6 +1,6 @@
 use Rattle.std.proofs.Common.{◌≡◌, ◌∙◌, IsTrue, Ok, ap, inr, length, rules, subst, sym}
 use Rattle.std.specs.Prelude.{None}
-use Rattle.reopen.specs.Loads.{table_seen}
+use Rattle.reopen.specs.Loads.{table_seen, unboxed}
 use Rattle.command_face.specs.Refusing.{IsRefused}
 use Rattle.file_commands.specs.Texts.{IsChecked, check_text}
 use Rattle.file_commands.proofs.AnswerLaws.{stops_more}
@@ -37,5 +37,5 @@ returns-clause-found g c = λ told.
     let file = (g.D.Disk.state c.args.disk.now).file in
     let long : c.in-Ok.length ≡ length file = c.in-Ok.ensures.length here ∙ ap length (same.same_file told) in
     subst (λ line. IsChecked file (Ok line))
-    (sym (c.line_of.ensures ∙ ap (check_text (table_seen c.in_ok-loaded.loaded None)) long))
-    (told_of check_text file c.in_ok-loaded.loaded (c.in_ok-loaded.ensures.told told))
+    (sym (c.line_of.ensures ∙ ap (check_text (table_seen (unboxed c.in_ok-loaded.loaded) None)) long))
+    (told_of check_text file (unboxed c.in_ok-loaded.loaded) (c.in_ok-loaded.ensures.told told))

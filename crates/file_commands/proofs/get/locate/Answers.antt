@@ -5,6 +5,7 @@ use Rattle.command_face.specs.declared.stop.StopReason.{StopReason}
 use Rattle.command_face.specs.declared.stop.StopReason.TheVariants as stop
 use Rattle.file_commands.specs.Getting.{IsObject, StopsAs}
 use Rattle.file_commands.proofs.AnswerLaws.{stops_more}
+use Rattle.file_commands.proofs.LooksLaws.{looks_through}
 use Rattle.file_commands.proofs.get.locate.Goals as goal
 
 pub returns-in_err-loaded-clause-stopped : goal.returns-in_err-loaded-clause-stopped
@@ -34,3 +35,8 @@ pub returns-clause-stopped : goal.returns-clause-stopped
 returns-clause-stopped g c told = stops (IsObject c.args.name.now (g.D.Disk.state c.args.disk.now).file)
     c.spot_in.result c.spot_in.ensures.only
     (c.spot_in.ensures.missing (g.D.Disk.state c.args.disk.now).file (c.in_ok-loaded.ensures.told told))
+
+pub returns-clause-looks : goal.returns-clause-looks
+returns-clause-looks g c =
+    looks_through (g.D.Disk.state c.args.disk.now) (g.D.Disk.state c.load.new.disk) c.in_ok-loaded.loaded
+    c.in_ok-loaded.ensures.looks c.spot_in.result c.spot_in.ensures.only

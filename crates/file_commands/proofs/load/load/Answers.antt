@@ -5,8 +5,5 @@ use Rattle.file_commands.proofs.load.load.Goals as goal
 pub returns-in-Err : goal.returns-in-Err
 returns-in-Err g c = grind (arith, common_steps)
 
-pub returns-in-Ok-Moving : goal.returns-in-Ok-Moving
-returns-in-Ok-Moving g c = grind (arith, common_steps)
-
-pub returns-in-Ok-Still : goal.returns-in-Ok-Still
-returns-in-Ok-Still g c = grind (arith, common_steps)
+pub returns-in-Ok : goal.returns-in-Ok
+returns-in-Ok g c = grind (arith, common_steps)

@@ -1,6 +1,6 @@
 use Rattle.std.proofs.Common.{inr, refl, rules}
 use Rattle.std.specs.Prelude.{None}
-use Rattle.reopen.specs.Loads.{table_seen}
+use Rattle.reopen.specs.Loads.{table_seen, unboxed}
 use Rattle.command_face.specs.Refusing.{IsRefused}
 use Rattle.file_commands.specs.Texts.{IsMapped, map_text}
 use Rattle.file_commands.proofs.AnswerLaws.{put_answer, stopped, stops_more}
@@ -21,7 +21,7 @@ returns-in_err-loaded-clause-answers g c = λ told.
 pub returns-clause-answers : goal.returns-clause-answers
 returns-clause-answers g c = λ told.
     let file = (g.D.Disk.state c.args.disk.now).file in
-    let x = c.in_ok-loaded.loaded in
+    let x = unboxed c.in_ok-loaded.loaded in
     put_answer (IsMapped file) (map_text (table_seen x None)) (g.O.Sink.state c.args.output.now)
     (g.O.Sink.state c.put_map.new.output) c.put_map.result
     (told_of (λ t len. map_text t) file x (c.in_ok-loaded.ensures.told told)) c.put_map.ensures.only
