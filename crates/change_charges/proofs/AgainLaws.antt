@@ -14,8 +14,8 @@ use Rattle.table_rules.specs.Tables.{Apart, TableInLayout, is_below_wall, is_suf
 use Rattle.extent_table.specs.declared.spot.Spot.{Spot}
 use Rattle.extent_table.specs.Extents.{Extents, IsTable, records_of}
 use Rattle.placement_model.specs.Laid.{laid, moving_header}
-use Rattle.placement_model.proofs.GoneLaws.{apart_by_name}
 use Rattle.placement_model.proofs.ReadLaws.{record_at}
+use Rattle.placement_model.proofs.EnterLaws.{apart_by_name}
 use Rattle.flush_model.specs.declared.item.Item.{Item}
 use Rattle.flush_model.specs.Phases.{AreObjects, PlanState}
 use Rattle.flush_model.specs.Plans.{IsPacked, ItemsApart, ItemsCanResume, sizes_over}

@@ -13,8 +13,7 @@ use Rattle.table_rules.specs.Suffixes.{Stands}
 use Rattle.extent_table.specs.declared.spot.Spot.{Spot}
 use Rattle.extent_table.specs.Extents.{Extents, record_of}
 use Rattle.placement_model.specs.Laid.{settled_table}
-use Rattle.placement_model.proofs.EnterLaws.{by_name}
-use Rattle.placement_model.proofs.GoneLaws.{apart_by_name}
+use Rattle.placement_model.proofs.EnterLaws.{by_name, apart_by_name}
 use Rattle.placement_model.proofs.SegmentLaws.{lies_parts}
 use Rattle.flush_model.specs.declared.item.Item.{Item}
 use Rattle.flush_model.specs.Begins.{Begins}

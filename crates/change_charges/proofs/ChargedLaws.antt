@@ -1,18 +1,17 @@
 -- What came of the charges of a change: of each item, of both, and the least class of what found no room.
-use Rattle.std.specs.Prelude.{◌≡◌, ◌⊎◌, ℕ, ◌^◌, ◌<◌, ◌≤◌, nat_lt, min, Bool, true, false, ◌&&◌, List, [], ◌∷◌, fold, Option, Some, None, IfSome, is_some, refl}
+use Rattle.std.specs.Prelude.{◌≡◌, ◌⊎◌, ℕ, ◌^◌, ◌<◌, ◌≤◌, nat_lt, min, Bool, false, ◌&&◌, List, [], ◌∷◌, fold, Option, Some, None, IfSome, is_some}
 use Rattle.std.proofs.Common.{arith, sym, ◌∙◌, ap, subst, inl, inr}
-use Rattle.std.proofs.lemmas.Bool.{cases_Bool, cases_lt, cond-false, cond-true}
+use Rattle.std.proofs.lemmas.Bool.{cases_Bool, cond-false, cond-true}
 use Rattle.std.proofs.lemmas.List.Folds.{list_all-append}
 use Rattle.std.proofs.lemmas.List.Sums.{fold-append}
 use Rattle.std.specs.FinMap as fin
 use Rattle.size_class.specs.Classes.{class_of}
-use Rattle.segment_layout.specs.Shapes.{buffer_for, with_entry}
-use Rattle.segment_layout.specs.Books.{Charged, charge_all, entered_at, is_quiet, some_size, trigger}
+use Rattle.segment_layout.specs.Books.{Charged, charge_all, is_quiet, some_size, trigger}
 use Rattle.extent_table.specs.declared.spot.Spot.{Spot}
 use Rattle.placement_model.specs.Quiet.{gone_items, is_in_payload}
 use Rattle.placement_model.proofs.LaidOutLaws.{class_in_use}
 use Rattle.placement_model.proofs.TriedLaws.{Tried, charged_found, charged_missed, charged_none, gone_tried, loud_grid, loud_missed, new_tried}
-use Rattle.placement_model.proofs.QuietLaws.{charge_all-split, some_size-some}
+use Rattle.placement_model.proofs.QuietLaws.{charge_all-split}
 use Rattle.placement_model.specs.Tried.{between, charged_by, gone_charged, new_charged, size_at}
 use Rattle.change_charges.specs.Charging.{PlacesNew, lesser}
 

@@ -25,8 +25,7 @@ use Rattle.extent_table.specs.Extents.{Extents, IsTable, Spots}
 use Rattle.placement_model.specs.Held.{IsFreed}
 use Rattle.placement_model.specs.Joins.{IsAlone}
 use Rattle.placement_model.specs.Laid.{laid, moving_header, settled_header}
-use Rattle.placement_model.proofs.EnterLaws.{by_name, inserted}
-use Rattle.placement_model.proofs.GoneLaws.{apart_by_name}
+use Rattle.placement_model.proofs.EnterLaws.{by_name, inserted, apart_by_name}
 use Rattle.placement_model.proofs.GuardLaws.{freed_past_new}
 use Rattle.placement_model.proofs.JoinLaws.{pending_below}
 use Rattle.placement_model.proofs.LaidOutLaws.{laid_below}

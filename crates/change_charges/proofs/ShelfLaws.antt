@@ -9,8 +9,8 @@ use Rattle.table_rules.specs.Tables.{HasFullRows}
 use Rattle.table_rules.proofs.SuffixLaws.{valid_for_suffix}
 use Rattle.extent_table.specs.Extents.{Extents}
 use Rattle.placement_model.specs.Laid.{laid, moving_header}
-use Rattle.placement_model.proofs.GoneLaws.{apart_by_name}
 use Rattle.placement_model.proofs.QuietLaws.{IsGrid-wider}
+use Rattle.placement_model.proofs.EnterLaws.{apart_by_name}
 use Rattle.flush_model.specs.Phases.{PlanState}
 use Rattle.flush_model.proofs.NumbersLaws.{item_begins}
 use Rattle.flush_run.specs.FlushFrames.{FlushFrame}

@@ -1,13 +1,12 @@
 -- A move of Lift: it lands past the wall, apart from all, within the reach; and what Lift leaves can be
 -- packed.
-use Rattle.std.specs.Prelude.{◌≡◌, ℕ, ◌+◌, ◌-◌, ◌<◌, ◌≤◌, nat_le, nat_lt, ◌==◌, ◌&&◌, not, true, Bool, cond, List, length, take, slice_index, Contains, IsTrue, refl}
+use Rattle.std.specs.Prelude.{◌≡◌, ℕ, ◌+◌, ◌-◌, ◌<◌, ◌≤◌, nat_le, nat_lt, ◌==◌, ◌&&◌, not, true, Bool, cond, List, length, Contains, IsTrue, refl}
 use Rattle.std.proofs.Common.{arith, sym, ap, subst, inl, inr}
 use Rattle.std.proofs.lemmas.Bool.{cases_Bool, cases_lt, cond-true, cond-false, leb-true, lt-ltb, le-ltb, le-leb, lt-leb, and_parts, and_from, and_left, and_right}
-use Rattle.std.proofs.lemmas.List.{get_or-take, length-take-le, take-take}
 use Rattle.size_class.specs.Classes.{width}
 use Rattle.size_class.proofs.ClassLaws.{class_below}
-use Rattle.segment_layout.specs.Shapes.{buffer_of, buffer_start, end_of, start_of}
-use Rattle.segment_layout.proofs.ShapeLaws.{start_of-le, start_of-rises}
+use Rattle.segment_layout.specs.Shapes.{buffer_start, end_of, start_of}
+use Rattle.segment_layout.proofs.ShapeLaws.{start_of-rises}
 use Rattle.flush_model.specs.declared.item.Item.{Item}
 use Rattle.flush_model.specs.declared.item.Move.{Move}
 use Rattle.flush_model.specs.declared.item.Numbers.{Numbers}

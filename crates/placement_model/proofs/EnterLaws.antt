@@ -100,6 +100,72 @@ turn r s (inr (inl e)) = inl e
 turn r s (inr (inr (inl e))) = inr (inr (inr e))
 turn r s (inr (inr (inr e))) = inr (inr (inl e))
 
+-- ---- records that share no byte
+
+-- no two records share a byte
+abbrev pub RecordsApart : Spots → Type 0
+RecordsApart spots = (i : ℕ) → i < length (records_of spots) → (h : ℕ) → h < i
+    → Apart (slice_index_or (records_of spots) h no_record) (slice_index_or (records_of spots) i no_record)
+
+-- records of two names share no byte, where those of two places don't
+pub apart_by_name : (spots : Spots) → AreNamed spots → RecordsApart spots
+    → (a c : List ℕ) (x y : Spot) → fin.get spots a ≡ Some x → fin.get spots c ≡ Some y
+    → same_name a c ≡ false → Apart (record_of (a, x)) (record_of (c, y))
+apart_by_name spots named apart a c x y is also differ =
+    let p = record_at spots named a x is in
+    let q = record_at spots named c y also in
+    elim (cases_lt p.0 q.0) as (λ z. Apart (record_of (a, x)) (record_of (c, y))) [
+      | inl under ↦ subst (λ z. Apart z (record_of (c, y))) p.2
+          (subst (λ z. Apart (slice_index_or (records_of spots) p.0 no_record) z) q.2
+          (apart q.0 q.1 p.0 under))
+      | inr rest ↦ elim (cases_lt q.0 p.0) as (λ z. Apart (record_of (a, x)) (record_of (c, y))) [
+        | inl over ↦ turn (record_of (c, y)) (record_of (a, x))
+            (subst (λ z. Apart z (record_of (a, x))) q.2
+            (subst (λ z. Apart (slice_index_or (records_of spots) q.0 no_record) z) p.2
+            (apart p.0 p.1 q.0 over)))
+        | inr back ↦
+            let e : p.0 ≡ q.0 = omega (arith, rest, back) in
+            let same : a ≡ c = ap (λ z. z.name)
+            (sym p.2 ∙ ap (λ i. slice_index_or (records_of spots) i no_record) e ∙ q.2) in
+            absurd (let tied : same_name a c ≡ true = ap (same_name a) (sym same) ∙ same_name-itself a in cc)
+      ]
+    ]
+
+-- a name's new object shares none with any other
+pub inserted_apart : (spots : Spots) → AreNamed spots → (name : List ℕ) → IsName name → (s : Spot)
+    → RecordsApart spots → ((q : List ℕ) (x : Spot) → fin.get spots q ≡ Some x → same_name q name ≡ false
+    → Apart (record_of (name, s)) (record_of (q, x))) → RecordsApart (fin.insert spots name s)
+inserted_apart spots named name is s apart alone i low h less =
+    let all = fin.insert spots name s in
+    let names = AreNamed-insert spots name s named is in
+    let r = slice_index_or (records_of all) h no_record in
+    let q = slice_index_or (records_of all) i no_record in
+    let o = spot_of_record all names h (omega (arith, less, low)) in
+    let p = spot_of_record all names i low in
+    let differ : same_name r.name q.name ≡ false = names_of_places all h i less low in
+    subst (λ x. Apart x q) (sym (spot_is all r o))
+    (subst (λ x. Apart (record_of (r.name, o.spot)) x) (sym (spot_is all q p))
+    (elim (inserted spots name r.name s o.spot o.is)
+    as (λ x. Apart (record_of (r.name, o.spot)) (record_of (q.name, p.spot))) [
+      | inl first ↦ elim (inserted spots name q.name s p.spot p.is)
+          as (λ x. Apart (record_of (r.name, o.spot)) (record_of (q.name, p.spot))) [
+            | inl second ↦ absurd (let same : same_name r.name q.name
+                ≡ true = (λ j. same_name (first.0 j) (second.0 j)) ∙ same_name-itself name in cc)
+            | inr second ↦ subst (λ (x : Spot). Apart (record_of (r.name, x)) (record_of (q.name, p.spot)))
+                (sym first.1) (alone q.name p.spot second.1 second.0)
+          ]
+      | inr first ↦ elim (inserted spots name q.name s p.spot p.is)
+          as (λ x. Apart (record_of (r.name, o.spot)) (record_of (q.name, p.spot))) [
+            | inl second ↦ subst (λ (x : Spot). Apart (record_of (r.name, o.spot)) (record_of (q.name, x)))
+                (sym second.1) (turn (record_of (name, s)) (record_of (r.name, o.spot))
+                (alone r.name o.spot first.1 first.0))
+            | inr second ↦ apart_by_name spots named apart r.name q.name o.spot p.spot first.1 second.1
+                differ
+          ]
+    ]))
+
+-- ---- an object that is entered
+
 module _ (classes size_max k len : ℕ) (header : Header) (b : ℕ) (spots : Spots) (named : AreNamed spots)
     (filled : IsFilled k header.caps header.used) (name : List ℕ) (is : IsName name)
     (new : fin.get spots name ≡ None) (size j : ℕ) (some : 1 ≤ size)
@@ -183,59 +249,10 @@ module _ (classes size_max k len : ℕ) (header : Header) (b : ℕ) (spots : Spo
   ]
 
   all_apart : KeepsBelow b before → ((i : ℕ) → i < length (records_of spots) → 0 < (nth before i).size
-      → Stands before (nth before i)) → (i : ℕ) → i < length entered.records → (h : ℕ) → h < i
-      → Apart (nth entered h) (nth entered i)
-  all_apart keeps stands i low h less =
-      let all = fin.insert spots name spot in
-      let rs = records_of all in
-      let r = nth entered h in
-      let s = nth entered i in
-      let names = AreNamed-insert spots name spot named is in
-      let o = spot_of_record all names h (omega (arith, less, low)) in
-      let p = spot_of_record all names i low in
-      let differ : same_name r.name s.name ≡ false = names_of_places all h i less low in
-      let stands_at : (q : List ℕ) (x : Spot) → fin.get spots q ≡ Some x → 0 < x.size
-      → Stands before (record_of (q, x)) =
-      by_name (λ (y : Record). 0 < y.size → Stands before y) spots named stands in
-      subst (λ x. Apart x s) (sym (spot_is all r o))
-      (subst (λ x. Apart (record_of (r.name, o.spot)) x) (sym (spot_is all s p))
-      (elim (inserted spots name r.name spot o.spot o.is)
-      as (λ x. Apart (record_of (r.name, o.spot)) (record_of (s.name, p.spot))) [
-        | inl first ↦ elim (inserted spots name s.name spot p.spot p.is)
-            as (λ x. Apart (record_of (r.name, o.spot)) (record_of (s.name, p.spot))) [
-              | inl second ↦ absurd (let same : same_name r.name s.name
-                  ≡ true = (λ k. same_name (first.0 k) (second.0 k)) ∙ same_name-itself name in cc)
-              | inr second ↦ subst (λ (x : Spot). Apart (record_of (r.name, x)) (record_of (s.name, p.spot)))
-                  (sym first.1) (new_apart (record_of (s.name, p.spot)) (stands_at s.name p.spot second.1))
-            ]
-        | inr first ↦ elim (inserted spots name s.name spot p.spot p.is)
-            as (λ x. Apart (record_of (r.name, o.spot)) (record_of (s.name, p.spot))) [
-              | inl second ↦ subst (λ (x : Spot). Apart (record_of (r.name, o.spot)) (record_of (s.name, x)))
-                  (sym second.1) (turn (record_of (name, spot)) (record_of (r.name, o.spot))
-                  (new_apart (record_of (r.name, o.spot)) (stands_at r.name o.spot first.1)))
-              | inr second ↦
-                  let a = record_at spots named r.name o.spot first.1 in
-                  let c = record_at spots named s.name p.spot second.1 in
-                  elim (cases_lt a.0 c.0) as (λ x. Apart (record_of (r.name, o.spot))
-                  (record_of (s.name, p.spot))) [
-                    | inl under ↦ subst (λ x. Apart x (record_of (s.name, p.spot))) a.2
-                        (subst (λ x. Apart (nth before a.0) x) c.2 (keeps.apart c.0 c.1 a.0 under))
-                    | inr rest ↦ elim (cases_lt c.0 a.0)
-                        as (λ x. Apart (record_of (r.name, o.spot)) (record_of (s.name, p.spot))) [
-                          | inl over ↦ turn (record_of (s.name, p.spot)) (record_of (r.name, o.spot))
-                              (subst (λ x. Apart x (record_of (r.name, o.spot))) c.2
-                              (subst (λ x. Apart (nth before c.0) x) a.2 (keeps.apart a.0 a.1 c.0 over)))
-                          | inr back ↦
-                              let e : a.0 ≡ c.0 = omega (arith, rest, back) in
-                              let same : r.name ≡ s.name = ap (λ x. x.name)
-                              (sym a.2 ∙ ap (nth before) e ∙ c.2) in
-                              absurd (let tied : same_name r.name s.name
-                              ≡ true = ap (same_name r.name) (sym same)
-                              ∙ same_name-itself r.name in cc)
-                        ]
-                  ]
-            ]
-      ]))
+      → Stands before (nth before i)) → RecordsApart (fin.insert spots name spot)
+  all_apart keeps stands = inserted_apart spots named name is spot keeps.apart
+      (λ q x there _. new_apart (record_of (q, x))
+      (by_name (λ (y : Record). 0 < y.size → Stands before y) spots named stands q x there))
 
   -- the sums of rule 9
   in_buffer : ℕ → ℕ → Record → ℕ

@@ -17,9 +17,9 @@ use Rattle.extent_table.specs.Extents.{Spots}
 use Rattle.placement_model.specs.Held.{FreesSpot, IsFreed, IsSpanOf, is_at, is_freed}
 use Rattle.placement_model.specs.LaidOut.{IsLaidOut}
 use Rattle.placement_model.specs.Reads.{AllLieApart}
-use Rattle.placement_model.proofs.GoneLaws.{apart_by_name}
 use Rattle.placement_model.proofs.GuardLaws.{at_itself, freed_by_remove, freed_by_set, freed_few, freed_past_remove, freed_past_set, not_at_apart, stood_there}
 use Rattle.placement_model.proofs.LaidOutLaws.{laid_below}
+use Rattle.placement_model.proofs.EnterLaws.{apart_by_name}
 
 -- ---- whether a name stands where it was kept
 

@@ -1,25 +1,20 @@
 -- A name whose object is of a class from b on is gone, and nothing is charged: what a table keeps of the
 -- classes below b doesn't see it.
-use Rattle.std.specs.Prelude.{◌≡◌, ℕ, ◌<◌, ◌≤◌, ◌==◌, nat_lt, Bool, false, ◌&&◌, cond, List, length, sum_by, Some, None}
-use Rattle.std.proofs.Common.{arith, sym, ◌∙◌, ap, subst, inl, inr}
-use Rattle.std.proofs.lemmas.Bool.{and_parts, cases_Bool, cond-false, cond-true, eqb-true}
+use Rattle.std.specs.Prelude.{◌≡◌, ℕ, ◌<◌, ◌≤◌, ◌==◌, nat_lt, Bool, ◌&&◌, cond, List, sum_by, Some}
+use Rattle.std.proofs.Common.{arith, ap, inl, inr}
+use Rattle.std.proofs.lemmas.Bool.{and_parts, cases_Bool, cond-false, eqb-true}
 use Rattle.std.specs.FinMap as fin
-use Rattle.size_class.specs.Classes.{width, class_of}
+use Rattle.size_class.specs.Classes.{class_of}
 use Rattle.slot_codec.specs.declared.codec.Header.{Header}
 use Rattle.slot_codec.specs.declared.codec.Record.{Record}
-use Rattle.map_model.specs.Weights.{same_name, weight}
-use Rattle.map_model.proofs.MapLaws.{name_order}
-use Rattle.segment_layout.proofs.BookLaws.{sum_by-filter}
-use Rattle.segment_layout.proofs.SumLaws.{sum_below_agree}
+use Rattle.map_model.specs.Weights.{weight}
 use Rattle.table_rules.specs.Suffixes.{KeepsBelow, Stands}
-use Rattle.table_rules.specs.Tables.{Apart, TableInLayout, dead_in_buffer, is_of, lies_in_buffer, lies_in_payload, live_in_buffer, live_in_payload, nth}
+use Rattle.table_rules.specs.Tables.{TableInLayout, is_of}
 use Rattle.extent_table.specs.declared.spot.Spot.{Spot}
 use Rattle.extent_table.specs.Extents.{Spots, record_of, records_of}
 use Rattle.placement_model.specs.Laid.{laid}
 use Rattle.placement_model.specs.Reads.{AreNamed}
-use Rattle.placement_model.proofs.ReadLaws.{AreNamed-remove, spot_of_record}
 use Rattle.placement_model.proofs.SpotSumLaws.{records_sum-remove}
-use Rattle.placement_model.proofs.EnterLaws.{names_of_places, spot_is}
 use Rattle.placement_model.proofs.GoneLaws.{each_removed, gone_apart}
 use Rattle.placement_model.proofs.UnseenLaws.{same_balance}
 

@@ -2,30 +2,30 @@
 -- not.
 use Rattle.std.specs.Prelude.{◌≡◌, ◌≢◌, ◌⊎◌, ℕ, ◌+◌, ◌<◌, ◌≤◌, ◌==◌, nat_lt, Bool, true, false, ◌&&◌, cond, List, length, sum_by, slice_index_or, Some, None, refl}
 use Rattle.std.proofs.Common.{arith, sym, ◌∙◌, ap, subst, inl, inr}
-use Rattle.std.proofs.lemmas.Bool.{cases_lt, cases_Bool, cond-true, cond-false, and_parts, eqb-true, eq-eqb}
+use Rattle.std.proofs.lemmas.Bool.{cases_Bool, cond-true, cond-false, and_parts, eqb-true, eq-eqb}
 use Rattle.std.specs.FinMap as fin
 use Rattle.byte_ranges.specs.Lists.{sum_below}
 use Rattle.size_class.specs.Classes.{width, class_of, cell}
 use Rattle.slot_codec.specs.declared.codec.Header.{Header}
 use Rattle.slot_codec.specs.declared.codec.Record.{Record}
-use Rattle.map_model.proofs.MapLaws.{name_order, same_name-itself}
+use Rattle.map_model.proofs.MapLaws.{name_order}
 use Rattle.map_model.specs.Weights.{same_name, weight}
 use Rattle.segment_layout.specs.Shapes.{buffer_for, with_entry}
 use Rattle.segment_layout.proofs.ShapeLaws.{cell-with_entry_same}
 use Rattle.segment_layout.specs.Balance.{IsFilled}
 use Rattle.segment_layout.proofs.BookLaws.{sum_by-filter}
 use Rattle.segment_layout.proofs.SumLaws.{sum_below_le, sum_below_one}
-use Rattle.table_rules.specs.Tables.{Apart, TableInLayout, dead_in_buffer, is_of, lies_in_buffer, lies_in_payload, live_in_buffer, live_in_payload, no_record, nth}
+use Rattle.table_rules.specs.Tables.{Apart, TableInLayout, dead_in_buffer, is_of, lies_in_buffer, lies_in_payload, live_in_buffer, live_in_payload, no_record}
 use Rattle.table_rules.specs.Suffixes.{KeepsBelow, Stands}
 use Rattle.extent_table.specs.declared.spot.Spot.{Spot}
 use Rattle.extent_table.specs.Extents.{Spots, record_of, records_of}
 use Rattle.placement_model.specs.Laid.{laid}
 use Rattle.placement_model.specs.Reads.{AreNamed}
-use Rattle.placement_model.proofs.ReadLaws.{AreNamed-remove, record_at, spot_of_record}
+use Rattle.placement_model.proofs.ReadLaws.{AreNamed-remove, spot_of_record}
 use Rattle.placement_model.proofs.SpotSumLaws.{records_sum-remove}
 use Rattle.placement_model.specs.Changes.{charged}
 use Rattle.placement_model.proofs.ChangeLaws.{charged_below, in_grid, in_row, more_in_cell, room, same_live, same_or_not}
-use Rattle.placement_model.proofs.EnterLaws.{by_name, names_of_places, spot_is, turn}
+use Rattle.placement_model.proofs.EnterLaws.{by_name, names_of_places, spot_is, RecordsApart, apart_by_name}
 
 -- what is left was there, under another name
 pub left_over : (spots : Spots) (name q : List ℕ) (x : Spot) → fin.get (fin.remove spots name) q ≡ Some x
@@ -52,35 +52,6 @@ each_removed P spots name named old i low =
     let o = spot_of_record rest (AreNamed-remove spots name named) i low in
     subst P (sym (spot_is rest r o)) (by_name P spots named old r.name o.spot
     (left_over spots name r.name o.spot o.is).1)
-
--- no two records share a byte
-abbrev pub RecordsApart : Spots → Type 0
-RecordsApart spots = (i : ℕ) → i < length (records_of spots) → (h : ℕ) → h < i
-    → Apart (slice_index_or (records_of spots) h no_record) (slice_index_or (records_of spots) i no_record)
-
--- records of two names share no byte, where those of two places don't
-pub apart_by_name : (spots : Spots) → AreNamed spots → RecordsApart spots
-    → (a c : List ℕ) (x y : Spot) → fin.get spots a ≡ Some x → fin.get spots c ≡ Some y
-    → same_name a c ≡ false → Apart (record_of (a, x)) (record_of (c, y))
-apart_by_name spots named apart a c x y is also differ =
-    let p = record_at spots named a x is in
-    let q = record_at spots named c y also in
-    elim (cases_lt p.0 q.0) as (λ z. Apart (record_of (a, x)) (record_of (c, y))) [
-      | inl under ↦ subst (λ z. Apart z (record_of (c, y))) p.2
-          (subst (λ z. Apart (slice_index_or (records_of spots) p.0 no_record) z) q.2
-          (apart q.0 q.1 p.0 under))
-      | inr rest ↦ elim (cases_lt q.0 p.0) as (λ z. Apart (record_of (a, x)) (record_of (c, y))) [
-        | inl over ↦ turn (record_of (c, y)) (record_of (a, x))
-            (subst (λ z. Apart z (record_of (a, x))) q.2
-            (subst (λ z. Apart (slice_index_or (records_of spots) q.0 no_record) z) p.2
-            (apart p.0 p.1 q.0 over)))
-        | inr back ↦
-            let e : p.0 ≡ q.0 = omega (arith, rest, back) in
-            let same : a ≡ c = ap (λ z. z.name)
-            (sym p.2 ∙ ap (λ i. slice_index_or (records_of spots) i no_record) e ∙ q.2) in
-            absurd (let tied : same_name a c ≡ true = ap (same_name a) (sym same) ∙ same_name-itself a in cc)
-      ]
-    ]
 
 -- nor does what is left
 pub gone_apart : (spots : Spots) → AreNamed spots → (name : List ℕ) → RecordsApart spots

@@ -1,27 +1,23 @@
 -- A new name that isn't charged: an empty object, or one of a class from b on that waits for a flush. What a
 -- table keeps of the classes below b doesn't see it.
-use Rattle.std.specs.Prelude.{◌≡◌, ◌⊎◌, ℕ, ◌<◌, ◌≤◌, ◌==◌, nat_lt, Bool, true, false, ◌&&◌, cond, List, length, sum_by, None, refl}
-use Rattle.std.proofs.Common.{arith, sym, ◌∙◌, ap, subst, inl, inr}
+use Rattle.std.specs.Prelude.{◌≡◌, ◌⊎◌, ℕ, ◌<◌, ◌≤◌, ◌==◌, nat_lt, Bool, ◌&&◌, cond, List, sum_by, None, refl}
+use Rattle.std.proofs.Common.{arith, ap, inl, inr}
 use Rattle.std.proofs.lemmas.Bool.{cases_Bool, cond-false, and_parts, eqb-true, ltb-true}
 use Rattle.std.specs.FinMap as fin
-use Rattle.size_class.specs.Classes.{width, class_of}
+use Rattle.size_class.specs.Classes.{class_of}
 use Rattle.slot_codec.specs.Names.{IsName}
 use Rattle.slot_codec.specs.declared.codec.Header.{Header}
 use Rattle.slot_codec.specs.declared.codec.Record.{Record}
-use Rattle.map_model.specs.Weights.{same_name, weight}
-use Rattle.map_model.proofs.MapLaws.{same_name-itself}
-use Rattle.segment_layout.proofs.BookLaws.{sum_by-filter}
-use Rattle.segment_layout.proofs.SumLaws.{sum_below_agree}
+use Rattle.map_model.specs.Weights.{weight}
 use Rattle.table_rules.specs.Suffixes.{KeepsBelow, Stands}
-use Rattle.table_rules.specs.Tables.{Apart, TableInLayout, dead_in_buffer, is_of, lies_in_buffer, lies_in_payload, live_in_buffer, live_in_payload, nth}
+use Rattle.table_rules.specs.Tables.{TableInLayout, is_of}
 use Rattle.extent_table.specs.declared.spot.Spot.{Spot}
 use Rattle.extent_table.specs.Extents.{Spots, record_of, records_of}
 use Rattle.placement_model.specs.Laid.{laid}
 use Rattle.placement_model.specs.Reads.{AreNamed}
-use Rattle.placement_model.proofs.ReadLaws.{AreNamed-insert, spot_of_record}
 use Rattle.placement_model.proofs.SpotSumLaws.{records_sum-insert}
-use Rattle.placement_model.proofs.EnterLaws.{each_inserted, inserted, names_of_places, spot_is, turn}
-use Rattle.placement_model.proofs.UnseenLaws.{inserted_apart, same_balance}
+use Rattle.placement_model.proofs.EnterLaws.{each_inserted, inserted_apart}
+use Rattle.placement_model.proofs.UnseenLaws.{same_balance}
 use Rattle.placement_model.specs.Joins.{IsAlone, empty_spot}
 
 module _ (classes size_max k len : ℕ) (header : Header) (b : ℕ) (spots : Spots) (named : AreNamed spots)

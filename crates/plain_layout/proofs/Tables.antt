@@ -1,5 +1,5 @@
 -- From the parts of a table to the table.
-use Rattle.std.specs.Prelude.{◌≡◌, ℕ, ◌==◌, List, [], map, Option, None, Ok, is_some}
+use Rattle.std.specs.Prelude.{◌≡◌, ℕ, ◌==◌, List, [], map, None, Ok, is_some}
 use Rattle.std.proofs.Common.{ap, inl, inr, sym, subst, ◌∙◌}
 use Rattle.std.proofs.lemmas.Bool.{cases_Bool, cond-true, cond-false}
 use Rattle.byte_ranges.specs.Lists.{◌>>=◌}

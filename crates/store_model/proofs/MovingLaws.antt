@@ -31,8 +31,7 @@ use Rattle.extent_table.specs.declared.spot.Spot.{Spot}
 use Rattle.extent_table.specs.Extents.{Spots, records_of}
 use Rattle.placement_model.specs.Held.{IsFreed}
 use Rattle.placement_model.specs.Laid.{laid, moving_header}
-use Rattle.placement_model.proofs.EnterLaws.{by_name}
-use Rattle.placement_model.proofs.GoneLaws.{apart_by_name}
+use Rattle.placement_model.proofs.EnterLaws.{by_name, apart_by_name}
 use Rattle.placement_model.proofs.GuardLaws.{freed_nothing}
 use Rattle.store_model.proofs.VersionLaws.{valid_as}
 use Rattle.placement_model.proofs.LaidOutLaws.{class_in_use}
