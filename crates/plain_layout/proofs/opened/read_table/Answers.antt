@@ -26,7 +26,7 @@ returns-in_err-records-clause-refused g c =
     let same = c.choose.ensures.frame.same_file c.requires.tells in
     let same_later = c.read_chosen_header.ensures.frame.same_file told in
     let same_last = c.length_of.ensures.frame.same_file told_later in
-    let good = rw same at (c.in-Ok-read_chosen_header.ensures.header told) in
+    let good = rw same at (c.in-Ok-read_chosen_header.ensures.header told).chosen in
     let bad = rw same at (rw same_later at (rw same_last at c.in_err-records.ensures.refused)) in
     let all = no_records (g.D.Disk.state c.args.disk.now).file
     (chosen_of c.in-Ok.found c.in-Ok-read_chosen_header.header) c.in_err-records.field-0.0 good bad in
@@ -41,6 +41,6 @@ returns-clause-read g c =
     let same = c.choose.ensures.frame.same_file c.requires.tells in
     let same_later = c.read_chosen_header.ensures.frame.same_file told in
     let same_last = c.length_of.ensures.frame.same_file told_later in
-    let good = rw same at (c.in-Ok-read_chosen_header.ensures.header told) in
+    let good = rw same at (c.in-Ok-read_chosen_header.ensures.header told).chosen in
     let read = rw same at (rw same_later at (rw same_last at c.in_ok-records.ensures.read)) in
     a_table (g.D.Disk.state c.args.disk.now).file _ good read
