@@ -12,10 +12,10 @@ use Rattle.store_core.specs.Changing.{IsChange}
 use Rattle.store_model.specs.Connection.{IsConnected, IsOver, StoreValue}
 use Rattle.store_core.specs.Flushes.{IsFlush}
 use Rattle.store_core.specs.Keeps.{KeepsNow}
-use Rattle.store_rows.specs.Served.{IsServed}
+use Rattle.store_rows.specs.Served.{MayServe}
 
-served_on : (old new : StoreValue) (before now : disk.State) → IsServed old before → Stays before now
-    → IsConnected CLASSES new now → IsServed new now
+served_on : (old new : StoreValue) (before now : disk.State) → MayServe old before → Stays before now
+    → IsConnected CLASSES new now → MayServe new now
 served_on old new before now served stays over = record {
   ready = stays.ready;
   tells = subst IsTrue (sym stays.told) served.tells;
@@ -24,8 +24,8 @@ served_on old new before now served stays over = record {
 
 -- after a put or a removal, whatever comes of it
 pub served_after : (c : Change) (old new : StoreValue) (before now : disk.State)
-    (result : Result Done Refusal) → IsServed old before → IsChange CLASSES c old new before now result
-    → IsServed new now
+    (result : Result Done Refusal) → MayServe old before → IsChange CLASSES c old new before now result
+    → MayServe new now
 served_after c old new before now result served x =
     served_on old new before now served (stays _ _ x.refused x.quiet x.flush) x.over
   where
@@ -39,10 +39,10 @@ served_after c old new before now result served x =
 
 -- after a checkpoint is saved, or refused
 pub served_kept : (refused : Option Refusal) (old new : StoreValue) (before now : disk.State)
-    (result : Result Done Refusal) → IsServed old before
+    (result : Result Done Refusal) → MayServe old before
     → (IsSome refused → NothingChanged old new before now)
     → (IsNone refused → KeepsNow CLASSES old new before now result) → IsConnected CLASSES new now
-    → IsServed new now
+    → MayServe new now
 served_kept (Some why) old new before now result served is_refused kept over =
     served_on old new before now served (is_refused (search rules)).same_disk.stays over
 served_kept None old new before now result served is_refused kept over =

@@ -26,13 +26,13 @@ pub struct Trial<D: Disk> {
 
 impl<D: Disk> Model for Trial<D> {
     ghost use Rattle.std.specs.Prelude.{ℕ};
-    ghost use Rattle.store_rows.specs.Served.{IsServed};
+    ghost use Rattle.store_rows.specs.Served.{MayServe};
 
     ghost Value = { ℕ };
 
     ghost view = { λ t. 0 };
 
-    ghost invariant = { λ t. IsServed t.store (D.state t.disk) };
+    ghost invariant = { λ t. MayServe t.store (D.state t.disk) };
 }
 
 /// Opens the file of a disk.
