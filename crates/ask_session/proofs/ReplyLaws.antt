@@ -139,7 +139,14 @@ answers_replies {classes} r s new a d out after (Err end) result h p =
       sink_cause = calm_sink (λ is. no_sink_fault (Err end) (ap is_disk h.only) is) p.faults p.told;
     })
 
--- the same of a request that is this one
+-- what is answered for a request whose reply is one line
+pub answered_as : {classes : ℕ} {r : Request} {s new : StoreValue} {a d : disk.State}
+    {answer said : Result text.Reply End} → answer ≡ said → Answers classes r s new a d said
+    → Answers classes r s new a d answer
+answered_as {classes} {r} {s} {new} {a} {d} is h =
+    subst (λ (x : Result text.Reply End). Answers classes r s new a d x) (sym is) h
+
+-- the reply to a request that is this one
 pub replied_as : {classes : ℕ} {r asked : Request} {s new : StoreValue} {a d : disk.State}
     {out after : SinkState} {answer : Result text.Reply End} {result : Result Bool End} → r ≡ asked
     → Answers classes asked s new a d answer → PutsAnswer out after answer result

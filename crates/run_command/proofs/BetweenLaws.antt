@@ -26,6 +26,7 @@ use Rattle.ask_session.specs.Sittings.{Sitting, new_sitting, unread}
 use Rattle.ask_session.specs.Runs.{HasRun, budget, calls_since, last_kept, last_state}
 use Rattle.served_file.specs.Served.{EndsTight, IsNextStart, OpensTo, OpensToKept, Ran, Starts, has_failed, limits_with, most_left, state_after, turn_opened, found_with}
 use Rattle.run_command.specs.Headline.{HowFar, IsLong, IsTold, NumbersLine, RunHolds, next_reply, next_saves, next_states, served_states}
+use Rattle.command_face.specs.declared.status.TheConstants.{DISK_FAILED, DONE, FAULTY_REQUEST, SINK_FAILED, SOURCE_FAILED, TOO_MANY}
 use Rattle.command_face.specs.Outcomes.{PutsLast, line_at, status_at}
 use Rattle.command_face.specs.declared.stop.StopReason.{StopReason}
 use Rattle.command_face.specs.declared.outcome.Outcome.{Outcome}
@@ -45,8 +46,8 @@ module _ (h : SoFar) where
 
   -- ---- the session ended between two requests
 
-  module _ (after : SinkState) (rest : SourceState) (status : ℕ) (not_nine : (status == 9) ≡ false)
-      (not_failed : has_failed status ≡ false) (nine : status ≢ 9) (seven : status ≢ 7)
+  module _ (after : SinkState) (rest : SourceState) (status : ℕ) (not_nine : (status == SINK_FAILED) ≡ false)
+      (not_failed : has_failed status ≡ false) (nine : status ≢ SINK_FAILED) (seven : status ≢ DISK_FAILED)
       (sound : IsStore CLASSES s1.store) (ending : Result (Unit {0}) StopReason)
       (status_is : status ≡ status_at ending)
       (numbered : NumbersLine s1.done ending)
@@ -100,7 +101,7 @@ module _ (h : SoFar) where
       failed = λ is. absurd (seven is);
       next_start = λ calm.
           let q = last_one.sequence
-          + (if status == 9 then next_saves limits last_one split.others else 0) in
+          + (if status == SINK_FAILED then next_saves limits last_one split.others else 0) in
           subst (λ (xs : List store.State). IsNextStart t (last_state start xs) q old c) (sym same_states)
           (subst (λ (y : store.State). IsNextStart t y q old c) (newest h)
           (next_over t s1.store old c q sound (over_c h) (ran.block ∙ op.block)
@@ -128,11 +129,11 @@ module _ (h : SoFar) where
     some_left : n < budget → s1.done ≡ budget → ⊥
     some_left fewer is = omega (arith, is, done_is h, fewer)
 
-    pub input_ended : 0 ≡ status_at ending → n < budget → unread s1 i1 ≡ [] → RunsWith 0
+    pub input_ended : DONE ≡ status_at ending → n < budget → unread s1 i1 ≡ [] → RunsWith DONE
     input_ended status_is fewer empty =
         let none = none_next split.others (unread s1 i1) end split.asks
         (subst BeginsNone (sym empty) begins_none) in
-        between_requests after rest 0 refl refl (λ is. omega (arith, is))
+        between_requests after rest DONE refl refl (λ is. omega (arith, is))
         (λ is. omega (arith, is)) sound ending
         status_is numbered line (record {
           known = refl;
@@ -146,11 +147,12 @@ module _ (h : SoFar) where
           limit = (λ is. absurd (omega (arith, is)), λ is. absurd (some_left fewer is));
         })
 
-    pub line_failed : 2 ≡ status_at ending → n < budget → (unread s1 i1 ≡ [] → ⊥) → BeginsNone (unread s1 i1)
-        → RunsWith 2
+    pub line_failed : FAULTY_REQUEST ≡ status_at ending → n < budget → (unread s1 i1 ≡ [] → ⊥)
+        → BeginsNone (unread s1 i1)
+        → RunsWith FAULTY_REQUEST
     line_failed status_is fewer some begins =
         let none = none_next split.others (unread s1 i1) end split.asks begins in
-        between_requests after rest 2 refl refl (λ is. omega (arith, is))
+        between_requests after rest FAULTY_REQUEST refl refl (λ is. omega (arith, is))
         (λ is. omega (arith, is)) sound ending
         status_is numbered line (record {
           known = refl;
@@ -164,9 +166,9 @@ module _ (h : SoFar) where
           limit = (λ is. absurd (omega (arith, is)), λ is. absurd (some_left fewer is));
         })
 
-    pub source_failed : 8 ≡ status_at ending → n < budget → RunsWith 8
+    pub source_failed : SOURCE_FAILED ≡ status_at ending → n < budget → RunsWith SOURCE_FAILED
     source_failed status_is fewer =
-        between_requests after rest 8 refl refl (λ is. omega (arith, is))
+        between_requests after rest SOURCE_FAILED refl refl (λ is. omega (arith, is))
         (λ is. omega (arith, is)) sound ending
         status_is numbered line (record {
           known = refl;
@@ -180,9 +182,9 @@ module _ (h : SoFar) where
           limit = (λ is. absurd (omega (arith, is)), λ is. absurd (some_left fewer is));
         })
 
-    pub all_answered : 11 ≡ status_at ending → n ≡ budget → RunsWith 11
+    pub all_answered : TOO_MANY ≡ status_at ending → n ≡ budget → RunsWith TOO_MANY
     all_answered status_is all =
-        between_requests after rest 11 refl refl (λ is. omega (arith, is))
+        between_requests after rest TOO_MANY refl refl (λ is. omega (arith, is))
         (λ is. omega (arith, is)) sound ending
         status_is numbered line (record {
           known = refl;

@@ -11,6 +11,7 @@ use Rattle.ask_session.specs.Inputs.{is_source}
 use Rattle.ask_session.specs.Turns.{IsStopped}
 use Rattle.ask_session.specs.declared.ends.End.{End}
 use Rattle.ask_session.specs.declared.ends.End.TheVariants as ends
+use Rattle.command_face.specs.declared.status.TheConstants.{DISK_FAILED, DONE, FAULTY_REQUEST, NO_FILE, NO_MEMORY, NO_STORE, SINK_FAILED, SOURCE_FAILED, TOO_MANY}
 use Rattle.command_face.specs.Outcomes.{status_at}
 use Rattle.run_command.specs.Sessions.{IsUnserved, end_of}
 use Rattle.command_face.specs.declared.stop.StopReason.{StopReason}
@@ -19,16 +20,16 @@ use Rattle.command_face.specs.declared.stop.StopReason.{StopReason}
 pub record SessionKeeps (before now : Outside) (end : Result (Unit {0}) StopReason) (kept_turn : ℕ)
     : Type 0 where
   pub later : before.disk.faults ≤ now.disk.faults
-  pub rose : status_at end ≡ 7 → Rose before.disk.faults now.disk.faults
+  pub rose : status_at end ≡ DISK_FAILED → Rose before.disk.faults now.disk.faults
   pub no_turn_back : before.disk.turn ≤ now.disk.turn
   pub told : now.disk.tells ≡ before.disk.tells
   pub images_told : now.disk.tells_images ≡ before.disk.tells_images
   pub same_mount : now.disk.last_mount ≡ before.disk.last_mount
   pub source_later : before.source.faults ≤ now.source.faults
-  pub source_rose : status_at end ≡ 8 → Rose before.source.faults now.source.faults
+  pub source_rose : status_at end ≡ SOURCE_FAILED → Rose before.source.faults now.source.faults
   pub sink_later : before.sink.faults ≤ now.sink.faults
-  pub sink_rose : status_at end ≡ 9 → Rose before.sink.faults now.sink.faults
-  pub sink_calm : status_at end ≡ 0 → now.sink.faults ≡ before.sink.faults
+  pub sink_rose : status_at end ≡ SINK_FAILED → Rose before.sink.faults now.sink.faults
+  pub sink_calm : status_at end ≡ DONE → now.sink.faults ≡ before.sink.faults
   pub sink_told : now.sink.tells ≡ before.sink.tells
   pub turn_low : before.disk.turn ≤ kept_turn
   pub turn_high : kept_turn ≤ now.disk.turn
@@ -42,7 +43,7 @@ module _ {D I O : Type 0} (seen : Seen D I O) (before now : Held D I O) (s : Sto
   KeepsAs how = SessionKeeps (outside_of seen before) (outside_of seen now) (end_of how new.done)
       new.kept_turn
 
-  none_of : (n : ℕ) → n ≢ 3 → n ≢ 4 → n ≢ 10 → IsUnserved n → ⊥
+  none_of : (n : ℕ) → n ≢ NO_FILE → n ≢ NO_STORE → n ≢ NO_MEMORY → IsUnserved n → ⊥
   none_of n three four ten (inl is) = three is
   none_of n three four ten (inr (inl is)) = four is
   none_of n three four ten (inr (inr is)) = ten is
@@ -50,8 +51,8 @@ module _ {D I O : Type 0} (seen : Seen D I O) (before now : Held D I O) (s : Sto
   module _ (how : End) (y : Session how) where
     -- no request was served in the last turn
     quietly : now.disk ≡ y.mid.disk → now.sink ≡ y.mid.sink → new.kept_turn ≡ y.sitting.kept_turn
-        → (status_at (end_of how new.done) ≢ 7) → (status_at (end_of how new.done) ≢ 9)
-        → (status_at (end_of how new.done) ≡ 8 → is_source how ≡ true)
+        → (status_at (end_of how new.done) ≢ DISK_FAILED) → (status_at (end_of how new.done) ≢ SINK_FAILED)
+        → (status_at (end_of how new.done) ≡ SOURCE_FAILED → is_source how ≡ true)
         → (IsUnserved (status_at (end_of how new.done)) → ⊥) → KeepsAs how
     quietly disk sink turn seven nine eight served = record {
       later = omega (arith, y.ran.disk_later, ap (λ (d : D). (seen.disk d).faults) disk);
@@ -75,9 +76,9 @@ module _ {D I O : Type 0} (seen : Seen D I O) (before now : Held D I O) (s : Sto
     -- a device failed in the last turn
     stopped : (bad : End)
         → IsStopped CLASSES y.sitting new (outside_of seen y.mid) (outside_of seen now) bad
-        → (status_at (end_of how new.done) ≡ 7 → bad ≡ ends.Disk)
-        → (status_at (end_of how new.done) ≡ 9 → bad ≡ ends.Sink)
-        → (status_at (end_of how new.done) ≢ 8) → (status_at (end_of how new.done) ≢ 0)
+        → (status_at (end_of how new.done) ≡ DISK_FAILED → bad ≡ ends.Disk)
+        → (status_at (end_of how new.done) ≡ SINK_FAILED → bad ≡ ends.Sink)
+        → (status_at (end_of how new.done) ≢ SOURCE_FAILED) → (status_at (end_of how new.done) ≢ DONE)
         → (IsUnserved (status_at (end_of how new.done)) → ⊥) → KeepsAs how
     stopped bad x seven nine eight none served =
         let r = x.served.replies in
@@ -110,22 +111,22 @@ module _ {D I O : Type 0} (seen : Seen D I O) (before now : Held D I O) (s : Sto
   session_keeps ends.End y = quietly ends.End y (y.same_disk refl)
       (y.same_sink refl) y.last_turn.0.counts.kept_turn
       (λ is. omega (arith, is)) (λ is. omega (arith, is)) (λ is. absurd (omega (arith, is)))
-      (none_of 0 (λ is. omega (arith, is)) (λ is. omega (arith, is)) (λ is. omega (arith, is)))
+      (none_of DONE (λ is. omega (arith, is)) (λ is. omega (arith, is)) (λ is. omega (arith, is)))
   session_keeps ends.Line y = quietly ends.Line y (y.same_disk refl) (y.same_sink refl)
       y.last_turn.0.counts.kept_turn
       (λ is. omega (arith, is)) (λ is. omega (arith, is)) (λ is. absurd (omega (arith, is)))
-      (none_of 2 (λ is. omega (arith, is)) (λ is. omega (arith, is)) (λ is. omega (arith, is)))
+      (none_of FAULTY_REQUEST (λ is. omega (arith, is)) (λ is. omega (arith, is)) (λ is. omega (arith, is)))
   session_keeps ends.Source y = quietly ends.Source y (y.same_disk refl) (y.same_sink refl)
       y.last_turn.counts.kept_turn
       (λ is. omega (arith, is)) (λ is. omega (arith, is)) (λ is. refl)
-      (none_of 8 (λ is. omega (arith, is)) (λ is. omega (arith, is)) (λ is. omega (arith, is)))
+      (none_of SOURCE_FAILED (λ is. omega (arith, is)) (λ is. omega (arith, is)) (λ is. omega (arith, is)))
   session_keeps ends.Budget y = quietly ends.Budget y (y.same_disk refl) (y.same_sink refl)
       (ap (λ (x : Sitting). x.kept_turn) y.last_turn.1)
       (λ is. omega (arith, is)) (λ is. omega (arith, is)) (λ is. absurd (omega (arith, is)))
-      (none_of 11 (λ is. omega (arith, is)) (λ is. omega (arith, is)) (λ is. omega (arith, is)))
+      (none_of TOO_MANY (λ is. omega (arith, is)) (λ is. omega (arith, is)) (λ is. omega (arith, is)))
   session_keeps ends.Disk y = stopped ends.Disk y ends.Disk y.last_turn (λ is. refl)
       (λ is. absurd (omega (arith, is))) (λ is. omega (arith, is)) (λ is. omega (arith, is))
-      (none_of 7 (λ is. omega (arith, is)) (λ is. omega (arith, is)) (λ is. omega (arith, is)))
+      (none_of DISK_FAILED (λ is. omega (arith, is)) (λ is. omega (arith, is)) (λ is. omega (arith, is)))
   session_keeps ends.Sink y = stopped ends.Sink y ends.Sink y.last_turn (λ is. absurd (omega (arith, is)))
       (λ is. refl) (λ is. omega (arith, is)) (λ is. omega (arith, is))
-      (none_of 9 (λ is. omega (arith, is)) (λ is. omega (arith, is)) (λ is. omega (arith, is)))
+      (none_of SINK_FAILED (λ is. omega (arith, is)) (λ is. omega (arith, is)) (λ is. omega (arith, is)))

@@ -36,6 +36,7 @@ use Rattle.ask_session.specs.declared.ends.End.TheVariants as ends
 use Rattle.ask_session.proofs.MakesLaws.{saves_within}
 use Rattle.served_file.specs.Served.{OpensTo, OpensToBeing, OpensToKept, OpensToNext, Ran, Starts, has_failed, limits_with, most_left, state_after, found_with}
 use Rattle.run_command.specs.Headline.{HasReplied, IsPartial, NumbersLine, RunHolds, next_is_changing}
+use Rattle.command_face.specs.declared.status.TheConstants.{DISK_FAILED}
 use Rattle.command_face.specs.Outcomes.{PutsLast, line_at, status_at}
 use Rattle.command_face.specs.declared.stop.StopReason.{StopReason}
 use Rattle.command_face.specs.declared.outcome.Outcome.{Outcome}
@@ -156,8 +157,8 @@ module _ (h : SoFar) where
           ]) (left_z rests))))
 
     -- the replies, and a front of the next
-    module _ (after : SinkState) (status : ℕ) (failed : has_failed status ≡ true) (seven : status ≡ 7
-        → is_disk bad ≡ true)
+    module _ (after : SinkState) (status : ℕ) (failed : has_failed status ≡ true)
+        (seven : status ≡ DISK_FAILED → is_disk bad ≡ true)
         (ending : Result (Unit {0}) StopReason) (status_is : status ≡ status_at ending)
         (numbered : NumbersLine new.done ending) (told : IsTrue out.tells)
         (line : PutsLast o2.given after.given (line_at ending) (Rose out.faults after.faults)) where
@@ -235,7 +236,7 @@ module _ (h : SoFar) where
         pub number_z : new.kept_done ≡ last_kept 0 0 ran.replies
         number_z = x.counts.kept_done ∙ (number h)
 
-        module _ (disk : bad ≡ ends.Disk) (status_is : 7 ≡ status_at ending) where
+        module _ (disk : bad ≡ ends.Disk) (status_is : DISK_FAILED ≡ status_at ending) where
           never : {A : Type 0} → IsCalm old.faults z.faults → A
           never calm = absurd (omega (
             arith,
@@ -246,7 +247,7 @@ module _ (h : SoFar) where
             x.served.replies.disk_cause.rose (ap (λ (y : End). Err y) disk),
           ))
 
-          pub disk_failed : RunsTo 7
+          pub disk_failed : RunsTo DISK_FAILED
           disk_failed = record {
             start = start;
             starts = starts h;
@@ -266,8 +267,8 @@ module _ (h : SoFar) where
               few = few_z;
               limit = (λ is. absurd (omega (arith, is)), λ is. absurd (not_all is));
             };
-            replies = λ told. replied_z after 7 refl (λ is. ap is_disk disk) ending status_is numbered told
-                (line told);
+            replies = λ told. replied_z after DISK_FAILED refl (λ is. ap is_disk disk) ending status_is
+                numbered told (line told);
             between = λ is. absurd (elim is as (λ _. ⊥) [
               | inl whole ↦ (let e : false ≡ true = whole in absurd (cc))
               | inr nine ↦ omega (arith, nine)
@@ -275,8 +276,8 @@ module _ (h : SoFar) where
             within = λ calm room rests below. never calm;
             opened = λ calm settled has. never calm;
             crash = λ room rests below. record {
-              crash = crash_z 7 refl room rests below;
-              since = λ mounted. since_z 7 refl rests below;
+              crash = crash_z DISK_FAILED refl room rests below;
+              since = λ mounted. since_z DISK_FAILED refl rests below;
               safe = λ is. absurd (omega (arith, is));
             };
             numbered = numbered_z;

@@ -34,6 +34,7 @@ use Rattle.ask_session.specs.declared.ends.Turn.TheVariants as turn
 use Rattle.ask_session.specs.Runs.{EndsRun, budget}
 use Rattle.ask_session.specs.declared.ends.End.{End}
 use Rattle.ask_session.specs.declared.ends.End.TheVariants as ends
+use Rattle.command_face.specs.declared.status.TheConstants.{DISK_FAILED, DONE, FAULTY_REQUEST, NO_FILE, NO_MEMORY, SOURCE_FAILED, TOO_MANY}
 use Rattle.command_face.specs.Refusing.{stop_of}
 use Rattle.served_file.specs.Served.{IsNextStart, Starts, turn_opened, found_with}
 use Rattle.run_command.specs.Headline.{HasMounted, HowFar, RunHolds}
@@ -129,12 +130,12 @@ module _ {D I O : Type 0} (seen : Seen D I O) (lawful : (d : D) → IsLawful (se
     failed_before k later left rose since line =
         unserved_runs t.chosen.block found_start found_starts (lawful now.disk) left_before later left
         (λ rests below calm settled opened. absurd (omega (arith, rose, calm.same, calm.below)))
-        requests end (seen.source before.source) (seen.source now.source) (seen.sink before.sink) after 7 k
-        refl refl
+        requests end (seen.source before.source) (seen.source now.source) (seen.sink before.sink) after
+        DISK_FAILED k refl refl
         (λ is. omega (arith, is)) since (λ calm has. omega (arith, rose, calm.same, calm.below))
         (λ calm. absurd (omega (arith, rose, calm.same, calm.below)))
         (Err stop.Disk) refl tt (line_out (Err stop.Disk) line)
-        (none_far 7 requests end (seen.source before.source) (seen.source now.source) refl
+        (none_far DISK_FAILED requests end (seen.source before.source) (seen.source now.source) refl
         (λ is. omega (arith, is)) (λ is. omega (arith, is)) (λ is. omega (arith, is))
         (λ is. omega (arith, is)) (λ is. absurd (omega (arith, is))))
 
@@ -147,18 +148,18 @@ module _ {D I O : Type 0} (seen : Seen D I O) (lawful : (d : D) → IsLawful (se
         (λ room. left_first t m b old z mount told o)
         (λ rests below calm settled opened. settled_still t m b old o (lawful before.disk) mount.same_turn
         (λ rests. Leaves-call old.may_leave mount.time mount.images) rests below settled opened)
-        requests end (seen.source before.source) (seen.source now.source) (seen.sink before.sink) after 3 0
-        refl refl
+        requests end (seen.source before.source) (seen.source now.source) (seen.sink before.sink) after
+        NO_FILE 0 refl refl
         (λ is. omega (arith, is))
         (λ has. absurd (never_true (sym (ap is_mounted is) ∙ has))) (λ calm has. never_true has)
         (λ calm. next_found (mount.same_file told) (rests_first t m b old z mount told o))
         (Err stop.NoFile) refl tt (line_out (Err stop.NoFile) line)
-        (none_far 3 requests end (seen.source before.source) (seen.source now.source) refl
+        (none_far NO_FILE requests end (seen.source before.source) (seen.source now.source) refl
         (λ is. omega (arith, is)) (λ is. omega (arith, is)) (λ is. omega (arith, is))
         (λ is. omega (arith, is)) (λ is. absurd (omega (arith, is))))
 
-    no_memory : HowFar 10 0 requests end (seen.source before.source) (seen.source now.source)
-    no_memory = none_far 10 requests end (seen.source before.source) (seen.source now.source) refl
+    no_memory : HowFar NO_MEMORY 0 requests end (seen.source before.source) (seen.source now.source)
+    no_memory = none_far NO_MEMORY requests end (seen.source before.source) (seen.source now.source) refl
         (λ is. omega (arith, is))
         (λ is. omega (arith, is)) (λ is. omega (arith, is)) (λ is. omega (arith, is))
         (λ _. ap seen.source same_source)
@@ -179,8 +180,8 @@ module _ {D I O : Type 0} (seen : Seen D I O) (lawful : (d : D) → IsLawful (se
           (λ image may. found_image CLASSES t old.file m b o image (rests image may)) (still rests))
           (λ rests below calm settled opened. settled_still t m b old o (lawful before.disk)
           (same.same_turn ∙ mount.same_turn) still rests below settled opened)
-          requests end (seen.source before.source) (seen.source now.source) (seen.sink before.sink) after 10
-          z.turn refl refl
+          requests end (seen.source before.source) (seen.source now.source) (seen.sink before.sink) after
+          NO_MEMORY z.turn refl refl
           (λ is. omega (arith, is)) (λ has. refl) (λ calm has. never_true has)
           (λ calm. next_found file (λ rests image left. subst (λ (f : List ℕ). SameOnFound t f image)
           (sym file) (rests image (mount.images image (same.images image left)))))
@@ -223,8 +224,8 @@ module _ {D I O : Type 0} (seen : Seen D I O) (lawful : (d : D) → IsLawful (se
           (op.rests rests image ((lawful now.disk).only_now image below
           (subst (λ (k : ℕ). z.left_since k image) (sym (op.turn settled)) since))).same_length
           ∙ op.over.same_length)
-          requests end (seen.source before.source) (seen.source now.source) (seen.sink before.sink) after 10
-          z.turn refl refl
+          requests end (seen.source before.source) (seen.source now.source) (seen.sink before.sink) after
+          NO_MEMORY z.turn refl refl
           (λ is. omega (arith, is)) (λ has. refl) (λ calm has. never_true has)
           (λ calm. next_over t x.store old z x.store.in_use.sequence op.sound op.over op.block (omega arith)
           op.rests) (Err stop.NoMemory) refl tt (line_out (Err stop.NoMemory)
@@ -323,7 +324,7 @@ module _ {D I O : Type 0} (seen : Seen D I O) (lawful : (d : D) → IsLawful (se
         → Runs (outcome_of e)
     session_by ends.End y sound ended =
         let un = y.last_turn.0 in
-        carried ends.End y sound ended un refl 0 refl
+        carried ends.End y sound ended un refl DONE refl
         (input_ended (so_far ends.End y) after
         (seen.source now.source)
         (sound_mid ends.End y sound ended un refl) (Ok tt) tt (line_mid ends.End y sound ended un refl) refl
@@ -333,14 +334,14 @@ module _ {D I O : Type 0} (seen : Seen D I O) (lawful : (d : D) → IsLawful (se
         let begins = y.last_turn.1 (y.ran.source_told ∙ told_source) in
         let done : y.sitting.done ≤ budget = omega (arith, y.ran.done, y.few) in
         let numbered : counted new.done 1 ≡ y.sitting.done + 1 = omega (arith, un.counts.done, done) in
-        carried ends.Line y sound ended un refl 2 refl
+        carried ends.Line y sound ended un refl FAULTY_REQUEST refl
         (line_failed (so_far ends.Line y) after
         (seen.source now.source)
         (sound_mid ends.Line y sound ended un refl) (Err (stop.Line (counted new.done 1))) numbered
         (line_mid ends.Line y sound ended un refl) refl (y.fewer refl) begins.0 begins.1)
     session_by ends.Source y sound ended =
         let un = y.last_turn in
-        carried ends.Source y sound ended un refl 8 refl
+        carried ends.Source y sound ended un refl SOURCE_FAILED refl
         (source_failed (so_far ends.Source y) after
         (seen.source now.source) (sound_mid ends.Source y sound ended un refl) (Err stop.Source) tt
         (line_mid ends.Source y sound ended un refl) refl (y.fewer refl))
@@ -354,7 +355,7 @@ module _ {D I O : Type 0} (seen : Seen D I O) (lawful : (d : D) → IsLawful (se
             kept_turn = ap (λ (x : Sitting). x.kept_turn) same;
           };
         } in
-        carried ends.Budget y sound ended un refl 11 refl
+        carried ends.Budget y sound ended un refl TOO_MANY refl
         (all_answered (so_far ends.Budget y) after
         (seen.source now.source) (sound_mid ends.Budget y sound ended un refl) (Err stop.Budget) tt
         (line_mid ends.Budget y sound ended un refl) refl y.last_turn.0)

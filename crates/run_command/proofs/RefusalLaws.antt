@@ -3,6 +3,7 @@ use Rattle.std.specs.Prelude.{◌≡◌, ℕ, List, IsTrue}
 use Rattle.std.proofs.Common.{arith, ap, sym, ◌∙◌, inl, inr}
 use Rattle.ask_session.specs.Outside.{Held, Seen, held}
 use Rattle.served_file.specs.Unserved.{NeverServed}
+use Rattle.command_face.specs.declared.status.TheConstants.{NO_STORE}
 use Rattle.command_face.specs.Outcomes.{status_at}
 use Rattle.run_command.specs.Sessions.{OpenRunSteps, RunSteps}
 use Rattle.run_command.specs.declared.run.SessionEnd.{SessionEnd}
@@ -10,7 +11,7 @@ use Rattle.run_command.proofs.ClauseLaws.{session_keeps}
 use Rattle.served_file.proofs.RefusedLaws.{never_mounted}
 
 module _ {D I O : Type 0} (seen : Seen D I O) (file : List ℕ) (before now : Held D I O) (e : SessionEnd)
-    (told : IsTrue (seen.disk before.disk).tells) (four : status_at e.end ≡ 4) where
+    (told : IsTrue (seen.disk before.disk).tells) (four : status_at e.end ≡ NO_STORE) where
   pub never_ran : RunSteps seen file before now e → NeverServed (seen.disk before.disk).file
   never_ran (inl (is, source, sink)) = elim is.which as (λ _. NeverServed (seen.disk before.disk).file) [
     | inl failed ↦ absurd (omega (arith, four, ap (λ (y : SessionEnd). status_at y.end) failed.0))

@@ -12,6 +12,7 @@ use Rattle.map_model.specs.Maps.{Map}
 use Rattle.map_model.specs.Requests.{Request}
 use Rattle.segment_layout.specs.Books.{Book}
 use Rattle.ask_session.specs.Runs.{budget}
+use Rattle.command_face.specs.declared.status.TheConstants.{DISK_FAILED, DONE, FAULTY_REQUEST, NO_FILE, NO_MEMORY, SINK_FAILED, SOURCE_FAILED, TOO_MANY}
 use Rattle.command_face.specs.Mounting.{IsMounted, mounted}
 use Rattle.run_command.specs.Headline.{RunHolds, is_session}
 use Rattle.run_command.specs.Sessions.{KeepsRun}
@@ -21,17 +22,19 @@ use Rattle.served_file.specs.Served.{found_by}
 use Rattle.run_command.proofs.StepsLaws.{not_both}
 
 -- of a session's statuses those are left that no fault has, of a device or of the input
-status_calm : (n : ℕ) → is_session n ≡ true → n ≢ 2 → n ≢ 3 → n ≢ 7 → n ≢ 8 → n ≢ 9 → n ≢ 11
-    → (n ≡ 0) ⊎ (n ≡ 10)
-status_calm n known two three seven eight nine eleven = elim (cases_eq n 0) as (λ _. (n ≡ 0) ⊎ (n ≡ 10)) [
-  | inl zero ↦ inl zero
-  | inr some ↦ elim (cases_eq n 10) as (λ _. (n ≡ 0) ⊎ (n ≡ 10)) [
-    | inl ten ↦ inr ten
-    | inr other ↦ absurd (none some other)
-  ]
-]
+status_calm : (n : ℕ) → is_session n ≡ true → n ≢ FAULTY_REQUEST → n ≢ NO_FILE → n ≢ DISK_FAILED
+    → n ≢ SOURCE_FAILED → n ≢ SINK_FAILED → n ≢ TOO_MANY
+    → (n ≡ DONE) ⊎ (n ≡ NO_MEMORY)
+status_calm n known two three seven eight nine eleven = elim (cases_eq n DONE)
+    as (λ _. (n ≡ DONE) ⊎ (n ≡ NO_MEMORY)) [
+      | inl zero ↦ inl zero
+      | inr some ↦ elim (cases_eq n NO_MEMORY) as (λ _. (n ≡ DONE) ⊎ (n ≡ NO_MEMORY)) [
+        | inl ten ↦ inr ten
+        | inr other ↦ absurd (none some other)
+      ]
+    ]
   where
-    none : n ≢ 0 → n ≢ 10 → ⊥
+    none : n ≢ DONE → n ≢ NO_MEMORY → ⊥
     none zero ten =
         let a = ne_eqb n 0 zero in
         let b = ne_eqb n 2 two in
@@ -59,10 +62,10 @@ module _ {t : choice.SlotTable} {m : Map} {b : Book} (requests : List Request) {
 
   pub all_served : (file : List ℕ) → length requests < budget → KeepsRun (devices old out) (devices z after)
       from rest o.status
-      → IsMounted file false z.last_mount (o.status ≡ 7) (o.status ≡ 3)
+      → IsMounted file false z.last_mount (o.status ≡ DISK_FAILED) (o.status ≡ NO_FILE)
       → z.last_mount ≡ mounted file false There → IsCalm old.faults z.faults → IsCalm from.faults rest.faults
       → IsCalm out.faults after.faults
-      → ((o.status ≡ 0) × (o.done ≡ length requests)) ⊎ ((o.status ≡ 10) × (o.done ≡ 0))
+      → ((o.status ≡ DONE) × (o.done ≡ length requests)) ⊎ ((o.status ≡ NO_MEMORY) × (o.done ≡ 0))
   all_served file few keeps mount there calm source_calm sink_calm =
       elim (status_calm o.status r.far.known
       (λ is. (r.far.line is).1 refl)
@@ -71,7 +74,7 @@ module _ {t : choice.SlotTable} {m : Map} {b : Book} (requests : List Request) {
       (λ is. omega (arith, keeps.source_rose is, source_calm.same, source_calm.below))
       (λ is. omega (arith, keeps.sink_rose is, sink_calm.same, sink_calm.below))
       (λ is. omega (arith, r.far.limit.0 is, all_are, few)))
-      as (λ _. ((o.status ≡ 0) × (o.done ≡ length requests)) ⊎ ((o.status ≡ 10) × (o.done ≡ 0))) [
+      as (λ _. ((o.status ≡ DONE) × (o.done ≡ length requests)) ⊎ ((o.status ≡ NO_MEMORY) × (o.done ≡ 0))) [
         | inl zero ↦ inl (
           zero,
           omega (arith, all_are, ap (λ (xs : List Request). length xs) (r.far.done zero).0),

@@ -35,6 +35,7 @@ use Rattle.ask_session.proofs.MakesLaws.{makes}
 use Rattle.ask_session.proofs.RunLaws.{opens_with}
 use Rattle.served_file.specs.Served.{EndsTight, IsNextStart, OpensTo, Ran, Starts, limits_with, most_left, turn_opened, found_with}
 use Rattle.run_command.specs.Headline.{IsLong, IsTold, IsWithinBounds, NumbersLine, RunHolds}
+use Rattle.command_face.specs.declared.status.TheConstants.{SINK_FAILED}
 use Rattle.command_face.specs.Outcomes.{PutsLast, line_at, status_at}
 use Rattle.command_face.specs.declared.stop.StopReason.{StopReason}
 use Rattle.command_face.specs.declared.outcome.Outcome.{Outcome}
@@ -118,7 +119,7 @@ module _ (h : SoFar) where
         number_z = while_served.number_z h bad x
             after ending numbered fewer line
 
-        module _ (quiet : is_disk bad ≡ false) (status_is : 9 ≡ status_at ending)
+        module _ (quiet : is_disk bad ≡ false) (status_is : SINK_FAILED ≡ status_at ending)
             (sound : new.store.is_broken ≡ false → IsStore CLASSES new.store) where
           abbrev t2 : store.State
           t2 = state_of new.store z.file
@@ -231,7 +232,7 @@ module _ (h : SoFar) where
                 rests = e.rests;
               }
 
-          pub sink_failed : RunsTo 9
+          pub sink_failed : RunsTo SINK_FAILED
           sink_failed = record {
             start = start;
             starts = starts h;
@@ -249,7 +250,7 @@ module _ (h : SoFar) where
               limit = (λ is. absurd (omega (arith, is)), λ is. absurd (not_all is));
             };
             replies = λ told. while_served.replied_z h
-                bad x after 9 refl
+                bad x after SINK_FAILED refl
                 (λ is. absurd (omega (arith, is))) ending status_is numbered told
                 (line told);
             between = λ is. subst (λ (y : store.State). EndsTight u.k (head_len u.names) y z.file)
@@ -262,9 +263,9 @@ module _ (h : SoFar) where
             };
             crash = λ room rests below. record {
               crash = while_served.crash_z h
-                  bad x 9 refl room rests below;
+                  bad x SINK_FAILED refl room rests below;
               since = λ mounted. while_served.since_z h
-                  bad x 9 refl rests below;
+                  bad x SINK_FAILED refl rests below;
               safe = λ is. safe_z rests;
             };
             numbered = numbered_z;

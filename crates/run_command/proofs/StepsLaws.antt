@@ -13,6 +13,7 @@ use Rattle.table_rules.specs.Opening.{Opens}
 use Rattle.store_model.specs.Connection.{StoreValue}
 use Rattle.store_model.specs.Opened.{IsOpening, RefusesStore}
 use Rattle.reopen.specs.declared.fault.OpenFault.{OpenFault}
+use Rattle.command_face.specs.declared.status.TheConstants.{DISK_FAILED, DONE, NO_FILE, NO_MEMORY, NO_STORE, SINK_FAILED, SOURCE_FAILED}
 use Rattle.command_face.specs.Mounting.{IsMounted, mounted}
 use Rattle.command_face.specs.Refusing.{stop_of}
 use Rattle.served_file.specs.Unserved.{IsRefusedService, NeverServed}
@@ -35,7 +36,8 @@ not_both is = absurd (cc)
 pub record Whole (file : List ℕ) (before now : Outside) (same : Type 0) (e : SessionEnd) : Type 0 where
   pub keeps : KeepsRun (served_devices before) (served_devices now) before.source now.source
       (status_at e.end)
-  pub mounted : IsMounted file false now.disk.last_mount (status_at e.end ≡ 7) (status_at e.end ≡ 3)
+  pub mounted : IsMounted file false now.disk.last_mount (status_at e.end ≡ DISK_FAILED)
+      (status_at e.end ≡ NO_FILE)
   pub turn : IsKeptTurn (outcome_of e) (HasMounted now.disk) before.disk.turn now.disk.turn
   pub unread : IsUnserved (status_at e.end) → same
 
@@ -45,7 +47,8 @@ module _ (file : List ℕ) (before now : Outside) (same : Type 0) where
 
   -- no stream was called
   no_stream : (status : ℕ) → AfterMount before.disk now.disk → before.disk.faults ≤ now.disk.faults
-      → (status ≡ 7 → Rose before.disk.faults now.disk.faults) → status ≢ 8 → status ≢ 9
+      → (status ≡ DISK_FAILED → Rose before.disk.faults now.disk.faults) → status ≢ SOURCE_FAILED
+      → status ≢ SINK_FAILED
       → now.source ≡ before.source → now.sink ≡ before.sink
       → KeepsRun (served_devices before) (served_devices now) before.source now.source status
   no_stream status mount later rose eight nine source sink = record {
@@ -66,7 +69,7 @@ module _ (file : List ℕ) (before now : Outside) (same : Type 0) where
       → Rose before.disk.faults now.disk.faults → now.disk.last_mount ≡ None
       → now.source ≡ before.source → now.sink ≡ before.sink → same → Is (unserved stop.Disk 0)
   mount_failed mount later rose none source sink is_same = record {
-    keeps = no_stream 7 mount later (λ is. rose) (λ is. omega (arith, is))
+    keeps = no_stream DISK_FAILED mount later (λ is. rose) (λ is. omega (arith, is))
         (λ is. omega (arith, is)) source sink;
     mounted = record {
       answer = inl refl;
@@ -85,7 +88,7 @@ module _ (file : List ℕ) (before now : Outside) (same : Type 0) where
       → now.disk.last_mount ≡ mounted file false Absent
       → now.source ≡ before.source → now.sink ≡ before.sink → same → Is (unserved stop.NoFile 0)
   file_absent mount calm is source sink is_same = record {
-    keeps = no_stream 3 mount (omega (arith, calm)) (λ is. absurd (omega (arith, is)))
+    keeps = no_stream NO_FILE mount (omega (arith, calm)) (λ is. absurd (omega (arith, is)))
         (λ is. omega (arith, is))
         (λ is. omega (arith, is)) source sink;
     mounted = record { answer = inr (inr is); absent = (λ three. is, λ three. refl) };
@@ -100,8 +103,8 @@ module _ (file : List ℕ) (before now : Outside) (same : Type 0) where
 
   module _ (first : State) (mount : AfterMount before.disk first) (calm : first.faults ≡ before.disk.faults)
       (there : first.last_mount ≡ mounted file false There) (e : SessionEnd) where
-    mounted_there : now.disk.last_mount ≡ first.last_mount → status_at e.end ≢ 3
-        → IsMounted file false now.disk.last_mount (status_at e.end ≡ 7) (status_at e.end ≡ 3)
+    mounted_there : now.disk.last_mount ≡ first.last_mount → status_at e.end ≢ NO_FILE
+        → IsMounted file false now.disk.last_mount (status_at e.end ≡ DISK_FAILED) (status_at e.end ≡ NO_FILE)
     mounted_there stays three = record {
       answer = inr (inl (stays ∙ there));
       absent = (λ is. absurd (three is), λ is. not_both (ap is_mounted (sym is ∙ stays ∙ there)));
@@ -109,7 +112,7 @@ module _ (file : List ℕ) (before now : Outside) (same : Type 0) where
 
     turn_there : now.disk.last_mount ≡ first.last_mount → first.turn ≤ e.kept_turn
         → e.kept_turn ≤ now.disk.turn
-        → ((status_at e.end ≡ 4) ⊎ (status_at e.end ≡ 10) → e.kept_turn ≡ now.disk.turn)
+        → ((status_at e.end ≡ NO_STORE) ⊎ (status_at e.end ≡ NO_MEMORY) → e.kept_turn ≡ now.disk.turn)
         → IsKeptTurn (outcome_of e) (HasMounted now.disk) before.disk.turn now.disk.turn
     turn_there stays low high refused = record {
       unopened = λ is. absurd (is (ap is_mounted (stays ∙ there)));
@@ -151,13 +154,11 @@ module _ (file : List ℕ) (before now : Outside) (same : Type 0) where
 
     -- no session was begun, though the file was there
     unserved_there : first.faults ≤ now.disk.faults → first.turn ≤ now.disk.turn
-        → now.disk.tells ≡ first.tells
-        → now.disk.tells_images ≡ first.tells_images → now.disk.last_mount ≡ first.last_mount
-        → e.kept_turn ≡ now.disk.turn
-        → (status_at e.end ≡ 7 → Rose first.faults now.disk.faults) → status_at e.end ≢ 0
-        → status_at e.end ≢ 3
-        → status_at e.end ≢ 8 → status_at e.end ≢ 9 → now.source ≡ before.source → now.sink ≡ before.sink
-        → same → Is e
+        → now.disk.tells ≡ first.tells → now.disk.tells_images ≡ first.tells_images
+        → now.disk.last_mount ≡ first.last_mount → e.kept_turn ≡ now.disk.turn
+        → (status_at e.end ≡ DISK_FAILED → Rose first.faults now.disk.faults) → status_at e.end ≢ DONE
+        → status_at e.end ≢ NO_FILE → status_at e.end ≢ SOURCE_FAILED → status_at e.end ≢ SINK_FAILED
+        → now.source ≡ before.source → now.sink ≡ before.sink → same → Is e
     unserved_there later turns told images stays turn rose zero three eight nine source sink is_same =
         record {
           keeps = record {
@@ -214,18 +215,18 @@ module _ {D I O : Type 0} (seen : Seen D I O) (file : List ℕ) (before now : He
           f.stays.images_told f.stays.same_mount (ap (λ (y : SessionEnd). y.kept_turn) is.ended)
           (λ seven. is.opening.cause.rose
           (ap (λ (y : OpenFault). Err y) (disk_by is.fault (sym status ∙ seven))))
-          (λ n. not_status is.fault 0 (λ y. omega (arith, y)) (λ y. omega (arith, y)) (λ y. omega (arith, y))
-          (sym status ∙ n))
-          (λ n. not_status is.fault 3 (λ y. omega (arith, y)) (λ y. omega (arith, y)) (λ y. omega (arith, y))
-          (sym status ∙ n))
-          (λ n. not_status is.fault 8 (λ y. omega (arith, y)) (λ y. omega (arith, y)) (λ y. omega (arith, y))
-          (sym status ∙ n))
-          (λ n. not_status is.fault 9 (λ y. omega (arith, y)) (λ y. omega (arith, y)) (λ y. omega (arith, y))
-          (sym status ∙ n))
+          (λ n. not_status is.fault DONE (λ y. omega (arith, y)) (λ y. omega (arith, y))
+          (λ y. omega (arith, y)) (sym status ∙ n))
+          (λ n. not_status is.fault NO_FILE (λ y. omega (arith, y)) (λ y. omega (arith, y))
+          (λ y. omega (arith, y)) (sym status ∙ n))
+          (λ n. not_status is.fault SOURCE_FAILED (λ y. omega (arith, y)) (λ y. omega (arith, y))
+          (λ y. omega (arith, y)) (sym status ∙ n))
+          (λ n. not_status is.fault SINK_FAILED (λ y. omega (arith, y)) (λ y. omega (arith, y))
+          (λ y. omega (arith, y)) (sym status ∙ n))
           (ap seen.source source) (ap seen.sink sink) (source, sink)
       by (inl (inr is, source, sink)) =
           let f = is.opening.frame in
-          let status : status_at e.end ≡ 10 = ap (λ (y : SessionEnd). status_at y.end) is.ended in
+          let status : status_at e.end ≡ NO_MEMORY = ap (λ (y : SessionEnd). status_at y.end) is.ended in
           unserved_there file (outside_of seen before) (outside_of seen now) Same (seen.disk x.first) x.mount
           x.calm x.there e is.opening.cause.later f.no_turn_back f.stays.told
           f.stays.images_told f.stays.same_mount (ap (λ (y : SessionEnd). y.kept_turn) is.ended)
@@ -255,22 +256,22 @@ module _ {D I O : Type 0} (seen : Seen D I O) (file : List ℕ) (before now : He
   -- ---- a file that is refused
 
   -- it stays as it is
-  pub untouched : RunSteps seen file before now e → (status_at e.end ≡ 3) ⊎ (status_at e.end ≡ 4)
+  pub untouched : RunSteps seen file before now e → (status_at e.end ≡ NO_FILE) ⊎ (status_at e.end ≡ NO_STORE)
       → Untouched old z
   untouched (inl (is, source, sink)) status = mount_untouched old z is.mount is.later
   untouched (inr x) status = by x.steps status
     where
       by : OpenRunSteps seen (held x.first before.source before.sink) now e
-          → (status_at e.end ≡ 3) ⊎ (status_at e.end ≡ 4) → Untouched old z
-      by (inl (inl is, source, sink)) (inl three) = absurd (not_status is.fault 3 (λ y. omega (arith, y))
-          (λ y. omega (arith, y)) (λ y. omega (arith, y))
+          → (status_at e.end ≡ NO_FILE) ⊎ (status_at e.end ≡ NO_STORE) → Untouched old z
+      by (inl (inl is, source, sink)) (inl three) = absurd (not_status is.fault NO_FILE
+          (λ y. omega (arith, y)) (λ y. omega (arith, y)) (λ y. omega (arith, y))
           (sym (ap (λ (y : SessionEnd). status_at y.end) is.ended) ∙ three))
       by (inl (inl is, source, sink)) (inr four) = Untouched-then
           (mount_untouched old (seen.disk x.first) x.mount (omega (arith, x.calm)))
           (refused_unchanged (seen.disk x.first) z is.fault
           (sym (ap (λ (y : SessionEnd). status_at y.end) is.ended) ∙ four) is.opening.unchanged)
       by (inl (inr is, source, sink)) status =
-          let ten : status_at e.end ≡ 10 = ap (λ (y : SessionEnd). status_at y.end) is.ended in
+          let ten : status_at e.end ≡ NO_MEMORY = ap (λ (y : SessionEnd). status_at y.end) is.ended in
           absurd (elim status as (λ _. ⊥) [ inl n ↦ omega (arith, n, ten) | inr n ↦ omega (arith, n, ten) ])
       by (inr y) status =
           let k = keeps_of y in
@@ -317,7 +318,7 @@ module _ {D I O : Type 0} (seen : Seen D I O) (file : List ℕ) (before now : He
   -- ---- the statuses
 
   abbrev IsKnown : ℕ → Type 0
-  IsKnown status = (is_session status ≡ true) ⊎ (status ≡ 4)
+  IsKnown status = (is_session status ≡ true) ⊎ (status ≡ NO_STORE)
 
   known_session : (how : End) (done : ℕ) → IsKnown (status_at (end_of how done))
   known_session ends.End done = inl refl
@@ -327,7 +328,7 @@ module _ {D I O : Type 0} (seen : Seen D I O) (file : List ℕ) (before now : He
   known_session ends.Sink done = inl refl
   known_session ends.Budget done = inl refl
 
-  known_unopened : (n : ℕ) → (n ≡ 4) ⊎ (n ≡ 7) ⊎ (n ≡ 10) → IsKnown n
+  known_unopened : (n : ℕ) → (n ≡ NO_STORE) ⊎ (n ≡ DISK_FAILED) ⊎ (n ≡ NO_MEMORY) → IsKnown n
   known_unopened n (inl four) = inr four
   known_unopened n (inr (inl seven)) = inl (ap is_session seven)
   known_unopened n (inr (inr ten)) = inl (ap is_session ten)

@@ -8,6 +8,7 @@ use Rattle.map_model.specs.Maps.{Map}
 use Rattle.segment_layout.specs.Books.{Book, book_end}
 use Rattle.table_rules.specs.Opening.{Opens}
 use Rattle.served_file.specs.Served.{IsNextStart, OpensTo, Starts, limits_with, turn_opened, found_with}
+use Rattle.command_face.specs.declared.status.TheConstants.{DONE, FAULTY_REQUEST, NO_MEMORY, SINK_FAILED, TOO_MANY}
 use Rattle.command_face.specs.Outcomes.{PutsLast, line_at, status_at}
 use Rattle.disk_face.specs.Counts.{IsCalm, Rose, last}
 use Rattle.disk_face.specs.States.{IsLawful, State}
@@ -32,8 +33,9 @@ never_true is = let e : true ≡ false = sym is in absurd (cc)
 
 -- how far a call came that answered no request
 pub none_far : (status : ℕ) (requests : List Request) (end : List ℕ) (from rest : SourceState)
-    → is_session status ≡ true → status ≢ 0 → status ≢ 2 → status ≢ 9 → status ≢ 11
-    → (status ≡ 10 → rest ≡ from) → HowFar status 0 requests end from rest
+    → is_session status ≡ true → status ≢ DONE → status ≢ FAULTY_REQUEST → status ≢ SINK_FAILED
+    → status ≢ TOO_MANY
+    → (status ≡ NO_MEMORY → rest ≡ from) → HowFar status 0 requests end from rest
 none_far status requests end from rest known done line sink limit memory = record {
   known = known;
   done = λ is. absurd (done is);
@@ -67,7 +69,8 @@ module _ {t : choice.SlotTable} {m : Map} {b : Book} {old z : State}
 
   module _ (requests : List Request) (end : List ℕ) (from rest : SourceState) (out after : SinkState)
       (status kept_turn : ℕ)
-      (not_nine : (status == 9) ≡ false) (not_whole : is_whole status ≡ false) (nine : status ≢ 9)
+      (not_nine : (status == SINK_FAILED) ≡ false) (not_whole : is_whole status ≡ false)
+      (nine : status ≢ SINK_FAILED)
       (since : HasMounted z → kept_turn ≡ z.turn)
       (told : IsCalm old.faults z.faults → IsTrue (has_opened status) → ⊥)
       (next : IsCalm old.faults z.faults → IsNextStart t start start.sequence old z)
@@ -143,7 +146,8 @@ module _ {t : choice.SlotTable} {m : Map} {b : Book} {old z : State}
       };
       failed = λ seven mounted. inr (omega (arith, since mounted, lawful.turn_fits));
       next_start = λ calm.
-          let q = start.sequence + (if status == 9 then next_saves (limits_with u) start requests else 0) in
+          let q = start.sequence
+          + (if status == SINK_FAILED then next_saves (limits_with u) start requests else 0) in
           let is : start.sequence ≡ q = sym (ap (λ (x : Bool). start.sequence
           + (if x then next_saves (limits_with u) start requests else 0)) not_nine ∙ omega arith) in
           subst (λ (xs : List store.State). IsNextStart t (last_state start xs) q old z) (sym same_states)

@@ -1,19 +1,9 @@
-use Rattle.std.proofs.Common.{sym, subst}
-use Rattle.std.specs.Prelude.{Result}
 use Rattle.store_model.specs.Quiet.{put_of}
-use Rattle.map_model.specs.Requests as ask
-use Rattle.ask_text.specs.declared.reply.Reply.{Reply}
-use Rattle.ask_session.specs.declared.ends.End.{End}
-use Rattle.ask_session.specs.ReplyLines.{Answers}
 use Rattle.ask_session.proofs.AnswerLaws.{change_answers}
+use Rattle.ask_session.proofs.ReplyLaws.{answered_as}
 use Rattle.ask_session.proofs.changes.serve_put.Goals as goal
 
 pub returns : goal.returns
-returns g c = subst (λ (x : Result Reply End). Answers g.row.C (ask.change
-    (put_of c.args.name.now c.args.object.now))
-    c.args.store.now c.put.new.self (g.D.Disk.state c.args.disk.now) (g.D.Disk.state c.put.new.disk) x)
-    (sym c.answer_change.ensures)
-    (change_answers c.args.store.now c.put.new.self (put_of c.args.name.now c.args.object.now)
-    (g.D.Disk.state c.args.disk.now) (g.D.Disk.state c.put.new.disk) c.put.result
-    c.requires.can
-    c.put.ensures.change c.put.ensures.step)
+returns g c = answered_as c.answer_change.ensures (change_answers c.args.store.now c.put.new.self
+    (put_of c.args.name.now c.args.object.now) (g.D.Disk.state c.args.disk.now)
+    (g.D.Disk.state c.put.new.disk) c.put.result c.requires.can c.put.ensures.change c.put.ensures.step)

@@ -2,6 +2,7 @@ use Rattle.std.proofs.Common.{◌≡◌, ◌⊎◌, ◌∙◌, true, ap, sym, su
 use Rattle.std.specs.Prelude.{IsTrue, false}
 use Rattle.disk_face.specs.Devices.{devices}
 use Rattle.ask_session.specs.Outside.{held, outside_of, seen_by}
+use Rattle.command_face.specs.declared.status.TheConstants.{DISK_FAILED, NO_FILE, NO_STORE}
 use Rattle.command_face.specs.Mounting.{IsMounted}
 use Rattle.served_file.specs.Unserved.{IsRefusedService}
 use Rattle.run_command.specs.Headline.{HasMounted, IsKeptTurn, RunHolds, is_session}
@@ -46,8 +47,10 @@ returns g c =
           ends_after (outside_of seen start) (outside_of seen now) after e.end
           c.finish-outcome.result.status status w.keeps line (ap g.O.Sink.state refused.1)
           (IsRefusedService (seen.disk start.disk).file) refused.0;
-      known = subst (λ n. (is_session n ≡ true) ⊎ (n ≡ 4)) (sym status) (known seen file start now e went);
-      mounted = subst (λ n. IsMounted file false (seen.disk now.disk).last_mount (n ≡ 7) (n ≡ 3)) (sym status)
+      known = subst (λ n. (is_session n ≡ true) ⊎ (n ≡ NO_STORE)) (sym status)
+          (known seen file start now e went);
+      mounted = subst (λ n. IsMounted file false (seen.disk now.disk).last_mount (n ≡ DISK_FAILED)
+          (n ≡ NO_FILE)) (sym status)
           w.mounted;
       serves = record {
         keeps = keeps_after (outside_of seen start) (outside_of seen now) after e.end
@@ -68,7 +71,8 @@ returns g c =
         }) (HasMounted (seen.disk now.disk)) (seen.disk start.disk).turn (seen.disk now.disk).turn)
             (sym status) w.turn;
         unread = λ unserved. (w.unread (subst IsUnserved status unserved)).0;
-        untouched = λ is. untouched seen file start now e went (subst (λ n. (n ≡ 3) ⊎ (n ≡ 4)) status is);
+        untouched = λ is. untouched seen file start now e went
+            (subst (λ n. (n ≡ NO_FILE) ⊎ (n ≡ NO_STORE)) status is);
         refused = λ told four. never_ran seen file start now e told (sym status ∙ four) went;
         line_alone = λ told unserved. only_line (outside_of seen start) (outside_of seen now) after e.end
             c.finish-outcome.result.status status w.keeps line
