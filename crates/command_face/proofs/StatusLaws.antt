@@ -1,5 +1,6 @@
 -- What was put, and which status comes of it.
 use Rattle.std.specs.Prelude.{◌≡◌, ◌⊎◌, ◌≤◌, ℕ, List, ◌++◌, length, Result, Ok, Err, OnErr, OnOk}
+use Rattle.command_face.specs.declared.status.TheConstants.{DONE}
 use Rattle.command_face.specs.declared.stop.StopReason.{StopReason}
 use Rattle.command_face.specs.declared.stop.StopReason.TheVariants as stop
 use Rattle.std.proofs.Common.{arith, ap, sym, ◌∙◌, inl, inr}
@@ -45,7 +46,7 @@ later_rose {between} {now} {line} a b n later last = record {
   ];
 }
 
-pub calm_by : {P : Type 0} (end : Result (Unit {0}) StopReason) → OnOk end P → status_at end ≡ 0 → P
+pub calm_by : {P : Type 0} (end : Result (Unit {0}) StopReason) → OnOk end P → status_at end ≡ DONE → P
 calm_by (Ok x) calm is = calm
 calm_by (Err stop.Words) calm is = absurd (omega (arith, is))
 calm_by (Err stop.NoFile) calm is = absurd (omega (arith, is))

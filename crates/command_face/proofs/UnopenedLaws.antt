@@ -14,6 +14,7 @@ use Rattle.reopen.specs.declared.fault.OpenFault.TheVariants as opening
 use Rattle.disk_face.specs.States.{State}
 use Rattle.disk_face.specs.Frames.{AfterMount, Untouched}
 use Rattle.disk_face.proofs.MomentLaws.{Leaves-call}
+use Rattle.command_face.specs.declared.status.TheConstants.{DISK_FAILED, NO_MEMORY, NO_STORE}
 use Rattle.command_face.specs.Refusing.{IsFirstRefusal, stop_of}
 use Rattle.command_face.specs.Outcomes.{status_of}
 
@@ -28,8 +29,9 @@ opens_or_not file m b (opening.Table x) o h =
 opens_or_not file m b opening.NoMemory o is = is
 
 -- the status of a file that isn't opened
-pub status_unopened : (why : OpenFault) → (status_of (stop_of why) ≡ 4) ⊎ (status_of (stop_of why) ≡ 7)
-    ⊎ (status_of (stop_of why) ≡ 10)
+pub status_unopened : (why : OpenFault)
+    → (status_of (stop_of why) ≡ NO_STORE) ⊎ (status_of (stop_of why) ≡ DISK_FAILED)
+    ⊎ (status_of (stop_of why) ≡ NO_MEMORY)
 status_unopened (opening.Slot slot.Disk) = inr (inl refl)
 status_unopened (opening.Slot slot.Short) = inl refl
 status_unopened (opening.Slot slot.Unformatted) = inl refl
@@ -39,13 +41,14 @@ status_unopened (opening.Slot (slot.Codec f at)) = inl refl
 status_unopened (opening.Table broken) = inl refl
 status_unopened opening.NoMemory = inr (inr refl)
 
-pub not_status : (why : OpenFault) (n : ℕ) → n ≢ 4 → n ≢ 7 → n ≢ 10 → status_of (stop_of why) ≢ n
+pub not_status : (why : OpenFault) (n : ℕ) → n ≢ NO_STORE → n ≢ DISK_FAILED → n ≢ NO_MEMORY
+    → status_of (stop_of why) ≢ n
 not_status why n four seven ten is = elim (status_unopened why) as (λ _. ⊥) [
   | inl x ↦ four (sym is ∙ x)
   | inr rest ↦ elim rest as (λ _. ⊥) [ inl x ↦ seven (sym is ∙ x) | inr x ↦ ten (sym is ∙ x) ]
 ]
 
-pub disk_by : (why : OpenFault) → status_of (stop_of why) ≡ 7 → why ≡ opening.Slot slot.Disk
+pub disk_by : (why : OpenFault) → status_of (stop_of why) ≡ DISK_FAILED → why ≡ opening.Slot slot.Disk
 disk_by (opening.Slot slot.Disk) is = refl
 disk_by (opening.Slot slot.Short) is = absurd (omega (arith, is))
 disk_by (opening.Slot slot.Unformatted) is = absurd (omega (arith, is))

@@ -15,6 +15,7 @@ use Rattle.table_rules.specs.Rules.{FirstBroken}
 use Rattle.table_rules.proofs.FirstLaws.{first_is_one}
 use Rattle.reopen.specs.declared.fault.OpenFault.{OpenFault}
 use Rattle.reopen.specs.declared.fault.OpenFault.TheVariants as opening
+use Rattle.command_face.specs.declared.status.TheConstants.{DISK_FAILED, NO_FILE, NO_MEMORY, SINK_FAILED}
 use Rattle.command_face.specs.declared.stop.StopReason.{StopReason}
 use Rattle.command_face.specs.declared.stop.StopReason.TheVariants as stop
 use Rattle.command_face.specs.Refusing.{IsFirstRefusal, IsRefused, fault_of}
@@ -117,7 +118,7 @@ mapped_answer at file t m b opens =
 
 -- the statuses of a file that isn't there, of devices that failed, and of want of memory
 abbrev IsFree : ℕ → Type 0
-IsFree status = (status ≡ 3) ⊎ (status ≡ 7) ⊎ (status ≡ 9) ⊎ (status ≡ 10)
+IsFree status = (status ≡ NO_FILE) ⊎ (status ≡ DISK_FAILED) ⊎ (status ≡ SINK_FAILED) ⊎ (status ≡ NO_MEMORY)
 
 status_by : (answer : Result (List ℕ) StopReason) (bytes : List ℕ) (is : Result (List ℕ) StopReason → Type 0)
     (end : Result (Unit {0}) StopReason) → ((other : Result (List ℕ) StopReason) → is other → answer ≡ other)
@@ -140,7 +141,8 @@ status_by answer bytes is (Err stop.Budget) one by = inl (ap status_at (sym (one
 
 pub ends_by_the_answer : (c : Command) (file : List ℕ) (answer : Result (List ℕ) StopReason) (status : ℕ)
     (old new : SinkState) → IsAnswer c file answer → Ends (IsAnswer c file) status old new
-    → (status ≡ status_at answer) ⊎ (status ≡ 3) ⊎ (status ≡ 7) ⊎ (status ≡ 9) ⊎ (status ≡ 10)
+    → (status ≡ status_at answer) ⊎ (status ≡ NO_FILE) ⊎ (status ≡ DISK_FAILED) ⊎ (status ≡ SINK_FAILED)
+    ⊎ (status ≡ NO_MEMORY)
 ends_by_the_answer c file answer status old new is ends =
     subst (λ n. (n ≡ status_at answer) ⊎ IsFree n) (sym ends.same_status)
     (status_by answer ends.bytes (IsAnswer c file) ends.end (λ other h. one_answer c file answer other is h)

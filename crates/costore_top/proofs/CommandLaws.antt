@@ -7,6 +7,7 @@ use Rattle.disk_face.specs.States.{State}
 use Rattle.disk_face.specs.Streams.{Puts, SinkState, SourceState}
 use Rattle.disk_face.proofs.MomentLaws.{Leaves-none}
 use Rattle.disk_face.specs.Devices.{Devices}
+use Rattle.command_face.specs.declared.status.TheConstants.{DISK_FAILED, NO_FILE, NO_STORE}
 use Rattle.command_face.specs.Layers.{Answers, IsCommandReason, KeepsAt, PutsNone}
 use Rattle.command_face.specs.Mounting.{IsMounted}
 use Rattle.command_face.specs.Outcomes.{Ends, EndsBy}
@@ -215,8 +216,8 @@ module _ (o : Outcome) (old new : Devices) (from rest : SourceState) (same_bay s
       → (IsTrue old.disk.tells → IsTrue from.tells → RunPromise o old new from rest)
       → (IsTrue old.disk.tells → NeverServed old.disk.file
       → Ends (IsRefusedService old.disk.file) o.status old.sink new.sink)
-      → (is_session o.status ≡ true) ⊎ (o.status ≡ 4)
-      → IsMounted file false new.disk.last_mount (o.status ≡ 7) (o.status ≡ 3)
+      → (is_session o.status ≡ true) ⊎ (o.status ≡ NO_STORE)
+      → IsMounted file false new.disk.last_mount (o.status ≡ DISK_FAILED) (o.status ≡ NO_FILE)
       → RunAlways o old new from rest same_input → Does (run file) o old new from rest same_bay same_input
   running file promise refused known mounted always = record {
     no_fault = session_not_one o.status known;
@@ -240,7 +241,7 @@ module _ (o : Outcome) (old new : Devices) (from rest : SourceState) (same_bay s
       → (IsTrue old.disk.tells → WorkPromise number count o.status old new)
       → (IsTrue old.disk.tells → NeverServed old.disk.file
       → Ends (IsRefusedService old.disk.file) o.status old.sink new.sink)
-      → IsMounted file false new.disk.last_mount (o.status ≡ 7) (o.status ≡ 3)
+      → IsMounted file false new.disk.last_mount (o.status ≡ DISK_FAILED) (o.status ≡ NO_FILE)
       → WorkAlways count o.status old new
       → (o.done ≡ 0) × (o.kept_done ≡ 0) × (o.kept_turn ≡ 0)
       → Does (work file number count) o old new from rest same_bay same_input

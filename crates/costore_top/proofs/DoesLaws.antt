@@ -3,6 +3,7 @@ use Rattle.std.specs.Prelude.{◌≡◌, ◌⊎◌, ◌↔◌, ℕ, true, List, 
 use Rattle.std.proofs.Common.{ap, refl, sym, subst}
 use Rattle.disk_face.specs.Streams.{SourceState}
 use Rattle.disk_face.specs.Devices.{Devices}
+use Rattle.command_face.specs.declared.status.TheConstants.{DISK_FAILED, FAULTY_WORDS, NO_FILE, NO_STORE}
 use Rattle.command_face.specs.Mounting.{IsMounted}
 use Rattle.command_face.specs.Outcomes.{Ends}
 use Rattle.command_face.specs.declared.outcome.Outcome.{Outcome}
@@ -27,14 +28,14 @@ module _ (words : List (List ℕ)) (c : Command) (means : Means words c) (o : Ou
   one : (x : Command) → Means words x → x ≡ c
   one x m = means_one words x c m means
 
-  pub words_known : (o.status ≡ 1) ↔ MeansNone words
+  pub words_known : (o.status ≡ FAULTY_WORDS) ↔ MeansNone words
   words_known = (λ is. absurd (d.no_fault is), λ none. absurd (none c means))
 
   pub mounts_it : MountsItsFile words o.status new.disk.last_mount same_bay
   mounts_it = record {
     fileless = λ none. d.fileless (none c means);
     mounted = λ x m is. subst (λ (y : Command). IsMounted (file_of y) (makes y) new.disk.last_mount
-        (o.status ≡ 7) (o.status ≡ 3)) (sym (one x m))
+        (o.status ≡ DISK_FAILED) (o.status ≡ NO_FILE)) (sym (one x m))
         (d.mounted (subst (λ (y : Command). IsTrue (mounts y)) (one x m) is));
   }
 
@@ -71,7 +72,7 @@ module _ (words : List (List ℕ)) (c : Command) (means : Means words c) (o : Ou
   headline_of file m = d.headline (ap is_run (sym (one (run file) m)))
 
   pub session_of : (file : List ℕ) → Means words (run file)
-      → ((is_session o.status ≡ true) ⊎ (o.status ≡ 4)) × RunAlways o old new from rest same_input
+      → ((is_session o.status ≡ true) ⊎ (o.status ≡ NO_STORE)) × RunAlways o old new from rest same_input
   session_of file m = d.session (ap is_run (sym (one (run file) m)))
 
   pub jobs_of : (file : List ℕ) (number count : ℕ) → Means words (work file number count)

@@ -1,5 +1,6 @@
 -- How a command that answers ends, and where its line alone was put.
 use Rattle.std.specs.Prelude.{◌≡◌, ◌⊎◌, ◌≤◌, ℕ, List, ◌++◌, Result, Ok, Err, IsOk, IsTrue, refl}
+use Rattle.command_face.specs.declared.status.TheConstants.{DISK_FAILED, DONE, SINK_FAILED}
 use Rattle.command_face.specs.declared.stop.StopReason.{StopReason}
 use Rattle.command_face.specs.declared.stop.StopReason.TheVariants as stop
 use Rattle.std.proofs.Common.{ap, sym, ◌∙◌, subst, inl, inr}
@@ -53,12 +54,14 @@ pub line_unless : {O : Type 0} (sink_of : O → SinkState) (old mid : O) (new : 
     (end : Result (Unit {0}) StopReason) (status : ℕ) → status ≡ status_at end → PutsNone old mid end
     → IsTrue (sink_of old).tells → (IsTrue (sink_of mid).tells
     → PutsLast (sink_of mid).given new.given (line_at end) (Rose (sink_of mid).faults new.faults))
-    → (status ≡ 0) ⊎ (status ≡ 7) ⊎ (status ≡ 9) ⊎ PutsLine status (sink_of old) new
+    → (status ≡ DONE) ⊎ (status ≡ DISK_FAILED) ⊎ (status ≡ SINK_FAILED) ⊎ PutsLine status (sink_of old) new
 line_unless sink_of old mid new (Ok x) status is none told line = inl is
 line_unless {O} sink_of old mid new (Err why) status is none told line = elim none
-    as (λ _. (status ≡ 0) ⊎ (status ≡ 7) ⊎ (status ≡ 9) ⊎ PutsLine status (sink_of old) new) [
+    as (λ _. (status ≡ DONE) ⊎ (status ≡ DISK_FAILED) ⊎ (status ≡ SINK_FAILED)
+    ⊎ PutsLine status (sink_of old) new) [
       | inl disk ↦ inr (inl (is ∙ ap status_of disk))
-      | inr rest ↦ elim rest as (λ _. (status ≡ 0) ⊎ (status ≡ 7) ⊎ (status ≡ 9) ⊎ PutsLine status
+      | inr rest ↦ elim rest as (λ _. (status ≡ DONE) ⊎ (status ≡ DISK_FAILED) ⊎ (status ≡ SINK_FAILED)
+          ⊎ PutsLine status
           (sink_of old) new) [
             | inl sink ↦ inr (inr (inl (is ∙ ap status_of sink)))
             | inr same ↦ inr (inr (inr (record {

@@ -7,6 +7,7 @@ use Rattle.disk_face.specs.States.{State}
 use Rattle.disk_face.specs.Streams.{SinkState}
 use Rattle.disk_face.proofs.MomentLaws.{Leaves-none}
 use Rattle.disk_face.specs.Devices.{devices}
+use Rattle.command_face.specs.declared.status.TheConstants.{FAULTY_WORDS}
 use Rattle.command_face.specs.Outcomes.{PutsLast, line_at, status_at}
 use Rattle.command_face.specs.declared.outcome.Outcome.{Outcome}
 use Rattle.command_face.specs.declared.stop.StopReason.TheVariants as stop
@@ -30,13 +31,13 @@ untouched s = record {
 
 module _ (words : List (List ℕ)) (none : MeansNone words) (o : Outcome) (disk : State) (out after : SinkState)
     (is : o ≡ record { status = 1; done = 0; kept_done = 0; kept_turn = 0 }) where
-  status : o.status ≡ 1
+  status : o.status ≡ FAULTY_WORDS
   status = ap (λ (x : Outcome). x.status) is
 
   not_status : (n : ℕ) → 1 ≢ n → o.status ≢ n
   not_status n other same = other (sym status ∙ same)
 
-  pub words_faulty : (o.status ≡ 1) ↔ MeansNone words
+  pub words_faulty : (o.status ≡ FAULTY_WORDS) ↔ MeansNone words
   words_faulty = (λ _. none, λ _. status)
 
   pub mounts_nothing : {same_bay : Type 0} → same_bay

@@ -7,6 +7,7 @@ use Rattle.disk_face.specs.States.{State}
 use Rattle.disk_face.specs.Streams.{SinkState, SourceState}
 use Rattle.disk_face.specs.declared.bay.Mounted.TheVariants.{There}
 use Rattle.disk_face.specs.Devices.{Devices, devices}
+use Rattle.command_face.specs.declared.status.TheConstants.{DISK_FAILED, DONE, FAULTY_REQUEST, NO_FILE, SINK_FAILED, SOURCE_FAILED, TOO_MANY}
 use Rattle.command_face.specs.Layers.{Answers, IsCommandReason, Keeps, KeepsAt, PutsNone}
 use Rattle.command_face.specs.Mounting.{IsMounted, mounted, not_there}
 use Rattle.command_face.specs.Outcomes.{PutsLast, line_at, status_at}
@@ -70,12 +71,13 @@ module _ {O : Type 0} (sink_of : O → SinkState) (c : Command) (none : IsFalse 
   serves_not : {A : Type 0} → IsTrue (serves c) → A
   serves_not has = not_both (sym has ∙ none)
 
-  mounted_as : IsTrue (mounts c) → IsMounted (file_of c) (makes c) new.last_mount (o.status ≡ 7)
-      (o.status ≡ 3)
+  mounted_as : IsTrue (mounts c) → IsMounted (file_of c) (makes c) new.last_mount (o.status ≡ DISK_FAILED)
+      (o.status ≡ NO_FILE)
   mounted_as mounts =
       let m = layer.mounted mounts in
       record {
-        answer = elim m.answer as (λ _. (o.status ≡ 7) ⊎ (new.last_mount ≡ mounted (file_of c) (makes c)
+        answer = elim m.answer as (λ _. (o.status ≡ DISK_FAILED)
+            ⊎ (new.last_mount ≡ mounted (file_of c) (makes c)
             There)
             ⊎ (new.last_mount ≡ mounted (file_of c) (makes c) (not_there (makes c)))) [
               | inl disk ↦ inl (status ∙ ap (λ (e : Result (Unit {0}) StopReason). status_at e) disk)
@@ -90,7 +92,8 @@ module _ {O : Type 0} (sink_of : O → SinkState) (c : Command) (none : IsFalse 
   rose_after : (a b d : ℕ) → Rose a b → b ≤ d → Rose a d
   rose_after a b d rose low = omega (arith, rose, low)
 
-  keeps_after : Keeps old new (sink_of out) after (o.status ≡ 7) (o.status ≡ 9) (o.status ≡ 0)
+  keeps_after : Keeps old new (sink_of out) after (o.status ≡ DISK_FAILED) (o.status ≡ SINK_FAILED)
+      (o.status ≡ DONE)
   keeps_after =
       let k = layer.keeps in
       record {
@@ -129,7 +132,7 @@ module _ {O : Type 0} (sink_of : O → SinkState) (c : Command) (none : IsFalse 
     frame = λ _ kept. layer.frame kept;
     keeps = λ _. keeps_after;
     formats = λ file k names same tells empty.
-        subst (λ n. Formats k names old new ((n ≡ 0) ⊎ (n ≡ 9))) (sym status)
+        subst (λ n. Formats k names old new ((n ≡ DONE) ⊎ (n ≡ SINK_FAILED))) (sym status)
         (formats_by k names end (layer.formats file k names same tells empty));
     silent = λ made tells failed.
         let disk = disk_by end (sym status ∙ failed) in
@@ -137,7 +140,8 @@ module _ {O : Type 0} (sink_of : O → SinkState) (c : Command) (none : IsFalse 
         line;
     unread = λ _. record {
       input = input;
-      no_session = subst (λ n. (n ≢ 2) × (n ≢ 8) × (n ≢ 11)) (sym status) (plain_status end layer.plain);
+      no_session = subst (λ n. (n ≢ FAULTY_REQUEST) × (n ≢ SOURCE_FAILED) × (n ≢ TOO_MANY)) (sym status)
+          (plain_status end layer.plain);
       numbers = (
         ap (λ (x : Outcome). x.done) is,
         ap (λ (x : Outcome). x.kept_done) is,

@@ -9,6 +9,7 @@ use Rattle.store_model.specs.Plain.{IsPlain}
 use Rattle.store_model.specs.States.{Chain, Limits, State, Step, served}
 use Rattle.store_core.proofs.PlainLaws.{ArePlain, served_plain}
 use Rattle.ask_session.specs.Runs.{last_state}
+use Rattle.command_face.specs.declared.status.TheConstants.{SINK_FAILED}
 use Rattle.served_file.specs.Served.{Starts, state_after}
 use Rattle.run_command.specs.Headline.{next_states, served_states}
 
@@ -62,7 +63,7 @@ next_plain limits s (r ∷ others) h = served_plain limits s r h
 -- also after a request that was served and whose reply wasn't put whole
 pub served_last : (status : ℕ) (limits : Limits) (s : State) (states : List State) (others : List Request)
     → ArePlain (last_state s states) → ArePlain (last_state s (served_states status limits s states others))
-served_last status limits s states others h = by (status == 9)
+served_last status limits s states others h = by (status == SINK_FAILED)
   where
     by : (nine : Bool) → ArePlain (last_state s
         (cond nine (states ++ next_states limits (last_state s states) others) states))

@@ -20,6 +20,7 @@ use Rattle.store_model.specs.States as store_state
 use Rattle.store_model.specs.Connection.{StoreValue}
 use Rattle.store_model.specs.Opened.{IsOpening, RefusesStore, RefusesUnchanged}
 use Rattle.store_model.specs.Plain.{IsPlain}
+use Rattle.command_face.specs.declared.status.TheConstants.{NO_STORE}
 use Rattle.command_face.specs.Outcomes.{EndsBy, status_of}
 use Rattle.command_face.specs.Refusing.{IsRefused, stop_of}
 use Rattle.command_face.specs.declared.stop.StopReason.{StopReason}
@@ -64,7 +65,7 @@ why_unopened t m b file why plain o (inr is) =
     (sym (ap (λ (x : choice.SlotTable). x.chosen.header.version) same) ∙ is.version) plain)
 
 -- a file that isn't opened for what its bytes show is never served
-not_four : (why : OpenFault) → WhyUnopened why → status_of (stop_of why) ≡ 4 → ⊥
+not_four : (why : OpenFault) → WhyUnopened why → status_of (stop_of why) ≡ NO_STORE → ⊥
 not_four (opening.Slot slot.Disk) disk four = omega (arith, four)
 not_four opening.NoMemory memory four = omega (arith, four)
 not_four (opening.Slot slot.Short) none four = elim none [ ]
@@ -75,7 +76,7 @@ not_four (opening.Slot (slot.Codec f at)) none four = elim none [ ]
 not_four (opening.Table broken) none four = elim none [ ]
 
 pub unopened_never : (file : List ℕ) (why : OpenFault) → RefusesStore CLASSES file why
-    → status_of (stop_of why) ≡ 4 → NeverServed file
+    → status_of (stop_of why) ≡ NO_STORE → NeverServed file
 unopened_never file why refused four m b plain opens =
     not_four why (why_unopened opens.table m b file why plain opens.opens refused) four
 
@@ -85,7 +86,7 @@ begins_itself kind.Settled found = refl
 begins_itself kind.Moving found = (omega arith, omega arith)
 
 -- a refusal that isn't the disk's changes nothing
-pub refused_unchanged : (a b : State) (why : OpenFault) → status_of (stop_of why) ≡ 4
+pub refused_unchanged : (a b : State) (why : OpenFault) → status_of (stop_of why) ≡ NO_STORE
     → RefusesUnchanged a b why
     → Unchanged a b
 refused_unchanged a b (opening.Slot slot.Disk) four is = absurd (omega (arith, four))
@@ -157,7 +158,7 @@ opened_plain a b s told is = sym (ap (λ (x : store_state.State). x.book.digests
 
 -- the file that was mounted is the one that the call began with
 pub never_mounted : (old first z : State) (why : OpenFault) → AfterMount old first
-    → IsOpening CLASSES first z (Err why) → IsTrue old.tells → status_of (stop_of why) ≡ 4
+    → IsOpening CLASSES first z (Err why) → IsTrue old.tells → status_of (stop_of why) ≡ NO_STORE
     → NeverServed old.file
 never_mounted old first z why mount opening told four = subst NeverServed (mount.same_file told)
     (unopened_never first.file why (opening.refused (mount.told ∙ told)) four)

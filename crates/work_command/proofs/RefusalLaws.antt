@@ -3,6 +3,7 @@ use Rattle.std.specs.Prelude.{◌≡◌, ℕ, List, Result, Ok, Err, OnErr, IsTr
 use Rattle.std.proofs.Common.{arith, ap, sym, ◌∙◌, inl, inr}
 use Rattle.disk_face.specs.States.{State}
 use Rattle.disk_face.specs.Streams.{SinkState}
+use Rattle.command_face.specs.declared.status.TheConstants.{NO_STORE}
 use Rattle.work_command.specs.Steps.{OpenWorkSteps, WorkSteps, jobs_numbered}
 use Rattle.served_file.specs.Unserved.{NeverServed}
 use Rattle.command_face.specs.Outcomes.{status_at}
@@ -13,7 +14,7 @@ use Rattle.disk_face.specs.Devices.{devices}
 
 module _ {D : Type 0} (disk_of : D → State) (file : List ℕ) (number count : ℕ) (old z : State)
     (out put : SinkState) (end : Result (Unit {0}) StopReason) (told : IsTrue old.tells)
-    (four : status_at end ≡ 4) where
+    (four : status_at end ≡ NO_STORE) where
   pub never_worked : WorkSteps disk_of file (jobs_numbered number count) (devices old out) (devices z put) end
       → NeverServed old.file
   never_worked (inl (is, same)) = elim is.which as (λ _. NeverServed old.file) [
@@ -30,7 +31,7 @@ module _ {D : Type 0} (disk_of : D → State) (file : List ℕ) (number count : 
       by (inl (inr (inr is), same)) = absurd (omega (arith, four, ap status_at is.ended))
       by (inr is) = done end four is.only
         where
-          done : (e : Result (Unit {0}) StopReason) → status_at e ≡ 4 → OnErr e (e ≡ Err stop.Sink)
+          done : (e : Result (Unit {0}) StopReason) → status_at e ≡ NO_STORE → OnErr e (e ≡ Err stop.Sink)
               → NeverServed old.file
           done (Ok y) n only = absurd (omega (arith, n))
           done (Err why) n only = absurd (omega (arith, n, ap status_at only))

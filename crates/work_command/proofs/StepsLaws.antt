@@ -17,6 +17,7 @@ use Rattle.table_rules.specs.Opening.{Opens}
 use Rattle.store_model.specs.Connection.{StoreValue}
 use Rattle.store_model.specs.Opened.{IsOpening, RefusesStore}
 use Rattle.reopen.specs.declared.fault.OpenFault.{OpenFault}
+use Rattle.command_face.specs.declared.status.TheConstants.{DISK_FAILED, DONE, NO_FILE, NO_MEMORY, NO_STORE, SINK_FAILED}
 use Rattle.command_face.specs.Mounting.{IsMounted, mounted}
 use Rattle.work_command.specs.Steps.{OpenWorkSteps, WorkSteps, IsAllDone, IsNotBegun, IsRefusal, IsStopped, jobs_numbered}
 use Rattle.command_face.specs.Refusing.{stop_of}
@@ -36,15 +37,16 @@ not_both is = absurd (cc)
 
 pub record Whole (file : List ℕ) (old z : State) (out put : SinkState) (n : ℕ) : Type 0 where
   pub keeps : KeepsWork (devices old out) (devices z put) n
-  pub mounted : IsMounted file false z.last_mount (n ≡ 7) (n ≡ 3)
-  pub known : (is_working n ≡ true) ⊎ (n ≡ 4)
+  pub mounted : IsMounted file false z.last_mount (n ≡ DISK_FAILED) (n ≡ NO_FILE)
+  pub known : (is_working n ≡ true) ⊎ (n ≡ NO_STORE)
   pub nothing : has_worked n ≡ false → put ≡ out
-  pub untouched : (n ≡ 3) ⊎ (n ≡ 4) → Untouched old z
+  pub untouched : (n ≡ NO_FILE) ⊎ (n ≡ NO_STORE) → Untouched old z
 
 -- no sink was called
 no_sink : (old z : State) (out put : SinkState) (n : ℕ) → old.faults ≤ z.faults
-    → (n ≡ 7 → Rose old.faults z.faults)
-    → old.turn ≤ z.turn → z.tells ≡ old.tells → z.tells_images ≡ old.tells_images → n ≢ 9 → put ≡ out
+    → (n ≡ DISK_FAILED → Rose old.faults z.faults)
+    → old.turn ≤ z.turn → z.tells ≡ old.tells → z.tells_images ≡ old.tells_images → n ≢ SINK_FAILED
+    → put ≡ out
     → KeepsWork (devices old out) (devices z put) n
 no_sink old z out put n later rose turns told images nine same = record {
   later = later;
@@ -92,7 +94,7 @@ module _ (file : List ℕ) (number count : ℕ) (old z : State) (out put : SinkS
   module _ (first : State) (mount : AfterMount old first) (calm : first.faults ≡ old.faults)
       (there : first.last_mount ≡ mounted file false There) (frame : KeepsDisk first z)
       (later : first.faults ≤ z.faults) where
-    mounted_there : (n : ℕ) → n ≢ 3 → IsMounted file false z.last_mount (n ≡ 7) (n ≡ 3)
+    mounted_there : (n : ℕ) → n ≢ NO_FILE → IsMounted file false z.last_mount (n ≡ DISK_FAILED) (n ≡ NO_FILE)
     mounted_there n three = record {
       answer = inr (inl (frame.stays.same_mount ∙ there));
       absent = (
@@ -102,8 +104,9 @@ module _ (file : List ℕ) (number count : ℕ) (old z : State) (out put : SinkS
     }
 
     -- nothing was put
-    stopped_there : (n : ℕ) → (is_working n ≡ true) ⊎ (n ≡ 4) → n ≢ 3 → n ≢ 9
-        → (n ≡ 7 → Rose first.faults z.faults) → put ≡ out → (n ≡ 4 → Untouched old z) → All n
+    stopped_there : (n : ℕ) → (is_working n ≡ true) ⊎ (n ≡ NO_STORE) → n ≢ NO_FILE → n ≢ SINK_FAILED
+        → (n ≡ DISK_FAILED → Rose first.faults z.faults) → put ≡ out → (n ≡ NO_STORE → Untouched old z)
+        → All n
     stopped_there n known three nine rose same untouched = record {
       keeps = no_sink old z out put n (omega (arith, calm, later))
           (λ is. subst (λ (k : ℕ). Rose k z.faults) calm (rose is))
@@ -116,8 +119,10 @@ module _ (file : List ℕ) (number count : ℕ) (old z : State) (out put : SinkS
     }
 
     -- a summary was put, or a front of it
-    put_there : (n : ℕ) → is_working n ≡ true → has_worked n ≡ true → n ≢ 3 → n ≢ 4 → n ≢ 7
-        → out.faults ≤ put.faults → (n ≡ 9 → Rose out.faults put.faults) → (n ≡ 0 → put.faults ≡ out.faults)
+    put_there : (n : ℕ) → is_working n ≡ true → has_worked n ≡ true → n ≢ NO_FILE → n ≢ NO_STORE
+        → n ≢ DISK_FAILED
+        → out.faults ≤ put.faults → (n ≡ SINK_FAILED → Rose out.faults put.faults)
+        → (n ≡ DONE → put.faults ≡ out.faults)
         → put.tells ≡ out.tells → All n
     put_there n known worked three four seven sink_later rose sink_calm told = record {
       keeps = record {
@@ -138,7 +143,8 @@ module _ (file : List ℕ) (number count : ℕ) (old z : State) (out put : SinkS
     }
 
 -- the statuses of a file that isn't opened
-known_refusal : (n : ℕ) → (n ≡ 4) ⊎ (n ≡ 7) ⊎ (n ≡ 10) → (is_working n ≡ true) ⊎ (n ≡ 4)
+known_refusal : (n : ℕ) → (n ≡ NO_STORE) ⊎ (n ≡ DISK_FAILED) ⊎ (n ≡ NO_MEMORY)
+    → (is_working n ≡ true) ⊎ (n ≡ NO_STORE)
 known_refusal n (inl four) = inr four
 known_refusal n (inr (inl seven)) = inl (ap is_working seven)
 known_refusal n (inr (inr ten)) = inl (ap is_working ten)
@@ -284,16 +290,17 @@ module _ {D : Type 0} (disk_of : D → State) (file : List ℕ) (number count : 
 -- ---- completeness
 
 -- of the statuses over a file that opens those are left that no fault has
-pub status_calm : (n : ℕ) → is_working n ≡ true → n ≢ 3 → n ≢ 7 → n ≢ 9 → (n ≡ 0) ⊎ (n ≡ 10)
-status_calm n known three seven nine = elim (cases_eq n 0) as (λ _. (n ≡ 0) ⊎ (n ≡ 10)) [
+pub status_calm : (n : ℕ) → is_working n ≡ true → n ≢ NO_FILE → n ≢ DISK_FAILED → n ≢ SINK_FAILED
+    → (n ≡ DONE) ⊎ (n ≡ NO_MEMORY)
+status_calm n known three seven nine = elim (cases_eq n DONE) as (λ _. (n ≡ DONE) ⊎ (n ≡ NO_MEMORY)) [
   | inl zero ↦ inl zero
-  | inr some ↦ elim (cases_eq n 10) as (λ _. (n ≡ 0) ⊎ (n ≡ 10)) [
+  | inr some ↦ elim (cases_eq n NO_MEMORY) as (λ _. (n ≡ DONE) ⊎ (n ≡ NO_MEMORY)) [
     | inl ten ↦ inr ten
     | inr other ↦ absurd (none some other)
   ]
 ]
   where
-    none : n ≢ 0 → n ≢ 10 → ⊥
+    none : n ≢ DONE → n ≢ NO_MEMORY → ⊥
     none zero ten =
         let a = ne_eqb n 0 zero in
         let b = ne_eqb n 3 three in
@@ -307,9 +314,10 @@ status_calm n known three seven nine = elim (cases_eq n 0) as (λ _. (n ≡ 0) �
 -- the jobs are done, or memory is wanting, where no fault came
 pub jobs_done : (file : List ℕ) (number count n : ℕ) (old z : State) (out after : SinkState)
     → is_working n ≡ true
-    → KeepsWork (devices old out) (devices z after) n → IsMounted file false z.last_mount (n ≡ 7) (n ≡ 3)
+    → KeepsWork (devices old out) (devices z after) n
+    → IsMounted file false z.last_mount (n ≡ DISK_FAILED) (n ≡ NO_FILE)
     → z.last_mount ≡ mounted file false There → IsCalm old.faults z.faults
-    → IsCalm out.faults after.faults → (n ≡ 0) ⊎ (n ≡ 10)
+    → IsCalm out.faults after.faults → (n ≡ DONE) ⊎ (n ≡ NO_MEMORY)
 jobs_done file number count n old z out after known keeps mount there calm sink_calm = status_calm n known
     (λ is. not_both (ap is_mounted (sym (mount.absent.0 is) ∙ there)))
     (λ is. omega (arith, keeps.rose is, calm.same, calm.below))

@@ -6,6 +6,7 @@ use Rattle.disk_face.specs.Counts.{Rose}
 use Rattle.disk_face.specs.States.{State}
 use Rattle.disk_face.specs.Streams.{Puts, SinkState}
 use Rattle.work_maker.proofs.ListLaws.{how_many}
+use Rattle.command_face.specs.declared.status.TheConstants.{DISK_FAILED, DONE, NO_MEMORY, NO_STORE, SINK_FAILED}
 use Rattle.work_command.specs.Steps.{OpenWorkSteps, WorkSteps, IsAllDone, jobs_numbered}
 use Rattle.command_face.specs.Faults.{line_of}
 use Rattle.command_face.specs.Refusing.{stop_of}
@@ -45,7 +46,8 @@ module _ {D : Type 0} (disk_of : D → State) (number count : ℕ) (z : State) (
   pub summary_put : {first : State}
       (x : IsAllDone disk_of (jobs_numbered number count) (devices first out) (devices z put)
       end)
-      → IsTrue out.tells → PutsLast out.given after.given (summary_text x.summary) (status_at end ≡ 9)
+      → IsTrue out.tells
+      → PutsLast out.given after.given (summary_text x.summary) (status_at end ≡ SINK_FAILED)
   summary_put x told = by end x.only (x.puts told) (line (x.told ∙ told))
     where
       text : List ℕ
@@ -53,14 +55,14 @@ module _ {D : Type 0} (disk_of : D → State) (number count : ℕ) (z : State) (
 
       by : (e : Result (Unit {0}) StopReason) → OnErr e (e ≡ Err stop.Sink) → Puts out.given put.given text e
           → PutsLast put.given after.given (line_at e) (Rose put.faults after.faults)
-          → PutsLast out.given after.given text (status_at e ≡ 9)
+          → PutsLast out.given after.given text (status_at e ≡ SINK_FAILED)
       by (Ok y) only puts ends =
           let same = no_line put after (Rose put.faults after.faults) ends in
-          text_put out put after text (Ok y) (0 ≡ 9) puts same (inl (same ∙ puts.all))
+          text_put out put after text (Ok y) (DONE ≡ SINK_FAILED) puts same (inl (same ∙ puts.all))
       by (Err why) only puts ends =
           let none = subst (λ (e : Result (Unit {0}) StopReason).
           PutsLast put.given after.given (line_at e) (Rose put.faults after.faults)) only ends in
-          text_put out put after text (Err why) (status_of why ≡ 9) puts
+          text_put out put after text (Err why) (status_of why ≡ SINK_FAILED) puts
           (no_line put after (Rose put.faults after.faults) none)
           (inr (ap (λ (e : Result (Unit {0}) StopReason). status_at e) only))
 
@@ -71,7 +73,7 @@ module _ {D : Type 0} (disk_of : D → State) (number count : ℕ) (z : State) (
       not_both (sym none ∙ ap (λ (x : Result (Unit {0}) StopReason). has_worked (status_at x)) (sym is)
       ∙ worked)
 
-  unworked_refusal : (n : ℕ) → (n ≡ 4) ⊎ (n ≡ 7) ⊎ (n ≡ 10) → has_worked n ≡ false
+  unworked_refusal : (n : ℕ) → (n ≡ NO_STORE) ⊎ (n ≡ DISK_FAILED) ⊎ (n ≡ NO_MEMORY) → has_worked n ≡ false
   unworked_refusal n (inl four) = ap has_worked four
   unworked_refusal n (inr (inl seven)) = ap has_worked seven
   unworked_refusal n (inr (inr ten)) = ap has_worked ten

@@ -29,6 +29,7 @@ use Rattle.work_maker.specs.Jobs.{jobs}
 use Rattle.work_maker.proofs.ListLaws.{how_many}
 use Rattle.work_session.specs.Works.{ArePaidLines, HasDone, HasStopped, IsJobImage}
 use Rattle.work_session.specs.declared.summary.Summary.{Summary}
+use Rattle.command_face.specs.declared.status.TheConstants.{DISK_FAILED, NO_FILE, NO_MEMORY, SINK_FAILED}
 use Rattle.work_command.specs.Steps.{jobs_of, jobs_numbered}
 use Rattle.served_file.specs.Served.{EndsTight, IsNextStart, OpensTo, OpensToBeing, OpensToKept, Starts, limits_with, most_left, turn_opened, found_with}
 use Rattle.command_face.specs.Outcomes.{PutsLast}
@@ -233,9 +234,10 @@ module _ (t : choice.SlotTable) (m : Map) (b : Book) (old : State) (lawful : IsL
         over_z : IsOver CLASSES d.new z.file
         over_z = d.ran.over d.ran.unbroken (d.ran.frame.stays.told ∙ op.told)
 
-        pub all_done : (status : ℕ) → is_working status ≡ true → has_worked status ≡ true → status ≢ 7
-            → ((status ≡ 3) ⊎ (status ≡ 10) → ⊥)
-            → (IsTrue out.tells → PutsLast out.given after.given (summary_text x) (status ≡ 9))
+        pub all_done : (status : ℕ) → is_working status ≡ true → has_worked status ≡ true
+            → status ≢ DISK_FAILED
+            → ((status ≡ NO_FILE) ⊎ (status ≡ NO_MEMORY) → ⊥)
+            → (IsTrue out.tells → PutsLast out.given after.given (summary_text x) (status ≡ SINK_FAILED))
             → WorkHolds (found_with u t m b) number count status (devices old out) (devices z after)
         all_done status known worked seven begun puts = record {
           start = start;

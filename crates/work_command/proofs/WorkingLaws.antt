@@ -19,6 +19,7 @@ use Rattle.store_model.specs.Opened.{IsFoundImage, IsOpening, LeavesRoom, RestsO
 use Rattle.reopen.specs.declared.fault.OpenFault.{OpenFault}
 use Rattle.reopen.specs.declared.fault.OpenFault.TheVariants as opening
 use Rattle.store_model.specs.Plain.{IsPlain}
+use Rattle.command_face.specs.declared.status.TheConstants.{SINK_FAILED}
 use Rattle.work_command.specs.Steps.{OpenWorkSteps, WorkSteps, IsAllDone, IsNotBegun, IsRefusal, IsStopped, jobs_numbered}
 use Rattle.command_face.specs.Refusing.{stop_of}
 use Rattle.served_file.specs.Served.{IsNextStart, Starts, found_with}
@@ -147,9 +148,9 @@ module _ (t : choice.SlotTable) (m : Map) (b : Book) (old : State) (lawful : IsL
           op = opened_by t m b old first mount told o (disk_of x.mid) x.store calm_mount x.opening
 
           puts : (e : Result (Unit {0}) StopReason) → end ≡ e → IsTrue out.tells
-              → PutsLast out.given after.given (summary_text x.summary) (status_at e ≡ 9)
+              → PutsLast out.given after.given (summary_text x.summary) (status_at e ≡ SINK_FAILED)
           puts e is = subst (λ (e : Result (Unit {0}) StopReason). IsTrue out.tells
-              → PutsLast out.given after.given (summary_text x.summary) (status_at e ≡ 9)) is
+              → PutsLast out.given after.given (summary_text x.summary) (status_at e ≡ SINK_FAILED)) is
               (summary_put disk_of number count z out put after end line x)
 
           by : (e : Result (Unit {0}) StopReason) → end ≡ e → OnErr e (e ≡ Err stop.Sink)

@@ -1,5 +1,6 @@
 -- What the jobs left and put, and the line of their end after it.
 use Rattle.std.proofs.Common.{◌≡◌, ap, false, subst, sym}
+use Rattle.command_face.specs.declared.status.TheConstants.{DISK_FAILED, NO_FILE}
 use Rattle.command_face.specs.Mounting.{IsMounted}
 use Rattle.served_file.specs.Unserved.{IsRefusedService}
 use Rattle.command_face.specs.Outcomes.{status_at}
@@ -54,7 +55,7 @@ returns-clause-mounted g c =
     let put = g.O.Sink.state c.work_over-end.new.output in
     let status : c.finish.result.status ≡ status_at c.work_over-end.result =
     ap (λ (x : Outcome). x.status) c.finish.ensures.status in
-    subst (λ n. IsMounted c.args.file.now false new.last_mount (n ≡ 7) (n ≡ 3))
+    subst (λ n. IsMounted c.args.file.now false new.last_mount (n ≡ DISK_FAILED) (n ≡ NO_FILE))
     (sym status)
     (whole g.B.Disk.state c.args.file.now c.args.number c.args.count old new out put c.work_over-end.result
     c.work_over-end.ensures).mounted
