@@ -149,8 +149,7 @@ module _ {D I O : Type 0} (seen : Seen D I O) (lawful : (d : D) → IsLawful (se
         (λ rests below calm settled opened. settled_still t m b old o (lawful before.disk) mount.same_turn
         (λ rests. Leaves-call old.may_leave mount.time mount.images) rests below settled opened)
         requests end (seen.source before.source) (seen.source now.source) (seen.sink before.sink) after
-        NO_FILE 0 refl refl
-        (λ is. omega (arith, is))
+        NO_FILE 0 refl refl (λ is. omega (arith, is))
         (λ has. absurd (never_true (sym (ap is_mounted is) ∙ has))) (λ calm has. never_true has)
         (λ calm. next_found (mount.same_file told) (rests_first t m b old z mount told o))
         (Err stop.NoFile) refl tt (line_out (Err stop.NoFile) line)
@@ -181,8 +180,7 @@ module _ {D I O : Type 0} (seen : Seen D I O) (lawful : (d : D) → IsLawful (se
           (λ rests below calm settled opened. settled_still t m b old o (lawful before.disk)
           (same.same_turn ∙ mount.same_turn) still rests below settled opened)
           requests end (seen.source before.source) (seen.source now.source) (seen.sink before.sink) after
-          NO_MEMORY z.turn refl refl
-          (λ is. omega (arith, is)) (λ has. refl) (λ calm has. never_true has)
+          NO_MEMORY z.turn refl refl (λ is. omega (arith, is)) (λ has. refl) (λ calm has. never_true has)
           (λ calm. next_found file (λ rests image left. subst (λ (f : List ℕ). SameOnFound t f image)
           (sym file) (rests image (mount.images image (same.images image left)))))
           (Err stop.NoMemory) refl tt (line_out (Err stop.NoMemory) line) no_memory
@@ -225,8 +223,7 @@ module _ {D I O : Type 0} (seen : Seen D I O) (lawful : (d : D) → IsLawful (se
           (subst (λ (k : ℕ). z.left_since k image) (sym (op.turn settled)) since))).same_length
           ∙ op.over.same_length)
           requests end (seen.source before.source) (seen.source now.source) (seen.sink before.sink) after
-          NO_MEMORY z.turn refl refl
-          (λ is. omega (arith, is)) (λ has. refl) (λ calm has. never_true has)
+          NO_MEMORY z.turn refl refl (λ is. omega (arith, is)) (λ has. refl) (λ calm has. never_true has)
           (λ calm. next_over t x.store old z x.store.in_use.sequence op.sound op.over op.block (omega arith)
           op.rests) (Err stop.NoMemory) refl tt (line_out (Err stop.NoMemory)
           (subst (λ (y : SessionEnd). PutsEnd y.end) x.ended line)) no_memory))
@@ -297,8 +294,7 @@ module _ {D I O : Type 0} (seen : Seen D I O) (lawful : (d : D) → IsLawful (se
         carried : (status : ℕ) → status ≡ status_at ending
             → RunHolds (found_with s.in_use.block t m b) requests end (counts_of status y.sitting)
             (devices old (seen.sink before.sink)) (devices (seen.disk y.mid.disk) after)
-            (seen.source before.source)
-            (seen.source now.source)
+            (seen.source before.source) (seen.source now.source)
             → Runs (outcome_of e)
         carried status is runs =
             let same : outcome_of e ≡ counts_of status y.sitting = ap outcome_of ended ∙ (λ i. record {
@@ -315,8 +311,7 @@ module _ {D I O : Type 0} (seen : Seen D I O) (lawful : (d : D) → IsLawful (se
             (subst (λ (u : SuperBlock). RunHolds (found_with u t m b) requests end
             (counts_of status y.sitting) (devices old (seen.sink before.sink))
             (devices (seen.disk y.mid.disk) after)
-            (seen.source before.source)
-            (seen.source now.source)) op.block runs))
+            (seen.source before.source) (seen.source now.source)) op.block runs))
 
     session_by : (how : End)
         → (y : EndsRun seen CLASSES s0 new (held mid before.source before.sink) now how)
@@ -325,8 +320,7 @@ module _ {D I O : Type 0} (seen : Seen D I O) (lawful : (d : D) → IsLawful (se
     session_by ends.End y sound ended =
         let un = y.last_turn.0 in
         carried ends.End y sound ended un refl DONE refl
-        (input_ended (so_far ends.End y) after
-        (seen.source now.source)
+        (input_ended (so_far ends.End y) after (seen.source now.source)
         (sound_mid ends.End y sound ended un refl) (Ok tt) tt (line_mid ends.End y sound ended un refl) refl
         (y.fewer refl) (y.last_turn.1 (y.ran.source_told ∙ told_source)))
     session_by ends.Line y sound ended =
@@ -335,8 +329,7 @@ module _ {D I O : Type 0} (seen : Seen D I O) (lawful : (d : D) → IsLawful (se
         let done : y.sitting.done ≤ budget = omega (arith, y.ran.done, y.few) in
         let numbered : counted new.done 1 ≡ y.sitting.done + 1 = omega (arith, un.counts.done, done) in
         carried ends.Line y sound ended un refl FAULTY_REQUEST refl
-        (line_failed (so_far ends.Line y) after
-        (seen.source now.source)
+        (line_failed (so_far ends.Line y) after (seen.source now.source)
         (sound_mid ends.Line y sound ended un refl) (Err (stop.Line (counted new.done 1))) numbered
         (line_mid ends.Line y sound ended un refl) refl (y.fewer refl) begins.0 begins.1)
     session_by ends.Source y sound ended =
