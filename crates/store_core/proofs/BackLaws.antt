@@ -12,9 +12,8 @@ use Rattle.placement_model.specs.Held.{IsFreed}
 use Rattle.placement_model.specs.LaidOut.{IsLaidOut, shown_book}
 use Rattle.placement_model.proofs.GuardLaws.{freed_nothing}
 use Rattle.placement_model.proofs.RiseLaws.{CellsRise-itself}
-use Rattle.store_core.specs.declared.store.Store.TheInside.{Inside}
 use Rattle.store_model.specs.Connection.{IsOver, StoreValue, limits_of, state_of}
-use Rattle.store_core.specs.Inside.{IsWhole, kept_of}
+use Rattle.store_core.specs.Inside.{Inside, IsWhole, kept_of}
 use Rattle.store_model.specs.Stores.{IsStore}
 use Rattle.store_model.specs.States.{Step}
 

@@ -15,12 +15,11 @@ use Rattle.flush_run.specs.Parts.{HandsValue, parts_of}
 use Rattle.placement_model.specs.Tried.{between, charged_by}
 use Rattle.change_charges.specs.Charging.{IsChargedBy, PlacesNew}
 use Rattle.change_charges.specs.declared.charge.ChargeResult.{ChargeResult}
-use Rattle.store_core.specs.declared.store.Store.TheInside.{Inside}
 use Rattle.store_core.specs.Answers.{refused_by}
 use Rattle.store_model.specs.Charges.{CanPut, ChargesParts, ChargesStore, change_of, quiet_place}
 use Rattle.store_model.specs.Connection.{StoreValue}
 use Rattle.store_model.specs.Flushing.{NeedsFlushAt, TakesOut, bytes_of}
-use Rattle.store_core.specs.Inside.{IsWhole, kept_of}
+use Rattle.store_core.specs.Inside.{Inside, IsWhole, kept_of}
 use Rattle.store_core.specs.Plans.{IsDelPlan, IsPutPlan}
 use Rattle.store_model.specs.Quiet.{IsCharged, charges_of, del_of, put_of}
 use Rattle.store_model.proofs.ChargedLaws.{ChargesTo}

@@ -16,12 +16,11 @@ use Rattle.flush_run.specs.FlushFrames.{LeavesOldOrNew}
 use Rattle.flush_run.specs.Parts.{HandsValue, parts_of}
 use Rattle.flush_run.specs.Settling.{FlushEnds}
 use Rattle.store_core.specs.declared.answers.Refusal.TheVariants as why
-use Rattle.store_core.specs.declared.store.Store.TheInside.{Inside}
 use Rattle.store_core.specs.Answers.{facts_at, refused_by}
 use Rattle.store_model.specs.Connection.{IsConnected, IsOver, StoreValue, limits_of}
 use Rattle.store_core.specs.Flushes.{ServesChange}
 use Rattle.store_model.specs.Flushing.{BeforeChange, CanMakeFlush, HasMadeFlush, IsBegun, bytes_of, flight_of, lift_start}
-use Rattle.store_core.specs.Inside.{IsWhole, kept_of}
+use Rattle.store_core.specs.Inside.{Inside, IsWhole, kept_of}
 use Rattle.store_model.specs.Quiet.{charges_of}
 use Rattle.store_model.specs.States.{refusal}
 use Rattle.store_core.proofs.FlushDoneLaws.{done_over, done_seen, done_whole, failed_seen, step_seen}

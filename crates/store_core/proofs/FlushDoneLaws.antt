@@ -30,12 +30,11 @@ use Rattle.flush_run.proofs.VersionLaws.{plain_book}
 use Rattle.flush_run.specs.Settling.{FlushEnds}
 use Rattle.store_core.specs.declared.answers.Refusal.{Refusal}
 use Rattle.store_core.specs.declared.answers.Done.{Done}
-use Rattle.store_core.specs.declared.store.Store.TheInside.{Inside}
 use Rattle.store_model.specs.Connection.{IsOver, StoreValue, RestsOnTable, base_of, limits_of, state_of}
 use Rattle.store_model.specs.Flushed.{IsFlushed}
 use Rattle.store_core.specs.Flushes.{IsFlush, IsFlushImage, flush_boundary, map_after, names_after, size_after}
 use Rattle.store_model.specs.Flushing.{CanMakeFlush, BeforeChange, flight_of, lift_start}
-use Rattle.store_core.specs.Inside.{IsWhole, kept_of}
+use Rattle.store_core.specs.Inside.{Inside, IsWhole, kept_of}
 use Rattle.store_model.specs.Quiet.{asked_after, charges_of}
 use Rattle.store_model.specs.States.{Facts, State, Step, refusal}
 use Rattle.store_core.specs.Answers.{facts_at}

@@ -28,11 +28,10 @@ use Rattle.placement_model.specs.Tried.{charged_by}
 use Rattle.change_charges.proofs.EndLaws.{blank, in_blank}
 use Rattle.placement_model.proofs.GoneLaws.{left_over}
 use Rattle.change_charges.proofs.SizedLaws.{sized_read}
-use Rattle.store_core.specs.declared.store.Store.TheInside.{Inside}
 use Rattle.store_model.specs.Connection.{IsOver, StoreValue, RestsOnTable, base_of, kept_map}
 use Rattle.store_core.specs.Flushes.{IsFlushImage, book_after, map_after}
 use Rattle.store_model.specs.Flushing.{CanMakeFlush, IsBegun, NeedsFlushAt, MayBegin, BeforeChange, bytes_of, flight_of, lift_start}
-use Rattle.store_core.specs.Inside.{IsWhole, kept_of}
+use Rattle.store_core.specs.Inside.{Inside, IsWhole, kept_of}
 use Rattle.store_core.specs.Keeps.{now_map}
 use Rattle.store_model.specs.Quiet.{charges_of, del_of, put_of}
 use Rattle.store_model.specs.States.{Limits, Served, State, Step, facts_of, refusal, served}

@@ -24,10 +24,9 @@ use Rattle.flush_run.specs.FlushFrames.{FlushFrame}
 use Rattle.flush_run.specs.Parts.{parts_of}
 use Rattle.flush_run.proofs.VersionLaws.{plain_book}
 use Rattle.flush_run.specs.Settling.{FlushEnds, IsSettled}
-use Rattle.store_core.specs.declared.store.Store.TheInside.{Inside}
 use Rattle.store_model.specs.Connection.{IsOver, StoreValue, RestsOnTable, SameOnTable, base_of, kept_map, state_of}
 use Rattle.store_model.specs.Flushed.{IsFlushed}
-use Rattle.store_core.specs.Inside.{IsWhole, kept_of}
+use Rattle.store_core.specs.Inside.{Inside, IsWhole, kept_of}
 use Rattle.store_model.specs.Stores.{IsStore}
 use Rattle.store_model.proofs.OverLaws.{same_itself}
 

@@ -1,5 +1,6 @@
 -- The fields of a store after a quiet change.
-use Rattle.std.specs.Prelude.{◌≡◌, ℕ, false}
+use Rattle.std.specs.Prelude.{◌≡◌, ℕ, List, false, vec_len}
+use Rattle.std.specs.Vec.{with_items}
 use Rattle.std.proofs.Common.{ap, sym, ◌∙◌, subst}
 use Rattle.size_class.specs.Rows.{cells_of}
 use Rattle.size_class.specs.declared.TheConstants.{SIZE_MAX}
@@ -10,11 +11,45 @@ use Rattle.held_guard.specs.Freed.{Freed}
 use Rattle.extent_table.specs.Extents.{Extents, IsTable, Spots}
 use Rattle.placement_model.specs.Held.{IsFreed}
 use Rattle.placement_model.specs.LaidOut.{shown_book}
-use Rattle.store_core.specs.declared.store.Store.TheInside.{Inside}
 use Rattle.store_model.specs.Connection.{StoreValue, base_of}
-use Rattle.store_core.specs.Inside.{IsWhole, kept_of}
+use Rattle.flush_run.specs.declared.hands.Hands.{Hands}
+use Rattle.store_core.specs.declared.store.Store.TheInside as store
+use Rattle.store_core.specs.Inside.{Inside, IsWhole, kept_of, unboxed}
 use Rattle.store_model.specs.Stores.{IsStore}
 use Rattle.store_model.proofs.ChangeLaws.{with_now}
+
+-- The fields of a store whose hands were lent, and its layout of the last checkpoint.
+abbrev pub lent : {C : ℕ} → store.Inside C → Hands C → Layout C → Inside C
+lent s hands layout = record { hands = hands; kept_layout = layout; broken = s.broken }
+
+pub lent_is : {C : ℕ} (s : store.Inside C) {hands : Hands C} {layout : Layout C} → hands ≡ s.hands.value
+    → layout ≡ s.kept_layout.value → lent s hands layout ≡ unboxed s
+lent_is s same same_layout = λ i. record {
+  hands = same i;
+  kept_layout = same_layout i;
+  broken = s.broken;
+}
+
+-- the buffer may have other bytes
+pub whole_with : {C : ℕ} (s : Inside C) (items : List ℕ) → vec_len (with_items s.hands.buf items) ≡ 65536
+    → IsWhole s → IsWhole (record s { hands = record s.hands { buf = with_items s.hands.buf items } })
+whole_with s items long whole = record {
+  classes = whole.classes;
+  wide = whole.wide;
+  version = whole.version;
+  base = whole.base;
+  few = whole.few;
+  buf = long;
+  divisor = whole.divisor;
+  kept_divisor = whole.kept_divisor;
+  kept_caps = whole.kept_caps;
+  room = whole.room;
+  cap = whole.cap;
+  guard_room = whole.guard_room;
+  table = whole.table;
+  sound = whole.sound;
+  freed = whole.freed;
+}
 
 -- What the fields of a store that isn't broken are to what contracts see of it.
 pub record IsOpened {C : ℕ} (s : Inside C) (t : StoreValue) : Type 0 where

@@ -27,9 +27,8 @@ use Rattle.placement_model.specs.LaidOut.{shown_book}
 use Rattle.placement_model.proofs.GuardLaws.{freed_nothing}
 use Rattle.store_core.specs.declared.answers.Refusal.{Refusal}
 use Rattle.store_core.specs.declared.answers.Done.{Done}
-use Rattle.store_core.specs.declared.store.Store.TheInside.{Inside}
 use Rattle.store_model.specs.Connection.{IsConnected, IsOver, StoreValue, RestsOnTable, SameOnTable, base_of, limits_of, state_of}
-use Rattle.store_core.specs.Inside.{IsWhole, kept_of}
+use Rattle.store_core.specs.Inside.{Inside, IsWhole, kept_of}
 use Rattle.store_core.specs.Keeps.{OpensToKeptOrNow, KeepsNow, kept_now}
 use Rattle.store_model.specs.States.{Step}
 use Rattle.store_model.specs.Stores.{IsStore}

@@ -24,11 +24,10 @@ use Rattle.flush_model.specs.Phases.{PlanState}
 use Rattle.flush_run.specs.declared.hands.Hands.{Hands}
 use Rattle.flush_run.specs.FlushFrames.{LeavesOldOrNew}
 use Rattle.flush_run.specs.Parts.{HandsValue, parts_of, size_in}
-use Rattle.store_core.specs.declared.store.Store.TheInside.{Inside}
 use Rattle.store_model.specs.Connection.{IsOver, StoreValue}
 use Rattle.store_core.specs.Flushes.{names_after, size_after}
 use Rattle.store_model.specs.Flushing.{CanMakeFlush, HasMadeFlush, IsBegun, BeforeChange, bytes_of, flight_of, spots_after, lift_start}
-use Rattle.store_core.specs.Inside.{IsWhole, kept_of}
+use Rattle.store_core.specs.Inside.{Inside, IsWhole, kept_of}
 use Rattle.store_model.specs.Quiet.{charges_of}
 
 -- what the device calls of a flush made of a store's parts

@@ -19,9 +19,8 @@ use Rattle.placement_model.specs.LaidOut.{IsLaidOut, shown_book}
 use Rattle.placement_model.proofs.GuardLaws.{freed_nothing}
 use Rattle.placement_model.proofs.RiseLaws.{CellsRise-itself}
 use Rattle.placement_model.proofs.ShownLaws.{book_shown}
-use Rattle.store_core.specs.declared.store.Store.TheInside.{Inside}
 use Rattle.store_model.specs.Connection.{IsOver, StoreValue, base_of, opened_store, state_of}
-use Rattle.store_core.specs.Inside.{IsWhole, kept_of}
+use Rattle.store_core.specs.Inside.{Inside, IsWhole, kept_of}
 use Rattle.store_model.specs.Stores.{IsStore}
 use Rattle.change_charges.proofs.EndLaws.{shown_balanced}
 use Rattle.store_model.proofs.StoreLaws.{kept_lies, now_lies}

@@ -1,5 +1,5 @@
 -- What a store's contracts see of its fields, and what holds of them.
-use Rattle.std.specs.Prelude.{◌≡◌, ℕ, ◌<◌, ◌≤◌, ◌^◌, false, vec_len}
+use Rattle.std.specs.Prelude.{◌≡◌, ℕ, ◌<◌, ◌≤◌, ◌^◌, Bool, false, vec_len}
 use Rattle.size_class.specs.Rows.{cells_of}
 use Rattle.size_class.specs.declared.TheConstants.{SIZE_MAX}
 use Rattle.slot_codec.specs.Spelling.{head_len}
@@ -7,10 +7,22 @@ use Rattle.segment_layout.specs.Layouts.{caps_of, divisor_of, grid_of}
 use Rattle.extent_table.specs.Extents.{IsTable}
 use Rattle.placement_model.specs.Held.{IsFreed}
 use Rattle.placement_model.specs.LaidOut.{shown_book}
-use Rattle.store_core.specs.declared.store.Store.TheInside.{Inside}
+use Rattle.segment_layout.specs.declared.layout.Layout.{Layout}
+use Rattle.flush_run.specs.declared.hands.Hands.{Hands}
+use Rattle.store_core.specs.declared.store.Store.TheInside as store
 use Rattle.store_model.specs.Connection.{StoreValue}
 use Rattle.store_model.specs.Stores.{IsStore}
 
+-- A store's fields, wherever they stand.
+pub record Inside (C : ℕ) : Type 0 where
+  pub hands : Hands C
+  pub kept_layout : Layout C
+  pub broken : Bool
+
+abbrev pub unboxed : {C : ℕ} → store.Inside C → Inside C
+unboxed s = record { hands = s.hands.value; kept_layout = s.kept_layout.value; broken = s.broken }
+
+-- what contracts see of them
 abbrev pub kept_of : {C : ℕ} → Inside C → StoreValue
 kept_of {C} s =
     record {
@@ -44,3 +56,9 @@ pub record IsWhole {C : ℕ} (s : Inside C) : Type 0 where
   pub table : s.broken ≡ false → IsTable s.hands.table
   pub sound : s.broken ≡ false → IsStore C (kept_of s)
   pub freed : s.broken ≡ false → IsFreed s.hands.guard.spans s.hands.table.now s.hands.table.kept
+
+abbrev pub kept_in : {C : ℕ} → store.Inside C → StoreValue
+kept_in s = kept_of (unboxed s)
+
+abbrev pub IsWholeIn : {C : ℕ} → store.Inside C → Type 0
+IsWholeIn s = IsWhole (unboxed s)

@@ -50,9 +50,10 @@ impl<const C: usize> Store<C> {
         ensures { ServesChange C (change_of name.now bytes.now comes) self.old self.new (D.state disk.old)
             (D.state disk.new) result }
     {
-        let begun = start_change(&mut self.hands, name, bytes, comes, charged);
-        let made = make_flush(disk, begun, &mut self.hands, bytes);
-        self.kept_layout = self.hands.layout;
+        let hands = &mut *self.hands;
+        let begun = start_change(hands, name, bytes, comes, charged);
+        let made = make_flush(disk, begun, hands, bytes);
+        *self.kept_layout = hands.layout;
         match made {
             Ok(()) => Ok(Done { kept: true }),
             Err(DiskFault) => {

@@ -3,7 +3,6 @@ ghost use Rattle.std.specs.Prelude.{◌≡◌, ◌<◌, ◌≤◌, ◌^◌, ◌|
 ghost use Rattle.extent_table.specs.Extents.{IsTable};
 ghost use Rattle.map_model.specs.Requests as ask;
 
-use crate::plan::WORN_FROM;
 use crate::{Done, Refusal, Store};
 use disk_face::{Disk, DiskFault};
 use extent_table::Table;
@@ -37,7 +36,7 @@ impl<const C: usize> Store<C> {
         if self.is_broken() {
             return Err(Refusal::Broken);
         }
-        if self.hands.slots.sequence() >= WORN_FROM {
+        if self.is_worn() {
             return Err(Refusal::Worn);
         }
         self.save_now(disk)
@@ -57,12 +56,12 @@ impl<const C: usize> Store<C> {
         ensures over { IsConnected C self.new (D.state disk.new) }
         ensures broken { self.new.is_broken ≡ is_disk_fault result }
     {
-        let next = settled_header(&self.hands.layout, 1);
-        let hands = &mut self.hands;
+        let hands = &mut *self.hands;
+        let next = settled_header(&hands.layout, 1);
         match hands.slots.save(disk, &next, &hands.table, &mut hands.buf) {
             Ok(_) => {
                 keep_spots(&mut hands.table, &mut hands.guard);
-                self.kept_layout = hands.layout;
+                *self.kept_layout = hands.layout;
                 Ok(Done { kept: true })
             }
             Err(DiskFault) => {

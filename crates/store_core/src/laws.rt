@@ -20,7 +20,7 @@ ghost use Rattle.store_model.specs.Stores.{IsStore};
 ghost use Rattle.store_model.specs.States.{Limits, State, Step, facts_of, refusal};
 
 use crate::Store;
-use crate::memory::{Memory, no_bytes, store_with, take_memory};
+use crate::memory::{Memory, boxed, no_bytes, store_with, take_memory};
 use extent_table::Table;
 use flush_run::Hands;
 use segment_layout::Layout;
@@ -93,13 +93,39 @@ pub fn store_of<const C: usize>(
     ensures { IfOk result (λ store. store
         ≡ opened_store C slots table.now (caps_of layout.entry) (grid_of layout.entry)) }
 {
+    let layout = boxed(alloc, layout)?;
+    store_in(alloc, block, slots, table, layout)
+}
+
+/// The store of a table that was checked against its layout, as `store_of` makes it, in the memory that the
+/// layout has.
+#[inline(never)]
+pub(crate) fn store_in<const C: usize>(
+    alloc: Global,
+    block: SuperBlock,
+    slots: SlotPair,
+    table: Table,
+    layout: Box<Layout<C>>,
+) -> Result<Store<C>, NoMemory>
+    requires classes { C ≤ 32 }
+    requires wide { SIZE_MAX < 2 ^ C }
+    requires block { IsSuperBlock block }
+    requires slots { slots.block ≡ block }
+    requires kept { table.now ≡ table.kept }
+    requires room { table.names ≡ block.names }
+    requires divisor { divisor_of layout.value ≡ block.k }
+    requires valid { IsValid (settled_table C SIZE_MAX block.k (caps_of layout.value) (grid_of layout.value)
+        table.now) }
+    ensures { IfOk result (λ store. store ≡ opened_store C slots table.now (caps_of layout.entry.value)
+        (grid_of layout.entry.value)) }
+{
     is_table(&table);
     let mut table = table;
     table.narrow(block.names);
     let Memory { guard, buf } = take_memory(alloc, block.names)?;
     let hands = Hands {
         table,
-        layout,
+        layout: *layout,
         guard,
         slots,
         ledger: no_bytes(),
@@ -107,7 +133,8 @@ pub fn store_of<const C: usize>(
         base: head_len(block.names),
         version: 1,
     };
-    Ok(store_with(hands))
+    let hands = boxed(alloc, hands)?;
+    Ok(store_with(hands, layout))
 }
 
 /// What holds of each table.

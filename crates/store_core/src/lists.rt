@@ -50,11 +50,12 @@ impl<const C: usize> Store<C> {
         if self.is_broken() {
             return Err(Refusal::Broken);
         }
+        let hands = &*self.hands;
         Ok(Stat {
-            names: self.hands.table.count(),
-            bytes: self.hands.table.volume(),
-            kept_names: self.hands.table.kept_count(),
-            kept_bytes: self.hands.table.kept_volume(),
+            names: hands.table.count(),
+            bytes: hands.table.volume(),
+            kept_names: hands.table.kept_count(),
+            kept_bytes: hands.table.kept_volume(),
         })
     }
 }

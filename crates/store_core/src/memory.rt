@@ -10,6 +10,7 @@ use crate::Store;
 use data_area::Ledger;
 use flush_run::Hands;
 use held_guard::Guard;
+use segment_layout::Layout;
 use size_class::Row;
 use slot_codec::NoMemory;
 use std::alloc::Global;
@@ -46,17 +47,36 @@ fn copy_buffer(alloc: Global) -> Result<Vec<u8>, NoMemory>
     }
 }
 
-/// The store of hands in which what stands now is the checkpoint. What was moved before isn't counted.
-pub(crate) fn store_with<const C: usize>(hands: Hands<C>) -> Store<C>
-    requires { MakesStore hands }
-    ensures { result ≡ opened_store C hands.entry.slots hands.entry.table.now (caps_of hands.entry.layout)
-        (grid_of hands.entry.layout) }
+/// A value in memory of its own. The copies that are made on the way stand in the frame of this call alone.
+#[inline(never)]
+pub(crate) fn boxed<T: Drop>(alloc: Global, value: T) -> Result<Box<T>, NoMemory>
+    ensures { IfOk result (λ made. made.value ≡ value) }
+{
+    match Box::new(alloc, value) {
+        Ok(made) => Ok(made),
+        Err(_) => Err(NoMemory),
+    }
+}
+
+/// The store of hands in which what stands now is the checkpoint, and memory for its layout. What was
+/// moved before isn't counted.
+pub(crate) fn store_with<const C: usize>(
+    hands: Box<Hands<C>>,
+    kept_layout: Box<Layout<C>>,
+) -> Store<C>
+    requires { MakesStore hands.value }
+    ensures { result ≡ opened_store C hands.entry.value.slots hands.entry.value.table.now
+        (caps_of hands.entry.value.layout) (grid_of hands.entry.value.layout) }
 {
     let mut hands = hands;
-    hands.ledger = no_bytes();
+    let mut kept_layout = kept_layout;
+    let ledger = no_bytes();
+    let lent = &mut *hands;
+    lent.ledger = ledger;
+    *kept_layout = lent.layout;
     Store {
-        kept_layout: hands.layout,
         hands,
+        kept_layout,
         broken: false,
     }
 }

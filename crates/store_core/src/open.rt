@@ -1,5 +1,5 @@
 //! Opening a file: a store over what its last checkpoint has.
-ghost use Rattle.std.specs.Prelude.{◌≡◌, ◌<◌, ◌≤◌, ◌==◌, ◌^◌, false, [], length, vec_len, IsTrue};
+ghost use Rattle.std.specs.Prelude.{◌≡◌, ◌<◌, ◌≤◌, ◌==◌, ◌^◌, false, [], length, vec_len, IfOk, IsTrue};
 ghost use Rattle.disk_face.specs.Counts.{HasCause};
 ghost use Rattle.disk_face.specs.Frames.{Unchanged};
 ghost use Rattle.disk_face.specs.Writes.{KeepsDisk};
@@ -8,22 +8,22 @@ ghost use Rattle.slot_codec.specs.declared.codec.Kind.TheVariants as kind;
 ghost use Rattle.flush_run.specs.Parts.{parts_of};
 ghost use Rattle.flush_run.specs.Shelved.{items_now, phase_now};
 ghost use Rattle.flush_plan.specs.Packs.{KeepsPacking};
-ghost use Rattle.reopen.specs.Loads.{KeepsLoaded, loaded_of};
-ghost use Rattle.slot_codec.specs.Spelling.{slot_at};
+ghost use Rattle.reopen.specs.Loads.{KeepsLoaded, unboxed};
 ghost use Rattle.store_model.specs.Opened.{IsCut, IsOpening};
 ghost use Rattle.store_model.specs.Plain.{IsPlainFrom};
 ghost use Rattle.store_model.specs.Resuming.{PacksAgain, StartsAgain};
 
 use crate::Store;
-use crate::laws::store_of;
-use crate::memory::{Memory, no_bytes, store_with, take_memory};
+use crate::laws::store_in;
+use crate::memory::{Memory, boxed, no_bytes, store_with, take_memory};
 use disk_face::{Disk, DiskFault, length_of};
 use flush_plan::{Packing, numbers_again};
 use flush_run::{Halted, Hands, TableShelf, resume};
 use held_guard::Guard;
-use reopen::{Loaded, OpenFault, State, read_state};
+use reopen::{BoxedLoaded, OpenFault, load_state};
+use segment_layout::Layout;
 use size_class::SIZE_MAX;
-use slot_codec::{CodecFault, head_len};
+use slot_codec::{CodecFault, Kind, NoMemory, head_len};
 use slot_pair::SlotFault;
 use std::alloc::Global;
 
@@ -38,29 +38,16 @@ impl<const C: usize> Store<C> {
         requires wide { SIZE_MAX < 2 ^ C }
         ensures { IsOpening C (D.state disk.old) (D.state disk.new) result }
     {
-        let state = read_state(alloc, disk)?;
-        let (version, at) = header_of(&state);
+        let found = load_state(alloc, disk)?;
+        let (version, kind) = (found.header.version, found.header.kind);
         if version == 2 {
+            let at = found.slots.place();
             return Err(OpenFault::Slot(SlotFault::Codec(CodecFault::Version, at)));
         }
-        match state {
-            State::Still(found) => open_still(alloc, disk, found),
-            State::Moving(found) => open_moving(alloc, disk, found),
+        match kind {
+            Kind::Settled => open_still(alloc, disk, found),
+            Kind::Moving => open_moving(alloc, disk, found),
         }
-    }
-}
-
-/// The version of a file's table, and where its header stands.
-fn header_of<const C: usize>(state: &State<C>) -> (u8, u64)
-    requires ranges { IsSuperBlock (loaded_of state.now).block }
-    requires same_block { (loaded_of state.now).slots.block ≡ (loaded_of state.now).block }
-    requires slot { (loaded_of state.now).slots.slot ≤ 1 }
-    ensures version { result.0 ≡ (loaded_of state.now).header.version }
-    ensures place { result.1 ≡ slot_at (loaded_of state.now).block.names (loaded_of state.now).slots.slot }
-{
-    match state {
-        State::Still(found) => (found.header.version, found.slots.place()),
-        State::Moving(found) => (found.header.version, found.slots.place()),
     }
 }
 
@@ -68,27 +55,29 @@ fn header_of<const C: usize>(state: &State<C>) -> (u8, u64)
 fn open_still<D: Disk, const C: usize>(
     alloc: Global,
     disk: &mut D,
-    found: Loaded<C>,
+    found: BoxedLoaded<C>,
 ) -> Result<Store<C>, OpenFault>
     requires ready { IsTrue (D.state disk.old).is_ready }
     requires fits { C ≤ 32 }
     requires wide { SIZE_MAX < 2 ^ C }
-    requires loads { KeepsLoaded found }
-    requires still { found.header.kind ≡ kind.Settled }
-    requires from { IsTrue (D.state disk.old).tells → IsPlainFrom (D.state disk.old).file found }
+    requires loads { KeepsLoaded (unboxed found) }
+    requires still { found.header.value.kind ≡ kind.Settled }
+    requires from { IsTrue (D.state disk.old).tells → IsPlainFrom (D.state disk.old).file (unboxed found) }
     ensures { IsOpening C (D.state disk.old) (D.state disk.new) result }
 {
-    let Loaded {
+    let BoxedLoaded {
         block,
         slots,
-        header: _,
+        header,
         table,
         layout,
     } = found;
-    let Ok(store) = store_of(alloc, block, slots, table, layout) else {
+    drop(header);
+    let end = layout.end();
+    let Ok(store) = store_in(alloc, block, slots, table, layout) else {
         return Err(OpenFault::NoMemory);
     };
-    match cut_to(disk, head_len(block.names) + layout.end()) {
+    match cut_to(disk, head_len(block.names) + end) {
         Ok(()) => Ok(store),
         Err(DiskFault) => Err(OpenFault::Slot(SlotFault::Disk)),
     }
@@ -115,36 +104,37 @@ fn cut_to<D: Disk>(disk: &mut D, len: u64) -> Result<(), DiskFault>
 fn open_moving<D: Disk, const C: usize>(
     alloc: Global,
     disk: &mut D,
-    found: Loaded<C>,
+    found: BoxedLoaded<C>,
 ) -> Result<Store<C>, OpenFault>
     requires ready { IsTrue (D.state disk.old).is_ready }
     requires fits { C ≤ 32 }
     requires wide { SIZE_MAX < 2 ^ C }
-    requires loads { KeepsLoaded found }
-    requires moving { found.header.kind ≡ kind.Moving }
-    requires plain { (found.header.version == 2) ≡ false }
-    requires from { IsTrue (D.state disk.old).tells → IsPlainFrom (D.state disk.old).file found }
+    requires loads { KeepsLoaded (unboxed found) }
+    requires moving { found.header.value.kind ≡ kind.Moving }
+    requires plain { (found.header.value.version == 2) ≡ false }
+    requires from { IsTrue (D.state disk.old).tells → IsPlainFrom (D.state disk.old).file (unboxed found) }
     ensures { IsOpening C (D.state disk.old) (D.state disk.new) result }
 {
     let Ok(memory) = take_memory(alloc, found.block.names) else {
         return Err(OpenFault::NoMemory);
     };
-    go_on(disk, found, memory)
+    go_on(alloc, disk, found, memory)
 }
 
 /// Goes on with the flush of a moving table.
 fn go_on<D: Disk, const C: usize>(
+    alloc: Global,
     disk: &mut D,
-    found: Loaded<C>,
+    found: BoxedLoaded<C>,
     memory: Memory,
 ) -> Result<Store<C>, OpenFault>
     requires ready { IsTrue (D.state disk.old).is_ready }
     requires fits { C ≤ 32 }
     requires wide { SIZE_MAX < 2 ^ C }
-    requires loads { KeepsLoaded found }
-    requires moving { found.header.kind ≡ kind.Moving }
-    requires plain { (found.header.version == 2) ≡ false }
-    requires from { IsTrue (D.state disk.old).tells → IsPlainFrom (D.state disk.old).file found }
+    requires loads { KeepsLoaded (unboxed found) }
+    requires moving { found.header.value.kind ≡ kind.Moving }
+    requires plain { (found.header.value.version == 2) ≡ false }
+    requires from { IsTrue (D.state disk.old).tells → IsPlainFrom (D.state disk.old).file (unboxed found) }
     requires none { memory.guard.spans ≡ [] }
     requires guard_room { memory.guard.room ≡ found.block.names }
     requires buffer { vec_len memory.buf ≡ 65536 }
@@ -152,56 +142,65 @@ fn go_on<D: Disk, const C: usize>(
 {
     let Memory { guard, buf } = memory;
     let phase = phase_again(&found);
-    let mut hands = hands_of(found, guard, buf);
-    match resume(disk, phase, &mut hands) {
-        Ok(_) => Ok(store_with(hands)),
+    let Ok(made) = hands_of(alloc, found, guard, buf) else {
+        return Err(OpenFault::NoMemory);
+    };
+    let (mut hands, kept_layout) = made;
+    match resume(disk, phase, &mut *hands) {
+        Ok(_) => Ok(store_with(hands, kept_layout)),
         Err(Halted(DiskFault)) => Err(OpenFault::Slot(SlotFault::Disk)),
     }
 }
 
 /// Packing of the objects of a moving table, from where they stand.
-fn phase_again<const C: usize>(found: &Loaded<C>) -> Packing<C>
+fn phase_again<const C: usize>(found: &BoxedLoaded<C>) -> Packing<C>
     requires fits { C ≤ 32 }
     requires wide { SIZE_MAX < 2 ^ C }
-    requires loads { KeepsLoaded found.now }
-    requires moving { found.now.header.kind ≡ kind.Moving }
-    ensures again { PacksAgain found.now (phase_now result.course found.now.table) }
+    requires loads { KeepsLoaded (unboxed found.now) }
+    requires moving { found.now.header.value.kind ≡ kind.Moving }
+    ensures again { PacksAgain (unboxed found.now) (phase_now result.course found.now.table) }
     ensures keeps { KeepsPacking C result (items_now result.course found.now.table) }
 {
     let shelf = TableShelf(&found.table);
-    let numbers = numbers_again(
-        &found.layout,
-        found.header.boundary,
-        found.header.wall,
-        found.header.slack,
-        &shelf,
-    );
-    Packing::resume(&found.layout, numbers, &shelf)
+    let layout = &*found.layout;
+    let header = &*found.header;
+    let numbers = numbers_again(layout, header.boundary, header.wall, header.slack, &shelf);
+    Packing::resume(layout, numbers, &shelf)
 }
 
-/// The hands of a flush that goes on: nothing is held but what stands, and nothing was moved yet.
-fn hands_of<const C: usize>(found: Loaded<C>, guard: Guard, buf: Vec<u8>) -> Hands<C>
+/// The hands of a flush that goes on, and the memory of the layout: nothing is held but what stands, and
+/// nothing was moved yet.
+#[inline(never)]
+fn hands_of<const C: usize>(
+    alloc: Global,
+    found: BoxedLoaded<C>,
+    guard: Guard,
+    buf: Vec<u8>,
+) -> Result<(Box<Hands<C>>, Box<Layout<C>>), NoMemory>
     requires block { IsSuperBlock found.block }
     requires none { guard.spans ≡ [] }
     requires room { guard.room ≡ found.block.names }
     requires buffer { vec_len buf ≡ 65536 }
-    ensures { StartsAgain found.entry (parts_of result) }
+    ensures { IfOk result (λ made. StartsAgain (unboxed found.entry) (parts_of made.0.value)) }
 {
-    let Loaded {
+    let BoxedLoaded {
         block,
         slots,
-        header: _,
+        header,
         table,
         layout,
     } = found;
-    Hands {
+    drop(header);
+    let hands = Hands {
         table,
-        layout,
+        layout: *layout,
         guard,
         slots,
         ledger: no_bytes(),
         buf,
         base: head_len(block.names),
         version: 1,
-    }
+    };
+    let hands = boxed(alloc, hands)?;
+    Ok((hands, layout))
 }

@@ -1,5 +1,5 @@
 //! Whether a put or a removal is served, and what it charges. Nothing changes yet.
-ghost use Rattle.std.specs.Prelude.{◌≡◌, ◌<◌, ◌≤◌, ◌^◌, false, Ok, Err};
+ghost use Rattle.std.specs.Prelude.{◌≡◌, ◌<◌, ◌≤◌, ◌^◌, false, nat_le, Ok, Err};
 ghost use Rattle.map_model.specs.Requests as ask;
 ghost use Rattle.store_model.specs.Charges.{ChargesStore, quiet_place};
 
@@ -11,7 +11,7 @@ use size_class::SIZE_MAX;
 use slot_codec::Name;
 
 /// From this sequence on nothing is put or removed, and no checkpoint is saved.
-pub(crate) const WORN_FROM: u64 = 1 << 61;
+const WORN_FROM: u64 = 1 << 61;
 
 /// A quiet put: the layout after its charges, and where the new object stands.
 #[derive(Drop)]
@@ -54,8 +54,9 @@ impl<const C: usize> Store<C> {
         ensures charges { ChargesStore self.now name.now size result.layout result.outcome }
         ensures sound { IsStore C self.now }
     {
-        let old = self.hands.table.get(name);
-        let mut layout = self.hands.layout;
+        let hands = &*self.hands;
+        let old = hands.table.get(name);
+        let mut layout = hands.layout;
         let outcome = charge_change(&mut layout, old, size);
         Charged { layout, outcome }
     }
@@ -70,7 +71,8 @@ impl<const C: usize> Store<C> {
         if bytes.len() as u64 > SIZE_MAX {
             return Err(Refusal::TooLong);
         }
-        if self.hands.table.get(&name).is_none() && !self.hands.table.room() {
+        let hands = &*self.hands;
+        if hands.table.get(&name).is_none() && !hands.table.room() {
             return Err(Refusal::Full);
         }
         self.unworn(name)
@@ -88,12 +90,19 @@ impl<const C: usize> Store<C> {
         self.unworn(name)
     }
 
+    /// Whether the sequence has come so far that nothing may change.
+    pub(crate) fn is_worn(&self) -> bool
+        ensures { result ≡ nat_le (2 ^ 61) self.now.in_use.sequence }
+    {
+        self.hands.slots.sequence() >= WORN_FROM
+    }
+
     /// The name, unless the sequence has come so far that nothing may change.
     fn unworn(&self, name: Name) -> Result<Name, Refusal>
         ensures worn { 2 ^ 61 ≤ self.now.in_use.sequence → result ≡ Err Refusal.Worn }
         ensures fresh { self.now.in_use.sequence < 2 ^ 61 → result ≡ Ok name }
     {
-        if self.hands.slots.sequence() >= WORN_FROM {
+        if self.is_worn() {
             return Err(Refusal::Worn);
         }
         Ok(name)

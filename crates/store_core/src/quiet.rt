@@ -44,9 +44,10 @@ impl<const C: usize> Store<C> {
         if self.is_broken() {
             return Err(Refusal::Broken);
         }
-        self.hands.table.back();
-        self.hands.layout = self.kept_layout;
-        self.hands.guard.clear();
+        let hands = &mut *self.hands;
+        hands.table.back();
+        hands.layout = *self.kept_layout;
+        hands.guard.clear();
         Ok(())
     }
 
@@ -103,12 +104,13 @@ impl<const C: usize> Store<C> {
               (sizes_at (fin.get self.old.now name.now) ++ some_size spot.size);
         } }
     {
-        let now = self.hands.table.get(name);
-        free_spot(&mut self.hands.guard, now, self.hands.table.old(name));
-        add_gone(&mut self.hands.ledger, now);
-        add_size(&mut self.hands.ledger, spot.size);
-        self.hands.table.set(name, spot, [0; 32]);
-        self.hands.layout = layout;
+        let hands = &mut *self.hands;
+        let now = hands.table.get(name);
+        free_spot(&mut hands.guard, now, hands.table.old(name));
+        add_gone(&mut hands.ledger, now);
+        add_size(&mut hands.ledger, spot.size);
+        hands.table.set(name, spot, [0; 32]);
+        hands.layout = layout;
     }
 
     /// Takes a name out, once its object is charged.
@@ -126,11 +128,12 @@ impl<const C: usize> Store<C> {
           asked = fold added self.old.asked (sizes_at (fin.get self.old.now name.now));
         } }
     {
-        let now = self.hands.table.get(name);
-        free_spot(&mut self.hands.guard, now, self.hands.table.old(name));
-        add_gone(&mut self.hands.ledger, now);
-        self.hands.table.remove(name);
-        self.hands.layout = layout;
+        let hands = &mut *self.hands;
+        let now = hands.table.get(name);
+        free_spot(&mut hands.guard, now, hands.table.old(name));
+        add_gone(&mut hands.ledger, now);
+        hands.table.remove(name);
+        hands.layout = layout;
     }
 }
 

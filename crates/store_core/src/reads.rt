@@ -115,11 +115,12 @@ impl<const C: usize> Store<C> {
             (D.state disk.new).faults result }
         ensures sink_cause { HasSinkCause Refusal.Sink (O.state sink.old) (O.state sink.new) result }
     {
+        let hands = &mut *self.hands;
         put_bytes(
             disk,
-            self.hands.base + spot.place,
+            hands.base + spot.place,
             spot.size,
-            &mut self.hands.buf,
+            &mut hands.buf,
             sink,
         )?;
         Ok(spot.size)

@@ -17,11 +17,12 @@ const HEAD_LEN_OF_NONE: u64 = (SUPERBLOCK_LEN + 2 * (HEADER_LEN + 1) + 1) as u64
 /// Contracts see it as `StoreValue`.
 ///
 /// The hands have the parts of now, which a flush works with: the table, the layout, the guard, the
-/// slots, the ledger and the buffer. `kept_layout` is the layout of the last checkpoint.
+/// slots, the ledger and the buffer. `kept_layout` is the layout of the last checkpoint. Both have some
+/// 8 kB, and stand in memory of their own, so that a store takes little of the stack.
 #[derive(Drop)]
 pub struct Store<const C: usize> {
-    pub(crate) hands: Hands<C>,
-    pub(crate) kept_layout: Layout<C>,
+    pub(crate) hands: Box<Hands<C>>,
+    pub(crate) kept_layout: Box<Layout<C>>,
     pub(crate) broken: bool,
 }
 
@@ -33,11 +34,11 @@ impl<const C: usize> Model for Store<C> {
 
     ghost coded = { kept_code };
 
-    ghost use Rattle.store_core.specs.Inside.{kept_of, IsWhole};
+    ghost use Rattle.store_core.specs.Inside.{IsWholeIn, kept_in};
 
-    ghost view = { kept_of };
+    ghost view = { kept_in };
 
-    ghost invariant = { IsWhole };
+    ghost invariant = { IsWholeIn };
 }
 
 impl<const C: usize> Store<C> {

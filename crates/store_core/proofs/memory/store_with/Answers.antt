@@ -1,45 +1,66 @@
-use Rattle.std.proofs.Common.{false, refl}
-use Rattle.store_core.specs.declared.store.Store.TheInside.{Inside}
+use Rattle.std.specs.Prelude.{◌≡◌, ℕ}
+use Rattle.std.proofs.Common.{ap, false, refl, subst, sym, ◌∙◌}
+use Rattle.size_class.specs.Classes.{zero_row}
+use Rattle.size_class.specs.Rows.{cells_of}
+use Rattle.data_area.specs.declared.ledger.Ledger.{Ledger}
+use Rattle.segment_layout.specs.Layouts.{caps_of, grid_of}
+use Rattle.flush_run.specs.declared.hands.Hands.{Hands}
+use Rattle.store_model.specs.Connection.{opened_store}
+use Rattle.store_model.specs.Resuming.{MakesStore}
+use Rattle.store_core.specs.Inside.{Inside}
 use Rattle.store_core.proofs.OpenedLaws.{IsNew, new_view, new_whole}
 use Rattle.store_core.proofs.memory.store_with.Goals as goal
 
-abbrev made : (g : _) (c : goal.After-result-1 g) → Inside g.row.C
-made g c = record {
-  hands = record c.args.hands { ledger = c.no_bytes-hands.result };
-  kept_layout = c.args.hands.layout;
+abbrev made : {C : ℕ} → Hands C → Ledger C → Inside C
+made hands ledger = record {
+  hands = record hands { ledger = ledger };
+  kept_layout = hands.layout;
   broken = false;
 }
 
-is_new : (g : _) (c : goal.After-result-1 g) → IsNew (made g c)
-is_new g c =
-    let r = c.requires in
-    record {
-      few = r.few;
-      wide = r.wide;
-      block = r.block;
-      kept = r.kept;
-      room = r.names;
-      cap = r.cap;
-      divisor = r.divisor;
-      kept_divisor = r.divisor;
-      kept_caps = refl;
-      kept_grid = refl;
-      caps_full = c.args.hands.layout.caps.shape;
-      grid_full = c.args.hands.layout.used.shape;
-      valid = r.valid;
-      table = r.table;
-      spans = r.spans;
-      guard_room = r.guard_room;
-      moved = c.no_bytes-hands.ensures.moved;
-      asked = c.no_bytes-hands.ensures.asked;
-      version = r.version;
-      base = r.base;
-      buf = r.buffer;
-      unbroken = refl;
-    }
+is_new : {C : ℕ} (hands : Hands C) (ledger : Ledger C) → MakesStore hands → cells_of ledger.moved ≡ zero_row
+    → cells_of ledger.asked ≡ zero_row → IsNew (made hands ledger)
+is_new hands ledger r moved asked = record {
+  few = r.few;
+  wide = r.wide;
+  block = r.block;
+  kept = r.kept;
+  room = r.names;
+  cap = r.cap;
+  divisor = r.divisor;
+  kept_divisor = r.divisor;
+  kept_caps = refl;
+  kept_grid = refl;
+  caps_full = hands.layout.caps.shape;
+  grid_full = hands.layout.used.shape;
+  valid = r.valid;
+  table = r.table;
+  spans = r.spans;
+  guard_room = r.guard_room;
+  moved = moved;
+  asked = asked;
+  version = r.version;
+  base = r.base;
+  buf = r.buffer;
+  unbroken = refl;
+}
 
 pub invariant_of-result : goal.invariant_of-result
-invariant_of-result g c = new_whole (made g c) (is_new g c)
+invariant_of-result g c =
+    let hands = c.deref_mut-lent.result.now in
+    let ledger = c.no_bytes-ledger.result in
+    let said = c.no_bytes-ledger.ensures in
+    new_whole (made hands ledger)
+    (is_new hands ledger (subst (λ h. MakesStore h) (sym c.deref_mut-lent.ensures.value) c.requires)
+    said.moved said.asked)
 
 pub returns : goal.returns
-returns g c = new_view (made g c) (is_new g c)
+returns g c =
+    let hands = c.deref_mut-lent.result.now in
+    let ledger = c.no_bytes-ledger.result in
+    let said = c.no_bytes-ledger.ensures in
+    new_view (made hands ledger)
+    (is_new hands ledger (subst (λ h. MakesStore h) (sym c.deref_mut-lent.ensures.value) c.requires)
+    said.moved said.asked)
+    ∙ ap (λ (h : Hands g.row.C). opened_store g.row.C h.slots h.table.now (caps_of h.layout) (grid_of h.layout))
+    c.deref_mut-lent.ensures.value

@@ -1,6 +1,8 @@
 use Rattle.std.specs.Prelude.{◌≡◌, ◌+◌, Ok}
 use Rattle.std.proofs.Common.{arith, ap, lit<, sym, subst}
-use Rattle.segment_layout.specs.Layouts.{caps_of}
+use Rattle.reopen.specs.Loads.{unboxed}
+use Rattle.segment_layout.specs.Layouts.{caps_of, divisor_of}
+use Rattle.segment_layout.specs.declared.layout.Layout.{Layout}
 use Rattle.segment_layout.specs.Shapes.{end_of}
 use Rattle.slot_codec.specs.Spelling.{head_len}
 use Rattle.store_model.specs.Opened.{IsOpening}
@@ -8,10 +10,10 @@ use Rattle.store_model.proofs.StillStoreLaws.{still_laid}
 use Rattle.store_model.proofs.StillLaws.{still_done, still_failed}
 use Rattle.store_core.proofs.open.open_still.Goals as goal
 
-pub store_of-requires : goal.store_of-requires
-store_of-requires g c =
+pub store_in-requires : goal.store_in-requires
+store_in-requires g c =
     let r = c.requires in
-    let x = c.args.found in (
+    let x = unboxed c.args.found in (
       lit< tt,
       (
         lit< tt,
@@ -37,14 +39,15 @@ store_of-requires g c =
 pub returns-in-Ok-cut_to : goal.returns-in-Ok-cut_to
 returns-in-Ok-cut_to g c =
     let r = c.requires in
-    let x = c.args.found in
+    let x = unboxed c.args.found in
     let a = g.D.Disk.state c.args.disk.now in
     let d = g.D.Disk.state c.cut_to.new.disk in
-    let is : c.head_len.result + c.end.result ≡ head_len x.block.names + end_of x.block.k (caps_of x.layout) =
+    let is : c.head_len.result + c.end-end.result ≡ head_len x.block.names + end_of x.block.k (caps_of x.layout) =
     omega (
       arith,
       c.head_len.ensures,
-      c.end.ensures.place,
+      c.end-end.ensures.place,
+      ap (λ (l : Layout g.row.C). end_of (divisor_of l) (caps_of l)) c.deref.ensures,
       ap (λ k. end_of k (caps_of x.layout)) r.loads.divisor,
     ) in
     subst (λ s. IsOpening g.row.C a d (Ok s)) (sym c.in-Ok.ensures)
@@ -54,14 +57,15 @@ returns-in-Ok-cut_to g c =
 pub returns-in-Err : goal.returns-in-Err
 returns-in-Err g c =
     let r = c.requires in
-    let x = c.args.found in
+    let x = unboxed c.args.found in
     let a = g.D.Disk.state c.args.disk.now in
     let d = g.D.Disk.state c.cut_to.new.disk in
-    let is : c.head_len.result + c.end.result ≡ head_len x.block.names + end_of x.block.k (caps_of x.layout) =
+    let is : c.head_len.result + c.end-end.result ≡ head_len x.block.names + end_of x.block.k (caps_of x.layout) =
     omega (
       arith,
       c.head_len.ensures,
-      c.end.ensures.place,
+      c.end-end.ensures.place,
+      ap (λ (l : Layout g.row.C). end_of (divisor_of l) (caps_of l)) c.deref.ensures,
       ap (λ k. end_of k (caps_of x.layout)) r.loads.divisor,
     ) in
     still_failed x r.loads r.still r.fits r.wide _ is a d r.from c.in-Err.ensures.short c.cut_to.ensures.frame

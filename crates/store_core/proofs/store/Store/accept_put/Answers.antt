@@ -1,4 +1,4 @@
-use Rattle.std.proofs.Common.{◌≡◌, ◌<◌, ◌≤◌, ℕ, List, Bool, true, false, not, IsTrue, Ok, Err, Result, length, is_some, inl, inr, refl, ap, sym, arith, rules, ◌∙◌}
+use Rattle.std.proofs.Common.{◌≡◌, ◌<◌, ◌≤◌, ℕ, List, Bool, true, false, not, IsTrue, Ok, Err, Result, length, is_some, inl, inr, refl, ap, sym, arith, rules, ◌∙◌, subst}
 use Rattle.std.specs.Prelude.{◌&&◌, ◌^◌, nat_le, nat_lt, if◌then◌else◌}
 use Rattle.std.proofs.lemmas.Bool.{cases_lt, le-leb, le-ltb, lt-leb}
 use Rattle.std.proofs.lemmas.Grind.{common_steps}
@@ -12,6 +12,8 @@ use Rattle.store_core.specs.Answers.{refused_by}
 use Rattle.store_model.specs.Connection.{StoreValue}
 use Rattle.store_core.specs.Plans.{AcceptsName}
 use Rattle.store_model.specs.Quiet.{put_of}
+use Rattle.store_core.specs.Inside.{IsWhole, kept_of}
+use Rattle.store_core.proofs.InsideLaws.{lent_is}
 use Rattle.store_core.proofs.store.Store.accept_put.Goals as goal
 use Rattle.store_core.proofs.store.Store.accept_put.Goals.{else-is_none-via-then-is_none+else-not-room, else-is_none-via-else-is_none}
 
@@ -49,12 +51,15 @@ accepts s name object result whole named small room worn fresh =
 
 pub returns-clause-answer : goal.returns-clause-answer
 returns-clause-answer g c =
+    let is_lent = lent_is c.self.inside c.deref-hands.ensures refl in
+    let view_is = ap kept_of is_lent ∙ c.self.view_is in
+    let invariant = subst IsWhole (sym is_lent) c.self.invariant in
     let t = c.args.self.now in
     let name = c.args.name.now in
     let said = answered t.is_broken (is_name name) c.in_ok-name.name name c.in_ok-name.ensures.answer in
     let live : is_some c.get.result ≡ fin.contains_key t.now name =
     ap is_some c.get.ensures
-    ∙ (λ i. fin.contains_key ((ap (λ (x : StoreValue). x.now) c.self.view_is) i) (said.2 i)) in
+    ∙ (λ i. fin.contains_key ((ap (λ (x : StoreValue). x.now) view_is) i) (said.2 i)) in
     let room : (not (fin.contains_key t.now name) && nat_le t.in_use.block.names (fin.len t.now)) ≡ false =
     elim c.else-is_none.branch [
       | else-is_none-via-then-is_none+else-not-room w ↦
@@ -62,9 +67,9 @@ returns-clause-answer g c =
           let low : fin.len t.now < t.in_use.block.names = omega (
             arith,
             w.room.ensures.0 has,
-            c.self.invariant.cap,
-            ap (λ (x : StoreValue). fin.len x.now) c.self.view_is,
-            ap (λ (x : StoreValue). x.in_use.block.names) c.self.view_is,
+            invariant.cap,
+            ap (λ (x : StoreValue). fin.len x.now) view_is,
+            ap (λ (x : StoreValue). x.in_use.block.names) view_is,
           ) in
           ap (λ b. not (fin.contains_key t.now name) && b) (lt-leb t.in_use.block.names (fin.len t.now) low)
           ∙ with_false (not (fin.contains_key t.now name))

@@ -1,26 +1,31 @@
-use Rattle.std.proofs.Common.{◌∙◌, ap, lit<, subst}
+use Rattle.std.proofs.Common.{◌∙◌, ap, lit<, subst, refl, sym}
 use Rattle.std.specs.FinMap as fin
 use Rattle.store_model.specs.Charges.{ChargesStore}
 use Rattle.store_model.specs.Connection.{StoreValue}
 use Rattle.store_core.proofs.CopyChargesLaws.{charged_here}
-use Rattle.store_core.proofs.InsideLaws.{opened}
+use Rattle.store_core.proofs.InsideLaws.{opened, lent, lent_is}
 use Rattle.store_model.proofs.StoreLaws.{small_if_there}
+use Rattle.store_core.specs.Inside.{IsWhole, kept_of}
 use Rattle.store_core.proofs.store.Store.charge.Goals as goal
 
 pub charge_change-outcome-requires : goal.charge_change-outcome-requires
 charge_change-outcome-requires g c =
+    let is_lent = lent_is c.self.inside c.deref-hands.ensures refl in
+    let inside = lent c.self.inside c.deref-hands.result.now c.self.inside.kept_layout.value in
+    let view_is = ap kept_of is_lent ∙ c.self.view_is in
+    let invariant = subst IsWhole (sym is_lent) c.self.invariant in
     let s = c.args.self.now in
     let name = c.args.name.now in (
       lit< tt,
       (
-        c.self.invariant.classes,
+        invariant.classes,
         (
-          c.self.invariant.wide,
+          invariant.wide,
           (
             small_if_there s
-                (opened c.self.inside s c.self.view_is c.self.invariant c.requires.whole).store name
+                (opened inside s view_is invariant c.requires.whole).store name
                 c.get-old.result
-                (c.get-old.ensures ∙ ap (λ (x : StoreValue). fin.get x.now name) c.self.view_is),
+                (c.get-old.ensures ∙ ap (λ (x : StoreValue). fin.get x.now name) view_is),
             c.requires.small,
           ),
         ),
@@ -29,11 +34,19 @@ charge_change-outcome-requires g c =
 
 pub returns-clause-charges : goal.returns-clause-charges
 returns-clause-charges g c =
+    let is_lent = lent_is c.self.inside c.deref-hands.ensures refl in
+    let view_is = ap kept_of is_lent ∙ c.self.view_is in
+    let invariant = subst IsWhole (sym is_lent) c.self.invariant in
     let cc = c.charge_change-outcome in
     subst (λ (x : StoreValue). ChargesStore x c.args.name.now c.args.size cc.new.layout cc.result)
-    c.self.view_is
-    (charged_here c.self.invariant.divisor c.get-old.ensures cc.ensures.charged)
+    view_is
+    (charged_here invariant.divisor c.get-old.ensures cc.ensures.charged)
 
 pub returns-clause-sound : goal.returns-clause-sound
-returns-clause-sound g c = (opened c.self.inside c.args.self.now c.self.view_is c.self.invariant
+returns-clause-sound g c =
+    let is_lent = lent_is c.self.inside c.deref-hands.ensures refl in
+    let inside = lent c.self.inside c.deref-hands.result.now c.self.inside.kept_layout.value in
+    let view_is = ap kept_of is_lent ∙ c.self.view_is in
+    let invariant = subst IsWhole (sym is_lent) c.self.invariant in
+    (opened inside c.args.self.now view_is invariant
     c.requires.whole).store

@@ -1,4 +1,4 @@
-use Rattle.std.proofs.Common.{◌∙◌, ◌⊎◌, ◌<◌, ap, arith, lit<, subst, sym, IsSome, inl, inr, rules}
+use Rattle.std.proofs.Common.{◌∙◌, ◌⊎◌, ◌<◌, ap, arith, lit<, subst, sym, IsSome, inl, inr, rules, refl}
 use Rattle.std.specs.FinMap as fin
 use Rattle.size_class.specs.Rows.{cells_of}
 use Rattle.segment_layout.specs.Layouts.{grid_of}
@@ -7,27 +7,36 @@ use Rattle.placement_model.specs.Held.{FreesSpot}
 use Rattle.store_model.specs.Stores.{AreInRange}
 use Rattle.store_model.proofs.ChangeLaws.{can_free, place_ends, store_freed, store_put}
 use Rattle.store_model.proofs.EndLaws.{end_low}
-use Rattle.store_core.proofs.InsideLaws.{changed_view, changed_whole, opened}
+use Rattle.store_core.proofs.InsideLaws.{changed_view, changed_whole, opened, lent, lent_is}
 use Rattle.store_model.proofs.StoreLaws.{small_if_there}
+use Rattle.store_core.specs.Inside.{IsWhole, kept_of}
 use Rattle.store_core.proofs.store.Store.enter.Goals as goal
 
 pub free_spot-requires : goal.free_spot-requires
 free_spot-requires g c x now_is kept_is =
+    let is_lent = lent_is c.self.inside c.deref_mut-hands.ensures.value refl in
+    let inside = lent c.self.inside c.deref_mut-hands.result.now c.self.inside.kept_layout.value in
+    let view_is = ap kept_of is_lent ∙ c.self.view_is in
+    let invariant = subst IsWhole (sym is_lent) c.self.invariant in
     let t = c.args.self.now in
-    let o = opened c.self.inside t c.self.view_is c.self.invariant c.requires.whole in
-    can_free t o.store c.args.name.now c.self.inside.hands.guard o.guard_room o.freed x
+    let o = opened inside t view_is invariant c.requires.whole in
+    can_free t o.store c.args.name.now inside.hands.guard o.guard_room o.freed x
     (ap (λ (m : Spots). fin.get m c.args.name.now) (sym o.now) ∙ sym c.get-now.ensures ∙ now_is)
     (ap (λ (m : Spots). fin.get m c.args.name.now) (sym o.kept) ∙ sym c.old.ensures ∙ kept_is)
 
 pub add_gone-requires : goal.add_gone-requires
 add_gone-requires g c =
+    let is_lent = lent_is c.self.inside c.deref_mut-hands.ensures.value refl in
+    let inside = lent c.self.inside c.deref_mut-hands.result.now c.self.inside.kept_layout.value in
+    let view_is = ap kept_of is_lent ∙ c.self.view_is in
+    let invariant = subst IsWhole (sym is_lent) c.self.invariant in
     let t = c.args.self.now in
-    let o = opened c.self.inside t c.self.view_is c.self.invariant c.requires.whole in (
+    let o = opened inside t view_is invariant c.requires.whole in (
       lit< tt,
       (
-        c.self.invariant.classes,
+        invariant.classes,
         (
-          c.self.invariant.wide,
+          invariant.wide,
           small_if_there t o.store c.args.name.now c.get-now.result
               (c.get-now.ensures ∙ ap (λ (m : Spots). fin.get m c.args.name.now) o.now),
         ),
@@ -36,14 +45,18 @@ add_gone-requires g c =
 
 pub set-requires : goal.set-requires
 set-requires g c =
+    let is_lent = lent_is c.self.inside c.deref_mut-hands.ensures.value refl in
+    let inside = lent c.self.inside c.deref_mut-hands.result.now c.self.inside.kept_layout.value in
+    let view_is = ap kept_of is_lent ∙ c.self.view_is in
+    let invariant = subst IsWhole (sym is_lent) c.self.invariant in
     let t = c.args.self.now in
     let name = c.args.name.now in
-    let o = opened c.self.inside t c.self.view_is c.self.invariant c.requires.whole in
+    let o = opened inside t view_is invariant c.requires.whole in
     let low = place_ends t o.store name c.args.spot.size c.args.spot.place (grid_of c.args.layout)
     c.requires.charged in
     record {
-      room = elim c.requires.room as (λ _. IsSome (fin.get c.self.inside.hands.table.now name)
-          ⊎ (fin.len c.self.inside.hands.table.now < c.self.inside.hands.table.cap)) [
+      room = elim c.requires.room as (λ _. IsSome (fin.get inside.hands.table.now name)
+          ⊎ (fin.len inside.hands.table.now < inside.hands.table.cap)) [
             | inl there ↦ inl (subst (λ (m : Spots). IsSome (fin.get m name)) (sym o.now) there)
             | inr room ↦ inr (omega (arith, room, o.cap, ap (λ (m : Spots). fin.len m) o.now))
           ];
@@ -52,12 +65,16 @@ set-requires g c =
 
 pub invariant_of-self : goal.invariant_of-self
 invariant_of-self g c =
+    let is_lent = lent_is c.self.inside c.deref_mut-hands.ensures.value refl in
+    let inside = lent c.self.inside c.deref_mut-hands.result.now c.self.inside.kept_layout.value in
+    let view_is = ap kept_of is_lent ∙ c.self.view_is in
+    let invariant = subst IsWhole (sym is_lent) c.self.invariant in
     let t = c.args.self.now in
     let name = c.args.name.now in
     let spot = c.args.spot in
-    let o = opened c.self.inside t c.self.view_is c.self.invariant c.requires.whole in
+    let o = opened inside t view_is invariant c.requires.whole in
     let after = c.set.ensures.now ∙ ap (λ (m : Spots). fin.insert m name spot) o.now in
-    changed_whole c.self.inside t c.self.view_is c.self.invariant c.set.new.self c.free_spot.new.guard
+    changed_whole inside t view_is invariant c.set.new.self c.free_spot.new.guard
     c.add_size.new.ledger c.args.layout (fin.insert t.now name spot) after c.set.ensures.kept
     c.requires.caps (c.add_size.ensures.moved ∙ c.add_gone.ensures.moved) c.set.ensures.table
     c.set.ensures.names c.set.ensures.rest.cap c.free_spot.ensures.room c.requires.divisor
@@ -72,19 +89,23 @@ invariant_of-self g c =
     ))
     (subst AreInRange after c.set.ensures.table.now_in_range))
     (store_freed t o.store name spot.size spot.place (grid_of c.args.layout) c.requires.charged
-    c.self.inside.hands.guard.spans c.free_spot.new.guard.spans o.freed
-    (subst (λ x. FreesSpot x (fin.get t.kept name) c.self.inside.hands.guard.spans
+    inside.hands.guard.spans c.free_spot.new.guard.spans o.freed
+    (subst (λ x. FreesSpot x (fin.get t.kept name) inside.hands.guard.spans
     c.free_spot.new.guard.spans) (c.get-now.ensures ∙ ap (λ (m : Spots). fin.get m name) o.now)
-    (subst (λ x. FreesSpot c.get-now.result x c.self.inside.hands.guard.spans c.free_spot.new.guard.spans)
+    (subst (λ x. FreesSpot c.get-now.result x inside.hands.guard.spans c.free_spot.new.guard.spans)
     (c.old.ensures ∙ ap (λ (m : Spots). fin.get m name) o.kept) c.free_spot.ensures.freed)))
 
 pub returns : goal.returns
 returns g c =
+    let is_lent = lent_is c.self.inside c.deref_mut-hands.ensures.value refl in
+    let inside = lent c.self.inside c.deref_mut-hands.result.now c.self.inside.kept_layout.value in
+    let view_is = ap kept_of is_lent ∙ c.self.view_is in
+    let invariant = subst IsWhole (sym is_lent) c.self.invariant in
     let t = c.args.self.now in
     let name = c.args.name.now in
-    let o = opened c.self.inside t c.self.view_is c.self.invariant c.requires.whole in
+    let o = opened inside t view_is invariant c.requires.whole in
     let after = c.set.ensures.now ∙ ap (λ (m : Spots). fin.insert m name c.args.spot) o.now in
-    let view = changed_view c.self.inside t c.self.view_is c.self.invariant c.set.new.self
+    let view = changed_view inside t view_is invariant c.set.new.self
     c.free_spot.new.guard c.add_size.new.ledger c.args.layout (fin.insert t.now name c.args.spot) after
     c.set.ensures.kept
     c.requires.caps (c.add_size.ensures.moved ∙ c.add_gone.ensures.moved) in

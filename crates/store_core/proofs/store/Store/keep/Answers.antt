@@ -5,5 +5,5 @@ use Rattle.store_core.proofs.store.Store.keep.Goals as goal
 pub returns-then-is_broken : goal.returns-then-is_broken
 returns-then-is_broken g c = grind (arith, common_steps)
 
-pub returns-then-sequence-ge-WORN_FROM : goal.returns-then-sequence-ge-WORN_FROM
-returns-then-sequence-ge-WORN_FROM g c = grind (arith, common_steps)
+pub returns-then-is_worn : goal.returns-then-is_worn
+returns-then-is_worn g c = grind (arith, common_steps)

@@ -1,4 +1,4 @@
-use Rattle.std.proofs.Common.{◌∙◌, ap, arith, lit<, subst, sym}
+use Rattle.std.proofs.Common.{◌∙◌, ap, arith, lit<, subst, sym, refl}
 use Rattle.std.specs.FinMap as fin
 use Rattle.size_class.specs.Rows.{cells_of}
 use Rattle.segment_layout.specs.Layouts.{grid_of}
@@ -7,27 +7,36 @@ use Rattle.placement_model.specs.Held.{FreesSpot}
 use Rattle.placement_model.proofs.FreedLaws.{freed_gone}
 use Rattle.store_model.specs.Stores.{AreInRange}
 use Rattle.store_model.proofs.ChangeLaws.{can_free, store_gone}
-use Rattle.store_core.proofs.InsideLaws.{changed_whole, opened}
+use Rattle.store_core.proofs.InsideLaws.{changed_whole, opened, lent, lent_is}
 use Rattle.store_model.proofs.StoreLaws.{small_if_there}
+use Rattle.store_core.specs.Inside.{IsWhole, kept_of}
 use Rattle.store_core.proofs.store.Store.leave.Goals as goal
 
 pub free_spot-requires : goal.free_spot-requires
 free_spot-requires g c x now_is kept_is =
+    let is_lent = lent_is c.self.inside c.deref_mut-hands.ensures.value refl in
+    let inside = lent c.self.inside c.deref_mut-hands.result.now c.self.inside.kept_layout.value in
+    let view_is = ap kept_of is_lent ∙ c.self.view_is in
+    let invariant = subst IsWhole (sym is_lent) c.self.invariant in
     let t = c.args.self.now in
-    let o = opened c.self.inside t c.self.view_is c.self.invariant c.requires.whole in
-    can_free t o.store c.args.name.now c.self.inside.hands.guard o.guard_room o.freed x
+    let o = opened inside t view_is invariant c.requires.whole in
+    can_free t o.store c.args.name.now inside.hands.guard o.guard_room o.freed x
     (ap (λ (m : Spots). fin.get m c.args.name.now) (sym o.now) ∙ sym c.get-now.ensures ∙ now_is)
     (ap (λ (m : Spots). fin.get m c.args.name.now) (sym o.kept) ∙ sym c.old.ensures ∙ kept_is)
 
 pub add_gone-requires : goal.add_gone-requires
 add_gone-requires g c =
+    let is_lent = lent_is c.self.inside c.deref_mut-hands.ensures.value refl in
+    let inside = lent c.self.inside c.deref_mut-hands.result.now c.self.inside.kept_layout.value in
+    let view_is = ap kept_of is_lent ∙ c.self.view_is in
+    let invariant = subst IsWhole (sym is_lent) c.self.invariant in
     let t = c.args.self.now in
-    let o = opened c.self.inside t c.self.view_is c.self.invariant c.requires.whole in (
+    let o = opened inside t view_is invariant c.requires.whole in (
       lit< tt,
       (
-        c.self.invariant.classes,
+        invariant.classes,
         (
-          c.self.invariant.wide,
+          invariant.wide,
           small_if_there t o.store c.args.name.now c.get-now.result
               (c.get-now.ensures ∙ ap (λ (m : Spots). fin.get m c.args.name.now) o.now),
         ),
@@ -36,11 +45,15 @@ add_gone-requires g c =
 
 pub invariant_of-self : goal.invariant_of-self
 invariant_of-self g c =
+    let is_lent = lent_is c.self.inside c.deref_mut-hands.ensures.value refl in
+    let inside = lent c.self.inside c.deref_mut-hands.result.now c.self.inside.kept_layout.value in
+    let view_is = ap kept_of is_lent ∙ c.self.view_is in
+    let invariant = subst IsWhole (sym is_lent) c.self.invariant in
     let t = c.args.self.now in
     let name = c.args.name.now in
-    let o = opened c.self.inside t c.self.view_is c.self.invariant c.requires.whole in
+    let o = opened inside t view_is invariant c.requires.whole in
     let after = c.remove.ensures.now ∙ ap (λ (m : Spots). fin.remove m name) o.now in
-    changed_whole c.self.inside t c.self.view_is c.self.invariant c.remove.new.self c.free_spot.new.guard
+    changed_whole inside t view_is invariant c.remove.new.self c.free_spot.new.guard
     c.add_gone.new.ledger c.args.layout (fin.remove t.now name) after c.remove.ensures.kept c.requires.caps
     c.add_gone.ensures.moved c.remove.ensures.table c.remove.ensures.names c.remove.ensures.rest.cap
     c.free_spot.ensures.room
@@ -55,8 +68,8 @@ invariant_of-self g c =
       ap (λ (m : Spots). fin.len m) after,
     ))
     (subst AreInRange after c.remove.ensures.table.now_in_range))
-    (freed_gone c.self.inside.hands.guard.spans t.now t.kept o.freed name c.free_spot.new.guard.spans
-    (subst (λ x. FreesSpot x (fin.get t.kept name) c.self.inside.hands.guard.spans
+    (freed_gone inside.hands.guard.spans t.now t.kept o.freed name c.free_spot.new.guard.spans
+    (subst (λ x. FreesSpot x (fin.get t.kept name) inside.hands.guard.spans
     c.free_spot.new.guard.spans) (c.get-now.ensures ∙ ap (λ (m : Spots). fin.get m name) o.now)
-    (subst (λ x. FreesSpot c.get-now.result x c.self.inside.hands.guard.spans c.free_spot.new.guard.spans)
+    (subst (λ x. FreesSpot c.get-now.result x inside.hands.guard.spans c.free_spot.new.guard.spans)
     (c.old.ensures ∙ ap (λ (m : Spots). fin.get m name) o.kept) c.free_spot.ensures.freed)))

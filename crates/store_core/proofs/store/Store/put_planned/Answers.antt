@@ -1,32 +1,41 @@
-use Rattle.std.proofs.Common.{◌∙◌, ◌+◌, ap, arith, subst, IsTrue, length}
+use Rattle.std.proofs.Common.{◌∙◌, ◌+◌, ap, arith, subst, IsTrue, length, refl, sym}
 use Rattle.byte_ranges.specs.Ranges.{overwritten}
 use Rattle.segment_layout.specs.Layouts.{caps_of, divisor_of, grid_of}
 use Rattle.store_model.specs.Quiet.{put_of}
 use Rattle.store_model.proofs.ChangeLaws.{apart_kept, place_ends}
 use Rattle.store_core.proofs.EffectLaws.{calls_err, calls_ok, position_fits, quiet_effects}
-use Rattle.store_core.proofs.InsideLaws.{opened}
+use Rattle.store_core.proofs.InsideLaws.{opened, lent, lent_is}
 use Rattle.store_core.proofs.PlanLaws.{put_served}
 use Rattle.store_core.proofs.QuietLaws.{put_over, put_step, put_value}
+use Rattle.store_core.specs.Inside.{IsWhole, kept_of}
 use Rattle.store_core.proofs.store.Store.put_planned.Goals as goal
 
 pub write_new-requires-clause-fits : goal.write_new-requires-clause-fits
 write_new-requires-clause-fits g c =
+    let is_lent = lent_is c.self.inside c.deref.ensures refl in
+    let inside = lent c.self.inside c.deref.result.now c.self.inside.kept_layout.value in
+    let view_is = ap kept_of is_lent ∙ c.self.view_is in
+    let invariant = subst IsWhole (sym is_lent) c.self.invariant in
     let t = c.args.self.now in
     let plan = c.args.plan in
     let size = length c.args.bytes.now in
     let served = put_served t c.args.name.now c.args.bytes.now c.requires.plan.served in
-    let o = opened c.self.inside t c.self.view_is c.self.invariant served.whole in
-    position_fits t c.self.inside.hands.base plan.spot.place size c.requires.sound o.base
+    let o = opened inside t view_is invariant served.whole in
+    position_fits t inside.hands.base plan.spot.place size c.requires.sound o.base
     (place_ends t c.requires.sound c.args.name.now size plan.spot.place (grid_of plan.layout)
     c.requires.plan.charged)
 
 pub write_new-requires-clause-within : goal.write_new-requires-clause-within
 write_new-requires-clause-within g c told =
+    let is_lent = lent_is c.self.inside c.deref.ensures refl in
+    let inside = lent c.self.inside c.deref.result.now c.self.inside.kept_layout.value in
+    let view_is = ap kept_of is_lent ∙ c.self.view_is in
+    let invariant = subst IsWhole (sym is_lent) c.self.invariant in
     let t = c.args.self.now in
     let plan = c.args.plan in
     let size = length c.args.bytes.now in
     let served = put_served t c.args.name.now c.args.bytes.now c.requires.plan.served in
-    let o = opened c.self.inside t c.self.view_is c.self.invariant served.whole in
+    let o = opened inside t view_is invariant served.whole in
     let over = c.requires.over served.whole told in
     omega (
       arith,
@@ -38,14 +47,18 @@ write_new-requires-clause-within g c told =
 
 pub returns-in-Ok-clause-quiet : goal.returns-in-Ok-clause-quiet
 returns-in-Ok-clause-quiet g c =
+    let is_lent = lent_is c.self.inside c.deref.ensures refl in
+    let inside = lent c.self.inside c.deref.result.now c.self.inside.kept_layout.value in
+    let view_is = ap kept_of is_lent ∙ c.self.view_is in
+    let invariant = subst IsWhole (sym is_lent) c.self.invariant in
     let t = c.args.self.now in
     let plan = c.args.plan in
     let size = length c.args.bytes.now in
     let served = put_served t c.args.name.now c.args.bytes.now c.requires.plan.served in
-    let o = opened c.self.inside t c.self.view_is c.self.invariant served.whole in
+    let o = opened inside t view_is invariant served.whole in
     quiet_effects (put_of c.args.name.now c.args.bytes.now) t c.enter.new.self
     (g.D.Disk.state c.args.disk.now)
-    (g.D.Disk.state c.write_new.new.disk) _ c.self.inside.hands.base plan.spot.place size c.requires.sound
+    (g.D.Disk.state c.write_new.new.disk) _ inside.hands.base plan.spot.place size c.requires.sound
     o.base
     (c.requires.over served.whole)
     (apart_kept t c.requires.sound c.args.name.now size plan.spot.place (grid_of plan.layout)
@@ -55,13 +68,17 @@ returns-in-Ok-clause-quiet g c =
 
 pub returns-in-Err-clause-quiet : goal.returns-in-Err-clause-quiet
 returns-in-Err-clause-quiet g c =
+    let is_lent = lent_is c.self.inside c.deref.ensures refl in
+    let inside = lent c.self.inside c.deref.result.now c.self.inside.kept_layout.value in
+    let view_is = ap kept_of is_lent ∙ c.self.view_is in
+    let invariant = subst IsWhole (sym is_lent) c.self.invariant in
     let t = c.args.self.now in
     let plan = c.args.plan in
     let size = length c.args.bytes.now in
     let served = put_served t c.args.name.now c.args.bytes.now c.requires.plan.served in
-    let o = opened c.self.inside t c.self.view_is c.self.invariant served.whole in
+    let o = opened inside t view_is invariant served.whole in
     quiet_effects (put_of c.args.name.now c.args.bytes.now) t _ (g.D.Disk.state c.args.disk.now)
-    (g.D.Disk.state c.write_new.new.disk) _ c.self.inside.hands.base plan.spot.place size c.requires.sound
+    (g.D.Disk.state c.write_new.new.disk) _ inside.hands.base plan.spot.place size c.requires.sound
     o.base
     (c.requires.over served.whole)
     (apart_kept t c.requires.sound c.args.name.now size plan.spot.place (grid_of plan.layout)
@@ -69,11 +86,15 @@ returns-in-Err-clause-quiet g c =
 
 pub returns-in-Ok-clause-step : goal.returns-in-Ok-clause-step
 returns-in-Ok-clause-step g c told =
+    let is_lent = lent_is c.self.inside c.deref.ensures refl in
+    let inside = lent c.self.inside c.deref.result.now c.self.inside.kept_layout.value in
+    let view_is = ap kept_of is_lent ∙ c.self.view_is in
+    let invariant = subst IsWhole (sym is_lent) c.self.invariant in
     let t = c.args.self.now in
     let plan = c.args.plan in
     let file = (g.D.Disk.state c.args.disk.now).file in
     let served = put_served t c.args.name.now c.args.bytes.now c.requires.plan.served in
-    let o = opened c.self.inside t c.self.view_is c.self.invariant served.whole in
+    let o = opened inside t view_is invariant served.whole in
     put_step t c.requires.sound c.args.name.now c.args.bytes.now (divisor_of plan.layout)
     (caps_of plan.layout)
     (grid_of plan.layout) plan.spot c.requires.plan file (g.D.Disk.state c.write_new.new.disk).file
@@ -84,11 +105,15 @@ returns-in-Ok-clause-step g c told =
 
 pub returns-in-Ok-clause-over : goal.returns-in-Ok-clause-over
 returns-in-Ok-clause-over g c whole told =
+    let is_lent = lent_is c.self.inside c.deref.ensures refl in
+    let inside = lent c.self.inside c.deref.result.now c.self.inside.kept_layout.value in
+    let view_is = ap kept_of is_lent ∙ c.self.view_is in
+    let invariant = subst IsWhole (sym is_lent) c.self.invariant in
     let t = c.args.self.now in
     let plan = c.args.plan in
     let file = (g.D.Disk.state c.args.disk.now).file in
     let served = put_served t c.args.name.now c.args.bytes.now c.requires.plan.served in
-    let o = opened c.self.inside t c.self.view_is c.self.invariant served.whole in
+    let o = opened inside t view_is invariant served.whole in
     let first = subst IsTrue c.write_new.ensures.writes.stays.told told in
     put_over t c.requires.sound c.args.name.now c.args.bytes.now (divisor_of plan.layout)
     (caps_of plan.layout)

@@ -1,0 +1,75 @@
+use Rattle.std.proofs.Common.{◌∙◌, ap, arith, lit<, refl, subst, sym}
+use Rattle.size_class.specs.declared.TheConstants.{SIZE_MAX}
+use Rattle.slot_codec.specs.Readable.{IsSuperBlock}
+use Rattle.slot_codec.specs.Spelling.{head_len}
+use Rattle.slot_codec.specs.declared.codec.SuperBlock.{SuperBlock}
+use Rattle.segment_layout.specs.Layouts.{caps_of, grid_of}
+use Rattle.table_rules.specs.Rules.{IsValid}
+use Rattle.extent_table.specs.Extents.{Extents, IsTable}
+use Rattle.placement_model.specs.Laid.{settled_table}
+use Rattle.segment_layout.specs.declared.layout.Layout.{Layout}
+use Rattle.flush_run.specs.declared.hands.Hands.{Hands}
+use Rattle.store_model.specs.Connection.{StoreValue, opened_store}
+use Rattle.store_model.specs.Resuming.{MakesStore}
+use Rattle.store_core.proofs.laws.store_in.Goals as goal
+
+pub store_with-requires : goal.store_with-requires
+store_with-requires g c =
+    let r = c.requires in
+    let same = sym r.slots in
+    let made = c.in_ok-guard.ensures in
+    let at : Extents → Layout g.row.C → Hands g.row.C = λ e l. record {
+      table = e;
+      layout = l;
+      guard = c.in_ok-guard.field-0.guard;
+      slots = c.args.slots;
+      ledger = c.no_bytes.result;
+      buf = c.in_ok-guard.field-0.buf;
+      base = c.head_len.result;
+      version = 1;
+    } in (
+      lit< tt,
+      (
+        lit< tt,
+        (
+          lit< tt,
+          subst (λ (h : Hands g.row.C). MakesStore h) (sym c.in_ok-hands.ensures)
+              (subst (λ (l : Layout g.row.C). MakesStore (at c.narrow.new.self l)) (sym c.deref.ensures)
+              (subst (λ (e : Extents). MakesStore (at e c.args.layout.value)) (sym c.narrow.ensures.only) (record {
+                few = r.classes;
+                wide = r.wide;
+                block = subst IsSuperBlock same r.block;
+                kept = r.kept;
+                names = r.room ∙ ap (λ (b : SuperBlock). b.names) same;
+                cap = ap (λ (b : SuperBlock). b.names) same;
+                divisor = r.divisor ∙ ap (λ (b : SuperBlock). b.k) same;
+                valid = subst (λ (b : SuperBlock). IsValid (settled_table g.row.C SIZE_MAX b.k
+                    (caps_of c.args.layout.value) (grid_of c.args.layout.value) c.args.table.now)) same r.valid;
+                table = subst IsTable c.narrow.ensures.only c.narrow.ensures.table;
+                spans = made.none;
+                guard_room = made.guard_room ∙ ap (λ (b : SuperBlock). b.names) same;
+                base = c.head_len.ensures ∙ ap (λ (b : SuperBlock). head_len b.names) same;
+                version = refl;
+                buffer = made.buffer;
+              }))),
+        ),
+      ),
+    )
+
+pub returns : goal.returns
+returns g c =
+    let seen : Hands g.row.C → StoreValue = λ h. opened_store g.row.C h.slots h.table.now (caps_of h.layout)
+    (grid_of h.layout) in
+    c.store_with.ensures ∙ ap seen c.in_ok-hands.ensures
+    ∙ ap (λ (e : Extents). opened_store g.row.C c.args.slots e.now (caps_of c.deref.result.now)
+    (grid_of c.deref.result.now)) c.narrow.ensures.only
+    ∙ ap (λ (l : Layout g.row.C). opened_store g.row.C c.args.slots c.args.table.now (caps_of l) (grid_of l))
+    c.deref.ensures
+
+pub narrow-requires : goal.narrow-requires
+narrow-requires g c =
+    let r = c.requires in
+    record {
+      few = omega (arith, c.is_table.ensures.now_room, r.room);
+      low = omega (arith, r.room);
+    }
