@@ -112,8 +112,8 @@ loaded_from {C} file r layout table read checked = record {
 
 breaks_first : (C : ℕ) (file : List ℕ) (r : TableRead) (broken : TableFault) → IsTable r.table
     → IsReadFrom file r
-    → FirstBroken (laid C SIZE_MAX r.found.block.k r.data_len r.header.value r.table.now) broken.rule broken.at
-    → BreaksFirst C file broken
+    → FirstBroken (laid C SIZE_MAX r.found.block.k r.data_len r.header.value r.table.now) broken.rule
+    broken.at → BreaksFirst C file broken
 breaks_first C file r broken table read first = record {
   table = table_read r;
   read = table_is file r table read;

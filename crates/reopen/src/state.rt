@@ -115,7 +115,9 @@ pub fn load_state<D: Disk, const C: usize>(
     }
 }
 
-/// The layout of a table that keeps the rules of its header's kind.
+/// The layout of a table that keeps the rules of its header's kind. What a check of the rules has on the
+/// stack stands there while they are tried, and not while the table is read.
+#[inline(never)]
 fn layout_of<const C: usize>(
     alloc: Global,
     table: &Table,

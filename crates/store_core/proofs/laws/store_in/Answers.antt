@@ -35,7 +35,8 @@ store_with-requires g c =
           lit< tt,
           subst (λ (h : Hands g.row.C). MakesStore h) (sym c.in_ok-hands.ensures)
               (subst (λ (l : Layout g.row.C). MakesStore (at c.narrow.new.self l)) (sym c.deref.ensures)
-              (subst (λ (e : Extents). MakesStore (at e c.args.layout.value)) (sym c.narrow.ensures.only) (record {
+              (subst (λ (e : Extents). MakesStore (at e c.args.layout.value)) (sym c.narrow.ensures.only)
+              (record {
                 few = r.classes;
                 wide = r.wide;
                 block = subst IsSuperBlock same r.block;
@@ -44,7 +45,8 @@ store_with-requires g c =
                 cap = ap (λ (b : SuperBlock). b.names) same;
                 divisor = r.divisor ∙ ap (λ (b : SuperBlock). b.k) same;
                 valid = subst (λ (b : SuperBlock). IsValid (settled_table g.row.C SIZE_MAX b.k
-                    (caps_of c.args.layout.value) (grid_of c.args.layout.value) c.args.table.now)) same r.valid;
+                    (caps_of c.args.layout.value) (grid_of c.args.layout.value) c.args.table.now)) same
+                    r.valid;
                 table = subst IsTable c.narrow.ensures.only c.narrow.ensures.table;
                 spans = made.none;
                 guard_room = made.guard_room ∙ ap (λ (b : SuperBlock). b.names) same;

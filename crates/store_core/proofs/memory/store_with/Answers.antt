@@ -62,5 +62,5 @@ returns g c =
     new_view (made hands ledger)
     (is_new hands ledger (subst (λ h. MakesStore h) (sym c.deref_mut-lent.ensures.value) c.requires)
     said.moved said.asked)
-    ∙ ap (λ (h : Hands g.row.C). opened_store g.row.C h.slots h.table.now (caps_of h.layout) (grid_of h.layout))
-    c.deref_mut-lent.ensures.value
+    ∙ ap (λ (h : Hands g.row.C). opened_store g.row.C h.slots h.table.now (caps_of h.layout)
+    (grid_of h.layout)) c.deref_mut-lent.ensures.value

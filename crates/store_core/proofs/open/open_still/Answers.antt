@@ -42,7 +42,8 @@ returns-in-Ok-cut_to g c =
     let x = unboxed c.args.found in
     let a = g.D.Disk.state c.args.disk.now in
     let d = g.D.Disk.state c.cut_to.new.disk in
-    let is : c.head_len.result + c.end-end.result ≡ head_len x.block.names + end_of x.block.k (caps_of x.layout) =
+    let is : c.head_len.result + c.end-end.result
+    ≡ head_len x.block.names + end_of x.block.k (caps_of x.layout) =
     omega (
       arith,
       c.head_len.ensures,
@@ -60,7 +61,8 @@ returns-in-Err g c =
     let x = unboxed c.args.found in
     let a = g.D.Disk.state c.args.disk.now in
     let d = g.D.Disk.state c.cut_to.new.disk in
-    let is : c.head_len.result + c.end-end.result ≡ head_len x.block.names + end_of x.block.k (caps_of x.layout) =
+    let is : c.head_len.result + c.end-end.result
+    ≡ head_len x.block.names + end_of x.block.k (caps_of x.layout) =
     omega (
       arith,
       c.head_len.ensures,
