@@ -147,7 +147,8 @@ read_refused version l at count done n last old now first current why few t told
 
 -- after the last piece
 pub read_all : (version l at count done : ℕ) (last : Option (List ℕ)) (old now : Extents)
-    (first current : State) → count ≤ done → ReadThrough (rows version l at count) done last old now first current
+    (first current : State) → count ≤ done
+    → ReadThrough (rows version l at count) done last old now first current
     → IsTrue first.tells
     → AreSet (read_records version count (bytes_at first.file at (l * count)) at None) now
 read_all version l at count done last old now first current end t told =

@@ -92,7 +92,8 @@ back_of l text more from within =
 
 -- before the first record
 pub through_none : (version l : ℕ) (text : List ℕ) (at n : ℕ) (before : Option (List ℕ)) (old : Extents)
-    → SetSoFar old.now before (records_of old.now) → SetThrough (rows version l at n) text 0 before before old old
+    → SetSoFar old.now before (records_of old.now)
+    → SetThrough (rows version l at n) text 0 before before old old
 through_none version l text at n before old set = record {
   set = set;
   count = omega arith;

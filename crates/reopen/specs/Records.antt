@@ -22,8 +22,8 @@ unfoldable pub all_records : ℕ → List Record → ℕ → List ℕ → ℕ �
 all_records version done n text at before = read_records version n text at before >>= λ rest. Ok
     (done ++ rest)
 
--- records that stand one behind another: their version, the bytes of each, where the first begins, and how many
--- they are
+-- records that stand one behind another: their version, the bytes of each, where the first begins, and how
+-- many they are
 pub record Rows : Type 0 where
   pub version : ℕ
   pub len : ℕ
@@ -33,8 +33,8 @@ pub record Rows : Type 0 where
 abbrev pub rows : ℕ → ℕ → ℕ → ℕ → Rows
 rows version len at count = record { version = version; len = len; at = at; count = count }
 
--- Of the records of a text the first i were read and set: whatever was read before and stands behind the text,
--- all records are the same as before.
+-- Of the records of a text the first i were read and set: whatever was read before and stands behind the
+-- text, all records are the same as before.
 pub record SetThrough (r : Rows) (text : List ℕ) (i : ℕ) (before last : Option (List ℕ)) (old now : Extents)
     : Type 0
   where

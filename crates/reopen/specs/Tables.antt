@@ -59,7 +59,8 @@ pub record IsReadFrom (file : List ℕ) (r : TableRead) : Type 0 where
   pub behind : r.data_len ≡ length file - head_len r.found.block.names
 
 -- A table keeps the rules of its header's kind, and this is the layout that its header has.
-pub record IsCheckedLayout {C : ℕ} (k data_len : ℕ) (header : Header) (spots : Spots) (layout : Layout C) : Type 0
+pub record IsCheckedLayout {C : ℕ} (k data_len : ℕ) (header : Header) (spots : Spots)
+    (layout : Layout C) : Type 0
   where
     pub valid : IsValid (laid C SIZE_MAX k data_len header spots)
     pub divisor : divisor_of layout ≡ k

@@ -132,7 +132,8 @@ fn layout_of<const C: usize>(
     requires high { k ≤ 64 }
     requires ranges { IsTrue (all_in_range header.now) }
     requires room { fin.len table.now.now ≤ vec_capacity order.old }
-    ensures layout { IfOk result (λ layout. IsCheckedLayout k data_len header.now table.now.now layout.value) }
+    ensures layout { IfOk result
+        (λ layout. IsCheckedLayout k data_len header.now table.now.now layout.value) }
     ensures broken { IfErr result (BreaksLaid C k data_len header.now table.now.now) }
 {
     let checked = checked_layout(table, header, k, data_len, order);

@@ -14,7 +14,8 @@ returns-in-Ok-clause-opened g c = λ told.
     (sym c.of.ensures)
     (loaded_from file r c.in-Ok.layout.value c.in_ok-found.ensures.read.is_table
     (c.in_ok-found.ensures.told told)
-    (subst (λ h. IsCheckedLayout r.found.block.k r.data_len h r.table.now c.in-Ok.layout.value) c.deref.ensures
+    (subst (λ h. IsCheckedLayout r.found.block.k r.data_len h r.table.now c.in-Ok.layout.value)
+    c.deref.ensures
     c.in-Ok.ensures.layout))
 
 pub returns-in-Ok-clause-loaded : goal.returns-in-Ok-clause-loaded
@@ -23,7 +24,8 @@ returns-in-Ok-clause-loaded g c =
     subst (λ slots. KeepsLoaded (record (loaded_with r c.in-Ok.layout.value) { slots = slots }))
     (sym c.of.ensures)
     (keeps_loaded r c.in-Ok.layout.value c.in_ok-found.ensures.read
-    (subst (λ h. IsCheckedLayout r.found.block.k r.data_len h r.table.now c.in-Ok.layout.value) c.deref.ensures
+    (subst (λ h. IsCheckedLayout r.found.block.k r.data_len h r.table.now c.in-Ok.layout.value)
+    c.deref.ensures
     c.in-Ok.ensures.layout))
 
 pub returns-in-Err-clause-refused : goal.returns-in-Err-clause-refused

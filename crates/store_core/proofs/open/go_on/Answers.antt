@@ -102,8 +102,8 @@ returns-in-Err g c =
     c.phase_again-phase.ensures.again in
     again_failed x r.loads r.moving r.fits r.wide (parts_of hands) starts _ packs
     (g.D.Disk.state c.args.disk.now) (g.D.Disk.state c.resume.new.disk) r.from c.resume.new.hands
-    c.resume.ensures.left c.resume.ensures.made c.resume.ensures.saves.few c.resume.ensures.saves.most c.in-Err.field-0
-    c.in-Err.ensures.cause
+    c.resume.ensures.left c.resume.ensures.made c.resume.ensures.saves.few c.resume.ensures.saves.most
+    c.in-Err.field-0 c.in-Err.ensures.cause
 
 pub returns-in_default : goal.returns-in_default
 returns-in_default g c = no_memory g.row.C (g.D.Disk.state c.args.disk.now) c.requires.ready

@@ -77,7 +77,8 @@ returns-in-Ok-clause-kept g c =
     let invariant = subst IsWhole (sym is_lent) c.self.invariant in
     keep_done inside c.args.self.now view_is invariant c.requires.whole c.requires.fresh
     c.settled_header-next.result c.settled_header-next.ensures.header c.requires.over c.save.ensures.left
-    c.save.ensures.frame (λ told. (c.in-Ok.ensures.done told).saved) (λ told. (c.in-Ok.ensures.done told).in_use) _
+    c.save.ensures.frame (λ told. (c.in-Ok.ensures.done told).saved)
+    (λ told. (c.in-Ok.ensures.done told).in_use) _
     (kept_view inside invariant c.keep_spots.new.table c.keep_spots.new.guard c.save.new.self
     (with_items inside.hands.buf c.save.new.buf) c.in-Ok.ensures.pair.pair c.keep_spots.ensures.now
     c.keep_spots.ensures.kept) _ (λ told. (c.in-Ok.ensures.done told).rests)
@@ -91,7 +92,8 @@ returns-in-Ok-clause-step g c =
     let invariant = subst IsWhole (sym is_lent) c.self.invariant in
     keep_step inside c.args.self.now view_is invariant c.requires.whole c.requires.fresh
     c.settled_header-next.result c.settled_header-next.ensures.header c.requires.over c.save.ensures.left
-    c.save.ensures.frame (λ told. (c.in-Ok.ensures.done told).saved) (λ told. (c.in-Ok.ensures.done told).in_use) _
+    c.save.ensures.frame (λ told. (c.in-Ok.ensures.done told).saved)
+    (λ told. (c.in-Ok.ensures.done told).in_use) _
     (kept_view inside invariant c.keep_spots.new.table c.keep_spots.new.guard c.save.new.self
     (with_items inside.hands.buf c.save.new.buf) c.in-Ok.ensures.pair.pair c.keep_spots.ensures.now
     c.keep_spots.ensures.kept)
@@ -104,7 +106,8 @@ returns-in-Ok-clause-over g c unbroken =
     let invariant = subst IsWhole (sym is_lent) c.self.invariant in
     keep_over inside c.args.self.now view_is invariant c.requires.whole c.requires.fresh
     c.settled_header-next.result c.settled_header-next.ensures.header c.requires.over c.save.ensures.left
-    c.save.ensures.frame (λ told. (c.in-Ok.ensures.done told).saved) (λ told. (c.in-Ok.ensures.done told).in_use) _
+    c.save.ensures.frame (λ told. (c.in-Ok.ensures.done told).saved)
+    (λ told. (c.in-Ok.ensures.done told).in_use) _
     (kept_view inside invariant c.keep_spots.new.table c.keep_spots.new.guard c.save.new.self
     (with_items inside.hands.buf c.save.new.buf) c.in-Ok.ensures.pair.pair c.keep_spots.ensures.now
     c.keep_spots.ensures.kept)
