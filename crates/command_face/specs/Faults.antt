@@ -44,6 +44,7 @@ line_of stop.NoFile = codes "fault no file\n"
 line_of (stop.NotStore f) = codes "fault store " ++ store_text f ++ codes "\n"
 line_of (stop.Taken n) = codes "fault taken " ++ decimal n ++ codes "\n"
 line_of stop.Missing = codes "fault missing\n"
+line_of stop.Damaged = codes "fault damaged\n"
 line_of stop.Disk = codes "fault disk\n"
 line_of stop.Sink = []
 line_of stop.NoMemory = codes "fault memory\n"

@@ -3,7 +3,7 @@ use Rattle.std.specs.Prelude.{◌≡◌, ◌⊎◌, ℕ, ◌≤◌, List, [], �
 use Rattle.disk_face.specs.Counts.{Rose}
 use Rattle.disk_face.specs.Streams.{SinkState}
 use Rattle.command_face.specs.Faults.{line_of}
-use Rattle.command_face.specs.declared.status.TheConstants.{DISK_FAILED, DONE, FAULTY_REQUEST, FAULTY_WORDS, NOT_EMPTY, NO_FILE, NO_MEMORY, NO_OBJECT, NO_STORE, SINK_FAILED, SOURCE_FAILED, TOO_MANY}
+use Rattle.command_face.specs.declared.status.TheConstants.{DAMAGED_OBJECT, DISK_FAILED, DONE, FAULTY_REQUEST, FAULTY_WORDS, NOT_EMPTY, NO_FILE, NO_MEMORY, NO_OBJECT, NO_STORE, SINK_FAILED, SOURCE_FAILED, TOO_MANY}
 use Rattle.command_face.specs.declared.stop.StopReason.{StopReason}
 use Rattle.command_face.specs.declared.stop.StopReason.TheVariants as stop
 
@@ -14,6 +14,7 @@ status_of stop.NoFile = NO_FILE
 status_of (stop.NotStore f) = NO_STORE
 status_of (stop.Taken n) = NOT_EMPTY
 status_of stop.Missing = NO_OBJECT
+status_of stop.Damaged = DAMAGED_OBJECT
 status_of stop.Disk = DISK_FAILED
 status_of stop.Sink = SINK_FAILED
 status_of stop.NoMemory = NO_MEMORY

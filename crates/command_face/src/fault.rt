@@ -30,6 +30,7 @@ pub fn fault_line(why: StopReason) -> ArrayVec<u8, 128>
             push(&mut line, b"\n");
         }
         StopReason::Missing => push(&mut line, b"fault missing\n"),
+        StopReason::Damaged => push(&mut line, b"fault damaged\n"),
         StopReason::Disk => push(&mut line, b"fault disk\n"),
         StopReason::Sink => {}
         StopReason::NoMemory => push(&mut line, b"fault memory\n"),

@@ -14,7 +14,7 @@ pub use opening::stop_of;
 pub use outcome::{Outcome, finish};
 pub use put::{push, put_whole};
 pub use status::{
-    DISK_FAILED, DONE, FAULTY_REQUEST, FAULTY_WORDS, NO_FILE, NO_MEMORY, NO_OBJECT, NO_STORE,
-    NOT_EMPTY, SINK_FAILED, SOURCE_FAILED, TOO_MANY,
+    DAMAGED_OBJECT, DISK_FAILED, DONE, FAULTY_REQUEST, FAULTY_WORDS, NO_FILE, NO_MEMORY, NO_OBJECT,
+    NO_STORE, NOT_EMPTY, SINK_FAILED, SOURCE_FAILED, TOO_MANY,
 };
 pub use stop::StopReason;

@@ -6,8 +6,8 @@ ghost use Rattle.command_face.specs.Faults.{line_of};
 
 use crate::fault::fault_line;
 use crate::status::{
-    DISK_FAILED, DONE, FAULTY_REQUEST, FAULTY_WORDS, NO_FILE, NO_MEMORY, NO_OBJECT, NO_STORE,
-    NOT_EMPTY, SINK_FAILED, SOURCE_FAILED, TOO_MANY,
+    DAMAGED_OBJECT, DISK_FAILED, DONE, FAULTY_REQUEST, FAULTY_WORDS, NO_FILE, NO_MEMORY, NO_OBJECT,
+    NO_STORE, NOT_EMPTY, SINK_FAILED, SOURCE_FAILED, TOO_MANY,
 };
 use crate::stop::StopReason;
 use disk_face::Sink;
@@ -18,7 +18,7 @@ use disk_face::Sink;
 pub struct Outcome {
     /// 0 done, 1 faulty words, 2 a faulty request, 3 no file, 4 no store, 5 not an empty file, 6 no
     /// such object, 7 the disk failed, 8 the source failed, 9 the sink failed, 10 too little memory, 11
-    /// as many requests as one session answers: the constants of `status`.
+    /// as many requests as one session answers, 13 a damaged object: the constants of `status`.
     pub status: u8,
     /// How many requests were answered.
     pub done: u64,
@@ -73,6 +73,7 @@ fn status_at(end: &Result<(), StopReason>) -> u8
         Err(StopReason::NotStore(_)) => NO_STORE,
         Err(StopReason::Taken(_)) => NOT_EMPTY,
         Err(StopReason::Missing) => NO_OBJECT,
+        Err(StopReason::Damaged) => DAMAGED_OBJECT,
         Err(StopReason::Disk) => DISK_FAILED,
         Err(StopReason::Sink) => SINK_FAILED,
         Err(StopReason::NoMemory) => NO_MEMORY,

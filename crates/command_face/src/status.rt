@@ -35,3 +35,6 @@ pub const NO_MEMORY: u8 = 10;
 
 /// As many requests were answered as one session may.
 pub const TOO_MANY: u8 = 11;
+
+/// The object of the name has another digest than the store has for it.
+pub const DAMAGED_OBJECT: u8 = 13;

@@ -14,6 +14,8 @@ pub enum StopReason {
     Taken(u64),
     /// The store has no object of the name.
     Missing,
+    /// The object of the name has another digest than the one that the store has for it.
+    Damaged,
     Disk,
     Sink,
     /// There is too little memory for the table of the file, or for a session.

@@ -1,13 +1,12 @@
 -- That there is one answer, and which status comes of it.
 use Rattle.std.specs.Prelude.{◌≡◌, ◌⊎◌, ℕ, List, length, Result, Ok, Err, refl}
 use Rattle.std.proofs.Common.{ap, sym, ◌∙◌, subst, inl, inr}
-use Rattle.std.specs.FinMap as fin
 use Rattle.disk_face.specs.Streams.{SinkState}
 use Rattle.size_class.specs.declared.TheConstants.{CLASSES, SIZE_MAX}
 use Rattle.slot_codec.proofs.StepLaws.{from_ok}
 use Rattle.slot_codec.specs.Choice as choice
 use Rattle.map_model.specs.Maps.{Map}
-use Rattle.segment_layout.specs.Books.{Book}
+use Rattle.segment_layout.specs.Books.{Book, with_digests}
 use Rattle.table_rules.specs.Opening.{Opens, OpensBy, placed_table}
 use Rattle.slot_codec.specs.Spelling.{head_len}
 use Rattle.table_rules.specs.Tables as tables
@@ -19,7 +18,7 @@ use Rattle.command_face.specs.declared.status.TheConstants.{DISK_FAILED, NO_FILE
 use Rattle.command_face.specs.declared.stop.StopReason.{StopReason}
 use Rattle.command_face.specs.declared.stop.StopReason.TheVariants as stop
 use Rattle.command_face.specs.Refusing.{IsFirstRefusal, IsRefused, fault_of}
-use Rattle.file_commands.specs.Getting.{IsObject, or_missing}
+use Rattle.file_commands.specs.Getting.{IsObject, given}
 use Rattle.file_commands.specs.Texts.{IsTold, check_text, map_text}
 use Rattle.command_face.specs.Outcomes.{Ends, EndsBy, status_at}
 use Rattle.costore_top.specs.Answering.{IsAnswer}
@@ -60,6 +59,14 @@ one_map file m n b c o p =
     ∙ ap (λ t. tables.map_of (head_len t.chosen.block.names) file t.records) same
     ∙ sym p.opens.same_map
 
+one_book : (file : List ℕ) (m n : Map) (b c : Book) → Opens CLASSES SIZE_MAX file m b
+    → Opens CLASSES SIZE_MAX file n c → b ≡ c
+one_book file m n b c o p =
+    let same : o.table ≡ p.table = from_ok o.table p.table (sym o.opens.read ∙ p.opens.read) in
+    o.opens.same_book
+    ∙ ap (λ t. with_digests t.digests (tables.book_of (placed_table CLASSES SIZE_MAX file t))) same
+    ∙ sym p.opens.same_book
+
 one_told : (text : choice.SlotTable → ℕ → List ℕ) (file : List ℕ) (a b : Result (List ℕ) StopReason)
     → IsTold text file a → IsTold text file b → a ≡ b
 one_told text file a b (inl g) (inl h) =
@@ -77,7 +84,9 @@ one_object : (name file : List ℕ) (a b : Result (List ℕ) StopReason) → IsO
     → IsObject name file b
     → a ≡ b
 one_object name file a b (inl g) (inl h) =
-    g.same ∙ ap (λ m. or_missing (fin.get m name)) (one_map file g.map h.map g.book h.book g.opens h.opens)
+    g.same
+    ∙ ap (λ m. given g.book m name) (one_map file g.map h.map g.book h.book g.opens h.opens)
+    ∙ ap (λ b. given b h.map name) (one_book file g.map h.map g.book h.book g.opens h.opens)
     ∙ sym h.same
 one_object name file a b (inl g) (inr h) = absurd (opens_or_not file g.map g.book h.fault g.opens h.first)
 one_object name file a b (inr g) (inl h) = absurd (opens_or_not file h.map h.book g.fault h.opens g.first)
@@ -95,9 +104,9 @@ one_answer (work name number count) file a b g h = absurd (g)
 one_answer help file a b g h = g ∙ sym h
 one_answer version file a b g h = g ∙ sym h
 
--- what the map of a file that opens gives to a name is the answer
+-- what the map of a file that opens gives to a name by its book is the answer
 pub given_answer : (at name file : List ℕ) (m : Map) (b : Book) → Opens CLASSES SIZE_MAX file m b
-    → IsAnswer (get at name) file (or_missing (fin.get m name))
+    → IsAnswer (get at name) file (given b m name)
 unfolding IsAnswer
 given_answer at name file m b opens = inl (record { map = m; book = b; opens = opens; same = refl })
 
@@ -134,6 +143,7 @@ status_by answer bytes is (Err (stop.NotStore f)) one by =
 status_by answer bytes is (Err (stop.Taken n)) one by =
     inl (ap status_at (sym (one (Err (stop.Taken n)) by.0)))
 status_by answer bytes is (Err stop.Missing) one by = inl (ap status_at (sym (one (Err stop.Missing) by.0)))
+status_by answer bytes is (Err stop.Damaged) one by = inl (ap status_at (sym (one (Err stop.Damaged) by.0)))
 status_by answer bytes is (Err (stop.Line n)) one by =
     inl (ap status_at (sym (one (Err (stop.Line n)) by.0)))
 status_by answer bytes is (Err stop.Source) one by = inl (ap status_at (sym (one (Err stop.Source) by.0)))

@@ -1,6 +1,5 @@
 //! What holds of the answers, as contracts of functions that do nothing.
 ghost use Rattle.std.specs.Prelude.{◌≡◌, ◌⊎◌, ◌+◌, ◌<◌, ◌^◌, List, ℕ, Ok, Result, length, max};
-ghost use Rattle.std.specs.FinMap as fin;
 ghost use Rattle.disk_face.specs.Counts.{IsCalm, last};
 ghost use Rattle.disk_face.specs.Moments.{LeftOnly, Only};
 ghost use Rattle.disk_face.specs.Streams.{SinkState};
@@ -13,7 +12,7 @@ ghost use Rattle.store_model.specs.Opened.{RestsOnFound, most_found};
 ghost use Rattle.store_model.specs.Plain.{IsPlain};
 ghost use Rattle.ask_text.specs.Inputs.{Asks};
 ghost use Rattle.costore_top.specs.Commands.{Command, check, get, map_of, run, work};
-ghost use Rattle.file_commands.specs.Getting.{or_missing};
+ghost use Rattle.file_commands.specs.Getting.{given};
 ghost use Rattle.costore_top.specs.Following.{LeavesRoomTwice, MayBegin};
 ghost use Rattle.served_file.specs.Served.{most_left};
 ghost use Rattle.run_command.specs.Headline.{RunPromise};
@@ -28,14 +27,14 @@ use disk_face::{Bay, Sink, Source};
 use size_class::{CLASSES, SIZE_MAX};
 
 /// There is one answer of a command to the bytes of a file. Of `get` of a file that opens it is what
-/// the file's map gives to the name; of `check` and `map` it is their text of the table by which it
+/// the file's map gives to the name, or that the file's book has another digest for it; of `check` and `map` it is their text of the table by which it
 /// opens.
 pub fn one_answer()
     ensures one { (c : Command) (file : List ℕ) (answer other : Result (List ℕ) StopReason)
         → IsAnswer c file answer
         → IsAnswer c file other → answer ≡ other }
     ensures given { (at name file : List ℕ) (m : Map) (b : Book) → Opens CLASSES SIZE_MAX file m b
-        → IsAnswer (get at name) file (or_missing (fin.get m name)) }
+        → IsAnswer (get at name) file (given b m name) }
     ensures checked { (at file : List ℕ) (t : choice.SlotTable) (m : Map) (b : Book)
         → OpensBy CLASSES SIZE_MAX t file m b → IsAnswer (check at) file (Ok (check_text t (length file))) }
     ensures mapped { (at file : List ℕ) (t : choice.SlotTable) (m : Map) (b : Book)

@@ -72,6 +72,12 @@ impl Display for Why<'_> {
             11 => f.write_str(
                 "standard input: budget: a session has answered as many requests as it may",
             ),
+            13 => {
+                write!(
+                    f,
+                    "{file}: damaged: the bytes of the object don't have the digest that it was put with"
+                )
+            }
             _ => f.write_str("io: it failed"),
         }
     }

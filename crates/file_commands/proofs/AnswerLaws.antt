@@ -1,10 +1,11 @@
 -- How a layer answers where it stops before it puts any byte.
-use Rattle.std.specs.Prelude.{◌≡◌, ◌≢◌, ℕ, List, [], Result, Ok, Err, OnErr, IsTrue, refl}
-use Rattle.std.proofs.Common.{arith, ap, sym, ◌∙◌, subst, inr, append-nil}
+use Rattle.std.specs.Prelude.{◌≡◌, ◌≢◌, ◌⊎◌, ℕ, List, [], Some, Result, Ok, Err, OnErr, IsTrue, true, false, bytes_eq, refl}
+use Rattle.std.proofs.Common.{arith, ap, sym, ◌∙◌, subst, inl, inr, append-nil}
+use Rattle.sha2.specs.Sha256.{sha256}
 use Rattle.disk_face.specs.Streams.{Puts, SinkState}
 use Rattle.command_face.specs.declared.stop.StopReason.{StopReason}
 use Rattle.command_face.specs.declared.stop.StopReason.TheVariants as stop
-use Rattle.file_commands.specs.Getting.{StopsAs}
+use Rattle.file_commands.specs.Getting.{StopsAs, checked}
 use Rattle.command_face.specs.Layers.{Answers}
 use Rattle.command_face.specs.Outcomes.{EndsBy}
 
@@ -30,6 +31,7 @@ stopped answer old new why same no_sink stops = record {
     ends_of (stop.NotStore f) not_sink is = (is, refl)
     ends_of (stop.Taken n) not_sink is = (is, refl)
     ends_of stop.Missing not_sink is = (is, refl)
+    ends_of stop.Damaged not_sink is = (is, refl)
     ends_of (stop.Line n) not_sink is = (is, refl)
     ends_of stop.Source not_sink is = (is, refl)
     ends_of stop.Budget not_sink is = (is, refl)
@@ -48,6 +50,58 @@ put_answer answer bytes old new end is only puts = record {
     ends_of (Ok x) sink = is
     ends_of (Err e) sink = subst (EndsBy answer bytes) (sym sink) is
 
+-- a layer puts the bytes of an object, unless the disk or the sink fails
+pub put_object : (answer : Result (List ℕ) StopReason → Type 0) (bytes : List ℕ) (old new : SinkState)
+    (end : Result (Unit {0}) StopReason) → answer (Ok bytes)
+    → OnErr end ((end ≡ Err stop.Disk) ⊎ (end ≡ Err stop.Sink))
+    → (IsTrue old.tells → Puts old.given new.given bytes end) → Answers answer old new end
+put_object answer bytes old new end is only puts = record {
+  bytes = bytes;
+  ends = ends_of end only;
+  puts = puts;
+}
+  where
+    ends_of : (e : Result (Unit {0}) StopReason) → OnErr e ((e ≡ Err stop.Disk) ⊎ (e ≡ Err stop.Sink))
+        → EndsBy answer bytes e
+    ends_of (Ok x) failed = is
+    ends_of (Err e) (inl disk) = subst (EndsBy answer bytes) (sym disk) (inl is)
+    ends_of (Err e) (inr sink) = subst (EndsBy answer bytes) (sym sink) is
+
+-- an object whose digest is the one that it is to have, and one whose digest is another
+pub checked_same : (digest object : List ℕ) → bytes_eq digest (sha256 object) ≡ true
+    → checked (Some digest) (Some object) ≡ Ok object
+checked_same digest object same = rw same refl
+
+pub checked_other : (digest object : List ℕ) → bytes_eq digest (sha256 object) ≡ false
+    → checked (Some digest) (Some object) ≡ Err stop.Damaged
+checked_other digest object other = rw other refl
+
+-- what answers one command answers another that allows more
+pub answers_more : (answer other : Result (List ℕ) StopReason → Type 0)
+    → ((a : Result (List ℕ) StopReason) → answer a → other a) → (old new : SinkState)
+    → (end : Result (Unit {0}) StopReason) → Answers answer old new end → Answers other old new end
+answers_more answer other more old new end is = record {
+  bytes = is.bytes;
+  ends = ends_of end is.ends;
+  puts = is.puts;
+}
+  where
+    ends_of : (e : Result (Unit {0}) StopReason) → EndsBy answer is.bytes e → EndsBy other is.bytes e
+    ends_of (Ok x) by = more (Ok is.bytes) by
+    ends_of (Err stop.Disk) (inl by) = inl (more (Ok is.bytes) by)
+    ends_of (Err stop.Disk) (inr by) = inr by
+    ends_of (Err stop.Sink) by = more (Ok is.bytes) by
+    ends_of (Err stop.NoFile) by = by
+    ends_of (Err stop.NoMemory) by = by
+    ends_of (Err stop.Words) by = (more (Err stop.Words) by.0, by.1)
+    ends_of (Err (stop.NotStore f)) by = (more (Err (stop.NotStore f)) by.0, by.1)
+    ends_of (Err (stop.Taken n)) by = (more (Err (stop.Taken n)) by.0, by.1)
+    ends_of (Err stop.Missing) by = (more (Err stop.Missing) by.0, by.1)
+    ends_of (Err stop.Damaged) by = (more (Err stop.Damaged) by.0, by.1)
+    ends_of (Err (stop.Line n)) by = (more (Err (stop.Line n)) by.0, by.1)
+    ends_of (Err stop.Source) by = (more (Err stop.Source) by.0, by.1)
+    ends_of (Err stop.Budget) by = (more (Err stop.Budget) by.0, by.1)
+
 -- what stops one command as it is to stops another that answers more
 pub stops_more : (answer other : Result (List ℕ) StopReason → Type 0)
     → ((a : Result (List ℕ) StopReason) → answer a → other a) → (why : StopReason) → StopsAs answer why
@@ -60,6 +114,7 @@ stops_more answer other more stop.Words is = more (Err stop.Words) is
 stops_more answer other more (stop.NotStore f) is = more (Err (stop.NotStore f)) is
 stops_more answer other more (stop.Taken n) is = more (Err (stop.Taken n)) is
 stops_more answer other more stop.Missing is = more (Err stop.Missing) is
+stops_more answer other more stop.Damaged is = more (Err stop.Damaged) is
 stops_more answer other more (stop.Line n) is = more (Err (stop.Line n)) is
 stops_more answer other more stop.Source is = more (Err stop.Source) is
 stops_more answer other more stop.Budget is = more (Err stop.Budget) is

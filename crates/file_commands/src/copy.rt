@@ -10,7 +10,7 @@ use disk_face::{Disk, Sink, read};
 use std::alloc::Global;
 
 /// How many bytes are copied at a time.
-const PIECE: u64 = 65_536;
+pub const PIECE: u64 = 65_536;
 
 /// Memory for a piece of an object of so many bytes.
 pub fn take_piece(alloc: Global, size: u64) -> Result<Vec<u8>, StopReason>

@@ -1,12 +1,13 @@
 //! The command `get`: the bytes of one object.
-ghost use Rattle.std.specs.Prelude.{◌≡◌, ◌≢◌, ◌+◌, ◌^◌, ◌<◌, ◌≤◌, List, ℕ, Ok, Err, IfOk, IfErr, IsTrue, length};
+ghost use Rattle.std.specs.Prelude.{◌≡◌, ◌≢◌, ◌+◌, ◌^◌, ◌<◌, ◌≤◌, List, ℕ, Some, Err, IfOk, IfErr, IsTrue, length};
 ghost use Rattle.byte_ranges.specs.Ranges.{bytes_at};
 ghost use Rattle.disk_face.specs.Frames.{Unchanged};
-ghost use Rattle.reopen.specs.Loads.{IsLoadedFrom, KeepsLoaded, unboxed};
-ghost use Rattle.file_commands.specs.Getting.{IsObject, StopsAs};
+ghost use Rattle.reopen.specs.Loads.{IsLoadedFrom, KeepsLoaded, digests_loaded, unboxed};
+ghost use Rattle.file_commands.specs.Getting.{IsObject, StopsAs, checked, digest_of};
 ghost use Rattle.command_face.specs.Layers.{Answers, HasCausesAt, IsCommandReason, Looks, PutsNone};
 
 use crate::copy::{put_bytes, take_piece};
+use crate::digest::put_checked;
 use crate::load::load;
 use command_face::StopReason;
 use disk_face::{Disk, Sink};
@@ -34,42 +35,71 @@ pub fn get<D: Disk, O: Sink>(
         (O.state output.new) result }
     ensures frame { Unchanged (D.state disk.old) (D.state disk.new) }
 {
-    let (at, size) = locate(alloc, disk, name)?;
-    let mut piece = take_piece(alloc, size)?;
-    put_bytes(disk, at, size, &mut piece, output)
+    let found = locate(alloc, disk, name)?;
+    let mut piece = take_piece(alloc, found.size)?;
+    match &found.digest {
+        None => put_bytes(disk, found.at, found.size, &mut piece, output),
+        Some(digest) => { put_checked(disk, found.at, found.size, digest, &mut piece, output) }
+    }
 }
 
-/// Where the object of a name begins in the file, and how many bytes it has.
-fn locate<D: Disk>(alloc: Global, disk: &mut D, name: &Name) -> Result<(u64, u64), StopReason>
+/// Where an object stands in its file: its first byte, how many there are, and in version 2 the digest that
+/// they are to have.
+#[derive(Drop)]
+struct Located {
+    at: u64,
+    size: u64,
+    digest: Option<[u8; 32]>,
+}
+
+/// Where the object of a name stands in the file.
+fn locate<D: Disk>(alloc: Global, disk: &mut D, name: &Name) -> Result<Located, StopReason>
     requires ready { IsTrue (D.state disk.old).is_ready }
-    ensures found { IsTrue (D.state disk.old).tells → IfOk result (λ at. IsObject name.now
-        (D.state disk.old).file (Ok (bytes_at (D.state disk.old).file at.0 at.1))) }
+    ensures found { IsTrue (D.state disk.old).tells → IfOk result (λ it. IsObject name.now
+        (D.state disk.old).file
+        (checked it.digest (Some (bytes_at (D.state disk.old).file it.at it.size)))) }
     ensures stopped { IsTrue (D.state disk.old).tells
         → IfErr result (StopsAs (IsObject name.now (D.state disk.old).file)) }
     ensures within { IsTrue (D.state disk.old).tells
-        → IfOk result (λ at. at.0 + at.1 ≤ length (D.state disk.old).file) }
-    ensures ranges { IfOk result (λ at. at.0 + at.1 < 2 ^ 64) }
+        → IfOk result (λ it. it.at + it.size ≤ length (D.state disk.old).file) }
+    ensures ranges { IfOk result (λ it. it.at + it.size < 2 ^ 64) }
     ensures looks { Looks (D.state disk.old) (D.state disk.new) result }
     ensures plain { IfErr result IsCommandReason }
 {
     let loaded = load(alloc, disk)?;
-    spot_in(&loaded, name)
+    located_in(&loaded, name)
 }
 
-/// Where the object of a name begins in the file of a table, and how many bytes it has.
-fn spot_in(loaded: &BoxedLoaded<CLASSES>, name: &Name) -> Result<(u64, u64), StopReason>
+/// Where the object of a name stands in the file of a table.
+fn located_in(loaded: &BoxedLoaded<CLASSES>, name: &Name) -> Result<Located, StopReason>
     requires loaded { KeepsLoaded (unboxed loaded.now) }
     ensures found { (file : List ℕ) → IsLoadedFrom file (unboxed loaded.now)
-        → IfOk result (λ at. IsObject name.now file (Ok (bytes_at file at.0 at.1))) }
+        → IfOk result
+        (λ it. IsObject name.now file (checked it.digest (Some (bytes_at file it.at it.size)))) }
     ensures within { (file : List ℕ) → IsLoadedFrom file (unboxed loaded.now)
-        → IfOk result (λ at. at.0 + at.1 ≤ length file) }
-    ensures ranges { IfOk result (λ at. at.0 + at.1 < 2 ^ 64) }
+        → IfOk result (λ it. it.at + it.size ≤ length file) }
+    ensures ranges { IfOk result (λ it. it.at + it.size < 2 ^ 64) }
     ensures only { IfErr result (λ why. why ≡ StopReason.Missing) }
     ensures missing { (file : List ℕ) → IsLoadedFrom file (unboxed loaded.now)
         → IfErr result (λ why. IsObject name.now file (Err why)) }
 {
     match loaded.table.get(name) {
-        Some(spot) => Ok((head_len(loaded.block.names) + spot.place, spot.size)),
+        Some(spot) => Ok(Located {
+            at: head_len(loaded.block.names) + spot.place,
+            size: spot.size,
+            digest: digest_in(loaded, name),
+        }),
         None => Err(StopReason::Missing),
+    }
+}
+
+/// The digest that the table of a file has for a name, which there is in version 2 alone.
+fn digest_in(loaded: &BoxedLoaded<CLASSES>, name: &Name) -> Option<[u8; 32]>
+    ensures { result ≡ digest_of (digests_loaded (unboxed loaded.now)) name.now }
+{
+    if loaded.header.version == 2 {
+        loaded.table.digest(name)
+    } else {
+        None
     }
 }

@@ -4,6 +4,7 @@
 mod check;
 mod command;
 mod copy;
+mod digest;
 mod get;
 mod laws;
 mod lines;

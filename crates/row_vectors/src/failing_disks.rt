@@ -2,9 +2,10 @@
 use crate::answers::{
     FORMAT, GET, got, is_front_of_long, try_answer, try_command, try_holds, try_outcome,
 };
-use crate::images::{LONG, disk};
+use crate::images::{Change, LONG, LONG_DIGESTED, disk, image};
 use crate::runs::{Ran, ended, run_on};
 use disk_mem::{Fuse, MemDisk};
+use plain_layout::put;
 use std::alloc::Global;
 use std::process::Abort;
 
@@ -45,9 +46,27 @@ const PIECES: &[(u64, u8, usize)] = &[
     (13, 0, 160_000),
 ];
 
+/// The same of a file of version 2, whose object has its digest: it is read once before any of it is put.
+const CHECKED_PIECES: &[(u64, u8, usize)] = &[
+    (10, 7, 0),
+    (11, 7, 0),
+    (12, 7, 0),
+    (13, 7, 0),
+    (14, 7, 65_536),
+    (15, 7, 131_072),
+    (16, 0, 160_000),
+];
+
 /// What a read puts of the object of 160,000 bytes before the fault line.
-fn try_long(rt: &impl Abort, alloc: Global, number: u64, status: u8, front: usize) {
-    let file = got(rt, disk(alloc, 197_380, LONG, &[]));
+fn try_long(
+    rt: &impl Abort,
+    alloc: Global,
+    then: &[Change],
+    number: u64,
+    status: u8,
+    front: usize,
+) {
+    let file = got(rt, disk(alloc, 197_380, LONG, then));
     let ran = get_failing(rt, alloc, file, number);
     let line = if status == 7 { "fault disk\n" } else { "" };
     try_outcome(rt, ran.outcome, ended(status), &number);
@@ -66,7 +85,33 @@ fn is_front_and_line(bytes: &[u8], front: usize, line: &str) -> bool {
 #[test]
 fn puts_what_it_read_before_a_failing_read(rt: HostRuntime) {
     for (number, status, front) in PIECES {
-        try_long(&rt, rt.alloc(), *number, *status, *front);
+        try_long(&rt, rt.alloc(), &[], *number, *status, *front);
+    }
+}
+
+#[test]
+fn puts_nothing_before_it_read_for_the_digest(rt: HostRuntime) {
+    for (number, status, front) in CHECKED_PIECES {
+        try_long(&rt, rt.alloc(), LONG_DIGESTED, *number, *status, *front);
+    }
+}
+
+/// An object of three pieces whose last byte was changed, over a disk whose read of a number fails, and what
+/// `get f a` comes to. It is read once.
+const DAMAGED_PIECES: &[(u64, u8, &str)] = &[(12, 7, "fault disk\n"), (13, 13, "fault damaged\n")];
+
+fn try_damaged(rt: &impl Abort, alloc: Global, number: u64, status: u8, puts: &str) {
+    let mut bytes = got(rt, image(alloc, 197_380, LONG, LONG_DIGESTED));
+    put(&mut bytes, &[(179_602, b'l')]);
+    let file = MemDisk::from_bytes(alloc, &bytes).expect(rt, "memory");
+    let ran = get_failing(rt, alloc, file, number);
+    try_answer(rt, &ran, status, puts);
+}
+
+#[test]
+fn puts_nothing_of_a_damaged_object(rt: HostRuntime) {
+    for (number, status, puts) in DAMAGED_PIECES {
+        try_damaged(&rt, rt.alloc(), *number, *status, *puts);
     }
 }
 

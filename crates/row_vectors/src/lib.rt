@@ -27,6 +27,8 @@ pub mod alike;
 #[cfg(test)]
 mod answers;
 #[cfg(test)]
+mod digests;
+#[cfg(test)]
 mod failing_disks;
 #[cfg(test)]
 mod failing_sinks;

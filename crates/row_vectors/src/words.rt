@@ -76,7 +76,7 @@ const PAGE: &[&str] = &[
     "",
     "status: 0 done, 1 faulty words, 2 a faulty request, 3 no such file, 4 no store, 5 the file isn't empty,",
     "6 no such object, 7 the disk failed, 8 the input failed, 9 the output failed, 10 out of memory,",
-    "11 too many requests.",
+    "11 too many requests, 13 the object was damaged.",
     "At each status but 0 and 9 one line that begins with fault is put last, but where there is no memory for",
     "the words.",
     "",

@@ -5,7 +5,7 @@ use crate::openings::{Row, refusal_by_both};
 use disk_face::Disk;
 use plain_layout::Refusal;
 use row_vectors::Outcome;
-use row_vectors::images::{Change, disk};
+use row_vectors::images::{Change, HELLO_DIGESTED, disk};
 use row_vectors::runs::{run_on, session};
 use slot_codec::CodecFault;
 use slot_pair::SlotFault;
@@ -131,10 +131,7 @@ const ANSWERS: &[Answer] = &[
 
 /// What a command puts of the file of version 2, which it leaves as it is.
 fn try_answer(rt: &impl Abort, alloc: Global, words: &[&str], puts: &str) {
-    let file = got(
-        rt,
-        disk(alloc, 19608, &[], &[(64, 2), (8632, 0x2C), (8663, 0x24)]),
-    );
+    let file = got(rt, disk(alloc, 19608, HELLO_DIGESTED, &[]));
     let ran = got(rt, run_on(alloc, words, true, file, Vec::new(alloc)));
     try_outcome(rt, ran.outcome, ENDED, &puts);
     try_bytes(rt, &ran.put, puts.as_bytes(), &puts);

@@ -17,11 +17,11 @@ returns-in_err-loaded-clause-stopped g c = λ told.
     search rules
 
 pub returns-clause-found : goal.returns-clause-found
-returns-clause-found g c told = c.spot_in.ensures.found (g.D.Disk.state c.args.disk.now).file
+returns-clause-found g c told = c.located_in.ensures.found (g.D.Disk.state c.args.disk.now).file
     (c.in_ok-loaded.ensures.told told)
 
 pub returns-clause-within : goal.returns-clause-within
-returns-clause-within g c told = c.spot_in.ensures.within (g.D.Disk.state c.args.disk.now).file
+returns-clause-within g c told = c.located_in.ensures.within (g.D.Disk.state c.args.disk.now).file
     (c.in_ok-loaded.ensures.told told)
 
 -- a name that isn't there is no failure of the disk or of memory
@@ -33,10 +33,10 @@ stops answer (Err why) only missing =
 
 pub returns-clause-stopped : goal.returns-clause-stopped
 returns-clause-stopped g c told = stops (IsObject c.args.name.now (g.D.Disk.state c.args.disk.now).file)
-    c.spot_in.result c.spot_in.ensures.only
-    (c.spot_in.ensures.missing (g.D.Disk.state c.args.disk.now).file (c.in_ok-loaded.ensures.told told))
+    c.located_in.result c.located_in.ensures.only
+    (c.located_in.ensures.missing (g.D.Disk.state c.args.disk.now).file (c.in_ok-loaded.ensures.told told))
 
 pub returns-clause-looks : goal.returns-clause-looks
 returns-clause-looks g c =
     looks_through (g.D.Disk.state c.args.disk.now) (g.D.Disk.state c.load.new.disk) c.in_ok-loaded.loaded
-    c.in_ok-loaded.ensures.looks c.spot_in.result c.spot_in.ensures.only
+    c.in_ok-loaded.ensures.looks c.located_in.result c.located_in.ensures.only
