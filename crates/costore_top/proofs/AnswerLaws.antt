@@ -22,7 +22,7 @@ use Rattle.file_commands.specs.Getting.{IsObject, given}
 use Rattle.file_commands.specs.Texts.{IsTold, check_text, map_text}
 use Rattle.command_face.specs.Outcomes.{Ends, EndsBy, status_at}
 use Rattle.costore_top.specs.Answering.{IsAnswer}
-use Rattle.costore_top.specs.Commands.{Command, check, format, get, help, map_of, run, version, work}
+use Rattle.costore_top.specs.Commands.{Command, check, dump, format, get, help, map_of, run, version, work}
 use Rattle.command_face.proofs.UnopenedLaws.{opens_or_not}
 
 -- ---- one answer
@@ -101,6 +101,7 @@ one_answer (check name) file a b g h = one_told check_text file a b g h
 one_answer (map_of name) file a b g h = one_told (λ t len. map_text t) file a b g h
 one_answer (run name) file a b g h = absurd (g)
 one_answer (work name number count) file a b g h = absurd (g)
+one_answer (dump name) file a b g h = absurd (g)
 one_answer help file a b g h = g ∙ sym h
 one_answer version file a b g h = g ∙ sym h
 

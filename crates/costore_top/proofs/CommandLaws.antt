@@ -14,6 +14,7 @@ use Rattle.command_face.specs.Outcomes.{Ends, EndsBy}
 use Rattle.command_face.specs.declared.outcome.Outcome.{Outcome}
 use Rattle.command_face.specs.declared.stop.StopReason.{StopReason}
 use Rattle.command_face.specs.declared.stop.StopReason.TheVariants as stop
+use Rattle.file_commands.specs.Dumped.{Dumps, PutsNoDump}
 use Rattle.file_commands.specs.Formatting.{Formats, IsDone, format_answer}
 use Rattle.file_commands.specs.Getting.{IsObject}
 use Rattle.file_commands.specs.Texts.{IsChecked, IsMapped}
@@ -22,7 +23,7 @@ use Rattle.run_command.specs.Sessions.{RunAlways}
 use Rattle.served_file.specs.Unserved.{IsRefusedService, NeverServed}
 use Rattle.work_command.specs.Working.{WorkAlways, WorkPromise}
 use Rattle.costore_top.specs.Answering.{IsAnswer}
-use Rattle.costore_top.specs.Commands.{Command, check, file_of, format, get, help, makes, map_of, mounts, reads, run, serves, version, work}
+use Rattle.costore_top.specs.Commands.{Command, check, dump, file_of, format, get, gives_answer, help, makes, map_of, mounts, reads, run, serves, version, work}
 use Rattle.costore_top.specs.Does.{Does}
 use Rattle.costore_top.specs.declared.help.TheConstants.{HELP, VERSION}
 use Rattle.costore_top.proofs.FaultyLaws.{untouched}
@@ -88,25 +89,48 @@ module _ {O : Type 0} (sink_of : O → SinkState) (old new : State) (out put : O
     (end : Result (Unit {0}) StopReason) where
   -- `get`, `check` and `map`: the answer is that of the crate of the command, which only reads
   pub reading : (c : Command) (few : Result (List ℕ) StopReason → Type 0) → IsTrue (mounts c)
-      → IsTrue (reads c) → IsFalse (makes c)
+      → IsTrue (reads c) → IsFalse (makes c) → IsTrue (gives_answer c)
       → ((a : Result (List ℕ) StopReason) → few a → IsAnswer c old.file a)
       → end ≢ Err stop.Words
       → IsMounted (file_of c) (makes c) new.last_mount (end ≡ Err stop.Disk) (end ≡ Err stop.NoFile)
       → (IsTrue old.tells → Answers few (sink_of out) (sink_of put) end) → PutsNone out put end
       → IfErr end IsCommandReason → Untouched old new
       → KeepsAt old new (sink_of out) (sink_of put) end → Layer sink_of c old new out put same_bay end
-  reading c few has_file has_table made wider no_words mounted answers nothing plain frame keeps = record {
+  reading c few has_file has_table made gives wider no_words mounted answers nothing plain frame keeps = record {
     no_fault = no_words;
     fileless = λ none. absurd (let e : true ≡ false = sym has_file ∙ none in cc);
     mounted = λ _. mounted;
-    answers = λ told. answers_as few (IsAnswer c old.file) wider (sink_of out) (sink_of put) end
+    answers = λ _ told. answers_as few (IsAnswer c old.file) wider (sink_of out) (sink_of put) end
         (answers (told has_file));
+    dumps = λ file is. absurd (let e : true ≡ false = sym gives ∙ ap gives_answer is in cc);
+    no_dump = λ file is. absurd (let e : true ≡ false = sym gives ∙ ap gives_answer is in cc);
     memory = λ none. absurd (let e : true ≡ false = sym has_table ∙ none in cc);
-    nothing_put = nothing;
+    nothing_put = λ _. nothing;
     plain = plain;
     frame = λ _. frame;
     formats = λ file k names is. absurd (let e : true ≡ false = sym (ap makes is) ∙ made in cc);
     silent = λ is. absurd (let e : true ≡ false = sym is ∙ made in cc);
+    keeps = keeps;
+  }
+
+  pub dumping : (file : List ℕ) → end ≢ Err stop.Words
+      → IsMounted file false new.last_mount (end ≡ Err stop.Disk) (end ≡ Err stop.NoFile)
+      → (IsTrue old.tells → Dumps old.file (sink_of out) (sink_of put) end) → PutsNoDump out put end
+      → IfErr end IsCommandReason → Untouched old new
+      → KeepsAt old new (sink_of out) (sink_of put) end → Layer sink_of (dump file) old new out put same_bay end
+  dumping file no_words mounted dumps none plain frame keeps = record {
+    no_fault = no_words;
+    fileless = λ none. absurd (cc);
+    mounted = λ _. mounted;
+    answers = λ gives. absurd (cc);
+    nothing_put = λ gives. absurd (cc);
+    dumps = λ _ _. dumps;
+    no_dump = λ _ _. none;
+    memory = λ none. absurd (cc);
+    plain = plain;
+    frame = λ _. frame;
+    formats = λ file k names is. absurd (cc);
+    silent = λ is. absurd (cc);
     keeps = keeps;
   }
 
@@ -122,11 +146,13 @@ module _ {O : Type 0} (sink_of : O → SinkState) (old new : State) (out put : O
     no_fault = no_words;
     fileless = λ none. absurd (cc);
     mounted = λ _. mounted;
-    answers = λ told. answers_as (λ answer. answer ≡ format_answer old.file)
+    dumps = λ f is. absurd (cc);
+    no_dump = λ f is. absurd (cc);
+    answers = λ _ told. answers_as (λ answer. answer ≡ format_answer old.file)
         (IsAnswer (format file k names) old.file) (format_answered file k names old.file) (sink_of out)
         (sink_of put) end (answers (told refl));
     memory = λ _. memory;
-    nothing_put = nothing;
+    nothing_put = λ _. nothing;
     plain = plain;
     frame = λ none. absurd (cc);
     formats = λ f l n is told empty.
@@ -141,7 +167,8 @@ module _ {O : Type 0} (sink_of : O → SinkState) (old new : State) (out put : O
 -- `--help` and `--version` put a text, and call no bay
 module _ {O : Type 0} (sink_of : O → SinkState) (c : Command) (text : List ℕ) (disk : State) (out put : O)
     (same_bay : Type 0) (same : same_bay) (no_file : IsFalse (mounts c)) (no_table : IsFalse (reads c))
-    (made : IsFalse (makes c)) (answer : IsAnswer c disk.file (Ok text)) where
+    (made : IsFalse (makes c)) (gives : IsTrue (gives_answer c))
+    (answer : IsAnswer c disk.file (Ok text)) where
   pub telling : (end : Result (Unit {0}) StopReason)
       → (IsTrue (sink_of out).tells → Puts (sink_of out).given (sink_of put).given text end)
       → OnErr end (end ≡ Err stop.Sink) → (sink_of put).tells ≡ (sink_of out).tells
@@ -151,9 +178,11 @@ module _ {O : Type 0} (sink_of : O → SinkState) (c : Command) (text : List ℕ
     no_fault = λ is. absurd (cc);
     fileless = λ _. (same, λ is. absurd (cc));
     mounted = λ is. absurd (let e : true ≡ false = sym is ∙ no_file in cc);
-    answers = λ _. record { bytes = text; ends = answer; puts = puts };
+    answers = λ _ _. record { bytes = text; ends = answer; puts = puts };
+    dumps = λ file is. absurd (let e : true ≡ false = sym gives ∙ ap gives_answer is in cc);
+    no_dump = λ file is. absurd (let e : true ≡ false = sym gives ∙ ap gives_answer is in cc);
     memory = λ _ is. absurd (cc);
-    nothing_put = tt;
+    nothing_put = λ _. tt;
     plain = tt;
     frame = λ _. untouched disk;
     formats = λ file k names is. absurd (let e : true ≡ false = sym (ap makes is) ∙ made in cc);
@@ -180,13 +209,15 @@ module _ {O : Type 0} (sink_of : O → SinkState) (c : Command) (text : List ℕ
         no_fault = λ is. absurd (let e : stop.Sink ≡ stop.Words = cc in cc);
         fileless = λ _. (same, λ is. absurd (let e : stop.Sink ≡ stop.NoFile = cc in cc));
         mounted = λ is. absurd (let e : true ≡ false = sym is ∙ no_file in cc);
-        answers = λ _. record {
+        dumps = λ file is. absurd (let e : true ≡ false = sym gives ∙ ap gives_answer is in cc);
+        no_dump = λ file is. absurd (let e : true ≡ false = sym gives ∙ ap gives_answer is in cc);
+        answers = λ _ _. record {
           bytes = text;
           ends = subst (λ (w : StopReason). EndsBy (IsAnswer c disk.file) text (Err w)) (sym sink) answer;
           puts = puts;
         };
         memory = λ _ is. absurd (let e : stop.Sink ≡ stop.NoMemory = cc in cc);
-        nothing_put = inr (inl sink);
+        nothing_put = λ _. inr (inl sink);
         plain = subst IsCommandReason (sym sink)
             (λ is. absurd (cc), λ is. absurd (cc), λ n is. absurd (cc));
         frame = λ _. untouched disk;
@@ -226,6 +257,7 @@ module _ (o : Outcome) (old new : Devices) (from rest : SourceState) (same_bay s
     ends = λ is. absurd (cc);
     memory = λ is. absurd (cc);
     line_alone = λ is. absurd (cc);
+    dumps = λ f is. absurd (cc);
     refused = λ _. refused;
     frame = λ is. absurd (cc);
     keeps = λ is. absurd (cc);
@@ -252,6 +284,7 @@ module _ (o : Outcome) (old new : Devices) (from rest : SourceState) (same_bay s
     ends = λ is. absurd (cc);
     memory = λ is. absurd (cc);
     line_alone = λ is. absurd (cc);
+    dumps = λ f is. absurd (cc);
     refused = λ _. refused;
     frame = λ is. absurd (cc);
     keeps = λ is. absurd (cc);

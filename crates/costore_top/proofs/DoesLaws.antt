@@ -10,8 +10,8 @@ use Rattle.command_face.specs.declared.outcome.Outcome.{Outcome}
 use Rattle.run_command.specs.Headline.{RunPromise, is_session}
 use Rattle.run_command.specs.Sessions.{RunAlways}
 use Rattle.work_command.specs.Working.{WorkAlways, WorkPromise}
-use Rattle.costore_top.specs.Answering.{IsAnswer, IsNotRun, ServesNothing}
-use Rattle.costore_top.specs.Commands.{Command, file_of, format, makes, mounts, reads, run, serves, work}
+use Rattle.costore_top.specs.Answering.{AsksForAnswer, IsAnswer, IsNotRun, ServesNothing}
+use Rattle.costore_top.specs.Commands.{Command, dump, file_of, format, gives_answer, makes, mounts, reads, run, serves, work}
 use Rattle.costore_top.specs.Does.{Does, is_run}
 use Rattle.costore_top.specs.Promises.{AnswersByItsFile, FormatsSafely, KeepsItsFile, MountsItsFile, ReadsNoInput}
 use Rattle.costore_top.specs.Words.{Means, MeansNone}
@@ -44,10 +44,11 @@ module _ (words : List (List ℕ)) (c : Command) (means : Means words c) (o : Ou
     ends = λ x m none told. subst (λ (y : Command). Ends (IsAnswer y old.disk.file) o.status old.sink
         new.sink)
         (sym (one x m))
-        (d.ends (subst (λ (y : Command). IsFalse (serves y)) (one x m) none)
+        (d.ends (subst (λ (y : Command). IsTrue (gives_answer y)) (one x m) none)
         (λ is. told (subst (λ (y : Command). IsTrue (mounts y)) (sym (one x m)) is)));
     memory = λ x m none. d.memory (subst (λ (y : Command). IsFalse (reads y)) (one x m) none);
     line_alone = λ none told. d.line_alone (none c means) told;
+    dumps = λ file m. d.dumps file (sym (one (dump file) m));
     refused = λ x m is told never. d.refused (subst (λ (y : Command). IsTrue (serves y)) (one x m) is) told
         never;
   }

@@ -13,7 +13,7 @@ use Rattle.command_face.specs.declared.outcome.Outcome.{Outcome}
 use Rattle.command_face.specs.declared.stop.StopReason.TheVariants as stop
 use Rattle.costore_top.specs.Answering.{ServesNothing}
 use Rattle.costore_top.specs.Promises.{AnswersByItsFile, FormatsSafely, KeepsItsFile, MountsItsFile, ReadsNoInput}
-use Rattle.costore_top.specs.Commands.{format}
+use Rattle.costore_top.specs.Commands.{dump, format}
 use Rattle.costore_top.specs.Words.{MeansNone}
 use Rattle.costore_top.proofs.EndedLaws.{line_unless}
 
@@ -77,6 +77,7 @@ module _ (words : List (List ℕ)) (none : MeansNone words) (o : Outcome) (disk 
       memory = λ x m. absurd (none x m);
       line_alone = λ _ told. line_unless (λ (s : SinkState). s) out out after (Err stop.Words) o.status status
           (inr (inr refl)) told line;
+      dumps = λ file m. absurd (none (dump file) m);
       refused = λ x m. absurd (none x m);
     }
 

@@ -15,11 +15,12 @@ use Rattle.command_face.specs.declared.outcome.Outcome.{Outcome}
 use Rattle.command_face.specs.declared.stop.StopReason.{StopReason}
 use Rattle.command_face.specs.declared.stop.StopReason.TheVariants as stop
 use Rattle.command_face.proofs.StatusLaws.{calm_by}
+use Rattle.file_commands.specs.Dumped.{Dumps, PutsNoDump}
 use Rattle.file_commands.specs.Formatting.{Formats, IsDone}
 use Rattle.costore_top.specs.Answering.{IsAnswer}
-use Rattle.costore_top.specs.Commands.{Command, file_of, format, makes, mounts, reads, run, serves, work}
+use Rattle.costore_top.specs.Commands.{Command, dump, file_of, format, gives_answer, makes, mounts, reads, run, serves, work}
 use Rattle.costore_top.specs.Does.{Does, is_run}
-use Rattle.costore_top.proofs.EndedLaws.{ended, line_after_none, line_unless}
+use Rattle.costore_top.proofs.EndedLaws.{dumped, ended, line_after_none, line_unless, line_unless_damaged}
 use Rattle.costore_top.proofs.StatusEnds.{disk_by, file_by, formats_by, memory_by, ok_by, plain_status, sink_by, words_by}
 
 -- What such a command did before its line was put.
@@ -29,10 +30,13 @@ pub record Layer {O : Type 0} (sink_of : O → SinkState) (c : Command) (old new
   pub fileless : IsFalse (mounts c) → same_bay × (end ≢ Err stop.NoFile)
   pub mounted : IsTrue (mounts c)
       → IsMounted (file_of c) (makes c) new.last_mount (end ≡ Err stop.Disk) (end ≡ Err stop.NoFile)
-  pub answers : (IsTrue (mounts c) → IsTrue old.tells)
+  pub answers : IsTrue (gives_answer c) → (IsTrue (mounts c) → IsTrue old.tells)
       → Answers (IsAnswer c old.file) (sink_of out) (sink_of put) end
   pub memory : IsFalse (reads c) → end ≢ Err stop.NoMemory
-  pub nothing_put : PutsNone out put end
+  pub nothing_put : IsTrue (gives_answer c) → PutsNone out put end
+  pub dumps : (file : List ℕ) → c ≡ dump file → IsTrue old.tells
+      → Dumps old.file (sink_of out) (sink_of put) end
+  pub no_dump : (file : List ℕ) → c ≡ dump file → PutsNoDump out put end
   pub plain : IfErr end IsCommandReason
   pub frame : IsFalse (makes c) → Untouched old new
   pub formats : (file : List ℕ) (k names : ℕ) → c ≡ format file k names
@@ -123,11 +127,17 @@ module _ {O : Type 0} (sink_of : O → SinkState) (c : Command) (none : IsFalse 
       λ three. (layer.fileless no_file).1 (file_by end (sym status ∙ three)),
     );
     mounted = mounted_as;
-    ends = λ _ tells. ended (IsAnswer c old.file) end o.status (sink_of out) (sink_of put) after status
-        (layer.answers tells) layer.keeps.causes.sink_told layer.keeps.causes.sink_later line;
+    ends = λ gives tells. ended (IsAnswer c old.file) end o.status (sink_of out) (sink_of put) after status
+        (layer.answers gives tells) layer.keeps.causes.sink_told layer.keeps.causes.sink_later line;
     memory = λ no_memory ten. layer.memory no_memory (memory_by end (sym status ∙ ten));
-    line_alone = λ _ tells. line_unless sink_of out put after end o.status status layer.nothing_put tells
-        line;
+    line_alone = λ gives tells. line_unless sink_of out put after end o.status status
+        (layer.nothing_put gives) tells line;
+    dumps = λ file same. record {
+      dumps = λ told. dumped old.file end o.status (sink_of out) (sink_of put) after status
+          (layer.dumps file same told) layer.keeps.causes.sink_told layer.keeps.causes.sink_later line;
+      line_alone = λ sink_told. line_unless_damaged sink_of out put after end o.status status
+          (layer.no_dump file same) sink_told line;
+    };
     refused = λ has. serves_not has;
     frame = λ _ kept. layer.frame kept;
     keeps = λ _. keeps_after;

@@ -3,7 +3,7 @@ use Rattle.std.specs.Prelude.{◌≡◌, ℕ, ◌<◌, ◌^◌, List, codes}
 use Rattle.std.proofs.Common.{get_or, ap, sym, ◌∙◌, arith}
 use Rattle.std.specs.Fmt.{decimal}
 use Rattle.std.proofs.lemmas.Fmt.{decimal_injective}
-use Rattle.costore_top.specs.Commands.{Command, format, get, check, map_of, run, work, help, version}
+use Rattle.costore_top.specs.Commands.{Command, format, get, check, map_of, run, work, dump, help, version}
 use Rattle.costore_top.specs.Words.{IsCommand, Means, spelled}
 
 one_number : (m n : ℕ) → m < 2 ^ 64 → n < 2 ^ 64 → decimal m ≡ decimal n → m ≡ n
@@ -33,6 +33,7 @@ spelled_one (get f n) (get g m) c d h = cc
 spelled_one (check f) (check g) c d h = cc
 spelled_one (map_of f) (map_of g) c d h = cc
 spelled_one (run f) (run g) c d h = cc
+spelled_one (dump f) (dump g) c d h = cc
 spelled_one help help c d h = cc
 spelled_one version version c d h = cc
 spelled_one (check f) (map_of g) c d h = let e : codes "check" ≡ codes "map" = cc in
@@ -47,6 +48,18 @@ spelled_one (run f) (check g) c d h = let e : codes "run" ≡ codes "check" = cc
     differ (codes "run") (codes "check") 0 e (λ same. absurd (omega (arith, same)))
 spelled_one (run f) (map_of g) c d h = let e : codes "run" ≡ codes "map" = cc in
     differ (codes "run") (codes "map") 0 e (λ same. absurd (omega (arith, same)))
+spelled_one (dump f) (check g) c d h = let e : codes "dump" ≡ codes "check" = cc in
+    differ (codes "dump") (codes "check") 0 e (λ same. absurd (omega (arith, same)))
+spelled_one (check f) (dump g) c d h = let e : codes "check" ≡ codes "dump" = cc in
+    differ (codes "check") (codes "dump") 0 e (λ same. absurd (omega (arith, same)))
+spelled_one (dump f) (map_of g) c d h = let e : codes "dump" ≡ codes "map" = cc in
+    differ (codes "dump") (codes "map") 0 e (λ same. absurd (omega (arith, same)))
+spelled_one (map_of f) (dump g) c d h = let e : codes "map" ≡ codes "dump" = cc in
+    differ (codes "map") (codes "dump") 0 e (λ same. absurd (omega (arith, same)))
+spelled_one (dump f) (run g) c d h = let e : codes "dump" ≡ codes "run" = cc in
+    differ (codes "dump") (codes "run") 0 e (λ same. absurd (omega (arith, same)))
+spelled_one (run f) (dump g) c d h = let e : codes "run" ≡ codes "dump" = cc in
+    differ (codes "run") (codes "dump") 0 e (λ same. absurd (omega (arith, same)))
 spelled_one (format f k n) (work g l m) c d h = let e : codes "format" ≡ codes "work" = cc in
     differ (codes "format") (codes "work") 0 e (λ same. absurd (omega (arith, same)))
 spelled_one (work f k n) (format g l m) c d h = let e : codes "work" ≡ codes "format" = cc in

@@ -1,6 +1,6 @@
 -- What words ask for, and what each command is to answer.
-use Rattle.std.specs.Prelude.{◌≡◌, ℕ, List, Result, Ok, IsFalse}
-use Rattle.costore_top.specs.Commands.{Command, check, format, get, help, map_of, mounts, run, serves, version, work}
+use Rattle.std.specs.Prelude.{◌≡◌, ℕ, List, Result, Ok, IsFalse, IsTrue}
+use Rattle.costore_top.specs.Commands.{Command, check, dump, format, get, gives_answer, help, map_of, mounts, run, serves, version, work}
 use Rattle.costore_top.specs.Words.{Means}
 use Rattle.file_commands.specs.Getting.{IsObject}
 use Rattle.file_commands.specs.Texts.{IsChecked, IsMapped}
@@ -16,6 +16,10 @@ NamesNoFile words = (c : Command) → Means words c → IsFalse (mounts c)
 abbrev pub ServesNothing : List (List ℕ) → Type 0
 ServesNothing words = (c : Command) → Means words c → IsFalse (serves c)
 
+-- the words ask for the one answer that there is to the bytes of the file
+abbrev pub AsksForAnswer : List (List ℕ) → Type 0
+AsksForAnswer words = (c : Command) → Means words c → IsTrue (gives_answer c)
+
 -- the words don't ask for the requests of the input
 abbrev pub IsNotRun : List (List ℕ) → Type 0
 IsNotRun words = (file : List ℕ) → Means words (run file) → ⊥
@@ -28,5 +32,6 @@ IsAnswer (check name) file answer = IsChecked file answer
 IsAnswer (map_of name) file answer = IsMapped file answer
 IsAnswer (run name) file answer = ⊥
 IsAnswer (work name number count) file answer = ⊥
+IsAnswer (dump name) file answer = ⊥
 IsAnswer help file answer = answer ≡ Ok HELP.now
 IsAnswer version file answer = answer ≡ Ok VERSION.now

@@ -12,6 +12,8 @@ pub data Command : Type 0 where
   run : List ℕ → Command
   -- do the jobs of a number: the file, the number, and how many
   work : List ℕ → ℕ → ℕ → Command
+  -- put the dump of the file's map
+  dump : List ℕ → Command
   help : Command
   version : Command
 
@@ -23,6 +25,7 @@ file_of (check file) = file
 file_of (map_of file) = file
 file_of (run file) = file
 file_of (work file number count) = file
+file_of (dump file) = file
 file_of _ = []
 
 -- the command mounts its file
@@ -33,6 +36,7 @@ mounts (check file) = true
 mounts (map_of file) = true
 mounts (run file) = true
 mounts (work file number count) = true
+mounts (dump file) = true
 mounts _ = false
 
 -- the command makes its file where it isn't there
@@ -47,6 +51,7 @@ reads (check file) = true
 reads (map_of file) = true
 reads (run file) = true
 reads (work file number count) = true
+reads (dump file) = true
 reads _ = false
 
 -- the command serves requests, those of its input or those of a number
@@ -54,6 +59,14 @@ abbrev pub serves : Command → Bool
 serves (run file) = true
 serves (work file number count) = true
 serves _ = false
+
+-- the command ends by the one answer that there is to the bytes of its file, and puts all of it or nothing but
+-- the line of its end, unless a device failed
+abbrev pub gives_answer : Command → Bool
+gives_answer (run file) = false
+gives_answer (work file number count) = false
+gives_answer (dump file) = false
+gives_answer _ = true
 
 -- the command may change its file, or make it
 abbrev pub changes : Command → Bool

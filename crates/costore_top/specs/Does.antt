@@ -14,8 +14,8 @@ use Rattle.run_command.specs.Sessions.{RunAlways}
 use Rattle.served_file.specs.Unserved.{IsRefusedService, NeverServed}
 use Rattle.work_command.specs.Working.{WorkAlways, WorkPromise}
 use Rattle.costore_top.specs.Answering.{IsAnswer}
-use Rattle.costore_top.specs.Commands.{Command, file_of, format, makes, mounts, reads, run, serves, work}
-use Rattle.costore_top.specs.Promises.{PutsLineAlone, ReadsNoInput}
+use Rattle.costore_top.specs.Commands.{Command, dump, file_of, format, gives_answer, makes, mounts, reads, run, serves, work}
+use Rattle.costore_top.specs.Promises.{DumpsItsFile, PutsLineAlone, ReadsNoInput}
 
 -- it serves the requests of its input
 abbrev pub is_run : Command → Bool
@@ -29,10 +29,11 @@ pub record Does (c : Command) (o : Outcome) (old new : Devices) (from rest : Sou
   pub fileless : IsFalse (mounts c) → same_bay × (o.status ≢ NO_FILE)
   pub mounted : IsTrue (mounts c)
       → IsMounted (file_of c) (makes c) new.disk.last_mount (o.status ≡ DISK_FAILED) (o.status ≡ NO_FILE)
-  pub ends : IsFalse (serves c) → (IsTrue (mounts c) → IsTrue old.disk.tells)
+  pub ends : IsTrue (gives_answer c) → (IsTrue (mounts c) → IsTrue old.disk.tells)
       → Ends (IsAnswer c old.disk.file) o.status old.sink new.sink
   pub memory : IsFalse (reads c) → o.status ≢ NO_MEMORY
-  pub line_alone : IsFalse (serves c) → IsTrue old.sink.tells → PutsLineAlone o.status old.sink new.sink
+  pub line_alone : IsTrue (gives_answer c) → IsTrue old.sink.tells → PutsLineAlone o.status old.sink new.sink
+  pub dumps : (file : List ℕ) → c ≡ dump file → DumpsItsFile o.status old new
   pub refused : IsTrue (serves c) → IsTrue old.disk.tells → NeverServed old.disk.file
       → Ends (IsRefusedService old.disk.file) o.status old.sink new.sink
   pub frame : IsFalse (serves c) → IsFalse (makes c) → Untouched old.disk new.disk

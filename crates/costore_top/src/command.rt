@@ -8,7 +8,7 @@ use crate::help::{HELP, VERSION};
 use crate::words::Command;
 use command_face::{Outcome, finish, put_whole};
 use disk_face::{Bay, Sink, Source};
-use file_commands::{check_from, format_in, get_from, map_from};
+use file_commands::{check_from, dump_from, format_in, get_from, map_from};
 use run_command::run_file;
 use std::alloc::Global;
 use work_command::work_file;
@@ -32,6 +32,7 @@ pub fn do_command<B: Bay, I: Source, O: Sink>(
         Command::Get(file, name) => finish(get_from(alloc, bay, file, name, output), output),
         Command::Check(file) => finish(check_from(alloc, bay, file, output), output),
         Command::Map(file) => finish(map_from(alloc, bay, file, output), output),
+        Command::Dump(file) => finish(dump_from(alloc, bay, file, output), output),
         Command::Run(file) => run_file(alloc, bay, file, input, output),
         Command::Work(file, number, count) => {
             work_file(alloc, bay, file, *number, *count, output)

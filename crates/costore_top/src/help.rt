@@ -9,6 +9,7 @@ commands:
   costore get FILE NAME             puts the bytes of the object NAME
   costore check FILE                puts one line about the store
   costore map FILE                  puts its segments and objects
+  costore dump FILE                 puts all its objects as one stream
   costore run FILE                  serves requests from standard input
   costore work FILE NUMBER COUNT    does COUNT jobs that NUMBER draws, and puts a summary
   costore --help                    puts this page

@@ -18,6 +18,7 @@ pub enum Command<'a> {
     Run(&'a str),
     /// The file, the number of the jobs, and how many jobs (1 to 1,000,000).
     Work(&'a str, u64, u64),
+    Dump(&'a str),
     Help,
     Version,
 }
@@ -75,6 +76,8 @@ fn two_words<'a>(command: &str, file: &'a str) -> Option<Command<'a>>
         Some(Command::Map(file))
     } else if says(command, "run") {
         Some(Command::Run(file))
+    } else if says(command, "dump") {
+        Some(Command::Dump(file))
     } else {
         None
     }

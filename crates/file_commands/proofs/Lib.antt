@@ -1,4 +1,5 @@
 mod GettingLaws
+mod DumpedLaws
 mod LooksLaws
 mod AnswerLaws
 mod EmptyLaws

@@ -5,9 +5,11 @@ ghost use Rattle.file_commands.specs.Getting.{IsObject};
 ghost use Rattle.command_face.specs.Mounting.{IsMounted};
 ghost use Rattle.file_commands.specs.Formatting.{Formats, IsDone, format_answer};
 ghost use Rattle.command_face.specs.Layers.{Answers, IsCommandReason, KeepsAt, PutsNone};
+ghost use Rattle.file_commands.specs.Dumped.{Dumps, PutsNoDump};
 ghost use Rattle.file_commands.specs.Texts.{IsChecked, IsMapped};
 
 use crate::check::check;
+use crate::dump::dump;
 use crate::get::get;
 use crate::map::map;
 use command_face::{StopReason, mount_there, put_whole};
@@ -89,6 +91,30 @@ pub fn map_from<B: Bay, O: Sink>(
 {
     mount_there(bay, file)?;
     map(alloc, bay, output)
+}
+
+/// `dump FILE`.
+#[inline(never)]
+pub fn dump_from<B: Bay, O: Sink>(
+    alloc: Global,
+    bay: &mut B,
+    file: &str,
+    output: &mut O,
+) -> Result<(), StopReason>
+    requires { (B.state bay.old).last_mount ≡ None }
+    ensures words { result ≢ Err StopReason.Words }
+    ensures mounted { IsMounted file.now false (B.state bay.new).last_mount (result ≡ Err StopReason.Disk)
+        (result ≡ Err StopReason.NoFile) }
+    ensures dumps { IsTrue (B.state bay.old).tells
+        → Dumps (B.state bay.old).file (O.state output.old) (O.state output.new) result }
+    ensures plain { IfErr result IsCommandReason }
+    ensures nothing_put { PutsNoDump output.old output.new result }
+    ensures frame { Untouched (B.state bay.old) (B.state bay.new) }
+    ensures keeps { KeepsAt (B.state bay.old) (B.state bay.new) (O.state output.old) (O.state output.new)
+        result }
+{
+    mount_there(bay, file)?;
+    dump(alloc, bay, output)
 }
 
 /// `format FILE K NAMES`. An empty file is formatted; another one stays as it is.

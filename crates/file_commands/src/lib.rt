@@ -1,15 +1,16 @@
-//! The commands that look at a file or make one: `format`, `get`, `check` and `map`.
+//! The commands that look at a file or make one: `format`, `get`, `check`, `map` and `dump`.
 #![tactic(auto)]
 
 mod check;
 mod command;
 mod copy;
 mod digest;
+mod dump;
 mod get;
 mod laws;
 mod lines;
 mod load;
 mod map;
 
-pub use command::{check_from, format_in, get_from, map_from};
+pub use command::{check_from, dump_from, format_in, get_from, map_from};
 pub use laws::{a_formatted_file_is_the_empty_store, told_of_the_map, worked_texts};

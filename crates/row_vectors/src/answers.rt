@@ -31,6 +31,8 @@ pub const CHECK: &[&str] = &["check", "f"];
 
 pub const MAP: &[&str] = &["map", "f"];
 
+pub const DUMP: &[&str] = &["dump", "f"];
+
 pub const FORMAT: &[&str] = &["format", "f", "9", "16"];
 
 /// The changes to the moving table.

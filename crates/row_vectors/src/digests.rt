@@ -142,6 +142,11 @@ const OF_TWO: &[Two] = &[
         0,
         b"class 6 200 22 0\nobject a 0 100\nobject b 100 100\n",
     ),
+    (
+        &["dump", "f"],
+        13,
+        b"dump 2 0 0 0 0 0 0 200 0 0 0 0 0 0 0 0 0 0 0 0 0 0 0 0 0 0 0 0\nfault damaged\n",
+    ),
     (&["check", "f"], 0, b"store 9 16 2 200 222 1 still\n"),
 ];
 
@@ -166,5 +171,17 @@ fn gets_each_other_object_where_one_is_damaged(rt: HostRuntime) {
 fn gets_an_object_without_bytes(rt: HostRuntime) {
     let changes = [(152, 100), (8624, 0), (8728, 0)];
     let row: Two = (GET, 0, b"");
+    try_two(&rt, rt.alloc(), &changes, &row);
+}
+
+/// Then the second object is damaged: what stands before its text is the first.
+#[test]
+fn dumps_what_stands_before_a_damaged_object(rt: HostRuntime) {
+    let changes = [(152, 100), (8624, 0), (8728, 0), (8744, 0xCC)];
+    let row: Two = (
+        &["dump", "f"],
+        13,
+        b"dump 2 0 0 0 0 0 0 100 0 0 0 0 0 0 0 0 0 0 0 0 0 0 0 0 0 0 0 0\nput a 0\n\nfault damaged\n",
+    );
     try_two(&rt, rt.alloc(), &changes, &row);
 }

@@ -29,6 +29,8 @@ mod answers;
 #[cfg(test)]
 mod digests;
 #[cfg(test)]
+mod dumps;
+#[cfg(test)]
 mod failing_disks;
 #[cfg(test)]
 mod failing_sinks;

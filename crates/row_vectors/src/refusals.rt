@@ -41,6 +41,7 @@ const COMMANDS: &[&[&str]] = &[
     &["get", "f", "a"],
     &["check", "f"],
     &["map", "f"],
+    &["dump", "f"],
     &["run", "f"],
     &["work", "f", "1", "1"],
 ];

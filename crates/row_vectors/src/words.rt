@@ -29,6 +29,9 @@ const COMMANDS: &[Told] = &told! {
     ["check", "f"] => 0 "store 9 16 1 5 5 1 still\n";
     ["check", ""] => 1 "fault words\n";
     ["map", "g"] => 3 "fault no file\n";
+    ["dump", "g"] => 3 "fault no file\n";
+    ["dump", ""] => 1 "fault words\n";
+    ["dump", "f", "a"] => 1 "fault words\n";
     ["format", "f", "9", "16"] => 5 "fault taken 19608\n";
     ["--version"] => 0 "costore 0.1.0\n";
 };
@@ -56,6 +59,7 @@ const PAGE: &[&str] = &[
     "  costore get FILE NAME             puts the bytes of the object NAME",
     "  costore check FILE                puts one line about the store",
     "  costore map FILE                  puts its segments and objects",
+    "  costore dump FILE                 puts all its objects as one stream",
     "  costore run FILE                  serves requests from standard input",
     "  costore work FILE NUMBER COUNT    does COUNT jobs that NUMBER draws, and puts a summary",
     "  costore --help                    puts this page",

@@ -4,10 +4,10 @@ use Rattle.disk_face.specs.Devices.{devices}
 use Rattle.file_commands.specs.Getting.{IsObject}
 use Rattle.file_commands.specs.Texts.{IsChecked, IsMapped}
 use Rattle.costore_top.specs.Answering.{IsAnswer}
-use Rattle.costore_top.specs.Commands.{check, format, get, help, map_of, version}
+use Rattle.costore_top.specs.Commands.{check, dump, format, get, help, map_of, version}
 use Rattle.costore_top.specs.Words.{IsCommand, command_of}
 use Rattle.costore_top.specs.declared.help.TheConstants.{HELP, VERSION}
-use Rattle.costore_top.proofs.CommandLaws.{check_answer, formatting, get_answer, help_answer, map_answer, reading, running, telling, version_answer, working}
+use Rattle.costore_top.proofs.CommandLaws.{check_answer, dumping, formatting, get_answer, help_answer, map_answer, reading, running, telling, version_answer, working}
 use Rattle.costore_top.proofs.PlainLaws.{does_as, plain_does}
 use Rattle.costore_top.proofs.command.do_command.Goals as goal
 
@@ -49,7 +49,7 @@ returns-in-Get g c =
     let input = c.args.input.now ≡ c.args.input.now in
     let command = get c.in-Get.file.now c.in-Get.name in
     let layer = reading g.O.Sink.state disk new out put bay c.get_from.result command
-    (IsObject c.in-Get.name disk.file) refl refl refl
+    (IsObject c.in-Get.name disk.file) refl refl refl refl
     (get_answer c.in-Get.file.now c.in-Get.name disk.file) e.words e.mounted e.answers
     e.nothing_put e.plain e.frame e.keeps in
     does_as (ap command_of c.in-Get.is)
@@ -70,7 +70,7 @@ returns-in-Check g c =
     let input = c.args.input.now ≡ c.args.input.now in
     let command = check c.in-Check.file.now in
     let layer = reading g.O.Sink.state disk new out put bay c.check_from.result command
-    (IsChecked disk.file) refl refl refl (check_answer c.in-Check.file.now disk.file) e.words e.mounted
+    (IsChecked disk.file) refl refl refl refl (check_answer c.in-Check.file.now disk.file) e.words e.mounted
     e.answers e.nothing_put e.plain e.frame e.keeps in
     does_as (ap command_of c.in-Check.is)
     (plain_does g.O.Sink.state command refl disk new out put (g.O.Sink.state c.finish-in-Check.new.output)
@@ -90,11 +90,30 @@ returns-in-Map g c =
     let input = c.args.input.now ≡ c.args.input.now in
     let command = map_of c.in-Map.file.now in
     let layer = reading g.O.Sink.state disk new out put bay c.map_from.result command
-    (IsMapped disk.file) refl refl refl (map_answer c.in-Map.file.now disk.file) e.words e.mounted e.answers
+    (IsMapped disk.file) refl refl refl refl (map_answer c.in-Map.file.now disk.file) e.words e.mounted e.answers
     e.nothing_put e.plain e.frame e.keeps in
     does_as (ap command_of c.in-Map.is)
     (plain_does g.O.Sink.state command refl disk new out put (g.O.Sink.state c.finish-in-Map.new.output)
     from from bay input refl c.map_from.result c.finish-in-Map.result f.status f.line f.told
+    f.later f.calm layer)
+
+pub returns-in-Dump : goal.returns-in-Dump
+returns-in-Dump g c =
+    let e = c.dump_from.ensures in
+    let f = c.finish-in-Dump.ensures in
+    let disk = g.B.Disk.state c.args.bay.now in
+    let new = g.B.Disk.state c.dump_from.new.bay in
+    let out = c.args.output.now in
+    let put = c.dump_from.new.output in
+    let from = g.I.Source.state c.args.input.now in
+    let bay = c.dump_from.new.bay ≡ c.args.bay.now in
+    let input = c.args.input.now ≡ c.args.input.now in
+    let command = dump c.in-Dump.file.now in
+    let layer = dumping g.O.Sink.state disk new out put bay c.dump_from.result c.in-Dump.file.now e.words
+    e.mounted e.dumps e.nothing_put e.plain e.frame e.keeps in
+    does_as (ap command_of c.in-Dump.is)
+    (plain_does g.O.Sink.state command refl disk new out put (g.O.Sink.state c.finish-in-Dump.new.output)
+    from from bay input refl c.dump_from.result c.finish-in-Dump.result f.status f.line f.told
     f.later f.calm layer)
 
 pub returns-in-Help : goal.returns-in-Help
@@ -110,7 +129,7 @@ returns-in-Help g c =
     let text = c.as_bytes.result.now in
     let is : text ≡ HELP.now = cc in
     let answer = subst (λ xs. IsAnswer help disk.file (Ok xs)) (sym is) (help_answer disk.file) in
-    let layer = telling g.O.Sink.state help text disk out put bay refl refl refl refl answer
+    let layer = telling g.O.Sink.state help text disk out put bay refl refl refl refl refl answer
     c.put_whole.result e.put e.only e.told e.cause in
     does_as (ap command_of c.in-Help.is)
     (plain_does g.O.Sink.state help refl disk disk out put (g.O.Sink.state c.finish-in-Help.new.output)
@@ -130,7 +149,7 @@ returns-in-Version g c =
     let text = c.as_bytes-in-Version.result.now in
     let is : text ≡ VERSION.now = cc in
     let answer = subst (λ xs. IsAnswer version disk.file (Ok xs)) (sym is) (version_answer disk.file) in
-    let layer = telling g.O.Sink.state version text disk out put bay refl refl refl refl answer
+    let layer = telling g.O.Sink.state version text disk out put bay refl refl refl refl refl answer
     c.put_whole-in-Version.result e.put e.only e.told e.cause in
     does_as (ap command_of c.in-Version.is)
     (plain_does g.O.Sink.state version refl disk disk out put (g.O.Sink.state c.finish-in-Version.new.output)
