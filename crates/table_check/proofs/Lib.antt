@@ -1,4 +1,5 @@
 pub mod LiveLaws
+pub mod NextLaws
 pub mod NumberLaws
 pub mod OverlapLaws
 pub mod PassLaws

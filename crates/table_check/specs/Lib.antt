@@ -2,6 +2,7 @@ pub mod Checked
 pub mod Firsts
 pub mod Frames
 pub mod Live
+pub mod Nexts
 pub mod Orders
 pub mod Placed
 pub mod Suffixes

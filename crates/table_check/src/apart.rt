@@ -4,15 +4,18 @@ ghost use Rattle.extent_table.specs.Extents.{records_of};
 ghost use Rattle.table_rules.specs.Tables.{end_of_record};
 ghost use Rattle.table_rules.specs.Rules.{AllHold, ApartFromEarlier, apart_from_earlier};
 ghost use Rattle.table_rules.specs.Breaks.{BreaksAt};
+ghost use Rattle.extent_table.specs.Places.{by_place};
+ghost use Rattle.table_check.specs.Nexts.{EndBeforeNext};
 ghost use Rattle.table_check.specs.Placed.{placed, ranked};
 
 use crate::frame::Frame;
 use crate::order::order_objects;
-use crate::spots::{count, spot_at};
+use crate::spots::{count, spot_at, spot_by_place};
 use extent_table::Table;
 
-/// The least record that shares a byte with an earlier one. It is the last of the shortest front of
-/// the records of which two share a byte, and the front's length is found by halves.
+/// The least record that shares a byte with an earlier one. The table's own order of places shows that
+/// there is none. Else it is the last of the shortest front of the records of which two share a byte,
+/// and the front's length is found by halves.
 pub(crate) fn first_overlap(table: &Table, frame: &Frame, order: &mut Vec<u32>) -> Option<u64>
     requires room { length (records_of table.now.now) ≤ vec_capacity order.old }
     ensures none { IsNone result → AllHold apart_from_earlier (placed table.now frame.now) }
@@ -20,6 +23,9 @@ pub(crate) fn first_overlap(table: &Table, frame: &Frame, order: &mut Vec<u32>) 
     ensures capacity { vec_capacity order.new ≡ vec_capacity order.old }
 {
     let mut high = count(table);
+    if end_before_next(table) {
+        return None;
+    }
     if are_apart(table, frame, high, order) {
         return None;
     }
@@ -33,6 +39,21 @@ pub(crate) fn first_overlap(table: &Table, frame: &Frame, order: &mut Vec<u32>) 
         }
     }
     Some(low)
+}
+
+/// Whether each object of at least 1 byte ends where the next one by place begins, or before.
+fn end_before_next(table: &Table) -> bool
+    ensures { IsTrue result → EndBeforeNext table.now.now (length (by_place table.now.now)) }
+{
+    let mut end = 0;
+    'ranks: for rank in 0..table.place_count() {
+        let s = spot_by_place(table, rank);
+        if s.place < end {
+            return false;
+        }
+        end = s.place + s.size;
+    }
+    true
 }
 
 /// Whether no two records before a rank share a byte.

@@ -2,6 +2,8 @@
 ghost use Rattle.std.specs.Prelude.{◌≡◌, ◌<◌, ◌≤◌, ◌^◌, length};
 ghost use Rattle.size_class.specs.Classes.{class_of};
 ghost use Rattle.extent_table.specs.Extents.{IsTable, records_of};
+ghost use Rattle.extent_table.specs.Places.{by_place};
+ghost use Rattle.table_check.specs.Nexts.{StandsAtRank};
 ghost use Rattle.table_check.specs.Placed.{ranked};
 
 use extent_table::{Spot, Table};
@@ -28,6 +30,18 @@ pub(crate) fn spot_at(table: &Table, rank: u64) -> Spot
     } else {
         Spot { place: 0, size: 0 }
     }
+}
+
+/// Where the object of a rank by place stands, counted from 0 among those of at least 1 byte.
+pub(crate) fn spot_by_place(table: &Table, rank: u64) -> Spot
+    requires within { rank < length (by_place table.now.now) }
+    ensures there { StandsAtRank table.now.now rank result }
+    ensures low { result.place < 2 ^ 48 }
+    ensures small { result.size < 2 ^ 48 }
+{
+    let _few = count(table);
+    let (_, spot) = table.at_place(rank);
+    spot
 }
 
 /// The class of a size: of no bytes 0, and the last one from 2^31 bytes on.
