@@ -1,15 +1,17 @@
 -- Live bytes of one record more.
-use Rattle.std.specs.Prelude.{◌≡◌, ℕ, zero, suc, ◌+◌, ◌-◌, ◌*◌, ◌^◌, ◌<◌, ◌≤◌, ◌==◌, ◌&&◌, nat_lt, Bool, true, false, cond, List, [], length, filter, take, slice_index, slice_index_or, replicate, refl}
+use Rattle.std.specs.Prelude.{◌≡◌, ℕ, zero, suc, ◌+◌, ◌-◌, ◌*◌, ◌^◌, ◌<◌, ◌≤◌, ◌==◌, ◌&&◌, nat_le, nat_lt, Bool, true, false, cond, List, [], length, filter, take, slice_index, slice_index_or, replicate, refl}
 use Rattle.std.proofs.Common.{arith, ap, set, sym, ◌∙◌, inl, inr}
-use Rattle.std.proofs.lemmas.Bool.{and_from, cases_Bool, eqb-false, eqb-true, lt-ltb}
+use Rattle.std.proofs.lemmas.Bool.{and_from, cases_Bool, cases_lt, eqb-false, eqb-true, lt-leb, lt-ltb}
 use Rattle.std.proofs.lemmas.Grind.{get_or-set_at}
 use Rattle.std.proofs.lemmas.List.{get_or-replicate, get_or-set_other, length-set}
 use Rattle.byte_ranges.specs.Lists.{below, sum_below}
 use Rattle.byte_ranges.proofs.ListLaws.{zeros_at}
 use Rattle.size_class.specs.Classes.{class_of, width, cell}
 use Rattle.slot_codec.specs.declared.codec.Record.{Record}
+use Rattle.segment_layout.specs.Shapes.{buffer_start, taken_in}
 use Rattle.table_rules.specs.Tables.{TableInLayout, is_of, lies_in_buffer, lies_in_payload, no_record, size_sum}
 use Rattle.table_rules.proofs.TableLaws.{size_sum_more}
+use Rattle.placement_model.proofs.SegmentLaws.{buffer_start-rises}
 use Rattle.extent_table.specs.declared.spot.Spot.{Spot}
 use Rattle.table_check.specs.declared.frame.Frame.{Frame}
 use Rattle.table_check.specs.Live.{IsFull, IsLive, at_spot, in_buffer, in_payload}
@@ -57,6 +59,35 @@ pub record BuffersSoFar (t : TableInLayout) (r : Record) (j : ℕ) (old new : Li
   pub done : (i c : ℕ) → i < j → i < width → c < width
       → cell new i c ≡ cell old i c + cond (in_buffer t i c r) r.size 0
   pub rest : (i c : ℕ) → j ≤ i → cell new i c ≡ cell old i c
+
+-- an object that begins before a buffer lies in none from that one on, so all buffers are done
+module _ (f : Frame) (s : Spot) (j : ℕ) (before : s.place < buffer_start f.k f.header.caps j) where
+  not_from : (i c : ℕ) → j ≤ i → i < width → in_buffer (framed f []) i c (at_spot s) ≡ false
+  not_from i c above wide =
+      let start = buffer_start f.k f.header.caps i in
+      let past : nat_le start s.place ≡ false = lt-leb start s.place (omega (
+        arith,
+        before,
+        buffer_start-rises f.k f.header.caps j i above (omega (arith, wide, f.shape.caps_full)),
+      )) in
+      ap (λ b. is_of c (at_spot s) && (b && nat_le (s.place + s.size) (start + taken_in f.header.used i)))
+      past ∙ with_false (is_of c (at_spot s))
+    where
+      with_false : (b : Bool) → (b && false) ≡ false
+      with_false true = refl
+      with_false false = refl
+
+  pub all_done : (old new : List (List ℕ)) → BuffersSoFar (framed f []) (at_spot s) j old new
+      → (i c : ℕ) → i < width → c < width
+      → cell new i c ≡ cell old i c + cond (in_buffer (framed f []) i c (at_spot s)) s.size 0
+  all_done old new so_far i c wide high = elim (cases_lt i j) [
+    | inl less ↦ so_far.done i c less wide high
+    | inr above ↦ omega (
+      arith,
+      so_far.rest i c above,
+      ap (λ b. cond b s.size 0) (not_from i c above wide),
+    )
+  ]
 
 -- ---- all records
 

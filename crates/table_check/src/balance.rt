@@ -116,7 +116,8 @@ fn add_to_payload(payload: &mut [u64; 32], frame: &Frame, s: Spot)
     }
 }
 
-/// Counts an object for its class in each buffer in whose taken bytes it lies.
+/// Counts an object for its class in each buffer in whose taken bytes it lies. It lies in none from the
+/// first one on that begins behind its place.
 fn add_to_buffers(buffers: &mut [[u64; 32]; 32], frame: &Frame, s: Spot)
     requires some { 0 < s.size }
     requires low { s.place < 2 ^ 48 }
@@ -129,6 +130,9 @@ fn add_to_buffers(buffers: &mut [[u64; 32]; 32], frame: &Frame, s: Spot)
 {
     let class = class_at(s.size);
     'buffers: for j in 0..32u8 {
+        if s.place < frame.buffer_start(j) {
+            return;
+        }
         if frame.lies_in_buffer(j, s) {
             buffers[j as usize][class as usize] += s.size;
         }
