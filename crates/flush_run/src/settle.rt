@@ -12,7 +12,7 @@ ghost use Rattle.flush_run.specs.FlushFrames.{IsMidFlush, FlushFrame, LeavesOldO
 ghost use Rattle.flush_run.specs.Saves.{IsSaveable};
 ghost use Rattle.segment_layout.specs.Layouts.{caps_of, grid_of};
 ghost use Rattle.size_class.specs.Rows.{cells_of};
-ghost use Rattle.flush_run.specs.Loops.{MidLay};
+ghost use Rattle.flush_run.specs.Loops.{CanSave};
 ghost use Rattle.flush_run.specs.Settling.{CanCut, FlushEnds, IsSettled};
 ghost use Rattle.flush_run.specs.Parts.{KeepsOn, KeepsSettling, parts_of};
 ghost use Rattle.flush_run.specs.Shelved.{items_now, phase_now};
@@ -71,7 +71,7 @@ pub(crate) fn settle_mid_flush<D: Disk, const C: usize>(
     disk.sync()
 }
 
-/// MidLay the layout out anew for what was laid, saves it as a settled table, cuts the file to where the
+/// Lays the layout out anew for what was laid, saves it as a settled table, cuts the file to where the
 /// layout ends, and syncs.
 pub(crate) fn settle<D: Disk, const C: usize>(
     disk: &mut D,
@@ -81,13 +81,13 @@ pub(crate) fn settle<D: Disk, const C: usize>(
     requires ready { IsTrue (D.state disk.old).is_ready }
     requires buffer { vec_len hands.old.buf ≡ 65536 }
     requires fits { C ≤ 32 }
-    requires start { (f : FlushFrame) × MidLay C f (caps_of hands.old.layout) (grid_of hands.old.layout)
+    requires start { (f : FlushFrame) × CanSave C f (caps_of hands.old.layout) (grid_of hands.old.layout)
         (parts_of hands.old) (phase_now settled.now.course hands.old.table) (D.state disk.old) }
     requires settled { HasSettled C settled.now (items_now settled.now.course hands.old.table) }
-    ensures ends { (f : FlushFrame) → MidLay C f (caps_of hands.old.layout) (grid_of hands.old.layout)
+    ensures ends { (f : FlushFrame) → CanSave C f (caps_of hands.old.layout) (grid_of hands.old.layout)
         (parts_of hands.old) (phase_now settled.now.course hands.old.table) (D.state disk.old)
         → OnOk result (FlushEnds C f (parts_of hands.new) (D.state disk.new)) }
-    ensures left { (f : FlushFrame) → MidLay C f (caps_of hands.old.layout) (grid_of hands.old.layout)
+    ensures left { (f : FlushFrame) → CanSave C f (caps_of hands.old.layout) (grid_of hands.old.layout)
         (parts_of hands.old) (phase_now settled.now.course hands.old.table) (D.state disk.old)
         → IsTrue (D.state disk.old).tells
         → LeavesOldOrNew f (hands.old.slots.sequence + 1) (D.state disk.old) (D.state disk.new) }
