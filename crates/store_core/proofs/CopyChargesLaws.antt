@@ -4,6 +4,7 @@ use Rattle.std.proofs.Common.{ap, arith, sym, ◌∙◌, subst, inl, inr}
 use Rattle.std.proofs.lemmas.List.{append-nil}
 use Rattle.std.specs.FinMap as fin
 use Rattle.size_class.specs.declared.TheConstants.{SIZE_MAX}
+use Rattle.slot_codec.proofs.CapLaws.{cap-low}
 use Rattle.map_model.specs.Requests as ask
 use Rattle.segment_layout.specs.Books.{charge_all, is_quiet}
 use Rattle.segment_layout.specs.Layouts.{caps_of, divisor_of, grid_of}
@@ -149,7 +150,7 @@ module _ {C : ℕ} (s : Inside C) (whole : IsWhole s) (unbroken : s.broken ≡ f
         room = λ comes. elim can.room as (λ _. IsSome (fin.get s.hands.table.now name)
             ⊎ (fin.len s.hands.table.now < s.hands.table.names)) [
               | inl there ↦ inl there
-              | inr low ↦ inr (omega (arith, low, whole.room))
+              | inr low ↦ inr (omega (arith, low, whole.room, cap-low s.hands.slots.block.names 1))
             ];
       }
   can_put false nothing served = record {

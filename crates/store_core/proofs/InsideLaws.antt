@@ -7,11 +7,12 @@ use Rattle.size_class.specs.declared.TheConstants.{SIZE_MAX}
 use Rattle.data_area.specs.declared.ledger.Ledger.{Ledger}
 use Rattle.segment_layout.specs.declared.layout.Layout.{Layout}
 use Rattle.segment_layout.specs.Layouts.{caps_of, divisor_of, grid_of}
+use Rattle.slot_codec.proofs.CapLaws.{cap-one}
 use Rattle.held_guard.specs.Freed.{Freed}
 use Rattle.extent_table.specs.Extents.{Extents, IsTable, Spots}
 use Rattle.placement_model.specs.Held.{IsFreed}
 use Rattle.placement_model.specs.LaidOut.{shown_book}
-use Rattle.store_model.specs.Connection.{StoreValue, base_of}
+use Rattle.store_model.specs.Connection.{StoreValue, base_of, live_cap}
 use Rattle.flush_run.specs.declared.hands.Hands.{Hands}
 use Rattle.store_core.specs.declared.store.Store.TheInside as store
 use Rattle.store_core.specs.Inside.{Inside, IsWhole, kept_of, unboxed}
@@ -59,7 +60,7 @@ pub record IsOpened {C : ℕ} (s : Inside C) (t : StoreValue) : Type 0 where
   pub kept : s.hands.table.kept ≡ t.kept
   pub guard_room : s.hands.guard.room ≡ t.in_use.block.names
   pub room : s.hands.table.names ≡ t.in_use.block.names
-  pub cap : s.hands.table.cap ≡ t.in_use.block.names
+  pub cap : s.hands.table.cap ≡ live_cap t
   pub base : s.hands.base ≡ base_of t
 
 pub opened : {C : ℕ} (s : Inside C) (t : StoreValue) → kept_of s ≡ t → IsWhole s
@@ -76,7 +77,7 @@ opened {C} s t is whole unbroken =
       kept = kept;
       guard_room = whole.guard_room ∙ ap (λ (x : StoreValue). x.in_use.block.names) is;
       room = whole.room ∙ ap (λ (x : StoreValue). x.in_use.block.names) is;
-      cap = whole.cap ∙ ap (λ (x : StoreValue). x.in_use.block.names) is;
+      cap = whole.cap ∙ sym (cap-one s.hands.slots.block.names) ∙ ap live_cap is;
       base = whole.base ∙ ap base_of is;
     }
 

@@ -14,7 +14,7 @@ use Rattle.placement_model.proofs.QuietLaws.{quiet_then}
 use Rattle.store_core.specs.declared.answers.Refusal.{Refusal}
 use Rattle.store_core.specs.declared.answers.Refusal.TheVariants as why
 use Rattle.store_core.specs.Answers.{facts_at, refusal_for, refused_by}
-use Rattle.store_model.specs.Connection.{StoreValue, limits_of}
+use Rattle.store_model.specs.Connection.{StoreValue, limits_of, live_cap}
 use Rattle.store_core.specs.Plans.{AcceptsName}
 use Rattle.store_model.specs.Quiet.{IsCharged, del_of, put_of}
 use Rattle.store_model.specs.States.{first_refusal, object_tests, refusal, worn_test}
@@ -57,7 +57,7 @@ pub record PutServed (s : StoreValue) (name object : List ℕ) : Type 0 where
   pub whole : s.is_broken ≡ false
   pub named : IsName name
   pub small : length object ≤ SIZE_MAX
-  pub room : IsSome (fin.get s.now name) ⊎ (fin.len s.now < s.in_use.block.names)
+  pub room : IsSome (fin.get s.now name) ⊎ (fin.len s.now < live_cap s)
   pub fresh : s.in_use.sequence < 2 ^ 61
   pub calm : refusal (limits_of s) (facts_at s (ask.change (put_of name object)))
       (ask.change (put_of name object))
@@ -68,7 +68,7 @@ pub put_served : (s : StoreValue) (name object : List ℕ) → refused_by s (ask
     → PutServed s name object
 put_served s name object is =
     let f = facts_at s (ask.change (put_of name object)) in
-    let is_full = not f.is_live && nat_le s.in_use.block.names f.count in
+    let is_full = not f.is_live && nat_le (live_cap s) f.count in
     let no = no_refusal s (ask.change (put_of name object)) is in
     let a = first_passed (not (is_name name)) ask.bad_name
     (object_tests (limits_of s) f (Some object) ++ worn_test f) no.1 in
@@ -88,10 +88,10 @@ put_served s name object is =
     short : nat_lt SIZE_MAX (length object) ≡ false → length object ≤ SIZE_MAX
     short is = ltb-false SIZE_MAX (length object) is
 
-    either : (o : Option Spot) → not (is_some o) && nat_le s.in_use.block.names (fin.len s.now) ≡ false
-        → IsSome o ⊎ (fin.len s.now < s.in_use.block.names)
+    either : (o : Option Spot) → not (is_some o) && nat_le (live_cap s) (fin.len s.now) ≡ false
+        → IsSome o ⊎ (fin.len s.now < live_cap s)
     either (Some x) is = inl refl
-    either None is = inr (leb-false s.in_use.block.names (fin.len s.now) is)
+    either None is = inr (leb-false (live_cap s) (fin.len s.now) is)
 
 pub record DelServed (s : StoreValue) (name : List ℕ) : Type 0 where
   pub whole : s.is_broken ≡ false

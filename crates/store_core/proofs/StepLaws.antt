@@ -4,6 +4,7 @@ use Rattle.std.proofs.Common.{arith, ap, sym, ◌∙◌, subst, inl, inr}
 use Rattle.std.specs.FinMap as fin
 use Rattle.map_model.specs.Requests as ask
 use Rattle.map_model.specs.Requests.{Refused, Reply, Request}
+use Rattle.segment_layout.specs.Books.{version_of}
 use Rattle.extent_table.specs.declared.spot.Spot.{Spot}
 use Rattle.placement_model.specs.Reads.{AreNamed, object_at}
 use Rattle.placement_model.proofs.ReadLaws.{get-read_at}
@@ -66,6 +67,7 @@ facts_same s file r now kept = λ i. record {
   is_kept = (ap is_some (get-read_at (base_of s) file s.kept kept (name_of r))
       ∙ there_still (base_of s) file (fin.get s.kept (name_of r))) i;
   count = len-read_at (base_of s) file s.now now i;
+  version = version_of s.book;
   sequence = s.in_use.sequence;
 }
 

@@ -4,6 +4,7 @@ use Rattle.std.specs.FinMap as fin
 use Rattle.slot_codec.specs.Names.{is_name}
 use Rattle.map_model.specs.Requests as ask
 use Rattle.map_model.specs.Requests.{Request, Reply, Refused}
+use Rattle.segment_layout.specs.Books.{version_of}
 use Rattle.extent_table.specs.declared.spot.Spot.{Spot}
 use Rattle.store_core.specs.declared.answers.Refusal.{Refusal}
 use Rattle.store_core.specs.declared.answers.Refusal.TheVariants as why
@@ -26,6 +27,7 @@ facts_at s r = record {
   is_live = fin.contains_key s.now (name_of r);
   is_kept = fin.contains_key s.kept (name_of r);
   count = fin.len s.now;
+  version = version_of s.book;
   sequence = s.in_use.sequence;
 }
 

@@ -26,7 +26,7 @@ use slot_codec::Name;
 impl<const C: usize> Store<C> {
     ghost use Rattle.store_core.specs.Answers.{AnswersChange, done_reply, is_disk_fault, reply_of};
     ghost use Rattle.store_core.specs.Changes.{ChangesQuietly, IsQuietChange, NothingChanged};
-    ghost use Rattle.store_model.specs.Connection.{IsConnected, IsOver, limits_of, state_of};
+    ghost use Rattle.store_model.specs.Connection.{IsConnected, IsOver, limits_of, live_cap, state_of};
     ghost use Rattle.store_model.specs.States.{Step};
     ghost use Rattle.store_model.specs.Stores.{IsStore};
 
@@ -90,7 +90,7 @@ impl<const C: usize> Store<C> {
         requires whole { self.old.is_broken ≡ false }
         requires named { IsName name.now }
         requires room { IsSome (fin.get self.old.now name.now)
-            ⊎ (fin.len self.old.now < self.old.in_use.block.names) }
+            ⊎ (fin.len self.old.now < live_cap self.old) }
         requires small { spot.size ≤ SIZE_MAX }
         requires divisor { divisor_of layout ≡ self.old.in_use.block.k }
         requires caps { caps_of layout ≡ self.old.book.caps }

@@ -5,10 +5,10 @@ use Rattle.byte_ranges.specs.Ranges.{SameBelow, SameWithin}
 use Rattle.disk_face.specs.States as disk
 use Rattle.size_class.specs.Classes.{zero_row}
 use Rattle.size_class.specs.declared.TheConstants.{SIZE_MAX}
-use Rattle.slot_codec.specs.Spelling.{head_len}
+use Rattle.slot_codec.specs.Spelling.{cap, head_len}
 use Rattle.slot_codec.specs.Choice as choice
 use Rattle.map_model.specs.Maps.{Map}
-use Rattle.segment_layout.specs.Books.{Book, book_end}
+use Rattle.segment_layout.specs.Books.{Book, book_end, version_of}
 use Rattle.table_rules.specs.Opening.{Opens, OpensBy}
 use Rattle.table_rules.specs.Sequences.{HasSequenceUpTo}
 use Rattle.extent_table.specs.declared.spot.Spot.{Spot}
@@ -36,6 +36,10 @@ base_of s = head_len s.in_use.block.names
 -- what is fixed for it
 abbrev pub limits_of : StoreValue → Limits
 limits_of s = record { k = s.in_use.block.k; names = s.in_use.block.names; size_max = SIZE_MAX }
+
+-- how many names may be live in it, by the version of its book
+abbrev pub live_cap : StoreValue → ℕ
+live_cap s = cap s.in_use.block.names (version_of s.book)
 
 -- what a file gives where the objects stood at the last checkpoint
 abbrev pub kept_map : StoreValue → List ℕ → Map

@@ -2,12 +2,14 @@
 use Rattle.std.specs.Prelude.{◌≡◌, ℕ, ◌+◌, ◌*◌, ◌^◌, ◌≤◌, nat_lt, nat_le, Bool, not, ◌&&◌, if◌then◌else◌, List, [], ◌∷◌, ◌++◌, length, map, Option, Some, None}
 use Rattle.std.specs.FinMap as fin
 use Rattle.slot_codec.specs.Names.{is_name}
+use Rattle.slot_codec.specs.Spelling.{cap}
 use Rattle.map_model.specs.Maps.{Map, volume}
 use Rattle.map_model.specs.Requests as ask
 use Rattle.map_model.specs.Requests.{Request, Reply, Refused, Change, changed}
-use Rattle.segment_layout.specs.Books.{Book, next_book}
+use Rattle.segment_layout.specs.Books.{Book, next_book, version_of}
 
--- what is fixed for a store: the divisor, the greatest number of names, the greatest size of an object
+-- what is fixed for a store: the divisor, how many names its slots have room for in version 1, the greatest
+-- size of an object
 pub record Limits : Type 0 where
   pub k : ℕ
   pub names : ℕ
@@ -29,18 +31,19 @@ abbrev pub refused_from : ℕ
 refused_from = 2 ^ 61
 
 -- What a refusal depends on: whether the name is in the map and in the kept map, how many names
--- the map has, and the sequence.
+-- the map has, the version of its book, by which it is full, and the sequence.
 pub record Facts : Type 0 where
   pub is_live : Bool
   pub is_kept : Bool
   pub count : ℕ
+  pub version : ℕ
   pub sequence : ℕ
 
 abbrev pub object_tests : Limits → Facts → Option (List ℕ) → List (Bool × Refused)
 object_tests limits f None = (not f.is_live, ask.missing) ∷ []
 object_tests limits f (Some object) =
     (nat_lt limits.size_max (length object), ask.too_long) ∷
-    (not f.is_live && nat_le limits.names f.count, ask.full) ∷ []
+    (not f.is_live && nat_le (cap limits.names f.version) f.count, ask.full) ∷ []
 
 abbrev pub worn_test : Facts → List (Bool × Refused)
 worn_test f = (nat_le refused_from f.sequence, ask.worn) ∷ []
@@ -68,6 +71,7 @@ facts_of s r = record {
   is_live = fin.contains_key s.map (name_of r);
   is_kept = fin.contains_key s.kept (name_of r);
   count = fin.len s.map;
+  version = version_of s.book;
   sequence = s.sequence;
 }
 

@@ -9,11 +9,12 @@ use Rattle.map_model.specs.Requests as ask
 use Rattle.store_core.specs.declared.answers.Refusal.{Refusal}
 use Rattle.store_core.specs.declared.answers.Refusal.TheVariants as why
 use Rattle.store_core.specs.Answers.{refused_by}
-use Rattle.store_model.specs.Connection.{StoreValue}
+use Rattle.extent_table.specs.Extents.{Spots}
+use Rattle.store_model.specs.Connection.{StoreValue, live_cap}
 use Rattle.store_core.specs.Plans.{AcceptsName}
 use Rattle.store_model.specs.Quiet.{put_of}
 use Rattle.store_core.specs.Inside.{IsWhole, kept_of}
-use Rattle.store_core.proofs.InsideLaws.{lent_is}
+use Rattle.store_core.proofs.InsideLaws.{lent, lent_is, opened}
 use Rattle.store_core.proofs.store.Store.accept_put.Goals as goal
 use Rattle.store_core.proofs.store.Store.accept_put.Goals.{else-is_none-via-then-is_none+else-not-room, else-is_none-via-else-is_none}
 
@@ -38,7 +39,7 @@ with_false false = refl
 -- a put whose name and size are fine, and for which there is room, is refused only once the sequence is worn
 accepts : (s : StoreValue) (name object : List ℕ) (result : Result (List ℕ) Refusal) → s.is_broken ≡ false
     → is_name name ≡ true → length object ≤ SIZE_MAX
-    → (not (fin.contains_key s.now name) && nat_le s.in_use.block.names (fin.len s.now)) ≡ false
+    → (not (fin.contains_key s.now name) && nat_le (live_cap s) (fin.len s.now)) ≡ false
     → (2 ^ 61 ≤ s.in_use.sequence → result ≡ Err why.Worn) → (s.in_use.sequence < 2 ^ 61 → result ≡ Ok name)
     → AcceptsName (refused_by s (ask.change (put_of name object))) name result
 accepts s name object result whole named small room worn fresh =
@@ -57,26 +58,60 @@ returns-clause-answer g c =
     let t = c.args.self.now in
     let name = c.args.name.now in
     let said = answered t.is_broken (is_name name) c.in_ok-name.name name c.in_ok-name.ensures.answer in
+    let o = opened (lent c.self.inside c.deref-hands.result.now c.self.inside.kept_layout.value) t view_is
+    invariant said.0 in
     let live : is_some c.get.result ≡ fin.contains_key t.now name =
     ap is_some c.get.ensures
     ∙ (λ i. fin.contains_key ((ap (λ (x : StoreValue). x.now) view_is) i) (said.2 i)) in
-    let room : (not (fin.contains_key t.now name) && nat_le t.in_use.block.names (fin.len t.now)) ≡ false =
+    let room : (not (fin.contains_key t.now name) && nat_le (live_cap t) (fin.len t.now)) ≡ false =
     elim c.else-is_none.branch [
       | else-is_none-via-then-is_none+else-not-room w ↦
           let has : IsTrue w.room.result = search rules in
-          let low : fin.len t.now < t.in_use.block.names = omega (
+          let low : fin.len t.now < live_cap t = omega (
             arith,
             w.room.ensures.0 has,
-            invariant.cap,
-            ap (λ (x : StoreValue). fin.len x.now) view_is,
-            ap (λ (x : StoreValue). x.in_use.block.names) view_is,
+            o.cap,
+            ap (λ (m : Spots). fin.len m) o.now,
           ) in
-          ap (λ b. not (fin.contains_key t.now name) && b) (lt-leb t.in_use.block.names (fin.len t.now) low)
+          ap (λ b. not (fin.contains_key t.now name) && b) (lt-leb (live_cap t) (fin.len t.now) low)
           ∙ with_false (not (fin.contains_key t.now name))
       | else-is_none-via-else-is_none w ↦
           let there : is_some c.get.result ≡ true = search rules in
-          ap (λ b. not b && nat_le t.in_use.block.names (fin.len t.now)) (sym live ∙ there)
+          ap (λ b. not b && nat_le (live_cap t) (fin.len t.now)) (sym live ∙ there)
     ] in
     accepts t name c.args.bytes.now c.unworn.result said.0 said.1
     (omega (arith, c.if-bytes-gt-SIZE_MAX.false))
     room c.unworn.ensures.worn (λ early. c.unworn.ensures.fresh early ∙ ap (λ x. Ok x) said.2)
+
+-- a put of a new name is refused where as many live as there may be
+refuses : (s : StoreValue) (name object : List ℕ) → s.is_broken ≡ false → is_name name ≡ true
+    → length object ≤ SIZE_MAX → fin.contains_key s.now name ≡ false → live_cap s ≤ fin.len s.now
+    → AcceptsName (refused_by s (ask.change (put_of name object))) name (Err why.Full)
+refuses s name object whole named small new full =
+    let fits : nat_lt SIZE_MAX (length object) ≡ false = le-ltb SIZE_MAX (length object) small in
+    rw (whole, named, fits, new, le-leb (live_cap s) (fin.len s.now) full) refl
+
+pub returns-then-not-room-clause-answer : goal.returns-then-not-room-clause-answer
+returns-then-not-room-clause-answer g c =
+    let is_lent = lent_is c.self.inside c.deref-hands.ensures refl in
+    let view_is = ap kept_of is_lent ∙ c.self.view_is in
+    let invariant = subst IsWhole (sym is_lent) c.self.invariant in
+    let t = c.args.self.now in
+    let name = c.args.name.now in
+    let said = answered t.is_broken (is_name name) c.in_ok-name.name name c.in_ok-name.ensures.answer in
+    let o = opened (lent c.self.inside c.deref-hands.result.now c.self.inside.kept_layout.value) t view_is
+    invariant said.0 in
+    let live : is_some c.get.result ≡ fin.contains_key t.now name =
+    ap is_some c.get.ensures
+    ∙ (λ i. fin.contains_key ((ap (λ (x : StoreValue). x.now) view_is) i) (said.2 i)) in
+    let none : is_some c.get.result ≡ false = search rules in
+    let full : c.room.result ≡ false = search rules in
+    let many : live_cap t ≤ fin.len t.now = elim (cases_lt (fin.len t.now) (live_cap t)) [
+      | inl low ↦
+          let has : IsTrue c.room.result = c.room.ensures.1
+          (omega (arith, low, o.cap, ap (λ (m : Spots). fin.len m) o.now)) in
+          absurd (let e : false ≡ true = sym full ∙ has in cc)
+      | inr many ↦ many
+    ] in
+    refuses t name c.args.bytes.now said.0 said.1 (omega (arith, c.if-bytes-gt-SIZE_MAX.false))
+    (sym live ∙ none) many
