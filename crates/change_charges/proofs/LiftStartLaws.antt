@@ -10,7 +10,7 @@ use Rattle.slot_codec.specs.Names.{IsName}
 use Rattle.slot_codec.specs.Spelling.{head_len}
 use Rattle.span_math.specs.declared.span.Span.{Span}
 use Rattle.map_model.specs.Maps.{Map}
-use Rattle.segment_layout.specs.Books.{Book, is_quiet, next_book}
+use Rattle.segment_layout.specs.Books.{Book, is_quiet, next_book, with_digests}
 use Rattle.segment_layout.specs.Shapes.{end_of}
 use Rattle.table_rules.specs.Tables.{book_of}
 use Rattle.extent_table.specs.declared.spot.Spot.{Spot}
@@ -80,15 +80,17 @@ module _ (f : FlushFrame) (caps : List ℕ) (grid kept_grid : List (List ℕ)) (
       removed_hands = hands_alone f caps after kept_grid b u gone freed removed_starts base reach
 
       pub removed_lifts : (m : Map) → IsSizedBy m e.now
-          → (next_book k m before (record { name = name; object = None })).book ≡ f.new_book
+          → with_digests f.new_book.digests
+          (next_book k m before (record { name = name; object = None })).book ≡ f.new_book
           → BeginsLift f caps after u gone freed (phase_now (course_of k caps (numbers gone 0) 0) gone)
       removed_lifts m sized book = record {
         hands = removed_hands;
         low = kept_end f.classes f.size_max caps after kept_grid b u gone freed removed_starts;
-        book = subst (λ (x : Spots). book_of (laid f.classes f.size_max k f.reach
+        book = ap (λ (x : Book). with_digests f.new_book.digests x)
+            (subst (λ (x : Spots). book_of (laid f.classes f.size_max k f.reach
             (moving_header b (numbers gone 0).wall (numbers gone 0).slack caps after) x)
             ≡ (next_book k m before (record { name = name; object = None })).book) (sym without.now)
-            begun_book ∙ book;
+            begun_book) ∙ book;
       }
         where
           begun_book : book_of (laid f.classes f.size_max k f.reach
@@ -112,9 +114,11 @@ module _ (f : FlushFrame) (caps : List ℕ) (grid kept_grid : List (List ℕ)) (
     abbrev size : ℕ
     size = length object
 
-    -- the book of after is the next one, for each map of before whose objects have these sizes
+    -- the book of after is the next one but for its digests, for each map of before whose objects have
+    -- these sizes
     abbrev IsNext : Map → Type 0
-    IsNext m = (next_book k m before (record { name = name; object = Some object })).book ≡ f.new_book
+    IsNext m = with_digests f.new_book.digests
+        (next_book k m before (record { name = name; object = Some object })).book ≡ f.new_book
 
     -- what stands after a put, where the name is set again
     put_now : (s : Spot) (key : ℕ) (put : Extents) → IsWith name s key gone put
@@ -182,12 +186,13 @@ module _ (f : FlushFrame) (caps : List ℕ) (grid kept_grid : List (List ℕ)) (
         placed_lifts m sized book = record {
           hands = placed_hands;
           low = kept_end f.classes f.size_max caps after kept_grid b u put freed placed_starts;
-          book = book_put m sized (record { place = place; size = size }) key put joins refl placed_starts.low
+          book = ap (λ (x : Book). with_digests f.new_book.digests x)
+              (book_put m sized (record { place = place; size = size }) key put joins refl placed_starts.low
               placed_starts.below.named placed_starts.below.grid_full.full (numbers put 0).wall
               (numbers put 0).slack
               (buffered_placed f.classes f.size_max caps grid kept_grid u e spans h m sized
               (record { name = name; object = Some object }) after b l placed_starts.low (numbers put 0).wall
-              (numbers put 0).slack f.reach place placed) ∙ book;
+              (numbers put 0).slack f.reach place placed)) ∙ book;
         }
 
     -- ---- whose object waits
@@ -254,13 +259,14 @@ module _ (f : FlushFrame) (caps : List ℕ) (grid kept_grid : List (List ℕ)) (
               hands = pending_hands;
               low = subst (λ (x : Spots). AllEndBy x (end_of k caps)) (sym joins.kept)
                   (kept_end f.classes f.size_max caps after kept_grid b u gone freed pending_starts);
-              book = book_put m sized (record { place = place; size = size }) key put joins refl
+              book = ap (λ (x : Book). with_digests f.new_book.digests x)
+                  (book_put m sized (record { place = place; size = size }) key put joins refl
                   pending_starts.low
                   joins.table.now_named pending_starts.below.grid_full.full (numbers gone size).wall
                   (numbers gone size).slack
                   (buffered_pending f.classes f.size_max caps grid kept_grid u e spans h m sized
                   (record { name = name; object = Some object }) after b l pending_starts.low
                   (numbers gone size).wall
-                  (numbers gone size).slack f.reach (record { place = place; size = size }) pending_high)
+                  (numbers gone size).slack f.reach (record { place = place; size = size }) pending_high))
                   ∙ book;
             }

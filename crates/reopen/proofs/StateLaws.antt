@@ -1,6 +1,6 @@
 -- The state of a table that was read and checked.
 use Rattle.std.specs.Prelude.{◌≡◌, ◌↔◌, ℕ, List, Result, IfOk, IsOk, map, Ok, Err}
-use Rattle.std.proofs.Common.{ap, subst, sym, refl, ◌∙◌}
+use Rattle.std.proofs.Common.{arith, ap, subst, sym, refl, ◌∙◌}
 use Rattle.size_class.specs.declared.TheConstants.{SIZE_MAX}
 use Rattle.slot_codec.specs.Choice as choice
 use Rattle.slot_codec.specs.declared.codec.Header.{Header}
@@ -61,6 +61,7 @@ keeps_loaded r layout read checked = record {
   version = read.is_found.version;
   is_table = read.is_table;
   count = read.count;
+  few = omega (arith, read.count, read.cap, read.is_found.count);
   kept = read.kept;
   kept_digests = read.kept_digests;
   room = read.names;

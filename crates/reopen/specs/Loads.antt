@@ -9,7 +9,7 @@ use Rattle.slot_codec.specs.Spelling.{cap, head_len}
 use Rattle.slot_codec.specs.declared.codec.Kind.{Kind}
 use Rattle.slot_codec.specs.declared.codec.Kind.TheVariants as kind
 use Rattle.segment_layout.specs.Layouts.{caps_of, divisor_of, grid_of}
-use Rattle.segment_layout.specs.Books.{with_digests}
+use Rattle.segment_layout.specs.Books.{Book, with_digests}
 use Rattle.table_rules.specs.Opening.{OpensBy, placed_table}
 use Rattle.table_rules.specs.Rules.{IsValid}
 use Rattle.table_rules.specs.Tables.{book_of}
@@ -53,9 +53,17 @@ table_seen x digests =
       digests = digests;
     }
 
+-- the table that was read, with its own digests, and its book
+abbrev pub table_loaded : {C : ℕ} → Loaded C → choice.SlotTable
+table_loaded x = table_seen x (digests_loaded x)
+
+abbrev pub book_loaded : {C : ℕ} → List ℕ → Loaded C → Book
+book_loaded {C} file x =
+    with_digests (digests_loaded x) (book_of (placed_table C SIZE_MAX file (table_loaded x)))
+
 -- What holds whatever the disk tells: the numbers are in range and belong together, what stands now is what
--- was kept, as many names may be live as a table of its version has records, and the table keeps the rules of
--- its kind in a data part of some length.
+-- was kept, as many names may be live as a table of its version has records and no more are, and the table
+-- keeps the rules of its kind in a data part of some length.
 pub record KeepsLoaded {C : ℕ} (x : Loaded C) : Type 0 where
   pub ranges : IsSuperBlock x.block
   pub same_block : x.slots.block ≡ x.block
@@ -66,6 +74,7 @@ pub record KeepsLoaded {C : ℕ} (x : Loaded C) : Type 0 where
   pub version : IsTrue (is_version x.header.version)
   pub is_table : IsTable x.table
   pub count : fin.len x.table.now ≡ x.header.count
+  pub few : fin.len x.table.now ≤ x.table.cap
   pub kept : x.table.kept ≡ x.table.now
   pub kept_digests : x.table.kept_digests ≡ x.table.digests
   pub room : x.table.names ≡ x.block.names
@@ -85,10 +94,8 @@ pub record KeepsState {C : ℕ} (s : State C) : Type 0 where
 -- opens to the map that it gives where the objects stand, and to the table's book.
 pub record IsLoadedFrom {C : ℕ} (file : List ℕ) (x : Loaded C) : Type 0 where
   pub in_use : choice.slot_in_use file ≡ Ok x.slots
-  pub opens : OpensBy C SIZE_MAX (table_seen x (digests_loaded x)) file
-      (read_at (head_len x.block.names) file x.table.now)
-      (with_digests (digests_loaded x)
-      (book_of (placed_table C SIZE_MAX file (table_seen x (digests_loaded x)))))
+  pub opens : OpensBy C SIZE_MAX (table_loaded x) file (read_at (head_len x.block.names) file x.table.now)
+      (book_loaded file x)
 
 abbrev pub IsStateOf : {C : ℕ} → List ℕ → State C → Type 0
 IsStateOf file s = IsLoadedFrom file (loaded_of s)

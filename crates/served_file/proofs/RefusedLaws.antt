@@ -154,7 +154,7 @@ refuses_service file why (inr is) =
 pub opened_plain : (a b : State) (s : StoreValue) (told : IsTrue a.tells) (is : IsOpening CLASSES a b (Ok s))
     → IsPlain (is.opened told).b
 opened_plain a b s told is = sym (ap (λ (x : store_state.State). x.book.digests) (is.opened told).state)
-    ∙ ap (λ (x : Book). x.digests) is.fresh.store.now_book
+    ∙ is.fresh.plain
 
 -- the file that was mounted is the one that the call began with
 pub never_mounted : (old first z : State) (why : OpenFault) → AfterMount old first

@@ -7,13 +7,14 @@ use Rattle.segment_layout.specs.Layouts.{grid_of}
 use Rattle.segment_layout.specs.Shapes.{end_of}
 use Rattle.map_model.specs.Requests as ask
 use Rattle.held_guard.specs.Freed.{Freed}
-use Rattle.extent_table.specs.Extents.{Extents, IsTable}
+use Rattle.extent_table.specs.Extents.{Extents, IsTable, digests_seen}
 use Rattle.placement_model.specs.Held.{IsFreed}
-use Rattle.placement_model.specs.LaidOut.{IsLaidOut, shown_book}
+use Rattle.placement_model.specs.LaidOut.{IsLaidOut}
 use Rattle.placement_model.proofs.GuardLaws.{freed_nothing}
 use Rattle.placement_model.proofs.RiseLaws.{CellsRise-itself}
 use Rattle.store_model.specs.Connection.{IsOver, StoreValue, limits_of, state_of}
 use Rattle.store_core.specs.Inside.{Inside, IsWhole, kept_of}
+use Rattle.store_model.specs.Digested.{digested_book}
 use Rattle.store_model.specs.Stores.{IsStore}
 use Rattle.store_model.specs.States.{Step}
 
@@ -28,7 +29,8 @@ store_back {classes} s h =
     let k = s.in_use.block.k in
     let laid = subst (λ caps. IsLaidOut classes SIZE_MAX k caps s.kept_book.grid s.kept) (sym (same_caps s h))
     h.kept in
-    let book = subst (λ caps. s.kept_book ≡ shown_book classes SIZE_MAX k caps s.kept_book.grid s.kept)
+    let book = subst (λ caps. s.kept_book
+    ≡ digested_book classes k caps s.kept_book.grid s.kept s.kept_book.digests)
     (sym (same_caps s h)) h.kept_book in
     record {
       block = h.block;
@@ -61,7 +63,9 @@ step_back s file = record { replied = refl; state = refl; low = omega arith; hig
 
 -- the fields after it show what stood at the checkpoint
 module _ {C : ℕ} (s : Inside C) (whole : IsWhole s) (table : Extents) (guard : Freed)
-    (now : table.now ≡ s.hands.table.kept) (kept : table.kept ≡ s.hands.table.kept) where
+    (now : table.now ≡ s.hands.table.kept) (kept : table.kept ≡ s.hands.table.kept)
+    (digests : table.digests ≡ s.hands.table.kept_digests)
+    (kept_digests : table.kept_digests ≡ s.hands.table.kept_digests) where
   abbrev back_inside : Inside C
   back_inside = record s { hands = record s.hands { table = table; layout = s.kept_layout; guard = guard } }
 
@@ -69,9 +73,10 @@ module _ {C : ℕ} (s : Inside C) (whole : IsWhole s) (table : Extents) (guard :
   back_view = λ i. record (kept_of s) {
     now = now i;
     kept = kept i;
-    book = shown_book C SIZE_MAX s.hands.slots.block.k (whole.kept_caps i) (grid_of s.kept_layout) (now i);
-    kept_book = shown_book C SIZE_MAX s.hands.slots.block.k (whole.kept_caps i) (grid_of s.kept_layout)
-        (kept i);
+    book = digested_book C s.hands.slots.block.k (whole.kept_caps i) (grid_of s.kept_layout) (now i)
+        (digests_seen s.hands.version (digests i));
+    kept_book = digested_book C s.hands.slots.block.k (whole.kept_caps i) (grid_of s.kept_layout) (kept i)
+        (digests_seen s.hands.version (kept_digests i));
   }
 
   pub back_whole : IsTable table → table.names ≡ s.hands.table.names → table.cap ≡ s.hands.table.cap

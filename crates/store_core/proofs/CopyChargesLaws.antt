@@ -4,7 +4,6 @@ use Rattle.std.proofs.Common.{ap, arith, sym, ◌∙◌, subst, inl, inr}
 use Rattle.std.proofs.lemmas.List.{append-nil}
 use Rattle.std.specs.FinMap as fin
 use Rattle.size_class.specs.declared.TheConstants.{SIZE_MAX}
-use Rattle.slot_codec.proofs.CapLaws.{cap-low}
 use Rattle.map_model.specs.Requests as ask
 use Rattle.segment_layout.specs.Books.{charge_all, is_quiet}
 use Rattle.segment_layout.specs.Layouts.{caps_of, divisor_of, grid_of}
@@ -24,6 +23,7 @@ use Rattle.store_core.specs.Inside.{Inside, IsWhole, kept_of}
 use Rattle.store_core.specs.Plans.{IsDelPlan, IsPutPlan}
 use Rattle.store_model.specs.Quiet.{IsCharged, charges_of, del_of, put_of}
 use Rattle.store_model.proofs.ChargedLaws.{ChargesTo}
+use Rattle.store_core.proofs.InsideLaws.{cap_is}
 use Rattle.store_core.proofs.FlushLaws.{del_loud, put_loud}
 use Rattle.store_core.proofs.PlanLaws.{del_served, put_served}
 
@@ -148,9 +148,9 @@ module _ {C : ℕ} (s : Inside C) (whole : IsWhole s) (unbroken : s.broken ≡ f
         named = can.named;
         small = can.small;
         room = λ comes. elim can.room as (λ _. IsSome (fin.get s.hands.table.now name)
-            ⊎ (fin.len s.hands.table.now < s.hands.table.names)) [
+            ⊎ (fin.len s.hands.table.now < s.hands.table.cap)) [
               | inl there ↦ inl there
-              | inr low ↦ inr (omega (arith, low, whole.room, cap-low s.hands.slots.block.names 1))
+              | inr low ↦ inr (omega (arith, low, cap_is s whole))
             ];
       }
   can_put false nothing served = record {

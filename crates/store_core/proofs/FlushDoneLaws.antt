@@ -1,18 +1,20 @@
 -- A store after its flush, whether or not it failed.
-use Rattle.std.specs.Prelude.{◌≡◌, ℕ, ◌+◌, ◌-◌, ◌*◌, ◌<◌, ◌≤◌, true, false, List, slice_index, None, Ok, Err, IsTrue, vec_len, refl}
+use Rattle.std.specs.Prelude.{◌≡◌, ℕ, ◌+◌, ◌-◌, ◌*◌, ◌<◌, ◌≤◌, true, false, List, slice_index, Option, None, Ok, Err, IsTrue, vec_len, refl}
 use Rattle.std.proofs.Common.{arith, sym, ◌∙◌, ap, subst, inl, inr}
 use Rattle.disk_face.specs.States as disk
 use Rattle.disk_face.specs.Counts.{HasCause}
 use Rattle.disk_face.specs.Moments.{Leaves}
 use Rattle.size_class.specs.Rows.{cells_of}
 use Rattle.size_class.specs.declared.TheConstants.{SIZE_MAX}
-use Rattle.placement_model.specs.LaidOut.{shown_book}
+use Rattle.placement_model.specs.Laid.{laid}
 use Rattle.slot_codec.specs.Readable.{IsSuperBlock}
-use Rattle.slot_codec.specs.Spelling.{head_len}
+use Rattle.slot_codec.specs.Reading.{is_version}
+use Rattle.slot_codec.specs.Spelling.{cap, head_len}
 use Rattle.slot_codec.specs.declared.codec.SuperBlock.{SuperBlock}
 use Rattle.map_model.specs.Requests as ask
 use Rattle.map_model.specs.Requests.{Change, changed}
-use Rattle.segment_layout.specs.Books.{is_quiet, next_book, trigger, volumes}
+use Rattle.segment_layout.specs.Books.{Book, is_quiet, next_book, trigger, volumes, with_digests}
+use Rattle.table_rules.specs.Tables.{book_of}
 use Rattle.segment_layout.specs.Shapes.{boundary_of}
 use Rattle.map_model.specs.Maps.{Map}
 use Rattle.store_core.specs.Keeps.{now_map}
@@ -20,13 +22,14 @@ use Rattle.change_charges.specs.Sized.{IsSizedBy}
 use Rattle.std.proofs.lemmas.Bool.{cases_lt}
 use Rattle.std.specs.FinMap as fin
 use Rattle.segment_layout.specs.Layouts.{caps_of, divisor_of, grid_of}
-use Rattle.extent_table.specs.Extents.{Spots}
+use Rattle.extent_table.specs.Extents.{Spots, digests_seen}
 use Rattle.flush_model.specs.Phases.{PlanState}
 use Rattle.flush_run.specs.declared.hands.Hands.{Hands}
 use Rattle.flush_run.specs.Calls.{CallsSoFar, piece_calls}
 use Rattle.flush_run.specs.FlushFrames.{FlushFrame}
-use Rattle.flush_run.specs.Parts.{HandsValue, parts_of, size_in}
-use Rattle.flush_run.proofs.VersionLaws.{plain_book}
+use Rattle.flush_run.specs.Loops.{phase_header}
+use Rattle.flush_run.specs.Parts.{FitsVersion, HandsValue, parts_of, saved_digests, size_in}
+use Rattle.flush_run.proofs.SizeLaws.{sizes_len}
 use Rattle.flush_run.specs.Settling.{FlushEnds}
 use Rattle.store_core.specs.declared.answers.Refusal.{Refusal}
 use Rattle.store_core.specs.declared.answers.Done.{Done}
@@ -38,7 +41,9 @@ use Rattle.store_core.specs.Inside.{Inside, IsWhole, kept_of}
 use Rattle.store_model.specs.Quiet.{asked_after, charges_of}
 use Rattle.store_model.specs.States.{Facts, State, Step, refusal}
 use Rattle.store_core.specs.Answers.{facts_at}
+use Rattle.store_model.specs.Digested.{digested_book}
 use Rattle.store_model.specs.Stores.{IsStore}
+use Rattle.store_model.proofs.DigestLaws.{next_digests}
 use Rattle.store_core.proofs.FlushLaws.{can_fly, flush_content, flush_left, flush_step, some_flight}
 use Rattle.store_core.proofs.FlushedLaws.{ended_only, ended_opens, ended_over, ended_rests, ended_state, ended_store, flushed_view, flushed_whole}
 use Rattle.store_core.proofs.QuietLaws.{quiet_by_book}
@@ -61,8 +66,8 @@ module _ {C : ℕ} (s : Inside C) (c : Change) (hands1 : Hands C) (p : PlanState
   same_base : hands2.base ≡ s.hands.base
   same_base = w.made.keeps.base ∙ ap (λ (y : HandsValue). y.base) w.begun.rest
 
-  plain : hands2.version ≡ 1
-  plain = w.made.keeps.version ∙ ap (λ (y : HandsValue). y.version) w.begun.rest ∙ w.whole.version
+  same_version : hands2.version ≡ s.hands.version
+  same_version = w.made.keeps.version ∙ ap (λ (y : HandsValue). y.version) w.begun.rest
 
   same_buffer : vec_len hands2.buf ≡ 65536
   same_buffer = w.made.keeps.buffer ∙ ap (λ (y : HandsValue). y.buffer) w.begun.rest ∙ w.whole.buf
@@ -72,6 +77,21 @@ module _ {C : ℕ} (s : Inside C) (c : Change) (hands1 : Hands C) (p : PlanState
 
   same_cap : hands2.table.cap ≡ s.hands.table.cap
   same_cap = w.made.keeps.cap ∙ w.begun.cap
+
+  -- no more names are live than a table of the version has records
+  fits : FitsVersion (parts_of hands2)
+  fits = record {
+    known = subst (λ v. IsTrue (is_version v)) (sym same_version) w.whole.version;
+    few = subst (λ n. fin.len hands2.table.now ≤ n)
+        (same_cap ∙ w.whole.cap ∙ (λ i. cap ((sym same_block) i).names ((sym same_version) i)))
+        (omega (
+          arith,
+          w.begun.few,
+          w.begun.cap,
+          same_cap,
+          sizes_len hands1.table.now hands2.table.now w.made.sizes,
+        ));
+  }
 
   same_room : hands2.guard.room ≡ s.hands.guard.room
   same_room = w.made.keeps.room ∙ ap (λ (y : HandsValue). y.room) w.begun.rest
@@ -170,7 +190,7 @@ module _ {C : ℕ} (s : Inside C) (c : Change) (hands1 : Hands C) (p : PlanState
   failed_whole = record {
     classes = w.whole.classes;
     wide = w.whole.wide;
-    version = plain;
+    version = fits.known;
     base = same_base ∙ w.whole.base ∙ ap (λ (b : SuperBlock). head_len b.names) (sym same_block);
     few = omega (arith, w.whole.few, ap (λ (b : SuperBlock). b.names) same_block);
     buf = same_buffer;
@@ -178,7 +198,7 @@ module _ {C : ℕ} (s : Inside C) (c : Change) (hands1 : Hands C) (p : PlanState
     kept_divisor = same_divisor ∙ w.whole.divisor ∙ ap (λ (b : SuperBlock). b.k) (sym same_block);
     kept_caps = refl;
     room = same_names ∙ w.whole.room ∙ ap (λ (b : SuperBlock). b.names) (sym same_block);
-    cap = same_cap ∙ w.whole.cap ∙ ap (λ (b : SuperBlock). b.names) (sym same_block);
+    cap = same_cap ∙ w.whole.cap ∙ (λ i. cap ((sym same_block) i).names ((sym same_version) i));
     guard_room = same_room ∙ w.whole.guard_room ∙ ap (λ (b : SuperBlock). b.names) (sym same_block);
     table = λ sound. absurd (cc);
     sound = λ sound. absurd (cc);
@@ -223,16 +243,22 @@ module _ {C : ℕ} (s : Inside C) (c : Change) (hands1 : Hands C) (p : PlanState
       any_ends : FlushEnds C (flight_of C x0 c p.numbers.reach any.0) (parts_of hands2) d
       any_ends = ends x0 c any.0 any.1
 
-      view : IsFlushed C hands2.slots hands2.table.now (caps_of hands2.layout) (grid_of hands2.layout)
-          (kept_of done_inside)
-      view = flushed_view s hands2 any_ends.kept
+      view : IsFlushed C hands2.slots hands2.table.now (saved_digests (parts_of hands2))
+          (caps_of hands2.layout) (grid_of hands2.layout) (kept_of done_inside)
+      view = flushed_view s hands2 any_ends.kept any_ends.kept_digests
 
       -- the flush began as it would for any map of these sizes, so the book is the next one of each
       book_is : (m : Map) → IsSizedBy m ks.now
           → (kept_of done_inside).book ≡ (next_book ks.in_use.block.k m ks.book c).book
       book_is m sized =
-          plain_book (parts_of hands2) (kept_of done_inside).book plain refl any_ends.book
-          ∙ sym (w.begun.lifts any.0 any.1.sized).book
+          let next : Map → Book = λ n. (next_book ks.in_use.block.k n ks.book c).book in
+          let same : (next any.0.map).digests ≡ (next m).digests =
+          next_digests ks.in_use.block.k any.0.map ks.book c
+          ∙ sym (next_digests ks.in_use.block.k m ks.book c) in
+          any_ends.book ∙ sym (w.begun.lifts any.0 any.1.sized).book
+          ∙ ap (λ (ds : Option Map). with_digests ds (book_of (laid C SIZE_MAX hands1.slots.block.k
+          p.numbers.reach (phase_header p (caps_of hands1.layout) (grid_of hands1.layout))
+          hands1.table.now))) same
           ∙ (w.begun.lifts (record any.0 { map = m }) sized).book
 
       names_now : hands2.table.names ≡ hands2.slots.block.names
@@ -246,10 +272,11 @@ module _ {C : ℕ} (s : Inside C) (c : Change) (hands1 : Hands C) (p : PlanState
 
       pub done_store : IsStore C (kept_of done_inside)
       done_store = ended_store hands2 (flight_of C x0 c p.numbers.reach any.0) d any_ends names_now block_now
-          plain (kept_of done_inside) view
+          fits (kept_of done_inside) view
 
       pub done_whole : IsWhole done_inside
-      done_whole = flushed_whole s hands2 w.whole plain same_block same_base same_buffer any_ends.divisor
+      done_whole = flushed_whole s hands2 w.whole same_version same_block same_base same_buffer
+          any_ends.divisor
           same_names same_cap same_room any_ends.table any_ends.kept any_ends.empty done_store
 
       abbrev told_flight : IsTrue a.tells → FlushFrame
@@ -269,7 +296,7 @@ module _ {C : ℕ} (s : Inside C) (c : Change) (hands1 : Hands C) (p : PlanState
         still = w.made.keeps.disk.stays.told ∙ told
 
         pub done_over : IsOver C (kept_of done_inside) d.file
-        done_over = ended_over hands2 (told_flight told) d (told_ends told) names_now block_now plain
+        done_over = ended_over hands2 (told_flight told) d (told_ends told) names_now block_now fits
             (kept_of done_inside) view base_now still
 
         pub done_step : refusal (limits_of ks) (facts_at ks (ask.change c)) (ask.change c) ≡ None
@@ -278,7 +305,7 @@ module _ {C : ℕ} (s : Inside C) (c : Change) (hands1 : Hands C) (p : PlanState
             (state_of (kept_of done_inside) d.file)
         done_step calm needs_flush =
             let h = w.whole.sound w.unbroken in
-            let is = ended_state hands2 (told_flight told) d (told_ends told) names_now block_now plain
+            let is = ended_state hands2 (told_flight told) d (told_ends told) names_now block_now fits
             (kept_of done_inside) view base_now still in
             flush_step (limits_of ks) (state_of ks a.file) (state_of (kept_of done_inside) d.file) c
             (ap (λ (f : Facts). refusal (limits_of ks) f (ask.change c))
@@ -300,18 +327,19 @@ module _ {C : ℕ} (s : Inside C) (c : Change) (hands1 : Hands C) (p : PlanState
           sizes = sizes_are;
           book = book_is;
           kept = any_ends.kept;
-          kept_book = ap (λ m. shown_book C SIZE_MAX hands2.slots.block.k (caps_of hands2.layout)
-              (grid_of hands2.layout) m) any_ends.kept;
+          kept_book = λ i. digested_book C hands2.slots.block.k (caps_of hands2.layout)
+              (grid_of hands2.layout) (any_ends.kept i) (digests_seen hands2.version
+              (any_ends.kept_digests i));
           asked = asked_is;
           saved = omega (arith, low, same_sequence);
         };
-        opened = λ told. ended_opens hands2 (told_flight told) d (told_ends told) names_now block_now plain
+        opened = λ told. ended_opens hands2 (told_flight told) d (told_ends told) names_now block_now fits
             (kept_of done_inside) view base_now (still told);
         content = content_is;
         left = left_is;
-        rests = λ told. ended_only hands2 (told_flight told) d (told_ends told) names_now block_now plain
+        rests = λ told. ended_only hands2 (told_flight told) d (told_ends told) names_now block_now fits
             (kept_of done_inside) view base_now (still told);
-        on_table = λ told. ended_rests hands2 (told_flight told) d (told_ends told) names_now block_now plain
+        on_table = λ told. ended_rests hands2 (told_flight told) d (told_ends told) names_now block_now fits
             (kept_of done_inside) view base_now (still told);
         few_saves = few_saves_is;
         calls = subst (λ n. CallsSoFar a.turn d.turn ks.moved (cells_of hands2.ledger.moved) 4

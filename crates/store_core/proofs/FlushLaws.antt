@@ -38,6 +38,7 @@ use Rattle.store_model.specs.States.{Limits, Served, State, Step, facts_of, refu
 use Rattle.store_model.specs.Stores.{IsStore}
 use Rattle.change_charges.proofs.EndLaws.{shown_balanced}
 use Rattle.store_model.proofs.OverLaws.{head_is, opens_again}
+use Rattle.store_core.proofs.InsideLaws.{few_live}
 use Rattle.store_core.proofs.StepLaws.{served_by}
 use Rattle.store_model.proofs.StoreLaws.{now_lies}
 
@@ -102,7 +103,8 @@ module _ {C : ℕ} (s : Inside C) (whole : IsWhole s) (unbroken : s.broken ≡ f
       both = record { now_laid = h.now; kept_laid = h.kept; fuller = h.fuller; freed = whole.freed unbroken };
     };
     base = whole.base;
-    cap = whole.cap ∙ sym whole.room;
+    few = few_live s whole unbroken;
+    cap = whole.cap;
     room = whole.guard_room;
     divisor = whole.divisor;
     version = whole.version;

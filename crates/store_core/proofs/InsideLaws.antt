@@ -1,22 +1,27 @@
 -- The fields of a store after a quiet change.
-use Rattle.std.specs.Prelude.{◌≡◌, ℕ, List, false, vec_len}
+use Rattle.std.specs.Prelude.{◌≡◌, ℕ, ◌≤◌, List, Option, false, vec_len}
+use Rattle.std.specs.FinMap as fin
 use Rattle.std.specs.Vec.{with_items}
-use Rattle.std.proofs.Common.{ap, sym, ◌∙◌, subst}
+use Rattle.std.proofs.Common.{arith, ap, sym, ◌∙◌, subst}
 use Rattle.size_class.specs.Rows.{cells_of}
 use Rattle.size_class.specs.declared.TheConstants.{SIZE_MAX}
 use Rattle.data_area.specs.declared.ledger.Ledger.{Ledger}
 use Rattle.segment_layout.specs.declared.layout.Layout.{Layout}
+use Rattle.slot_codec.specs.Spelling.{cap}
+use Rattle.segment_layout.specs.Books.{version_of}
 use Rattle.segment_layout.specs.Layouts.{caps_of, divisor_of, grid_of}
-use Rattle.slot_codec.proofs.CapLaws.{cap-one}
 use Rattle.held_guard.specs.Freed.{Freed}
-use Rattle.extent_table.specs.Extents.{Extents, IsTable, Spots}
+use Rattle.map_model.specs.Maps.{Map}
+use Rattle.extent_table.specs.Extents.{Extents, IsTable, Spots, digests_seen}
 use Rattle.placement_model.specs.Held.{IsFreed}
 use Rattle.placement_model.specs.LaidOut.{shown_book}
 use Rattle.store_model.specs.Connection.{StoreValue, base_of, live_cap}
 use Rattle.flush_run.specs.declared.hands.Hands.{Hands}
 use Rattle.store_core.specs.declared.store.Store.TheInside as store
 use Rattle.store_core.specs.Inside.{Inside, IsWhole, kept_of, unboxed}
+use Rattle.store_model.specs.Digested.{digested_book}
 use Rattle.store_model.specs.Stores.{IsStore}
+use Rattle.store_model.proofs.DigestLaws.{version_seen}
 use Rattle.store_model.proofs.ChangeLaws.{with_now}
 
 -- The fields of a store whose hands were lent, and its layout of the last checkpoint.
@@ -52,6 +57,20 @@ whole_with s items long whole = record {
   freed = whole.freed;
 }
 
+-- the version of the book is that of the tables
+pub version_is : {C : ℕ} (s : Inside C) → IsWhole s → version_of (kept_of s).book ≡ s.hands.version
+version_is {C} s whole = version_seen s.hands.version s.hands.table.digests
+    (shown_book C SIZE_MAX s.hands.slots.block.k (caps_of s.hands.layout) (grid_of s.hands.layout)
+    s.hands.table.now) whole.version
+
+-- as many names may be live as the table lets
+pub cap_is : {C : ℕ} (s : Inside C) → IsWhole s → s.hands.table.cap ≡ live_cap (kept_of s)
+cap_is s whole = whole.cap ∙ ap (cap s.hands.slots.block.names) (sym (version_is s whole))
+
+pub few_live : {C : ℕ} (s : Inside C) → IsWhole s → s.broken ≡ false
+    → fin.len s.hands.table.now ≤ s.hands.table.cap
+few_live s whole sound = omega (arith, (whole.sound sound).now_few, cap_is s whole)
+
 -- What the fields of a store that isn't broken are to what contracts see of it.
 pub record IsOpened {C : ℕ} (s : Inside C) (t : StoreValue) : Type 0 where
   pub store : IsStore C t
@@ -61,6 +80,7 @@ pub record IsOpened {C : ℕ} (s : Inside C) (t : StoreValue) : Type 0 where
   pub guard_room : s.hands.guard.room ≡ t.in_use.block.names
   pub room : s.hands.table.names ≡ t.in_use.block.names
   pub cap : s.hands.table.cap ≡ live_cap t
+  pub digests : digests_seen s.hands.version s.hands.table.digests ≡ t.book.digests
   pub base : s.hands.base ≡ base_of t
 
 pub opened : {C : ℕ} (s : Inside C) (t : StoreValue) → kept_of s ≡ t → IsWhole s
@@ -77,7 +97,8 @@ opened {C} s t is whole unbroken =
       kept = kept;
       guard_room = whole.guard_room ∙ ap (λ (x : StoreValue). x.in_use.block.names) is;
       room = whole.room ∙ ap (λ (x : StoreValue). x.in_use.block.names) is;
-      cap = whole.cap ∙ sym (cap-one s.hands.slots.block.names) ∙ ap live_cap is;
+      cap = cap_is s whole ∙ ap live_cap is;
+      digests = ap (λ (x : StoreValue). x.book.digests) is;
       base = whole.base ∙ ap base_of is;
     }
 
@@ -85,7 +106,9 @@ opened {C} s t is whole unbroken =
 module _ {C : ℕ} (s : Inside C) (t : StoreValue) (is : kept_of s ≡ t) (whole : IsWhole s) (table : Extents)
     (guard : Freed) (ledger : Ledger C) (layout : Layout C) (now : Spots) (same_now : table.now ≡ now)
     (kept : table.kept ≡ s.hands.table.kept) (caps : caps_of layout ≡ t.book.caps)
-    (moved : cells_of ledger.moved ≡ cells_of s.hands.ledger.moved) where
+    (moved : cells_of ledger.moved ≡ cells_of s.hands.ledger.moved) (digests : Option Map)
+    (same_digests : digests_seen s.hands.version table.digests ≡ digests)
+    (kept_digests : table.kept_digests ≡ s.hands.table.kept_digests) where
   abbrev changed_inside : Inside C
   changed_inside = record s {
     hands = record s.hands { table = table; layout = layout; guard = guard; ledger = ledger };
@@ -94,20 +117,23 @@ module _ {C : ℕ} (s : Inside C) (t : StoreValue) (is : kept_of s ≡ t) (whole
   caps_stay : caps_of layout ≡ caps_of s.hands.layout
   caps_stay = caps ∙ ap (λ (x : StoreValue). x.book.caps) (sym is)
 
-  pub changed_view : kept_of changed_inside ≡ with_now C t now (grid_of layout) (cells_of ledger.asked)
+  pub changed_view : kept_of changed_inside ≡ with_now C t now digests (grid_of layout)
+      (cells_of ledger.asked)
   changed_view = (λ i. record (kept_of s) {
     now = same_now i;
     kept = kept i;
-    book = shown_book C SIZE_MAX s.hands.slots.block.k (caps_stay i) (grid_of layout) (same_now i);
-    kept_book = shown_book C SIZE_MAX s.hands.slots.block.k (caps_stay i) (grid_of s.kept_layout) (kept i);
+    book = digested_book C s.hands.slots.block.k (caps_stay i) (grid_of layout) (same_now i)
+        (same_digests i);
+    kept_book = digested_book C s.hands.slots.block.k (caps_stay i) (grid_of s.kept_layout) (kept i)
+        (digests_seen s.hands.version (kept_digests i));
     moved = moved i;
     asked = cells_of ledger.asked;
-  }) ∙ ap (λ (x : StoreValue). with_now C x now (grid_of layout) (cells_of ledger.asked)) is
+  }) ∙ ap (λ (x : StoreValue). with_now C x now digests (grid_of layout) (cells_of ledger.asked)) is
 
   pub changed_whole : IsTable table → table.names ≡ s.hands.table.names → table.cap ≡ s.hands.table.cap
       → guard.room ≡ s.hands.guard.room
       → divisor_of layout ≡ t.in_use.block.k
-      → IsStore C (with_now C t now (grid_of layout) (cells_of ledger.asked))
+      → IsStore C (with_now C t now digests (grid_of layout) (cells_of ledger.asked))
       → IsFreed guard.spans now t.kept → IsWhole changed_inside
   changed_whole is_table names cap room divisor store freed = record {
     classes = whole.classes;

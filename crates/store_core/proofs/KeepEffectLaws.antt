@@ -12,18 +12,21 @@ use Rattle.size_class.specs.declared.TheConstants.{SIZE_MAX}
 use Rattle.held_guard.specs.Freed.{Freed}
 use Rattle.slot_codec.specs.Choice as choice
 use Rattle.slot_codec.specs.Reading.{worn_from}
-use Rattle.slot_codec.specs.Spelling.{head_len}
+use Rattle.slot_codec.specs.Spelling.{cap as cap_of, head_len}
 use Rattle.slot_codec.specs.declared.codec.Header.{Header}
+use Rattle.slot_codec.specs.declared.codec.Record.{Record}
 use Rattle.slot_codec.proofs.ChoiceLaws.{chosen_sequence, table_chosen}
 use Rattle.slot_codec.proofs.StepLaws.{from_ok}
 use Rattle.slot_pair.specs.Saves.{IsSaved, LeavesEither, SaveLeaves, next_chosen, next_in_use, save_calls}
 use Rattle.map_model.specs.Requests as ask
 use Rattle.segment_layout.specs.Layouts.{caps_of, grid_of}
-use Rattle.extent_table.specs.Extents.{Extents, IsTable, records_of, rolled}
-use Rattle.flush_run.proofs.RolledLaws.{rolled_count, rolled_left, rolled_saved}
+use Rattle.segment_layout.specs.Books.{version_of}
+use Rattle.extent_table.specs.Extents.{Extents, IsTable, digests_seen, records_of, rolled}
+use Rattle.extent_table.proofs.RollLaws.{rolled-plain, rolled-seen}
+use Rattle.flush_run.proofs.RolledLaws.{rolled_count}
 use Rattle.table_rules.specs.Sequences.{HasSequenceUpTo}
 use Rattle.placement_model.specs.Held.{IsFreed}
-use Rattle.placement_model.specs.LaidOut.{shown_book}
+use Rattle.placement_model.specs.Laid.{in_version, settled_header}
 use Rattle.placement_model.proofs.GuardLaws.{freed_nothing}
 use Rattle.store_core.specs.declared.answers.Refusal.{Refusal}
 use Rattle.store_core.specs.declared.answers.Done.{Done}
@@ -32,7 +35,8 @@ use Rattle.store_core.specs.Inside.{Inside, IsWhole, kept_of}
 use Rattle.store_core.specs.Keeps.{OpensToKeptOrNow, KeepsNow, kept_now}
 use Rattle.store_model.specs.States.{Step}
 use Rattle.store_model.specs.Stores.{IsStore}
-use Rattle.store_core.proofs.InsideLaws.{opened}
+use Rattle.store_model.specs.Digested.{digested_book}
+use Rattle.store_core.proofs.InsideLaws.{opened, version_is}
 use Rattle.store_core.proofs.KeepLaws.{header_now, kept_opens, length-records_of, now_opens, over_kept, step_kept, store_kept, table_now}
 use Rattle.store_model.proofs.OverLaws.{same_itself}
 
@@ -45,12 +49,14 @@ sequence_of_chosen file c most is low t read =
     let same : c ≡ t.chosen = from_ok c t.chosen (sym is ∙ (table_chosen file t read).0) in
     omega (arith, low, ap (λ (x : choice.Chosen). x.header.sequence) same)
 
-module _ {classes : ℕ} (s : StoreValue) (h : IsStore classes s) (fresh : s.in_use.sequence < 2 ^ 61) where
+module _ {classes : ℕ} (s : StoreValue) (h : IsStore classes s) (fresh : s.in_use.sequence < 2 ^ 61)
+    (records : List Record) (same_table : choice.table_with (table_now s).chosen records ≡ table_now s)
+    (count : length records ≡ length (records_of s.now)) where
   abbrev base : ℕ
   base = base_of s
 
   module _ {a d : disk.State} (over : IsOver classes s a.file)
-      (left : SaveLeaves s.in_use (header_now s) (records_of s.now) a d) where
+      (left : SaveLeaves s.in_use (header_now s) records a d) where
     chosen : choice.chosen a.file ≡ Ok over.table.chosen
     chosen = (table_chosen a.file over.table over.checkpoint.opens.read).0
 
@@ -65,17 +71,24 @@ module _ {classes : ℕ} (s : StoreValue) (h : IsStore classes s) (fresh : s.in_
     new_sequence image is =
         sequence_of_chosen image (table_now s).chosen (s.in_use.sequence + 1) is (omega arith)
 
+    -- what is saved has as many records as the table of now
+    as_counted : (image : List ℕ)
+        → IsSaved (next_chosen s.in_use (header_now s) (length records)) records image
+        → IsSaved (table_now s).chosen records image
+    as_counted image = subst (λ n. IsSaved (next_chosen s.in_use (header_now s) n) records image) count
+
     -- each image that a save may leave is of the last checkpoint, or of now
     either_image : RestsOnTable base s.kept a → (image : List ℕ)
-        → LeavesEither s.in_use over.table.chosen (header_now s) (records_of s.now) a.may_leave a.file image
+        → LeavesEither s.in_use over.table.chosen (header_now s) records a.may_leave a.file image
         → OpensToKeptOrNow classes s a.file image
     either_image rests image (inr new) = record {
       same_length = sym new.data_part.same_length;
       opens = inr (record {
         table = table_now s;
-        opens = now_opens s h a.file over image new.table new.data_part;
+        opens = now_opens s h a.file over records same_table image (as_counted image new.table)
+            new.data_part;
       });
-      sequence = new_sequence image new.table.slot;
+      sequence = new_sequence image (as_counted image new.table).slot;
     }
     either_image rests image (inl old) = record {
       same_length = sym old.data_part.same_length ∙ was.same_length;
@@ -110,38 +123,39 @@ module _ {classes : ℕ} (s : StoreValue) (h : IsStore classes s) (fresh : s.in_
         })
         | inr saved ↦ inr (record {
           table = table_now s;
-          opens = now_opens s h a.file over d.file saved left.data_part;
+          opens = now_opens s h a.file over records same_table d.file (as_counted d.file saved)
+              left.data_part;
         })
       ];
       sequence = elim (left.old_or_new over.table.chosen chosen (omega (arith, fresh))) [
         | inl keeps ↦ old_sequence d.file keeps.same_slot
-        | inr saved ↦ new_sequence d.file saved.slot
+        | inr saved ↦ new_sequence d.file (as_counted d.file saved).slot
       ];
     }
 
   -- ---- what a keep does
 
   calls_of_names : {A E : Type 0} {a d : disk.State} (result : Result A E)
-      → Calls (save_calls (length (records_of s.now))) a d result
-      → Calls (save_calls (fin.len s.now)) a d result
+      → Calls (save_calls (length records)) a d result → Calls (save_calls (fin.len s.now)) a d result
   calls_of_names {A} {E} {a} {d} result =
-      subst (λ (n : ℕ). Calls (save_calls n) a d result) (length-records_of s.now h.now.named)
+      subst (λ (n : ℕ). Calls (save_calls n) a d result) (count ∙ length-records_of s.now h.now.named)
 
   module _ {a d : disk.State} (over : IsTrue a.tells → IsOver classes s a.file)
-      (left : IsTrue a.tells → SaveLeaves s.in_use (header_now s) (records_of s.now) a d)
+      (left : IsTrue a.tells → SaveLeaves s.in_use (header_now s) records a d)
       (frame : KeepsDisk a d)
     where
       pub keeps_saved : (answer : Done) (new : StoreValue) → new ≡ kept_now s
-          → (IsTrue a.tells → IsSaved (table_now s).chosen (records_of s.now) d.file)
+          → (IsTrue a.tells → IsSaved (table_now s).chosen records d.file)
           → (IsTrue a.tells → Rests d)
-          → Calls {E = Refusal} (save_calls (length (records_of s.now))) a d (Ok answer)
+          → Calls {E = Refusal} (save_calls (length records)) a d (Ok answer)
           → KeepsNow classes s new a d (Ok answer)
       keeps_saved answer new is saved rests calls = record {
         value = is;
         failed = tt;
         saved = λ told. record {
           table = table_now s;
-          opens = now_opens s h a.file (over told) d.file (saved told) (left told).data_part;
+          opens = now_opens s h a.file (over told) records same_table d.file (saved told)
+              (left told).data_part;
         };
         content = λ told. content_either (over told) (left told);
         left = λ told on_table. left_either (over told) (left told) on_table;
@@ -154,7 +168,7 @@ module _ {classes : ℕ} (s : StoreValue) (h : IsStore classes s) (fresh : s.in_
       }
 
       pub keeps_failed : (refused : Refusal) (new : StoreValue) → new ≡ record s { is_broken = true }
-          → Calls {T = Done} (save_calls (length (records_of s.now))) a d (Err refused)
+          → Calls {T = Done} (save_calls (length records)) a d (Err refused)
           → KeepsNow classes s new a d (Err refused)
       keeps_failed refused new is calls = record {
         value = tt;
@@ -172,7 +186,8 @@ module _ {classes : ℕ} (s : StoreValue) (h : IsStore classes s) (fresh : s.in_
 
 module _ {C : ℕ} (s : Inside C) (whole : IsWhole s) (table : Extents) (guard : Freed) (slots : choice.InUse)
     (buf : Vec ℕ) (same_slots : slots ≡ next_in_use s.hands.slots) (now : table.now ≡ s.hands.table.now)
-    (kept : table.kept ≡ s.hands.table.now) where
+    (kept : table.kept ≡ s.hands.table.now) (digests : table.digests ≡ s.hands.table.digests)
+    (kept_digests : table.kept_digests ≡ s.hands.table.digests) where
   abbrev kept_inside : Inside C
   kept_inside = record s {
     hands = record s.hands { table = table; guard = guard; slots = slots; buf = buf };
@@ -184,10 +199,10 @@ module _ {C : ℕ} (s : Inside C) (whole : IsWhole s) (table : Extents) (guard :
     in_use = same_slots i;
     now = now i;
     kept = kept i;
-    book = shown_book C SIZE_MAX (same_slots i).block.k (caps_of s.hands.layout) (grid_of s.hands.layout)
-        (now i);
-    kept_book = shown_book C SIZE_MAX (same_slots i).block.k (caps_of s.hands.layout) (grid_of s.hands.layout)
-        (kept i);
+    book = digested_book C (same_slots i).block.k (caps_of s.hands.layout) (grid_of s.hands.layout) (now i)
+        (digests_seen s.hands.version (digests i));
+    kept_book = digested_book C (same_slots i).block.k (caps_of s.hands.layout) (grid_of s.hands.layout)
+        (kept i) (digests_seen s.hands.version (kept_digests i));
   }
 
   pub kept_whole : IsTable table → table.names ≡ s.hands.table.names → table.cap ≡ s.hands.table.cap
@@ -208,7 +223,7 @@ module _ {C : ℕ} (s : Inside C) (whole : IsWhole s) (table : Extents) (guard :
         kept_divisor = whole.divisor ∙ sym k_stays;
         kept_caps = refl;
         room = names ∙ whole.room ∙ sym names_stay;
-        cap = cap ∙ whole.cap ∙ sym names_stay;
+        cap = cap ∙ whole.cap ∙ ap (λ n. cap_of n s.hands.version) (sym names_stay);
         guard_room = room ∙ whole.guard_room ∙ sym names_stay;
         table = λ sound. is_table;
         sound = λ sound. subst (IsStore C) (sym kept_view) (store_kept (kept_of s) (whole.sound sound));
@@ -224,71 +239,86 @@ seen : {C : ℕ} (P : StoreValue → Header → Type 0) (s : Inside C) (t : Stor
     → h ≡ header_now (kept_of s) → P (kept_of s) h → P t (header_now t)
 seen P s t is h same p = subst (λ x. P x (header_now x)) is (subst (P (kept_of s)) same p)
 
+-- the header that is saved is that of the book's version
+pub header_is : {C : ℕ} (s : Inside C) → IsWhole s → (h : Header)
+    → h ≡ in_version s.hands.version (settled_header (caps_of s.hands.layout) (grid_of s.hands.layout))
+    → h ≡ header_now (kept_of s)
+header_is s whole h is = is ∙ ap (λ v. in_version v (settled_header (caps_of s.hands.layout)
+    (grid_of s.hands.layout))) (sym (version_is s whole))
+
+-- the records of the table, with their digests
+abbrev records : {C : ℕ} → Inside C → List Record
+records s = rolled s.hands.table.now s.hands.table.digests
+
+-- the table that is saved is that of the book
+table_is : {C : ℕ} (s : Inside C) → IsWhole s → IsTable s.hands.table
+    → choice.table_with (table_now (kept_of s)).chosen (records s) ≡ table_now (kept_of s)
+table_is s whole table =
+    let v = version_of (kept_of s).book in
+    λ i. record {
+      chosen = (table_now (kept_of s)).chosen;
+      records = rolled-plain s.hands.table.now s.hands.table.digests i;
+      digests = (rolled-seen v s.hands.table table
+          ∙ ap (λ n. digests_seen n s.hands.table.digests) (version_is s whole)) i;
+    }
+
 module _ {C : ℕ} (s : Inside C) (t : StoreValue) (is : kept_of s ≡ t) (whole : IsWhole s)
     (unbroken : t.is_broken ≡ false) (fresh : t.in_use.sequence < 2 ^ 61) (h : Header)
     (same : h ≡ header_now (kept_of s)) {a d : disk.State} (connected : IsConnected C t a)
-    (leaves : IsTrue a.tells
-    → SaveLeaves s.hands.slots h (rolled s.hands.table.now s.hands.table.digests) a d)
+    (leaves : IsTrue a.tells → SaveLeaves s.hands.slots h (records s) a d)
     (frame : KeepsDisk a d) where
-  one : h.version ≡ 1
-  one = ap (λ (x : Header). x.version) same
-
   store : IsStore C t
   store = (opened s t is whole unbroken).store
 
-  left_seen : IsTrue a.tells → SaveLeaves t.in_use (header_now t) (records_of t.now) a d
-  left_seen told = seen (λ x h. SaveLeaves x.in_use h (records_of x.now) a d) s t is h same
-      (rolled_left s.hands.slots h s.hands.table.now s.hands.table.digests one (leaves told))
+  same_table : choice.table_with (table_now t).chosen (records s) ≡ table_now t
+  same_table = subst (λ x. choice.table_with (table_now x).chosen (records s) ≡ table_now x) is
+      (table_is s whole (whole.table (ap (λ (x : StoreValue). x.is_broken) is ∙ unbroken)))
 
-  calls_seen : {A : Type 0} (result : Result A Refusal)
-      → Calls (save_calls (length (rolled s.hands.table.now s.hands.table.digests))) a d result
-      → Calls (save_calls (length (records_of t.now))) a d result
-  calls_seen result calls =
-      subst (λ (x : StoreValue). Calls (save_calls (length (records_of x.now))) a d result) is
-      (subst (λ n. Calls (save_calls n) a d result)
-      (rolled_count s.hands.table.now s.hands.table.digests) calls)
+  count : length (records s) ≡ length (records_of t.now)
+  count = rolled_count s.hands.table.now s.hands.table.digests
+      ∙ ap (λ (x : StoreValue). length (records_of x.now)) is
+
+  left_seen : IsTrue a.tells → SaveLeaves t.in_use (header_now t) (records s) a d
+  left_seen told = seen (λ x h. SaveLeaves x.in_use h (records s) a d) s t is h same (leaves told)
 
   pub keep_failed : (refused : Refusal) (new : StoreValue) → new ≡ record (kept_of s) { is_broken = true }
-      → Calls {T = Done} (save_calls (length (rolled s.hands.table.now s.hands.table.digests))) a d
-      (Err refused)
+      → Calls {T = Done} (save_calls (length (records s))) a d (Err refused)
       → KeepsNow C t new a d (Err refused)
-  keep_failed refused new new_is calls = keeps_failed t store fresh (connected unbroken) left_seen frame
-      refused new (new_is ∙ ap (λ (x : StoreValue). record x { is_broken = true }) is)
-      (calls_seen (Err refused) calls)
+  keep_failed refused new new_is calls = keeps_failed t store fresh (records s) same_table count
+      (connected unbroken) left_seen frame
+      refused new (new_is ∙ ap (λ (x : StoreValue). record x { is_broken = true }) is) calls
 
   module _ (saved : IsTrue a.tells → s.hands.slots.sequence + 1 < worn_from h.kind
-      → IsSaved (next_chosen s.hands.slots h (length (rolled s.hands.table.now s.hands.table.digests)))
-      (rolled s.hands.table.now s.hands.table.digests) d.file)
+      → IsSaved (next_chosen s.hands.slots h (length (records s))) (records s) d.file)
       (in_use : IsTrue a.tells → choice.slot_in_use d.file ≡ Ok (next_in_use s.hands.slots))
       (new : StoreValue)
       (new_is : new ≡ kept_now (kept_of s)) where
-    saved_seen : IsTrue a.tells → IsSaved (table_now t).chosen (records_of t.now) d.file
-    saved_seen told = seen (λ x h. x.in_use.sequence + 1 < worn_from h.kind
-        → IsSaved (next_chosen x.in_use h (length (records_of x.now))) (records_of x.now) d.file) s t is h
-        same
-        (λ low. rolled_saved s.hands.slots h s.hands.table.now s.hands.table.digests one d.file
-        (saved told low)) (omega (arith, fresh))
+    saved_seen : IsTrue a.tells → IsSaved (table_now t).chosen (records s) d.file
+    saved_seen told = subst (λ n. IsSaved (next_chosen t.in_use (header_now t) n) (records s) d.file) count
+        (seen (λ x h. x.in_use.sequence + 1 < worn_from h.kind
+        → IsSaved (next_chosen x.in_use h (length (records s))) (records s) d.file) s t is h same
+        (saved told) (omega (arith, fresh)))
 
     new_seen : new ≡ kept_now t
     new_seen = new_is ∙ ap kept_now is
 
     pub keep_done : (answer : Done) → (IsTrue a.tells → Rests d)
-        → Calls {E = Refusal} (save_calls (length (rolled s.hands.table.now s.hands.table.digests))) a d
-        (Ok answer)
+        → Calls {E = Refusal} (save_calls (length (records s))) a d (Ok answer)
         → KeepsNow C t new a d (Ok answer)
-    keep_done answer rests calls = keeps_saved t store fresh (connected unbroken) left_seen frame answer new
-        new_seen saved_seen rests (calls_seen (Ok answer) calls)
+    keep_done answer rests calls = keeps_saved t store fresh (records s) same_table count
+        (connected unbroken) left_seen frame answer new new_seen saved_seen rests calls
 
     pub keep_step : IsTrue a.tells
         → Step (limits_of t) (state_of t a.file) ask.keep ask.kept (state_of new d.file)
     keep_step told = subst (λ (x : StoreValue). Step (limits_of t) (state_of t a.file) ask.keep ask.kept
         (state_of x d.file)) (sym new_seen)
-        (step_kept t store a.file (connected unbroken told) d.file (saved_seen told)
+        (step_kept t store a.file (connected unbroken told) (records s) same_table d.file (saved_seen told)
         (left_seen told).data_part fresh)
 
     pub keep_over : IsTrue d.tells → IsOver C new d.file
     keep_over told =
         let first = subst IsTrue frame.stays.told told in
         subst (λ (x : StoreValue). IsOver C x d.file) (sym new_seen)
-        (over_kept t store a.file (connected unbroken first) d.file (saved_seen first)
+        (over_kept t store a.file (connected unbroken first) (records s) same_table d.file
+        (saved_seen first)
         (left_seen first).data_part (in_use first ∙ ap (λ (x : StoreValue). Ok (next_in_use x.in_use)) is))

@@ -8,26 +8,27 @@ use Rattle.byte_ranges.specs.Ranges.{SameFrom}
 use Rattle.size_class.specs.declared.TheConstants.{SIZE_MAX}
 use Rattle.slot_codec.specs.Choice as choice
 use Rattle.slot_codec.specs.declared.codec.Header.{Header}
+use Rattle.slot_codec.specs.declared.codec.Record.{Record}
 use Rattle.slot_pair.specs.Saves.{IsSaved, KeepsTable, next_chosen, next_in_use}
 use Rattle.map_model.specs.Requests as ask
-use Rattle.segment_layout.specs.Books.{Book}
+use Rattle.segment_layout.specs.Books.{Book, version_of, with_digests}
 use Rattle.segment_layout.specs.Shapes.{end_of}
 use Rattle.table_rules.specs.Opening.{OpensBy, placed_table}
 use Rattle.table_rules.specs.Rules.{IsValid}
 use Rattle.table_rules.specs.Tables.{book_of}
 use Rattle.extent_table.specs.Extents.{Spots, record_of, records_of}
 use Rattle.extent_table.proofs.ExtentLaws.{records_of-all}
-use Rattle.placement_model.specs.Laid.{settled_header, settled_table}
+use Rattle.placement_model.specs.Laid.{in_version, settled_header, settled_table}
 use Rattle.placement_model.specs.Reads.{AreNamed}
-use Rattle.placement_model.proofs.LaidLaws.{valid_numbered}
 use Rattle.placement_model.proofs.RiseLaws.{CellsRise-itself}
 use Rattle.placement_model.proofs.ShownLaws.{book_shown}
-use Rattle.flush_run.proofs.SavedLaws.{map_from, new_image_opens, old_image_opens, plain_table_is, valid_at}
+use Rattle.flush_run.proofs.SavedLaws.{map_from, new_image_opens, old_image_opens, valid_at}
 use Rattle.store_model.specs.Connection.{IsOver, StoreValue, SameOnTable, base_of, kept_map, limits_of, state_of}
 use Rattle.store_core.specs.Keeps.{kept_now, now_map}
 use Rattle.store_model.specs.States.{Limits, Served, State, Step, facts_of, refusal}
 use Rattle.store_model.specs.Stores.{IsStore}
 use Rattle.store_model.proofs.OverLaws.{head_is, opens_again}
+use Rattle.store_model.proofs.VersionLaws.{valid_as}
 use Rattle.store_core.proofs.StepLaws.{served_by}
 
 -- there are as many records as names
@@ -37,13 +38,13 @@ length-records_of spots named = ap length (records_of-all spots named)
 
 -- the header and the table of what stands now
 abbrev pub header_now : StoreValue → Header
-header_now s = settled_header s.book.caps s.book.grid
+header_now s = in_version (version_of s.book) (settled_header s.book.caps s.book.grid)
 
 abbrev pub table_now : StoreValue → choice.SlotTable
 table_now s = record {
   chosen = next_chosen s.in_use (header_now s) (length (records_of s.now));
   records = records_of s.now;
-  digests = None;
+  digests = s.book.digests;
 }
 
 -- a keep is a step
@@ -96,10 +97,12 @@ module _ {classes : ℕ} (s : StoreValue) (h : IsStore classes s) where
         let len : end_of k s.book.caps ≡ length file - base = omega (arith, over.same_length) in
         valid_at (placed_table classes SIZE_MAX file (table_now s)) (end_of k s.book.caps)
         (length file - base) len
-        (valid_numbered (s.in_use.sequence + 1) n t h.now.valid)
+        (valid_as (version_of s.book) (s.in_use.sequence + 1) n t h.now.valid)
 
-    book_is : s.book ≡ book_of (placed_table classes SIZE_MAX file (table_now s))
-    book_is = h.now_book ∙ sym (book_shown classes SIZE_MAX k s.book.caps s.book.grid s.now h.now)
+    book_is : s.book
+        ≡ with_digests s.book.digests (book_of (placed_table classes SIZE_MAX file (table_now s)))
+    book_is = h.now_book ∙ ap (λ (b : Book). with_digests s.book.digests b)
+        (sym (book_shown classes SIZE_MAX k s.book.caps s.book.grid s.now h.now))
 
     -- the last checkpoint beside the data part of an image that opens to it
     pub kept_opens : (before image : List ℕ) → SameOnTable base s.kept file before
@@ -111,12 +114,13 @@ module _ {classes : ℕ} (s : StoreValue) (h : IsStore classes s) where
         (subst (λ (p : ℕ). SameFrom p before image) (sym (head_is s h file over)) same)
 
     -- the table of now beside the content's data part
-    module _ (image : List ℕ) (saved : IsSaved (table_now s).chosen (records_of s.now) image)
-        (same : SameFrom base file image) where
+    module _ (records : List Record)
+        (same_table : choice.table_with (table_now s).chosen records ≡ table_now s) (image : List ℕ)
+        (saved : IsSaved (table_now s).chosen records image) (same : SameFrom base file image) where
       pub now_opens : OpensBy classes SIZE_MAX (table_now s) image (now_map s file) s.book
       now_opens = subst (λ (b : Book). OpensBy classes SIZE_MAX (table_now s) image (now_map s file) b)
-          (sym book_is) (new_image_opens classes SIZE_MAX (table_now s) (records_of s.now) file image
-          (plain_table_is s.in_use (header_now s) s.now refl) valid_now saved same)
+          (sym book_is) (new_image_opens classes SIZE_MAX (table_now s) records file image
+          same_table valid_now saved same)
 
       map_kept : now_map s image ≡ now_map s file
       map_kept = map_from base (records_of s.now) file image same

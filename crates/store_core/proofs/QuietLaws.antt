@@ -1,5 +1,5 @@
 -- What a quiet put and a removal do, as steps and over a file.
-use Rattle.std.specs.Prelude.{◌≡◌, ℕ, ◌+◌, ◌*◌, ◌≤◌, Bool, true, if◌then◌else◌, List, [], ◌++◌, fold, length, None, refl}
+use Rattle.std.specs.Prelude.{◌≡◌, ℕ, ◌+◌, ◌*◌, ◌≤◌, Bool, true, if◌then◌else◌, List, [], ◌++◌, fold, length, Option, None, refl}
 use Rattle.std.proofs.Common.{arith, ap, sym, ◌∙◌, subst}
 use Rattle.std.proofs.lemmas.List.{append-nil}
 use Rattle.std.specs.FinMap as fin
@@ -8,7 +8,8 @@ use Rattle.byte_ranges.proofs.RangeLaws.{overwritten-outside}
 use Rattle.size_class.specs.declared.TheConstants.{SIZE_MAX}
 use Rattle.map_model.specs.Requests as ask
 use Rattle.map_model.specs.Requests.{Change, changed}
-use Rattle.segment_layout.specs.Books.{Book, is_quiet, next_book, some_size}
+use Rattle.map_model.specs.Maps.{Map}
+use Rattle.segment_layout.specs.Books.{Book, digests_after, is_quiet, next_book, some_size, with_digests}
 use Rattle.extent_table.specs.declared.spot.Spot.{Spot}
 use Rattle.placement_model.specs.LaidOut.{shown_book}
 use Rattle.placement_model.specs.Quiet.{QuietTo, gone_items}
@@ -18,9 +19,11 @@ use Rattle.placement_model.proofs.ReadLaws.{read_at-put, read_at-remove}
 use Rattle.store_model.specs.Connection.{IsOver, StoreValue, SameOnTable, base_of, limits_of, state_of}
 use Rattle.store_core.specs.Changes.{ChangesQuietly}
 use Rattle.store_core.specs.Plans.{IsDelPlan, IsPutPlan}
+use Rattle.store_model.specs.Digested.{IsDigestFor, digested_book, digests_with}
 use Rattle.store_model.specs.Quiet.{added, charges_of, del_of, put_of, sizes_at}
 use Rattle.store_model.specs.States.{Facts, Limits, Served, State, Step, facts_of, no_saves, refusal, served}
 use Rattle.store_model.specs.Stores.{IsStore}
+use Rattle.store_model.proofs.DigestLaws.{next_with, quiet_with, with_own}
 use Rattle.store_model.proofs.ChangeLaws.{apart_kept, apart_now, place_ends, with_now}
 use Rattle.store_model.proofs.OverLaws.{checkpoint_again, kept_map_again, same_written}
 use Rattle.store_core.proofs.PlanLaws.{DelServed, PutServed, charged_quietly, del_served, put_served}
@@ -96,16 +99,28 @@ module _ {classes : ℕ} (s : StoreValue) (h : IsStore classes s) where
     abbrev asked : List ℕ
     asked = fold added s.asked (sizes_at (fin.get s.now name) ++ some_size spot.size)
 
+    abbrev digests : Option Map
+    digests = digests_after (put_of name object) s.book.digests
+
     -- what the store is then
     abbrev put_store : StoreValue
-    put_store = with_now classes s (fin.insert s.now name spot) grid asked
+    put_store = with_now classes s (fin.insert s.now name spot) digests grid asked
+
+    -- with its own digest
+    pub put_entered : (digest : List ℕ) → IsDigestFor s.book.digests object digest → (new : StoreValue)
+        → new ≡ with_now classes s (fin.insert s.now name spot) (digests_with name digest s.book.digests) grid
+        asked
+        → new ≡ put_store
+    put_entered digest own new is = is ∙ ap (λ (ds : Option Map). with_now classes s
+        (fin.insert s.now name spot) ds grid asked) (with_own s.book.digests name object digest own)
 
     pub put_value : (new : StoreValue) → new ≡ put_store → ChangesQuietly classes (put_of name object) s new
     put_value new is = subst (ChangesQuietly classes (put_of name object) s) (sym is) (record {
       places = (spot.place, plan.charged, ap (λ (x : Spot). fin.insert s.now name x) spot_is);
       rest = λ i. record s {
         now = fin.insert s.now name spot;
-        book = shown_book classes SIZE_MAX k s.book.caps (quietly.after_is i) (fin.insert s.now name spot);
+        book = digested_book classes k s.book.caps (quietly.after_is i) (fin.insert s.now name spot)
+            digests;
         asked = fold added s.asked (sizes_at (fin.get s.now name) ++ some_size (plan.size i));
       };
     })
@@ -156,10 +171,14 @@ module _ {classes : ℕ} (s : StoreValue) (h : IsStore classes s) where
           (change_step (limits_of s) (state_of s file) (state_of put_store b) c
           (ap (λ (f : Facts). refusal (limits_of s) f (ask.change c))
           (facts_same s file (ask.change c) h.now.named h.kept.named) ∙ can.calm)
-          (ap (λ (x : Book). (next_book k m x c).quiet) h.now_book ∙ laid ∙ quietly.quiet) map_is
+          (ap (λ (x : Book). (next_book k m x c).quiet) h.now_book
+          ∙ quiet_with k m shown c s.book.digests ∙ laid ∙ quietly.quiet) map_is
           (kept_map_again s h file over b alike)
-          (ap (λ (x : Spot). shown_book classes SIZE_MAX k s.book.caps grid (fin.insert s.now name x)) spot_is
-          ∙ sym (ap (λ (x : Book). (next_book k m x c).book) h.now_book ∙ book)) refl refl)
+          (ap (λ (x : Spot). digested_book classes k s.book.caps grid (fin.insert s.now name x) digests)
+          spot_is
+          ∙ sym (ap (λ (x : Book). (next_book k m x c).book) h.now_book
+          ∙ next_with k m shown c s.book.digests ∙ ap (λ (x : Book). with_digests digests x) book)) refl
+          refl)
 
   -- ---- a removal
 
@@ -175,7 +194,8 @@ module _ {classes : ℕ} (s : StoreValue) (h : IsStore classes s) where
 
     -- what the store is then, by its name or by the plan's
     abbrev without : List ℕ → StoreValue
-    without q = with_now classes s (fin.remove s.now q) grid (fold added s.asked (sizes_at (fin.get s.now q)))
+    without q = with_now classes s (fin.remove s.now q) (digests_after (del_of q) s.book.digests) grid
+        (fold added s.asked (sizes_at (fin.get s.now q)))
 
     abbrev del_store : StoreValue
     del_store = without name
@@ -186,8 +206,8 @@ module _ {classes : ℕ} (s : StoreValue) (h : IsStore classes s) where
           places = refl;
           rest = λ i. record s {
             now = fin.remove s.now name;
-            book = shown_book classes SIZE_MAX k s.book.caps (gone_quietly.after_is i)
-                (fin.remove s.now name);
+            book = digested_book classes k s.book.caps (gone_quietly.after_is i) (fin.remove s.now name)
+                (digests_after (del_of name) s.book.digests);
             asked = fold added s.asked (sym (append-nil (sizes_at (fin.get s.now name))) i);
           };
         })
@@ -208,9 +228,12 @@ module _ {classes : ℕ} (s : StoreValue) (h : IsStore classes s) where
           (change_step (limits_of s) (state_of s file) (state_of del_store file) c
           (ap (λ (f : Facts). refusal (limits_of s) f (ask.change c))
           (facts_same s file (ask.change c) h.now.named h.kept.named) ∙ gone_can.calm)
-          (ap (λ (x : Book). (next_book k m x c).quiet) h.now_book ∙ laid ∙ gone_quietly.quiet)
+          (ap (λ (x : Book). (next_book k m x c).quiet) h.now_book
+          ∙ quiet_with k m shown c s.book.digests ∙ laid ∙ gone_quietly.quiet)
           (read_at-remove base file s.now name h.now.named) refl
-          (sym (ap (λ (x : Book). (next_book k m x c).book) h.now_book ∙ book)) refl refl)
+          (sym (ap (λ (x : Book). (next_book k m x c).book) h.now_book
+          ∙ next_with k m shown c s.book.digests
+          ∙ ap (λ (x : Book). with_digests (digests_after c s.book.digests) x) book)) refl refl)
 
 -- whether a change is quiet is what the book says
 pub quiet_by_book : (classes : ℕ) (s : StoreValue) (file : List ℕ) (c : Change) → IsStore classes s
@@ -218,5 +241,7 @@ pub quiet_by_book : (classes : ℕ) (s : StoreValue) (file : List ℕ) (c : Chan
     ≡ is_quiet (charges_of s c)
 quiet_by_book classes s file c h over =
     ap (λ (x : Book). (next_book s.in_use.block.k (state_of s file).map x c).quiet) h.now_book
+    ∙ quiet_with s.in_use.block.k (state_of s file).map (shown_book classes SIZE_MAX s.in_use.block.k
+    s.book.caps s.book.grid s.now) c s.book.digests
     ∙ next_quiet classes SIZE_MAX s.in_use.block.k s.book.caps s.book.grid s.now h.now (base_of s) file
     (now_lies s file h over) c

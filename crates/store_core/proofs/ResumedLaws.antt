@@ -1,8 +1,8 @@
 -- The store of a moving table whose flush went on to its end.
 use Rattle.std.specs.FinMap as fin
-use Rattle.std.specs.Prelude.{◌≡◌, ℕ, ◌+◌, ◌-◌, ◌*◌, ◌/◌, ◌<◌, ◌≤◌, ◌==◌, ◌^◌, false, true, List, [], length, slice_index, Err, Ok, IsTrue, refl}
+use Rattle.std.specs.Prelude.{◌≡◌, ℕ, ◌+◌, ◌-◌, ◌*◌, ◌/◌, ◌<◌, ◌≤◌, ◌==◌, ◌^◌, false, true, List, [], length, slice_index, Some, None, Err, Ok, IsTrue, refl}
 use Rattle.std.proofs.Common.{arith, ap, sym, ◌∙◌, subst, inl, inr}
-use Rattle.std.proofs.lemmas.Bool.{cases_lt}
+use Rattle.std.proofs.lemmas.Bool.{cases_lt, cond-false}
 use Rattle.std.proofs.lemmas.List.Sorted.{IsPermutation-sym}
 use Rattle.disk_face.specs.States as disk
 use Rattle.disk_face.specs.Counts.{HasCause}
@@ -12,16 +12,16 @@ use Rattle.size_class.specs.declared.TheConstants.{SIZE_MAX}
 use Rattle.size_class.proofs.ClassLaws.{zero_row-index}
 use Rattle.slot_codec.specs.Choice as choice
 use Rattle.slot_codec.specs.Readable.{IsSuperBlock}
-use Rattle.slot_codec.specs.Spelling.{cap, head_len, room_len}
-use Rattle.slot_codec.proofs.CapLaws.{record_len-short}
+use Rattle.slot_codec.specs.Spelling.{cap, head_len}
+use Rattle.slot_codec.specs.Reading.{is_version}
 use Rattle.slot_codec.specs.declared.codec.Kind.TheVariants as kind
 use Rattle.slot_codec.specs.declared.codec.SuperBlock.{SuperBlock}
 use Rattle.slot_pair.specs.declared.find.SlotFault.TheVariants as slot
-use Rattle.segment_layout.specs.Books.{volumes, volumes_of_sizes}
+use Rattle.segment_layout.specs.Books.{Book, volumes, volumes_of_sizes, with_digests}
 use Rattle.segment_layout.specs.Layouts.{caps_of, grid_of}
 use Rattle.segment_layout.proofs.ShapeLaws.{caps-settled_above}
 use Rattle.table_rules.specs.Tables.{sizes}
-use Rattle.extent_table.specs.Extents.{Extents, records_of}
+use Rattle.extent_table.specs.Extents.{Extents, digests_seen, records_of}
 use Rattle.placement_model.specs.Reads.{EndWithin}
 use Rattle.placement_model.proofs.BookLaws.{volumes_of_records}
 use Rattle.placement_model.proofs.ShownLaws.{book_shown}
@@ -31,15 +31,15 @@ use Rattle.flush_run.specs.declared.hands.Hands.{Hands}
 use Rattle.flush_run.specs.Calls.{CallsSoFar, piece_calls}
 use Rattle.flush_run.proofs.BeginLaws.{items_low, to_pack_few}
 use Rattle.flush_run.specs.FlushFrames.{FlushFrame, LeavesOldOrNew}
-use Rattle.flush_run.specs.Parts.{HandsValue, parts_of}
+use Rattle.flush_run.specs.Parts.{FitsVersion, HandsValue, parts_of, saved_digests}
 use Rattle.flush_run.specs.Runs.{CanResume, HasRun}
 use Rattle.flush_run.specs.Settling.{FlushEnds}
 use Rattle.flush_run.specs.Hands.{HandsMatchPlan}
 use Rattle.flush_run.proofs.LaidPlaceLaws.{new_cap}
+use Rattle.flush_run.proofs.SizeLaws.{sizes_len}
 use Rattle.reopen.specs.declared.fault.OpenFault.TheVariants as fault_of
 use Rattle.reopen.specs.declared.state.Loaded.{Loaded}
-use Rattle.reopen.specs.Loads.{KeepsLoaded}
-use Rattle.store_model.specs.Plain.{IsPlainFrom, plain_seen}
+use Rattle.reopen.specs.Loads.{IsLoadedFrom, KeepsLoaded, table_loaded}
 use Rattle.store_model.specs.Connection.{StoreValue, opened_store}
 use Rattle.store_model.specs.Flushed.{IsFlushed}
 use Rattle.store_model.specs.Opened.{ContinuesFrom, IsFresh, IsOpened, IsOpening, LeavesAlone, MostCallsOf, MovesOn, OpenCallsOf, OpensFound}
@@ -50,15 +50,10 @@ use Rattle.store_model.proofs.GoingLaws.{begins_within, can_told, content_again,
 use Rattle.store_model.proofs.MovingLaws.{hands_again, same_divisor}
 use Rattle.store_model.proofs.OpeningLaws.{found_by, found_one}
 
--- as many names may be live in version 1 as there is room for
-cap_short : (names version : ℕ) → (version == 2) ≡ false → cap names version ≡ names
-unfolding cap
-cap_short names version other = ap (λ n. room_len names / n) (record_len-short version other) ∙ omega arith
-
 module _ {C : ℕ} (x : Loaded C) (loads : KeepsLoaded x) (moving : x.header.kind ≡ kind.Moving) (few : C ≤ 32)
     (wide : SIZE_MAX < 2 ^ C) (y : HandsValue) (starts : StartsAgain x y) (p : PlanState)
     (packs : PacksAgain x p) (first last : disk.State)
-    (from : IsTrue first.tells → IsPlainFrom first.file x)
+    (from : IsTrue first.tells → IsLoadedFrom first.file x)
     (hands : Hands C) (left : (f : FlushFrame) → CanResume C f y p first → IsTrue first.tells
     → LeavesOldOrNew f (hands.slots.sequence + 1) first last)
     (made : HasRun p.numbers.boundary p.items first last y (parts_of hands))
@@ -156,8 +151,8 @@ module _ {C : ℕ} (x : Loaded C) (loads : KeepsLoaded x) (moving : x.header.kin
           (subst (λ z. CallsSoFar first.turn last.turn z (cells_of hands.ledger.moved) more
           (hands.slots.sequence - y.in_use.sequence + saves) (fin.len y.table.now)) starts.moved calls))
 
-      again_most : MostCallsOf x.header.kind (plain_seen x) f.new_map first.turn last.turn
-      again_most = subst (λ z. MostCallsOf z (plain_seen x) f.new_map first.turn last.turn) (sym moving)
+      again_most : MostCallsOf x.header.kind (table_loaded x) f.new_map first.turn last.turn
+      again_most = subst (λ z. MostCallsOf z (table_loaded x) f.new_map first.turn last.turn) (sym moving)
           (record {
             moved = cells_of hands.ledger.moved;
             saves = hands.slots.sequence - x.header.sequence;
@@ -166,7 +161,7 @@ module _ {C : ℕ} (x : Loaded C) (loads : KeepsLoaded x) (moving : x.header.kin
             calls = calls_are (piece_calls + 2) 1 made.most;
           })
 
-      again_alone : LeavesAlone (plain_seen x) f.new_book first last
+      again_alone : LeavesAlone (table_loaded x) f.new_book first last
       again_alone settled low = absurd (let e : kind.Moving ≡ kind.Settled = sym moving ∙ settled in cc)
 
     -- the disk failed
@@ -178,7 +173,7 @@ module _ {C : ℕ} (x : Loaded C) (loads : KeepsLoaded x) (moving : x.header.kin
       fresh = tt;
       refused = λ told. inl tt;
       found = λ told t m b o.
-          found_by (found_one C (plain_seen x) t first.file _ m _ b (from told).opens o) (record {
+          found_by (found_one C (table_loaded x) t first.file _ m _ b (from told).opens o) (record {
             content = content_again x loads moving few wide y starts p packs first last
                 (hands.slots.sequence + 1) few_most
                 left told
@@ -192,7 +187,7 @@ module _ {C : ℕ} (x : Loaded C) (loads : KeepsLoaded x) (moving : x.header.kin
             alone = again_alone told;
           });
       unchanged = tt;
-      closed = λ told none. absurd (none _ _ (record { table = plain_seen x; opens = (from told).opens }));
+      closed = λ told none. absurd (none _ _ (record { table = table_loaded x; opens = (from told).opens }));
       frame = made.keeps.disk;
       cause = record { later = cause.later; rose = λ is. cause.rose; calm = λ other. absurd (other refl) };
     }
@@ -222,32 +217,50 @@ module _ {C : ℕ} (x : Loaded C) (loads : KeepsLoaded x) (moving : x.header.kin
       names_now = made.keeps.names ∙ ap (λ (e : Extents). e.names) starts.table ∙ loads.room
           ∙ ap (λ (z : SuperBlock). z.names) (sym block_found)
 
-      cap_now : (x.header.version == 2) ≡ false → hands.table.cap ≡ hands.slots.block.names
-      cap_now other = made.keeps.cap ∙ ap (λ (e : Extents). e.cap) starts.table ∙ loads.cap
-          ∙ cap_short x.block.names x.header.version other
-          ∙ ap (λ (z : SuperBlock). z.names) (sym block_found)
+      same_version : hands.version ≡ x.header.version
+      same_version = made.keeps.version ∙ starts.version
+
+      same_cap : hands.table.cap ≡ x.table.cap
+      same_cap = made.keeps.cap ∙ ap (λ (e : Extents). e.cap) starts.table
+
+      cap_now : hands.table.cap ≡ cap hands.slots.block.names hands.version
+      cap_now = same_cap ∙ loads.cap ∙ (λ i. cap ((sym block_found) i).names ((sym same_version) i))
+
+      few_now : fin.len hands.table.now ≤ hands.table.cap
+      few_now = omega (
+        arith,
+        loads.few,
+        same_cap,
+        sizes_len y.table.now hands.table.now made.sizes,
+        ap (λ (e : Extents). fin.len e.now) starts.table,
+      )
 
       block_now : IsSuperBlock hands.slots.block
       block_now = subst IsSuperBlock (sym block_found) loads.ranges
 
-      plain : hands.version ≡ 1
-      plain = made.keeps.version ∙ starts.version
+      fits : FitsVersion (parts_of hands)
+      fits = record {
+        known = subst (λ v. IsTrue (is_version v)) (sym same_version) loads.version;
+        few = omega (arith, few_now, cap_now);
+      }
 
       -- a store may be made of the hands
-      pub makes_store : (x.header.version == 2) ≡ false → MakesStore hands
-      makes_store other = record {
+      pub makes_store : MakesStore hands
+      makes_store = record {
         few = few;
         wide = wide;
         block = block_now;
         kept = sym any_ends.kept;
         names = names_now;
-        cap = cap_now other;
+        digests = ap (λ (d : choice.Digests). digests_seen hands.version d) (sym any_ends.kept_digests);
+        cap = cap_now;
+        few_names = few_now;
         divisor = any_ends.divisor;
         valid = any_ends.laid.valid;
         table = any_ends.table;
         spans = any_ends.empty;
         guard_room = made.keeps.room ∙ starts.room ∙ ap (λ (z : SuperBlock). z.names) (sym block_found);
-        version = plain;
+        version = fits.known;
         base = made.keeps.base ∙ starts.base ∙ ap (λ (z : SuperBlock). head_len z.names) (sym block_found);
         buffer = made.keeps.buffer ∙ starts.buffer;
       }
@@ -255,22 +268,27 @@ module _ {C : ℕ} (x : Loaded C) (loads : KeepsLoaded x) (moving : x.header.kin
       -- ---- the store
 
       abbrev s : StoreValue
-      s = opened_store C hands.slots hands.table.now (caps_of hands.layout) (grid_of hands.layout)
+      s = opened_store C hands.slots hands.table.now (saved_digests (parts_of hands)) (caps_of hands.layout)
+          (grid_of hands.layout)
 
-      is_flushed : IsFlushed C hands.slots hands.table.now (caps_of hands.layout) (grid_of hands.layout) s
+      is_flushed : IsFlushed C hands.slots hands.table.now (saved_digests (parts_of hands))
+          (caps_of hands.layout) (grid_of hands.layout) s
       is_flushed =
           let shown = book_shown C SIZE_MAX hands.slots.block.k (caps_of hands.layout) (grid_of hands.layout)
           hands.table.now any_ends.laid in
-          record { in_use = refl; same_now = refl; kept = refl; book = shown; kept_book = shown }
+          let seen = ap (λ (b : Book). with_digests (saved_digests (parts_of hands)) b) shown in
+          record { in_use = refl; same_now = refl; kept = refl; book = seen; kept_book = seen }
 
-      again_fresh : IsFresh C s
-      again_fresh = record {
+      again_fresh : (x.header.version == 2) ≡ false → IsFresh C s
+      again_fresh other = record {
         whole = refl;
-        store = ended_store hands any.0 last any_ends names_now block_now plain s is_flushed;
+        store = ended_store hands any.0 last any_ends names_now block_now fits s is_flushed;
         same_now = refl;
         same_book = refl;
         moved = refl;
         asked = refl;
+        plain = (λ i. digests_seen (same_version i) hands.table.digests)
+            ∙ cond-false (x.header.version == 2) (Some hands.table.digests) None other;
       }
 
       module _ (told : IsTrue first.tells) where
@@ -288,12 +306,12 @@ module _ {C : ℕ} (x : Loaded C) (loads : KeepsLoaded x) (moving : x.header.kin
 
         again_opened : IsOpened C first.file last.file s
         again_opened = record {
-          table = plain_seen x;
+          table = table_loaded x;
           m = here.new_map;
           b = here.new_book;
           found = (from told).opens;
           block = block_found;
-          state = ended_state hands here last told_ends names_now block_now plain s is_flushed base_now
+          state = ended_state hands here last told_ends names_now block_now fits s is_flushed base_now
               still_told;
           continues = subst (λ z. ContinuesFrom z x.header.sequence hands.slots.sequence) (sym moving) (
             omega (arith, later, ap (λ (u : choice.InUse). u.sequence) starts.in_use, loads.sequence),
@@ -317,7 +335,7 @@ module _ {C : ℕ} (x : Loaded C) (loads : KeepsLoaded x) (moving : x.header.kin
                 (cells_of hands.ledger.moved) 2 n (fin.len y.table.now)) (omega arith) calls));
           }
 
-          again_found : OpensFound C (plain_seen x) here.new_map here.new_book first last (Ok s)
+          again_found : OpensFound C (table_loaded x) here.new_map here.new_book first last (Ok s)
           again_found = record {
             content = content_again x loads moving few wide y starts p packs first last
                 (hands.slots.sequence + 1) few_most
@@ -326,28 +344,31 @@ module _ {C : ℕ} (x : Loaded C) (loads : KeepsLoaded x) (moving : x.header.kin
             left = left_again x loads moving few wide y starts p packs first last
                 (hands.slots.sequence + 1) few_most
                 left told (from told);
-            rests = λ rests. ended_rests hands here last told_ends names_now block_now plain s is_flushed
+            rests = λ rests. ended_rests hands here last told_ends names_now block_now fits s is_flushed
                 base_now still_told;
             calls = subst (λ z. OpenCallsOf z
-                (plain_seen x) here.new_map here.new_book first.file first.turn last.turn s)
+                (table_loaded x) here.new_map here.new_book first.file first.turn last.turn s)
                 (sym moving) moves_on;
             most = again_most told;
             alone = again_alone told;
           }
 
-      pub again_done : {T E : Type 0} (z : T) → CallsSoFar first.turn last.turn y.moved
+      pub again_done : (x.header.version == 2) ≡ false → {T E : Type 0} (z : T) →
+          CallsSoFar first.turn last.turn y.moved
           (cells_of hands.ledger.moved) 2 (hands.slots.sequence - y.in_use.sequence) (fin.len y.table.now)
           → HasCause {E = E} first.faults last.faults (Ok z) → IsOpening C first last (Ok s)
-      again_done z calls cause = record {
+      again_done other z calls cause = record {
         opened = λ told. again_opened told;
-        over = λ told. ended_over hands (f told) last (told_ends told) names_now block_now plain s is_flushed
+        over = λ told. ended_over hands (f told) last (told_ends told) names_now block_now fits s is_flushed
             (base_now told) (still_told told);
-        fresh = again_fresh;
+        fresh = again_fresh other;
         refused = λ told. tt;
-        found = λ told t m b o. found_by (found_one C (plain_seen x) t first.file _ m _ b (from told).opens o)
+        found = λ told t m b o.
+            found_by (found_one C (table_loaded x) t first.file _ m _ b (from told).opens o)
             (again_found told calls);
         unchanged = tt;
-        closed = λ told none. absurd (none _ _ (record { table = plain_seen x; opens = (from told).opens }));
+        closed = λ told none. absurd (none _ _
+            (record { table = table_loaded x; opens = (from told).opens }));
         frame = made.keeps.disk;
         cause = record { later = cause.later; rose = λ is. absurd (cc); calm = λ other. cause.calm };
       }

@@ -7,12 +7,13 @@ use Rattle.disk_face.specs.Moments.{Leaves}
 use Rattle.disk_face.specs.Writes.{KeepsDisk}
 use Rattle.size_class.specs.declared.TheConstants.{SIZE_MAX}
 use Rattle.map_model.specs.Requests.{Change}
+use Rattle.segment_layout.specs.Books.{digests_after}
 use Rattle.table_rules.specs.Opening.{Opens}
 use Rattle.table_rules.specs.Sequences.{HasSequenceUpTo}
-use Rattle.placement_model.specs.LaidOut.{shown_book}
 use Rattle.store_core.specs.declared.answers.Refusal.{Refusal}
 use Rattle.store_core.specs.declared.answers.Done.{Done}
 use Rattle.store_model.specs.Connection.{StoreValue, RestsOnTable, IsKeptImage, base_of, kept_map}
+use Rattle.store_model.specs.Digested.{digested_book}
 use Rattle.store_model.specs.Quiet.{IsCharged, asked_after, charges_of, quiet_calls}
 
 -- a refusal: nothing changed, and no call of the disk failed
@@ -33,12 +34,14 @@ HasChanged c old new = of c.object
         × (new.now ≡ fin.insert old.now c.name (record { place = place; size = length object }))
 
 -- A quiet change changes the places, the book and what was asked for, and nothing else that a store keeps.
--- The book is what the layout shows of the places, once each item is charged.
+-- The book is what the layout shows of the places, once each item is charged, and has the digests after the
+-- change.
 pub record ChangesQuietly (classes : ℕ) (c : Change) (old new : StoreValue) : Type 0 where
   pub places : HasChanged c old new
   pub rest : new ≡ record old {
     now = new.now;
-    book = shown_book classes SIZE_MAX old.in_use.block.k old.book.caps (charges_of old c).grid new.now;
+    book = digested_book classes old.in_use.block.k old.book.caps (charges_of old c).grid new.now
+        (digests_after c old.book.digests);
     asked = asked_after old c;
   }
 

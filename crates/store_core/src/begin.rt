@@ -12,6 +12,7 @@ ghost use Rattle.store_model.specs.Flushing.{CanStartAt, IsBegun, NeedsFlushAt, 
 ghost use Rattle.store_model.specs.Quiet.{del_of, put_of};
 ghost use Rattle.flush_plan.specs.Lifts.{KeepsLifting};
 
+use crate::digest::digest_of;
 use crate::held::{add_gone, add_size, free_spot};
 use crate::plan::Charged;
 use extent_table::{Spot, Table};
@@ -76,13 +77,14 @@ fn start_put<const C: usize>(
     ensures keeps { KeepsLifting C result.phase (items_now result.phase.course hands.new.table) }
 {
     let size = bytes.len() as u64;
+    let digest = digest_of(hands.version, bytes);
     take_out(hands, name);
     add_size(&mut hands.ledger, size);
     hands.layout = charged.layout;
     let boundary = hands.layout.boundary(charged.outcome.class);
     match charged.outcome.place {
-        Some(place) => start_placed(hands, name, boundary, Spot { place, size }),
-        None => start_waiting(hands, name, boundary, size),
+        Some(place) => start_placed(hands, name, boundary, Spot { place, size }, digest),
+        None => start_waiting(hands, name, boundary, size, digest),
     }
 }
 
@@ -123,12 +125,13 @@ fn take_out<const C: usize>(hands: &mut Hands<C>, name: &Name)
     hands.table.remove(name);
 }
 
-/// Sets a new object that found room, and begins a flush with nothing pending.
+/// Sets a new object that found room, with its digest, and begins a flush with nothing pending.
 fn start_placed<const C: usize>(
     hands: &mut Hands<C>,
     name: &Name,
     b: u8,
     spot: Spot,
+    digest: [u8; 32],
 ) -> StartedFlush<C>
     requires fits { C ≤ 32 }
     requires room { fin.len hands.old.table.now < hands.old.table.cap }
@@ -136,12 +139,12 @@ fn start_placed<const C: usize>(
     requires start { (key : ℕ) (put : Extents) → IsWith name.now spot key hands.old.table put
         → CanStartAt C b (divisor_of hands.old.layout) (caps_of hands.old.layout) (grid_of hands.old.layout)
         put }
-    ensures starts { StartsPlaced b name.now spot (parts_of hands.old) (parts_of hands.new)
+    ensures starts { StartsPlaced b name.now digest spot (parts_of hands.old) (parts_of hands.new)
         (phase_now result.phase.course hands.new.table) }
     ensures keeps { KeepsLifting C result.phase (items_now result.phase.course hands.new.table) }
     ensures place { result.place ≡ spot.place }
 {
-    hands.table.set(name, spot, [0; 32]);
+    hands.table.set(name, spot, digest);
     StartedFlush {
         phase: start_lifting(&hands.table, &hands.layout, b),
         place: spot.place,
@@ -162,12 +165,14 @@ fn start_lifting<const C: usize>(table: &Table, layout: &Layout<C>, b: u8) -> Li
     Lifting::new(layout, found, &shelf, None)
 }
 
-/// Sets a new object that found no room where the flush reaches to, and begins a flush with it pending.
+/// Sets a new object that found no room where the flush reaches to, with its digest, and begins a
+/// flush with it pending.
 fn start_waiting<const C: usize>(
     hands: &mut Hands<C>,
     name: &Name,
     b: u8,
     size: u64,
+    digest: [u8; 32],
 ) -> StartedFlush<C>
     requires fits { C ≤ 32 }
     requires wide { SIZE_MAX < 2 ^ C }
@@ -178,13 +183,14 @@ fn start_waiting<const C: usize>(
     requires room { fin.len hands.old.table.now < hands.old.table.cap }
     requires start { CanStartAt C b (divisor_of hands.old.layout) (caps_of hands.old.layout)
         (grid_of hands.old.layout) hands.old.table }
-    ensures starts { StartsWaiting b name.now size result.place (parts_of hands.old) (parts_of hands.new)
+    ensures starts { StartsWaiting b name.now digest size result.place
+        (parts_of hands.old) (parts_of hands.new)
         (phase_now result.phase.course hands.new.table) }
     ensures keeps { KeepsLifting C result.phase (items_now result.phase.course hands.new.table) }
 {
     let found = numbers(&hands.layout, b, &TableShelf(&hands.table), size);
     let place = found.reach - size;
-    let key = hands.table.set(name, Spot { place, size }, [0; 32]);
+    let key = hands.table.set(name, Spot { place, size }, digest);
     let pending = Item {
         key,
         class: class_of(size),

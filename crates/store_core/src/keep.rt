@@ -57,7 +57,7 @@ impl<const C: usize> Store<C> {
         ensures broken { self.new.is_broken ≡ is_disk_fault result }
     {
         let hands = &mut *self.hands;
-        let next = settled_header(&hands.layout, 1);
+        let next = settled_header(&hands.layout, hands.version);
         match hands.slots.save(disk, &next, &hands.table, &mut hands.buf) {
             Ok(_) => {
                 keep_spots(&mut hands.table, &mut hands.guard);
@@ -76,6 +76,8 @@ impl<const C: usize> Store<C> {
 fn keep_spots(table: &mut Table, guard: &mut Guard)
     ensures now { table.new.now ≡ table.old.now }
     ensures kept { table.new.kept ≡ table.old.now }
+    ensures digests { table.new.digests ≡ table.old.digests }
+    ensures kept_digests { table.new.kept_digests ≡ table.old.digests }
     ensures names { table.new.names ≡ table.old.names }
     ensures cap { table.new.cap ≡ table.old.cap }
     ensures table { IsTable table.new }

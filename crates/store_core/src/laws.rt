@@ -1,5 +1,5 @@
 //! What holds of stores and of requests, as contracts of functions that do nothing.
-ghost use Rattle.std.specs.Prelude.{◌≡◌, ℕ, ◌*◌, ◌<◌, ◌≤◌, ◌^◌, List, IfOk, Some};
+ghost use Rattle.std.specs.Prelude.{◌≡◌, ℕ, ◌*◌, ◌<◌, ◌≤◌, ◌^◌, List, IfOk, IsTrue, Some};
 ghost use Rattle.slot_codec.specs.Choice.{SlotTable as FoundTable};
 ghost use Rattle.map_model.specs.Maps.{Map};
 ghost use Rattle.map_model.specs.Requests as ask;
@@ -10,7 +10,9 @@ ghost use Rattle.segment_layout.specs.Layouts.{caps_of, divisor_of, grid_of};
 ghost use Rattle.slot_codec.specs.Readable.{IsSuperBlock};
 ghost use Rattle.table_rules.specs.Rules.{IsValid};
 ghost use Rattle.placement_model.specs.Laid.{settled_table};
-ghost use Rattle.extent_table.specs.Extents.{IsTable, volume_of};
+ghost use Rattle.slot_codec.specs.Reading.{is_version};
+ghost use Rattle.extent_table.specs.Extents.{IsTable, digests_seen, volume_of};
+ghost use Rattle.store_model.specs.Digested.{IsNarrowed};
 ghost use Rattle.placement_model.specs.Reads.{AreNamed};
 ghost use Rattle.store_core.specs.Answers.{facts_at};
 ghost use Rattle.store_model.specs.Connection.{IsOver, StoreValue, SameOnTable, base_of, opened_store, state_of};
@@ -25,7 +27,7 @@ use extent_table::Table;
 use flush_run::Hands;
 use segment_layout::Layout;
 use size_class::SIZE_MAX;
-use slot_codec::{NoMemory, SuperBlock, head_len};
+use slot_codec::{NoMemory, SuperBlock, cap, head_len};
 use slot_pair::SlotPair;
 use std::alloc::Global;
 
@@ -73,14 +75,15 @@ pub fn a_stopped_opening_is_made_again()
         → SameOnFound over.table file image }
 {}
 
-/// The store of a table that was checked against its layout, where nothing has changed since the
-/// checkpoint. It takes the memory that the store will ever have.
+/// The store of a table of a version, 1 or 2, that was checked against its layout, where nothing has
+/// changed since the checkpoint. It takes the memory that the store will ever have.
 pub fn store_of<const C: usize>(
     alloc: Global,
     block: SuperBlock,
     slots: SlotPair,
     table: Table,
     layout: Layout<C>,
+    version: u8,
 ) -> Result<Store<C>, NoMemory>
     requires classes { C ≤ 32 }
     requires wide { SIZE_MAX < 2 ^ C }
@@ -88,13 +91,16 @@ pub fn store_of<const C: usize>(
     requires slots { slots.block ≡ block }
     requires kept { table.now ≡ table.kept }
     requires room { table.names ≡ block.names }
+    requires version { IsTrue (is_version version) }
+    requires narrowed { version ≡ 2 → IsNarrowed block.names table }
     requires divisor { divisor_of layout ≡ block.k }
     requires valid { IsValid (settled_table C SIZE_MAX block.k (caps_of layout) (grid_of layout) table.now) }
     ensures { IfOk result (λ store. store
-        ≡ opened_store C slots table.now (caps_of layout.entry) (grid_of layout.entry)) }
+        ≡ opened_store C slots table.now (digests_seen version table.digests) (caps_of layout.entry)
+        (grid_of layout.entry)) }
 {
     let layout = boxed(alloc, layout)?;
-    store_in(alloc, block, slots, table, layout)
+    store_in(alloc, block, slots, table, layout, version)
 }
 
 /// The store of a table that was checked against its layout, as `store_of` makes it, in the memory that the
@@ -106,6 +112,7 @@ pub(crate) fn store_in<const C: usize>(
     slots: SlotPair,
     table: Table,
     layout: Box<Layout<C>>,
+    version: u8,
 ) -> Result<Store<C>, NoMemory>
     requires classes { C ≤ 32 }
     requires wide { SIZE_MAX < 2 ^ C }
@@ -113,15 +120,18 @@ pub(crate) fn store_in<const C: usize>(
     requires slots { slots.block ≡ block }
     requires kept { table.now ≡ table.kept }
     requires room { table.names ≡ block.names }
+    requires version { IsTrue (is_version version) }
+    requires narrowed { version ≡ 2 → IsNarrowed block.names table }
     requires divisor { divisor_of layout.value ≡ block.k }
     requires valid { IsValid (settled_table C SIZE_MAX block.k (caps_of layout.value) (grid_of layout.value)
         table.now) }
-    ensures { IfOk result (λ store. store ≡ opened_store C slots table.now (caps_of layout.entry.value)
+    ensures { IfOk result (λ store. store ≡ opened_store C slots table.now
+        (digests_seen version table.digests) (caps_of layout.entry.value)
         (grid_of layout.entry.value)) }
 {
     is_table(&table);
     let mut table = table;
-    table.narrow(block.names);
+    table.narrow(cap(block.names, version));
     let Memory { guard, buf } = take_memory(alloc, block.names)?;
     let hands = Hands {
         table,
@@ -131,7 +141,7 @@ pub(crate) fn store_in<const C: usize>(
         ledger: no_bytes(),
         buf,
         base: head_len(block.names),
-        version: 1,
+        version,
     };
     let hands = boxed(alloc, hands)?;
     Ok(store_with(hands, layout))

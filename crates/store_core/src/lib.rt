@@ -6,6 +6,7 @@ mod answers;
 mod begin;
 mod change;
 mod copy;
+mod digest;
 mod flush;
 mod held;
 mod keep;

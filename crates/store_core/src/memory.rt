@@ -3,6 +3,7 @@ ghost use Rattle.std.specs.Prelude.{◌≡◌, ◌≤◌, [], vec_len, IfOk};
 ghost use Rattle.size_class.specs.Classes.{zero_row};
 ghost use Rattle.size_class.specs.Rows.{cells_of};
 ghost use Rattle.segment_layout.specs.Layouts.{caps_of, grid_of};
+ghost use Rattle.extent_table.specs.Extents.{digests_seen};
 ghost use Rattle.store_model.specs.Connection.{opened_store};
 ghost use Rattle.store_model.specs.Resuming.{MakesStore};
 
@@ -66,6 +67,7 @@ pub(crate) fn store_with<const C: usize>(
 ) -> Store<C>
     requires { MakesStore hands.value }
     ensures { result ≡ opened_store C hands.entry.value.slots hands.entry.value.table.now
+        (digests_seen hands.entry.value.version hands.entry.value.table.digests)
         (caps_of hands.entry.value.layout) (grid_of hands.entry.value.layout) }
 {
     let mut hands = hands;

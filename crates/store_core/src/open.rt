@@ -8,9 +8,8 @@ ghost use Rattle.slot_codec.specs.declared.codec.Kind.TheVariants as kind;
 ghost use Rattle.flush_run.specs.Parts.{parts_of};
 ghost use Rattle.flush_run.specs.Shelved.{items_now, phase_now};
 ghost use Rattle.flush_plan.specs.Packs.{KeepsPacking};
-ghost use Rattle.reopen.specs.Loads.{KeepsLoaded, unboxed};
+ghost use Rattle.reopen.specs.Loads.{IsLoadedFrom, KeepsLoaded, unboxed};
 ghost use Rattle.store_model.specs.Opened.{IsCut, IsOpening};
-ghost use Rattle.store_model.specs.Plain.{IsPlainFrom};
 ghost use Rattle.store_model.specs.Resuming.{PacksAgain, StartsAgain};
 
 use crate::Store;
@@ -62,7 +61,8 @@ fn open_still<D: Disk, const C: usize>(
     requires wide { SIZE_MAX < 2 ^ C }
     requires loads { KeepsLoaded (unboxed found) }
     requires still { found.header.value.kind ≡ kind.Settled }
-    requires from { IsTrue (D.state disk.old).tells → IsPlainFrom (D.state disk.old).file (unboxed found) }
+    requires plain { (found.header.value.version == 2) ≡ false }
+    requires from { IsTrue (D.state disk.old).tells → IsLoadedFrom (D.state disk.old).file (unboxed found) }
     ensures { IsOpening C (D.state disk.old) (D.state disk.new) result }
 {
     let BoxedLoaded {
@@ -72,9 +72,10 @@ fn open_still<D: Disk, const C: usize>(
         table,
         layout,
     } = found;
-    drop(header);
     let end = layout.end();
-    let Ok(store) = store_in(alloc, block, slots, table, layout) else {
+    let version = header.version;
+    drop(header);
+    let Ok(store) = store_in(alloc, block, slots, table, layout, version) else {
         return Err(OpenFault::NoMemory);
     };
     match cut_to(disk, head_len(block.names) + end) {
@@ -112,7 +113,7 @@ fn open_moving<D: Disk, const C: usize>(
     requires loads { KeepsLoaded (unboxed found) }
     requires moving { found.header.value.kind ≡ kind.Moving }
     requires plain { (found.header.value.version == 2) ≡ false }
-    requires from { IsTrue (D.state disk.old).tells → IsPlainFrom (D.state disk.old).file (unboxed found) }
+    requires from { IsTrue (D.state disk.old).tells → IsLoadedFrom (D.state disk.old).file (unboxed found) }
     ensures { IsOpening C (D.state disk.old) (D.state disk.new) result }
 {
     let Ok(memory) = take_memory(alloc, found.block.names) else {
@@ -134,7 +135,7 @@ fn go_on<D: Disk, const C: usize>(
     requires loads { KeepsLoaded (unboxed found) }
     requires moving { found.header.value.kind ≡ kind.Moving }
     requires plain { (found.header.value.version == 2) ≡ false }
-    requires from { IsTrue (D.state disk.old).tells → IsPlainFrom (D.state disk.old).file (unboxed found) }
+    requires from { IsTrue (D.state disk.old).tells → IsLoadedFrom (D.state disk.old).file (unboxed found) }
     requires none { memory.guard.spans ≡ [] }
     requires guard_room { memory.guard.room ≡ found.block.names }
     requires buffer { vec_len memory.buf ≡ 65536 }
@@ -190,6 +191,7 @@ fn hands_of<const C: usize>(
         table,
         layout,
     } = found;
+    let version = header.version;
     drop(header);
     let hands = Hands {
         table,
@@ -199,7 +201,7 @@ fn hands_of<const C: usize>(
         ledger: no_bytes(),
         buf,
         base: head_len(block.names),
-        version: 1,
+        version,
     };
     let hands = boxed(alloc, hands)?;
     Ok((hands, layout))

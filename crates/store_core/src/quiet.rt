@@ -5,11 +5,11 @@ ghost use Rattle.byte_ranges.specs.Ranges.{overwritten};
 ghost use Rattle.disk_face.specs.Frames.{Calls};
 ghost use Rattle.disk_face.specs.Writes.{WritesWithin};
 ghost use Rattle.slot_codec.specs.Names.{IsName};
-ghost use Rattle.segment_layout.specs.Books.{some_size};
+ghost use Rattle.segment_layout.specs.Books.{digests_after, some_size};
 ghost use Rattle.segment_layout.specs.Layouts.{caps_of, divisor_of, grid_of};
 ghost use Rattle.map_model.specs.Requests as ask;
-ghost use Rattle.placement_model.specs.LaidOut.{shown_book};
 ghost use Rattle.placement_model.specs.Quiet.{QuietTo, gone_items};
+ghost use Rattle.store_model.specs.Digested.{digested_book, digests_with};
 ghost use Rattle.store_model.specs.Quiet.{IsCharged, added, del_of, put_of, sizes_at, writes_of};
 ghost use Rattle.store_core.specs.Plans.{IsDelPlan, IsPutPlan};
 
@@ -75,7 +75,8 @@ impl<const C: usize> Store<C> {
     {
         match write_new(disk, self.hands.base, plan.spot.place, bytes) {
             Ok(()) => {
-                self.enter(name, plan.layout, plan.spot);
+                let digest = self.own_digest(bytes);
+                self.enter(name, plan.layout, plan.spot, digest);
                 Ok(Done { kept: false })
             }
             Err(DiskFault) => {
@@ -85,8 +86,8 @@ impl<const C: usize> Store<C> {
         }
     }
 
-    /// Sets where the object of a name stands, once it is charged and written.
-    fn enter(&mut self, name: &Name, layout: Layout<C>, spot: Spot)
+    /// Sets where the object of a name stands, and its digest, once it is charged and written.
+    fn enter(&mut self, name: &Name, layout: Layout<C>, spot: Spot, digest: [u8; 32])
         requires whole { self.old.is_broken ≡ false }
         requires named { IsName name.now }
         requires room { IsSome (fin.get self.old.now name.now)
@@ -98,8 +99,9 @@ impl<const C: usize> Store<C> {
             (fin.get self.old.now name.now) spot.size (grid_of layout) spot.place }
         ensures { self.new ≡ record self.old {
           now = fin.insert self.old.now name.now spot;
-          book = shown_book C SIZE_MAX self.old.in_use.block.k self.old.book.caps (grid_of layout.entry)
-              (fin.insert self.old.now name.now spot);
+          book = digested_book C self.old.in_use.block.k self.old.book.caps (grid_of layout.entry)
+              (fin.insert self.old.now name.now spot)
+              (digests_with name.now digest self.old.book.digests);
           asked = fold added self.old.asked
               (sizes_at (fin.get self.old.now name.now) ++ some_size spot.size);
         } }
@@ -109,7 +111,7 @@ impl<const C: usize> Store<C> {
         free_spot(&mut hands.guard, now, hands.table.old(name));
         add_gone(&mut hands.ledger, now);
         add_size(&mut hands.ledger, spot.size);
-        hands.table.set(name, spot, [0; 32]);
+        hands.table.set(name, spot, digest);
         hands.layout = layout;
     }
 
@@ -123,8 +125,9 @@ impl<const C: usize> Store<C> {
             (grid_of layout) }
         ensures { self.new ≡ record self.old {
           now = fin.remove self.old.now name.now;
-          book = shown_book C SIZE_MAX self.old.in_use.block.k self.old.book.caps (grid_of layout.entry)
-              (fin.remove self.old.now name.now);
+          book = digested_book C self.old.in_use.block.k self.old.book.caps (grid_of layout.entry)
+              (fin.remove self.old.now name.now)
+              (digests_after (del_of name.now) self.old.book.digests);
           asked = fold added self.old.asked (sizes_at (fin.get self.old.now name.now));
         } }
     {

@@ -7,6 +7,7 @@ use Rattle.map_model.specs.Maps.{Map}
 use Rattle.map_model.specs.Requests.{Change}
 use Rattle.segment_layout.specs.Balance.{IsBalanced}
 use Rattle.segment_layout.specs.Books.{Book, charge_all, charge_change, new_item, old_item}
+use Rattle.placement_model.specs.LaidOut.{shown_book}
 use Rattle.placement_model.specs.Quiet.{gone_items}
 use Rattle.placement_model.specs.Reads.{EndWithin, read_at}
 use Rattle.placement_model.proofs.NextQuietLaws.{old_item-is}
@@ -20,6 +21,7 @@ use Rattle.store_model.specs.Connection.{IsOver, StoreValue, base_of, kept_map}
 use Rattle.store_core.specs.Keeps.{now_map}
 use Rattle.store_model.specs.Quiet.{charges_of}
 use Rattle.store_model.specs.Stores.{IsStore}
+use Rattle.store_model.proofs.DigestLaws.{balanced_with}
 use Rattle.store_model.proofs.StoreLaws.{kept_lies, now_lies}
 
 module _ {C : ℕ} (s : StoreValue) (h : IsStore C s) where
@@ -48,7 +50,8 @@ module _ {C : ℕ} (s : StoreValue) (h : IsStore C s) where
       low = h.block.divisor_low;
       high = h.block.divisor_high;
       balanced = subst (λ (b : Book). IsBalanced k m b) (sym h.now_book)
-          (shown_balanced C SIZE_MAX k s.book.caps s.book.grid s.now h.now base file within);
+          (balanced_with k m (shown_book C SIZE_MAX k s.book.caps s.book.grid s.now) s.book.digests
+          (shown_balanced C SIZE_MAX k s.book.caps s.book.grid s.now h.now base file within));
       within = λ j c past. h.now.grid_full.zero_above j c past;
     }
 
@@ -68,7 +71,9 @@ module _ {C : ℕ} (s : StoreValue) (h : IsStore C s) where
     low = h.block.divisor_low;
     high = h.block.divisor_high;
     balanced = subst (λ (b : Book). IsBalanced k (read_at base file s.kept) b) (sym h.kept_book)
-        (shown_balanced C SIZE_MAX k s.book.caps s.kept_book.grid s.kept h.kept base file within);
+        (balanced_with k (read_at base file s.kept)
+        (shown_book C SIZE_MAX k s.book.caps s.kept_book.grid s.kept) s.kept_book.digests
+        (shown_balanced C SIZE_MAX k s.book.caps s.kept_book.grid s.kept h.kept base file within));
     within = λ j c past. h.kept.grid_full.zero_above j c past;
   }
 

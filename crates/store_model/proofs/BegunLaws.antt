@@ -6,6 +6,7 @@ use Rattle.std.proofs.lemmas.List.Sums.{fold-append}
 use Rattle.std.specs.FinMap as fin
 use Rattle.size_class.specs.Classes.{class_of}
 use Rattle.size_class.specs.declared.TheConstants.{SIZE_MAX}
+use Rattle.slot_codec.specs.Choice.{Digests}
 use Rattle.slot_codec.specs.Names.{IsName}
 use Rattle.map_model.proofs.MapLaws.{get-remove_here, insert-remove, name_order}
 use Rattle.segment_layout.specs.Books.{is_quiet, some_size}
@@ -18,15 +19,16 @@ use Rattle.flush_model.specs.Plans.{numbers_of}
 use Rattle.flush_run.specs.Hands.{suffix_items}
 use Rattle.flush_run.specs.Shelved.{phase_now}
 use Rattle.flush_plan.specs.Shelves.{course_of}
-use Rattle.flush_run.specs.Parts.{HandsValue}
+use Rattle.flush_run.specs.Parts.{HandsValue, saved_digests}
 use Rattle.placement_model.specs.Tried.{between, new_charged}
 use Rattle.change_charges.specs.Charging.{PlacesNew}
 use Rattle.change_charges.specs.Starts.{IsLoud, IsWith, IsWithout}
 use Rattle.change_charges.proofs.EndLaws.{end_small, most_end}
+use Rattle.store_model.specs.Digested.{IsDigestFor}
 use Rattle.store_model.specs.Flushing.{CanStartAt, IsBegun, NeedsFlushAt, IsStarted, MayBegin, StartsPlaced, StartsWaiting, TakesOut}
 use Rattle.store_model.specs.Quiet.{added, del_of, put_of, sizes_at}
 use Rattle.store_model.proofs.ChargedLaws.{ChargesTo, can_start_at, started_at, is_loud, places_here}
-use Rattle.store_model.proofs.StartingLaws.{del_starts, begun_removed, put_starts, begun_placed, placed_low, wait_starts, wait_some, wait_high, begun_waiting}
+use Rattle.store_model.proofs.StartingLaws.{HasDigest, del_starts, begun_removed, put_starts, begun_placed, placed_low, wait_starts, wait_some, wait_high, begun_waiting}
 
 module _ {classes : ℕ} {kept_grid : List (List ℕ)} {x0 : HandsValue} (may : MayBegin classes kept_grid x0)
     (name : List ℕ) where
@@ -40,7 +42,7 @@ module _ {classes : ℕ} {kept_grid : List (List ℕ)} {x0 : HandsValue} (may : 
 
   -- once the name is gone there is room for it
   pub room_for : (gone : Extents) → IsWithout name x0.table gone
-      → IsSome (fin.get x0.table.now name) ⊎ (fin.len x0.table.now < x0.table.names)
+      → IsSome (fin.get x0.table.now name) ⊎ (fin.len x0.table.now < x0.table.cap)
       → fin.len gone.now < gone.cap
   room_for gone without room =
       let m = x0.table.now in
@@ -51,9 +53,9 @@ module _ {classes : ℕ} {kept_grid : List (List ℕ)} {x0 : HandsValue} (may : 
       (ap is_some (get-remove_here m name)) in
       let two : fin.len (fin.insert r name s) ≡ cond (fin.contains_key m name) (fin.len m) (fin.len m + 1) =
       ap (λ (x : Spots). fin.len x) (insert-remove m name s) ∙ fin.len-insert name_order m name s in
-      let few = may.before.table.now_room in
+      let few = may.few in
       let len = ap (λ (x : Spots). fin.len x) without.now in
-      let all_live : gone.cap ≡ x0.table.names = without.cap ∙ may.cap in
+      let all_live : gone.cap ≡ x0.table.cap = without.cap in
       elim room as (λ _. fin.len gone.now < gone.cap) [
         | inl there ↦ omega (
           arith,
@@ -128,7 +130,7 @@ module _ {classes : ℕ} {kept_grid : List (List ℕ)} {x0 : HandsValue} (may : 
           (sym ((λ i. record x1 { divisor = ch.divisor i; caps = ch.caps_are i; grid = after })
           ∙ ap (λ (y : HandsValue). record y { grid = after }) out.rest))
           (begun_removed may name x1.table x1.spans x1.asked out.without out.frees after b del_loud p
-          (started_at del_k del_caps st) out.asked)
+          (started_at del_k del_caps st) out.asked out.digests)
 
     -- ---- a put
 
@@ -158,6 +160,15 @@ module _ {classes : ℕ} {kept_grid : List (List ℕ)} {x0 : HandsValue} (may : 
       put_sums : asked ≡ fold added x0.asked (sizes_at old ++ some_size object_len)
       put_sums = asked_is ∙ ap (λ (a : List ℕ). fold added a (some_size object_len)) out.asked
           ∙ sym (fold-append added x0.asked (sizes_at old) (some_size object_len))
+
+      digest_is : (put : Extents) (digest : List ℕ) → put.digests ≡ fin.insert x1.table.digests name digest
+          → IsDigestFor (saved_digests x0) object digest → HasDigest x0 name object put
+      digest_is put digest same own = record {
+        digest = digest;
+        same = same ∙ ap (λ (d : Digests). fin.insert d name digest) out.digests
+            ∙ insert-remove x0.table.digests name digest;
+        own = own;
+      }
 
       abbrev charged_parts : HandsValue
       charged_parts = record x1 { divisor = k2; caps = caps2; grid = after; moved = moved; asked = asked }
@@ -198,13 +209,17 @@ module _ {classes : ℕ} {kept_grid : List (List ℕ)} {x0 : HandsValue} (may : 
         )
 
         pub placed_begun : (x : HandsValue) (p : PlanState) (at2 : ℕ) → at2 ≡ at
-            → StartsPlaced b name (record { place = at; size = object_len }) charged_parts x p
+            → {digest : List ℕ}
+            → StartsPlaced b name digest (record { place = at; size = object_len }) charged_parts x p
+            → IsDigestFor (saved_digests x0) object digest → fin.len x1.table.now < x1.table.cap
             → IsBegun classes x0 (put_of name object) x p at2
-        placed_begun x p at2 same st = subst (λ (n : ℕ). IsBegun classes x0 (put_of name object) x p n)
+        placed_begun x p at2 same {digest} st own room =
+            subst (λ (n : ℕ). IsBegun classes x0 (put_of name object) x p n)
             (sym same) (subst (λ (y : HandsValue). IsBegun classes x0 (put_of name object) y p at)
             (sym (st.rest ∙ ap (λ (y : HandsValue). record y { table = x.table }) charged_is))
             (begun_placed may name x1.table x1.spans asked out.without out.frees after b is object small
-            put_loud at put_placed st.key x.table st.joins p (started_at put_k put_caps st.started) put_sums))
+            put_loud at put_placed st.key x.table st.joins p (started_at put_k put_caps st.started) put_sums
+            (digest_is x.table digest st.digests own) room))
 
       -- whose object waits
       module _ (found : place ≡ None) where
@@ -230,12 +245,14 @@ module _ {classes : ℕ} {kept_grid : List (List ℕ)} {x0 : HandsValue} (may : 
         waiting_new = ap (λ (m : Spots). fin.get m name) out.without.now ∙ get-remove_here x0.table.now name
 
         pub waiting_begun : (x : HandsValue) (p : PlanState) (at : ℕ)
-            → StartsWaiting b name object_len at charged_parts x p
+            → {digest : List ℕ} → StartsWaiting b name digest object_len at charged_parts x p
+            → IsDigestFor (saved_digests x0) object digest → fin.len x1.table.now < x1.table.cap
             → IsBegun classes x0 (put_of name object) x p at
-        waiting_begun x p at st = subst (λ (y : HandsValue). IsBegun classes x0 (put_of name object) y p at)
+        waiting_begun x p at {digest} st own room =
+            subst (λ (y : HandsValue). IsBegun classes x0 (put_of name object) y p at)
             (sym (st.rest ∙ ap (λ (y : HandsValue). record y { table = x.table }) charged_is))
             (begun_waiting may name x1.table x1.spans asked out.without out.frees after b is object small
             put_loud put_missed at st.key x.table st.joins p
             (st.value ∙ (λ i. phase_now (course_of (put_k i) (put_caps i)
             (numbers_of (put_k i) (put_caps i) b (suffix_items b x1.table) object_len) object_len) x.table))
-            st.ends put_sums)
+            st.ends put_sums (digest_is x.table digest st.digests own) room)

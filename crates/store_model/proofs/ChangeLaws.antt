@@ -1,17 +1,19 @@
 -- What a store keeps through a quiet put and a removal.
-use Rattle.std.specs.Prelude.{◌≡◌, ℕ, ◌+◌, ◌≤◌, List, Some, refl}
+use Rattle.std.specs.Prelude.{◌≡◌, ℕ, ◌+◌, ◌≤◌, List, Option, Some, refl}
 use Rattle.std.proofs.Common.{arith, inl, inr}
 use Rattle.std.proofs.lemmas.Bool.{cases_lt}
 use Rattle.std.specs.FinMap as fin
 use Rattle.size_class.specs.declared.TheConstants.{SIZE_MAX}
 use Rattle.slot_codec.specs.Names.{IsName}
+use Rattle.slot_codec.specs.Spelling.{cap}
+use Rattle.slot_codec.proofs.CapLaws.{cap-low}
 use Rattle.span_math.specs.declared.span.Span.{Span}
-use Rattle.segment_layout.specs.Books.{some_size}
+use Rattle.map_model.specs.Maps.{Map}
+use Rattle.segment_layout.specs.Books.{some_size, version_of, with_digests}
 use Rattle.segment_layout.specs.Shapes.{end_of}
 use Rattle.extent_table.specs.declared.spot.Spot.{Spot}
 use Rattle.extent_table.specs.Extents.{Spots}
 use Rattle.placement_model.specs.Held.{FreesSpot, IsFreed}
-use Rattle.placement_model.specs.LaidOut.{shown_book}
 use Rattle.placement_model.specs.Quiet.{QuietTo, gone_items}
 use Rattle.placement_model.specs.Reads.{AllLieApart}
 use Rattle.placement_model.specs.Rises.{CellsRise}
@@ -22,14 +24,15 @@ use Rattle.placement_model.proofs.QuietLaws.{quiet_rises}
 use Rattle.placement_model.proofs.RiseLaws.{CellsRise-then}
 use Rattle.held_guard.specs.Freed.{Freed}
 use Rattle.store_model.specs.Connection.{StoreValue}
+use Rattle.store_model.specs.Digested.{digested_book}
 use Rattle.store_model.specs.Quiet.{CanFree, IsCharged}
 use Rattle.store_model.specs.Stores.{AreInRange, IsStore}
 
--- a store with other objects: its book is what the layout shows of them
-abbrev pub with_now : ℕ → StoreValue → Spots → List (List ℕ) → List ℕ → StoreValue
-with_now classes s now grid asked = record s {
+-- a store with other objects and digests: its book is what the layout shows of them
+abbrev pub with_now : ℕ → StoreValue → Spots → Option Map → List (List ℕ) → List ℕ → StoreValue
+with_now classes s now digests grid asked = record s {
   now = now;
-  book = shown_book classes SIZE_MAX s.in_use.block.k s.book.caps grid now;
+  book = digested_book classes s.in_use.block.k s.book.caps grid now digests;
   asked = asked;
 }
 
@@ -45,10 +48,12 @@ module _ {classes : ℕ} (s : StoreValue) (h : IsStore classes s) (name : List �
   module _ (after : List (List ℕ))
       (gone : QuietTo k caps s.book.grid (gone_items k caps (fin.get s.now name)) after)
     where
-      pub store_gone : (asked : List ℕ) → fin.len (fin.remove s.now name) ≤ s.in_use.block.names
+      pub store_gone : (digests : Option Map) (asked : List ℕ)
+          → fin.len (fin.remove s.now name) ≤ cap s.in_use.block.names (version_of
+          (with_digests digests s.book))
           → AreInRange (fin.remove s.now name)
-          → IsStore classes (with_now classes s (fin.remove s.now name) after asked)
-      store_gone asked few ranges = record {
+          → IsStore classes (with_now classes s (fin.remove s.now name) digests after asked)
+      store_gone digests asked few ranges = record {
         block = h.block;
         now = laid_gone classes SIZE_MAX k caps s.book.grid s.now h.now name after gone;
         now_book = refl;
@@ -105,11 +110,12 @@ module _ {classes : ℕ} (s : StoreValue) (h : IsStore classes s) (name : List �
           omega (arith, empty, charged.placed.empty empty)
     ]
 
-    pub store_put : IsName name → size ≤ SIZE_MAX → (asked : List ℕ)
-        → fin.len (fin.insert s.now name spot) ≤ s.in_use.block.names
+    pub store_put : IsName name → size ≤ SIZE_MAX → (digests : Option Map) (asked : List ℕ)
+        → fin.len (fin.insert s.now name spot) ≤ cap s.in_use.block.names (version_of
+        (with_digests digests s.book))
         → AreInRange (fin.insert s.now name spot)
-        → IsStore classes (with_now classes s (fin.insert s.now name spot) after asked)
-    store_put is small asked few ranges = record {
+        → IsStore classes (with_now classes s (fin.insert s.now name spot) digests after asked)
+    store_put is small digests asked few ranges = record {
       block = h.block;
       now = laid_put classes SIZE_MAX k caps s.book.grid s.now h.now name is size charged.mid after place
           small charged.gone charged.placed;
@@ -139,7 +145,7 @@ module _ {classes : ℕ} (s : StoreValue) (h : IsStore classes s) (name : List �
   can_free guard room freed x stands held = record {
     fits = (let ranges = h.now_in_range name x stands in omega arith);
     room = span_room guard.spans s.now s.kept freed name x stands held guard.room
-        (omega (arith, h.kept_few, room));
+        (omega (arith, h.kept_few, cap-low s.in_use.block.names (version_of s.kept_book), room));
     apart = span_apart guard.spans s.now s.kept freed name x stands held classes SIZE_MAX k caps
         s.kept_book.grid h.kept;
   }

@@ -2,6 +2,8 @@
 use Rattle.std.specs.Prelude.{ℕ, ◌^◌, ◌<◌}
 use Rattle.std.proofs.Common.{arith}
 use Rattle.size_class.specs.declared.TheConstants.{SIZE_MAX}
+use Rattle.slot_codec.proofs.CapLaws.{cap-low}
+use Rattle.segment_layout.specs.Books.{version_of}
 use Rattle.segment_layout.specs.Shapes.{end_of}
 use Rattle.change_charges.proofs.EndLaws.{end_small}
 use Rattle.store_model.specs.Connection.{StoreValue}
@@ -12,5 +14,6 @@ pub end_low : {classes : ℕ} (s : StoreValue) → IsStore classes s
 end_low {classes} s h = omega (
   arith,
   end_small classes SIZE_MAX s.in_use.block.k s.book.caps s.book.grid s.now h.now s.in_use.block.names
-      h.block.divisor_low h.block.names_high (omega arith) h.now_few,
+      h.block.divisor_low h.block.names_high (omega arith)
+      (omega (arith, h.now_few, cap-low s.in_use.block.names (version_of s.book))),
 )

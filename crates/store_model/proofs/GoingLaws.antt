@@ -10,14 +10,14 @@ use Rattle.disk_face.specs.Moments.{Leaves}
 use Rattle.disk_face.proofs.MomentLaws.{Leaves-weaken}
 use Rattle.size_class.specs.declared.TheConstants.{SIZE_MAX}
 use Rattle.slot_codec.specs.Choice as choice
-use Rattle.slot_codec.specs.Spelling.{head_len}
+use Rattle.slot_codec.specs.Spelling.{cap, head_len}
 use Rattle.slot_codec.specs.Reading.{worn_from}
 use Rattle.slot_codec.specs.declared.codec.Kind.TheVariants as kind
 use Rattle.slot_codec.specs.declared.codec.SuperBlock.{SuperBlock}
 use Rattle.map_model.specs.Maps.{Map}
-use Rattle.segment_layout.specs.Books.{Book}
+use Rattle.segment_layout.specs.Books.{Book, with_digests}
 use Rattle.segment_layout.specs.Layouts.{caps_of, divisor_of, grid_of}
-use Rattle.table_rules.specs.Opening.{Opens, placed_table}
+use Rattle.table_rules.specs.Opening.{Opens}
 use Rattle.table_rules.specs.Rules.{IsValid}
 use Rattle.table_rules.specs.Sequences.{HasSequenceUpTo}
 use Rattle.table_rules.proofs.SequenceLaws.{sequence_wider}
@@ -28,12 +28,10 @@ use Rattle.placement_model.specs.Reads.{read_at}
 use Rattle.placement_model.proofs.OpenedLaws.{opens_long}
 use Rattle.flush_model.specs.Phases.{PlanState, phase_of}
 use Rattle.flush_run.specs.FlushFrames.{IsMidFlush, FlushFrame, IsOldOrNew, LeavesOldOrNew}
-use Rattle.flush_run.specs.Parts.{HandsValue}
+use Rattle.flush_run.specs.Parts.{FitsVersion, HandsValue}
 use Rattle.flush_run.specs.Runs.{CanResume}
-use Rattle.flush_run.proofs.VersionLaws.{fits_plain}
 use Rattle.reopen.specs.declared.state.Loaded.{Loaded}
-use Rattle.reopen.specs.Loads.{KeepsLoaded}
-use Rattle.store_model.specs.Plain.{IsPlainFrom, plain_seen}
+use Rattle.reopen.specs.Loads.{IsLoadedFrom, KeepsLoaded, book_loaded, digests_loaded, table_loaded}
 use Rattle.store_model.specs.Opened.{IsFoundImage, LeavesRoom, RestsOnFound, RoomOf, most_by}
 use Rattle.store_model.specs.Resuming.{PacksAgain, StartsAgain}
 use Rattle.store_model.proofs.MovingLaws.{again, book_saved, hands_again, numbers, same_divisor, whole}
@@ -61,7 +59,7 @@ module _ {C : ℕ} (x : Loaded C) (loads : KeepsLoaded x) (moving : x.header.kin
     grid = grid_of x.layout;
     spans = [];
     base = base;
-    version = 1;
+    version = x.header.version;
   }
 
   there_is : there ≡ y
@@ -80,6 +78,14 @@ module _ {C : ℕ} (x : Loaded C) (loads : KeepsLoaded x) (moving : x.header.kin
   phase = phase_of (divisor_of x.layout) (caps_of x.layout)
       (numbers x loads moving few wide (divisor_of x.layout)) 0 p.items
 
+  -- no more names are live than a table of its version has records
+  fits : FitsVersion there
+  fits = record {
+    known = loads.version;
+    few = subst (λ m. fin.len now ≤ m)
+        (loads.cap ∙ (λ i. cap ((sym loads.same_block) i).names x.header.version)) loads.few;
+  }
+
   fresh_sequence : x.slots.sequence < 2 ^ 62 - 2 ^ 18
   fresh_sequence =
       let low : x.header.sequence < worn_from kind.Moving =
@@ -89,10 +95,11 @@ module _ {C : ℕ} (x : Loaded C) (loads : KeepsLoaded x) (moving : x.header.kin
   -- It may go on in a flight from a map and a book to the same, where the disk has them.
   module _ (n : ℕ) (v : IsValid (laid C SIZE_MAX x.block.k n x.header now)) (fresh rests : Bool) (m : Map)
       (d : disk.State) (flies : IsTrue d.tells → IsMidFlush (again x loads moving few wide n v fresh rests m
-      (book_of (laid C SIZE_MAX x.block.k n x.header now))) x.slots x.table d)
+      (with_digests (digests_loaded x) (book_of (laid C SIZE_MAX x.block.k n x.header now)))) x.slots x.table
+      d)
       (leaves : IsTrue fresh → x.header.sequence + 2 ^ 19 ≤ 2 ^ 62) where
     abbrev book : Book
-    book = book_of (laid C SIZE_MAX x.block.k n x.header now)
+    book = with_digests (digests_loaded x) (book_of (laid C SIZE_MAX x.block.k n x.header now))
 
     abbrev f : FlushFrame
     f = again x loads moving few wide n v fresh rests m book
@@ -103,10 +110,8 @@ module _ {C : ℕ} (x : Loaded C) (loads : KeepsLoaded x) (moving : x.header.kin
         hands = hands_again x loads moving few wide n v fresh rests m book (divisor_of x.layout)
             (same_divisor x loads moving few wide) p.items
             (IsPermutation-sym _ p.items packs.items);
-        version = fits_plain refl (hands_again x loads moving few wide n v fresh rests m book
-            (divisor_of x.layout) (same_divisor x loads moving few wide) p.items
-            (IsPermutation-sym _ p.items packs.items));
-        book = book_saved x loads moving few wide n v;
+        version = fits;
+        book = ap (λ (b : Book). with_digests (digests_loaded x) b) (book_saved x loads moving few wide n v);
         same_base = refl;
         divisor = refl;
         same_classes = refl;
@@ -127,9 +132,9 @@ module _ {C : ℕ} (x : Loaded C) (loads : KeepsLoaded x) (moving : x.header.kin
 
   -- ---- the disk that it was read from
 
-  module _ (first : disk.State) (from : IsPlainFrom first.file x) where
+  module _ (first : disk.State) (from : IsLoadedFrom first.file x) where
     abbrev t : choice.SlotTable
-    t = plain_seen x
+    t = table_loaded x
 
     abbrev n : ℕ
     n = length first.file - head_len x.block.names
@@ -138,7 +143,7 @@ module _ {C : ℕ} (x : Loaded C) (loads : KeepsLoaded x) (moving : x.header.kin
     m = read_at (head_len x.block.names) first.file now
 
     abbrev b : Book
-    b = book_of (placed_table C SIZE_MAX first.file t)
+    b = book_loaded first.file x
 
     pub begins_within : head_len x.block.names ≤ length first.file
     begins_within = opens_long C SIZE_MAX t first.file m b from.opens
@@ -196,7 +201,7 @@ module _ {C : ℕ} (x : Loaded C) (loads : KeepsLoaded x) (moving : x.header.kin
       }
 
   -- where the disk tells nothing, it may go on too
-  pub some_again : (first : disk.State) → (IsTrue first.tells → IsPlainFrom first.file x)
+  pub some_again : (first : disk.State) → (IsTrue first.tells → IsLoadedFrom first.file x)
       → (f : FlushFrame) × CanResume C f y p first
   some_again first from = elim (cases_Bool first.tells) as (λ _. (f : FlushFrame) × CanResume C f y p first) [
     | inl told ↦ (
@@ -216,21 +221,22 @@ module _ {C : ℕ} (x : Loaded C) (loads : KeepsLoaded x) (moving : x.header.kin
 
   module _ (first last : disk.State) (most : ℕ) (few_most : most ≤ x.header.sequence + (2 ^ 18 - 1))
       (left : (f : FlushFrame) → CanResume C f y p first → IsTrue first.tells
-      → LeavesOldOrNew f most first last) (told : IsTrue first.tells) (from : IsPlainFrom first.file x) where
-    room_is : LeavesRoom (plain_seen x) → x.header.sequence + 2 ^ 19 ≤ 2 ^ 62
+      → LeavesOldOrNew f most first last) (told : IsTrue first.tells) (from : IsLoadedFrom first.file x) where
+    room_is : LeavesRoom (table_loaded x) → x.header.sequence + 2 ^ 19 ≤ 2 ^ 62
     room_is leaves = subst (λ z. RoomOf z x.header.sequence) moving leaves
 
-    pub content_again : LeavesRoom (plain_seen x)
-        → IsFoundImage C (plain_seen x) (m first from) (b first from) (length first.file) last.file
+    pub content_again : LeavesRoom (table_loaded x)
+        → IsFoundImage C (table_loaded x) (m first from) (b first from) (length first.file) last.file
     content_again leaves =
-        let given : IsTrue false → RestsOnFound (plain_seen x) first =
+        let given : IsTrue false → RestsOnFound (table_loaded x) first =
         λ e. absurd (let z : false ≡ true = e in cc) in
         found_again first from true false given (λ _. room_is leaves) most few_most last.file
         (left _ (can_told first from true false given (λ _. room_is leaves)) told refl).1
 
-    pub left_again : LeavesRoom (plain_seen x) → RestsOnFound (plain_seen x) first
-        → Leaves first last (IsFoundImage C (plain_seen x) (m first from) (b first from) (length first.file))
-    left_again leaves rests = Leaves-weaken (IsFoundImage C (plain_seen x) (m first from) (b first from)
+    pub left_again : LeavesRoom (table_loaded x) → RestsOnFound (table_loaded x) first
+        → Leaves first last (IsFoundImage C (table_loaded x) (m first from) (b first from)
+        (length first.file))
+    left_again leaves rests = Leaves-weaken (IsFoundImage C (table_loaded x) (m first from) (b first from)
         (length first.file))
         (found_again first from true true (λ _. rests) (λ _. room_is leaves) most few_most)
         ((left _ (can_told first from true true (λ _. rests) (λ _. room_is leaves)) told refl).0 refl)

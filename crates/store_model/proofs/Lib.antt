@@ -1,6 +1,7 @@
 pub mod StateLaws
 pub mod PlainLemmas
 pub mod VersionLaws
+pub mod DigestLaws
 pub mod StoreLaws
 pub mod LineLaws
 pub mod ChargeLaws

@@ -9,9 +9,14 @@ use Rattle.disk_face.specs.Moments.{Leaves}
 use Rattle.disk_face.specs.Writes.{KeepsDisk, WritesWithin}
 use Rattle.disk_face.proofs.FrameLaws.{Stays-trans}
 use Rattle.slot_codec.specs.Choice as choice
+use Rattle.slot_codec.specs.Reading.{is_version}
+use Rattle.slot_codec.specs.Spelling.{cap}
 use Rattle.map_model.specs.Maps.{Map}
 use Rattle.map_model.specs.Requests.{Change, changed}
+use Rattle.segment_layout.specs.Books.{with_digests}
 use Rattle.segment_layout.specs.Shapes.{end_of}
+use Rattle.table_rules.specs.Tables.{book_of}
+use Rattle.placement_model.specs.Laid.{laid}
 use Rattle.table_rules.proofs.SequenceLaws.{sequence_of_table}
 use Rattle.extent_table.specs.declared.spot.Spot.{Spot}
 use Rattle.extent_table.specs.Extents.{Spots}
@@ -22,16 +27,17 @@ use Rattle.flush_model.specs.declared.item.Item.{Item}
 use Rattle.flush_model.specs.Phases.{PlanState}
 use Rattle.flush_run.specs.Calls.{piece_calls}
 use Rattle.flush_run.specs.FlushFrames.{IsMidFlush, FlushFrame, ContentHolds, IsFreeSpace, IsOldOrNew, LeavesOldOrNew, OpensEither}
-use Rattle.flush_run.specs.Parts.{HandsValue}
+use Rattle.flush_run.specs.Loops.{phase_header}
+use Rattle.flush_run.specs.Parts.{FitsVersion, HandsValue}
 use Rattle.flush_run.specs.Runs.{CanRun, HasRun}
 use Rattle.flush_run.proofs.CallLaws.{calls_none, calls_then, calls_wider}
 use Rattle.flush_run.proofs.FlightLaws.{checkpoint_sequence, content_written, left_written, opens_written}
 use Rattle.flush_run.proofs.LeftLaws.{left_then}
-use Rattle.flush_run.proofs.VersionLaws.{book_plain, fits_plain}
 use Rattle.flush_run.proofs.MoveLaws.{content_grown, left_grown, moved_within, opens_grown}
 use Rattle.change_charges.specs.Lifting.{BeginsLift}
 use Rattle.change_charges.specs.Sized.{object_size}
-use Rattle.store_model.specs.Flushing.{CanMakeFlush, HasMadeFlush, IsAtStart, BeforeChange, bytes_of, flight_of, spots_after, lift_start}
+use Rattle.store_model.specs.Flushing.{CanMakeFlush, HasMadeFlush, IsAtStart, BeforeChange, book_before, bytes_of, flight_of, spots_after, lift_start}
+use Rattle.store_model.proofs.DigestLaws.{next_digests}
 
 -- the size of a new object is the number of its bytes
 size_of_bytes : (c : Change) → object_size c.object ≡ length (bytes_of c)
@@ -85,8 +91,17 @@ module _ {classes : ℕ} {x0 : HandsValue} {c : Change} {g : BeforeChange} {x : 
   same_in_use : x.in_use ≡ x0.in_use
   same_in_use = ap (λ (y : HandsValue). y.in_use) can.begun.rest
 
-  same_version : x.version ≡ 1
-  same_version = ap (λ (y : HandsValue). y.version) can.begun.rest ∙ can.may.version
+  same_version : x.version ≡ x0.version
+  same_version = ap (λ (y : HandsValue). y.version) can.begun.rest
+
+  -- no more names are live than a table of the version has records
+  fits : FitsVersion x
+  fits = record {
+    known = subst (λ v. IsTrue (is_version v)) (sym same_version) can.may.version;
+    few = subst (λ n. fin.len x.table.now ≤ n)
+        (λ i. cap ((sym same_in_use) i).block.names ((sym same_version) i))
+        (omega (arith, can.begun.few, can.begun.cap, can.may.cap));
+  }
 
   -- the sequence before any save, and one more
   abbrev most : ℕ
@@ -117,8 +132,10 @@ module _ {classes : ℕ} {x0 : HandsValue} {c : Change} {g : BeforeChange} {x : 
     lifts = record {
       goes = record {
         hands = begins.hands;
-        version = fits_plain same_version begins.hands;
-        book = book_plain x same_version begins.book refl;
+        version = fits;
+        book = ap (λ (ds : Option Map). with_digests ds (book_of (laid f.classes f.size_max x.in_use.block.k
+            f.reach (phase_header p x.caps x.grid) x.table.now)))
+            (can.begun.digests ∙ sym (next_digests k g.map (book_before classes x0) c)) ∙ begins.book;
         same_base = sym same_base;
         divisor = can.begun.divisor;
         same_classes = refl;

@@ -1,4 +1,4 @@
--- A table that was read is one of version 1, or no store is opened over it.
+-- No store is opened over a table of version 2.
 use Rattle.std.specs.Prelude.{◌≡◌, ℕ, ◌==◌, false, List, Option, None, Result, Some, Ok, Err, IsTrue}
 use Rattle.std.proofs.Common.{◌∙◌, ap, inr, subst}
 use Rattle.std.proofs.lemmas.Bool.{cond-false}
@@ -19,18 +19,8 @@ use Rattle.reopen.specs.declared.fault.OpenFault.TheVariants as fault
 use Rattle.reopen.specs.declared.state.Loaded.{Loaded}
 use Rattle.store_model.specs.Connection.{StoreValue}
 use Rattle.store_model.specs.Opened.{IsOpening}
-use Rattle.store_model.specs.Plain.{IsPlainFrom, IsUnserved}
+use Rattle.store_model.specs.Plain.{IsUnserved}
 use Rattle.store_model.proofs.OpeningLaws.{refused_reading}
-
-pub plain_from : {C : ℕ} (file : List ℕ) (x : Loaded C) → IsLoadedFrom file x
-    → (x.header.version == 2) ≡ false → IsPlainFrom file x
-plain_from {C} file x from other = record {
-  in_use = from.in_use;
-  opens = subst (λ (ds : Option Digests). OpensBy C SIZE_MAX (table_seen x ds) file
-      (read_at (head_len x.block.names) file x.table.now)
-      (with_digests ds (book_of (placed_table C SIZE_MAX file (table_seen x ds)))))
-      (cond-false (x.header.version == 2) (Some x.table.digests) None other) from.opens;
-}
 
 -- the fault of a version
 abbrev pub fault_at : ℕ → OpenFault

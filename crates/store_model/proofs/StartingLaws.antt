@@ -1,5 +1,5 @@
 -- A flush begins once the name of its change is gone, and where the new object was placed or waits.
-use Rattle.std.specs.Prelude.{◌≡◌, ℕ, ◌+◌, ◌≤◌, true, false, List, [], ◌++◌, fold, length, Option, refl}
+use Rattle.std.specs.Prelude.{◌≡◌, ℕ, ◌+◌, ◌<◌, ◌≤◌, true, false, List, [], ◌++◌, fold, length, Option, refl}
 use Rattle.std.proofs.Common.{arith, sym, ◌∙◌, ap, subst, inr}
 use Rattle.std.proofs.lemmas.List.{append-nil}
 use Rattle.std.specs.FinMap as fin
@@ -7,10 +7,13 @@ use Rattle.size_class.specs.Classes.{class_of}
 use Rattle.size_class.specs.declared.TheConstants.{SIZE_MAX}
 use Rattle.slot_codec.specs.Names.{IsName}
 use Rattle.span_math.specs.declared.span.Span.{Span}
-use Rattle.segment_layout.specs.Books.{is_quiet, some_size, trigger}
+use Rattle.slot_codec.specs.Choice.{Digests}
+use Rattle.map_model.specs.Maps.{Map}
+use Rattle.map_model.specs.Requests.{Change}
+use Rattle.segment_layout.specs.Books.{is_quiet, next_book, some_size, trigger, with_digests}
 use Rattle.segment_layout.specs.Shapes.{boundary_of, end_of, is_boundary}
 use Rattle.extent_table.specs.declared.spot.Spot.{Spot}
-use Rattle.extent_table.specs.Extents.{Extents, Spots}
+use Rattle.extent_table.specs.Extents.{Extents, Spots, digests_seen}
 use Rattle.placement_model.specs.Held.{FreesSpot}
 use Rattle.placement_model.specs.Quiet.{PlacedTo}
 use Rattle.placement_model.specs.Reads.{read_at}
@@ -22,7 +25,7 @@ use Rattle.flush_run.specs.FlushFrames.{FlushFrame, IsFreeSpace}
 use Rattle.flush_run.specs.Hands.{suffix_items}
 use Rattle.flush_run.specs.Shelved.{phase_now}
 use Rattle.flush_plan.specs.Shelves.{course_of}
-use Rattle.flush_run.specs.Parts.{HandsValue}
+use Rattle.flush_run.specs.Parts.{HandsValue, saved_digests}
 use Rattle.placement_model.specs.Tried.{between, charged_by, new_charged}
 use Rattle.change_charges.specs.Lifting.{BeginsLift}
 use Rattle.change_charges.specs.Starts.{CanStart, IsLoud, IsWith, IsWithout, WasBefore, flush_start}
@@ -30,8 +33,16 @@ use Rattle.change_charges.proofs.LiftStartLaws.{pending_high, pending_is_free, p
 use Rattle.change_charges.proofs.LooseLaws.{pending_loose, placed_loose, removed_loose}
 use Rattle.change_charges.proofs.ReachLaws.{reach_low, reach_past_wall, wall_past_end}
 use Rattle.change_charges.proofs.StartLaws.{placed_within}
-use Rattle.store_model.specs.Flushing.{IsBegun, IsStarted, MayBegin, BeforeChange, book_before, flight_of}
+use Rattle.store_model.specs.Digested.{IsDigestFor}
+use Rattle.store_model.specs.Flushing.{IsBegun, IsStarted, MayBegin, BeforeChange, book_before, flight_of, shown_before}
 use Rattle.store_model.specs.Quiet.{added, del_of, put_of, sizes_at}
+use Rattle.store_model.proofs.DigestLaws.{few_gone, few_put, next_digests, next_with, seen_gone, seen_with, with_own}
+
+-- A table has the digests of the parts, but for a name that was given an object's.
+pub record HasDigest (x0 : HandsValue) (name object : List ℕ) (put : Extents) : Type 0 where
+  pub digest : List ℕ
+  pub same : put.digests ≡ fin.insert x0.table.digests name digest
+  pub own : IsDigestFor (saved_digests x0) object digest
 
 module _ {classes : ℕ} {kept_grid : List (List ℕ)} {x0 : HandsValue} (may : MayBegin classes kept_grid x0)
     (name : List ℕ) where
@@ -61,6 +72,15 @@ module _ {classes : ℕ} {kept_grid : List (List ℕ)} {x0 : HandsValue} (may : 
       is_at_rest = false;
     }
 
+    -- the next book of any change has the digests of the change
+    next_as_with : (m : Map) (c : Change)
+        → with_digests (next_book k m (book_before classes x0) c).book.digests
+        (next_book k m (shown_before classes x0) c).book ≡ (next_book k m (book_before classes x0) c).book
+    next_as_with m c =
+        (λ i. with_digests (next_digests k m (book_before classes x0) c i)
+        (next_book k m (shown_before classes x0) c).book)
+        ∙ sym (next_with k m (shown_before classes x0) c (saved_digests x0))
+
     -- ---- a removal
 
     module _ (l : IsLoud k x0.caps x0.grid old 0 after b) where
@@ -75,8 +95,10 @@ module _ {classes : ℕ} {kept_grid : List (List ℕ)} {x0 : HandsValue} (may : 
           x0.spans h may.base name after b gone without freed frees l
 
       pub begun_removed : (p : PlanState) → IsStarted b k x0.caps gone p
-          → asked ≡ fold added x0.asked (sizes_at old) → IsBegun classes x0 (del_of name) (parts gone) p 0
-      begun_removed p st sums =
+          → asked ≡ fold added x0.asked (sizes_at old)
+          → gone.digests ≡ fin.remove x0.table.digests name
+          → IsBegun classes x0 (del_of name) (parts gone) p 0
+      begun_removed p st sums taken =
           let reach : p.numbers.reach ≡ numbers.reach = ap (λ (q : PlanState). q.numbers.reach) st.value in
           record {
             lifts = λ g sized. subst (λ (q : PlanState). BeginsLift
@@ -84,7 +106,7 @@ module _ {classes : ℕ} {kept_grid : List (List ℕ)} {x0 : HandsValue} (may : 
                 x0.in_use gone freed q) (sym st.value)
                 (removed_lifts (del_flight p.numbers.reach g) x0.caps x0.grid kept_grid x0.in_use x0.table
                 x0.spans h may.base name after b gone without freed frees l reach g.map sized
-                refl);
+                (next_as_with g.map (del_of name)));
             loose = λ m sized balanced. removed_loose (del_flight p.numbers.reach some_setting) x0.caps
                 x0.grid kept_grid x0.in_use x0.table x0.spans h may.base name after b gone without
                 freed frees m sized
@@ -117,6 +139,14 @@ module _ {classes : ℕ} {kept_grid : List (List ℕ)} {x0 : HandsValue} (may : 
             table = without.table;
             names = without.names;
             cap = without.cap;
+            few = omega (
+              arith,
+              few_gone x0.table.now name x0.table.cap may.few,
+              ap (λ (m : Spots). fin.len m) without.now,
+              without.cap,
+            );
+            digests = ap (λ (d : Digests). digests_seen x0.version d) taken
+                ∙ seen_gone x0.version x0.table.digests name;
             rest = refl;
           }
 
@@ -139,6 +169,15 @@ module _ {classes : ℕ} {kept_grid : List (List ℕ)} {x0 : HandsValue} (may : 
           ∙ ap (λ (m : Spots). fin.insert m name (spot_at place)) without.now
           ∙ insert-remove x0.table.now name (spot_at place)
 
+      few_joined : (place key : ℕ) (put : Extents) → IsWith name (spot_at place) key gone put
+          → fin.len gone.now < gone.cap → fin.len put.now ≤ put.cap
+      few_joined place key put joins room = omega (
+        arith,
+        few_put gone.now name (spot_at place) gone.cap (omega (arith, room)) (inr room),
+        ap (λ (m : Spots). fin.len m) joins.now,
+        joins.cap,
+      )
+
       free_is : (place : ℕ) → IsFreeSpace gone.now gone.kept place size
           → IsFreeSpace (fin.remove x0.table.now name) x0.table.kept place size
       free_is place free = subst (λ (m : Spots). IsFreeSpace (fin.remove x0.table.now name) m place size)
@@ -159,8 +198,9 @@ module _ {classes : ℕ} {kept_grid : List (List ℕ)} {x0 : HandsValue} (may : 
             → (p : PlanState)
             → IsStarted b k x0.caps put p
             → asked ≡ fold added x0.asked (sizes_at old ++ some_size size)
+            → HasDigest x0 name object put → fin.len gone.now < gone.cap
             → IsBegun classes x0 (put_of name object) (parts put) p place
-        begun_placed key put joins p st sums =
+        begun_placed key put joins p st sums given room =
             let starts = put_starts key put joins in
             let reach : p.numbers.reach ≡ (numbers_of k x0.caps b (suffix_items b put) 0).reach =
             ap (λ (q : PlanState). q.numbers.reach) st.value in
@@ -170,7 +210,7 @@ module _ {classes : ℕ} {kept_grid : List (List ℕ)} {x0 : HandsValue} (may : 
                   x0.in_use put freed q) (sym st.value)
                   (placed_lifts (put_flight p.numbers.reach g) x0.caps x0.grid kept_grid x0.in_use x0.table
                   x0.spans h may.base name after b gone without freed frees is object small l place key placed
-                  put joins reach g.map sized refl);
+                  put joins reach g.map sized (next_as_with g.map (put_of name object)));
               loose = λ m sized balanced. placed_loose (put_flight p.numbers.reach some_setting) x0.caps
                   x0.grid kept_grid x0.in_use x0.table x0.spans h may.base name after b gone without
                   freed frees m sized
@@ -212,6 +252,10 @@ module _ {classes : ℕ} {kept_grid : List (List ℕ)} {x0 : HandsValue} (may : 
               table = joins.table;
               names = joins.names ∙ without.names;
               cap = joins.cap ∙ without.cap;
+              few = few_joined place key put joins room;
+              digests = ap (λ (d : Digests). digests_seen x0.version d) given.same
+                  ∙ seen_with x0.version x0.table.digests name given.digest
+                  ∙ with_own (saved_digests x0) name object given.digest given.own;
               rest = refl;
             }
 
@@ -240,8 +284,9 @@ module _ {classes : ℕ} {kept_grid : List (List ℕ)} {x0 : HandsValue} (may : 
             (suffix_items b gone) size) size) put
             → place + size ≡ p.numbers.reach
             → asked ≡ fold added x0.asked (sizes_at old ++ some_size size)
+            → HasDigest x0 name object put → fin.len gone.now < gone.cap
             → IsBegun classes x0 (put_of name object) (parts put) p place
-        begun_waiting place key put joins p value ends sums =
+        begun_waiting place key put joins p value ends sums given room =
             let reach : p.numbers.reach ≡ (numbers_of k x0.caps b (suffix_items b gone) size).reach =
             ap (λ (q : PlanState). q.numbers.reach) value in
             record {
@@ -250,7 +295,7 @@ module _ {classes : ℕ} {kept_grid : List (List ℕ)} {x0 : HandsValue} (may : 
                   x0.in_use put freed q) (sym value)
                   (pending_lifts (put_flight p.numbers.reach g) x0.caps x0.grid kept_grid x0.in_use x0.table
                   x0.spans h may.base name after b gone without freed frees is object small l missed place
-                  reach ends key put joins g.map sized refl);
+                  reach ends key put joins g.map sized (next_as_with g.map (put_of name object)));
               loose = λ m sized balanced. pending_loose (put_flight p.numbers.reach some_setting) x0.caps
                   x0.grid kept_grid x0.in_use x0.table x0.spans h may.base name after b gone without
                   freed frees m sized
@@ -286,5 +331,9 @@ module _ {classes : ℕ} {kept_grid : List (List ℕ)} {x0 : HandsValue} (may : 
               table = joins.table;
               names = joins.names ∙ without.names;
               cap = joins.cap ∙ without.cap;
+              few = few_joined place key put joins room;
+              digests = ap (λ (d : Digests). digests_seen x0.version d) given.same
+                  ∙ seen_with x0.version x0.table.digests name given.digest
+                  ∙ with_own (saved_digests x0) name object given.digest given.own;
               rest = refl;
             }

@@ -1,5 +1,5 @@
 -- The file of a settled table that was read, where opening cuts it or its disk fails.
-use Rattle.std.specs.Prelude.{◌≡◌, ℕ, ◌+◌, ◌-◌, ◌<◌, ◌≤◌, ◌^◌, nat_lt, List, length, Ok, Err, IsTrue, Result, refl}
+use Rattle.std.specs.Prelude.{◌≡◌, ℕ, ◌+◌, ◌-◌, ◌<◌, ◌≤◌, ◌^◌, nat_lt, List, length, Ok, Err, IsTrue, Result, ◌==◌, false, refl}
 use Rattle.std.proofs.Common.{arith, ap, sym, ◌∙◌, subst, inl, inr}
 use Rattle.std.proofs.lemmas.Bool.{cases_lt, lt-ltb, le-ltb, cond-false, cond-true}
 use Rattle.disk_face.specs.States as disk
@@ -18,14 +18,12 @@ use Rattle.map_model.specs.Maps.{Map}
 use Rattle.segment_layout.specs.Books.{Book, book_end}
 use Rattle.segment_layout.specs.Layouts.{caps_of, grid_of}
 use Rattle.segment_layout.specs.Shapes.{end_of}
-use Rattle.table_rules.specs.Opening.{OpensBy, placed_table}
-use Rattle.table_rules.specs.Tables.{book_of}
+use Rattle.table_rules.specs.Opening.{OpensBy}
 use Rattle.extent_table.specs.Extents.{Spots}
 use Rattle.placement_model.specs.Reads.{read_at}
 use Rattle.reopen.specs.declared.fault.OpenFault.TheVariants as fault_of
 use Rattle.reopen.specs.declared.state.Loaded.{Loaded}
-use Rattle.reopen.specs.Loads.{KeepsLoaded}
-use Rattle.store_model.specs.Plain.{IsPlainFrom, plain_seen}
+use Rattle.reopen.specs.Loads.{IsLoadedFrom, KeepsLoaded, book_loaded, digests_loaded, table_loaded}
 use Rattle.store_model.specs.Connection.{StoreValue, RestsOnTable, SameOnTable, base_of, opened_store}
 use Rattle.store_model.specs.Opened.{ContinuesFrom, IsCut, IsFoundImage, IsOpened, IsOpening, OpenCallsOf, OpensFound, LeavesAlone, MostCallsOf, RestsOnFound, found_base, most_found, turn_after_cut}
 use Rattle.table_rules.proofs.SequenceLaws.{sequence_of_table}
@@ -34,7 +32,7 @@ use Rattle.store_model.proofs.OverLaws.{same_itself}
 use Rattle.store_model.proofs.StillStoreLaws.{same_base, book_is, book_ends, still_over, still_state, len_low, resized_image, cut_len, cut_opens, cut_slot, still_fresh}
 
 module _ {C : ℕ} (x : Loaded C) (loads : KeepsLoaded x) (still : x.header.kind ≡ kind.Settled) (few : C ≤ 32)
-    (wide : SIZE_MAX < 2 ^ C) where
+    (wide : SIZE_MAX < 2 ^ C) (other : (x.header.version == 2) ≡ false) where
   abbrev k : ℕ
   k = x.block.k
 
@@ -51,7 +49,7 @@ module _ {C : ℕ} (x : Loaded C) (loads : KeepsLoaded x) (still : x.header.kind
   now = x.table.now
 
   abbrev s : StoreValue
-  s = opened_store C x.slots now caps grid
+  s = opened_store C x.slots now (digests_loaded x) caps grid
 
   abbrev end : ℕ
   end = end_of k caps
@@ -61,13 +59,12 @@ module _ {C : ℕ} (x : Loaded C) (loads : KeepsLoaded x) (still : x.header.kind
 
   -- ---- the disk
 
-  module _ (first last : disk.State) (from : IsTrue first.tells → IsPlainFrom first.file x)
+  module _ (first last : disk.State) (from : IsTrue first.tells → IsLoadedFrom first.file x)
       (short : IsTrue first.tells → length first.file ≤ len → Unchanged first last)
       (frame : KeepsDisk first last)
     where
       -- the layout ends there by the book found
-      found_end : found_base (plain_seen x) + book_end x.block.k (book_of (placed_table C SIZE_MAX first.file
-          (plain_seen x))) ≡ len
+      found_end : found_base (table_loaded x) + book_end x.block.k (book_loaded first.file x) ≡ len
       found_end = omega (
         arith,
         ap (λ (b : Book). book_end x.block.k b) (book_is x loads still few wide (length first.file - base)),
@@ -79,13 +76,13 @@ module _ {C : ℕ} (x : Loaded C) (loads : KeepsLoaded x) (still : x.header.kind
       module _ {T E : Type 0} {result : Result T E} (told : IsTrue first.tells)
           (cut : IsTrue first.tells → len < length first.file → IsCut len first last result) where
         abbrev u : choice.SlotTable
-        u = plain_seen x
+        u = table_loaded x
 
         abbrev found_map : Map
         found_map = read_at base first.file now
 
         abbrev found_book : Book
-        found_book = book_of (placed_table C SIZE_MAX first.file u)
+        found_book = book_loaded first.file x
 
         abbrev IsLeft : List ℕ → Type 0
         IsLeft = IsFoundImage C u found_map found_book (length first.file)
@@ -143,7 +140,7 @@ module _ {C : ℕ} (x : Loaded C) (loads : KeepsLoaded x) (still : x.header.kind
         fresh = tt;
         refused = λ told. inl tt;
         found = λ told t m b o.
-            found_by (found_one C (plain_seen x) t first.file _ m _ b (from told).opens o) (record {
+            found_by (found_one C (table_loaded x) t first.file _ m _ b (from told).opens o) (record {
               content = λ room. still_content told cut;
               left = λ room rests. still_left told cut rests;
               rests = λ rests. tt;
@@ -152,7 +149,8 @@ module _ {C : ℕ} (x : Loaded C) (loads : KeepsLoaded x) (still : x.header.kind
               alone = still_alone told cut;
             });
         unchanged = tt;
-        closed = λ told none. absurd (none _ _ (record { table = plain_seen x; opens = (from told).opens }));
+        closed = λ told none. absurd (none _ _
+            (record { table = table_loaded x; opens = (from told).opens }));
         frame = frame;
         cause = record { later = cause.later; rose = λ is. cause.rose; calm = λ other. absurd (other refl) };
       }
@@ -165,11 +163,11 @@ module _ {C : ℕ} (x : Loaded C) (loads : KeepsLoaded x) (still : x.header.kind
         done_map = read_at base first.file now
 
         abbrev done_book : Book
-        done_book = book_of (placed_table C SIZE_MAX first.file (plain_seen x))
+        done_book = book_loaded first.file x
 
         record Ends : Type 0 where
           slot : choice.slot_in_use last.file ≡ Ok x.slots
-          opens : OpensBy C SIZE_MAX (plain_seen x) last.file done_map done_book
+          opens : OpensBy C SIZE_MAX (table_loaded x) last.file done_map done_book
           long : length last.file ≡ len
 
         ends : Ends
@@ -183,7 +181,7 @@ module _ {C : ℕ} (x : Loaded C) (loads : KeepsLoaded x) (still : x.header.kind
               let same = sym ((short told not).same_file told) in
               record {
                 slot = subst (λ f. choice.slot_in_use f ≡ Ok x.slots) same (from told).in_use;
-                opens = subst (λ f. OpensBy C SIZE_MAX (plain_seen x) f done_map done_book) same
+                opens = subst (λ f. OpensBy C SIZE_MAX (table_loaded x) f done_map done_book) same
                     (from told).opens;
                 long = omega (
                   arith,
@@ -195,23 +193,24 @@ module _ {C : ℕ} (x : Loaded C) (loads : KeepsLoaded x) (still : x.header.kind
               }
         ]
 
-        done_rests : RestsOnFound (plain_seen x) first → RestsOnTable (base_of s) now last
+        done_rests : RestsOnFound (table_loaded x) first → RestsOnTable (base_of s) now last
         done_rests rests = elim (cases_lt len (length first.file))
             as (λ _. RestsOnTable (base_of s) now last) [
               | inl longer ↦ λ image left. subst (SameOnTable (base_of s) now last.file)
                   (sym ((cut told longer).only image left)) (same_itself (base_of s) now last.file)
-              | inr not ↦ λ image left. found_spots (plain_seen x) now (base_of s) last.file image refl
+              | inr not ↦ λ image left. found_spots (table_loaded x) now (base_of s) last.file image refl
                   loads.is_table.now_named (sym (same_base x loads still few wide))
                   (still_rests (short told not) told (from told).opens rests image left)
             ]
 
-        done_end : found_base (plain_seen x) + book_end x.block.k done_book ≡ len
+        done_end : found_base (table_loaded x) + book_end x.block.k done_book ≡ len
         done_end = found_end
 
         done_turn : last.turn
-            ≡ turn_after_cut (found_base (plain_seen x) + book_end x.block.k done_book) first.file first.turn
+            ≡ turn_after_cut (found_base (table_loaded x) + book_end x.block.k done_book)
+            first.file first.turn
         done_turn =
-            let far = found_base (plain_seen x) + book_end x.block.k done_book in
+            let far = found_base (table_loaded x) + book_end x.block.k done_book in
             elim (cases_lt len (length first.file))
             as (λ _. last.turn ≡ turn_after_cut far first.file first.turn) [
               | inl longer ↦ (cut told longer).all
@@ -222,12 +221,13 @@ module _ {C : ℕ} (x : Loaded C) (loads : KeepsLoaded x) (still : x.header.kind
                   (le-ltb far (length first.file) (omega (arith, done_end, not))))
             ]
 
-        done_found : OpensFound C (plain_seen x) done_map done_book first last (Ok s)
+        done_found : OpensFound C (table_loaded x) done_map done_book first last (Ok s)
         done_found = record {
           content = λ room. still_content told cut;
           left = λ room rests. still_left told cut rests;
           rests = done_rests;
-          calls = subst (λ y. OpenCallsOf y (plain_seen x) done_map done_book first.file first.turn last.turn
+          calls = subst (λ y. OpenCallsOf y (table_loaded x) done_map done_book first.file
+              first.turn last.turn
               s) (sym still) done_turn;
           most = still_most told cut;
           alone = still_alone told cut;
@@ -235,7 +235,7 @@ module _ {C : ℕ} (x : Loaded C) (loads : KeepsLoaded x) (still : x.header.kind
 
         done_opened : IsOpened C first.file last.file s
         done_opened = record {
-          table = plain_seen x;
+          table = table_loaded x;
           m = done_map;
           b = done_book;
           found = (from told).opens;
@@ -254,13 +254,14 @@ module _ {C : ℕ} (x : Loaded C) (loads : KeepsLoaded x) (still : x.header.kind
         over = λ told. let e = ends y cut told in
             still_over x loads still few wide last.file (done_map y cut told) (done_book y cut told)
             e.slot e.opens e.long;
-        fresh = still_fresh x loads still few wide;
+        fresh = still_fresh x loads still few wide other;
         refused = λ told. tt;
         found = λ told t m b o.
-            found_by (found_one C (plain_seen x) t first.file _ m _ b (from told).opens o)
+            found_by (found_one C (table_loaded x) t first.file _ m _ b (from told).opens o)
             (done_found y cut told);
         unchanged = tt;
-        closed = λ told none. absurd (none _ _ (record { table = plain_seen x; opens = (from told).opens }));
+        closed = λ told none. absurd (none _ _
+            (record { table = table_loaded x; opens = (from told).opens }));
         frame = frame;
         cause = record { later = cause.later; rose = λ is. absurd (cc); calm = λ other. cause.calm };
       }
@@ -268,7 +269,7 @@ module _ {C : ℕ} (x : Loaded C) (loads : KeepsLoaded x) (still : x.header.kind
   -- ---- where the length to cut to is said in other words
 
   module _ (at : ℕ) (is : at ≡ len) (first last : disk.State)
-      (from : IsTrue first.tells → IsPlainFrom first.file x)
+      (from : IsTrue first.tells → IsLoadedFrom first.file x)
       (short : IsTrue first.tells → length first.file ≤ at → Unchanged first last)
       (frame : KeepsDisk first last)
     where

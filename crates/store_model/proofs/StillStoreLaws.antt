@@ -1,5 +1,5 @@
 -- The store of a settled table that was read from a file, over that file and once it is cut.
-use Rattle.std.specs.Prelude.{◌≡◌, ℕ, ◌+◌, ◌-◌, ◌<◌, ◌≤◌, ◌^◌, nat_lt, cond, List, length, take, slice_index, Ok, refl}
+use Rattle.std.specs.Prelude.{◌≡◌, ℕ, ◌+◌, ◌-◌, ◌<◌, ◌≤◌, ◌^◌, nat_lt, cond, List, length, take, slice_index, Some, None, Ok, ◌==◌, false, refl}
 use Rattle.std.proofs.Common.{arith, ap, sym, ◌∙◌, subst, inl, inr}
 use Rattle.std.proofs.lemmas.Bool.{le-ltb, cond-false}
 use Rattle.std.specs.FinMap as fin
@@ -10,13 +10,13 @@ use Rattle.size_class.specs.Classes.{IsGrid, IsRow}
 use Rattle.size_class.specs.declared.TheConstants.{SIZE_MAX}
 use Rattle.slot_codec.specs.Choice as choice
 use Rattle.slot_codec.specs.Readable.{IsSuperBlock}
-use Rattle.slot_codec.specs.Spelling.{head_len}
+use Rattle.slot_codec.specs.Spelling.{cap, head_len}
 use Rattle.slot_codec.specs.declared.codec.Header.{Header}
 use Rattle.slot_codec.specs.declared.codec.Kind.TheVariants as kind
 use Rattle.slot_codec.specs.declared.codec.SuperBlock.{SuperBlock}
 use Rattle.slot_codec.proofs.ChoiceLaws.{same_in_use}
 use Rattle.map_model.specs.Maps.{Map}
-use Rattle.segment_layout.specs.Books.{Book, book_end}
+use Rattle.segment_layout.specs.Books.{Book, book_end, version_of, with_digests}
 use Rattle.segment_layout.specs.Layouts.{caps_of, grid_of}
 use Rattle.segment_layout.specs.Shapes.{end_of}
 use Rattle.segment_layout.proofs.ShapeLaws.{end_of-rest}
@@ -28,7 +28,7 @@ use Rattle.table_rules.specs.Tables.{book_of, end_of_record, last_end, nth}
 use Rattle.table_rules.proofs.SuffixLaws.{below_of_places}
 use Rattle.extent_table.specs.Extents.{Spots, records_of}
 use Rattle.placement_model.specs.Laid.{book_at, laid, settled_table}
-use Rattle.placement_model.specs.LaidOut.{IsLaidOut}
+use Rattle.placement_model.specs.LaidOut.{IsLaidOut, shown_book}
 use Rattle.placement_model.specs.Reads.{read_at}
 use Rattle.placement_model.proofs.LaidOutLaws.{laid_from_below}
 use Rattle.placement_model.proofs.OpenedLaws.{opens_long, opens_resized}
@@ -36,13 +36,13 @@ use Rattle.placement_model.proofs.QuietLaws.{IsGrid-wider}
 use Rattle.placement_model.proofs.RiseLaws.{CellsRise-itself}
 use Rattle.placement_model.proofs.ShownLaws.{book_shown}
 use Rattle.reopen.specs.declared.state.Loaded.{Loaded}
-use Rattle.reopen.specs.Loads.{KeepsLoaded}
-use Rattle.store_model.specs.Plain.{IsPlainFrom, plain_seen}
+use Rattle.reopen.specs.Loads.{IsLoadedFrom, KeepsLoaded, book_loaded, digests_loaded, table_loaded}
 use Rattle.store_model.specs.Connection.{IsOver, StoreValue, base_of, kept_map, opened_store, state_of}
 use Rattle.store_model.specs.Opened.{IsFoundImage, IsFresh, SameOnFound, most_found, state_at}
 use Rattle.store_model.specs.Stores.{IsStore}
 use Rattle.table_rules.proofs.HeaderLaws.{below_rekinded}
 use Rattle.table_rules.proofs.SequenceLaws.{sequence_of_table}
+use Rattle.store_model.proofs.DigestLaws.{version_seen}
 use Rattle.store_model.proofs.OpeningLaws.{found_low, opens_alike}
 
 -- what a settled table keeps of its classes isn't seen in the other numbers of its header
@@ -96,7 +96,7 @@ module _ {C : ℕ} (x : Loaded C) (loads : KeepsLoaded x) (still : x.header.kind
 
   -- the store
   abbrev s : StoreValue
-  s = opened_store C x.slots now caps grid
+  s = opened_store C x.slots now (digests_loaded x) caps grid
 
   pub same_base : base_of s ≡ base
   same_base = ap (λ (b : SuperBlock). head_len b.names) loads.same_block
@@ -108,9 +108,11 @@ module _ {C : ℕ} (x : Loaded C) (loads : KeepsLoaded x) (still : x.header.kind
   len = base + end
 
   -- its book is that of the table
-  pub book_is : (n : ℕ) → book_of (laid C SIZE_MAX k n x.header now) ≡ s.book
-  book_is n = (λ i. book_of (laid C SIZE_MAX k n (header_is i) now))
-      ∙ (λ i. book_at C SIZE_MAX ((sym loads.same_block) i).k caps grid now)
+  pub book_is : (n : ℕ) → with_digests (digests_loaded x) (book_of (laid C SIZE_MAX k n x.header now))
+      ≡ s.book
+  book_is n = (λ i. with_digests (digests_loaded x) (book_of (laid C SIZE_MAX k n (header_is i) now)))
+      ∙ (λ i. with_digests (digests_loaded x)
+      (book_at C SIZE_MAX ((sym loads.same_block) i).k caps grid now))
 
   end_is : end_of s.in_use.block.k caps ≡ end
   end_is = ap (λ (b : SuperBlock). end_of b.k caps) loads.same_block
@@ -136,7 +138,7 @@ module _ {C : ℕ} (x : Loaded C) (loads : KeepsLoaded x) (still : x.header.kind
   -- ---- over a file
 
   module _ (file : List ℕ) (m : Map) (b : Book) (slot : choice.slot_in_use file ≡ Ok x.slots)
-      (o : OpensBy C SIZE_MAX (plain_seen x) file m b) (long : length file ≡ len) where
+      (o : OpensBy C SIZE_MAX (table_loaded x) file m b) (long : length file ≡ len) where
     map_is : kept_map s file ≡ m
     map_is = ap (λ n. read_at n file now) same_base ∙ sym o.same_map
 
@@ -145,12 +147,12 @@ module _ {C : ℕ} (x : Loaded C) (loads : KeepsLoaded x) (still : x.header.kind
 
     pub still_over : IsOver C s file
     still_over = record {
-      table = plain_seen x;
+      table = table_loaded x;
       checkpoint = record {
         slot = slot;
         records = refl;
-        opens = subst (λ (n : Map). OpensBy C SIZE_MAX (plain_seen x) file n s.kept_book) (sym map_is)
-            (subst (λ (c : Book). OpensBy C SIZE_MAX (plain_seen x) file m c) (sym book_same) o);
+        opens = subst (λ (n : Map). OpensBy C SIZE_MAX (table_loaded x) file n s.kept_book) (sym map_is)
+            (subst (λ (c : Book). OpensBy C SIZE_MAX (table_loaded x) file m c) (sym book_same) o);
       };
       same_length = omega (arith, long, same_base, book_ends);
     }
@@ -166,15 +168,15 @@ module _ {C : ℕ} (x : Loaded C) (loads : KeepsLoaded x) (still : x.header.kind
 
   -- ---- the file that it was read from
 
-  module _ (file : List ℕ) (from : IsPlainFrom file x) where
+  module _ (file : List ℕ) (from : IsLoadedFrom file x) where
     abbrev t : choice.SlotTable
-    t = plain_seen x
+    t = table_loaded x
 
     abbrev m : Map
     m = read_at base file now
 
     abbrev b : Book
-    b = book_of (placed_table C SIZE_MAX file t)
+    b = book_loaded file x
 
     begins_within : base ≤ length file
     begins_within = opens_long C SIZE_MAX t file m b from.opens
@@ -237,9 +239,14 @@ module _ {C : ℕ} (x : Loaded C) (loads : KeepsLoaded x) (still : x.header.kind
       let laid_there : IsLaidOut C SIZE_MAX x.slots.block.k caps grid now =
       subst (λ (b : SuperBlock). IsLaidOut C SIZE_MAX b.k caps grid now) (sym loads.same_block) still_laid in
       let shown = book_shown C SIZE_MAX x.slots.block.k caps grid now laid_there in
-      let few_names : fin.len now ≤ x.slots.block.names =
-      omega (arith, loads.is_table.now_room, loads.room, ap (λ (b : SuperBlock). b.names) loads.same_block) in
-      subst (λ (b : Book). IsStore C (record s { book = b; kept_book = b })) (sym shown) (record {
+      let ds = digests_loaded x in
+      let few_names : fin.len now ≤ cap x.slots.block.names (version_of (with_digests ds
+      (shown_book C SIZE_MAX x.slots.block.k caps grid now))) =
+      subst (λ m. fin.len now ≤ m) (loads.cap ∙ (λ i. cap ((sym loads.same_block) i).names
+      (sym (version_seen x.header.version x.table.digests
+      (shown_book C SIZE_MAX x.slots.block.k caps grid now) loads.version) i))) loads.few in
+      subst (λ (b : Book). IsStore C (record s { book = with_digests ds b; kept_book = with_digests ds b }))
+      (sym shown) (record {
         block = subst IsSuperBlock (sym loads.same_block) loads.ranges;
         now = laid_there;
         now_book = refl;
@@ -252,12 +259,13 @@ module _ {C : ℕ} (x : Loaded C) (loads : KeepsLoaded x) (still : x.header.kind
         fuller = CellsRise-itself grid;
       })
 
-  pub still_fresh : IsFresh C s
-  still_fresh = record {
+  pub still_fresh : (x.header.version == 2) ≡ false → IsFresh C s
+  still_fresh other = record {
     whole = refl;
     store = still_store;
     same_now = refl;
     same_book = refl;
     moved = refl;
     asked = refl;
+    plain = cond-false (x.header.version == 2) (Some x.table.digests) None other;
   }

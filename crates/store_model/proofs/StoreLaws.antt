@@ -4,6 +4,8 @@ use Rattle.std.proofs.Common.{arith, sym}
 use Rattle.std.specs.FinMap as fin
 use Rattle.size_class.specs.declared.TheConstants.{SIZE_MAX}
 use Rattle.slot_codec.specs.declared.codec.Record.{Record}
+use Rattle.slot_codec.proofs.CapLaws.{cap-low}
+use Rattle.segment_layout.specs.Books.{version_of}
 use Rattle.extent_table.specs.declared.spot.Spot.{Spot}
 use Rattle.extent_table.specs.Extents.{volume_of}
 use Rattle.placement_model.specs.Reads.{EndWithin}
@@ -28,7 +30,7 @@ kept_lies {classes} s file h over = laid_within classes SIZE_MAX s.in_use.block.
 pub few_bytes : {classes : ℕ} (s : StoreValue) → IsStore classes s
     → volume_of s.now ≤ s.in_use.block.names * SIZE_MAX
 few_bytes {classes} s h = volume_small classes SIZE_MAX s.in_use.block.k s.book.caps s.book.grid s.now h.now
-    s.in_use.block.names h.now_few
+    s.in_use.block.names (omega (arith, h.now_few, cap-low s.in_use.block.names (version_of s.book)))
 
 -- no object is longer than it may be
 pub small_object : {classes : ℕ} (s : StoreValue) → IsStore classes s → (name : List ℕ) (x : Spot)

@@ -23,7 +23,7 @@ ChargesParts x name size after r = IsChargedBy x.divisor x.caps x.grid (fin.get 
 pub record CanPut (x : HandsValue) (name bytes : List ℕ) (comes : Bool) : Type 0 where
   pub named : IsName name
   pub small : length bytes ≤ SIZE_MAX
-  pub room : comes ≡ true → IsSome (fin.get x.table.now name) ⊎ (fin.len x.table.now < x.table.names)
+  pub room : comes ≡ true → IsSome (fin.get x.table.now name) ⊎ (fin.len x.table.now < x.table.cap)
 
 -- where the object of a quiet change stands
 abbrev pub quiet_place : ChargeResult → Option ℕ

@@ -1,5 +1,5 @@
 -- How a store and its disk belong together.
-use Rattle.std.specs.Prelude.{◌≡◌, ℕ, ◌+◌, Bool, false, List, length, Ok, Some, IsTrue}
+use Rattle.std.specs.Prelude.{◌≡◌, ℕ, ◌+◌, Bool, false, List, length, Option, Ok, Some, IsTrue}
 use Rattle.std.specs.FinMap as fin
 use Rattle.byte_ranges.specs.Ranges.{SameBelow, SameWithin}
 use Rattle.disk_face.specs.States as disk
@@ -8,7 +8,7 @@ use Rattle.size_class.specs.declared.TheConstants.{SIZE_MAX}
 use Rattle.slot_codec.specs.Spelling.{cap, head_len}
 use Rattle.slot_codec.specs.Choice as choice
 use Rattle.map_model.specs.Maps.{Map}
-use Rattle.segment_layout.specs.Books.{Book, book_end, version_of}
+use Rattle.segment_layout.specs.Books.{Book, book_end, version_of, with_digests}
 use Rattle.table_rules.specs.Opening.{Opens, OpensBy}
 use Rattle.table_rules.specs.Sequences.{HasSequenceUpTo}
 use Rattle.extent_table.specs.declared.spot.Spot.{Spot}
@@ -92,14 +92,14 @@ pub record IsKeptImage (classes : ℕ) (s : StoreValue) (file image : List ℕ) 
   pub sequence : HasSequenceUpTo s.in_use.sequence image
 
 -- A store as it is opened: nothing was moved or asked for, and both books are that of its table.
-abbrev pub opened_store : ℕ → choice.InUse → Spots → List ℕ → List (List ℕ) → StoreValue
-opened_store classes u spots caps grid =
+abbrev pub opened_store : ℕ → choice.InUse → Spots → Option Map → List ℕ → List (List ℕ) → StoreValue
+opened_store classes u spots digests caps grid =
     record {
       in_use = u;
       now = spots;
       kept = spots;
-      book = book_at classes SIZE_MAX u.block.k caps grid spots;
-      kept_book = book_at classes SIZE_MAX u.block.k caps grid spots;
+      book = with_digests digests (book_at classes SIZE_MAX u.block.k caps grid spots);
+      kept_book = with_digests digests (book_at classes SIZE_MAX u.block.k caps grid spots);
       is_broken = false;
       moved = zero_row;
       asked = zero_row;

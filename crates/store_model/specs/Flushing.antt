@@ -5,12 +5,13 @@ use Rattle.disk_face.specs.States as disk
 use Rattle.size_class.specs.declared.TheConstants.{SIZE_MAX}
 use Rattle.slot_codec.specs.Choice as choice
 use Rattle.slot_codec.specs.Names.{IsName}
-use Rattle.slot_codec.specs.Spelling.{head_len}
+use Rattle.slot_codec.specs.Reading.{is_version}
+use Rattle.slot_codec.specs.Spelling.{cap, head_len}
 use Rattle.span_math.specs.declared.span.Span.{Span}
 use Rattle.map_model.specs.Maps.{Map}
 use Rattle.map_model.specs.Requests.{Change, changed}
 use Rattle.segment_layout.specs.Balance.{IsBalanced}
-use Rattle.segment_layout.specs.Books.{Book, is_quiet, new_item, next_book, trigger}
+use Rattle.segment_layout.specs.Books.{Book, digests_after, is_quiet, new_item, next_book, trigger, with_digests}
 use Rattle.segment_layout.specs.Bounds.{Loose}
 use Rattle.segment_layout.specs.Shapes.{boundary_of, end_of, is_boundary}
 use Rattle.extent_table.specs.declared.spot.Spot.{Spot}
@@ -23,7 +24,7 @@ use Rattle.flush_model.specs.Plans.{class_total, numbers_of}
 use Rattle.flush_run.specs.FlushFrames.{FlushFrame, ContentHolds, IsFreeSpace, OpensEither}
 use Rattle.flush_run.specs.Calls.{CallsSoFar, piece_calls}
 use Rattle.flush_run.specs.Hands.{suffix_items}
-use Rattle.flush_run.specs.Parts.{KeepsSettling, HandsValue, SameSizes}
+use Rattle.flush_run.specs.Parts.{KeepsSettling, HandsValue, SameSizes, saved_digests}
 use Rattle.flush_run.specs.Shelved.{phase_now}
 use Rattle.flush_plan.specs.Shelves.{course_of}
 use Rattle.placement_model.specs.Tried.{charged_by}
@@ -34,14 +35,16 @@ use Rattle.store_model.specs.Quiet.{added, sizes_at}
 
 -- ---- before the change
 
--- The parts before a change: the layout holds what stands and what was kept, with the grid of the checkpoint.
+-- The parts before a change: the layout holds what stands and what was kept, with the grid of the checkpoint,
+-- and no more names are live than a table of their version has records.
 pub record MayBegin (classes : ℕ) (kept_grid : List (List ℕ)) (x : HandsValue) : Type 0 where
   pub before : WasBefore classes SIZE_MAX x.caps x.grid kept_grid x.in_use x.table x.spans
   pub base : x.base ≡ head_len x.in_use.block.names
-  pub cap : x.table.cap ≡ x.table.names
+  pub few : fin.len x.table.now ≤ x.table.cap
+  pub cap : x.table.cap ≡ cap x.in_use.block.names x.version
   pub room : x.room ≡ x.in_use.block.names
   pub divisor : x.divisor ≡ x.in_use.block.k
-  pub version : x.version ≡ 1
+  pub version : IsTrue (is_version x.version)
 
 -- a charge of the change finds no room
 abbrev pub NeedsFlushAt : HandsValue → List ℕ → ℕ → Type 0
@@ -55,6 +58,7 @@ pub record TakesOut (name : List ℕ) (x0 x : HandsValue) : Type 0 where
   pub without : IsWithout name x0.table x.table
   pub frees : FreesSpot (fin.get x0.table.now name) (fin.get x0.table.kept name) x0.spans x.spans
   pub asked : x.asked ≡ fold added x0.asked (sizes_at (fin.get x0.table.now name))
+  pub digests : x.table.digests ≡ fin.remove x0.table.digests name
   pub rest : x ≡ record x0 { table = x.table; spans = x.spans; asked = x.asked }
 
 -- A flush of the objects of a table from class b on may begin, in a layout, for some slot and some held
@@ -71,18 +75,20 @@ pub record IsStarted (b k : ℕ) (caps : List ℕ) (e : Extents) (p : PlanState)
   pub value : p ≡ phase_now (course_of k caps (numbers_of k caps b (suffix_items b e) 0) 0) e
 
 -- An object that found room was set, and lifting begins.
-pub record StartsPlaced (b : ℕ) (name : List ℕ) (spot : Spot) (x0 x : HandsValue)
+pub record StartsPlaced (b : ℕ) (name digest : List ℕ) (spot : Spot) (x0 x : HandsValue)
     (p : PlanState) : Type 0 where
   pub key : ℕ
   pub joins : IsWith name spot key x0.table x.table
+  pub digests : x.table.digests ≡ fin.insert x0.table.digests name digest
   pub rest : x ≡ record x0 { table = x.table }
   pub started : IsStarted b x0.divisor x0.caps x.table p
 
 -- An object that waits was set behind the room for what is lifted, and lifting begins.
-pub record StartsWaiting (b : ℕ) (name : List ℕ) (size place : ℕ) (x0 x : HandsValue)
+pub record StartsWaiting (b : ℕ) (name digest : List ℕ) (size place : ℕ) (x0 x : HandsValue)
     (p : PlanState) : Type 0 where
   pub key : ℕ
   pub joins : IsWith name (record { place = place; size = size }) key x0.table x.table
+  pub digests : x.table.digests ≡ fin.insert x0.table.digests name digest
   pub rest : x ≡ record x0 { table = x.table }
   pub value : p ≡ phase_now (course_of x0.divisor x0.caps
       (numbers_of x0.divisor x0.caps b (suffix_items b x0.table) size) size) x.table
@@ -98,9 +104,12 @@ pub record BeforeChange : Type 0 where
   pub kept_book : Book
   pub is_at_rest : Bool
 
--- the book before the change
+-- the book before the change, without digests and with them
+abbrev pub shown_before : ℕ → HandsValue → Book
+shown_before classes x = shown_book classes SIZE_MAX x.in_use.block.k x.caps x.grid x.table.now
+
 abbrev pub book_before : ℕ → HandsValue → Book
-book_before classes x = shown_book classes SIZE_MAX x.in_use.block.k x.caps x.grid x.table.now
+book_before classes x = with_digests (saved_digests x) (shown_before classes x)
 
 -- What stays the same in the flush of a change: it goes from the last checkpoint to what the change makes.
 abbrev pub flight_of : ℕ → HandsValue → Change → ℕ → BeforeChange → FlushFrame
@@ -138,7 +147,7 @@ pub record IsBegun (classes : ℕ) (x0 : HandsValue) (c : Change) (x : HandsValu
     (place : ℕ) : Type 0 where
   pub lifts : (g : BeforeChange) → IsSizedBy g.map x0.table.now
       → BeginsLift (flight_of classes x0 c p.numbers.reach g) x.caps x.grid x.in_use x.table x.spans p
-  pub loose : (m : Map) → IsSizedBy m x0.table.now → IsBalanced x0.in_use.block.k m (book_before classes x0)
+  pub loose : (m : Map) → IsSizedBy m x0.table.now → IsBalanced x0.in_use.block.k m (shown_before classes x0)
       → Loose x0.in_use.block.k p.numbers.reach m (changed c m)
   pub now : x.table.now ≡ spots_after c x0.table.now place
   pub free : IsFreeSpace (fin.remove x0.table.now c.name) x0.table.kept place (object_size c.object)
@@ -153,6 +162,8 @@ pub record IsBegun (classes : ℕ) (x0 : HandsValue) (c : Change) (x : HandsValu
   pub table : IsTable x.table
   pub names : x.table.names ≡ x0.table.names
   pub cap : x.table.cap ≡ x0.table.cap
+  pub few : fin.len x.table.now ≤ x.table.cap
+  pub digests : saved_digests x ≡ digests_after c (saved_digests x0)
   pub rest : x ≡ record x0 { table = x.table; grid = x.grid; spans = x.spans; asked = x.asked }
 
 -- the bytes of a new object, or none

@@ -1,4 +1,5 @@
 pub mod States
+pub mod Digested
 pub mod Connection
 pub mod Codes
 pub mod Stores

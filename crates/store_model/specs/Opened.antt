@@ -24,7 +24,7 @@ use Rattle.reopen.specs.declared.fault.OpenFault.TheVariants as fault
 use Rattle.slot_pair.specs.Finding.{HasDiskCause}
 use Rattle.slot_pair.specs.declared.find.SlotFault.TheVariants as slot
 use Rattle.store_model.specs.Connection.{IsOver, StoreValue, RestsOnTable, base_of, state_of}
-use Rattle.store_model.specs.Plain.{IsUnserved}
+use Rattle.store_model.specs.Plain.{IsPlain, IsUnserved}
 use Rattle.store_model.specs.Stores.{IsStore}
 use Rattle.store_model.specs.States.{State}
 
@@ -95,7 +95,7 @@ pub record IsOpened (classes : ℕ) (file now : List ℕ) (s : StoreValue) : Typ
   pub state : state_of s now ≡ state_at m b s.in_use.sequence
   pub continues : ContinuesFrom table.chosen.header.kind table.chosen.header.sequence s.in_use.sequence
 
--- A store as it is opened: it isn't broken, and nothing was moved or asked for yet.
+-- A store as it is opened: it isn't broken, nothing was moved or asked for yet, and it is of version 1.
 pub record IsFresh (classes : ℕ) (s : StoreValue) : Type 0 where
   pub whole : s.is_broken ≡ false
   pub store : IsStore classes s
@@ -103,6 +103,7 @@ pub record IsFresh (classes : ℕ) (s : StoreValue) : Type 0 where
   pub same_book : s.kept_book ≡ s.book
   pub moved : s.moved ≡ zero_row
   pub asked : s.asked ≡ zero_row
+  pub plain : IsPlain s.book
 
 -- ---- the calls
 

@@ -1,12 +1,14 @@
 -- What goes on with an interrupted flush, and of what a store is made.
-use Rattle.std.specs.Prelude.{◌≡◌, ℕ, ◌<◌, ◌≤◌, ◌^◌, [], IsPermutation, vec_len}
+use Rattle.std.specs.Prelude.{◌≡◌, ℕ, ◌<◌, ◌≤◌, ◌^◌, [], IsPermutation, vec_len, IsTrue}
+use Rattle.std.specs.FinMap as fin
 use Rattle.size_class.specs.Classes.{zero_row}
 use Rattle.size_class.specs.declared.TheConstants.{SIZE_MAX}
 use Rattle.slot_codec.specs.Readable.{IsSuperBlock}
-use Rattle.slot_codec.specs.Spelling.{head_len}
+use Rattle.slot_codec.specs.Reading.{is_version}
+use Rattle.slot_codec.specs.Spelling.{cap, head_len}
 use Rattle.segment_layout.specs.Layouts.{caps_of, divisor_of, grid_of}
 use Rattle.table_rules.specs.Rules.{IsValid}
-use Rattle.extent_table.specs.Extents.{IsTable}
+use Rattle.extent_table.specs.Extents.{IsTable, digests_seen}
 use Rattle.placement_model.specs.Laid.{settled_table}
 use Rattle.flush_model.specs.Phases.{PlanState, phase_of}
 use Rattle.flush_model.specs.Resumed.{numbers_again}
@@ -28,7 +30,7 @@ pub record StartsAgain {C : ℕ} (x : Loaded C) (y : HandsValue) : Type 0 where
   pub moved : y.moved ≡ zero_row
   pub buffer : y.buffer ≡ 65536
   pub base : y.base ≡ head_len x.block.names
-  pub version : y.version ≡ 1
+  pub version : y.version ≡ x.header.version
 
 -- The phase has the items of the table's suffix, and the wall and the slack of its header.
 pub record PacksAgain {C : ℕ} (x : Loaded C) (p : PlanState) : Type 0 where
@@ -45,7 +47,10 @@ pub record MakesStore {C : ℕ} (hands : Hands C) : Type 0 where
   pub block : IsSuperBlock hands.slots.block
   pub kept : hands.table.now ≡ hands.table.kept
   pub names : hands.table.names ≡ hands.slots.block.names
-  pub cap : hands.table.cap ≡ hands.slots.block.names
+  pub digests : digests_seen hands.version hands.table.digests
+      ≡ digests_seen hands.version hands.table.kept_digests
+  pub cap : hands.table.cap ≡ cap hands.slots.block.names hands.version
+  pub few_names : fin.len hands.table.now ≤ hands.table.cap
   pub divisor : divisor_of hands.layout ≡ hands.slots.block.k
   pub valid : IsValid (settled_table C SIZE_MAX hands.slots.block.k (caps_of hands.layout)
       (grid_of hands.layout) hands.table.now)
@@ -53,5 +58,5 @@ pub record MakesStore {C : ℕ} (hands : Hands C) : Type 0 where
   pub spans : hands.guard.spans ≡ []
   pub guard_room : hands.guard.room ≡ hands.slots.block.names
   pub base : hands.base ≡ head_len hands.slots.block.names
-  pub version : hands.version ≡ 1
+  pub version : IsTrue (is_version hands.version)
   pub buffer : vec_len hands.buf ≡ 65536

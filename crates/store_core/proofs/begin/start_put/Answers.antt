@@ -3,6 +3,7 @@ use Rattle.size_class.specs.Rows.{cells_of}
 use Rattle.segment_layout.specs.Layouts.{caps_of, divisor_of, grid_of}
 use Rattle.flush_run.specs.Parts.{parts_of}
 use Rattle.store_model.proofs.BegunLaws.{placed_begun, placed_ends, placed_ready, room_for, waiting_begun, waiting_high, waiting_new, waiting_ready, waiting_some}
+use Rattle.store_model.proofs.DigestLaws.{digest_given}
 use Rattle.store_core.proofs.CopyChargesLaws.{charges_after}
 use Rattle.store_core.proofs.begin.start_put.Goals as goal
 
@@ -120,6 +121,10 @@ returns-in-Some-clause-begun g c =
     r.gone r.place r.class c.boundary-boundary.result ch c.requires.needs_flush
     c.in-Some.place c.in-Some.is (parts_of c.start_placed.new.hands) _
     c.start_placed.result.place c.start_placed.ensures.place c.start_placed.ensures.starts
+    (digest_given c.args.hands.now.version c.args.hands.now.table.digests c.args.bytes.now
+    c.digest_of-digest.result c.digest_of-digest.ensures.own)
+    (room_for may c.args.name.now c.take_out.new.hands.table c.take_out.ensures.without
+    (c.requires.can.room refl))
 
 pub returns-in-None-clause-begun : goal.returns-in-None-clause-begun
 returns-in-None-clause-begun g c =
@@ -135,3 +140,7 @@ returns-in-None-clause-begun g c =
     r.gone r.place r.class c.boundary-boundary.result ch c.requires.needs_flush
     c.in-None.is (parts_of c.start_waiting.new.hands) _
     c.start_waiting.result.place c.start_waiting.ensures.starts
+    (digest_given c.args.hands.now.version c.args.hands.now.table.digests c.args.bytes.now
+    c.digest_of-digest.result c.digest_of-digest.ensures.own)
+    (room_for may c.args.name.now c.take_out.new.hands.table c.take_out.ensures.without
+    (c.requires.can.room refl))

@@ -85,6 +85,7 @@ returns-clause-starts g c =
     record {
       key = c.set-key.result;
       joins = joins;
+      digests = c.set-key.ensures.digests;
       rest = refl;
       value = ap (λ q. phase_now q c.set-key.new.self) course;
       ends = (let holds = start_holds c.requires.start c.args.size c.requires.small in

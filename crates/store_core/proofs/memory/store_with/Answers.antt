@@ -4,6 +4,7 @@ use Rattle.size_class.specs.Classes.{zero_row}
 use Rattle.size_class.specs.Rows.{cells_of}
 use Rattle.data_area.specs.declared.ledger.Ledger.{Ledger}
 use Rattle.segment_layout.specs.Layouts.{caps_of, grid_of}
+use Rattle.extent_table.specs.Extents.{digests_seen}
 use Rattle.flush_run.specs.declared.hands.Hands.{Hands}
 use Rattle.store_model.specs.Connection.{opened_store}
 use Rattle.store_model.specs.Resuming.{MakesStore}
@@ -26,7 +27,9 @@ is_new hands ledger r moved asked = record {
   block = r.block;
   kept = r.kept;
   room = r.names;
+  digests = r.digests;
   cap = r.cap;
+  few_names = r.few_names;
   divisor = r.divisor;
   kept_divisor = r.divisor;
   kept_caps = refl;
@@ -62,5 +65,6 @@ returns g c =
     new_view (made hands ledger)
     (is_new hands ledger (subst (λ h. MakesStore h) (sym c.deref_mut-lent.ensures.value) c.requires)
     said.moved said.asked)
-    ∙ ap (λ (h : Hands g.row.C). opened_store g.row.C h.slots h.table.now (caps_of h.layout)
+    ∙ ap (λ (h : Hands g.row.C). opened_store g.row.C h.slots h.table.now
+    (digests_seen h.version h.table.digests) (caps_of h.layout)
     (grid_of h.layout)) c.deref_mut-lent.ensures.value

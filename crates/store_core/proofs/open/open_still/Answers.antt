@@ -1,10 +1,14 @@
-use Rattle.std.specs.Prelude.{◌≡◌, ◌+◌, Ok}
-use Rattle.std.proofs.Common.{arith, ap, lit<, sym, subst}
+use Rattle.std.specs.Prelude.{◌≡◌, ◌+◌, IsTrue, Ok}
+use Rattle.std.proofs.Common.{◌∙◌, arith, ap, lit<, sym, subst}
 use Rattle.reopen.specs.Loads.{unboxed}
-use Rattle.segment_layout.specs.Layouts.{caps_of, divisor_of}
+use Rattle.extent_table.specs.Extents.{digests_seen}
+use Rattle.segment_layout.specs.Layouts.{caps_of, divisor_of, grid_of}
 use Rattle.segment_layout.specs.declared.layout.Layout.{Layout}
 use Rattle.segment_layout.specs.Shapes.{end_of}
-use Rattle.slot_codec.specs.Spelling.{head_len}
+use Rattle.slot_codec.specs.Reading.{is_version}
+use Rattle.slot_codec.specs.Spelling.{cap, head_len}
+use Rattle.slot_codec.specs.declared.codec.Header.{Header}
+use Rattle.store_model.specs.Connection.{opened_store}
 use Rattle.store_model.specs.Opened.{IsOpening}
 use Rattle.store_model.proofs.StillStoreLaws.{still_laid}
 use Rattle.store_model.proofs.StillLaws.{still_done, still_failed}
@@ -13,6 +17,7 @@ use Rattle.store_core.proofs.open.open_still.Goals as goal
 pub store_in-requires : goal.store_in-requires
 store_in-requires g c =
     let r = c.requires in
+    let same = ap (λ (h : Header). h.version) c.deref-2.ensures in
     let x = unboxed c.args.found in (
       lit< tt,
       (
@@ -27,7 +32,20 @@ store_in-requires g c =
                 r.loads.same_block,
                 (
                   sym r.loads.kept,
-                  (r.loads.room, (r.loads.divisor, (still_laid x r.loads r.still r.fits r.wide).valid)),
+                  (
+                    r.loads.room,
+                    (
+                      subst (λ v. IsTrue (is_version v)) (sym same) r.loads.version,
+                      (
+                        λ two. record {
+                          cap = r.loads.cap ∙ ap (λ v. cap x.block.names v) (sym same ∙ two);
+                          few = r.loads.few;
+                          kept = sym r.loads.kept_digests;
+                        },
+                        (r.loads.divisor, (still_laid x r.loads r.still r.fits r.wide).valid),
+                      ),
+                    ),
+                  ),
                 ),
               ),
             ),
@@ -51,8 +69,10 @@ returns-in-Ok-cut_to g c =
       ap (λ (l : Layout g.row.C). end_of (divisor_of l) (caps_of l)) c.deref.ensures,
       ap (λ k. end_of k (caps_of x.layout)) r.loads.divisor,
     ) in
-    subst (λ s. IsOpening g.row.C a d (Ok s)) (sym c.in-Ok.ensures)
-    (still_done x r.loads r.still r.fits r.wide _ is a d r.from c.in-Ok-cut_to.ensures.short
+    let seen = ap (λ (h : Header). opened_store g.row.C x.slots x.table.now
+    (digests_seen h.version x.table.digests) (caps_of x.layout) (grid_of x.layout)) c.deref-2.ensures in
+    subst (λ s. IsOpening g.row.C a d (Ok s)) (sym (c.in-Ok.ensures ∙ seen))
+    (still_done x r.loads r.still r.fits r.wide r.plain _ is a d r.from c.in-Ok-cut_to.ensures.short
     c.cut_to.ensures.frame c.in-Ok-cut_to.field-0 c.in-Ok-cut_to.ensures.cut c.in-Ok-cut_to.ensures.cause)
 
 pub returns-in-Err : goal.returns-in-Err
@@ -70,5 +90,6 @@ returns-in-Err g c =
       ap (λ (l : Layout g.row.C). end_of (divisor_of l) (caps_of l)) c.deref.ensures,
       ap (λ k. end_of k (caps_of x.layout)) r.loads.divisor,
     ) in
-    still_failed x r.loads r.still r.fits r.wide _ is a d r.from c.in-Err.ensures.short c.cut_to.ensures.frame
+    still_failed x r.loads r.still r.fits r.wide r.plain _ is a d r.from c.in-Err.ensures.short
+    c.cut_to.ensures.frame
     c.in-Err.field-0 c.in-Err.ensures.cut c.in-Err.ensures.cause

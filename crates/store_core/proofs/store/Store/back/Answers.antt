@@ -18,6 +18,7 @@ invariant_of-self g c =
     let invariant = subst IsWhole (sym is_lent) c.self.invariant in
     subst (λ (l : Layout g.row.C). IsWhole (gone l)) (sym c.deref.ensures)
     (back_whole inside invariant c.back.new.self c.clear.new.self c.back.ensures.now c.back.ensures.kept
+    c.back.ensures.digests c.back.ensures.kept_digests
     c.back.ensures.table c.back.ensures.names c.back.ensures.cap c.clear.ensures.empty c.clear.ensures.room)
 
 pub returns-clause-step : goal.returns-clause-step
@@ -32,6 +33,7 @@ returns-clause-step g c file over =
     let s = c.args.self.now in
     let same = ap (λ (l : Layout g.row.C). kept_of (gone l)) c.deref.ensures
     ∙ back_view inside invariant c.back.new.self c.clear.new.self c.back.ensures.now c.back.ensures.kept
+    c.back.ensures.digests c.back.ensures.kept_digests
     ∙ ap gone_back view_is in
     subst (λ (x : StoreValue). Step (limits_of s) (state_of s file) ask.back ask.done (state_of x file))
     (sym same)
@@ -49,6 +51,7 @@ returns-clause-over g c file over =
     let s = c.args.self.now in
     let same = ap (λ (l : Layout g.row.C). kept_of (gone l)) c.deref.ensures
     ∙ back_view inside invariant c.back.new.self c.clear.new.self c.back.ensures.now c.back.ensures.kept
+    c.back.ensures.digests c.back.ensures.kept_digests
     ∙ ap gone_back view_is in
     subst (λ (x : StoreValue). IsOver g.row.C x file) (sym same)
     (over_back s file (c.is_broken.ensures.sound c.if-is_broken.false) over)

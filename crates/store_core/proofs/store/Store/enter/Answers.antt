@@ -1,10 +1,17 @@
+use Rattle.std.specs.Prelude.{Option, ◌≤◌, ◌≡◌}
 use Rattle.std.proofs.Common.{◌∙◌, ◌⊎◌, ◌<◌, ap, arith, lit<, subst, sym, IsSome, inl, inr, rules, refl}
 use Rattle.std.specs.FinMap as fin
 use Rattle.size_class.specs.Rows.{cells_of}
 use Rattle.segment_layout.specs.Layouts.{grid_of}
-use Rattle.extent_table.specs.Extents.{Spots}
+use Rattle.slot_codec.specs.Choice.{Digests}
+use Rattle.slot_codec.specs.Spelling.{cap}
+use Rattle.map_model.specs.Maps.{Map}
+use Rattle.extent_table.specs.Extents.{Spots, digests_seen}
 use Rattle.placement_model.specs.Held.{FreesSpot}
+use Rattle.store_model.specs.Connection.{live_cap}
+use Rattle.store_model.specs.Digested.{digests_with}
 use Rattle.store_model.specs.Stores.{AreInRange}
+use Rattle.store_model.proofs.DigestLaws.{few_put, seen_with, version_with}
 use Rattle.store_model.proofs.ChangeLaws.{can_free, place_ends, store_freed, store_put}
 use Rattle.store_model.proofs.EndLaws.{end_low}
 use Rattle.store_core.proofs.InsideLaws.{changed_view, changed_whole, opened, lent, lent_is}
@@ -74,19 +81,21 @@ invariant_of-self g c =
     let spot = c.args.spot in
     let o = opened inside t view_is invariant c.requires.whole in
     let after = c.set.ensures.now ∙ ap (λ (m : Spots). fin.insert m name spot) o.now in
+    let digests = digests_with name c.args.digest t.book.digests in
+    let same : digests_seen inside.hands.version c.set.new.self.digests ≡ digests =
+    ap (λ (d : Digests). digests_seen inside.hands.version d) c.set.ensures.digests
+    ∙ seen_with inside.hands.version inside.hands.table.digests name c.args.digest
+    ∙ ap (λ (d : Option Map). digests_with name c.args.digest d) o.digests in
     changed_whole inside t view_is invariant c.set.new.self c.free_spot.new.guard
     c.add_size.new.ledger c.args.layout (fin.insert t.now name spot) after c.set.ensures.kept
-    c.requires.caps (c.add_size.ensures.moved ∙ c.add_gone.ensures.moved) c.set.ensures.table
+    c.requires.caps (c.add_size.ensures.moved ∙ c.add_gone.ensures.moved) digests same
+    c.set.ensures.rest.kept_digests c.set.ensures.table
     c.set.ensures.names c.set.ensures.rest.cap c.free_spot.ensures.room c.requires.divisor
     (store_put t o.store name spot.size spot.place (grid_of c.args.layout) c.requires.charged
-    c.requires.named c.requires.small (cells_of c.add_size.new.ledger.asked)
-    (omega (
-      arith,
-      c.set.ensures.table.now_room,
-      c.set.ensures.names,
-      o.room,
-      ap (λ (m : Spots). fin.len m) after,
-    ))
+    c.requires.named c.requires.small digests (cells_of c.add_size.new.ledger.asked)
+    (subst (λ v. fin.len (fin.insert t.now name spot) ≤ cap t.in_use.block.names v)
+    (sym (version_with name c.args.digest t.book.digests t.book t.book))
+    (few_put t.now name spot (live_cap t) o.store.now_few c.requires.room))
     (subst AreInRange after c.set.ensures.table.now_in_range))
     (store_freed t o.store name spot.size spot.place (grid_of c.args.layout) c.requires.charged
     inside.hands.guard.spans c.free_spot.new.guard.spans o.freed
@@ -105,8 +114,14 @@ returns g c =
     let name = c.args.name.now in
     let o = opened inside t view_is invariant c.requires.whole in
     let after = c.set.ensures.now ∙ ap (λ (m : Spots). fin.insert m name c.args.spot) o.now in
+    let digests = digests_with name c.args.digest t.book.digests in
+    let same : digests_seen inside.hands.version c.set.new.self.digests ≡ digests =
+    ap (λ (d : Digests). digests_seen inside.hands.version d) c.set.ensures.digests
+    ∙ seen_with inside.hands.version inside.hands.table.digests name c.args.digest
+    ∙ ap (λ (d : Option Map). digests_with name c.args.digest d) o.digests in
     let view = changed_view inside t view_is invariant c.set.new.self
     c.free_spot.new.guard c.add_size.new.ledger c.args.layout (fin.insert t.now name c.args.spot) after
     c.set.ensures.kept
-    c.requires.caps (c.add_size.ensures.moved ∙ c.add_gone.ensures.moved) in
+    c.requires.caps (c.add_size.ensures.moved ∙ c.add_gone.ensures.moved) digests same
+    c.set.ensures.rest.kept_digests in
     search rules

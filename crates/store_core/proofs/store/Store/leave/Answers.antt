@@ -1,13 +1,21 @@
-use Rattle.std.proofs.Common.{◌∙◌, ap, arith, lit<, subst, sym, refl}
+use Rattle.std.specs.Prelude.{Option, ◌≤◌, ◌≡◌}
+use Rattle.std.proofs.Common.{◌∙◌, ap, arith, lit<, rules, subst, sym, refl}
 use Rattle.std.specs.FinMap as fin
 use Rattle.size_class.specs.Rows.{cells_of}
 use Rattle.segment_layout.specs.Layouts.{grid_of}
-use Rattle.extent_table.specs.Extents.{Spots}
+use Rattle.slot_codec.specs.Choice.{Digests}
+use Rattle.slot_codec.specs.Spelling.{cap}
+use Rattle.map_model.specs.Maps.{Map}
+use Rattle.segment_layout.specs.Books.{digests_after}
+use Rattle.extent_table.specs.Extents.{Spots, digests_seen}
 use Rattle.placement_model.specs.Held.{FreesSpot}
 use Rattle.placement_model.proofs.FreedLaws.{freed_gone}
+use Rattle.store_model.specs.Connection.{live_cap}
+use Rattle.store_model.specs.Quiet.{del_of}
 use Rattle.store_model.specs.Stores.{AreInRange}
+use Rattle.store_model.proofs.DigestLaws.{few_gone, seen_gone, version_after}
 use Rattle.store_model.proofs.ChangeLaws.{can_free, store_gone}
-use Rattle.store_core.proofs.InsideLaws.{changed_whole, opened, lent, lent_is}
+use Rattle.store_core.proofs.InsideLaws.{changed_view, changed_whole, opened, lent, lent_is}
 use Rattle.store_model.proofs.StoreLaws.{small_if_there}
 use Rattle.store_core.specs.Inside.{IsWhole, kept_of}
 use Rattle.store_core.proofs.store.Store.leave.Goals as goal
@@ -53,23 +61,45 @@ invariant_of-self g c =
     let name = c.args.name.now in
     let o = opened inside t view_is invariant c.requires.whole in
     let after = c.remove.ensures.now ∙ ap (λ (m : Spots). fin.remove m name) o.now in
+    let digests = digests_after (del_of name) t.book.digests in
+    let same : digests_seen inside.hands.version c.remove.new.self.digests ≡ digests =
+    ap (λ (d : Digests). digests_seen inside.hands.version d) c.remove.ensures.digests
+    ∙ seen_gone inside.hands.version inside.hands.table.digests name
+    ∙ ap (λ (d : Option Map). digests_after (del_of name) d) o.digests in
     changed_whole inside t view_is invariant c.remove.new.self c.free_spot.new.guard
     c.add_gone.new.ledger c.args.layout (fin.remove t.now name) after c.remove.ensures.kept c.requires.caps
-    c.add_gone.ensures.moved c.remove.ensures.table c.remove.ensures.names c.remove.ensures.rest.cap
+    c.add_gone.ensures.moved digests same c.remove.ensures.rest.kept_digests
+    c.remove.ensures.table c.remove.ensures.names c.remove.ensures.rest.cap
     c.free_spot.ensures.room
     c.requires.divisor
-    (store_gone t o.store name (grid_of c.args.layout) c.requires.charged
+    (store_gone t o.store name (grid_of c.args.layout) c.requires.charged digests
     (cells_of c.add_gone.new.ledger.asked)
-    (omega (
-      arith,
-      c.remove.ensures.table.now_room,
-      c.remove.ensures.names,
-      o.room,
-      ap (λ (m : Spots). fin.len m) after,
-    ))
+    (subst (λ v. fin.len (fin.remove t.now name) ≤ cap t.in_use.block.names v)
+    (sym (version_after (del_of name) t.book.digests t.book t.book))
+    (few_gone t.now name (live_cap t) o.store.now_few))
     (subst AreInRange after c.remove.ensures.table.now_in_range))
     (freed_gone inside.hands.guard.spans t.now t.kept o.freed name c.free_spot.new.guard.spans
     (subst (λ x. FreesSpot x (fin.get t.kept name) inside.hands.guard.spans
     c.free_spot.new.guard.spans) (c.get-now.ensures ∙ ap (λ (m : Spots). fin.get m name) o.now)
     (subst (λ x. FreesSpot c.get-now.result x inside.hands.guard.spans c.free_spot.new.guard.spans)
     (c.old.ensures ∙ ap (λ (m : Spots). fin.get m name) o.kept) c.free_spot.ensures.freed)))
+
+pub returns : goal.returns
+returns g c =
+    let is_lent = lent_is c.self.inside c.deref_mut-hands.ensures.value refl in
+    let inside = lent c.self.inside c.deref_mut-hands.result.now c.self.inside.kept_layout.value in
+    let view_is = ap kept_of is_lent ∙ c.self.view_is in
+    let invariant = subst IsWhole (sym is_lent) c.self.invariant in
+    let t = c.args.self.now in
+    let name = c.args.name.now in
+    let o = opened inside t view_is invariant c.requires.whole in
+    let after = c.remove.ensures.now ∙ ap (λ (m : Spots). fin.remove m name) o.now in
+    let digests = digests_after (del_of name) t.book.digests in
+    let same : digests_seen inside.hands.version c.remove.new.self.digests ≡ digests =
+    ap (λ (d : Digests). digests_seen inside.hands.version d) c.remove.ensures.digests
+    ∙ seen_gone inside.hands.version inside.hands.table.digests name
+    ∙ ap (λ (d : Option Map). digests_after (del_of name) d) o.digests in
+    let view = changed_view inside t view_is invariant c.remove.new.self c.free_spot.new.guard
+    c.add_gone.new.ledger c.args.layout (fin.remove t.now name) after c.remove.ensures.kept c.requires.caps
+    c.add_gone.ensures.moved digests same c.remove.ensures.rest.kept_digests in
+    search rules

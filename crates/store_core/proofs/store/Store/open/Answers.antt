@@ -6,7 +6,7 @@ use Rattle.reopen.specs.declared.fault.OpenFault.{OpenFault}
 use Rattle.store_model.specs.Connection.{StoreValue}
 use Rattle.store_model.specs.Opened.{IsOpening}
 use Rattle.store_model.proofs.OpeningLaws.{opening_then, refused_reading}
-use Rattle.store_model.proofs.PlainLemmas.{plain_from, refused_version}
+use Rattle.store_model.proofs.PlainLemmas.{refused_version}
 use Rattle.store_core.proofs.store.Store.open.Goals as goal
 
 pub returns-in_err-found : goal.returns-in_err-found
@@ -59,10 +59,8 @@ open_moving-requires g c =
                     other,
                     λ told.
                         let was : IsTrue a.tells = sym c.load_state.ensures.frame.stays.told ∙ told in
-                        plain_from d.file x
-                        (subst (λ (f : List ℕ). IsLoadedFrom f x)
-                        (sym (c.load_state.ensures.frame.same_file was)) (c.in_ok-found.ensures.opened was))
-                        other,
+                        subst (λ (f : List ℕ). IsLoadedFrom f x)
+                        (sym (c.load_state.ensures.frame.same_file was)) (c.in_ok-found.ensures.opened was),
                   ),
                 ),
               ),
@@ -92,12 +90,13 @@ open_still-requires g c =
                 c.in_ok-found.ensures.loaded,
                 (
                   still,
-                  λ told.
-                      let was : IsTrue a.tells = sym c.load_state.ensures.frame.stays.told ∙ told in
-                      plain_from d.file x
-                      (subst (λ (f : List ℕ). IsLoadedFrom f x)
-                      (sym (c.load_state.ensures.frame.same_file was)) (c.in_ok-found.ensures.opened was))
-                      other,
+                  (
+                    other,
+                    λ told.
+                        let was : IsTrue a.tells = sym c.load_state.ensures.frame.stays.told ∙ told in
+                        subst (λ (f : List ℕ). IsLoadedFrom f x)
+                        (sym (c.load_state.ensures.frame.same_file was)) (c.in_ok-found.ensures.opened was),
+                  ),
                 ),
               ),
             ),

@@ -1,12 +1,13 @@
-use Rattle.std.proofs.Common.{◌∙◌, ◌+◌, ap, arith, subst, IsTrue, length, refl, sym}
+use Rattle.std.specs.FinMap as fin
+use Rattle.std.proofs.Common.{◌∙◌, ◌+◌, ap, arith, lit<, subst, IsTrue, length, refl, sym}
 use Rattle.byte_ranges.specs.Ranges.{overwritten}
 use Rattle.segment_layout.specs.Layouts.{caps_of, divisor_of, grid_of}
-use Rattle.store_model.specs.Quiet.{put_of}
+use Rattle.store_model.specs.Quiet.{IsCharged, put_of}
 use Rattle.store_model.proofs.ChangeLaws.{apart_kept, place_ends}
 use Rattle.store_core.proofs.EffectLaws.{calls_err, calls_ok, position_fits, quiet_effects}
 use Rattle.store_core.proofs.InsideLaws.{opened, lent, lent_is}
 use Rattle.store_core.proofs.PlanLaws.{put_served}
-use Rattle.store_core.proofs.QuietLaws.{put_over, put_step, put_value}
+use Rattle.store_core.proofs.QuietLaws.{put_entered, put_over, put_step, put_value}
 use Rattle.store_core.specs.Inside.{IsWhole, kept_of}
 use Rattle.store_core.proofs.store.Store.put_planned.Goals as goal
 
@@ -45,6 +46,39 @@ write_new-requires-clause-within g c told =
           c.requires.plan.charged,
     )
 
+pub enter-requires : goal.enter-requires
+enter-requires g c =
+    let t = c.args.self.now in
+    let plan = c.args.plan in
+    let name = c.args.name.now in
+    let p = c.requires.plan in
+    let served = put_served t name c.args.bytes.now p.served in (
+      lit< tt,
+      (
+        lit< tt,
+        (
+          served.whole,
+          (
+            served.named,
+            (
+              served.room,
+              (
+                omega (arith, served.small, p.size),
+                (
+                  p.divisor,
+                  (
+                    p.same_caps,
+                    subst (λ n. IsCharged t.in_use.block.k t.book.caps t.book.grid (fin.get t.now name) n
+                        (grid_of plan.layout) plan.spot.place) (sym p.size) p.charged,
+                  ),
+                ),
+              ),
+            ),
+          ),
+        ),
+      ),
+    )
+
 pub returns-in-Ok-clause-quiet : goal.returns-in-Ok-clause-quiet
 returns-in-Ok-clause-quiet g c =
     let is_lent = lent_is c.self.inside c.deref.ensures refl in
@@ -64,7 +98,10 @@ returns-in-Ok-clause-quiet g c =
     (apart_kept t c.requires.sound c.args.name.now size plan.spot.place (grid_of plan.layout)
     c.requires.plan.charged) c.write_new.ensures.writes (calls_ok _ _ c.in-Ok.ensures.calls)
     (put_value t c.requires.sound c.args.name.now c.args.bytes.now (divisor_of plan.layout)
-    (caps_of plan.layout) (grid_of plan.layout) plan.spot c.requires.plan c.enter.new.self c.enter.ensures)
+    (caps_of plan.layout) (grid_of plan.layout) plan.spot c.requires.plan c.enter.new.self
+    (put_entered t c.requires.sound c.args.name.now c.args.bytes.now (divisor_of plan.layout)
+    (caps_of plan.layout) (grid_of plan.layout) plan.spot c.requires.plan _
+    c.own_digest-digest.ensures.own c.enter.new.self c.enter.ensures))
 
 pub returns-in-Err-clause-quiet : goal.returns-in-Err-clause-quiet
 returns-in-Err-clause-quiet g c =
@@ -101,7 +138,10 @@ returns-in-Ok-clause-step g c told =
     (c.requires.over served.whole told)
     (c.in-Ok.ensures.written told
     ∙ ap (λ b. overwritten file (b + plan.spot.place) c.args.bytes.now) o.base)
-    c.enter.new.self c.enter.ensures
+    c.enter.new.self
+    (put_entered t c.requires.sound c.args.name.now c.args.bytes.now (divisor_of plan.layout)
+    (caps_of plan.layout) (grid_of plan.layout) plan.spot c.requires.plan _
+    c.own_digest-digest.ensures.own c.enter.new.self c.enter.ensures)
 
 pub returns-in-Ok-clause-over : goal.returns-in-Ok-clause-over
 returns-in-Ok-clause-over g c whole told =
@@ -121,4 +161,7 @@ returns-in-Ok-clause-over g c whole told =
     (c.requires.over served.whole first)
     (c.in-Ok.ensures.written first
     ∙ ap (λ b. overwritten file (b + plan.spot.place) c.args.bytes.now) o.base)
-    c.enter.new.self c.enter.ensures
+    c.enter.new.self
+    (put_entered t c.requires.sound c.args.name.now c.args.bytes.now (divisor_of plan.layout)
+    (caps_of plan.layout) (grid_of plan.layout) plan.spot c.requires.plan _
+    c.own_digest-digest.ensures.own c.enter.new.self c.enter.ensures)

@@ -1,18 +1,20 @@
+use Rattle.std.specs.Prelude.{IsTrue}
 use Rattle.std.proofs.Common.{◌∙◌, ap, arith, refl, rules, subst, sym, true}
 use Rattle.store_model.specs.Connection.{StoreValue}
 use Rattle.std.specs.Vec.{with_items}
-use Rattle.size_class.specs.declared.TheConstants.{SIZE_MAX}
 use Rattle.slot_codec.specs.Spelling.{cap}
 use Rattle.slot_codec.specs.declared.codec.Header.{Header}
-use Rattle.slot_codec.proofs.CapLaws.{cap-one}
+use Rattle.slot_codec.specs.Reading.{is_version}
 use Rattle.segment_layout.specs.Layouts.{caps_of, grid_of}
-use Rattle.extent_table.proofs.RollLaws.{rolled-few}
+use Rattle.extent_table.specs.Extents.{digests_seen}
 use Rattle.extent_table.proofs.SaveLaws.{rolled_in_range}
-use Rattle.placement_model.specs.LaidOut.{shown_book}
+use Rattle.flush_run.proofs.RolledLaws.{rolled_count}
+use Rattle.store_model.specs.Digested.{digested_book}
 use Rattle.store_core.specs.Inside.{kept_of, IsWhole}
 use Rattle.store_core.proofs.EffectLaws.{calls_err, calls_ok}
-use Rattle.store_core.proofs.KeepEffectLaws.{keep_done, keep_failed, keep_over, keep_step, kept_view, kept_whole}
-use Rattle.store_core.proofs.InsideLaws.{lent, lent_is}
+use Rattle.store_core.proofs.KeepEffectLaws.{header_is, keep_done, keep_failed, keep_over, keep_step, kept_view, kept_whole}
+use Rattle.store_core.proofs.KeepLaws.{length-records_of}
+use Rattle.store_core.proofs.InsideLaws.{few_live, lent, lent_is}
 use Rattle.store_core.proofs.store.Store.save_now.Goals as goal
 
 pub save-requires-clause-save : goal.save-requires-clause-save
@@ -22,18 +24,21 @@ save-requires-clause-save g c =
     let view_is = ap kept_of is_lent ∙ c.self.view_is in
     let invariant = subst IsWhole (sym is_lent) c.self.invariant in
     let names = inside.hands.slots.block.names in
-    let table = invariant.table (ap (λ (x : StoreValue). x.is_broken) view_is ∙ c.requires.whole) in
+    let unbroken = ap (λ (x : StoreValue). x.is_broken) view_is ∙ c.requires.whole in
+    let table = invariant.table unbroken in
     record {
       fresh = omega (arith, c.requires.fresh, ap (λ (x : StoreValue). x.in_use.sequence) view_is);
-      version = rw c.settled_header-next.ensures.header refl;
+      version = subst (λ v. IsTrue (is_version v))
+          (sym (ap (λ (h : Header). h.version) c.settled_header-next.ensures.header)) invariant.version;
       ranges = c.settled_header-next.ensures.ranges;
       records = rolled_in_range inside.hands.table table;
       count = omega (
         arith,
-        rolled-few inside.hands.table table,
-        invariant.room,
+        rolled_count inside.hands.table.now inside.hands.table.digests,
+        length-records_of inside.hands.table.now table.now_named,
+        few_live inside invariant unbroken,
+        invariant.cap,
         ap (λ (h : Header). cap names h.version) c.settled_header-next.ensures.header,
-        cap-one names,
       );
     }
 
@@ -46,14 +51,18 @@ returns-in-Err-clause-kept g c =
     let same = c.in-Err.ensures.same_pair in
     keep_failed inside c.args.self.now view_is invariant c.requires.whole
     c.requires.fresh
-    c.settled_header-next.result c.settled_header-next.ensures.header c.requires.over c.save.ensures.left
+    c.settled_header-next.result
+    (header_is inside invariant c.settled_header-next.result c.settled_header-next.ensures.header)
+    c.requires.over c.save.ensures.left
     c.save.ensures.frame _ _
     (λ i. record (kept_of inside) {
       in_use = same i;
-      book = shown_book g.row.C SIZE_MAX (same i).block.k (caps_of inside.hands.layout)
-          (grid_of inside.hands.layout) inside.hands.table.now;
-      kept_book = shown_book g.row.C SIZE_MAX (same i).block.k (caps_of inside.hands.layout)
-          (grid_of inside.kept_layout) inside.hands.table.kept;
+      book = digested_book g.row.C (same i).block.k (caps_of inside.hands.layout)
+          (grid_of inside.hands.layout) inside.hands.table.now
+          (digests_seen inside.hands.version inside.hands.table.digests);
+      kept_book = digested_book g.row.C (same i).block.k (caps_of inside.hands.layout)
+          (grid_of inside.kept_layout) inside.hands.table.kept
+          (digests_seen inside.hands.version inside.hands.table.kept_digests);
       is_broken = true;
     }) (calls_err _ _ c.in-Err.ensures.calls)
 
@@ -64,7 +73,7 @@ invariant_of-self g c =
     let invariant = subst IsWhole (sym is_lent) c.self.invariant in
     kept_whole inside invariant c.keep_spots.new.table
     c.keep_spots.new.guard c.save.new.self _ c.in-Ok.ensures.pair.pair c.keep_spots.ensures.now
-    c.keep_spots.ensures.kept
+    c.keep_spots.ensures.kept c.keep_spots.ensures.digests c.keep_spots.ensures.kept_digests
     c.keep_spots.ensures.table c.keep_spots.ensures.names c.keep_spots.ensures.cap c.keep_spots.ensures.empty
     c.keep_spots.ensures.room
     (search rules)
@@ -76,12 +85,15 @@ returns-in-Ok-clause-kept g c =
     let view_is = ap kept_of is_lent ∙ c.self.view_is in
     let invariant = subst IsWhole (sym is_lent) c.self.invariant in
     keep_done inside c.args.self.now view_is invariant c.requires.whole c.requires.fresh
-    c.settled_header-next.result c.settled_header-next.ensures.header c.requires.over c.save.ensures.left
+    c.settled_header-next.result
+    (header_is inside invariant c.settled_header-next.result c.settled_header-next.ensures.header)
+    c.requires.over c.save.ensures.left
     c.save.ensures.frame (λ told. (c.in-Ok.ensures.done told).saved)
     (λ told. (c.in-Ok.ensures.done told).in_use) _
     (kept_view inside invariant c.keep_spots.new.table c.keep_spots.new.guard c.save.new.self
     (with_items inside.hands.buf c.save.new.buf) c.in-Ok.ensures.pair.pair c.keep_spots.ensures.now
-    c.keep_spots.ensures.kept) _ (λ told. (c.in-Ok.ensures.done told).rests)
+    c.keep_spots.ensures.kept c.keep_spots.ensures.digests c.keep_spots.ensures.kept_digests) _
+    (λ told. (c.in-Ok.ensures.done told).rests)
     (calls_ok _ _ c.in-Ok.ensures.calls)
 
 pub returns-in-Ok-clause-step : goal.returns-in-Ok-clause-step
@@ -91,12 +103,14 @@ returns-in-Ok-clause-step g c =
     let view_is = ap kept_of is_lent ∙ c.self.view_is in
     let invariant = subst IsWhole (sym is_lent) c.self.invariant in
     keep_step inside c.args.self.now view_is invariant c.requires.whole c.requires.fresh
-    c.settled_header-next.result c.settled_header-next.ensures.header c.requires.over c.save.ensures.left
+    c.settled_header-next.result
+    (header_is inside invariant c.settled_header-next.result c.settled_header-next.ensures.header)
+    c.requires.over c.save.ensures.left
     c.save.ensures.frame (λ told. (c.in-Ok.ensures.done told).saved)
     (λ told. (c.in-Ok.ensures.done told).in_use) _
     (kept_view inside invariant c.keep_spots.new.table c.keep_spots.new.guard c.save.new.self
     (with_items inside.hands.buf c.save.new.buf) c.in-Ok.ensures.pair.pair c.keep_spots.ensures.now
-    c.keep_spots.ensures.kept)
+    c.keep_spots.ensures.kept c.keep_spots.ensures.digests c.keep_spots.ensures.kept_digests)
 
 pub returns-in-Ok-clause-over : goal.returns-in-Ok-clause-over
 returns-in-Ok-clause-over g c unbroken =
@@ -105,9 +119,11 @@ returns-in-Ok-clause-over g c unbroken =
     let view_is = ap kept_of is_lent ∙ c.self.view_is in
     let invariant = subst IsWhole (sym is_lent) c.self.invariant in
     keep_over inside c.args.self.now view_is invariant c.requires.whole c.requires.fresh
-    c.settled_header-next.result c.settled_header-next.ensures.header c.requires.over c.save.ensures.left
+    c.settled_header-next.result
+    (header_is inside invariant c.settled_header-next.result c.settled_header-next.ensures.header)
+    c.requires.over c.save.ensures.left
     c.save.ensures.frame (λ told. (c.in-Ok.ensures.done told).saved)
     (λ told. (c.in-Ok.ensures.done told).in_use) _
     (kept_view inside invariant c.keep_spots.new.table c.keep_spots.new.guard c.save.new.self
     (with_items inside.hands.buf c.save.new.buf) c.in-Ok.ensures.pair.pair c.keep_spots.ensures.now
-    c.keep_spots.ensures.kept)
+    c.keep_spots.ensures.kept c.keep_spots.ensures.digests c.keep_spots.ensures.kept_digests)
