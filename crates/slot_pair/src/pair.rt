@@ -13,7 +13,7 @@ use crate::find::{choose, read_chosen_header};
 use crate::save::{close_other, header_is_whole, open_gate};
 use crate::{Found, SlotFault, slot_at};
 use disk_face::{Disk, DiskFault};
-use slot_codec::{Header, Roll};
+use slot_codec::{Header, Roll, SuperBlock};
 use std::marker::Model;
 
 /// The two slots of a file and which one is in use. Contracts see it as the slot in use: the
@@ -68,6 +68,13 @@ impl SlotPair {
         ensures { result ≡ in_use_of found.now }
     {
         SlotPair { found: *found }
+    }
+
+    /// The superblock of the file.
+    pub fn block(&self) -> SuperBlock
+        ensures { result ≡ self.now.block }
+    {
+        self.found.block
     }
 
     /// The sequence of the slot in use.

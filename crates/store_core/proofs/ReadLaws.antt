@@ -40,7 +40,7 @@ pub found_within : {classes : ℕ} (s : StoreValue) (file : List ℕ) → IsStor
 found_within s file h over moment.Now name x there = now_lies s file h over name x there
 found_within s file h over moment.Kept name x there = kept_lies s file h over name x there
 
-found_object : {classes : ℕ} (s : StoreValue) (file : List ℕ) → IsStore classes s → (m : Moment)
+pub found_object : {classes : ℕ} (s : StoreValue) (file : List ℕ) → IsStore classes s → (m : Moment)
     (name : List ℕ) (x : Spot) → spot_read s (asks_for m name) ≡ Some x
     → object_read (state_of s file) (asks_for m name) ≡ object_at (base_of s) file x
 found_object s file h moment.Now name x there = object_there (base_of s) file s.now name x h.now.named there

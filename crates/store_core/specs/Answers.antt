@@ -58,6 +58,11 @@ abbrev pub AnswersRead : Option Refusal → ℕ → Result ℕ Refusal → Type 
 AnswersRead None n result = (result ≡ Ok n) ⊎ (result ≡ Err why.Disk) ⊎ (result ≡ Err why.Sink)
 AnswersRead (Some refused) n result = result ≡ Err refused
 
+-- the same without a sink
+abbrev pub AnswersFetch : Option Refusal → ℕ → Result ℕ Refusal → Type 0
+AnswersFetch None n result = (result ≡ Ok n) ⊎ (result ≡ Err why.Disk)
+AnswersFetch (Some refused) n result = result ≡ Err refused
+
 -- the answer is the refusal; where there is none, it is Ok, or the sink failed
 abbrev pub AnswersList : {T : Type 0} → Option Refusal → Result T Refusal → Type 0
 AnswersList None result = IsOk result ⊎ (result ≡ Err why.Sink)

@@ -7,6 +7,7 @@ mod begin;
 mod change;
 mod copy;
 mod digest;
+mod fetch;
 mod flush;
 mod held;
 mod keep;

@@ -127,7 +127,7 @@ impl<const C: usize> Store<C> {
     }
 
     /// Where an object of now or of the last checkpoint stands.
-    fn find(&self, moment: Moment, name: &[u8]) -> Result<Spot, Refusal>
+    pub(crate) fn find(&self, moment: Moment, name: &[u8]) -> Result<Spot, Refusal>
         ensures answer { AnswersSpot (refused_by self.now (asks_for moment name.now))
             (spot_read self.now (asks_for moment name.now)) result }
         ensures sound { self.now.is_broken ≡ false → IsStore C self.now }

@@ -7,11 +7,8 @@ use crate::Gauge;
 use data_area::Ledger;
 use flush_run::Hands;
 use segment_layout::Layout;
-use slot_codec::{HEADER_LEN, RECORD_LEN, SUPERBLOCK_LEN};
+use slot_codec::cap;
 use std::marker::Model;
-
-/// How long a file would be before its data part, were there room for no name.
-const HEAD_LEN_OF_NONE: u64 = (SUPERBLOCK_LEN + 2 * (HEADER_LEN + 1) + 1) as u64;
 
 /// A store over its disk: where the objects stand now, and where they stood at the last checkpoint.
 /// Contracts see it as `StoreValue`.
@@ -42,6 +39,7 @@ impl<const C: usize> Model for Store<C> {
 }
 
 impl<const C: usize> Store<C> {
+    ghost use Rattle.store_model.specs.Connection.{live_cap};
     ghost use Rattle.store_model.specs.Stores.{IsStore};
 
     /// Whether a changing call of this store failed.
@@ -64,12 +62,19 @@ impl<const C: usize> Store<C> {
         }
     }
 
-    /// How many names there may be.
+    /// How many names the superblock says: as many records of version 1 a slot has room for.
     pub fn names(&self) -> u64
         ensures { result ≡ self.now.in_use.block.names }
     {
-        // The data part stands behind two slots, each with room for a record of each name.
-        (self.hands.base - HEAD_LEN_OF_NONE) / (2 * RECORD_LEN as u64)
+        self.hands.slots.block().names
+    }
+
+    /// How many names may be live: as many as a table of the store's version has records.
+    pub fn cap(&self) -> u64
+        ensures { result ≡ live_cap self.now }
+    {
+        let hands = &*self.hands;
+        cap(hands.slots.block().names, hands.version)
     }
 
     /// The bytes moved, and those put and removed, since the store was opened.

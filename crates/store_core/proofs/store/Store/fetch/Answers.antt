@@ -1,0 +1,41 @@
+use Rattle.std.specs.Prelude.{◌≡◌, List, ℕ, IfOk, take}
+use Rattle.std.proofs.Common.{ap, arith, lit<, subst, sym}
+use Rattle.store_core.specs.Answers.{size_at}
+use Rattle.store_core.specs.Readings.{asks_for}
+use Rattle.store_core.specs.declared.answers.Moment.TheVariants as moment
+use Rattle.store_core.proofs.ReadLaws.{found_in_range, found_object, found_within}
+use Rattle.store_core.proofs.ReadingLaws.{is_found}
+use Rattle.store_core.proofs.store.Store.fetch.Goals as goal
+
+pub fetch_spot-requires : goal.fetch_spot-requires
+fetch_spot-requires g c =
+    let s = c.args.self.now in
+    let name = c.args.name.now in
+    let f = is_found s (asks_for moment.Now name) c.in-Ok.spot c.in-Ok.ensures.answer
+    c.in-Ok.ensures.sound in (
+      lit< tt,
+      (
+        c.requires.ready,
+        (
+          f.sound,
+          (
+            found_in_range s f.sound moment.Now name c.in-Ok.spot f.there,
+            (
+              omega (arith, c.requires.room, ap size_at f.there),
+              λ told. found_within s (g.D.Disk.state c.args.disk.now).file f.sound
+                  (c.requires.over f.whole told) moment.Now name c.in-Ok.spot f.there,
+            ),
+          ),
+        ),
+      ),
+    )
+
+pub returns-in-Ok-clause-fetched : goal.returns-in-Ok-clause-fetched
+returns-in-Ok-clause-fetched g c whole told =
+    let s = c.args.self.now in
+    let name = c.args.name.now in
+    let f = is_found s (asks_for moment.Now name) c.in-Ok.spot c.in-Ok.ensures.answer
+    c.in-Ok.ensures.sound in
+    subst (λ (b : List ℕ). IfOk c.fetch_spot.result (λ n. take n c.fetch_spot.new.out ≡ b))
+    (sym (found_object s (g.D.Disk.state c.args.disk.now).file f.sound moment.Now name c.in-Ok.spot f.there))
+    (c.fetch_spot.ensures.fetched told)

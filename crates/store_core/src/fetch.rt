@@ -1,0 +1,61 @@
+//! Reading an object into memory.
+ghost use Rattle.std.specs.Prelude.{◌≡◌, ◌+◌, ◌≤◌, false, IfOk, IsTrue, None, length, take};
+ghost use Rattle.std.specs.FinMap as fin;
+ghost use Rattle.disk_face.specs.Frames.{Unchanged};
+ghost use Rattle.slot_pair.specs.Finding.{HasDiskCause};
+ghost use Rattle.extent_table.specs.Extents.{IsInRange};
+ghost use Rattle.placement_model.specs.Reads.{object_at};
+ghost use Rattle.map_model.specs.Requests as ask;
+ghost use Rattle.store_core.specs.Answers.{AnswersFetch, refused_by, size_at};
+ghost use Rattle.store_model.specs.Connection.{IsConnected, base_of, state_of};
+ghost use Rattle.store_model.specs.States.{object_in};
+ghost use Rattle.store_model.specs.Stores.{IsStore};
+
+use crate::{Moment, Refusal, Store};
+use disk_face::{Disk, DiskFault, read};
+use extent_table::Spot;
+
+impl<const C: usize> Store<C> {
+    /// Reads an object into the front of `out`, where `get` would put it. The answer is how many bytes
+    /// it has; they have to fit. It is refused as a `get` is, and the disk may fail.
+    pub fn fetch<D: Disk>(&self, disk: &mut D, name: &[u8], out: &mut [u8]) -> Result<u64, Refusal>
+        requires ready { IsTrue (D.state disk.old).is_ready }
+        requires over { IsConnected C self.now (D.state disk.old) }
+        requires room { size_at (fin.get self.now.now name.now) ≤ length out.old }
+        ensures answer { AnswersFetch (refused_by self.now (ask.get name.now))
+            (size_at (fin.get self.now.now name.now)) result }
+        ensures fetched { self.now.is_broken ≡ false → IsTrue (D.state disk.old).tells
+            → IfOk result (λ n. take n out.new
+            ≡ object_in (state_of self.now (D.state disk.old).file).map name.now) }
+        ensures frame { Unchanged (D.state disk.old) (D.state disk.new) }
+        ensures disk_cause { HasDiskCause Refusal.Disk (D.state disk.old).faults
+            (D.state disk.new).faults result }
+    {
+        match self.find(Moment::Now, name) {
+            Ok(spot) => self.fetch_spot(disk, spot, out),
+            Err(refusal) => Err(refusal),
+        }
+    }
+
+    /// Reads the bytes at a spot into the front of `out`.
+    fn fetch_spot<D: Disk>(&self, disk: &mut D, spot: Spot, out: &mut [u8]) -> Result<u64, Refusal>
+        requires ready { IsTrue (D.state disk.old).is_ready }
+        requires sound { IsStore C self.now }
+        requires range { IsInRange spot }
+        requires room { spot.size ≤ length out.old }
+        requires within { IsTrue (D.state disk.old).tells
+            → base_of self.now + spot.place + spot.size ≤ length (D.state disk.old).file }
+        ensures answer { AnswersFetch None spot.size result }
+        ensures fetched { IsTrue (D.state disk.old).tells → IfOk result (λ n. take n out.new
+            ≡ object_at (base_of self.now) (D.state disk.old).file spot) }
+        ensures frame { Unchanged (D.state disk.old) (D.state disk.new) }
+        ensures disk_cause { HasDiskCause Refusal.Disk (D.state disk.old).faults
+            (D.state disk.new).faults result }
+    {
+        let at = self.hands.base + spot.place;
+        match read(disk, at, &mut out[..spot.size as usize]) {
+            Ok(()) => Ok(spot.size),
+            Err(DiskFault) => Err(Refusal::Disk),
+        }
+    }
+}
