@@ -61,9 +61,6 @@ puts_front xs a b fault end puts =
       };
     }
 
-pub not_empty_behind : (xs : List ℕ) → xs ++ 10 ∷ [] ≡ [] → ⊥
-not_empty_behind xs none = omega (arith, ap length none, length-append xs (10 ∷ []))
-
 -- nothing was put
 pub puts_none : {T : Type 0} (xs a b : List ℕ) (end : End) → b ≡ a → PutsText {T = T} xs a b (Err end)
 puts_none xs a b end same = record {

@@ -1,6 +1,6 @@
 -- Replies to reads: an object, a list, or what is told of an object that is there.
 use Rattle.std.specs.Prelude.{◌≡◌, ℕ, Bool, true, false, List, ◌++◌, length, codes, Option, Some, None, Result, Ok, Err, IfErr, IfOk, IsTrue, refl}
-use Rattle.std.proofs.Common.{ap, sym, ◌∙◌, subst}
+use Rattle.std.proofs.Common.{ap, sym, ◌∙◌, subst, append_assoc}
 use Rattle.std.specs.FinMap as fin
 use Rattle.disk_face.specs.Devices.{devices}
 use Rattle.disk_face.specs.States as disk
@@ -34,7 +34,7 @@ use Rattle.ask_session.specs.Putting.{PutsAnswer}
 use Rattle.ask_session.specs.ReplyLines.{Answers, answer_of}
 use Rattle.ask_session.specs.Serving.{IsServingFault, PutsText, Replies, acknowledges, calls_of, is_changing, is_disk, is_disk_fault, reply_at, served_at}
 use Rattle.ask_session.proofs.AnswerLaws.{refused_head, refused_is}
-use Rattle.ask_session.proofs.PutLaws.{not_empty_behind, puts_as, puts_cut, puts_then}
+use Rattle.ask_session.proofs.PutLaws.{puts_as, puts_cut, puts_then}
 use Rattle.ask_session.specs.Ready.{CanServe}
 use Rattle.ask_session.proofs.ServingLaws.{StaysAt, refusal_at}
 use Rattle.ask_session.proofs.ReplyLaws.{no_disk_fault, sink_calm, sink_serving, answers_replies, reads_replies, object_size, live_if}
@@ -55,49 +55,22 @@ module _ {classes : ℕ} (r : Request) (s : StoreValue) (a : disk.State) (h : Ca
   reply_is told = ap (λ (x : Served). x.reply) (is told)
 
   text_is : IsTrue a.tells
-      → first_line (head.Data size) ++ (object ++ codes "\n") ≡ reply_text (reply_at s a.file r)
-  text_is told = ap (λ (m : ℕ). first_line (head.Data m) ++ (object ++ codes "\n")) (sym (long told))
+      → first_line (head.Data size) ++ object ++ codes "\n" ≡ reply_text (reply_at s a.file r)
+  text_is told = append_assoc (first_line (head.Data size)) object (codes "\n")
+      ∙ ap (λ (m : ℕ). first_line (head.Data m) ++ (object ++ codes "\n")) (sym (long told))
       ∙ ap reply_text (sym (reply_is told))
 
-  pub found_replies : (d : disk.State) (out mid after : SinkState) (x : Result (Unit {0}) End)
-      (result : Result Bool End)
-      → Unchanged a d → x ≡ Ok tt → (IsTrue out.tells
-      → PutsText (first_line (head.Data size)) out.given mid.given x)
-      → HasSinkCause ends.Sink out mid x → IfOk result (λ kept. kept ≡ false)
-      → (IsTrue a.tells → IsTrue mid.tells → PutsText (object ++ codes "\n") mid.given after.given result)
+  pub found_replies : (d : disk.State) (out after : SinkState) (result : Result Bool End)
+      → Unchanged a d → IfOk result (λ kept. kept ≡ false)
+      → (IsTrue a.tells → IsTrue out.tells
+      → PutsText (first_line (head.Data size) ++ object ++ codes "\n") out.given after.given result)
       → IfErr result IsServingFault → HasDiskCause ends.Disk a.faults d.faults result
-      → HasSinkCause ends.Sink mid after result
+      → HasSinkCause ends.Sink out after result
       → Replies classes r s s (devices a out) (devices d after) result
-  found_replies d out mid after x result same ok first first_cause kept puts only disk_cause sink_cause =
+  found_replies d out after result same kept puts only disk_cause sink_cause =
       reads_replies r s a d out after result h asks same stays (λ told. ap acknowledges (reply_is told)) kept
-      (λ told sink. puts_as _ _ out.given after.given result (text_is told)
-      (puts_then (first_line (head.Data size)) (object ++ codes "\n") out.given mid.given after.given result
-      (λ fault. not_empty_behind object) (whole sink) (puts told (subst IsTrue (sym first_cause.told) sink))))
-      only disk_cause (sink_cause_after calm_first first_cause.told sink_cause)
-    where
-      whole : IsTrue out.tells → mid.given ≡ out.given ++ first_line (head.Data size)
-      whole sink = (subst (λ (y : Result (Unit {0}) End). PutsText (first_line
-          (head.Data size)) out.given mid.given y) ok
-          (first sink)).all
-
-      calm_first : mid.faults ≡ out.faults
-      calm_first = (subst (λ (y : Result (Unit {0}) End). HasSinkCause ends.Sink out mid y) ok
-          first_cause).calm (λ is. absurd (cc))
-
-  pub cut_replies : (out mid : SinkState) (end : End) → end ≡ ends.Sink
-      → (IsTrue out.tells → PutsText {T = Unit {0}} (first_line (head.Data size)) out.given mid.given
-      (Err end))
-      → HasSinkCause {T = Unit {0}} ends.Sink out mid (Err end)
-      → Replies classes r s s (devices a out) (devices a mid) (Err end)
-  cut_replies out mid end sink_end first cause =
-      reads_replies r s a a out mid (Err end) h asks (unchanged_itself a h.ready) stays
-      (λ told. ap acknowledges (reply_is told)) tt
-      (λ told sink. puts_as _ _ out.given mid.given (Err end) (text_is told)
-      (puts_cut (first_line (head.Data size)) (object
-      ++ codes "\n") out.given mid.given end sink_end (first sink)))
-      (subst IsServingFault (sym sink_end) tt)
-      (calm_disk (λ is. no_disk_fault (Err end) (ap is_disk sink_end) is) refl)
-      (sink_cause_as cause (λ is. ap (λ (x : End). Err x) sink_end) (λ is. ap (λ (x : End). Err x) sink_end))
+      (λ told sink. puts_as _ _ out.given after.given result (text_is told) (puts told sink))
+      only disk_cause sink_cause
 
 -- ---- lists
 

@@ -9,12 +9,14 @@ ghost use Rattle.store_model.specs.Connection.{state_of};
 ghost use Rattle.store_model.specs.Lines.{lines_of, listing_of};
 ghost use Rattle.store_core.specs.Readings.{asks_for, object_read};
 ghost use Rattle.store_core.specs.Reads.{HasSinkCause};
+ghost use Rattle.ask_text.specs.Replies.{first_line};
+ghost use Rattle.ask_text.specs.declared.reply.Reply.TheVariants as head;
 ghost use Rattle.ask_session.specs.Ready.{CanServe};
 ghost use Rattle.ask_session.specs.Serving.{IsServingFault, PutsText, Replies};
 
 use crate::End;
 use crate::heads::{answer_of, fault_of, put_answer, put_end, say};
-use ask_text::Reply;
+use ask_text::{Reply, write_reply};
 use disk_face::{Disk, Sink};
 use store_core::{Moment, Store};
 
@@ -32,10 +34,7 @@ pub(crate) fn serve_object<const C: usize, D: Disk, O: Sink>(
         result }
 {
     match store.size_of(moment, name) {
-        Ok(size) => match say(output, &Reply::Data { size }) {
-            Ok(()) => give(store, moment, disk, name, output),
-            Err(end) => Err(end),
-        },
+        Ok(size) => give(store, moment, disk, name, size, output),
         Err(why) => put_answer(output, answer_of(why)),
     }
 }
@@ -74,18 +73,21 @@ fn put_list<const C: usize, O: Sink>(store: &Store<C>, output: &mut O) -> Result
     }
 }
 
-/// Puts the bytes of an object, and a newline.
+/// Puts the first line of a reply that is an object of this size, directly before its first byte, then the
+/// object, and a newline.
 fn give<const C: usize, D: Disk, O: Sink>(
     store: &mut Store<C>,
     moment: Moment,
     disk: &mut D,
     name: &[u8],
+    size: u64,
     output: &mut O,
 ) -> Result<bool, End>
     requires can { CanServe C store.old (D.state disk.old) }
     requires served { refused_by store.old (asks_for moment name.now) ≡ None }
     ensures puts { IsTrue (D.state disk.old).tells → IsTrue (O.state output.old).tells → PutsText
-        (object_read (state_of store.old (D.state disk.old).file) (asks_for moment name.now) ++ codes "\n")
+        (first_line (head.Data size)
+        ++ object_read (state_of store.old (D.state disk.old).file) (asks_for moment name.now) ++ codes "\n")
         (O.state output.old).given (O.state output.new).given result }
     ensures kept { IfOk result (λ kept. kept ≡ false) }
     ensures only { IfErr result IsServingFault }
@@ -94,7 +96,8 @@ fn give<const C: usize, D: Disk, O: Sink>(
     ensures disk_cause { HasDiskCause End.Disk (D.state disk.old).faults (D.state disk.new).faults result }
     ensures sink_cause { HasSinkCause End.Sink (O.state output.old) (O.state output.new) result }
 {
-    match store.read(moment, disk, name, output) {
+    let line = write_reply(&Reply::Data { size });
+    match store.read_behind(moment, disk, name, line.as_slice(), output) {
         Ok(_) => put_end(output),
         Err(why) => Err(fault_of(why)),
     }

@@ -21,3 +21,4 @@ pub mod ServeLaws
 pub mod CopyChargesLaws
 pub mod FlushChangeLaws
 pub mod ResumedLaws
+pub mod PutsLaws

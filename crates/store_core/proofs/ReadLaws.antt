@@ -1,6 +1,7 @@
 -- A read of an object, of now or of the last checkpoint: what is found, and what is refused.
-use Rattle.std.specs.Prelude.{◌≡◌, ℕ, ◌+◌, ◌≤◌, Bool, true, false, if◌then◌else◌, List, length, Option, Some, None, option_map, Result, Err, IsTrue, refl}
+use Rattle.std.specs.Prelude.{◌≡◌, ℕ, ◌+◌, ◌≤◌, Bool, true, false, if◌then◌else◌, List, ◌++◌, length, Option, Some, None, option_map, Result, Err, IsTrue, refl}
 use Rattle.std.proofs.Common.{ap, sym, ◌∙◌}
+use Rattle.disk_face.specs.Devices.{devices}
 use Rattle.disk_face.specs.States as disk
 use Rattle.disk_face.specs.Frames.{Unchanged}
 use Rattle.disk_face.specs.Streams.{SinkState}
@@ -84,22 +85,24 @@ none_failed false (Some w) x is = let same : refusal_for w ≡ x = (cc) in ap de
 
 -- ---- a read
 
-module _ (s : StoreValue) (a : disk.State) (m : Moment) (name : List ℕ) where
+module _ (s : StoreValue) (a : disk.State) (m : Moment) (name head : List ℕ) where
   abbrev r : Request
   r = asks_for m name
 
   pub read_found : {classes : ℕ} (x : Spot) → IsFound classes s r x → (new : StoreValue) (d : disk.State)
       (out after : SinkState) (result : Result ℕ Refusal) → AnswersRead None x.size result
       → (IsTrue out.tells
-      → GivesObject None a.tells (object_at (base_of s) a.file x) out.given after.given result)
+      → GivesObject None a.tells (head ++ object_at (base_of s) a.file x) out.given after.given (length head)
+      result)
       → new ≡ s → Unchanged a d → HasDiskCause why.Disk a.faults d.faults result
-      → HasSinkCause why.Sink out after result → IsRead r s new a d out after result
+      → HasSinkCause why.Sink out after result
+      → IsRead r head s new (devices a out) (devices d after) result
   read_found x f new d out after result answer gives store frame disk_cause sink_cause =
       let answered = answers_read (refused_by s r) (size_at (spot_read s r)) x.size result f.served
       (ap size_at f.there) answer in
       record {
         answer = answered;
-        gives = λ told. gives_object (refused_by s r) a.tells (object_read (state_of s a.file) r)
+        gives = λ told. gives_object (refused_by s r) a.tells head (object_read (state_of s a.file) r)
             (object_at (base_of s) a.file x) out.given after.given result f.served
             (found_object s a.file f.sound m name x f.there) (gives told);
         step = λ whole told. read_step s new a.file d.file r (ask.found (object_read (state_of s a.file) r))
@@ -113,7 +116,7 @@ module _ (s : StoreValue) (a : disk.State) (m : Moment) (name : List ℕ) where
 
   pub read_refused : {classes : ℕ} (x : Refusal) → AnswersSpot (refused_by s r) (spot_read s r) (Err x)
       → (s.is_broken ≡ false → IsStore classes s) → IsTrue a.is_ready → (out : SinkState)
-      → IsRead r s s a a out out (Err x)
+      → IsRead r head s s (devices a out) (devices a out) (Err x)
   read_refused x answer sound ready out =
       let is = unfound (refused_by s r) (spot_read s r) x answer in
       let answered = refused_read (refused_by s r) (spot_read s r) x (size_at (spot_read s r)) answer in

@@ -1,5 +1,5 @@
 -- What a read of an object finds, and gives to the sink.
-use Rattle.std.specs.Prelude.{◌≡◌, ℕ, Bool, true, false, if◌then◌else◌, List, Option, Some, None, option_map, Result, Ok, Err, refl}
+use Rattle.std.specs.Prelude.{◌≡◌, ℕ, Bool, true, false, if◌then◌else◌, List, ◌++◌, length, Option, Some, None, option_map, Result, Ok, Err, refl}
 use Rattle.std.proofs.Common.{ap, sym, ◌∙◌, subst}
 use Rattle.std.specs.FinMap as fin
 use Rattle.map_model.specs.Requests.{Request}
@@ -65,9 +65,12 @@ object_there base file spots name s named is =
     rw there refl
 
 -- what was given of an object, if nothing is refused
-pub gives_object : (o : Option Refusal) (tells : Bool) (object there before now : List ℕ)
-    (result : Result ℕ Refusal) → o ≡ None → object ≡ there → GivesObject None tells there before now result
-    → GivesObject o tells object before now result
-gives_object o tells object there before now result none same given =
-    subst (λ (x : Option Refusal). GivesObject x tells object before now result) (sym none)
-    (subst (λ (x : List ℕ). GivesObject None tells x before now result) (sym same) given)
+pub gives_object : (o : Option Refusal) (tells : Bool) (head object there before now : List ℕ)
+    (result : Result ℕ Refusal) → o ≡ None → object ≡ there
+    → GivesObject None tells (head ++ there) before now (length head) result
+    → GivesObject o tells (head ++ object) before now (length head) result
+gives_object o tells head object there before now result none same given =
+    subst (λ (x : Option Refusal). GivesObject x tells (head ++ object) before now (length head) result)
+    (sym none)
+    (subst (λ (x : List ℕ). GivesObject None tells (head ++ x) before now (length head) result) (sym same)
+    given)

@@ -1,9 +1,8 @@
 -- What a read of an object does, of now or of the last checkpoint.
-use Rattle.std.specs.Prelude.{◌≡◌, ℕ, false, List, [], Option, None, Result, IfSome, IsTrue}
+use Rattle.std.specs.Prelude.{◌≡◌, ℕ, false, List, [], ◌++◌, length, Option, None, Result, IfSome, IsTrue}
 use Rattle.std.specs.FinMap as fin
-use Rattle.disk_face.specs.States as disk
+use Rattle.disk_face.specs.Devices.{Devices}
 use Rattle.disk_face.specs.Frames.{Unchanged}
-use Rattle.disk_face.specs.Streams.{SinkState}
 use Rattle.slot_pair.specs.Finding.{HasDiskCause}
 use Rattle.map_model.specs.Requests as ask
 use Rattle.map_model.specs.Requests.{Request}
@@ -34,17 +33,18 @@ object_read s (ask.get name) = object_in s.map name
 object_read s (ask.old name) = object_in s.kept name
 object_read s _ = []
 
--- A read answers the size of the object, or the first refusal that applies, and gives its bytes to the sink,
--- or a front of them where a device failed. It changes neither the store nor the disk.
-pub record IsRead (r : Request) (old new : StoreValue) (before now : disk.State) (out after : SinkState)
+-- A read answers the size of the object, or the first refusal that applies, and gives a head and the object's
+-- bytes to the sink, or a front of them where a device failed. It changes neither the store nor the disk.
+pub record IsRead (r : Request) (head : List ℕ) (old new : StoreValue) (before now : Devices)
     (result : Result ℕ Refusal) : Type 0 where
   pub answer : AnswersRead (refused_by old r) (size_at (spot_read old r)) result
-  pub gives : IsTrue out.tells → GivesObject (refused_by old r) before.tells
-      (object_read (state_of old before.file) r) out.given after.given result
-  pub step : old.is_broken ≡ false → IsTrue before.tells
-      → IfSome (reply_of (λ n. ask.found (object_read (state_of old before.file) r)) result)
-      (λ reply. Step (limits_of old) (state_of old before.file) r reply (state_of new now.file))
+  pub gives : IsTrue before.sink.tells → GivesObject (refused_by old r) before.disk.tells
+      (head ++ object_read (state_of old before.disk.file) r) before.sink.given now.sink.given
+      (length head) result
+  pub step : old.is_broken ≡ false → IsTrue before.disk.tells
+      → IfSome (reply_of (λ n. ask.found (object_read (state_of old before.disk.file) r)) result)
+      (λ reply. Step (limits_of old) (state_of old before.disk.file) r reply (state_of new now.disk.file))
   pub store : new ≡ old
-  pub frame : Unchanged before now
-  pub disk_cause : HasDiskCause why.Disk before.faults now.faults result
-  pub sink_cause : HasSinkCause why.Sink out after result
+  pub frame : Unchanged before.disk now.disk
+  pub disk_cause : HasDiskCause why.Disk before.disk.faults now.disk.faults result
+  pub sink_cause : HasSinkCause why.Sink before.sink now.sink result

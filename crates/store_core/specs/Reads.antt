@@ -4,13 +4,14 @@ use Rattle.disk_face.specs.Counts.{Rose}
 use Rattle.disk_face.specs.Streams.{Puts, SinkState}
 use Rattle.store_core.specs.declared.answers.Refusal.{Refusal}
 
--- What a sink was given: nothing where the read is refused; else the object, or a front of it where a device
--- failed. That a disk tells its content is known of the object's bytes, and not of their number.
-pub record GivesObject (refused : Option Refusal) (tells : Bool) (object before now : List ℕ)
+-- What a sink was given: nothing where the read is refused; else a head and the object, or a front of them
+-- where a device failed. That a disk tells its content is known of these bytes, and not of their number: so
+-- many of the head, and as many as the answer says.
+pub record GivesObject (refused : Option Refusal) (tells : Bool) (bytes before now : List ℕ) (of_head : ℕ)
     (result : Result ℕ Refusal) : Type 0 where
   pub none : IsSome refused → now ≡ before
-  pub front : IsNone refused → IsTrue tells → Puts before now object result
-  pub number : IfOk result (λ n. length now ≡ length before + n)
+  pub front : IsNone refused → IsTrue tells → Puts before now bytes result
+  pub number : IfOk result (λ n. length now ≡ length before + of_head + n)
 
 -- A sink's count of faults never falls, and what it tells stays told. The answer that the sink failed comes
 -- only where the count rose, and with every other answer no call of it failed.

@@ -1,6 +1,7 @@
 //! Reading objects, of now and of the last checkpoint.
-ghost use Rattle.std.specs.Prelude.{◌≡◌, false, ◌+◌, ◌≤◌, IsTrue, None, length};
+ghost use Rattle.std.specs.Prelude.{◌≡◌, false, ◌+◌, ◌++◌, ◌≤◌, [], IsTrue, None, length};
 ghost use Rattle.std.specs.FinMap as fin;
+ghost use Rattle.disk_face.specs.Devices.{devices};
 ghost use Rattle.disk_face.specs.Frames.{Unchanged};
 ghost use Rattle.slot_pair.specs.Finding.{HasDiskCause};
 ghost use Rattle.extent_table.specs.Extents.{IsInRange};
@@ -12,7 +13,7 @@ ghost use Rattle.store_model.specs.Stores.{IsStore};
 ghost use Rattle.store_core.specs.Readings.{IsRead, asks_for, spot_read};
 ghost use Rattle.store_core.specs.Reads.{GivesObject, HasSinkCause};
 
-use crate::copy::put_bytes;
+use crate::copy::put_behind;
 use crate::{Moment, Refusal, Store};
 use disk_face::{Disk, Sink};
 use extent_table::Spot;
@@ -53,8 +54,9 @@ impl<const C: usize> Store<C> {
     ) -> Result<u64, Refusal>
         requires ready { IsTrue (D.state disk.old).is_ready }
         requires over { IsConnected C self.old (D.state disk.old) }
-        ensures { IsRead (ask.get name.now) self.old self.new (D.state disk.old) (D.state disk.new)
-            (O.state sink.old) (O.state sink.new) result }
+        ensures { IsRead (ask.get name.now) [] self.old self.new
+            (devices (D.state disk.old) (O.state sink.old)) (devices (D.state disk.new) (O.state sink.new))
+            result }
     {
         self.read(Moment::Now, disk, name, sink)
     }
@@ -68,8 +70,9 @@ impl<const C: usize> Store<C> {
     ) -> Result<u64, Refusal>
         requires ready { IsTrue (D.state disk.old).is_ready }
         requires over { IsConnected C self.old (D.state disk.old) }
-        ensures { IsRead (ask.old name.now) self.old self.new (D.state disk.old) (D.state disk.new)
-            (O.state sink.old) (O.state sink.new) result }
+        ensures { IsRead (ask.old name.now) [] self.old self.new
+            (devices (D.state disk.old) (O.state sink.old)) (devices (D.state disk.new) (O.state sink.new))
+            result }
     {
         self.read(Moment::Kept, disk, name, sink)
     }
@@ -84,20 +87,42 @@ impl<const C: usize> Store<C> {
     ) -> Result<u64, Refusal>
         requires ready { IsTrue (D.state disk.old).is_ready }
         requires over { IsConnected C self.old (D.state disk.old) }
-        ensures { IsRead (asks_for moment name.now) self.old self.new (D.state disk.old) (D.state disk.new)
-            (O.state sink.old) (O.state sink.new) result }
+        ensures { IsRead (asks_for moment name.now) [] self.old self.new
+            (devices (D.state disk.old) (O.state sink.old)) (devices (D.state disk.new) (O.state sink.new))
+            result }
+    {
+        self.read_behind(moment, disk, name, b"", sink)
+    }
+
+    /// Puts a head, and behind it the bytes of an object of now or of the last checkpoint. The head is put
+    /// directly before the first of these, once they were read, or alone where there are none; nothing is
+    /// put at a refusal. The answer is how many bytes the object has.
+    pub fn read_behind<D: Disk, O: Sink>(
+        &mut self,
+        moment: Moment,
+        disk: &mut D,
+        name: &[u8],
+        head: &[u8],
+        sink: &mut O,
+    ) -> Result<u64, Refusal>
+        requires ready { IsTrue (D.state disk.old).is_ready }
+        requires over { IsConnected C self.old (D.state disk.old) }
+        ensures { IsRead (asks_for moment name.now) head.now self.old self.new
+            (devices (D.state disk.old) (O.state sink.old)) (devices (D.state disk.new) (O.state sink.new))
+            result }
     {
         match self.find(moment, name) {
-            Ok(spot) => self.put_object(disk, spot, sink),
+            Ok(spot) => self.put_object(disk, spot, head, sink),
             Err(refusal) => Err(refusal),
         }
     }
 
-    /// Puts the bytes at a spot, and answers how many they are.
+    /// Puts a head and the bytes at a spot, and answers how many these are.
     fn put_object<D: Disk, O: Sink>(
         &mut self,
         disk: &mut D,
         spot: Spot,
+        head: &[u8],
         sink: &mut O,
     ) -> Result<u64, Refusal>
         requires ready { IsTrue (D.state disk.old).is_ready }
@@ -107,8 +132,8 @@ impl<const C: usize> Store<C> {
             → base_of self.old + spot.place + spot.size ≤ length (D.state disk.old).file }
         ensures answer { AnswersRead None spot.size result }
         ensures gives { IsTrue (O.state sink.old).tells → GivesObject None (D.state disk.old).tells
-            (object_at (base_of self.old) (D.state disk.old).file spot) (O.state sink.old).given
-            (O.state sink.new).given result }
+            (head.now ++ object_at (base_of self.old) (D.state disk.old).file spot)
+            (O.state sink.old).given (O.state sink.new).given (length head.now) result }
         ensures store { self.new ≡ self.old }
         ensures frame { Unchanged (D.state disk.old) (D.state disk.new) }
         ensures disk_cause { HasDiskCause Refusal.Disk (D.state disk.old).faults
@@ -116,11 +141,12 @@ impl<const C: usize> Store<C> {
         ensures sink_cause { HasSinkCause Refusal.Sink (O.state sink.old) (O.state sink.new) result }
     {
         let hands = &mut *self.hands;
-        put_bytes(
+        put_behind(
             disk,
             hands.base + spot.place,
             spot.size,
             &mut hands.buf,
+            head,
             sink,
         )?;
         Ok(spot.size)

@@ -4,11 +4,11 @@ use Rattle.store_core.specs.Answers.{refused_by, size_at}
 use Rattle.store_model.specs.Connection.{StoreValue, limits_of, state_of}
 use Rattle.store_core.specs.Readings.{asks_for, object_read, spot_read}
 use Rattle.ask_session.specs.Serving.{Replies}
-use Rattle.ask_session.proofs.ReadReplyLaws.{asks_only, calls_none, cut_replies, found_replies, number_refused, number_served, object_long, object_served, refused_replies}
+use Rattle.ask_session.proofs.ReadReplyLaws.{asks_only, calls_none, found_replies, number_refused, number_served, object_long, object_served, refused_replies}
 use Rattle.ask_session.proofs.reads.serve_object.Goals as goal
 
-pub returns-in-Ok-say : goal.returns-in-Ok-say
-returns-in-Ok-say g c =
+pub returns-in-Ok : goal.returns-in-Ok
+returns-in-Ok g c =
     let s = c.args.store.now in
     let m = c.args.moment in
     let name = c.args.name.now in
@@ -24,27 +24,9 @@ returns-in-Ok-say g c =
     (asks_only m name) (object_served s a m name h served)
     (λ told. calls_none (limits_of s) (state_of s a.file) m name)
     (object_long s a m name c.in-Ok.size h c.in-Ok.ensures)
-    (g.D.Disk.state c.give.new.disk) (g.O.Sink.state c.args.output.now) (g.O.Sink.state c.say.new.output)
-    (g.O.Sink.state c.give.new.output) c.say.result c.give.result c.give.ensures.frame c.in-Ok-say.is
-    c.say.ensures.put c.say.ensures.cause c.give.ensures.kept c.give.ensures.puts c.give.ensures.only
-    c.give.ensures.disk_cause c.give.ensures.sink_cause)
-
-pub returns-in-Err-say : goal.returns-in-Err-say
-returns-in-Err-say g c =
-    let s = c.args.store.now in
-    let m = c.args.moment in
-    let name = c.args.name.now in
-    let a = g.D.Disk.state c.args.disk.now in
-    let h = c.requires.can in
-    let served = (number_served (refused_by s (asks_for m name)) (size_at (spot_read s (asks_for m name)))
-    c.in-Ok.size c.in-Ok.ensures).0 in
-    cut_replies (asks_for m name) s a h (object_read (state_of s a.file) (asks_for m name)) c.in-Ok.size
-    (asks_only m name) (object_served s a m name h served)
-    (λ told. calls_none (limits_of s) (state_of s a.file) m name)
-    (object_long s a m name c.in-Ok.size h c.in-Ok.ensures)
-    (g.O.Sink.state c.args.output.now)
-    (g.O.Sink.state c.say.new.output) c.in-Err-say.end c.in-Err-say.ensures.only
-    c.in-Err-say.ensures.put c.in-Err-say.ensures.cause
+    (g.D.Disk.state c.give.new.disk) (g.O.Sink.state c.args.output.now)
+    (g.O.Sink.state c.give.new.output) c.give.result c.give.ensures.frame c.give.ensures.kept
+    c.give.ensures.puts c.give.ensures.only c.give.ensures.disk_cause c.give.ensures.sink_cause)
 
 pub returns-in-Err : goal.returns-in-Err
 returns-in-Err g c =

@@ -15,8 +15,8 @@ pub returns-clause-store : goal.returns-clause-store
 returns-clause-store g c =
     ap kept_of (lent_is c.self.inside c.deref_mut-hands.ensures.value refl) ∙ c.self.view_is
 
-pub returns-in_err-put_bytes-clause-store : goal.returns-in_err-put_bytes-clause-store
-returns-in_err-put_bytes-clause-store g c =
+pub returns-in_err-put_behind-clause-store : goal.returns-in_err-put_behind-clause-store
+returns-in_err-put_behind-clause-store g c =
     ap kept_of (lent_is c.self.inside c.deref_mut-hands.ensures.value refl) ∙ c.self.view_is
 
 pub invariant_of-self : goal.invariant_of-self
@@ -24,30 +24,30 @@ invariant_of-self g c =
     let is_lent = lent_is c.self.inside c.deref_mut-hands.ensures.value refl in
     let inside = lent c.self.inside c.deref_mut-hands.result.now c.self.inside.kept_layout.value in
     let invariant = subst IsWhole (sym is_lent) c.self.invariant in
-    whole_with inside c.put_bytes.new.buf (grind (arith, invariant.buf)) invariant
+    whole_with inside c.put_behind.new.buf (grind (arith, invariant.buf)) invariant
 
 pub invariant_of-self-2 : goal.invariant_of-self-2
 invariant_of-self-2 g c =
     let is_lent = lent_is c.self.inside c.deref_mut-hands.ensures.value refl in
     let inside = lent c.self.inside c.deref_mut-hands.result.now c.self.inside.kept_layout.value in
     let invariant = subst IsWhole (sym is_lent) c.self.invariant in
-    whole_with inside c.put_bytes.new.buf (grind (arith, invariant.buf)) invariant
+    whole_with inside c.put_behind.new.buf (grind (arith, invariant.buf)) invariant
 
 pub returns-clause-frame : goal.returns-clause-frame
 returns-clause-frame g c = grind (arith, common_steps)
 
 pub returns-clause-disk_cause : goal.returns-clause-disk_cause
 returns-clause-disk_cause g c =
-    disk_cause_as c.in_ok-put_bytes.ensures.disk_cause (λ is. absurd (cc)) (λ is. absurd (cc))
+    disk_cause_as c.in_ok-put_behind.ensures.disk_cause (λ is. absurd (cc)) (λ is. absurd (cc))
 
 pub returns-clause-sink_cause : goal.returns-clause-sink_cause
 returns-clause-sink_cause g c =
-    sink_cause_as c.in_ok-put_bytes.ensures.sink_cause (λ is. absurd (cc)) (λ is. absurd (cc))
+    sink_cause_as c.in_ok-put_behind.ensures.sink_cause (λ is. absurd (cc)) (λ is. absurd (cc))
 
-pub returns-in_err-put_bytes-clause-disk_cause : goal.returns-in_err-put_bytes-clause-disk_cause
-returns-in_err-put_bytes-clause-disk_cause g c =
-    disk_cause_as c.in_err-put_bytes.ensures.disk_cause (λ is. grind arith) (λ is. grind arith)
+pub returns-in_err-put_behind-clause-disk_cause : goal.returns-in_err-put_behind-clause-disk_cause
+returns-in_err-put_behind-clause-disk_cause g c =
+    disk_cause_as c.in_err-put_behind.ensures.disk_cause (λ is. grind arith) (λ is. grind arith)
 
-pub returns-in_err-put_bytes-clause-sink_cause : goal.returns-in_err-put_bytes-clause-sink_cause
-returns-in_err-put_bytes-clause-sink_cause g c =
-    sink_cause_as c.in_err-put_bytes.ensures.sink_cause (λ is. grind arith) (λ is. grind arith)
+pub returns-in_err-put_behind-clause-sink_cause : goal.returns-in_err-put_behind-clause-sink_cause
+returns-in_err-put_behind-clause-sink_cause g c =
+    sink_cause_as c.in_err-put_behind.ensures.sink_cause (λ is. grind arith) (λ is. grind arith)
