@@ -1,2 +1,4 @@
+pub mod Asked
+pub mod Begins
 pub mod Heard
 pub mod Tallies

@@ -1,7 +1,9 @@
 //! What is said on standard error: how a call of the program ended, by a stable word and in words for
-//! people, and how much of a session no checkpoint holds.
+//! people, how a line begins that is no request, and how much of a session no checkpoint holds.
 #![tactic(auto)]
 
+mod asked;
+mod begun;
 mod failed;
 mod heard;
 mod refused;
@@ -11,6 +13,8 @@ mod unkept;
 mod why;
 mod wrong;
 
+pub use asked::Asked;
+pub use begun::Begun;
 pub use failed::Failed;
 pub use heard::Heard;
 pub use tally::Tally;

@@ -1,7 +1,7 @@
 //! The line on standard error: what failed, by a stable word and in words for people.
 use crate::failed::Failed;
 use crate::refused::Refused;
-use crate::shown::Shown;
+use crate::shown::{Front, Shown};
 use crate::wrong::Wrong;
 use disk_file::Cause;
 use std::fmt::{self, Display, Formatter};
@@ -23,6 +23,8 @@ pub struct Why<'a> {
     pub file: &'a str,
     /// What was put last on standard output: the fault line.
     pub line: &'a [u8],
+    /// The first bytes of the first line of the standard input that isn't that of a whole request.
+    pub begun: &'a [u8],
     /// Why the last failed call of the disk, of the input and of the output failed.
     pub disk: Option<Cause>,
     pub input: Option<Cause>,
@@ -48,9 +50,10 @@ impl Display for Why<'_> {
             }
             2 => {
                 let number = self.said("fault request ").unwrap_or("?");
+                let begun = Begins(self.begun);
                 write!(
                     f,
-                    "standard input: request: request {number} is none, or the input ends within it"
+                    "standard input: request: request {number} is none, or the input ends within it; {begun}"
                 )
             }
             3 => {
@@ -80,6 +83,20 @@ impl Display for Why<'_> {
             }
             _ => f.write_str("io: it failed"),
         }
+    }
+}
+
+/// How a line begins that is no request, or that of one that isn't whole.
+#[derive(Clone, Copy)]
+struct Begins<'a>(&'a [u8]);
+
+impl Display for Begins<'_> {
+    fn fmt<W: fmt::Write>(&self, f: &mut Formatter<W>) -> fmt::Result {
+        if self.0.is_empty() {
+            return f.write_str("its line is blank");
+        }
+        let front = Front(self.0);
+        write!(f, "it begins with {front}")
     }
 }
 
