@@ -9,7 +9,7 @@ use costore_top::{HELP, Outcome, costore, may_change};
 use disk_file::{
     Cause, FileBay, StdSink, StdSource, Use, hold_numbers, is_own_errors, is_own_stream,
 };
-use error_lines::{Asked, Failed, Heard, Unkept, Why};
+use error_lines::{Asked, Backs, Failed, Heard, Unkept, Why};
 use std::alloc::{AllocError, Global};
 use std::env;
 use std::io::{self, ErrorKind};
@@ -79,8 +79,9 @@ fn call(rt: &HostRuntime, texts: &[&str], are_text: bool) -> Outcome {
     } else {
         FileBay::reading(rt)
     };
-    let mut input = Asked::new(StdSource::new(rt.stdin()));
-    let mut output = Heard::new(StdSink::new(rt.stdout()));
+    let backs = Backs::new();
+    let mut input = Asked::new(StdSource::new(rt.stdin()), &backs);
+    let mut output = Heard::new(StdSink::new(rt.stdout()), &backs);
     let outcome = costore(rt.alloc(), texts, &mut bay, &mut input, &mut output);
     tell(
         rt,

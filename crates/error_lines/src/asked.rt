@@ -4,27 +4,30 @@ ghost use Rattle.disk_face.specs.Counts.{HasCause};
 ghost use Rattle.disk_face.specs.Streams.{Takes};
 ghost use Rattle.error_lines.specs.Begins.{ReadsAll, start};
 
+use crate::backs::Backs;
 use crate::begun::Begun;
 use disk_face::{Source, SourceFault};
 
 /// Passes all on from a source, and keeps the first bytes of the request that it gave last, where that
-/// isn't whole or is none.
+/// isn't whole or is none. Beside that it notes which requests are a `back`.
 #[derive(Drop)]
-pub struct Asked<I: Source> {
+pub struct Asked<'a, I: Source> {
     source: I,
+    backs: &'a Backs,
     begun: Begun,
 }
 
-impl<I: Source> Asked<I> {
+impl<'a, I: Source> Asked<'a, I> {
     ghost use Rattle.error_lines.specs.Asked.{begun_of, source_of};
 
     /// Round a source; nothing was given.
-    pub fn new(source: I) -> Asked<I>
+    pub fn new(source: I, backs: &'a Backs) -> Asked<'a, I>
         ensures source { source_of result ≡ source }
         ensures begun { begun_of result ≡ start }
     {
         Asked {
             source,
+            backs,
             begun: Begun::new(),
         }
     }
@@ -45,7 +48,7 @@ impl<I: Source> Asked<I> {
     }
 }
 
-impl<I: Source> Source for Asked<I> {
+impl<I: Source> Source for Asked<'_, I> {
     ghost use Rattle.error_lines.specs.Asked.{begun_of, source_of};
 
     ghost state = { λ asked. I.state asked.source };
@@ -61,7 +64,7 @@ impl<I: Source> Source for Asked<I> {
         ensures fault { OnErr result (begun_of self.new ≡ begun_of self.old) }
     {
         let n = self.source.take(out)?;
-        self.begun.read(&out[..n]);
+        self.begun.read(&out[..n], self.backs);
         Ok(n)
     }
 }

@@ -4,6 +4,7 @@ ghost use Rattle.ask_text.specs.Asks.{AsksFor, AsksForNothing};
 ghost use Rattle.ask_text.specs.declared.ask.Ask.{Ask};
 ghost use Rattle.error_lines.specs.Begins.{Reads, ReadsAll, asked, start};
 
+use crate::backs::Backs;
 use arrayvec::ArrayVec;
 use ask_text::{Ask, read_ask};
 
@@ -31,18 +32,18 @@ impl Begun {
         }
     }
 
-    /// Reads what a source gives at once.
-    pub fn read(&mut self, piece: &[u8])
+    /// Reads what a source gives at once, and notes which requests are a `back`.
+    pub(crate) fn read(&mut self, piece: &[u8], backs: &Backs)
         ensures { ReadsAll piece.now self.old self.new }
     {
         let mut at = 0;
         'bytes: while at < piece.len() {
-            at += self.read_front(&piece[at..]);
+            at += self.read_front(&piece[at..], backs);
         }
     }
 
     /// Reads the first of the bytes, one at least, and answers how many.
-    fn read_front(&mut self, bytes: &[u8]) -> usize
+    fn read_front(&mut self, bytes: &[u8], backs: &Backs) -> usize
         requires some { 0 < length bytes.now }
         ensures within { result ≤ length bytes.now }
         ensures more { 0 < result }
@@ -56,12 +57,12 @@ impl Begun {
             self.due -= n;
             return n as usize;
         }
-        self.read_byte(bytes[0]);
+        self.read_byte(bytes[0], backs);
         1
     }
 
     /// Reads the next byte of a line, or the newline behind an object.
-    fn read_byte(&mut self, byte: u8)
+    fn read_byte(&mut self, byte: u8, backs: &Backs)
         requires may { self.old.is_none ≡ false }
         requires short { self.old.due ≤ 1 }
         ensures { Reads byte self.old self.new }
@@ -73,22 +74,28 @@ impl Begun {
                 self.is_none = true;
             }
         } else if byte == b'\n' {
-            self.read_line();
+            self.read_line(backs);
         } else if self.line.try_extend_from_slice(&[byte]).is_err() {
             self.is_none = true;
         }
     }
 
     /// Reads the newline of a line.
-    fn read_line(&mut self)
+    fn read_line(&mut self, backs: &Backs)
         requires may { self.old.is_none ≡ false }
         requires line { self.old.due ≡ 0 }
         ensures asked { (a : Ask) → AsksFor self.old.line.items a → self.new ≡ asked a self.old }
         ensures none { AsksForNothing self.old.line.items → self.new ≡ record self.old { is_none = true } }
     {
         match read_ask(self.line.as_slice()) {
-            Ok(Ask::Put { size, .. }) => self.due = size + 1,
-            Ok(_) => self.end(),
+            Ok(Ask::Put { size, .. }) => {
+                backs.note(false);
+                self.due = size + 1;
+            }
+            Ok(ask) => {
+                backs.note(ask == Ask::Back);
+                self.end();
+            }
             Err(_) => self.is_none = true,
         }
     }

@@ -3,6 +3,7 @@
 #![tactic(auto)]
 
 mod asked;
+mod backs;
 mod begun;
 mod failed;
 mod heard;
@@ -14,6 +15,7 @@ mod why;
 mod wrong;
 
 pub use asked::Asked;
+pub use backs::Backs;
 pub use begun::Begun;
 pub use failed::Failed;
 pub use heard::Heard;

@@ -7,12 +7,12 @@ ghost use Rattle.error_lines.specs.Tallies.{lines_in};
 
 use ask_text::number;
 
-/// How many requests were answered `ok` since the last `ok kept`, and what is still due of a reply that
-/// is longer than its first line: such bytes may look like a reply, and are none.
+/// How many requests were answered `ok` since the last `ok kept` and the last `back`, and what is still due
+/// of a reply that is longer than its first line: such bytes may look like a reply, and are none.
 #[derive(Clone, Copy, Drop)]
 pub struct Tally {
-    /// How many requests were answered `ok` since the last that was answered `ok kept`, or since the
-    /// first.
+    /// How many requests were answered `ok` since the last that was answered `ok kept` and the last
+    /// `back`, or since the first.
     pub unkept: u64,
     /// How many bytes are due of the object that was announced last, its newline among them.
     pub due: u64,
@@ -34,26 +34,38 @@ impl Tally {
         }
     }
 
-    /// Counts what a session puts at once: the first line of a reply, or a part of what follows it.
-    pub fn hear(&mut self, piece: &[u8])
-        ensures { Hears piece.now self.old self.new }
+    /// Whether nothing is due, so that a reply comes next.
+    pub fn is_between(&self) -> bool
+        ensures { IsTrue result ↔ IsBetween self.now }
+    {
+        self.due == 0 && self.lines == 0
+    }
+
+    /// Counts what a session puts at once: the first line of a reply, or a part of what follows it. A reply
+    /// is that of a `back` or of another request.
+    pub fn hear(&mut self, piece: &[u8], is_back: bool)
+        ensures { Hears is_back piece.now self.old self.new }
     {
         if self.due > 0 {
             self.due = self.due.saturating_sub(piece.len() as u64);
         } else if self.lines > 0 {
             self.lines = self.lines.saturating_sub(newlines(piece));
         } else {
-            self.begin(piece);
+            self.begin(piece, is_back);
         }
     }
 
     /// Counts the first line of a reply.
-    fn begin(&mut self, line: &[u8])
+    fn begin(&mut self, line: &[u8], is_back: bool)
         requires { IsBetween self.old }
-        ensures { (r : Reply) → IsTold r → line.now ≡ first_line r → self.new ≡ tallied r self.old }
+        ensures { (r : Reply) → IsTold r → line.now ≡ first_line r → self.new ≡ tallied is_back r self.old }
     {
         if line == b"ok\n".as_slice() {
-            self.unkept = self.unkept.saturating_add(1);
+            self.unkept = if is_back {
+                0
+            } else {
+                self.unkept.saturating_add(1)
+            };
         } else if line == b"ok kept\n".as_slice() {
             self.unkept = 0;
         } else if let Some(size) = size_in(line) {
