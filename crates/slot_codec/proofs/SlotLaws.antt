@@ -63,7 +63,8 @@ slot_kept names zero a b low same = λ i l h. same.before i (omega (arith, h))
 slot_kept names (suc zero) a b low same = λ i l h. same.after i (omega (arith, l)) (omega (arith, h))
 slot_kept names (suc (suc n)) a b low same = absurd (omega (arith, low))
 
-slot_end : (names slot : ℕ) → slot ≤ 1 → slot_at names slot + slot_len names ≤ head_len names
+-- the data part starts behind both slots
+pub slot_end : (names slot : ℕ) → slot ≤ 1 → slot_at names slot + slot_len names ≤ head_len names
 slot_end names zero low = omega arith
 slot_end names (suc zero) low = omega arith
 slot_end names (suc (suc n)) low = absurd (omega (arith, low))
@@ -76,7 +77,7 @@ part_kept names slot at n a b low in_a in_b same from to =
     sym (bytes_at-same a b at n (omega (arith, to, end, in_a)) (omega (arith, to, end, in_b))
     (λ i l h. slot_kept names slot a b low same i (omega (arith, l, from)) (omega (arith, h, to))))
 
-other_low : (slot : ℕ) → 1 - slot ≤ 1
+pub other_low : (slot : ℕ) → 1 - slot ≤ 1
 other_low slot = omega arith
 
 other_twice : (slot : ℕ) → slot ≤ 1 → 1 - (1 - slot) ≡ slot

@@ -12,7 +12,7 @@ use Rattle.slot_codec.specs.Readable.{AreInRange, IsHeader}
 use Rattle.slot_codec.specs.Reading.{number_at}
 use Rattle.slot_codec.proofs.RecordsLaws.{table_of-written}
 use Rattle.slot_codec.specs.Rolls.{HaveDigests, IsRoll}
-use Rattle.slot_codec.proofs.SlotLaws.{SameButSlot-below, SameButSlot-trans, SameButSlot-written, chosen_kept, chosen_written, other_closed, other_newer, other_older}
+use Rattle.slot_codec.proofs.SlotLaws.{SameButSlot-below, SameButSlot-trans, SameButSlot-written, chosen_kept, chosen_written, other_closed, other_low, other_newer, other_older, slot_end}
 use Rattle.slot_codec.specs.Slots.{SameButSlot}
 use Rattle.slot_codec.specs.Spelling.{gate_at, gate_open, head_len, header_bytes, header_len, kind_code, number, record_len, room_len, slot_at, slot_len, zeros}
 use Rattle.slot_codec.proofs.StepLaws.{from_ok}
@@ -20,15 +20,6 @@ use Rattle.slot_codec.specs.declared.codec.Header.{Header}
 use Rattle.slot_codec.specs.declared.codec.Record.{Record}
 use Rattle.slot_codec.specs.declared.codec.SuperBlock.{SuperBlock}
 use Rattle.slot_pair.specs.Saves.{HasTable, IsAlikeBelow, IsSaved, KeepsTable, closing_at, closing_len, next_chosen, next_header, next_in_use}
-
--- the data part starts behind both slots
-pub slot_end : (names slot : ℕ) → slot ≤ 1 → slot_at names slot + slot_len names ≤ head_len names
-slot_end names zero low = omega arith
-slot_end names (suc zero) low = omega arith
-slot_end names (suc (suc n)) low = absurd (omega (arith, low))
-
-pub other_low : (slot : ℕ) → 1 - slot ≤ 1
-other_low slot = omega arith
 
 -- what is written within the other slot is outside the data part
 data_kept : (u : InUse) (at n : ℕ) (a b : List ℕ)

@@ -1,6 +1,6 @@
 use Rattle.std.proofs.Common.{◌*◌, ap, arith}
 use Rattle.slot_codec.proofs.CapLaws.{records_fit}
-use Rattle.slot_pair.proofs.SaveLaws.{slot_end}
+use Rattle.slot_codec.proofs.SlotLaws.{slot_end}
 use Rattle.plain_layout.proofs.opened.records_of.Goals as goal
 
 -- the records lie within the slot's bytes for them

@@ -1,6 +1,6 @@
 use Rattle.std.proofs.Common.{arith}
 use Rattle.slot_codec.proofs.CapLaws.{cap-low, records_fit}
-use Rattle.slot_pair.proofs.SaveLaws.{slot_end}
+use Rattle.slot_codec.proofs.SlotLaws.{slot_end}
 use Rattle.std.proofs.lemmas.Grind.{common_steps}
 use Rattle.reopen.proofs.table.load_records.Goals as goal
 

@@ -3,10 +3,10 @@ use Rattle.std.proofs.lemmas.Grind.{common_steps}
 use Rattle.slot_codec.specs.Choice.{InUse}
 use Rattle.slot_codec.proofs.CapLaws.{records_fit}
 use Rattle.slot_codec.proofs.ChoiceLaws.{in_use_long}
+use Rattle.slot_codec.proofs.SlotLaws.{other_low, slot_end}
 use Rattle.slot_codec.specs.Spelling.{cap, head_len}
 use Rattle.slot_pair.specs.Finding.{in_use_of}
 use Rattle.slot_pair.specs.Saves.{IsSaveDone, SaveLeaves}
-use Rattle.slot_pair.proofs.SaveLaws.{other_low, slot_end}
 use Rattle.slot_pair.proofs.SavePhases.{Begins, IsClosed, IsWritten, is_closed, is_written, left_closing, left_filling, left_opening, save_done}
 use Rattle.slot_pair.proofs.pair.SlotPair.save.Given.{Over}
 use Rattle.slot_pair.proofs.pair.SlotPair.save.Goals as goal
