@@ -1,6 +1,7 @@
 -- Requests whose reply is one line: what the answers of the store stand for.
 use Rattle.std.specs.Prelude.{◌≡◌, ◌⊎◌, ℕ, ◌+◌, ◌*◌, ◌<◌, nat_lt, Bool, true, false, not, ◌&&◌, ◌||◌, if◌then◌else◌, List, [], length, Option, Some, None, option_map, Result, Ok, Err, IfSome, IsNone, IsSome, IsTrue, OnErr, OnOk, refl}
 use Rattle.std.proofs.Common.{arith, rules, lt-ltb, ap, sym, ◌∙◌, subst, inl, inr}
+use Rattle.std.proofs.Math.Bool.{and-false}
 use Rattle.disk_face.specs.Counts.{HasCause, counted}
 use Rattle.disk_face.specs.States as disk
 use Rattle.disk_face.specs.Frames.{Unchanged}
@@ -37,10 +38,6 @@ use Rattle.ask_session.proofs.ServingLaws.{kept_is_serving, refusal_at, refused_
 
 -- ---- refused
 
-and_false : (b : Bool) → (b && false) ≡ false
-and_false true = refl
-and_false false = refl
-
 and_true : (b c : Bool) → b ≡ true → (b && c) ≡ c
 and_true true c is = refl
 and_true false c is = absurd (cc)
@@ -60,7 +57,7 @@ pub refused_head : {classes : ℕ} (s : StoreValue) (r : Request) (w : Refused) 
     → Answers classes r s s a d (Ok (head.Refused (told_for w)))
 refused_head s r w a d h is same calm = record {
   serves = serves_same s r a d (Ok (head.Refused (told_for w))) h same
-      (λ told. (refused_stays s a.file r w h.sound is).0) (and_false (is_changing r));
+      (λ told. (refused_stays s a.file r w h.sound is).0) (and-false (is_changing r));
   replied = λ told. ap reply_line_of (sym (refused_stays s a.file r w h.sound is).1);
   line = λ told. ap rest_of (refused_stays s a.file r w h.sound is).1;
   only = tt;
@@ -127,7 +124,7 @@ is_made s new r a d (Ok x) m = record {
     reads = λ asks fault. absurd (cc);
     still = λ asks. absurd (let e : true ≡ false = sym m.changing ∙ asks in cc);
     over = m.over;
-    broken = m.broken ∙ sym (and_false (is_changing r));
+    broken = m.broken ∙ sym (and-false (is_changing r));
     left = m.left;
     rests = λ told whole rests. m.rests told rests;
     frame = m.frame;
