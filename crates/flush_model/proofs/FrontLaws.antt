@@ -84,7 +84,8 @@ end_at_most q bound (x ∷ xs) a low each = elim (cases_Bool (q x)) [
   )
 ]
 
-abbrev lower_first : Item → Item → Type 0
+-- the first doesn't stand behind the second
+abbrev pub lower_first : Item → Item → Type 0
 lower_first a b = a.place ≤ b.place
 
 module _ (p : PlanState) (is : IsLaying p) (mv : Move) (next : IsNextLay p.k p.numbers p.items mv) where

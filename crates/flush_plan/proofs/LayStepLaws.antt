@@ -11,13 +11,11 @@ use Rattle.flush_model.proofs.ListLaws.{first_of_list, sum_by_le_in, sum_by_more
 use Rattle.flush_model.proofs.ItemLaws.{after_is, same_or_apart, target, weight_moves}
 use Rattle.flush_model.proofs.PackLaws.{laid_length_after}
 use Rattle.flush_model.proofs.FinalLaws.{class_total_is, earlier, earlier_counts, earlier_later, earlier_le, earlier_other, earlier_sum_is, in_class_counts, is_earlier}
+use Rattle.flush_model.proofs.FrontLaws.{lower_first}
 use Rattle.flush_model.proofs.LayLaws.{cases_laid, lay_down, lay_fits, packed_far, past_far}
 use Rattle.flush_model.proofs.LayKeepsLaws.{final_other, laid_other, target_laid}
 use Rattle.flush_plan.specs.Shelves.{IsFirstOf}
 use Rattle.flush_plan.specs.Lays.{IsFront, IsLaidTo}
-
-abbrev lower_first : Item → Item → Type 0
-lower_first a b = a.place ≤ b.place
 
 abbrev is_of_from : ℕ → ℕ → Item → Bool
 is_of_from class place it = (it.class == class) && nat_le place it.place
