@@ -176,7 +176,8 @@ refused_with s r x whole is = by (refusal (limits_of s) (facts_at s r) r) refl
         let same : x ≡ refusal_for w = (cc) in
         (w, e, same)
 
-answer_is : (w : Refused) → answer_of (refusal_for w) ≡ Ok (head.Refused (told_for w))
+-- what is answered to a refusal
+pub answer_is : (w : Refused) → answer_of (refusal_for w) ≡ Ok (head.Refused (told_for w))
 answer_is ask.bad_name = refl
 answer_is ask.too_long = refl
 answer_is ask.missing = refl

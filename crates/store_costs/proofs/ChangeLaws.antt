@@ -84,7 +84,8 @@ record IsServed (c : Change) (old : StoreValue) (result : Result Done Refusal) :
   done : Done
   is_ok : result ≡ Ok done
 
-at_ok : {P : Type 0} (r : Result Done Refusal) (done : Done) → r ≡ Ok done → OnOk r P → P
+-- what holds of an Ok, where there is one
+pub at_ok : {P : Type 0} (r : Result Done Refusal) (done : Done) → r ≡ Ok done → OnOk r P → P
 at_ok {P} r done is p = subst (λ (x : Result Done Refusal). OnOk x P) is p
 
 module _ {C : ℕ} (c : Change) (old new : StoreValue) (before now : disk.State) (result : Result Done Refusal)

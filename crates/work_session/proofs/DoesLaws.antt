@@ -29,7 +29,7 @@ use Rattle.store_core.proofs.StepLaws.{always}
 use Rattle.store_model.proofs.StoreLaws.{small_if_there}
 use Rattle.segment_layout.specs.Books.{is_quiet}
 use Rattle.store_costs.specs.Calls.{IsKeep}
-use Rattle.store_costs.proofs.ChangeLaws.{same_moves_nothing}
+use Rattle.store_costs.proofs.ChangeLaws.{at_ok, same_moves_nothing}
 use Rattle.store_costs.proofs.OtherLaws.{keep_moves_nothing}
 use Rattle.ask_text.specs.Replies.{reply_line_of, told_for}
 use Rattle.ask_text.specs.declared.reply.Reply as text
@@ -39,7 +39,7 @@ use Rattle.ask_session.specs.declared.ends.End.TheVariants as ends
 use Rattle.ask_session.specs.ReplyLines.{Answers, answer_change, answer_of}
 use Rattle.ask_session.specs.Serving.{Serves, reply_at}
 use Rattle.ask_session.proofs.AnswerLaws.{change_answers, keep_answers, refused_head}
-use Rattle.ask_session.proofs.ReadReplyLaws.{get_long, get_served, number_served, refused_with}
+use Rattle.ask_session.proofs.ReadReplyLaws.{answer_is, get_long, get_served, number_served, refused_with}
 use Rattle.ask_session.specs.Ready.{CanServe}
 use Rattle.ask_session.proofs.ServingLaws.{refused_stays, serves_same}
 use Rattle.work_session.specs.Counts.{asked_by, calls_by}
@@ -109,10 +109,18 @@ change_does {classes} s new c a d result h short x step sound = record {
     now_sound : OnOk (answer_change result) (IsStore classes new)
     now_sound = sound_if (ask.change c) new (answer_change result) y.serves.broken sound
 
--- ---- keeps
+-- what a request asks of a store and of its disk
+pub can_serve : {classes : ℕ} (s : StoreValue) (a : disk.State) → s.is_broken ≡ false → IsStore classes s
+    → IsConnected classes s a → IsTrue a.is_ready → disk.IsLawful a → CanServe classes s a
+can_serve s a whole sound over ready lawful = record {
+  whole = whole;
+  sound = sound;
+  over = over whole;
+  ready = ready;
+  fits = lawful.turn_fits;
+}
 
-at_ok : {P : Type 0} (r : Result Done Refusal) (done : Done) → r ≡ Ok done → OnOk r P → P
-at_ok {P} r done is p = subst (λ (y : Result Done Refusal). OnOk y P) is p
+-- ---- keeps
 
 module _ {classes : ℕ} (s new : StoreValue) (a d : disk.State) (h : CanServe classes s a) where
   keep_result : (result : Result Done Refusal) → IsKeep classes s new a d result
@@ -180,13 +188,6 @@ module _ {classes : ℕ} (s new : StoreValue) (a d : disk.State) (h : CanServe c
       }
 
 -- ---- gets
-
-answer_is : (w : Refused) → answer_of (refusal_for w) ≡ Ok (head.Refused (told_for w))
-answer_is ask.bad_name = refl
-answer_is ask.too_long = refl
-answer_is ask.missing = refl
-answer_is ask.full = refl
-answer_is ask.worn = refl
 
 -- no refusal says that the disk failed
 no_disk : (w : Refused) → refusal_for w ≢ why.Disk

@@ -4,7 +4,7 @@ use Rattle.map_model.specs.Requests as ask
 use Rattle.ask_text.specs.declared.reply.Reply.{Reply}
 use Rattle.ask_session.specs.declared.ends.End.{End}
 use Rattle.work_session.specs.Jobs.{Does}
-use Rattle.work_session.proofs.DoesLaws.{keep_does}
+use Rattle.work_session.proofs.DoesLaws.{can_serve, keep_does}
 use Rattle.work_session.proofs.job.keep.Goals as goal
 
 pub returns : goal.returns
@@ -13,13 +13,8 @@ returns g c = subst (λ (x : Result Reply End). Does g.row.C ask.keep c.args.sto
     (sym c.answer_change.ensures)
     (keep_does c.args.store.now c.keep-answer.new.self
     (g.D.Disk.state c.args.disk.now) (g.D.Disk.state c.keep-answer.new.disk)
-    (record {
-      whole = c.requires.whole;
-      sound = c.requires.sound;
-      over = c.requires.over c.requires.whole;
-      ready = c.requires.ready;
-      fits = (g.met.D.Disk.lawful c.args.disk.now).turn_fits;
-    })
+    (can_serve c.args.store.now (g.D.Disk.state c.args.disk.now) c.requires.whole c.requires.sound
+    c.requires.over c.requires.ready (g.met.D.Disk.lawful c.args.disk.now))
     c.keep-answer.result
     (record {
       answer = c.keep-answer.ensures.answer;

@@ -5,7 +5,7 @@ use Rattle.map_model.specs.Requests as ask
 use Rattle.ask_text.specs.declared.reply.Reply.{Reply}
 use Rattle.ask_session.specs.declared.ends.End.{End}
 use Rattle.work_session.specs.Jobs.{Does}
-use Rattle.work_session.proofs.DoesLaws.{change_does}
+use Rattle.work_session.proofs.DoesLaws.{can_serve, change_does}
 use Rattle.work_session.proofs.DoneLaws.{put_short}
 use Rattle.work_session.proofs.job.put_object.Goals as goal
 
@@ -17,12 +17,7 @@ returns g c = subst (λ (x : Result Reply End). Does g.row.C (ask.change
     (sym c.answer_change.ensures)
     (change_does c.args.store.now c.put-answer.new.self (put_of c.args.name.now c.args.object.now)
     (g.D.Disk.state c.args.disk.now) (g.D.Disk.state c.put-answer.new.disk) c.put-answer.result
-    (record {
-      whole = c.requires.whole;
-      sound = c.requires.sound;
-      over = c.requires.over c.requires.whole;
-      ready = c.requires.ready;
-      fits = (g.met.D.Disk.lawful c.args.disk.now).turn_fits;
-    })
+    (can_serve c.args.store.now (g.D.Disk.state c.args.disk.now) c.requires.whole c.requires.sound
+    c.requires.over c.requires.ready (g.met.D.Disk.lawful c.args.disk.now))
     (put_short c.args.name.now c.args.object.now c.requires.short)
     c.put-answer.ensures.change c.put-answer.ensures.step c.is_sound.ensures)

@@ -6,7 +6,7 @@ use Rattle.ask_text.specs.declared.reply.Reply.{Reply}
 use Rattle.ask_text.specs.declared.reply.Reply.TheVariants as head
 use Rattle.ask_session.specs.declared.ends.End.{End}
 use Rattle.work_session.specs.Jobs.{Does}
-use Rattle.work_session.proofs.DoesLaws.{get_gives, get_stops}
+use Rattle.work_session.proofs.DoesLaws.{can_serve, get_gives, get_stops}
 use Rattle.work_session.proofs.job.read.Goals as goal
 
 pub returns-in-Ok : goal.returns-in-Ok
@@ -15,13 +15,8 @@ returns-in-Ok g c = subst (λ (x : StoreValue). Does g.row.C (ask.get c.args.nam
     (sym c.in-Ok.ensures.store)
     (get_gives c.args.store.now (g.D.Disk.state c.args.disk.now)
     (g.D.Disk.state c.get.new.disk) c.args.name.now
-    (record {
-      whole = c.requires.whole;
-      sound = c.requires.sound;
-      over = c.requires.over c.requires.whole;
-      ready = c.requires.ready;
-      fits = (g.met.D.Disk.lawful c.args.disk.now).turn_fits;
-    })
+    (can_serve c.args.store.now (g.D.Disk.state c.args.disk.now) c.requires.whole c.requires.sound
+    c.requires.over c.requires.ready (g.met.D.Disk.lawful c.args.disk.now))
     c.in-Ok.ensures.frame c.in-Ok.size c.in-Ok.ensures.answer
     (c.in-Ok.ensures.disk_cause.calm (λ is. absurd (cc))))
 
@@ -34,12 +29,7 @@ returns-in-Err g c = subst (λ (x : StoreValue). Does g.row.C (ask.get c.args.na
     (sym c.answer_of.ensures)
     (get_stops c.args.store.now (g.D.Disk.state c.args.disk.now)
     (g.D.Disk.state c.get.new.disk) c.args.name.now
-    (record {
-      whole = c.requires.whole;
-      sound = c.requires.sound;
-      over = c.requires.over c.requires.whole;
-      ready = c.requires.ready;
-      fits = (g.met.D.Disk.lawful c.args.disk.now).turn_fits;
-    })
+    (can_serve c.args.store.now (g.D.Disk.state c.args.disk.now) c.requires.whole c.requires.sound
+    c.requires.over c.requires.ready (g.met.D.Disk.lawful c.args.disk.now))
     c.in-Err.ensures.frame c.in-Err.why c.in-Err.ensures.answer c.in-Err.ensures.disk_cause
     (λ sink. omega (arith, c.in-Err.ensures.sink_cause.rose (ap Err sink)))))

@@ -5,7 +5,7 @@ use Rattle.map_model.specs.Requests as ask
 use Rattle.ask_text.specs.declared.reply.Reply.{Reply}
 use Rattle.ask_session.specs.declared.ends.End.{End}
 use Rattle.work_session.specs.Jobs.{Does}
-use Rattle.work_session.proofs.DoesLaws.{change_does}
+use Rattle.work_session.proofs.DoesLaws.{can_serve, change_does}
 use Rattle.work_session.proofs.DoneLaws.{del_short}
 use Rattle.work_session.proofs.job.remove.Goals as goal
 
@@ -16,12 +16,7 @@ returns g c = subst (λ (x : Result Reply End). Does g.row.C (ask.change
     (sym c.answer_change.ensures)
     (change_does c.args.store.now c.del-answer.new.self (del_of c.args.name.now)
     (g.D.Disk.state c.args.disk.now) (g.D.Disk.state c.del-answer.new.disk) c.del-answer.result
-    (record {
-      whole = c.requires.whole;
-      sound = c.requires.sound;
-      over = c.requires.over c.requires.whole;
-      ready = c.requires.ready;
-      fits = (g.met.D.Disk.lawful c.args.disk.now).turn_fits;
-    })
+    (can_serve c.args.store.now (g.D.Disk.state c.args.disk.now) c.requires.whole c.requires.sound
+    c.requires.over c.requires.ready (g.met.D.Disk.lawful c.args.disk.now))
     (del_short c.args.name.now)
     c.del-answer.ensures.change c.del-answer.ensures.step c.is_sound.ensures)
