@@ -30,7 +30,10 @@ impl Display for Text {
             Cause::NoRoom(room) => {
                 let error = room.error;
                 let asked = room.asked;
-                write!(f, "{error}; it was to have {asked} bytes")
+                match room.had {
+                    None => write!(f, "{error}; it was to have {asked} bytes"),
+                    Some(had) => write!(f, "{error}; it was to have {asked} bytes, and came to {had}"),
+                }
             }
             Cause::NoFolder(error) => write!(f, "its folder: {error}"),
             Cause::NoName => f.write_str("it is empty"),
