@@ -18,7 +18,7 @@ use Rattle.extent_table.proofs.RollLaws.{rolled-plain, rolled-seen}
 use Rattle.placement_model.specs.Laid.{laid}
 use Rattle.reopen.specs.Loads.{IsLoadedFrom, KeepsLoaded}
 use Rattle.reopen.specs.Refusals.{BreaksFirst, BreaksLaid, RefusesToOpen}
-use Rattle.reopen.specs.Tables.{IsCheckedLayout, IsRead, IsReadFrom}
+use Rattle.reopen.specs.Tables.{IsCheckedLayout, IsTableRead, IsReadFrom}
 use Rattle.reopen.specs.declared.fault.OpenFault.{OpenFault}
 use Rattle.reopen.specs.declared.fault.OpenFault.TheVariants as fault
 use Rattle.reopen.specs.declared.state.Loaded.{Loaded}
@@ -48,7 +48,7 @@ layout_is {C} k data_len kind header spots same (Ok l) valid layout = record {
 }
 layout_is k data_len kind header spots same (Err e) valid layout = tt
 
-pub keeps_loaded : {C : ℕ} (r : TableRead) (layout : Layout C) → IsRead r
+pub keeps_loaded : {C : ℕ} (r : TableRead) (layout : Layout C) → IsTableRead r
     → IsCheckedLayout r.found.block.k r.data_len r.header.value r.table.now layout
     → KeepsLoaded (loaded_with r layout)
 keeps_loaded r layout read checked = record {

@@ -42,7 +42,7 @@ pub record IsFoundIn (file : List ℕ) (found : Found) (header : Header) : Type 
 
 -- As many records as the header says were set in a table with room for all names, and kept. From now on as
 -- many names may be live as a table of that version has records.
-pub record IsRead (r : TableRead) : Type 0 where
+pub record IsTableRead (r : TableRead) : Type 0 where
   pub is_found : IsFound r.found r.header.value
   pub is_table : IsTable r.table
   pub count : fin.len r.table.now ≡ r.header.value.count

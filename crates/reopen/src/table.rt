@@ -9,7 +9,7 @@ ghost use Rattle.slot_pair.specs.Finding.{HasDiskCause, Refuses, chosen_of, in_u
 ghost use Rattle.extent_table.specs.Extents as extents;
 ghost use Rattle.reopen.specs.Records.{AreSet};
 ghost use Rattle.reopen.specs.Refusals.{RefusesBy};
-ghost use Rattle.reopen.specs.Tables.{IsFound, IsFoundIn, IsHeader, IsRead, IsReadFrom};
+ghost use Rattle.reopen.specs.Tables.{IsFound, IsFoundIn, IsHeader, IsTableRead, IsReadFrom};
 
 use crate::OpenFault;
 use crate::boxed::boxed;
@@ -44,7 +44,7 @@ struct Room {
 /// Reads the table of a file.
 pub(crate) fn read_table<D: Disk>(alloc: Global, disk: &mut D) -> Result<TableRead, OpenFault>
     requires ready { IsTrue (D.state disk.old).is_ready }
-    ensures read { IfOk result IsRead }
+    ensures read { IfOk result IsTableRead }
     ensures told { IsTrue (D.state disk.old).tells → IfOk result (IsReadFrom (D.state disk.old).file) }
     ensures refused { IsTrue (D.state disk.old).tells
         → IfErr result (RefusesBy (table_of (D.state disk.old).file)) }

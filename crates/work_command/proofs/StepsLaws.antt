@@ -19,7 +19,7 @@ use Rattle.store_model.specs.Opened.{IsOpening, RefusesStore}
 use Rattle.reopen.specs.declared.fault.OpenFault.{OpenFault}
 use Rattle.command_face.specs.declared.status.TheConstants.{DISK_FAILED, DONE, NO_FILE, NO_MEMORY, NO_STORE, SINK_FAILED}
 use Rattle.command_face.specs.Mounting.{IsMounted, mounted}
-use Rattle.work_command.specs.Steps.{OpenWorkSteps, WorkSteps, IsAllDone, IsNotBegun, IsRefusal, IsStopped, jobs_numbered}
+use Rattle.work_command.specs.Steps.{OpenWorkSteps, WorkSteps, IsAllDone, IsNotBegun, IsRefusal, IsStoppedInJob, jobs_numbered}
 use Rattle.command_face.specs.Refusing.{stop_of}
 use Rattle.served_file.specs.Unserved.{IsRefusedService, NeverServed}
 use Rattle.command_face.specs.Outcomes.{EndsBy, status_at, status_of}
@@ -193,7 +193,7 @@ module _ {D : Type 0} (disk_of : D → State) (file : List ℕ) (number count : 
     rose_before : (a b c : ℕ) → a ≤ b → Rose b c → Rose a c
     rose_before a b c low rose = omega (arith, low, rose)
 
-    in_job : IsStopped disk_of (jobs_numbered number count) first z end → put ≡ out
+    in_job : IsStoppedInJob disk_of (jobs_numbered number count) first z end → put ≡ out
         → All file number count old z out put
         (status_at end)
     in_job x same = carried (Err stop.Disk) x.ended

@@ -20,7 +20,7 @@ use Rattle.reopen.specs.declared.fault.OpenFault.{OpenFault}
 use Rattle.reopen.specs.declared.fault.OpenFault.TheVariants as opening
 use Rattle.store_model.specs.Plain.{IsPlain}
 use Rattle.command_face.specs.declared.status.TheConstants.{SINK_FAILED}
-use Rattle.work_command.specs.Steps.{OpenWorkSteps, WorkSteps, IsAllDone, IsNotBegun, IsRefusal, IsStopped, jobs_numbered}
+use Rattle.work_command.specs.Steps.{OpenWorkSteps, WorkSteps, IsAllDone, IsNotBegun, IsRefusal, IsStoppedInJob, jobs_numbered}
 use Rattle.command_face.specs.Refusing.{stop_of}
 use Rattle.served_file.specs.Served.{IsNextStart, Starts, found_with}
 use Rattle.command_face.specs.Outcomes.{PutsLast, line_at, status_at, status_of}
@@ -130,7 +130,7 @@ module _ (t : choice.SlotTable) (m : Map) (b : Book) (old : State) (lawful : IsL
           carried (Err stop.NoMemory) x.ended (over_block 10 op
           (none_done t m b old lawful o number count out after op 10 refl refl))
 
-      in_job : IsStopped disk_of (jobs_numbered number count) first z end → Works (status_at end)
+      in_job : IsStoppedInJob disk_of (jobs_numbered number count) first z end → Works (status_at end)
       in_job x =
           let op : Opened t m b old (disk_of x.mid) x.store =
           opened_by t m b old first mount told o (disk_of x.mid) x.store calm_mount x.opening in

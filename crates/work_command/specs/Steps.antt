@@ -45,7 +45,7 @@ pub record IsNotBegun (before now : State) (end : Result (Unit {0}) StopReason) 
   pub ended : end ≡ Err stop.NoMemory
 
 -- It was opened, at `mid`, and the disk failed in a job.
-pub record IsStopped {D : Type 0} (disk_of : D → State) (asked : NumberedJobs) (before now : State)
+pub record IsStoppedInJob {D : Type 0} (disk_of : D → State) (asked : NumberedJobs) (before now : State)
     (end : Result (Unit {0}) StopReason) : Type 0 where
   pub store : StoreValue
   pub mid : D
@@ -71,7 +71,7 @@ abbrev pub OpenWorkSteps : {D : Type 0} → (D → State) → NumberedJobs → D
     → Result (Unit {0}) StopReason → Type 0
 OpenWorkSteps disk_of asked before now end =
     ((IsRefusal before.disk now.disk end ⊎ IsNotBegun before.disk now.disk end
-    ⊎ IsStopped disk_of asked before.disk now.disk end) × (now.sink ≡ before.sink))
+    ⊎ IsStoppedInJob disk_of asked before.disk now.disk end) × (now.sink ≡ before.sink))
     ⊎ IsAllDone disk_of asked before now end
 
 -- The file wasn't mounted.
