@@ -53,7 +53,8 @@ use Rattle.run_command.proofs.SinkLaws.{sink_failed}
 use Rattle.run_command.proofs.SettledLaws.{settled_still}
 use Rattle.run_command.proofs.SoFarLaws.{SoFar}
 use Rattle.run_command.proofs.UnservedLaws.{never_true, none_far, unserved_runs}
-use Rattle.served_file.proofs.RefusedLaws.{WhyUnopened, why_unopened, begins_itself}
+use Rattle.served_file.proofs.FoundLaws.{found_start, found_starts, next_found}
+use Rattle.served_file.proofs.RefusedLaws.{WhyUnopened, why_unopened}
 use Rattle.served_file.proofs.RefusedLaws.WhyUnopened.{disk, memory}
 use Rattle.disk_face.specs.Devices.{devices}
 
@@ -94,27 +95,6 @@ module _ {D I O : Type 0} (seen : Seen D I O) (lawful : (d : D) → IsLawful (se
 
   -- ---- no session
 
-  abbrev found_start : store.State
-  found_start = state_at m b t.chosen.header.sequence
-
-  found_starts : Starts t m b found_start
-  found_starts = record {
-    state = refl;
-    sequence = begins_itself t.chosen.header.kind t.chosen.header.sequence;
-  }
-
-  -- the next call finds what this one found
-  next_found : z.file ≡ old.file → (RestsOnFound t old → RestsOnFound t z)
-      → IsNextStart t found_start t.chosen.header.sequence old z
-  next_found same rests = record {
-    table = t;
-    opens = subst (λ (f : List ℕ). OpensBy CLASSES SIZE_MAX t f m b) (sym same) o;
-    block = refl;
-    not_worn = omega arith;
-    exact = λ same. refl;
-    rests = rests;
-  }
-
   module _ (same_source : now.source ≡ before.source) (same_sink : now.sink ≡ before.sink) where
     line_out : (ending : Result (Unit {0}) StopReason) → PutsEnd ending → IsTrue (seen.sink before.sink).tells
         → PutsLast (seen.sink before.sink).given after.given (line_at ending)
@@ -128,7 +108,8 @@ module _ {D I O : Type 0} (seen : Seen D I O) (lawful : (d : D) → IsLawful (se
         → Rose old.faults z.faults → (HasMounted z → k ≡ z.turn) → PutsEnd (Err stop.Disk)
         → Runs (outcome_of (unserved stop.Disk k))
     failed_before k later left rose since line =
-        unserved_runs t.chosen.block found_start found_starts (lawful now.disk) left_before later left
+        unserved_runs t.chosen.block (found_start t m b) (found_starts t m b) (lawful now.disk) left_before
+        later left
         (λ rests below calm settled opened. absurd (omega (arith, rose, calm.same, calm.below)))
         requests end (seen.source before.source) (seen.source now.source) (seen.sink before.sink) after
         DISK_FAILED k refl refl
@@ -144,14 +125,15 @@ module _ {D I O : Type 0} (seen : Seen D I O) (lawful : (d : D) → IsLawful (se
         (Err stop.NoFile)
         → Runs (outcome_of (unserved stop.NoFile 0))
     absent c mount is line =
-        unserved_runs t.chosen.block found_start found_starts (lawful now.disk) left_before mount.time.later
+        unserved_runs t.chosen.block (found_start t m b) (found_starts t m b) (lawful now.disk) left_before
+        mount.time.later
         (λ room. left_first t m b old z mount told o)
         (λ rests below calm settled opened. settled_still t m b old o (lawful before.disk) mount.same_turn
         (λ rests. Leaves-call old.may_leave mount.time mount.images) rests below settled opened)
         requests end (seen.source before.source) (seen.source now.source) (seen.sink before.sink) after
         NO_FILE 0 refl refl (λ is. omega (arith, is))
         (λ has. absurd (never_true (sym (ap is_mounted is) ∙ has))) (λ calm has. never_true has)
-        (λ calm. next_found (mount.same_file told) (rests_first t m b old z mount told o))
+        (λ calm. next_found t m b old z o (mount.same_file told) (rests_first t m b old z mount told o))
         (Err stop.NoFile) refl tt (line_out (Err stop.NoFile) line)
         (none_far NO_FILE requests end (seen.source before.source) (seen.source now.source) refl
         (λ is. omega (arith, is)) (λ is. omega (arith, is)) (λ is. omega (arith, is))
@@ -173,7 +155,7 @@ module _ {D I O : Type 0} (seen : Seen D I O) (lawful : (d : D) → IsLawful (se
           let still = λ (rests : RestsOnFound t old).
           Leaves-trans (Leaves-call old.may_leave mount.time mount.images)
           (Leaves-weaken old.may_leave mount.images same.since) in
-          unserved_runs t.chosen.block found_start found_starts (lawful now.disk) left_before
+          unserved_runs t.chosen.block (found_start t m b) (found_starts t m b) (lawful now.disk) left_before
           (omega (arith, same.same_turn, mount.same_turn))
           (λ room rests. Leaves-weaken (IsFoundImage CLASSES t m b (length old.file))
           (λ image may. found_image CLASSES t old.file m b o image (rests image may)) (still rests))
@@ -181,8 +163,8 @@ module _ {D I O : Type 0} (seen : Seen D I O) (lawful : (d : D) → IsLawful (se
           (same.same_turn ∙ mount.same_turn) still rests below settled opened)
           requests end (seen.source before.source) (seen.source now.source) (seen.sink before.sink) after
           NO_MEMORY z.turn refl refl (λ is. omega (arith, is)) (λ has. refl) (λ calm has. never_true has)
-          (λ calm. next_found file (λ rests image left. subst (λ (f : List ℕ). SameOnFound t f image)
-          (sym file) (rests image (mount.images image (same.images image left)))))
+          (λ calm. next_found t m b old z o file (λ rests image left.
+          subst (λ (f : List ℕ). SameOnFound t f image) (sym file) (rests image (mount.images image (same.images image left)))))
           (Err stop.NoMemory) refl tt (line_out (Err stop.NoMemory) line) no_memory
 
       unopened_by : (e : SessionEnd) (why : OpenFault) → WhyUnopened why → IsOpening CLASSES first z (Err why)

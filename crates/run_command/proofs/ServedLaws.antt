@@ -1,7 +1,7 @@
 -- A session in which no device failed has served each request of its input, or memory is wanting.
 use Rattle.std.specs.Prelude.{◌≡◌, ◌≢◌, ◌⊎◌, ℕ, ◌+◌, ◌<◌, ◌||◌, true, false, List, [], length, refl}
 use Rattle.std.proofs.Common.{arith, ap, sym, ◌∙◌, inl, inr, length-append}
-use Rattle.std.proofs.lemmas.Bool.{cases_eq, ne_eqb}
+use Rattle.std.proofs.lemmas.Bool.{cases_eq, ne_eqb, false≢true}
 use Rattle.disk_face.specs.Counts.{IsCalm}
 use Rattle.disk_face.specs.Mounts.{is_mounted}
 use Rattle.disk_face.specs.States.{State}
@@ -19,7 +19,6 @@ use Rattle.run_command.specs.Sessions.{KeepsRun}
 use Rattle.command_face.specs.declared.outcome.Outcome.{Outcome}
 use Rattle.disk_face.specs.Devices.{devices}
 use Rattle.served_file.specs.Served.{found_by}
-use Rattle.run_command.proofs.StepsLaws.{not_both}
 
 -- of a session's statuses those are left that no fault has, of a device or of the input
 status_calm : (n : ℕ) → is_session n ≡ true → n ≢ FAULTY_REQUEST → n ≢ NO_FILE → n ≢ DISK_FAILED
@@ -69,7 +68,7 @@ module _ {t : choice.SlotTable} {m : Map} {b : Book} (requests : List Request) {
   all_served file few keeps mount there calm source_calm sink_calm =
       elim (status_calm o.status r.far.known
       (λ is. (r.far.line is).1 refl)
-      (λ is. not_both (ap is_mounted (sym (mount.absent.0 is) ∙ there)))
+      (λ is. absurd (false≢true (ap is_mounted (sym (mount.absent.0 is) ∙ there))))
       (λ is. omega (arith, keeps.rose is, calm.same, calm.below))
       (λ is. omega (arith, keeps.source_rose is, source_calm.same, source_calm.below))
       (λ is. omega (arith, keeps.sink_rose is, sink_calm.same, sink_calm.below))

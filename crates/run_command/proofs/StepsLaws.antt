@@ -1,6 +1,7 @@
 -- What holds of the command that serves requests in each way that it may go.
 use Rattle.std.specs.Prelude.{◌≡◌, ◌≢◌, ◌⊎◌, ℕ, ◌≤◌, true, false, List, [], None, Ok, Err, IsTrue, refl}
 use Rattle.std.proofs.Common.{arith, ap, sym, ◌∙◌, subst, inl, inr}
+use Rattle.std.proofs.lemmas.Bool.{false≢true}
 use Rattle.disk_face.specs.Counts.{Rose}
 use Rattle.disk_face.specs.States.{State}
 use Rattle.disk_face.specs.Frames.{AfterMount, Untouched}
@@ -28,9 +29,6 @@ use Rattle.run_command.specs.declared.run.SessionEnd.{SessionEnd}
 use Rattle.run_command.proofs.ClauseLaws.{SessionKeeps, session_keeps}
 use Rattle.command_face.proofs.UnopenedLaws.{status_unopened, not_status, disk_by, mount_untouched}
 use Rattle.served_file.proofs.RefusedLaws.{opened_plain, refused_unchanged, refuses_service}
-
-pub not_both : {A : Type 0} → false ≡ true → A
-not_both is = absurd (cc)
 
 -- the devices, the mount, and the turn that is told
 pub record Whole (file : List ℕ) (before now : Outside) (same : Type 0) (e : SessionEnd) : Type 0 where
@@ -77,7 +75,7 @@ module _ (file : List ℕ) (before now : Outside) (same : Type 0) where
     };
     turn = record {
       unopened = λ is. refl;
-      low = λ has. not_both (sym (ap is_mounted none) ∙ has);
+      low = λ has. absurd (false≢true (sym (ap is_mounted none) ∙ has));
       high = λ has. omega arith;
       refused = λ is. absurd (elim is as (λ _. ⊥) [ inl x ↦ omega (arith, x) | inr x ↦ omega (arith, x) ]);
     };
@@ -94,7 +92,7 @@ module _ (file : List ℕ) (before now : Outside) (same : Type 0) where
     mounted = record { answer = inr (inr is); absent = (λ three. is, λ three. refl) };
     turn = record {
       unopened = λ is. refl;
-      low = λ has. not_both (sym (ap is_mounted is) ∙ has);
+      low = λ has. absurd (false≢true (sym (ap is_mounted is) ∙ has));
       high = λ has. omega arith;
       refused = λ is. absurd (elim is as (λ _. ⊥) [ inl x ↦ omega (arith, x) | inr x ↦ omega (arith, x) ]);
     };
@@ -107,7 +105,7 @@ module _ (file : List ℕ) (before now : Outside) (same : Type 0) where
         → IsMounted file false now.disk.last_mount (status_at e.end ≡ DISK_FAILED) (status_at e.end ≡ NO_FILE)
     mounted_there stays three = record {
       answer = inr (inl (stays ∙ there));
-      absent = (λ is. absurd (three is), λ is. not_both (ap is_mounted (sym is ∙ stays ∙ there)));
+      absent = (λ is. absurd (three is), λ is. absurd (false≢true (ap is_mounted (sym is ∙ stays ∙ there))));
     }
 
     turn_there : now.disk.last_mount ≡ first.last_mount → first.turn ≤ e.kept_turn

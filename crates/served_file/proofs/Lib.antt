@@ -2,3 +2,4 @@ pub mod RefusedLaws
 pub mod OpeningLaws
 pub mod OverLaws
 pub mod ShownLaws
+pub mod FoundLaws

@@ -5,8 +5,6 @@ use Rattle.size_class.specs.declared.TheConstants.{CLASSES, SIZE_MAX}
 use Rattle.slot_codec.proofs.ChoiceLaws.{table_chosen}
 use Rattle.slot_codec.proofs.StepLaws.{from_ok}
 use Rattle.slot_codec.specs.Choice as choice
-use Rattle.slot_codec.specs.declared.codec.Kind.{Kind}
-use Rattle.slot_codec.specs.declared.codec.Kind.TheVariants as kind
 use Rattle.slot_pair.specs.declared.find.SlotFault.TheVariants as slot
 use Rattle.map_model.specs.Maps.{Map}
 use Rattle.segment_layout.specs.Books.{Book}
@@ -25,7 +23,6 @@ use Rattle.command_face.specs.Outcomes.{EndsBy, status_of}
 use Rattle.command_face.specs.Refusing.{IsRefused, stop_of}
 use Rattle.command_face.specs.declared.stop.StopReason.{StopReason}
 use Rattle.command_face.proofs.UnopenedLaws.{opens_or_not}
-use Rattle.served_file.specs.Served.{BeginsFrom}
 use Rattle.served_file.specs.Unserved.{IsRefusedService, NeverServed}
 
 -- opening it failed for want of a device or of memory
@@ -79,11 +76,6 @@ pub unopened_never : (file : List ℕ) (why : OpenFault) → RefusesStore CLASSE
     → status_of (stop_of why) ≡ NO_STORE → NeverServed file
 unopened_never file why refused four m b plain opens =
     not_four why (why_unopened opens.table m b file why plain opens.opens refused) four
-
--- the sequence at the start may be the one found
-pub begins_itself : (k : Kind) (found : ℕ) → BeginsFrom k found found
-begins_itself kind.Settled found = refl
-begins_itself kind.Moving found = (omega arith, omega arith)
 
 -- a refusal that isn't the disk's changes nothing
 pub refused_unchanged : (a b : State) (why : OpenFault) → status_of (stop_of why) ≡ NO_STORE

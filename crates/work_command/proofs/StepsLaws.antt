@@ -1,7 +1,7 @@
 -- What holds of the command that does jobs in each way that it may go.
 use Rattle.std.specs.Prelude.{◌≡◌, ◌≢◌, ◌⊎◌, ℕ, ◌≤◌, ◌||◌, true, false, List, [], None, Ok, Err, Result, OnErr, IsTrue, refl}
 use Rattle.std.proofs.Common.{arith, ap, sym, ◌∙◌, subst, inl, inr}
-use Rattle.std.proofs.lemmas.Bool.{cases_eq, ne_eqb}
+use Rattle.std.proofs.lemmas.Bool.{cases_eq, ne_eqb, false≢true}
 use Rattle.disk_face.specs.Counts.{HasCause, IsCalm, Rose}
 use Rattle.disk_face.specs.States.{State}
 use Rattle.disk_face.specs.Frames.{AfterMount, Untouched}
@@ -29,9 +29,6 @@ use Rattle.command_face.specs.declared.stop.StopReason.TheVariants as stop
 use Rattle.command_face.proofs.UnopenedLaws.{disk_by, mount_untouched, not_status, status_unopened}
 use Rattle.served_file.proofs.RefusedLaws.{opened_plain, refused_unchanged, refuses_service}
 use Rattle.disk_face.specs.Devices.{devices}
-
-pub not_both : {A : Type 0} → false ≡ true → A
-not_both is = absurd (cc)
 
 -- ---- the devices, the mount, and what was put, by the status
 
@@ -99,7 +96,7 @@ module _ (file : List ℕ) (number count : ℕ) (old z : State) (out put : SinkS
       answer = inr (inl (frame.stays.same_mount ∙ there));
       absent = (
         λ is. absurd (three is),
-        λ is. not_both (ap is_mounted (sym is ∙ frame.stays.same_mount ∙ there)),
+        λ is. absurd (false≢true (ap is_mounted (sym is ∙ frame.stays.same_mount ∙ there))),
       );
     }
 
@@ -319,6 +316,6 @@ pub jobs_done : (file : List ℕ) (number count n : ℕ) (old z : State) (out af
     → z.last_mount ≡ mounted file false There → IsCalm old.faults z.faults
     → IsCalm out.faults after.faults → (n ≡ DONE) ⊎ (n ≡ NO_MEMORY)
 jobs_done file number count n old z out after known keeps mount there calm sink_calm = status_calm n known
-    (λ is. not_both (ap is_mounted (sym (mount.absent.0 is) ∙ there)))
+    (λ is. absurd (false≢true (ap is_mounted (sym (mount.absent.0 is) ∙ there))))
     (λ is. omega (arith, keeps.rose is, calm.same, calm.below))
     (λ is. omega (arith, keeps.sink_rose is, sink_calm.same, sink_calm.below))

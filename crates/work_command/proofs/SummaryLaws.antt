@@ -1,6 +1,7 @@
 -- What `work` puts: a summary where all jobs were done, and else its line alone.
 use Rattle.std.specs.Prelude.{◌≡◌, ◌⊎◌, ℕ, ◌≤◌, true, false, List, [], ◌++◌, take, Ok, Err, Result, OnErr, OnOk, IsTrue, refl}
 use Rattle.std.proofs.Common.{arith, ap, sym, ◌∙◌, subst, inl, inr, append-nil}
+use Rattle.std.proofs.lemmas.Bool.{false≢true}
 use Rattle.std.proofs.lemmas.List.{nil_from_length, length-take-le}
 use Rattle.disk_face.specs.Counts.{Rose}
 use Rattle.disk_face.specs.States.{State}
@@ -18,7 +19,6 @@ use Rattle.command_face.specs.declared.stop.StopReason.TheVariants as stop
 use Rattle.command_face.proofs.StatusLaws.{calm_by, Puts-front}
 use Rattle.command_face.proofs.UnopenedLaws.{status_unopened}
 use Rattle.disk_face.specs.Devices.{devices}
-use Rattle.work_command.proofs.StepsLaws.{not_both}
 
 -- after a summary no line is put
 pub no_line : (put after : SinkState) (failed : Type 0) → PutsLast put.given after.given [] failed
@@ -70,8 +70,9 @@ module _ {D : Type 0} (disk_of : D → State) (number count : ℕ) (z : State) (
   unworked : {A : Type 0} (e : Result (Unit {0}) StopReason) → end ≡ e → has_worked (status_at e) ≡ false
       → IsTrue (has_worked (status_at end)) → A
   unworked e is none worked =
-      not_both (sym none ∙ ap (λ (x : Result (Unit {0}) StopReason). has_worked (status_at x)) (sym is)
-      ∙ worked)
+      absurd (false≢true (sym none
+      ∙ ap (λ (x : Result (Unit {0}) StopReason). has_worked (status_at x)) (sym is)
+      ∙ worked))
 
   unworked_refusal : (n : ℕ) → (n ≡ NO_STORE) ⊎ (n ≡ DISK_FAILED) ⊎ (n ≡ NO_MEMORY) → has_worked n ≡ false
   unworked_refusal n (inl four) = ap has_worked four

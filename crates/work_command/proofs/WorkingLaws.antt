@@ -29,7 +29,8 @@ use Rattle.work_command.specs.Working.{WorkHolds}
 use Rattle.command_face.specs.declared.stop.StopReason.{StopReason}
 use Rattle.command_face.specs.declared.stop.StopReason.TheVariants as stop
 use Rattle.work_command.proofs.SummaryLaws.{summary_put}
-use Rattle.served_file.proofs.RefusedLaws.{WhyUnopened, begins_itself, why_unopened}
+use Rattle.served_file.proofs.FoundLaws.{found_start, found_starts, next_found}
+use Rattle.served_file.proofs.RefusedLaws.{WhyUnopened, why_unopened}
 use Rattle.served_file.proofs.RefusedLaws.WhyUnopened.{disk, memory}
 use Rattle.served_file.proofs.OpeningLaws.{Opened, left_first, left_opening, opened_by, opens_first, rests_first, told_first}
 use Rattle.disk_face.specs.Devices.{devices}
@@ -48,38 +49,17 @@ module _ (t : choice.SlotTable) (m : Map) (b : Book) (old : State) (lawful : IsL
 
   -- ---- the file wasn't opened
 
-  abbrev found_start : store.State
-  found_start = state_at m b t.chosen.header.sequence
-
-  found_starts : Starts t m b found_start
-  found_starts = record {
-    state = refl;
-    sequence = begins_itself t.chosen.header.kind t.chosen.header.sequence;
-  }
-
-  -- the next call finds what this one found
-  next_found : z.file ≡ old.file → (RestsOnFound t old → RestsOnFound t z)
-      → IsNextStart t found_start t.chosen.header.sequence old z
-  next_found same rests = record {
-    table = t;
-    opens = subst (λ (f : List ℕ). OpensBy CLASSES SIZE_MAX t f m b) (sym same) o;
-    block = refl;
-    not_worn = omega arith;
-    exact = λ same. refl;
-    rests = rests;
-  }
-
   failed_before : old.turn ≤ z.turn
       → (LeavesRoom t → RestsOnFound t old → Leaves old z (IsFoundImage CLASSES t m b (length old.file)))
       → Rose old.faults z.faults → Works 7
   failed_before later left rose = none_begun t m b old lawful o number count out after t.chosen.block
-      found_start
-      found_starts later left 7 refl refl (λ calm. absurd (omega (arith, rose, calm.same, calm.below)))
+      (found_start t m b) (found_starts t m b) later left 7 refl refl
+      (λ calm. absurd (omega (arith, rose, calm.same, calm.below)))
 
   absent : AfterMount old z → Works 3
-  absent mount = none_begun t m b old lawful o number count out after t.chosen.block found_start found_starts
-      mount.time.later (λ room. left_first t m b old z mount told o) 3 refl refl
-      (λ calm. next_found (mount.same_file told) (rests_first t m b old z mount told o))
+  absent mount = none_begun t m b old lawful o number count out after t.chosen.block (found_start t m b)
+      (found_starts t m b) mount.time.later (λ room. left_first t m b old z mount told o) 3 refl refl
+      (λ calm. next_found t m b old z o (mount.same_file told) (rests_first t m b old z mount told o))
 
   module _ (first : State) (mount : AfterMount old first) (calm_mount : first.faults ≡ old.faults) where
     unopened_by : (why : OpenFault) → WhyUnopened why → IsOpening CLASSES first z (Err why)
@@ -92,11 +72,11 @@ module _ (t : choice.SlotTable) (m : Map) (b : Book) (old : State) (lawful : IsL
         let same : Unchanged first z = is.unchanged in
         let file : z.file ≡ old.file = same.same_file (told_first t m b old first mount told o)
         ∙ mount.same_file told in
-        none_begun t m b old lawful o number count out after t.chosen.block found_start found_starts
-        (omega (arith, mount.same_turn, same.same_turn))
+        none_begun t m b old lawful o number count out after t.chosen.block (found_start t m b)
+        (found_starts t m b) (omega (arith, mount.same_turn, same.same_turn))
         (left_opening t m b old first mount told o z (Err opening.NoMemory) is) 10 refl refl
-        (λ calm. next_found file (λ rests image left. subst (λ (f : List ℕ). SameOnFound t f image) (sym file)
-        (rests image (mount.images image (same.images image left)))))
+        (λ calm. next_found t m b old z o file (λ rests image left.
+        subst (λ (f : List ℕ). SameOnFound t f image) (sym file) (rests image (mount.images image (same.images image left)))))
     unopened_by (opening.Slot slot.Short) none is = elim none [ ]
     unopened_by (opening.Slot slot.Unformatted) none is = elim none [ ]
     unopened_by (opening.Slot slot.NoGate) none is = elim none [ ]
