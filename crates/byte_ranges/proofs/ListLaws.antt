@@ -1,7 +1,7 @@
 -- Laws of small words on lists and numbers.
-use Rattle.std.proofs.Common.{arith, ap, ◌∙◌}
-use Rattle.std.proofs.lemmas.List.{length-map}
-use Rattle.std.specs.Prelude.{◌<◌, length, ◌≡◌, refl, slice_index, replicate, ℕ, zero, suc, ◌+◌, map}
+use Rattle.std.proofs.Common.{arith, ap, sym, ◌∙◌}
+use Rattle.std.proofs.lemmas.List.{length-map, map-id}
+use Rattle.std.specs.Prelude.{◌<◌, List, length, ◌≡◌, refl, slice_index, replicate, ℕ, zero, suc, ◌+◌, map}
 use Rattle.byte_ranges.specs.Lists.{counting_from, below}
 
 -- zeros alone read as 0
@@ -30,3 +30,12 @@ length-map_below f n = length-map (counting_from 0 n) f ∙ length-counting 0 n
 pub map_below-index : (f : ℕ → ℕ) (n i : ℕ) → i < n → slice_index (map f (below n)) i ≡ f i
 unfolding below
 map_below-index f n i h = counting-index f 0 n i h ∙ (let e : 0 + i ≡ i = omega arith in ap f e)
+
+-- the numbers below n themselves
+pub length-below : (n : ℕ) → length (below n) ≡ n
+unfolding below
+length-below n = length-counting 0 n
+
+pub below_at : (n i : ℕ) → i < n → slice_index (below n) i ≡ i
+below_at n i h = sym (ap (λ (xs : List ℕ). slice_index xs i) (map-id (below n)))
+    ∙ map_below-index (λ x. x) n i h

@@ -4,8 +4,9 @@ use Rattle.std.proofs.Common.{arith, ap, sym, ◌∙◌, append_assoc, length-ap
 use Rattle.std.proofs.Math.Seq.{take-append-add}
 use Rattle.std.proofs.lemmas.Grind.{flat_map-append}
 use Rattle.std.proofs.lemmas.List.{append-nil, take-append-drop, take-append-le, take_all, take_more}
-use Rattle.std.proofs.lemmas.Option.{get_or_from_slice_get, slice_get_within}
-use Rattle.byte_ranges.specs.Lists.{below, counting_from}
+use Rattle.std.proofs.lemmas.Option.{get_or_from_slice_get, slice_get-get_or, slice_get_within}
+use Rattle.byte_ranges.specs.Lists.{below}
+use Rattle.byte_ranges.proofs.ListLaws.{below_at, length-below}
 use Rattle.disk_face.specs.Streams.{Puts}
 use Rattle.command_face.specs.declared.stop.StopReason.{StopReason}
 use Rattle.file_commands.specs.Texts.{Gathers}
@@ -143,20 +144,5 @@ module _ {A : Type 0} (line : A → List ℕ) (xs : List A) where
 
 -- ---- the numbers from 0 on
 
-counting_at : (first n i : ℕ) → i < n → slice_get (counting_from first n) i ≡ Some (first + i)
-counting_at first zero i h = absurd (omega (arith, h))
-counting_at first (suc n) zero h = ap Some (omega arith)
-counting_at first (suc n) (suc i) h = counting_at (first + 1) n i (omega arith)
-    ∙ ap Some (let e : first + 1 + i ≡ first + suc i = omega arith in e)
-
-counting_length : (first n : ℕ) → length (counting_from first n) ≡ n
-counting_length first zero = refl
-counting_length first (suc n) = ap suc (counting_length (first + 1) n)
-
-pub length-below : (n : ℕ) → length (below n) ≡ n
-unfolding below
-length-below n = counting_length 0 n
-
-pub below_at : (n i : ℕ) → i < n → slice_get (below n) i ≡ Some i
-unfolding below
-below_at n i h = counting_at 0 n i h ∙ ap Some (let e : 0 + i ≡ i = omega arith in e)
+pub got_below : (n i : ℕ) → i < n → slice_get (below n) i ≡ Some i
+got_below n i h = slice_get-get_or (below n) i 0 (omega (arith, h, length-below n)) ∙ ap Some (below_at n i h)

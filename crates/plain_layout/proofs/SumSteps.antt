@@ -5,6 +5,7 @@ use Rattle.std.proofs.lemmas.Bool.{cases_lt, cases_Bool, cond-true, cond-false}
 use Rattle.std.proofs.lemmas.List.{get_or_past, take_all}
 use Rattle.std.proofs.lemmas.List.Sums.{get_or-le-sum_by, sum_by_more, count_by_more_yes, count_by_more_no}
 use Rattle.byte_ranges.specs.Lists.{below, counting_from}
+use Rattle.byte_ranges.proofs.ListLaws.{below_at, length-below}
 use Rattle.slot_codec.specs.declared.codec.Record.{Record}
 use Rattle.map_model.proofs.MapLaws.{sum_by-map}
 use Rattle.segment_layout.specs.Books.{volumes_of_sizes}
@@ -12,24 +13,6 @@ use Rattle.segment_layout.proofs.BalanceLaws.{bytes_in}
 use Rattle.segment_layout.proofs.BookLaws.{sum_by-filter, volumes_of_sizes-index}
 use Rattle.segment_layout.proofs.SumLaws.{sum_by_le_places}
 use Rattle.table_rules.specs.Tables.{is_of, no_record, size_sum, sizes}
-
-counting_at : (first n i : ℕ) → i < n → slice_index (counting_from first n) i ≡ first + i
-counting_at first zero i h = absurd (omega (arith, h))
-counting_at first (suc n) zero h = omega arith
-counting_at first (suc n) (suc i) h = counting_at (first + 1) n i (omega arith)
-    ∙ (let e : first + 1 + i ≡ first + suc i = omega arith in e)
-
-counting_length : (first n : ℕ) → length (counting_from first n) ≡ n
-counting_length first zero = refl
-counting_length first (suc n) = ap suc (counting_length (first + 1) n)
-
-pub length-below : (n : ℕ) → length (below n) ≡ n
-unfolding below
-length-below n = counting_length 0 n
-
-below_at : (n i : ℕ) → i < n → slice_index (below n) i ≡ i
-unfolding below
-below_at n i h = counting_at 0 n i h ∙ (let e : 0 + i ≡ i = omega arith in e)
 
 pub count_yes : (p : ℕ → Bool) (n i : ℕ) → i < n → p i ≡ true
     → count_by p (take (i + 1) (below n)) ≡ count_by p (take i (below n)) + 1

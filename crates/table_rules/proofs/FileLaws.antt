@@ -11,9 +11,9 @@ use Rattle.std.specs.Cmp.{eq_by_cmp_equiv}
 use Rattle.std.specs.FinMap as fin
 use Rattle.std.specs.FinMap.Entries.{find}
 use Rattle.std.specs.FinSet as set
-use Rattle.std.proofs.lemmas.List.{get_or_past, length-map, map-id}
+use Rattle.std.proofs.lemmas.List.{get_or_past, length-map}
 use Rattle.byte_ranges.specs.Lists.{below}
-use Rattle.byte_ranges.proofs.ListLaws.{length-map_below, map_below-index}
+use Rattle.byte_ranges.proofs.ListLaws.{below_at, length-below, length-map_below}
 use Rattle.byte_ranges.specs.Ranges.{bytes_at}
 use Rattle.byte_ranges.proofs.RangeLaws.{length-bytes_at}
 use Rattle.size_class.specs.Classes.{width, IsGrid, IsRow}
@@ -264,18 +264,11 @@ pub file_names : (file : List ℕ) (t : choice.SlotTable) → choice.table_of fi
     → HaveDistinctNames t.records
 file_names file t is = rise_names None t.records (table_rises file t is)
 
-length-below : (n : ℕ) → length (below n) ≡ n
-length-below n = sym (length-map (below n) (λ (x : ℕ). x)) ∙ length-map_below (λ x. x) n
-
 mapped_at : (f : ℕ → List ℕ) (xs : List ℕ) (i : ℕ) → i < length xs
     → slice_index_or (map f xs) i [] ≡ f (slice_index xs i)
 mapped_at f [] i h = absurd (omega arith)
 mapped_at f (x ∷ xs) zero h = refl
 mapped_at f (x ∷ xs) (suc i) h = mapped_at f xs i (omega arith)
-
-below_at : (n i : ℕ) → i < n → slice_index (below n) i ≡ i
-below_at n i h = sym (ap (λ (xs : List ℕ). slice_index xs i) (map-id (below n)))
-    ∙ map_below-index (λ x. x) n i h
 
 numbers_row : (bytes : List ℕ) (at : ℕ) → IsRow width (numbers_at 32 bytes at)
 numbers_row bytes at =

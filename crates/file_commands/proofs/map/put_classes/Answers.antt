@@ -1,7 +1,8 @@
 use Rattle.std.proofs.Common.{rules, arith, IsTrue}
 use Rattle.byte_ranges.specs.Lists.{below}
 use Rattle.file_commands.specs.Texts.{class_line}
-use Rattle.file_commands.proofs.GatherLaws.{below_at, length-below, line_more, line_stopped, lines_all}
+use Rattle.byte_ranges.proofs.ListLaws.{length-below}
+use Rattle.file_commands.proofs.GatherLaws.{got_below, line_more, line_stopped, lines_all}
 use Rattle.file_commands.proofs.map.put_classes.Goals as goal
 
 pub returns-in_err-make_room-clause-gathered : goal.returns-in_err-make_room-clause-gathered
@@ -18,7 +19,7 @@ classes-preserved g c = record {
       let there : IsTrue (g.O.Sink.state c.classes.output).tells = grind (arith, c.classes.invariant.told) in
       line_more (class_line c.args.k c.args.header.now) (below 32) c.classes.c c.classes.c
       (c.classes.invariant.so_far told) (c.in_ok-make_room.ensures.gathered there) c.push_class.ensures
-      (below_at 32 c.classes.c (omega arith));
+      (got_below 32 c.classes.c (omega arith));
   calm = grind (arith, c.in_ok-make_room.ensures.cause.calm, c.classes.invariant.calm);
   told = grind (arith, c.make_room.ensures.told, c.classes.invariant.told);
 }
