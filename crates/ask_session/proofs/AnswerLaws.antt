@@ -47,6 +47,7 @@ refused_answer : (w : Refused) → answer_change (Err (refusal_for w)) ≡ Ok (h
 refused_answer ask.bad_name = refl
 refused_answer ask.too_long = refl
 refused_answer ask.missing = refl
+refused_answer ask.damaged = refl
 refused_answer ask.full = refl
 refused_answer ask.worn = refl
 

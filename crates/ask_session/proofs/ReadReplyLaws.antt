@@ -181,6 +181,7 @@ pub answer_is : (w : Refused) → answer_of (refusal_for w) ≡ Ok (head.Refused
 answer_is ask.bad_name = refl
 answer_is ask.too_long = refl
 answer_is ask.missing = refl
+answer_is ask.damaged = refl
 answer_is ask.full = refl
 answer_is ask.worn = refl
 

@@ -10,7 +10,7 @@ use Rattle.store_model.specs.Connection.{StoreValue}
 use Rattle.ask_text.specs.Replies.{reply_line_of, rest_of}
 use Rattle.ask_text.specs.declared.reply.Reply.{Reply}
 use Rattle.ask_text.specs.declared.reply.Reply.TheVariants as head
-use Rattle.ask_text.specs.declared.reply.Word5.TheVariants as word
+use Rattle.ask_text.specs.declared.reply.RefusedWord.TheVariants as word
 use Rattle.ask_session.specs.declared.ends.End.{End}
 use Rattle.ask_session.specs.declared.ends.End.TheVariants as ends
 use Rattle.ask_session.specs.Serving.{Serves, reply_at}
@@ -23,11 +23,13 @@ abbrev pub answer_of : Refusal → Result Reply End
 answer_of why.BadName = Ok (head.Refused word.Name)
 answer_of why.TooLong = Ok (head.Refused word.Size)
 answer_of why.Missing = Ok (head.Refused word.Missing)
+answer_of why.Damaged = Ok (head.Refused word.Damaged)
 answer_of why.Full = Ok (head.Refused word.Full)
 answer_of why.Worn = Ok (head.Refused word.Worn)
 answer_of why.Sink = Err ends.Sink
 answer_of why.Disk = Err ends.Disk
 answer_of why.Broken = Err ends.Disk
+answer_of why.TooMany = Err ends.Disk
 
 -- the end where a device failed in a read
 abbrev pub fault_of : Refusal → End
@@ -37,6 +39,8 @@ fault_of why.Broken = ends.Disk
 fault_of why.BadName = ends.Disk
 fault_of why.TooLong = ends.Disk
 fault_of why.Missing = ends.Disk
+fault_of why.TooMany = ends.Disk
+fault_of why.Damaged = ends.Disk
 fault_of why.Full = ends.Disk
 fault_of why.Worn = ends.Disk
 

@@ -9,7 +9,7 @@ ghost use Rattle.ask_session.specs.ReplyLines.{Answers, answer_change};
 
 use crate::End;
 use crate::heads::{answer_of, done_reply_line};
-use ask_text::{Reply, Word5};
+use ask_text::{RefusedWord, Reply};
 use disk_face::Disk;
 use slot_codec::Name;
 use store_core::{Done, Refusal, Store};
@@ -42,9 +42,9 @@ pub(crate) fn serve_long<const C: usize, D: Disk>(
         store.new (D.state disk.old) (D.state disk.new) result }
 {
     if is_name(name) {
-        Ok(Reply::Refused(Word5::Size))
+        Ok(Reply::Refused(RefusedWord::Size))
     } else {
-        Ok(Reply::Refused(Word5::Name))
+        Ok(Reply::Refused(RefusedWord::Name))
     }
 }
 

@@ -7,7 +7,7 @@ ghost use Rattle.ask_session.specs.ReplyLines.{answer_of, done_reply_line, fault
 ghost use Rattle.ask_session.specs.Serving.{PutsText};
 
 use crate::End;
-use ask_text::{Reply, Word5, write_reply};
+use ask_text::{RefusedWord, Reply, write_reply};
 use disk_face::{Sink, SinkFault};
 use store_core::{Done, Refusal};
 
@@ -97,13 +97,14 @@ pub(crate) fn answer_of(why: Refusal) -> Result<Reply, End>
     ensures { result ≡ answer_of why }
 {
     match why {
-        Refusal::BadName => Ok(Reply::Refused(Word5::Name)),
-        Refusal::TooLong => Ok(Reply::Refused(Word5::Size)),
-        Refusal::Missing => Ok(Reply::Refused(Word5::Missing)),
-        Refusal::Full => Ok(Reply::Refused(Word5::Full)),
-        Refusal::Worn => Ok(Reply::Refused(Word5::Worn)),
+        Refusal::BadName => Ok(Reply::Refused(RefusedWord::Name)),
+        Refusal::TooLong => Ok(Reply::Refused(RefusedWord::Size)),
+        Refusal::Missing => Ok(Reply::Refused(RefusedWord::Missing)),
+        Refusal::Damaged => Ok(Reply::Refused(RefusedWord::Damaged)),
+        Refusal::Full => Ok(Reply::Refused(RefusedWord::Full)),
+        Refusal::Worn => Ok(Reply::Refused(RefusedWord::Worn)),
         Refusal::Sink => Err(End::Sink),
-        Refusal::Disk | Refusal::Broken => Err(End::Disk),
+        Refusal::Disk | Refusal::Broken | Refusal::TooMany => Err(End::Disk),
     }
 }
 

@@ -9,17 +9,18 @@ use Rattle.ask_text.proofs.Cuts.{cut_once, lacks-decimal}
 use Rattle.ask_text.specs.Replies.{IsTold, first_line, word_of}
 use Rattle.ask_text.specs.declared.reply.Reply.{Reply}
 use Rattle.ask_text.specs.declared.reply.Reply.TheVariants as head
-use Rattle.ask_text.specs.declared.reply.Word5.{Word5}
-use Rattle.ask_text.specs.declared.reply.Word5.TheVariants as word
+use Rattle.ask_text.specs.declared.reply.RefusedWord.{RefusedWord}
+use Rattle.ask_text.specs.declared.reply.RefusedWord.TheVariants as word
 
 -- the byte at a place, or 0
 abbrev byte : ℕ → List ℕ → ℕ
 byte i xs = get_or xs i 0
 
-word_one : (v w : Word5) → word_of v ≡ word_of w → v ≡ w
+word_one : (v w : RefusedWord) → word_of v ≡ word_of w → v ≡ w
 word_one word.Name word.Name h = refl
 word_one word.Size word.Size h = refl
 word_one word.Missing word.Missing h = refl
+word_one word.Damaged word.Damaged h = refl
 word_one word.Full word.Full h = refl
 word_one word.Worn word.Worn h = refl
 word_one _ _ h = absurd (omega (arith, ap (byte 0) h))

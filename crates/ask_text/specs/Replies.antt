@@ -5,14 +5,15 @@ use Rattle.map_model.specs.Requests as reply
 use Rattle.map_model.specs.Requests.{Refused}
 use Rattle.ask_text.specs.declared.reply.Reply.{Reply}
 use Rattle.ask_text.specs.declared.reply.Reply.TheVariants as head
-use Rattle.ask_text.specs.declared.reply.Word5.{Word5}
-use Rattle.ask_text.specs.declared.reply.Word5.TheVariants as word
+use Rattle.ask_text.specs.declared.reply.RefusedWord.{RefusedWord}
+use Rattle.ask_text.specs.declared.reply.RefusedWord.TheVariants as word
 
 -- the word of a refusal
-abbrev pub word_of : Word5 → List ℕ
+abbrev pub word_of : RefusedWord → List ℕ
 word_of word.Name = codes "name"
 word_of word.Size = codes "size"
 word_of word.Missing = codes "missing"
+word_of word.Damaged = codes "damaged"
 word_of word.Full = codes "full"
 word_of word.Worn = codes "worn"
 
@@ -35,10 +36,11 @@ IsTold (head.Stat names bytes kept_names kept_bytes) = (names < 2 ^ 64) × (byte
 IsTold _ = Unit {0}
 
 -- the word that is told for a refusal
-abbrev pub told_for : Refused → Word5
+abbrev pub told_for : Refused → RefusedWord
 told_for reply.bad_name = word.Name
 told_for reply.too_long = word.Size
 told_for reply.missing = word.Missing
+told_for reply.damaged = word.Damaged
 told_for reply.full = word.Full
 told_for reply.worn = word.Worn
 

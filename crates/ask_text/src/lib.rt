@@ -9,5 +9,5 @@ mod word;
 
 pub use ask::{Ask, LineFault, read_ask};
 pub use digits::number;
-pub use reply::{Reply, Word5, write_reply};
+pub use reply::{RefusedWord, Reply, write_reply};
 pub use word::Word;

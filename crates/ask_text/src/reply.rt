@@ -18,7 +18,7 @@ pub enum Reply {
         size: u64,
     },
     /// Nothing was done, for this reason.
-    Refused(Word5),
+    Refused(RefusedWord),
     /// Lines of this many names follow.
     List {
         count: u64,
@@ -32,15 +32,17 @@ pub enum Reply {
     },
 }
 
-/// The words of the five refusals.
+/// The words of refusals.
 #[derive(Clone, Copy, Debug, PartialEq, Eq)]
-pub enum Word5 {
+pub enum RefusedWord {
     /// The bytes are no name.
     Name,
     /// The object would be too long.
     Size,
     /// There is no such object.
     Missing,
+    /// The object has another digest than the one that it was put with.
+    Damaged,
     /// There is no room for another name.
     Full,
     /// The file has been saved too often.
@@ -88,16 +90,17 @@ pub fn write_reply(reply: &Reply) -> ArrayVec<u8, 128>
 }
 
 /// The word of a refusal.
-fn word_of(why: Word5) -> &'static [u8]
+fn word_of(why: RefusedWord) -> &'static [u8]
     ensures value { result.now ≡ word_of why }
     ensures short { length result.now ≤ 7 }
 {
     match why {
-        Word5::Name => b"name",
-        Word5::Size => b"size",
-        Word5::Missing => b"missing",
-        Word5::Full => b"full",
-        Word5::Worn => b"worn",
+        RefusedWord::Name => b"name",
+        RefusedWord::Size => b"size",
+        RefusedWord::Missing => b"missing",
+        RefusedWord::Damaged => b"damaged",
+        RefusedWord::Full => b"full",
+        RefusedWord::Worn => b"worn",
     }
 }
 

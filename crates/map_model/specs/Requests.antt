@@ -21,6 +21,7 @@ pub data Refused : Type 0 where
   bad_name : Refused
   too_long : Refused
   missing : Refused
+  damaged : Refused
   full : Refused
   worn : Refused
 

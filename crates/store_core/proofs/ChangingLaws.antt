@@ -43,6 +43,7 @@ stays_broken false (Some w) refused is =
     none ask.bad_name = refl
     none ask.too_long = refl
     none ask.missing = refl
+    none ask.damaged = refl
     none ask.full = refl
     none ask.worn = refl
 

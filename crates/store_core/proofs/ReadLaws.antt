@@ -66,6 +66,8 @@ device_failed why.Broken = false
 device_failed why.BadName = false
 device_failed why.TooLong = false
 device_failed why.Missing = false
+device_failed why.TooMany = false
+device_failed why.Damaged = false
 device_failed why.Full = false
 device_failed why.Worn = false
 
@@ -80,6 +82,7 @@ none_failed false (Some w) x is = let same : refusal_for w ≡ x = (cc) in ap de
     none ask.bad_name = refl
     none ask.too_long = refl
     none ask.missing = refl
+    none ask.damaged = refl
     none ask.full = refl
     none ask.worn = refl
 

@@ -29,6 +29,7 @@ refused_replied limits s r w is = each w (refused_step limits s r w is)
     each ask.bad_name step = step
     each ask.too_long step = step
     each ask.missing step = step
+    each ask.damaged step = step
     each ask.full step = step
     each ask.worn step = step
 

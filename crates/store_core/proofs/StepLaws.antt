@@ -87,6 +87,7 @@ replies_refused limits s r reply n result why is answer =
     each ask.bad_name step = step
     each ask.too_long step = step
     each ask.missing step = step
+    each ask.damaged step = step
     each ask.full step = step
     each ask.worn step = step
 

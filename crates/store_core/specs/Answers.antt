@@ -18,6 +18,7 @@ abbrev pub refusal_for : Refused → Refusal
 refusal_for ask.bad_name = why.BadName
 refusal_for ask.too_long = why.TooLong
 refusal_for ask.missing = why.Missing
+refusal_for ask.damaged = why.Damaged
 refusal_for ask.full = why.Full
 refusal_for ask.worn = why.Worn
 
@@ -80,6 +81,8 @@ is_disk why.Broken = false
 is_disk why.BadName = false
 is_disk why.TooLong = false
 is_disk why.Missing = false
+is_disk why.TooMany = false
+is_disk why.Damaged = false
 is_disk why.Full = false
 is_disk why.Worn = false
 is_disk why.Sink = false
@@ -90,13 +93,16 @@ is_disk_fault (Err refused) = is_disk refused
 
 -- ---- replies
 
--- the reply of a refusal; there is none where a device failed, or the store can't go on
+-- the reply of a refusal; there is none where a device failed, the store can't go on, or what is refused is no
+-- request
 abbrev pub refused_reply : Refusal → Option Reply
 refused_reply why.BadName = Some (ask.refused ask.bad_name)
 refused_reply why.TooLong = Some (ask.refused ask.too_long)
 refused_reply why.Missing = Some (ask.refused ask.missing)
+refused_reply why.Damaged = Some (ask.refused ask.damaged)
 refused_reply why.Full = Some (ask.refused ask.full)
 refused_reply why.Worn = Some (ask.refused ask.worn)
+refused_reply why.TooMany = None
 refused_reply why.Broken = None
 refused_reply why.Disk = None
 refused_reply why.Sink = None

@@ -16,6 +16,12 @@ pub enum Refusal {
     /// The name isn't in the map that was asked.
     #[error("there is no object of this name")]
     Missing,
+    /// There are more names than a table with digests has room for.
+    #[error("there are too many names for a table with digests")]
+    TooMany,
+    /// The object has another digest than the one that it was put with.
+    #[error("the object is damaged")]
+    Damaged,
     /// The name is new, and there are as many names as there may be.
     #[error("there is no room for another name")]
     Full,

@@ -64,6 +64,8 @@ pub small_refused : (x : Refusal) → IfOk (answer_of x) (λ reply. read_head re
 small_refused why.BadName = omega arith
 small_refused why.TooLong = omega arith
 small_refused why.Missing = omega arith
+small_refused why.TooMany = tt
+small_refused why.Damaged = omega arith
 small_refused why.Full = omega arith
 small_refused why.Worn = omega arith
 small_refused why.Sink = tt

@@ -3,7 +3,7 @@ ghost use Rattle.std.specs.Prelude.{◌≡◌};
 ghost use Rattle.ask_session.specs.ReplyLines.{answer_change, answer_of};
 
 use ask_session::End;
-use ask_text::{Reply, Word5};
+use ask_text::{RefusedWord, Reply};
 use store_core::{Done, Refusal};
 
 /// The reply to a change or a keep, or that the disk failed.
@@ -21,12 +21,13 @@ pub(crate) fn answer_of(why: Refusal) -> Result<Reply, End>
     ensures { result ≡ answer_of why }
 {
     match why {
-        Refusal::BadName => Ok(Reply::Refused(Word5::Name)),
-        Refusal::TooLong => Ok(Reply::Refused(Word5::Size)),
-        Refusal::Missing => Ok(Reply::Refused(Word5::Missing)),
-        Refusal::Full => Ok(Reply::Refused(Word5::Full)),
-        Refusal::Worn => Ok(Reply::Refused(Word5::Worn)),
+        Refusal::BadName => Ok(Reply::Refused(RefusedWord::Name)),
+        Refusal::TooLong => Ok(Reply::Refused(RefusedWord::Size)),
+        Refusal::Missing => Ok(Reply::Refused(RefusedWord::Missing)),
+        Refusal::Damaged => Ok(Reply::Refused(RefusedWord::Damaged)),
+        Refusal::Full => Ok(Reply::Refused(RefusedWord::Full)),
+        Refusal::Worn => Ok(Reply::Refused(RefusedWord::Worn)),
         Refusal::Sink => Err(End::Sink),
-        Refusal::Disk | Refusal::Broken => Err(End::Disk),
+        Refusal::Disk | Refusal::Broken | Refusal::TooMany => Err(End::Disk),
     }
 }
