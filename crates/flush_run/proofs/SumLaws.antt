@@ -53,7 +53,7 @@ grows_in (phases.Lay v) (phases.Lift w) p mv same step c = absurd (omega (arith,
 grows_in (phases.Lay v) (phases.Pack w) p mv same step c = absurd (omega (arith, same))
 
 -- nor are they fewer in the next phase
-grows_on : {C : ℕ} (s0 s : Phase C) (p : PlanState) → rank_of s ≡ rank_of s0 + 1 → (c : ℕ)
+pub grows_on : {C : ℕ} (s0 s : Phase C) (p : PlanState) → rank_of s ≡ rank_of s0 + 1 → (c : ℕ)
     → moved_in s0 p c ≤ moved_in s p c
 grows_on (phases.Lift v) (phases.Pack w) p next c = omega arith
 grows_on (phases.Pack v) (phases.Lay w) p next c = omega (arith, lifted_and_packed p c)

@@ -12,7 +12,7 @@ use flush_plan::{Laying, Lifting, Packing, Settled};
 
 /// A flush between two of its moves.
 #[derive(Drop)]
-pub(crate) enum Phase<const C: usize> {
+pub enum Phase<const C: usize> {
     Lift(Lifting<C>),
     Pack(Packing<C>),
     Lay(Laying<C>),

@@ -1,0 +1,66 @@
+//! A flush one move at a time, for whoever does other work between two moves.
+ghost use Rattle.std.specs.Prelude.{◌≡◌, ◌+◌, ◌≤◌, ℕ, IsTrue};
+ghost use Rattle.disk_face.specs.Counts.{HasCause};
+ghost use Rattle.flush_run.specs.FlushFrames.{FlushFrame, LeavesOldOrNew};
+ghost use Rattle.flush_run.specs.Parts.{parts_of};
+ghost use Rattle.flush_run.specs.Phases.{CanAdvance, KeepsIn, PaidIn, items_in};
+ghost use Rattle.flush_run.specs.Runs.{AreLent};
+ghost use Rattle.flush_run.specs.Steps.{GoesThen, KeepsThen, MakesThen, PaidThen};
+
+use crate::Hands;
+use crate::advance::advance;
+use crate::phase::{Onward, Phase};
+use crate::settle::settle;
+use crate::whole::Halted;
+use disk_face::Disk;
+use flush_plan::Settled;
+
+/// What a step of a flush did: it moved an object, or it settled what stands now.
+#[derive(Drop)]
+pub enum Stepped<const C: usize> {
+    Moved(Phase<C>),
+    Settled(Settled<C>),
+}
+
+/// Makes the next move of a flush, with the save before it where the checkpoint holds a byte of its
+/// target; where no move is left, saves the settled table, cuts the file and syncs. `run` and `resume` are
+/// these steps, one after another, from Lift and from Pack on. After an error only opening the file leads on.
+pub fn step<D: Disk, const C: usize>(
+    disk: &mut D,
+    phase: Phase<C>,
+    hands: &mut Hands<C>,
+) -> Result<Stepped<C>, Halted>
+    requires ready { IsTrue (D.state disk.old).is_ready }
+    requires lent { AreLent C (parts_of hands.old) }
+    requires start { (f : FlushFrame) × CanAdvance f phase (parts_of hands.old) (D.state disk.old) }
+    requires keeps { KeepsIn phase (items_in phase hands.old.table) }
+    ensures goes { (f : FlushFrame) → CanAdvance f phase.entry (parts_of hands.old) (D.state disk.old)
+        → GoesThen f result (parts_of hands.new) (D.state disk.new) }
+    ensures left { (f : FlushFrame) → CanAdvance f phase.entry (parts_of hands.old) (D.state disk.old)
+        → IsTrue (D.state disk.old).tells
+        → LeavesOldOrNew f (hands.new.slots.sequence + 1) (D.state disk.old) (D.state disk.new) }
+    ensures keeps { KeepsThen result (parts_of hands.new) }
+    ensures paid { (q : ℕ) → PaidIn q phase.entry (parts_of hands.old)
+        → PaidThen q result (parts_of hands.new) }
+    ensures made { MakesThen phase.entry result (parts_of hands.old) (parts_of hands.new)
+        (D.state disk.old) (D.state disk.new) }
+    ensures cause { HasCause (D.state disk.old).faults (D.state disk.new).faults result }
+{
+    let mut at = phase;
+    'phases: loop {
+        let moved = match advance(disk, &mut at, hands) {
+            Ok(moved) => moved,
+            Err(fault) => return Err(Halted(fault)),
+        };
+        if moved {
+            return Ok(Stepped::Moved(at));
+        }
+        match at.onward(&hands.table) {
+            Onward::Next(next) => at = next,
+            Onward::End(settled) => match settle(disk, &settled, hands) {
+                Ok(()) => return Ok(Stepped::Settled(settled)),
+                Err(fault) => return Err(Halted(fault)),
+            },
+        }
+    }
+}
