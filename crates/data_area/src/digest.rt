@@ -17,7 +17,7 @@ pub fn digest_at<D: Disk>(
     buf: &mut [u8],
 ) -> Result<[u8; 32], DiskFault>
     requires ready { IsTrue (D.state disk.old).is_ready }
-    requires some { 0 < length buf.old }
+    requires some { 0 < size → 0 < length buf.old }
     requires range { at + size < 2 ^ 64 }
     requires within { IsTrue (D.state disk.old).tells → at + size ≤ length (D.state disk.old).file }
     ensures digest { IsTrue (D.state disk.old).tells

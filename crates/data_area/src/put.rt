@@ -25,7 +25,7 @@ pub fn put_bytes<D: Disk, O: Sink>(
     sink: &mut O,
 ) -> Result<(), PutFault>
     requires ready { IsTrue (D.state disk.old).is_ready }
-    requires some { 0 < length buf.old }
+    requires some { 0 < size → 0 < length buf.old }
     requires range { at + size < 2 ^ 64 }
     requires within { IsTrue (D.state disk.old).tells → at + size ≤ length (D.state disk.old).file }
     ensures put { IsTrue (D.state disk.old).tells → IsTrue (O.state sink.old).tells

@@ -5,8 +5,9 @@ ghost use Rattle.disk_face.specs.Frames.{Unchanged};
 ghost use Rattle.disk_face.specs.Streams.{Puts};
 ghost use Rattle.command_face.specs.Layers.{HasCausesAt};
 
-use command_face::{StopReason, put_whole};
-use disk_face::{Disk, Sink, read};
+use command_face::StopReason;
+use data_area::PutFault;
+use disk_face::{Disk, Sink};
 use std::alloc::Global;
 
 /// How many bytes are copied at a time.
@@ -21,8 +22,8 @@ pub fn take_piece(alloc: Global, size: u64) -> Result<Vec<u8>, StopReason>
     vec![in alloc; 0; length].map_err(|_| StopReason::NoMemory)
 }
 
-/// Puts `size` bytes of the file from position `at` on, in pieces, through a buffer that has room for
-/// one. Where a device fails, a front of them was put.
+/// Puts `size` bytes of the file from position `at` on, in pieces of the buffer. Where a device fails, a
+/// front of them was put.
 pub fn put_bytes<D: Disk, O: Sink>(
     disk: &mut D,
     at: u64,
@@ -31,7 +32,7 @@ pub fn put_bytes<D: Disk, O: Sink>(
     output: &mut O,
 ) -> Result<(), StopReason>
     requires ready { IsTrue (D.state disk.old).is_ready }
-    requires room { min size PIECE ≤ length piece.old }
+    requires some { 0 < size → 0 < length piece.old }
     requires range { at + size < 2 ^ 64 }
     requires within { IsTrue (D.state disk.old).tells → at + size ≤ length (D.state disk.old).file }
     ensures put { IsTrue (D.state disk.old).tells → IsTrue (O.state output.old).tells
@@ -42,35 +43,9 @@ pub fn put_bytes<D: Disk, O: Sink>(
         (O.state output.new) result }
     ensures frame { Unchanged (D.state disk.old) (D.state disk.new) }
 {
-    let mut done = 0;
-    'pieces: while done < size {
-        let n = (size - done).min(PIECE);
-        put_piece(disk, at + done, n as usize, piece, output)?;
-        done += n;
+    match data_area::put_bytes(disk, at, size, piece, output) {
+        Ok(()) => Ok(()),
+        Err(PutFault::Disk) => Err(StopReason::Disk),
+        Err(PutFault::Sink) => Err(StopReason::Sink),
     }
-    Ok(())
-}
-
-/// Puts `size` bytes of the file at once, through a buffer that has room for them.
-fn put_piece<D: Disk, O: Sink>(
-    disk: &mut D,
-    at: u64,
-    size: usize,
-    buffer: &mut [u8],
-    output: &mut O,
-) -> Result<(), StopReason>
-    requires ready { IsTrue (D.state disk.old).is_ready }
-    requires room { size ≤ length buffer.old }
-    requires within { IsTrue (D.state disk.old).tells → at + size ≤ length (D.state disk.old).file }
-    ensures put { IsTrue (D.state disk.old).tells → IsTrue (O.state output.old).tells
-        → Puts (O.state output.old).given (O.state output.new).given
-        (bytes_at (D.state disk.old).file at size) result }
-    ensures only { OnErr result ((result ≡ Err StopReason.Disk) ⊎ (result ≡ Err StopReason.Sink)) }
-    ensures causes { HasCausesAt (D.state disk.old) (D.state disk.new) (O.state output.old)
-        (O.state output.new) result }
-    ensures frame { Unchanged (D.state disk.old) (D.state disk.new) }
-{
-    let piece = &mut buffer[..size];
-    read(disk, at, piece).map_err(|_| StopReason::Disk)?;
-    put_whole(output, piece)
 }

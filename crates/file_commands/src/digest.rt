@@ -1,15 +1,13 @@
 //! Objects that have a digest: the bytes are put only where they have it.
-ghost use Rattle.std.specs.Prelude.{◌≡◌, ◌⊎◌, ◌+◌, ◌^◌, ◌<◌, ◌≤◌, ◌++◌, List, ℕ, Some, Err, IfErr, IfOk, OnOk, IsTrue, bytes_eq, length, min};
-ghost use Rattle.sha2.specs.Hashers.{Holds256};
-ghost use Rattle.sha2.specs.Sha256.{sha256};
+ghost use Rattle.std.specs.Prelude.{◌≡◌, ◌⊎◌, ◌+◌, ◌^◌, ◌<◌, ◌≤◌, Some, IfErr, IsTrue, bytes_eq, length, min};
 ghost use Rattle.byte_ranges.specs.Ranges.{bytes_at};
 ghost use Rattle.disk_face.specs.Frames.{Unchanged};
-ghost use Rattle.slot_pair.specs.Finding.{HasDiskCause};
 ghost use Rattle.command_face.specs.Layers.{Answers, HasCausesAt, PutsNone};
 ghost use Rattle.file_commands.specs.Getting.{checked};
 
 use crate::copy::{PIECE, put_bytes};
 use command_face::{StopReason, put_whole};
+use data_area::digest_at;
 use disk_face::{Disk, Sink, read};
 use sha2::{Digest, Sha256};
 
@@ -42,7 +40,7 @@ pub fn put_checked<D: Disk, O: Sink>(
     if size <= PIECE {
         return put_small(disk, at, size as usize, digest, piece, output);
     }
-    let found = digest_at(disk, at, size, piece)?;
+    let found = digest_at(disk, at, size, piece).map_err(|_| StopReason::Disk)?;
     if !is_same(digest, &found) {
         return Err(StopReason::Damaged);
     }
@@ -79,59 +77,6 @@ fn put_small<D: Disk, O: Sink>(
         return Err(StopReason::Damaged);
     }
     put_whole(output, piece)
-}
-
-/// The digest of `size` bytes of the file from position `at` on, which are read in pieces through a buffer
-/// that has room for one.
-fn digest_at<D: Disk>(
-    disk: &mut D,
-    at: u64,
-    size: u64,
-    piece: &mut [u8],
-) -> Result<[u8; 32], StopReason>
-    requires ready { IsTrue (D.state disk.old).is_ready }
-    requires room { min size PIECE ≤ length piece.old }
-    requires range { at + size < 2 ^ 64 }
-    requires within { IsTrue (D.state disk.old).tells → at + size ≤ length (D.state disk.old).file }
-    ensures digest { IsTrue (D.state disk.old).tells
-        → IfOk result (λ digest. digest ≡ sha256 (bytes_at (D.state disk.old).file at size)) }
-    ensures only { IfErr result (λ why. why ≡ StopReason.Disk) }
-    ensures room { length piece.new ≡ length piece.old }
-    ensures cause { HasDiskCause StopReason.Disk (D.state disk.old).faults (D.state disk.new).faults result }
-    ensures frame { Unchanged (D.state disk.old) (D.state disk.new) }
-{
-    let mut hasher = Sha256::new();
-    let mut done = 0;
-    'pieces: while done < size {
-        let n = (size - done).min(PIECE);
-        take_in(disk, at + done, n as usize, piece, &mut hasher)?;
-        done += n;
-    }
-    Ok(hasher.finalize())
-}
-
-/// Adds `size` bytes of the file to the message of a hasher, through a buffer that has room for them.
-fn take_in<D: Disk>(
-    disk: &mut D,
-    at: u64,
-    size: usize,
-    buffer: &mut [u8],
-    hasher: &mut Sha256,
-) -> Result<(), StopReason>
-    requires ready { IsTrue (D.state disk.old).is_ready }
-    requires room { size ≤ length buffer.old }
-    requires within { IsTrue (D.state disk.old).tells → at + size ≤ length (D.state disk.old).file }
-    ensures taken { IsTrue (D.state disk.old).tells → OnOk result ((m : List ℕ) → Holds256 hasher.old m
-        → Holds256 hasher.new (m ++ bytes_at (D.state disk.old).file at size)) }
-    ensures only { IfErr result (λ why. why ≡ StopReason.Disk) }
-    ensures room { length buffer.new ≡ length buffer.old }
-    ensures cause { HasDiskCause StopReason.Disk (D.state disk.old).faults (D.state disk.new).faults result }
-    ensures frame { Unchanged (D.state disk.old) (D.state disk.new) }
-{
-    let piece = &mut buffer[..size];
-    read(disk, at, piece).map_err(|_| StopReason::Disk)?;
-    hasher.update(&*piece);
-    Ok(())
 }
 
 /// Whether two digests are the same.
