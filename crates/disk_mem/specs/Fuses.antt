@@ -30,8 +30,8 @@ module _ {D : Type 0} where
   disk_of fuse = fuse.inner
 
   -- the calls made, and which fail
-  abbrev pub calls_of : Fuse D → Calls
-  calls_of fuse = fuse.calls
+  abbrev pub fuse_calls : Fuse D → Calls
+  fuse_calls fuse = fuse.calls
 
   -- as a disk
   abbrev pub fuse_state : (D → State) → Fuse D → State

@@ -19,13 +19,13 @@ pub struct Fuse<D: Disk> {
 }
 
 impl<D: Disk> Fuse<D> {
-    ghost use Rattle.disk_mem.specs.Fuses.{disk_of, calls_of};
+    ghost use Rattle.disk_mem.specs.Fuses.{disk_of, fuse_calls};
 
     /// Fails the changing calls and the others (`len`, `read_at`) of the listed numbers. Each of the
     /// two kinds is counted from 1, and each call counts, failed ones too.
     pub fn listed(inner: D, changes: Vec<u64>, reads: Vec<u64>) -> Fuse<D>
         ensures disk { disk_of result ≡ inner }
-        ensures calls { calls_of result ≡ none_made (ListedCalls changes.items reads.items) }
+        ensures calls { fuse_calls result ≡ none_made (ListedCalls changes.items reads.items) }
     {
         Fuse {
             inner,
@@ -36,7 +36,7 @@ impl<D: Disk> Fuse<D> {
     /// Passes `n` changing calls, and then fails every call.
     pub fn stop_after(inner: D, n: u64) -> Fuse<D>
         ensures disk { disk_of result ≡ inner }
-        ensures calls { calls_of result ≡ none_made (AfterChanges n) }
+        ensures calls { fuse_calls result ≡ none_made (AfterChanges n) }
     {
         Fuse {
             inner,
@@ -55,7 +55,7 @@ impl<D: Disk> Fuse<D> {
 
 impl<D: Disk> Disk for Fuse<D> {
     ghost use Rattle.std.proofs.lemmas.Bool.{false≢true};
-    ghost use Rattle.disk_mem.specs.Fuses.{calls_of, disk_of, fuse_state, PassesOn};
+    ghost use Rattle.disk_mem.specs.Fuses.{fuse_calls, disk_of, fuse_state, PassesOn};
 
     ghost state = { fuse_state D.state };
 
@@ -72,9 +72,9 @@ impl<D: Disk> Disk for Fuse<D> {
         ensures length { IsTrue (D.state (disk_of self.old)).tells
             → IfOk result (λ n. n ≡ length (D.state (disk_of self.old)).file) }
         ensures frame { AfterRead (D.state (disk_of self.old)) (D.state (disk_of self.new)) }
-        ensures call { PassesOn D.state (next_read_fails (calls_of self.old)) (disk_of self.old)
+        ensures call { PassesOn D.state (next_read_fails (fuse_calls self.old)) (disk_of self.old)
             (disk_of self.new) result }
-        ensures calls { calls_of self.new ≡ after_read (calls_of self.old) }
+        ensures calls { fuse_calls self.new ≡ after_read (fuse_calls self.old) }
     {
         if self.calls.read() {
             return Err(DiskFault);
@@ -89,9 +89,9 @@ impl<D: Disk> Disk for Fuse<D> {
         ensures bytes { IsTrue (D.state (disk_of self.old)).tells
             → OnOk result (out.new ≡ bytes_at (D.state (disk_of self.old)).file pos (length out.old)) }
         ensures frame { AfterRead (D.state (disk_of self.old)) (D.state (disk_of self.new)) }
-        ensures call { PassesOn D.state (next_read_fails (calls_of self.old)) (disk_of self.old)
+        ensures call { PassesOn D.state (next_read_fails (fuse_calls self.old)) (disk_of self.old)
             (disk_of self.new) result }
-        ensures calls { calls_of self.new ≡ after_read (calls_of self.old) }
+        ensures calls { fuse_calls self.new ≡ after_read (fuse_calls self.old) }
     {
         if self.calls.read() {
             return Err(DiskFault);
@@ -106,11 +106,11 @@ impl<D: Disk> Disk for Fuse<D> {
         ensures written { IsTrue (D.state (disk_of self.old)).tells
             → OnOk result ((D.state (disk_of self.new)).file
             ≡ overwritten (D.state (disk_of self.old)).file pos bytes.now) }
-        ensures frame { IsFalse (next_change_fails (calls_of self.old))
+        ensures frame { IsFalse (next_change_fails (fuse_calls self.old))
             → AfterWrite pos (length bytes.now) (D.state (disk_of self.old)) (D.state (disk_of self.new)) }
-        ensures call { PassesOn D.state (next_change_fails (calls_of self.old)) (disk_of self.old)
+        ensures call { PassesOn D.state (next_change_fails (fuse_calls self.old)) (disk_of self.old)
             (disk_of self.new) result }
-        ensures calls { calls_of self.new ≡ after_change (calls_of self.old) }
+        ensures calls { fuse_calls self.new ≡ after_change (fuse_calls self.old) }
     {
         if self.calls.change() {
             return Err(DiskFault);
@@ -126,11 +126,11 @@ impl<D: Disk> Disk for Fuse<D> {
         ensures either { IsTrue (D.state (disk_of self.old)).tells
             → OnErr result (((D.state (disk_of self.new)).file ≡ (D.state (disk_of self.old)).file)
             ⊎ ((D.state (disk_of self.new)).file ≡ resized (D.state (disk_of self.old)).file n)) }
-        ensures frame { IsFalse (next_change_fails (calls_of self.old))
+        ensures frame { IsFalse (next_change_fails (fuse_calls self.old))
             → AfterLength n (D.state (disk_of self.old)) (D.state (disk_of self.new)) }
-        ensures call { PassesOn D.state (next_change_fails (calls_of self.old)) (disk_of self.old)
+        ensures call { PassesOn D.state (next_change_fails (fuse_calls self.old)) (disk_of self.old)
             (disk_of self.new) result }
-        ensures calls { calls_of self.new ≡ after_change (calls_of self.old) }
+        ensures calls { fuse_calls self.new ≡ after_change (fuse_calls self.old) }
     {
         if self.calls.change() {
             return Err(DiskFault);
@@ -142,11 +142,11 @@ impl<D: Disk> Disk for Fuse<D> {
         requires { IsTrue (D.state (disk_of self.old)).is_ready }
         ensures rests { OnOk result (Only (D.state (disk_of self.old)).file
             (D.state (disk_of self.new)).may_leave) }
-        ensures frame { IsFalse (next_change_fails (calls_of self.old))
+        ensures frame { IsFalse (next_change_fails (fuse_calls self.old))
             → AfterSync (D.state (disk_of self.old)) (D.state (disk_of self.new)) }
-        ensures call { PassesOn D.state (next_change_fails (calls_of self.old)) (disk_of self.old)
+        ensures call { PassesOn D.state (next_change_fails (fuse_calls self.old)) (disk_of self.old)
             (disk_of self.new) result }
-        ensures calls { calls_of self.new ≡ after_change (calls_of self.old) }
+        ensures calls { fuse_calls self.new ≡ after_change (fuse_calls self.old) }
     {
         if self.calls.change() {
             return Err(DiskFault);

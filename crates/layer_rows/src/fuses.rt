@@ -2,7 +2,7 @@
 ghost use Rattle.std.specs.Prelude.{◌≡◌, ◌∷◌, [], length};
 ghost use Rattle.disk_mem.specs.Histories.{file_of};
 ghost use Rattle.disk_mem.specs.Calls.{AfterChanges, ListedCalls, none_made};
-ghost use Rattle.disk_mem.specs.Fuses.{calls_of, disk_of};
+ghost use Rattle.disk_mem.specs.Fuses.{fuse_calls, disk_of};
 
 use disk_face::Disk;
 use disk_mem::{Fuse, MemDisk};
@@ -11,7 +11,7 @@ use std::process::Abort;
 
 /// A disk of four bytes that fails its second changing call, and its first and third other call.
 fn listed(rt: &impl Abort, alloc: Global) -> Fuse<MemDisk>
-    ensures calls { calls_of result ≡ none_made (ListedCalls (2 ∷ []) (1 ∷ 3 ∷ [])) }
+    ensures calls { fuse_calls result ≡ none_made (ListedCalls (2 ∷ []) (1 ∷ 3 ∷ [])) }
     ensures file { length (file_of (disk_of result)) ≡ 4 }
 {
     let changes = Vec::from_slice(alloc, &[2u64]).expect(rt, "memory");
@@ -22,7 +22,7 @@ fn listed(rt: &impl Abort, alloc: Global) -> Fuse<MemDisk>
 
 /// The first four calls, of which the first and the last fail.
 fn begin(rt: &impl Abort, fuse: &mut Fuse<MemDisk>)
-    requires calls { calls_of fuse.old ≡ none_made (ListedCalls (2 ∷ []) (1 ∷ 3 ∷ [])) }
+    requires calls { fuse_calls fuse.old ≡ none_made (ListedCalls (2 ∷ []) (1 ∷ 3 ∷ [])) }
     requires file { length (file_of (disk_of fuse.old)) ≡ 4 }
     ensures file { length (file_of (disk_of fuse.new)) ≡ 4 }
 {
