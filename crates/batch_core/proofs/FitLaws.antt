@@ -1,19 +1,18 @@
 -- Batches that fit: how many names each front of one leaves, also where it is done again.
-use Rattle.std.specs.Prelude.{◌≡◌, ◌⊎◌, ℕ, ◌+◌, ◌<◌, nat_lt, Bool, true, false, cond, ◌&&◌, ◌||◌, if◌then◌else◌, List, [], ◌∷◌, ◌++◌, is_some, Option, Some, None, IsTrue, refl}
-use Rattle.std.proofs.Common.{arith, ap, sym, ◌∙◌, subst, inl, inr, append-nil}
+use Rattle.std.specs.Prelude.{◌≡◌, ◌⊎◌, ℕ, ◌+◌, ◌<◌, nat_lt, Bool, true, false, cond, ◌&&◌, ◌||◌, if◌then◌else◌, List, [], ◌∷◌, ◌++◌, is_some, Option, Some, None, refl}
+use Rattle.std.proofs.Common.{ap, sym, ◌∙◌, subst, inl, inr}
 use Rattle.std.proofs.lemmas.Bool.{and_parts, cases_Bool, cond-true, cond-false, lt-ltb, ltb-true}
 use Rattle.std.specs.FinMap as fin
 use Rattle.std.specs.List.{AllByRecursion}
 use Rattle.std.specs.Ordering.{is_eq}
-use Rattle.std.specs.declared.cmp.Ordering.{Ordering}
 use Rattle.std.specs.declared.cmp.Ordering.TheVariants.{Less}
 use Rattle.map_model.specs.Maps.{Map, name_cmp}
 use Rattle.map_model.specs.Requests.{Change, changed}
 use Rattle.map_model.specs.Weights.{same_name}
 use Rattle.map_model.proofs.MapLaws.{name_order, names_differ, same_name-is}
 use Rattle.batch_core.specs.Batches.{Rises, RisesFrom, applied}
-use Rattle.batch_core.specs.Fits.{Fits, FitsIn, fits_next, misfit, misfit_from}
-use Rattle.batch_core.proofs.AppliedLaws.{Leaves, applied-again, applied-append, get-applied, get-changed, leaves_other, over, over-append, sets_or_leaves, twice}
+use Rattle.batch_core.specs.Fits.{fits_next, misfit, misfit_from}
+use Rattle.batch_core.proofs.AppliedLaws.{Leaves, applied-again, get-applied, leaves_other, over, over-append, twice}
 
 -- each front of changes leaves fewer names
 abbrev pub CountsFit : ℕ → Map → List Change → Type 0

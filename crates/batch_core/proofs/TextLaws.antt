@@ -1,17 +1,17 @@
 -- A text is one batch at most.
-use Rattle.std.specs.Prelude.{◌≡◌, ℕ, ◌<◌, ◌≤◌, nat_le, nat_lt, ◌&&◌, List, [], ◌∷◌, ◌++◌, flat_map, length, Option, Some, None, IfSome, refl}
-use Rattle.std.proofs.Common.{arith, ap, sym, ◌∙◌, subst, append_assoc, append-nil, length-append}
+use Rattle.std.specs.Prelude.{◌≡◌, ℕ, ◌<◌, ◌≤◌, nat_le, nat_lt, ◌&&◌, List, [], ◌∷◌, ◌++◌, length, Option, Some, None, IfSome, refl}
+use Rattle.std.proofs.Common.{arith, ap, sym, ◌∙◌, append_assoc, append-nil, length-append}
 use Rattle.std.proofs.lemmas.Bool.{and_from, and_parts, le-leb, leb-true}
 use Rattle.std.specs.List.{AllByRecursion, list_all}
 use Rattle.size_class.specs.declared.TheConstants.{SIZE_MAX}
 use Rattle.slot_codec.specs.Names.{IsName, is_name_byte}
 use Rattle.map_model.specs.Requests as ask
 use Rattle.map_model.specs.Requests.{Change, Request}
-use Rattle.ask_text.specs.Asks.{IsAsk, ask_of, change_ask}
+use Rattle.ask_text.specs.Asks.{IsAsk, change_ask}
 use Rattle.ask_text.specs.Inputs.{HasText, request_text}
 use Rattle.ask_text.specs.Words.{IsWord}
 use Rattle.ask_text.proofs.InputLaws.{text_one}
-use Rattle.batch_core.specs.Batches.{Begins, IsBatch, IsNoBatch, IsPart, StopsAt, batch_text}
+use Rattle.batch_core.specs.Batches.{IsBatch, IsPart, batch_text}
 
 -- a name is a word
 pub named_word : (name : List ℕ) → IsName name → IsWord name

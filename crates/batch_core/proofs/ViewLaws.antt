@@ -1,5 +1,5 @@
 -- The view of a map in which a batch is kept, of which some changes were done.
-use Rattle.std.specs.Prelude.{◌≡◌, ◌⊎◌, ℕ, false, List, [], ◌∷◌, ◌++◌, Option, Some, None, refl}
+use Rattle.std.specs.Prelude.{◌≡◌, ℕ, false, List, [], ◌∷◌, ◌++◌, Option, Some, None, refl}
 use Rattle.std.proofs.Common.{ap, sym, ◌∙◌, subst, inl, inr}
 use Rattle.std.specs.FinMap as fin
 use Rattle.std.specs.List.{AllByRecursion}
@@ -7,9 +7,9 @@ use Rattle.map_model.specs.Maps.{Map}
 use Rattle.map_model.specs.Requests.{Change}
 use Rattle.map_model.specs.Weights.{same_name}
 use Rattle.map_model.proofs.MapLaws.{get-insert_here, remove-insert}
-use Rattle.batch_core.specs.Batches.{Begins, IsBatch, IsNoBatch, IsPart, applied, batch_name}
-use Rattle.batch_core.specs.Views.{IsBatched, IsView, IsViewBy, unbatched}
-use Rattle.batch_core.proofs.AppliedLaws.{Leaves, applied-again, get-applied, leaves_other, over, remove-absent}
+use Rattle.batch_core.specs.Batches.{IsBatch, IsPart, applied, batch_name}
+use Rattle.batch_core.specs.Views.{IsView, IsViewBy, unbatched}
+use Rattle.batch_core.proofs.AppliedLaws.{applied-again, get-applied, leaves_other, remove-absent}
 use Rattle.batch_core.proofs.TextLaws.{batch_one}
 
 -- ---- one view

@@ -1,11 +1,10 @@
 -- What each command does, from what its crate says of it.
-use Rattle.std.specs.Prelude.{◌≡◌, ◌≢◌, ◌⊎◌, ◌≤◌, ℕ, true, false, List, [], Result, Ok, Err, IfErr, IsTrue, IsFalse, OnErr, length}
+use Rattle.std.specs.Prelude.{◌≡◌, ◌≢◌, ◌⊎◌, ℕ, true, false, List, Result, Ok, Err, IfErr, IsTrue, IsFalse, OnErr, length}
 use Rattle.std.proofs.Common.{arith, ap, refl, sym, ◌∙◌, subst, inl, inr}
 use Rattle.disk_face.specs.Counts.{HasCause}
 use Rattle.disk_face.specs.Frames.{Untouched}
 use Rattle.disk_face.specs.States.{State}
 use Rattle.disk_face.specs.Streams.{Puts, SinkState, SourceState}
-use Rattle.disk_face.proofs.MomentLaws.{Leaves-none}
 use Rattle.disk_face.specs.Devices.{Devices}
 use Rattle.command_face.specs.declared.status.TheConstants.{DISK_FAILED, NO_FILE, NO_STORE}
 use Rattle.command_face.specs.Layers.{Answers, IsCommandReason, KeepsAt, PutsNone}
@@ -23,7 +22,7 @@ use Rattle.run_command.specs.Sessions.{RunAlways}
 use Rattle.served_file.specs.Unserved.{IsRefusedService, NeverServed}
 use Rattle.work_command.specs.Working.{WorkAlways, WorkPromise}
 use Rattle.costore_top.specs.Answering.{IsAnswer}
-use Rattle.costore_top.specs.Commands.{Command, check, dump, file_of, format, get, gives_answer, help, makes, map_of, mounts, reads, run, serves, version, work}
+use Rattle.costore_top.specs.Commands.{Command, check, dump, file_of, format, get, gives_answer, help, makes, map_of, mounts, reads, run, version, work}
 use Rattle.costore_top.specs.Does.{Does}
 use Rattle.costore_top.specs.declared.help.TheConstants.{HELP, VERSION}
 use Rattle.costore_top.proofs.FaultyLaws.{untouched}

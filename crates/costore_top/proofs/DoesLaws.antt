@@ -10,7 +10,7 @@ use Rattle.command_face.specs.declared.outcome.Outcome.{Outcome}
 use Rattle.run_command.specs.Headline.{RunPromise, is_session}
 use Rattle.run_command.specs.Sessions.{RunAlways}
 use Rattle.work_command.specs.Working.{WorkAlways, WorkPromise}
-use Rattle.costore_top.specs.Answering.{AsksForAnswer, IsAnswer, IsNotRun, ServesNothing}
+use Rattle.costore_top.specs.Answering.{IsAnswer, IsNotRun, ServesNothing}
 use Rattle.costore_top.specs.Commands.{Command, dump, file_of, format, gives_answer, makes, mounts, reads, run, serves, work}
 use Rattle.costore_top.specs.Does.{Does, is_run}
 use Rattle.costore_top.specs.Promises.{AnswersByItsFile, FormatsSafely, KeepsItsFile, MountsItsFile, ReadsNoInput}

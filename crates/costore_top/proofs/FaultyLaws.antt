@@ -1,6 +1,6 @@
 -- What the program promises of words that are no command.
 use Rattle.std.specs.Prelude.{◌≡◌, ◌≢◌, ◌↔◌, ◌≤◌, ℕ, List, Err, IsTrue}
-use Rattle.std.proofs.Common.{arith, ap, refl, sym, ◌∙◌, subst, inl, inr}
+use Rattle.std.proofs.Common.{arith, ap, refl, sym, ◌∙◌, inr}
 use Rattle.disk_face.specs.Counts.{Rose}
 use Rattle.disk_face.specs.Frames.{Untouched}
 use Rattle.disk_face.specs.States.{State}
@@ -8,7 +8,7 @@ use Rattle.disk_face.specs.Streams.{SinkState}
 use Rattle.disk_face.proofs.MomentLaws.{Leaves-none}
 use Rattle.disk_face.specs.Devices.{devices}
 use Rattle.command_face.specs.declared.status.TheConstants.{FAULTY_WORDS}
-use Rattle.command_face.specs.Outcomes.{PutsLast, line_at, status_at}
+use Rattle.command_face.specs.Outcomes.{PutsLast, line_at}
 use Rattle.command_face.specs.declared.outcome.Outcome.{Outcome}
 use Rattle.command_face.specs.declared.stop.StopReason.TheVariants as stop
 use Rattle.costore_top.specs.Answering.{ServesNothing}

@@ -6,7 +6,7 @@ use Rattle.map_model.specs.Maps.{Map}
 use Rattle.map_model.specs.Requests.{Reply, Request}
 use Rattle.segment_layout.specs.Books.{Book}
 use Rattle.store_model.specs.Plain.{IsPlain}
-use Rattle.store_model.specs.States.{Chain, Limits, State, Step, served}
+use Rattle.store_model.specs.States.{Chain, Limits, State, Step}
 use Rattle.store_core.proofs.PlainLaws.{ArePlain, served_plain}
 use Rattle.ask_session.specs.Runs.{last_state}
 use Rattle.command_face.specs.declared.status.TheConstants.{SINK_FAILED}

@@ -58,7 +58,14 @@ pub fn dump<D: Disk, O: Sink, const C: usize>(
         (O.state output.new) result }
 {
     let names = loaded.block.names;
-    dump_table::<D, O, C>(disk, names, loaded.header.version, &loaded.table, output, buf)
+    dump_table::<D, O, C>(
+        disk,
+        names,
+        loaded.header.version,
+        &loaded.table,
+        output,
+        buf,
+    )
 }
 
 /// Puts the dump as `dump` does, of a state whose header and layout stand in memory of their own.
@@ -78,7 +85,14 @@ pub fn dump_boxed<D: Disk, O: Sink, const C: usize>(
         (O.state output.new) result }
 {
     let names = loaded.block.names;
-    dump_table::<D, O, C>(disk, names, loaded.header.version, &loaded.table, output, buf)
+    dump_table::<D, O, C>(
+        disk,
+        names,
+        loaded.header.version,
+        &loaded.table,
+        output,
+        buf,
+    )
 }
 
 /// Puts the dump of a table, whose file has room for so many names.

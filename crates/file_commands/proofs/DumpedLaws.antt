@@ -1,16 +1,16 @@
 -- How `dump` ends: as its stream did, or before it put any byte.
-use Rattle.std.specs.Prelude.{◌≡◌, ◌≢◌, ◌⊎◌, ℕ, ◌≤◌, List, [], ◌++◌, length, take, Result, Ok, Err, IsTrue, refl}
+use Rattle.std.specs.Prelude.{◌≡◌, ◌≢◌, ℕ, List, [], ◌++◌, length, Ok, Err, IsTrue, refl}
 use Rattle.std.proofs.Common.{arith, ap, sym, ◌∙◌, subst, inl, inr, append_assoc, append-nil}
 use Rattle.std.proofs.lemmas.List.{take_all}
 use Rattle.std.specs.FinMap as fin
 use Rattle.disk_face.specs.States.{State}
-use Rattle.disk_face.specs.Streams.{Puts, SinkState}
+use Rattle.disk_face.specs.Streams.{SinkState}
 use Rattle.command_face.specs.Mounting.{IsNotThere}
 use Rattle.size_class.specs.declared.TheConstants.{CLASSES, SIZE_MAX}
 use Rattle.slot_codec.specs.Spelling.{head_len}
 use Rattle.map_model.specs.Maps.{Map}
 use Rattle.segment_layout.specs.Books.{Book, with_digests}
-use Rattle.table_rules.specs.Opening.{Opens, placed_table}
+use Rattle.table_rules.specs.Opening.{placed_table}
 use Rattle.table_rules.specs.Tables.{book_of}
 use Rattle.placement_model.specs.Reads.{read_at}
 use Rattle.reopen.specs.Loads.{IsLoadedFrom, digests_loaded, table_seen}

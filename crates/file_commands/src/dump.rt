@@ -16,11 +16,7 @@ use std::alloc::Global;
 
 /// Puts the dump of the map that the file opens to. The disk stays as it is, and where a flush was
 /// interrupted, it stays so. At the first object that is damaged it stops before its text.
-pub fn dump<D: Disk, O: Sink>(
-    alloc: Global,
-    disk: &mut D,
-    output: &mut O,
-) -> Result<(), StopReason>
+pub fn dump<D: Disk, O: Sink>(alloc: Global, disk: &mut D, output: &mut O) -> Result<(), StopReason>
     requires ready { IsTrue (D.state disk.old).is_ready }
     ensures words { (result ≢ Err StopReason.Words) × (result ≢ Err StopReason.NoFile) }
     ensures dumps { IsTrue (D.state disk.old).tells

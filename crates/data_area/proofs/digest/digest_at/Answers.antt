@@ -1,4 +1,4 @@
-use Rattle.std.proofs.Common.{rules, arith, ◌≡◌, ◌+◌, ◌++◌, IsTrue, length, subst, sym, take}
+use Rattle.std.proofs.Common.{rules, arith, ◌≡◌, IsTrue, length, subst, sym, take}
 use Rattle.std.proofs.lemmas.Grind.{common_steps}
 use Rattle.std.proofs.lemmas.List.{length-take-le}
 use Rattle.byte_ranges.specs.Ranges.{bytes_at}

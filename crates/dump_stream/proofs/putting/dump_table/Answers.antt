@@ -1,13 +1,12 @@
-use Rattle.std.proofs.Common.{arith, rules, ap, sym, subst, ◌≡◌, ◌≢◌, ◌∙◌, ◌++◌, IsTrue, Err, List, ℕ}
+use Rattle.std.proofs.Common.{rules, ap, sym, subst, ◌≡◌, ◌∙◌, ◌++◌, Err, List, ℕ}
 use Rattle.std.specs.Prelude.{codes}
 use Rattle.std.specs.FinMap as fin
 use Rattle.size_class.specs.Rows.{cells_of}
 use Rattle.slot_codec.specs.Spelling.{head_len}
 use Rattle.map_model.specs.Weights.{Entry}
-use Rattle.segment_layout.specs.Books.{volumes_of_sizes}
 use Rattle.extent_table.specs.Extents.{digests_seen}
 use Rattle.placement_model.specs.Reads.{EndWithin, read_at}
-use Rattle.dump_stream.specs.Dumping.{PutsSound, read_entries, sizes_at}
+use Rattle.dump_stream.specs.Dumping.{PutsSound, read_entries}
 use Rattle.dump_stream.specs.Dumps.{dump_line}
 use Rattle.dump_stream.specs.Heads.{head_line}
 use Rattle.dump_stream.proofs.DumpLaws.{entries_of_file, line_is}

@@ -1,9 +1,6 @@
-use Rattle.std.proofs.Common.{◌≡◌, ◌≢◌, ◌∙◌, Err, arith, refl, rules, subst, sym}
-use Rattle.std.proofs.lemmas.Grind.{common_steps}
+use Rattle.std.proofs.Common.{◌≡◌, ◌∙◌, Err, refl, rules}
 use Rattle.disk_face.proofs.FrameLaws.{Unchanged-trans}
-use Rattle.command_face.specs.declared.stop.StopReason.{StopReason}
 use Rattle.command_face.specs.declared.stop.StopReason.TheVariants as stop
-use Rattle.file_commands.specs.Dumped.{Dumps, EndsDump}
 use Rattle.file_commands.proofs.DumpedLaws.{dumps_none, ends_unread, none_damaged}
 use Rattle.file_commands.proofs.dump.dump.Goals as goal
 

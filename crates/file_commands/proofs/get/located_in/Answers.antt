@@ -1,4 +1,4 @@
-use Rattle.std.proofs.Common.{◌≡◌, ◌+◌, ◌≤◌, Some, None, Ok, inl, length, subst, sym}
+use Rattle.std.proofs.Common.{◌≡◌, ◌+◌, ◌≤◌, Some, None, inl, length, subst, sym}
 use Rattle.std.specs.FinMap as fin
 use Rattle.reopen.specs.Loads.{unboxed}
 use Rattle.file_commands.proofs.GettingLaws.{given_here, given_none, lies_in_file}
