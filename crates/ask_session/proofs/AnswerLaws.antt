@@ -1,6 +1,6 @@
 -- Requests whose reply is one line: what the answers of the store stand for.
-use Rattle.std.specs.Prelude.{◌≡◌, ◌⊎◌, ℕ, ◌+◌, ◌*◌, ◌<◌, nat_lt, Bool, true, false, not, ◌&&◌, ◌||◌, if◌then◌else◌, List, [], length, Option, Some, None, option_map, Result, Ok, Err, IfSome, IsNone, IsSome, IsTrue, OnErr, OnOk, refl}
-use Rattle.std.proofs.Common.{arith, rules, lt-ltb, ap, sym, ◌∙◌, subst, inl, inr}
+use Rattle.std.specs.Prelude.{◌≡◌, ◌⊎◌, ℕ, ◌+◌, ◌*◌, Bool, true, false, not, ◌&&◌, ◌||◌, if◌then◌else◌, List, [], Option, Some, None, option_map, Result, Ok, Err, IfSome, IsNone, IsSome, IsTrue, OnErr, OnOk, refl}
+use Rattle.std.proofs.Common.{arith, rules, ap, sym, ◌∙◌, subst, inl, inr}
 use Rattle.std.proofs.Math.Bool.{and-false}
 use Rattle.disk_face.specs.Counts.{HasCause, counted}
 use Rattle.disk_face.specs.States as disk
@@ -8,12 +8,10 @@ use Rattle.disk_face.specs.Frames.{Unchanged}
 use Rattle.disk_face.specs.Moments.{Leaves}
 use Rattle.disk_face.specs.Writes.{KeepsDisk}
 use Rattle.disk_face.proofs.MomentLaws.{Leaves-weaken}
-use Rattle.size_class.specs.declared.TheConstants.{SIZE_MAX}
 use Rattle.map_model.specs.Requests as ask
 use Rattle.map_model.specs.Requests.{Change, Refused, Reply, Request}
 use Rattle.segment_layout.specs.Books.{is_quiet, next_book}
 use Rattle.table_rules.proofs.SequenceLaws.{sequence_wider}
-use Rattle.slot_codec.specs.Names.{is_name}
 use Rattle.store_core.specs.declared.answers.Refusal.{Refusal}
 use Rattle.store_core.specs.declared.answers.Refusal.TheVariants as why
 use Rattle.store_core.specs.declared.answers.Done.{Done}
@@ -24,7 +22,7 @@ use Rattle.store_core.specs.Changing.{IsChange}
 use Rattle.store_model.specs.Connection.{IsConnected, StoreValue, RestsOnTable, base_of, limits_of, state_of}
 use Rattle.store_core.specs.Flushes.{IsFlush}
 use Rattle.store_core.specs.Keeps.{AnswersKeep, KeepsNow}
-use Rattle.store_model.specs.Quiet.{charges_of, put_of, quiet_calls}
+use Rattle.store_model.specs.Quiet.{charges_of, quiet_calls}
 use Rattle.store_model.specs.States.{Served, Step, accepted, facts_of, refusal, served_change}
 use Rattle.store_core.proofs.CauseLaws.{calm_disk}
 use Rattle.store_core.proofs.QuietLaws.{quiet_by_book}

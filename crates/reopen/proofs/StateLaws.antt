@@ -7,7 +7,6 @@ use Rattle.slot_codec.specs.declared.codec.Header.{Header}
 use Rattle.slot_codec.specs.declared.codec.Kind.{Kind}
 use Rattle.slot_codec.proofs.ChoiceLaws.{table_from}
 use Rattle.slot_pair.specs.Finding.{chosen_of, in_use_of}
-use Rattle.segment_layout.specs.Layouts.{caps_of, divisor_of, grid_of}
 use Rattle.segment_layout.specs.declared.layout.Layout.{Layout}
 use Rattle.table_rules.specs.Opening.{placed_table}
 use Rattle.table_rules.specs.Rules.{FirstBroken, IsValid}

@@ -12,17 +12,16 @@ use Rattle.disk_face.proofs.MomentLaws.{Leaves-call, Leaves-trans, Leaves-weaken
 use Rattle.size_class.specs.declared.TheConstants.{CLASSES, SIZE_MAX}
 use Rattle.slot_codec.specs.Choice as choice
 use Rattle.slot_codec.specs.declared.codec.SuperBlock.{SuperBlock}
-use Rattle.slot_codec.specs.declared.codec.Kind.TheVariants as kind
 use Rattle.slot_pair.specs.declared.find.SlotFault.TheVariants as slot
 use Rattle.map_model.specs.Maps.{Map}
 use Rattle.map_model.specs.Requests.{Request}
-use Rattle.segment_layout.specs.Books.{Book, book_end}
+use Rattle.segment_layout.specs.Books.{Book}
 use Rattle.table_rules.specs.Opening.{OpensBy}
 use Rattle.store_model.specs.Connection.{StoreValue, state_of}
 use Rattle.store_model.specs.Plain.{IsPlain}
 use Rattle.store_model.specs.Stores.{IsStore}
 use Rattle.store_model.specs.States as store
-use Rattle.store_model.specs.Opened.{IsFoundImage, IsOpening, LeavesRoom, RestsOnFound, SameOnFound, found_base, state_at}
+use Rattle.store_model.specs.Opened.{IsFoundImage, IsOpening, LeavesRoom, RestsOnFound, SameOnFound}
 use Rattle.store_model.proofs.OpeningLaws.{found_image}
 use Rattle.reopen.specs.declared.fault.OpenFault.{OpenFault}
 use Rattle.reopen.specs.declared.fault.OpenFault.TheVariants as opening
@@ -36,7 +35,7 @@ use Rattle.ask_session.specs.declared.ends.End.{End}
 use Rattle.ask_session.specs.declared.ends.End.TheVariants as ends
 use Rattle.command_face.specs.declared.status.TheConstants.{DISK_FAILED, DONE, FAULTY_REQUEST, NO_FILE, NO_MEMORY, SOURCE_FAILED, TOO_MANY}
 use Rattle.command_face.specs.Refusing.{stop_of}
-use Rattle.served_file.specs.Served.{IsNextStart, Starts, turn_opened, found_with}
+use Rattle.served_file.specs.Served.{found_with}
 use Rattle.run_command.specs.Headline.{HasMounted, HowFar, RunHolds}
 use Rattle.command_face.specs.Mounting.{mounted}
 use Rattle.command_face.specs.Outcomes.{PutsLast, line_at, status_at}

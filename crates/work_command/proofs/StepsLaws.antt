@@ -11,8 +11,6 @@ use Rattle.disk_face.specs.Writes.{KeepsDisk}
 use Rattle.disk_face.specs.declared.bay.Mounted.TheVariants.{Absent, There}
 use Rattle.disk_face.proofs.FrameLaws.{Untouched-then}
 use Rattle.size_class.specs.declared.TheConstants.{CLASSES, SIZE_MAX}
-use Rattle.map_model.specs.Maps.{Map}
-use Rattle.segment_layout.specs.Books.{Book}
 use Rattle.table_rules.specs.Opening.{Opens}
 use Rattle.store_model.specs.Connection.{StoreValue}
 use Rattle.store_model.specs.Opened.{IsOpening, RefusesStore}

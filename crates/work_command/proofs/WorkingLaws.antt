@@ -14,15 +14,14 @@ use Rattle.map_model.specs.Maps.{Map}
 use Rattle.segment_layout.specs.Books.{Book}
 use Rattle.table_rules.specs.Opening.{OpensBy}
 use Rattle.store_model.specs.Connection.{StoreValue}
-use Rattle.store_model.specs.States as store
-use Rattle.store_model.specs.Opened.{IsFoundImage, IsOpening, LeavesRoom, RestsOnFound, SameOnFound, state_at}
+use Rattle.store_model.specs.Opened.{IsFoundImage, IsOpening, LeavesRoom, RestsOnFound, SameOnFound}
 use Rattle.reopen.specs.declared.fault.OpenFault.{OpenFault}
 use Rattle.reopen.specs.declared.fault.OpenFault.TheVariants as opening
 use Rattle.store_model.specs.Plain.{IsPlain}
 use Rattle.command_face.specs.declared.status.TheConstants.{SINK_FAILED}
 use Rattle.work_command.specs.Steps.{OpenWorkSteps, WorkSteps, IsAllDone, IsNotBegun, IsRefusal, IsStoppedInJob, jobs_numbered}
 use Rattle.command_face.specs.Refusing.{stop_of}
-use Rattle.served_file.specs.Served.{IsNextStart, Starts, found_with}
+use Rattle.served_file.specs.Served.{found_with}
 use Rattle.command_face.specs.Outcomes.{PutsLast, line_at, status_at, status_of}
 use Rattle.work_command.specs.Summaries.{summary_text}
 use Rattle.work_command.specs.Working.{WorkHolds}
