@@ -95,28 +95,30 @@ module _ {O : Type 0} (sink_of : O → SinkState) (old new : State) (out put : O
       → (IsTrue old.tells → Answers few (sink_of out) (sink_of put) end) → PutsNone out put end
       → IfErr end IsCommandReason → Untouched old new
       → KeepsAt old new (sink_of out) (sink_of put) end → Layer sink_of c old new out put same_bay end
-  reading c few has_file has_table made gives wider no_words mounted answers nothing plain frame keeps = record {
-    no_fault = no_words;
-    fileless = λ none. absurd (let e : true ≡ false = sym has_file ∙ none in cc);
-    mounted = λ _. mounted;
-    answers = λ _ told. answers_as few (IsAnswer c old.file) wider (sink_of out) (sink_of put) end
-        (answers (told has_file));
-    dumps = λ file is. absurd (let e : true ≡ false = sym gives ∙ ap gives_answer is in cc);
-    no_dump = λ file is. absurd (let e : true ≡ false = sym gives ∙ ap gives_answer is in cc);
-    memory = λ none. absurd (let e : true ≡ false = sym has_table ∙ none in cc);
-    nothing_put = λ _. nothing;
-    plain = plain;
-    frame = λ _. frame;
-    formats = λ file k names is. absurd (let e : true ≡ false = sym (ap makes is) ∙ made in cc);
-    silent = λ is. absurd (let e : true ≡ false = sym is ∙ made in cc);
-    keeps = keeps;
-  }
+  reading c few has_file has_table made gives wider no_words mounted answers nothing plain frame
+      keeps = record {
+        no_fault = no_words;
+        fileless = λ none. absurd (let e : true ≡ false = sym has_file ∙ none in cc);
+        mounted = λ _. mounted;
+        answers = λ _ told. answers_as few (IsAnswer c old.file) wider (sink_of out) (sink_of put) end
+            (answers (told has_file));
+        dumps = λ file is. absurd (let e : true ≡ false = sym gives ∙ ap gives_answer is in cc);
+        no_dump = λ file is. absurd (let e : true ≡ false = sym gives ∙ ap gives_answer is in cc);
+        memory = λ none. absurd (let e : true ≡ false = sym has_table ∙ none in cc);
+        nothing_put = λ _. nothing;
+        plain = plain;
+        frame = λ _. frame;
+        formats = λ file k names is. absurd (let e : true ≡ false = sym (ap makes is) ∙ made in cc);
+        silent = λ is. absurd (let e : true ≡ false = sym is ∙ made in cc);
+        keeps = keeps;
+      }
 
   pub dumping : (file : List ℕ) → end ≢ Err stop.Words
       → IsMounted file false new.last_mount (end ≡ Err stop.Disk) (end ≡ Err stop.NoFile)
       → (IsTrue old.tells → Dumps old.file (sink_of out) (sink_of put) end) → PutsNoDump out put end
       → IfErr end IsCommandReason → Untouched old new
-      → KeepsAt old new (sink_of out) (sink_of put) end → Layer sink_of (dump file) old new out put same_bay end
+      → KeepsAt old new (sink_of out) (sink_of put) end
+      → Layer sink_of (dump file) old new out put same_bay end
   dumping file no_words mounted dumps none plain frame keeps = record {
     no_fault = no_words;
     fileless = λ none. absurd (cc);

@@ -60,7 +60,8 @@ serves (run file) = true
 serves (work file number count) = true
 serves _ = false
 
--- the command ends by the one answer that there is to the bytes of its file, and puts all of it or nothing but
+-- the command ends by the one answer that there is to the bytes of its file, and puts all of it or nothing
+-- but
 -- the line of its end, unless a device failed
 abbrev pub gives_answer : Command → Bool
 gives_answer (run file) = false

@@ -49,14 +49,17 @@ pub record DumpPromise (file : List ℕ) (status : ℕ) (old new : SinkState) : 
   pub by : EndsDump file bytes end
   pub puts : IsTrue old.tells → PutsDumpOut bytes end old.given new.given (Rose old.faults new.faults)
 
--- The bytes of the file decide how its dump ends. Whatever the disk tells, the line is all that is put where no
+-- The bytes of the file decide how its dump ends. Whatever the disk tells, the line is all that is put
+-- where no
 -- object is damaged and no device failed.
 pub record DumpsItsFile (status : ℕ) (old new : Devices) : Type 0 where
   pub dumps : IsTrue old.disk.tells → DumpPromise old.disk.file status old.sink new.sink
   pub line_alone : IsTrue old.sink.tells → (status ≡ DAMAGED_OBJECT) ⊎ PutsLineAlone status old.sink new.sink
 
--- The bytes of the file decide the status, and what is put. A command that gives an answer ends by the one that
--- there is to them; only memory may be wanting for its table, before any byte is put. `dump` ends as they say.
+-- The bytes of the file decide the status, and what is put. A command that gives an answer ends by the one
+-- that
+-- there is to them; only memory may be wanting for its table, before any byte is put. `dump` ends as they
+-- say.
 -- A file that doesn't open ends one that serves requests as its first refusal says, and one of version 2 by
 -- the fault of its version.
 pub record AnswersByItsFile (words : List (List ℕ)) (status : ℕ) (old new : Devices) : Type 0 where

@@ -27,8 +27,8 @@ use disk_face::{Bay, Sink, Source};
 use size_class::{CLASSES, SIZE_MAX};
 
 /// There is one answer of a command to the bytes of a file. Of `get` of a file that opens it is what
-/// the file's map gives to the name, or that the file's book has another digest for it; of `check` and `map` it is their text of the table by which it
-/// opens.
+/// the file's map gives to the name, or that the file's book has another digest for it; of `check` and
+/// `map` it is their text of the table by which it opens.
 pub fn one_answer()
     ensures one { (c : Command) (file : List ℕ) (answer other : Result (List ℕ) StopReason)
         → IsAnswer c file answer

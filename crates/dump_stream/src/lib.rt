@@ -4,6 +4,7 @@
 mod head;
 mod laws;
 mod putting;
+mod sums;
 
 pub use head::{DumpHead, read_head, write_head};
 pub use laws::a_dump_is_of_one_map;

@@ -18,13 +18,14 @@ ghost use Rattle.dump_stream.specs.Dumping.{AreSizes, CanClass, DumpsLoaded, Has
 ghost use Rattle.dump_stream.specs.Heads.{IsHead, volumes_of_head};
 
 use crate::head::{DumpHead, push, push_number, write_head};
+use crate::sums::head_of;
 use arrayvec::ArrayVec;
 use data_area::{PutFault, digest_at, put_bytes};
 use disk_face::{Disk, Sink, read};
 use extent_table::{Spot, Table};
 use reopen::{BoxedLoaded, Loaded};
 use sha2::{Digest, Sha256};
-use size_class::{Row, SIZE_MAX, class_of};
+use size_class::SIZE_MAX;
 use slot_codec::{Name, head_len};
 use thiserror::Error;
 
@@ -124,41 +125,6 @@ fn dump_table<D: Disk, O: Sink, const C: usize>(
     let head: DumpHead<C> = head_of(table);
     put_whole(output, write_head(&head).as_slice())?;
     put_objects(disk, head_len(names), version, table, output, buf)
-}
-
-/// What the first line of a table's dump tells.
-fn head_of<const C: usize>(table: &Table) -> DumpHead<C>
-    requires fits { C ≤ 32 }
-    requires wide { SIZE_MAX < 2 ^ C }
-    requires table { IsTable table.now }
-    requires small { AreSizes SIZE_MAX (sizes_at table.now.now) }
-    ensures count { result.count ≡ fin.len table.now.now }
-    ensures volumes { volumes_of_head result ≡ volumes_of_sizes (sizes_at table.now.now) }
-    ensures head { IsHead C result.count (volumes_of_head result) }
-{
-    let mut volumes = Row::zero();
-    'names: for n in 0..table.count() {
-        let (_, _, spot) = table.in_order(n);
-        add_size(&mut volumes, spot.size);
-    }
-    DumpHead {
-        count: table.count(),
-        volumes,
-    }
-}
-
-/// Adds an object's bytes to the volume of its class.
-fn add_size<const C: usize>(volumes: &mut Row<C>, size: u64)
-    requires fits { C ≤ 32 }
-    requires wide { SIZE_MAX < 2 ^ C }
-    requires small { size ≤ SIZE_MAX }
-    ensures { (sizes : List ℕ) → length sizes < 65536 → AreSizes SIZE_MAX sizes
-        → cells_of volumes.old ≡ volumes_of_sizes sizes
-        → cells_of volumes.new ≡ volumes_of_sizes (sizes ++ size ∷ []) }
-{
-    if size > 0 {
-        volumes.add(class_of(size), size);
-    }
 }
 
 /// Puts the objects of a table, by rising name, each as a put. The data part begins at `base`. At the

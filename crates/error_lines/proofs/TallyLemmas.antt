@@ -49,11 +49,14 @@ pub data_told : (is_back : Bool) (t : Tally) (size due : ℕ) (r : Reply) → si
     → codes "data " ++ decimal size ++ codes "\n" ≡ first_line r → due ≡ counted size 1
     → record t { due = due } ≡ tallied is_back r t
 data_told is_back t size due r fits told is due_is =
-    ap (λ d. record t { due = d }) due_is ∙ ap (λ x. tallied is_back x t) (sym (data_alone size r fits told is))
+    ap (λ d. record t { due = d }) due_is
+    ∙ ap (λ x. tallied is_back x t) (sym (data_alone size r fits told is))
 
 pub list_told : (is_back : Bool) (t : Tally) (count : ℕ) (r : Reply) → count < 2 ^ 64 → IsTold r
-    → codes "list " ++ decimal count ++ codes "\n" ≡ first_line r → record t { lines = count } ≡ tallied is_back r t
-list_told is_back t count r fits told is = ap (λ x. tallied is_back x t) (sym (list_alone count r fits told is))
+    → codes "list " ++ decimal count ++ codes "\n" ≡ first_line r
+    → record t { lines = count } ≡ tallied is_back r t
+list_told is_back t count r fits told is = ap (λ x. tallied is_back x t) (sym
+    (list_alone count r fits told is))
 
 -- the newlines from the byte before on
 pub lines_before : (xs : List ℕ) (at : ℕ) (b : Bool) → 0 < at → at ≤ length xs

@@ -20,7 +20,8 @@ asked ask.Back b = start
 asked ask.List b = start
 asked ask.Stat b = start
 
--- A byte was given. Bytes of a line are kept until it is whole or is longer than that of a request; those of an
+-- A byte was given. Bytes of a line are kept until it is whole or is longer than that of a request; those
+-- of an
 -- object, and what follows bytes that are no request, are not.
 pub record Reads (byte : ℕ) (old new : Begun) : Type 0 where
   pub none : old.is_none ≡ true → new ≡ old

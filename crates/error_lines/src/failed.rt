@@ -32,7 +32,10 @@ impl Display for Text {
                 let asked = room.asked;
                 match room.had {
                     None => write!(f, "{error}; it was to have {asked} bytes"),
-                    Some(had) => write!(f, "{error}; it was to have {asked} bytes, and came to {had}"),
+                    Some(had) => write!(
+                        f,
+                        "{error}; it was to have {asked} bytes, and came to {had}"
+                    ),
                 }
             }
             Cause::NoFolder(error) => write!(f, "its folder: {error}"),

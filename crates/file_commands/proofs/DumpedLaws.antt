@@ -65,7 +65,8 @@ module _ (file : List ℕ) (x : Loaded CLASSES) (from : IsLoadedFrom file x) (ol
           front = (
             length bytes,
             omega arith,
-            all told ∙ ap (λ (s : List ℕ). old.given ++ s) (sym (take_all (length bytes) bytes (omega arith))),
+            all told ∙ ap (λ (s : List ℕ). old.given ++ s) (sym (take_all (length bytes) bytes
+                (omega arith))),
           );
         };
         cut = λ told is. all told;

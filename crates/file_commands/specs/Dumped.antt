@@ -36,7 +36,8 @@ abbrev pub IsCutDump : List ℕ → List ℕ → Type 0
 IsCutDump file bytes = IsOfMap file (λ m b. (IsSoundMap m b → ⊥)
     × (bytes ≡ dump_line CLASSES m ++ objects_text (sound_front b.digests (fin.entries m))))
 
--- How `dump` ends. Done: `bytes` is the dump, and no object is damaged. An object is damaged: it is what stands
+-- How `dump` ends. Done: `bytes` is the dump, and no object is damaged. An object is damaged: it is what
+-- stands
 -- before. A device failed: it is the dump, or where the disk failed nothing. Else there is nothing.
 abbrev pub EndsDump : List ℕ → List ℕ → Result (Unit {0}) StopReason → Type 0
 EndsDump file bytes (Ok x) = IsSoundDump file bytes

@@ -163,7 +163,8 @@ module _ {D I O : Type 0} (seen : Seen D I O) (lawful : (d : D) → IsLawful (se
           requests end (seen.source before.source) (seen.source now.source) (seen.sink before.sink) after
           NO_MEMORY z.turn refl refl (λ is. omega (arith, is)) (λ has. refl) (λ calm has. never_true has)
           (λ calm. next_found t m b old z o file (λ rests image left.
-          subst (λ (f : List ℕ). SameOnFound t f image) (sym file) (rests image (mount.images image (same.images image left)))))
+          subst (λ (f : List ℕ). SameOnFound t f image) (sym file) (rests image (mount.images image
+          (same.images image left)))))
           (Err stop.NoMemory) refl tt (line_out (Err stop.NoMemory) line) no_memory
 
       unopened_by : (e : SessionEnd) (why : OpenFault) → WhyUnopened why → IsOpening CLASSES first z (Err why)

@@ -91,8 +91,8 @@ fn read_failing(
     got(rt, session(alloc, fuse, b"get a\n", piece))
 }
 
-/// Whether such a session put what it should: nothing of the reply where the read failed, since the first line
-/// is put once the first piece was read; else all of it.
+/// Whether such a session put what it should: nothing of the reply where the read failed, since the
+/// first line is put once the first piece was read; else all of it.
 fn is_answered(put: &[u8], outcome: &Outcome) -> bool {
     if outcome.status == 7 {
         return put == b"fault disk\n".as_slice();

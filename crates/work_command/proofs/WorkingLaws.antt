@@ -75,7 +75,8 @@ module _ (t : choice.SlotTable) (m : Map) (b : Book) (old : State) (lawful : IsL
         (found_starts t m b) (omega (arith, mount.same_turn, same.same_turn))
         (left_opening t m b old first mount told o z (Err opening.NoMemory) is) 10 refl refl
         (λ calm. next_found t m b old z o file (λ rests image left.
-        subst (λ (f : List ℕ). SameOnFound t f image) (sym file) (rests image (mount.images image (same.images image left)))))
+        subst (λ (f : List ℕ). SameOnFound t f image) (sym file) (rests image (mount.images image
+        (same.images image left)))))
     unopened_by (opening.Slot slot.Short) none is = elim none [ ]
     unopened_by (opening.Slot slot.Unformatted) none is = elim none [ ]
     unopened_by (opening.Slot slot.NoGate) none is = elim none [ ]

@@ -90,7 +90,8 @@ returns-in-Map g c =
     let input = c.args.input.now ≡ c.args.input.now in
     let command = map_of c.in-Map.file.now in
     let layer = reading g.O.Sink.state disk new out put bay c.map_from.result command
-    (IsMapped disk.file) refl refl refl refl (map_answer c.in-Map.file.now disk.file) e.words e.mounted e.answers
+    (IsMapped disk.file) refl refl refl refl
+    (map_answer c.in-Map.file.now disk.file) e.words e.mounted e.answers
     e.nothing_put e.plain e.frame e.keeps in
     does_as (ap command_of c.in-Map.is)
     (plain_does g.O.Sink.state command refl disk new out put (g.O.Sink.state c.finish-in-Map.new.output)

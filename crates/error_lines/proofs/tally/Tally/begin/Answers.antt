@@ -5,7 +5,8 @@ use Rattle.error_lines.proofs.tally.Tally.begin.Goals as goal
 
 pub returns-in-Some : goal.returns-in-Some
 returns-in-Some c = λ r told is.
-    data_told c.args.is_back c.args.self.now c.in-Some.size c.saturating_add-self-in-Some.result r (omega arith) told
+    data_told c.args.is_back c.args.self.now c.in-Some.size c.saturating_add-self-in-Some.result r
+    (omega arith) told
     (sym c.in-Some.ensures ∙ is) c.saturating_add-self-in-Some.ensures
 
 pub returns-in-Some-count_in : goal.returns-in-Some-count_in

@@ -5,7 +5,7 @@ use Rattle.segment_layout.specs.Books.{volumes_of_sizes}
 use Rattle.dump_stream.specs.Dumping.{sizes_at}
 use Rattle.dump_stream.specs.Heads.{IsHead}
 use Rattle.dump_stream.proofs.SumLaws.{head_of_sizes, no_volumes, size_few, sizes_all, sizes_count, sizes_more, sizes_short, sizes_take}
-use Rattle.dump_stream.proofs.putting.head_of.Goals as goal
+use Rattle.dump_stream.proofs.sums.head_of.Goals as goal
 
 pub names-init : goal.names-init
 names-init g c = record { so_far = c.zero-volumes.ensures ∙ no_volumes }

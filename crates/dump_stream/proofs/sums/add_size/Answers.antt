@@ -4,7 +4,7 @@ use Rattle.size_class.specs.Classes.{class_of}
 use Rattle.size_class.specs.Rows.{cells_of}
 use Rattle.size_class.specs.declared.TheConstants.{SIZE_MAX}
 use Rattle.dump_stream.proofs.SumLaws.{class_in, empty_more, some_more}
-use Rattle.dump_stream.proofs.putting.add_size.Goals as goal
+use Rattle.dump_stream.proofs.sums.add_size.Goals as goal
 
 pub add-requires : goal.add-requires
 add-requires g c =
