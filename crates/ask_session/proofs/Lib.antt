@@ -14,3 +14,4 @@ pub mod MakesLaws
 pub mod RunLaws
 pub mod ServingLaws
 pub mod TooLongLaws
+pub mod StopLaws

@@ -5,10 +5,10 @@ use Rattle.std.proofs.Math.Nat.{le-max_right}
 use Rattle.std.proofs.lemmas.Bool.{leb-false}
 use Rattle.map_model.specs.Requests as ask
 use Rattle.map_model.specs.Requests.{Change, Refused, Request}
-use Rattle.segment_layout.specs.Books.{next_book}
+use Rattle.segment_layout.specs.Books.{is_damaged, next_book}
 use Rattle.slot_codec.specs.Names.{is_name}
-use Rattle.store_model.specs.States.{Facts, Limits, Served, State, accepted, facts_of, first_refusal, object_tests, refusal, served, served_change, worn_test}
-use Rattle.store_core.proofs.StepLaws.{served_by}
+use Rattle.store_model.specs.States.{Facts, Limits, Served, State, accepted, facts_of, first_refusal, object_in, object_tests, refusal, served, served_change, worn_test}
+use Rattle.store_core.proofs.StepLaws.{read_reply, served_by}
 use Rattle.ask_session.specs.Serving.{acknowledges}
 use Rattle.ask_session.specs.Runs.{most_sequence}
 
@@ -44,14 +44,28 @@ change_makes limits s c false is = inl (record {
   book = rw is refl;
 })
 
+-- a read acknowledges none, whether the object is damaged or not
+pub acknowledges_none : (damaged : Bool) (object : List ℕ)
+    → acknowledges (read_reply damaged (ask.found object)) ≡ false
+acknowledges_none true object = refl
+acknowledges_none false object = refl
+
 accepted_makes : (limits : Limits) (s : State) (r : Request)
     → MakesOne (accepted limits s r) ⊎ MakesNone s (accepted limits s r)
 accepted_makes limits s (ask.change c) = change_makes limits s c
     (next_book limits.k s.map s.book c).quiet refl
-accepted_makes limits s (ask.get name) = inr
-    (record { least = refl; acknowledged = refl; kept = refl; book = refl })
-accepted_makes limits s (ask.old name) = inr
-    (record { least = refl; acknowledged = refl; kept = refl; book = refl })
+accepted_makes limits s (ask.get name) = inr (record {
+  least = refl;
+  acknowledged = acknowledges_none (is_damaged s.book s.map name) (object_in s.map name);
+  kept = refl;
+  book = refl;
+})
+accepted_makes limits s (ask.old name) = inr (record {
+  least = refl;
+  acknowledged = acknowledges_none (is_damaged s.kept_book s.kept name) (object_in s.kept name);
+  kept = refl;
+  book = refl;
+})
 accepted_makes limits s ask.keep = inl
     (record { least = refl; acknowledged = refl; kept = refl; book = refl })
 accepted_makes limits s ask.back = inr

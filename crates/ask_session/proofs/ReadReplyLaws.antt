@@ -1,6 +1,6 @@
 -- Replies to reads: an object, a list, or what is told of an object that is there.
 use Rattle.std.specs.Prelude.{◌≡◌, ℕ, Bool, true, false, List, ◌++◌, length, codes, Option, Some, None, Result, Ok, Err, IfErr, IfOk, IsTrue, refl}
-use Rattle.std.proofs.Common.{ap, sym, ◌∙◌, subst, append_assoc}
+use Rattle.std.proofs.Common.{ap, sym, ◌∙◌, subst, append_assoc, append-nil}
 use Rattle.std.specs.FinMap as fin
 use Rattle.disk_face.specs.Devices.{devices}
 use Rattle.disk_face.specs.States as disk
@@ -8,7 +8,7 @@ use Rattle.disk_face.specs.Frames.{Unchanged}
 use Rattle.disk_face.specs.Streams.{SinkState}
 use Rattle.slot_pair.specs.Finding.{HasDiskCause}
 use Rattle.map_model.specs.Requests as ask
-use Rattle.map_model.specs.Requests.{Refused, Request}
+use Rattle.map_model.specs.Requests.{Refused, Reply, Request}
 use Rattle.extent_table.specs.declared.spot.Spot.{Spot}
 use Rattle.store_core.specs.declared.answers.Moment.{Moment}
 use Rattle.store_core.specs.declared.answers.Moment.TheVariants as moment
@@ -16,60 +16,66 @@ use Rattle.store_core.specs.declared.answers.Refusal.{Refusal}
 use Rattle.store_core.specs.Answers.{AnswersNumber, facts_at, refusal_for, refused_by, size_at}
 use Rattle.slot_codec.specs.Names.{is_name}
 use Rattle.store_model.specs.Connection.{StoreValue, base_of, limits_of, state_of}
-use Rattle.store_core.specs.Readings.{asks_for, object_read, spot_read}
+use Rattle.store_core.specs.Readings.{asks_for, is_damaged_read, object_read, spot_read}
 use Rattle.store_core.specs.Reads.{HasSinkCause}
-use Rattle.store_model.specs.States.{Limits, Served, State, accepted, object_in, refusal, unchanged}
+use Rattle.store_model.specs.States.{Limits, Served, State, Step, accepted, object_in, refusal, unchanged}
 use Rattle.store_core.proofs.CauseLaws.{calm_disk, sink_cause_after, sink_cause_as}
 use Rattle.store_core.proofs.ChangingLaws.{unchanged_itself}
 use Rattle.store_model.proofs.StoreLaws.{kept_lies, now_lies}
-use Rattle.store_core.proofs.StepLaws.{list_step, served_by}
+use Rattle.store_core.proofs.StepLaws.{list_step, read_reply, served_by}
 use Rattle.store_model.specs.Lines.{lines_of, listing_of}
 use Rattle.std.proofs.lemmas.List.{length-map}
 use Rattle.ask_text.specs.Replies.{first_line, reply_text, told_for}
 use Rattle.ask_text.specs.declared.reply.Reply as text
 use Rattle.ask_text.specs.declared.reply.Reply.TheVariants as head
+use Rattle.ask_text.specs.declared.reply.RefusedWord.TheVariants as word
 use Rattle.ask_session.specs.declared.ends.End.{End}
 use Rattle.ask_session.specs.declared.ends.End.TheVariants as ends
 use Rattle.ask_session.specs.Putting.{PutsAnswer}
-use Rattle.ask_session.specs.ReplyLines.{Answers, answer_of}
+use Rattle.ask_session.specs.ReplyLines.{Answers, answer_of, object_text}
 use Rattle.ask_session.specs.Serving.{IsServingFault, PutsText, Replies, acknowledges, calls_of, is_changing, is_disk, is_disk_fault, reply_at, served_at}
+use Rattle.ask_session.proofs.MakesLaws.{acknowledges_none}
 use Rattle.ask_session.proofs.AnswerLaws.{refused_head, refused_is}
 use Rattle.ask_session.proofs.PutLaws.{puts_as, puts_cut, puts_then}
 use Rattle.ask_session.specs.Ready.{CanServe}
 use Rattle.ask_session.proofs.ServingLaws.{StaysAt, refusal_at}
 use Rattle.ask_session.proofs.ReplyLaws.{no_disk_fault, sink_calm, sink_serving, answers_replies, reads_replies, object_size, live_if}
 
--- ---- replies that are an object
+-- ---- replies that are an object, or that it is damaged
 
--- the first line and the object of a read that isn't refused
+-- the text of such a reply
+text_of : (damaged : Bool) (size : ℕ) (object : List ℕ) → length object ≡ size
+    → object_text damaged size object ≡ reply_text (read_reply damaged (ask.found object))
+text_of true size object long = sym (append-nil (first_line (head.Refused word.Damaged)))
+text_of false size object long = append_assoc (first_line (head.Data size)) object (codes "\n")
+    ∙ ap (λ (m : ℕ). first_line (head.Data m) ++ (object ++ codes "\n")) (sym long)
+
+-- a read that isn't refused for what is asked
 module _ {classes : ℕ} (r : Request) (s : StoreValue) (a : disk.State) (h : CanServe classes s a)
-    (object : List ℕ)
+    (damaged : Bool) (object : List ℕ)
     (size : ℕ) (asks : is_changing r ≡ false)
-    (is : IsTrue a.tells → served_at s a.file r ≡ unchanged (state_of s a.file) (ask.found object))
+    (is : IsTrue a.tells
+    → served_at s a.file r ≡ unchanged (state_of s a.file) (read_reply damaged (ask.found object)))
     (none : IsTrue a.tells → calls_of (limits_of s) (state_of s a.file) r ≡ 0)
     (long : IsTrue a.tells → length object ≡ size) where
   stays : IsTrue a.tells → StaysAt s a.file r
-  stays told = record { reply = ask.found object; is = is told; none = none told }
+  stays told = record { reply = read_reply damaged (ask.found object); is = is told; none = none told }
 
-  reply_is : IsTrue a.tells → reply_at s a.file r ≡ ask.found object
+  reply_is : IsTrue a.tells → reply_at s a.file r ≡ read_reply damaged (ask.found object)
   reply_is told = ap (λ (x : Served). x.reply) (is told)
-
-  text_is : IsTrue a.tells
-      → first_line (head.Data size) ++ object ++ codes "\n" ≡ reply_text (reply_at s a.file r)
-  text_is told = append_assoc (first_line (head.Data size)) object (codes "\n")
-      ∙ ap (λ (m : ℕ). first_line (head.Data m) ++ (object ++ codes "\n")) (sym (long told))
-      ∙ ap reply_text (sym (reply_is told))
 
   pub found_replies : (d : disk.State) (out after : SinkState) (result : Result Bool End)
       → Unchanged a d → IfOk result (λ kept. kept ≡ false)
       → (IsTrue a.tells → IsTrue out.tells
-      → PutsText (first_line (head.Data size) ++ object ++ codes "\n") out.given after.given result)
+      → PutsText (object_text damaged size object) out.given after.given result)
       → IfErr result IsServingFault → HasDiskCause ends.Disk a.faults d.faults result
       → HasSinkCause ends.Sink out after result
       → Replies classes r s s (devices a out) (devices d after) result
   found_replies d out after result same kept puts only disk_cause sink_cause =
-      reads_replies r s a d out after result h asks same stays (λ told. ap acknowledges (reply_is told)) kept
-      (λ told sink. puts_as _ _ out.given after.given result (text_is told) (puts told sink))
+      reads_replies r s a d out after result h asks same stays
+      (λ told. ap acknowledges (reply_is told) ∙ acknowledges_none damaged object) kept
+      (λ told sink. puts_as _ _ out.given after.given result
+      (text_of damaged size object (long told) ∙ ap reply_text (sym (reply_is told))) (puts told sink))
       only disk_cause sink_cause
 
 -- ---- lists
@@ -200,11 +206,12 @@ refused_replies {classes} r s a out after x answer result h is same puts =
     (subst (λ (y : Result text.Reply End). Answers classes r s s a a y) e
     (refused_head s r w.0 a a h w.1 (unchanged_itself a h.ready) refl)) puts
 
--- the object of a get
+-- what a get is replied
 pub get_served : {classes : ℕ} (s : StoreValue) (a : disk.State) (name : List ℕ) → CanServe classes s a
     → refused_by s (ask.get name) ≡ None → IsTrue a.tells
-    → served_at s a.file (ask.get name)
-    ≡ unchanged (state_of s a.file) (ask.found (object_in (state_of s a.file).map name))
+    → served_at s a.file (ask.get name) ≡ unchanged (state_of s a.file)
+    (read_reply (is_damaged_read (state_of s a.file) (ask.get name))
+    (ask.found (object_in (state_of s a.file).map name)))
 get_served s a name h is told = served_by (limits_of s) (state_of s a.file) (ask.get name) None
     (refusal_at s a.file (ask.get name) h.sound ∙ served_is s (ask.get name) h.whole is)
 
@@ -220,8 +227,9 @@ get_long s a name size h answer told =
 
 old_served : {classes : ℕ} (s : StoreValue) (a : disk.State) (name : List ℕ) → CanServe classes s a
     → refused_by s (ask.old name) ≡ None → IsTrue a.tells
-    → served_at s a.file (ask.old name)
-    ≡ unchanged (state_of s a.file) (ask.found (object_in (state_of s a.file).kept name))
+    → served_at s a.file (ask.old name) ≡ unchanged (state_of s a.file)
+    (read_reply (is_damaged_read (state_of s a.file) (ask.old name))
+    (ask.found (object_in (state_of s a.file).kept name)))
 old_served s a name h is told = served_by (limits_of s) (state_of s a.file) (ask.old name) None
     (refusal_at s a.file (ask.old name) h.sound ∙ served_is s (ask.old name) h.whole is)
 
@@ -248,10 +256,43 @@ calls_none limits t moment.Kept name = refl
 
 pub object_served : {classes : ℕ} (s : StoreValue) (a : disk.State) (m : Moment) (name : List ℕ)
     → CanServe classes s a → refused_by s (asks_for m name) ≡ None → IsTrue a.tells
-    → served_at s a.file (asks_for m name)
-    ≡ unchanged (state_of s a.file) (ask.found (object_read (state_of s a.file) (asks_for m name)))
+    → served_at s a.file (asks_for m name) ≡ unchanged (state_of s a.file)
+    (read_reply (is_damaged_read (state_of s a.file) (asks_for m name))
+    (ask.found (object_read (state_of s a.file) (asks_for m name))))
 object_served s a moment.Now name h is told = get_served s a name h is told
 object_served s a moment.Kept name h is told = old_served s a name h is told
+
+-- whether an object is damaged, by the reply
+fine_by : (b : Bool) (x y : List ℕ) → ask.found x ≡ read_reply b (ask.found y) → b ≡ false
+fine_by true x y e = absurd (cc)
+fine_by false x y e = refl
+
+damaged_by : (b : Bool) (y : List ℕ) → ask.refused ask.damaged ≡ read_reply b (ask.found y) → b ≡ true
+damaged_by true y e = refl
+damaged_by false y e = absurd (cc)
+
+module _ {classes : ℕ} (s : StoreValue) (a : disk.State) (m : Moment) (name : List ℕ)
+    (h : CanServe classes s a) (served : refused_by s (asks_for m name) ≡ None) (told : IsTrue a.tells)
+    (t : State) where
+  abbrev is_damaged_here : Bool
+  is_damaged_here = is_damaged_read (state_of s a.file) (asks_for m name)
+
+  replied : (reply : Reply) → Step (limits_of s) (state_of s a.file) (asks_for m name) reply t
+      → reply ≡ read_reply is_damaged_here
+      (ask.found (object_read (state_of s a.file) (asks_for m name)))
+  replied reply step = step.replied
+      ∙ ap (λ (x : Served). x.reply) (object_served s a m name h served told)
+
+  pub found_fine : (object : List ℕ)
+      → Step (limits_of s) (state_of s a.file) (asks_for m name) (ask.found object) t
+      → is_damaged_here ≡ false
+  found_fine object step = fine_by is_damaged_here object
+      (object_read (state_of s a.file) (asks_for m name)) (replied (ask.found object) step)
+
+  pub found_damaged : Step (limits_of s) (state_of s a.file) (asks_for m name) (ask.refused ask.damaged) t
+      → is_damaged_here ≡ true
+  found_damaged step = damaged_by is_damaged_here
+      (object_read (state_of s a.file) (asks_for m name)) (replied (ask.refused ask.damaged) step)
 
 pub object_long : {classes : ℕ} (s : StoreValue) (a : disk.State) (m : Moment) (name : List ℕ) (size : ℕ)
     → CanServe classes s a

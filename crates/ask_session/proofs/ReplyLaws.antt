@@ -203,30 +203,31 @@ live_if false live is = absurd (cc)
 
 -- ---- faults of a read
 
--- which faults a read has that isn't refused
-read_fault : (o : Option Refusal) (n : ℕ) (x : Refusal) → o ≡ None → AnswersRead o n (Err x)
+-- which faults a read has that isn't refused, where the object isn't damaged
+read_fault : (o : Option Refusal) (n : ℕ) (x : Refusal) → o ≡ None → x ≢ why.Damaged → AnswersRead o n (Err x)
     → (x ≡ why.Disk) ⊎ (x ≡ why.Sink)
-read_fault None n x is (inl e) = absurd (cc)
-read_fault None n x is (inr (inl e)) = inl (cc)
-read_fault None n x is (inr (inr e)) = inr (cc)
-read_fault (Some y) n x is answer = absurd (cc)
+read_fault None n x is fine (inl e) = absurd (cc)
+read_fault None n x is fine (inr (inl e)) = inl (cc)
+read_fault None n x is fine (inr (inr (inl e))) = inr (cc)
+read_fault None n x is fine (inr (inr (inr e))) = absurd (fine (cc))
+read_fault (Some y) n x is fine answer = absurd (cc)
 
-module _ (o : Option Refusal) (n : ℕ) (x : Refusal) (served : o
-    ≡ None) (answer : AnswersRead o n (Err x)) where
+module _ (o : Option Refusal) (n : ℕ) (x : Refusal) (served : o ≡ None) (fine : x ≢ why.Damaged)
+    (answer : AnswersRead o n (Err x)) where
   pub fault_serving : IsServingFault (fault_of x)
-  fault_serving = elim (read_fault o n x served answer) as (λ _. IsServingFault (fault_of x)) [
+  fault_serving = elim (read_fault o n x served fine answer) as (λ _. IsServingFault (fault_of x)) [
     | inl e ↦ subst (λ (y : Refusal). IsServingFault (fault_of y)) (sym e) tt
     | inr e ↦ subst (λ (y : Refusal). IsServingFault (fault_of y)) (sym e) tt
   ]
 
   by_disk : fault_of x ≡ ends.Disk → x ≡ why.Disk
-  by_disk is = elim (read_fault o n x served answer) as (λ _. x ≡ why.Disk) [
+  by_disk is = elim (read_fault o n x served fine answer) as (λ _. x ≡ why.Disk) [
     | inl e ↦ e
     | inr e ↦ absurd (let f : ends.Sink ≡ ends.Disk = sym (ap fault_of e) ∙ is in cc)
   ]
 
   by_sink : fault_of x ≡ ends.Sink → x ≡ why.Sink
-  by_sink is = elim (read_fault o n x served answer) as (λ _. x ≡ why.Sink) [
+  by_sink is = elim (read_fault o n x served fine answer) as (λ _. x ≡ why.Sink) [
     | inl e ↦ absurd (let f : ends.Disk ≡ ends.Sink = sym (ap fault_of e) ∙ is in cc)
     | inr e ↦ e
   ]

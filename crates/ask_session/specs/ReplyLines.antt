@@ -1,5 +1,5 @@
 -- What is replied, by what the store answers.
-use Rattle.std.specs.Prelude.{◌≡◌, ℕ, Bool, true, false, if◌then◌else◌, [], Result, Ok, Err, IfErr, IfOk, IsTrue, OnOk}
+use Rattle.std.specs.Prelude.{◌≡◌, ℕ, Bool, true, false, if◌then◌else◌, List, [], ◌++◌, codes, Result, Ok, Err, IfErr, IfOk, IsTrue, OnOk}
 use Rattle.disk_face.specs.States as disk
 use Rattle.slot_pair.specs.Finding.{HasDiskCause}
 use Rattle.map_model.specs.Requests.{Request}
@@ -7,7 +7,7 @@ use Rattle.store_core.specs.declared.answers.Refusal.{Refusal}
 use Rattle.store_core.specs.declared.answers.Refusal.TheVariants as why
 use Rattle.store_core.specs.declared.answers.Done.{Done}
 use Rattle.store_model.specs.Connection.{StoreValue}
-use Rattle.ask_text.specs.Replies.{reply_line_of, rest_of}
+use Rattle.ask_text.specs.Replies.{first_line, reply_line_of, rest_of}
 use Rattle.ask_text.specs.declared.reply.Reply.{Reply}
 use Rattle.ask_text.specs.declared.reply.Reply.TheVariants as head
 use Rattle.ask_text.specs.declared.reply.RefusedWord.TheVariants as word
@@ -66,3 +66,8 @@ pub record Answers (classes : ℕ) (r : Request) (old new : StoreValue) (before 
   pub line : IsTrue before.tells → OnOk result (rest_of (reply_at old before.file r) ≡ [])
   pub only : IfErr result (λ end. end ≡ ends.Disk)
   pub disk_cause : HasDiskCause ends.Disk before.faults now.faults result
+
+-- the text of the reply to a read, by whether the object is damaged, and by its size
+abbrev pub object_text : Bool → ℕ → List ℕ → List ℕ
+object_text true size object = first_line (head.Refused word.Damaged)
+object_text false size object = first_line (head.Data size) ++ object ++ codes "\n"

@@ -1,5 +1,5 @@
 //! Requests whose reply is an object or a list.
-ghost use Rattle.std.specs.Prelude.{◌≡◌, ◌++◌, false, codes, IfErr, IfOk, IsTrue, None};
+ghost use Rattle.std.specs.Prelude.{◌≡◌, false, IfErr, IfOk, IsTrue, None};
 ghost use Rattle.disk_face.specs.Devices.{devices};
 ghost use Rattle.disk_face.specs.Frames.{Unchanged};
 ghost use Rattle.slot_pair.specs.Finding.{HasDiskCause};
@@ -7,10 +7,10 @@ ghost use Rattle.map_model.specs.Requests as ask;
 ghost use Rattle.store_core.specs.Answers.{refused_by};
 ghost use Rattle.store_model.specs.Connection.{state_of};
 ghost use Rattle.store_model.specs.Lines.{lines_of, listing_of};
-ghost use Rattle.store_core.specs.Readings.{asks_for, object_read};
+ghost use Rattle.store_core.specs.Readings.{asks_for, is_damaged_read, object_read};
 ghost use Rattle.store_core.specs.Reads.{HasSinkCause};
-ghost use Rattle.ask_text.specs.Replies.{first_line};
-ghost use Rattle.ask_text.specs.declared.reply.Reply.TheVariants as head;
+ghost use Rattle.ask_session.specs.Putting.{PutsStop};
+ghost use Rattle.ask_session.specs.ReplyLines.{object_text};
 ghost use Rattle.ask_session.specs.Ready.{CanServe};
 ghost use Rattle.ask_session.specs.Serving.{IsServingFault, PutsText, Replies};
 
@@ -18,7 +18,7 @@ use crate::End;
 use crate::heads::{answer_of, fault_of, put_answer, put_end, say};
 use ask_text::{Reply, write_reply};
 use disk_face::{Disk, Sink};
-use store_core::{Moment, Store};
+use store_core::{Moment, Refusal, Store};
 
 /// Serves a get, of what stands now, or an old, of what stood at the last checkpoint.
 pub(crate) fn serve_object<const C: usize, D: Disk, O: Sink>(
@@ -74,7 +74,7 @@ fn put_list<const C: usize, O: Sink>(store: &Store<C>, output: &mut O) -> Result
 }
 
 /// Puts the first line of a reply that is an object of this size, directly before its first byte, then the
-/// object, and a newline.
+/// object, and a newline; or replies that the object is damaged.
 fn give<const C: usize, D: Disk, O: Sink>(
     store: &mut Store<C>,
     moment: Moment,
@@ -86,8 +86,9 @@ fn give<const C: usize, D: Disk, O: Sink>(
     requires can { CanServe C store.old (D.state disk.old) }
     requires served { refused_by store.old (asks_for moment name.now) ≡ None }
     ensures puts { IsTrue (D.state disk.old).tells → IsTrue (O.state output.old).tells → PutsText
-        (first_line (head.Data size)
-        ++ object_read (state_of store.old (D.state disk.old).file) (asks_for moment name.now) ++ codes "\n")
+        (object_text
+        (is_damaged_read (state_of store.old (D.state disk.old).file) (asks_for moment name.now)) size
+        (object_read (state_of store.old (D.state disk.old).file) (asks_for moment name.now)))
         (O.state output.old).given (O.state output.new).given result }
     ensures kept { IfOk result (λ kept. kept ≡ false) }
     ensures only { IfErr result IsServingFault }
@@ -99,6 +100,16 @@ fn give<const C: usize, D: Disk, O: Sink>(
     let line = write_reply(&Reply::Data { size });
     match store.read_behind(moment, disk, name, line.as_slice(), output) {
         Ok(_) => put_end(output),
-        Err(why) => Err(fault_of(why)),
+        Err(why) => stop(why, output),
+    }
+}
+
+/// Replies that the object is damaged; else a device failed, and nothing more is put.
+fn stop<O: Sink>(why: Refusal, output: &mut O) -> Result<bool, End>
+    ensures { PutsStop (O.state output.old) (O.state output.new) why result }
+{
+    match why {
+        Refusal::Damaged => put_answer(output, answer_of(why)),
+        other => Err(fault_of(other)),
     }
 }

@@ -8,7 +8,6 @@ use Rattle.disk_face.specs.Frames.{Calls}
 use Rattle.disk_face.specs.Moments.{Leaves, Rests}
 use Rattle.disk_face.specs.Writes.{KeepsDisk}
 use Rattle.disk_face.proofs.MomentLaws.{Leaves-weaken}
-use Rattle.size_class.specs.declared.TheConstants.{SIZE_MAX}
 use Rattle.held_guard.specs.Freed.{Freed}
 use Rattle.slot_codec.specs.Choice as choice
 use Rattle.slot_codec.specs.Reading.{worn_from}

@@ -1,6 +1,6 @@
 -- A read of an object, of now or of the last checkpoint: what is found, and what is refused.
-use Rattle.std.specs.Prelude.{◌≡◌, ℕ, ◌+◌, ◌≤◌, Bool, true, false, if◌then◌else◌, List, ◌++◌, length, Option, Some, None, option_map, Result, Err, IsTrue, refl}
-use Rattle.std.proofs.Common.{ap, sym, ◌∙◌}
+use Rattle.std.specs.Prelude.{◌≡◌, ◌==◌, ℕ, ◌+◌, ◌≤◌, Bool, true, false, if◌then◌else◌, List, ◌++◌, length, Option, Some, None, option_map, Result, Err, IsNone, IsTrue, OnOk, refl}
+use Rattle.std.proofs.Common.{ap, subst, sym, ◌∙◌}
 use Rattle.disk_face.specs.Devices.{devices}
 use Rattle.disk_face.specs.States as disk
 use Rattle.disk_face.specs.Frames.{Unchanged}
@@ -8,8 +8,11 @@ use Rattle.disk_face.specs.Streams.{SinkState}
 use Rattle.slot_pair.specs.Finding.{HasDiskCause}
 use Rattle.map_model.specs.Requests as ask
 use Rattle.map_model.specs.Requests.{Refused, Request}
+use Rattle.segment_layout.specs.Books.{differs}
 use Rattle.extent_table.specs.declared.spot.Spot.{Spot}
-use Rattle.extent_table.specs.Extents.{IsInRange}
+use Rattle.std.specs.FinMap as fin
+use Rattle.slot_codec.specs.Choice.{Digests}
+use Rattle.extent_table.specs.Extents.{IsInRange, digests_seen}
 use Rattle.placement_model.specs.Reads.{object_at}
 use Rattle.store_core.specs.declared.answers.Moment.{Moment}
 use Rattle.store_core.specs.declared.answers.Moment.TheVariants as moment
@@ -17,15 +20,15 @@ use Rattle.store_core.specs.declared.answers.Refusal.{Refusal}
 use Rattle.store_core.specs.declared.answers.Refusal.TheVariants as why
 use Rattle.store_core.specs.Answers.{AnswersRead, AnswersSpot, facts_at, refusal_for, refused_by, size_at}
 use Rattle.store_model.specs.Connection.{IsOver, StoreValue, base_of, limits_of, state_of}
-use Rattle.store_core.specs.Readings.{IsRead, asks_for, object_read, spot_read}
-use Rattle.store_core.specs.Reads.{GivesObject, HasSinkCause}
+use Rattle.store_core.specs.Readings.{IsRead, asks_for, digest_read, is_damaged_read, object_read, spot_read}
+use Rattle.store_core.specs.Reads.{GivesObject, HasSinkCause, IsJudged}
 use Rattle.store_model.specs.States.{Limits, State, accepted, refusal, unchanged}
 use Rattle.store_model.specs.Stores.{IsStore}
 use Rattle.store_core.proofs.CauseLaws.{calm_disk, calm_sink}
 use Rattle.store_core.proofs.ChangingLaws.{unchanged_itself}
-use Rattle.store_core.proofs.ReadingLaws.{IsFound, answers_read, gives_object, object_there, refused_read}
+use Rattle.store_core.proofs.ReadingLaws.{IsFound, answers_read, damaged_there, digest_seen, gives_object, object_there, refused_read}
 use Rattle.store_core.proofs.RefusedLaws.{not_none}
-use Rattle.store_core.proofs.StepLaws.{read_step}
+use Rattle.store_core.proofs.StepLaws.{read_reply, read_step}
 use Rattle.store_model.proofs.StoreLaws.{kept_lies, now_lies}
 
 -- ---- what is found, at each moment
@@ -48,8 +51,33 @@ found_object s file h moment.Now name x there = object_there (base_of s) file s.
 found_object s file h moment.Kept name x there =
     object_there (base_of s) file s.kept name x h.kept.named there
 
+-- and whether it is damaged
+pub found_damaged : {classes : ℕ} (s : StoreValue) (file : List ℕ) → IsStore classes s → (m : Moment)
+    (name : List ℕ) (x : Spot) → spot_read s (asks_for m name) ≡ Some x
+    → is_damaged_read (state_of s file) (asks_for m name)
+    ≡ differs (digest_read s (asks_for m name)) (Some (object_at (base_of s) file x))
+found_damaged s file h moment.Now name x there =
+    damaged_there (base_of s) file s.book s.now name x h.now.named there
+found_damaged s file h moment.Kept name x there =
+    damaged_there (base_of s) file s.kept_book s.kept name x h.kept.named there
+
+-- the digest that a table has for a name, where its books are a store's
+module _ (v : ℕ) (now kept : Digests) (s : StoreValue) (name : List ℕ)
+    (is_now : digests_seen v now ≡ s.book.digests) (is_kept : digests_seen v kept ≡ s.kept_book.digests) where
+  pub no_digest : (m : Moment) → (v == 2) ≡ false → digest_read s (asks_for m name) ≡ None
+  no_digest moment.Now other = digest_seen v now s.book.digests name false other is_now
+  no_digest moment.Kept other = digest_seen v kept s.kept_book.digests name false other is_kept
+
+  pub digest_now : (v == 2) ≡ true → digest_read s (ask.get name) ≡ fin.get now name
+  digest_now two = digest_seen v now s.book.digests name true two is_now
+
+  pub digest_then : (v == 2) ≡ true → digest_read s (ask.old name) ≡ fin.get kept name
+  digest_then two = digest_seen v kept s.kept_book.digests name true two is_kept
+
 read_serves : (limits : Limits) (t : State) (m : Moment) (name : List ℕ)
-    → accepted limits t (asks_for m name) ≡ unchanged t (ask.found (object_read t (asks_for m name)))
+    → accepted limits t (asks_for m name)
+    ≡ unchanged t (read_reply (is_damaged_read t (asks_for m name))
+    (ask.found (object_read t (asks_for m name))))
 read_serves limits t moment.Now name = refl
 read_serves limits t moment.Kept name = refl
 
@@ -94,23 +122,30 @@ module _ (s : StoreValue) (a : disk.State) (m : Moment) (name head : List ℕ) w
 
   pub read_found : {classes : ℕ} (x : Spot) → IsFound classes s r x → (new : StoreValue) (d : disk.State)
       (out after : SinkState) (result : Result ℕ Refusal) → AnswersRead None x.size result
+      → (IsTrue a.tells → IsJudged (digest_read s r) (object_at (base_of s) a.file x) result)
+      → (IsTrue a.tells → differs (digest_read s r) (Some (object_at (base_of s) a.file x)) ≡ true
+      → after ≡ out)
       → (IsTrue out.tells
       → GivesObject None a.tells (head ++ object_at (base_of s) a.file x) out.given after.given (length head)
       result)
       → new ≡ s → Unchanged a d → HasDiskCause why.Disk a.faults d.faults result
       → HasSinkCause why.Sink out after result
       → IsRead r head s new (devices a out) (devices d after) result
-  read_found x f new d out after result answer gives store frame disk_cause sink_cause =
+  read_found x f new d out after result answer judged clean gives store frame disk_cause sink_cause =
       let answered = answers_read (refused_by s r) (size_at (spot_read s r)) x.size result f.served
       (ap size_at f.there) answer in
+      let damaged = found_damaged s a.file f.sound m name x f.there in
       record {
         answer = answered;
+        clean = λ whole told is. clean told (sym damaged ∙ is);
         gives = λ told. gives_object (refused_by s r) a.tells head (object_read (state_of s a.file) r)
             (object_at (base_of s) a.file x) out.given after.given result f.served
             (found_object s a.file f.sound m name x f.there) (gives told);
         step = λ whole told. read_step s new a.file d.file r (ask.found (object_read (state_of s a.file) r))
-            (size_at (spot_read s r)) result whole f.sound store (frame.same_file told)
-            (read_serves (limits_of s) (state_of s a.file) m name) answered;
+            (size_at (spot_read s r)) (is_damaged_read (state_of s a.file) r) result whole f.sound store
+            (frame.same_file told) (read_serves (limits_of s) (state_of s a.file) m name)
+            (λ none. subst (λ (b : Bool). OnOk result (b ≡ false)) (sym damaged) (judged told).fine)
+            (λ none is. damaged ∙ (judged told).damaged is) answered;
         store = store;
         frame = frame;
         disk_cause = disk_cause;
@@ -125,14 +160,17 @@ module _ (s : StoreValue) (a : disk.State) (m : Moment) (name head : List ℕ) w
       let answered = refused_read (refused_by s r) (spot_read s r) x (size_at (spot_read s r)) answer in
       record {
         answer = answered;
+        clean = λ whole told damaged. refl;
         gives = λ told. record {
           none = λ some. refl;
+          damaged = λ damaged. refl;
           front = λ none told. not_none (refused_by s r) x is none;
           number = tt;
         };
         step = λ whole told. read_step s s a.file a.file r (ask.found (object_read (state_of s a.file) r))
-            (size_at (spot_read s r)) (Err x) whole (sound whole) refl refl
-            (read_serves (limits_of s) (state_of s a.file) m name) answered;
+            (size_at (spot_read s r)) (is_damaged_read (state_of s a.file) r) (Err x) whole (sound whole) refl
+            refl (read_serves (limits_of s) (state_of s a.file) m name) (λ none. tt)
+            (λ none damaged. absurd (not_none (refused_by s r) x is (subst IsNone (sym none) refl))) answered;
         store = refl;
         frame = unchanged_itself a ready;
         disk_cause = calm_disk (λ fault. failed why.Disk is refl (Err x) refl fault) refl;

@@ -1,20 +1,28 @@
 -- What a read of an object finds, and gives to the sink.
-use Rattle.std.specs.Prelude.{◌≡◌, ℕ, Bool, true, false, if◌then◌else◌, List, ◌++◌, length, Option, Some, None, option_map, Result, Ok, Err, refl}
-use Rattle.std.proofs.Common.{ap, sym, ◌∙◌, subst}
+use Rattle.std.specs.Prelude.{◌≡◌, ◌==◌, ℕ, Bool, true, false, not, if◌then◌else◌, List, [], ◌∷◌, ◌++◌, length, IsTrue, Option, Some, None, option_map, Result, Ok, Err, refl}
+use Rattle.std.proofs.Common.{ap, sym, ◌∙◌, subst, inl, inr}
 use Rattle.std.specs.FinMap as fin
-use Rattle.map_model.specs.Requests.{Request}
+use Rattle.slot_codec.specs.Names.{is_name}
+use Rattle.slot_codec.specs.Choice.{Digests}
+use Rattle.map_model.specs.Maps.{Map}
+use Rattle.map_model.specs.Requests as ask
+use Rattle.map_model.specs.Requests.{Refused, Request}
+use Rattle.segment_layout.specs.Books.{Book, differs, is_damaged}
 use Rattle.extent_table.specs.declared.spot.Spot.{Spot}
-use Rattle.extent_table.specs.Extents.{Spots}
+use Rattle.extent_table.specs.Extents.{Spots, digests_seen}
 use Rattle.placement_model.specs.Reads.{AreNamed, object_at, read_at}
 use Rattle.placement_model.proofs.ReadLaws.{get-read_at}
 use Rattle.store_core.specs.declared.answers.Refusal.{Refusal}
 use Rattle.store_core.specs.declared.answers.Refusal.TheVariants as why
 use Rattle.store_core.specs.Answers.{AnswersRead, AnswersSpot, facts_at, refusal_for, refused_by}
 use Rattle.store_model.specs.Connection.{StoreValue, limits_of}
+use Rattle.store_model.specs.Digested.{digest_of}
 use Rattle.store_model.specs.Stores.{IsStore}
-use Rattle.store_core.specs.Readings.{spot_read}
-use Rattle.store_core.specs.Reads.{GivesObject}
-use Rattle.store_model.specs.States.{object_in, refusal}
+use Rattle.store_core.specs.declared.answers.Moment.{Moment}
+use Rattle.store_core.specs.declared.answers.Moment.TheVariants as moment
+use Rattle.store_core.specs.Readings.{asks_for, spot_read}
+use Rattle.store_core.specs.Reads.{GivesObject, StopsARead}
+use Rattle.store_model.specs.States.{first_refusal, object_in, refusal}
 
 -- ---- what is found
 
@@ -74,3 +82,58 @@ gives_object o tells head object there before now result none same given =
     (sym none)
     (subst (λ (x : List ℕ). GivesObject None tells (head ++ x) before now (length head) result) (sym same)
     given)
+
+-- ---- digests
+
+-- an object is damaged that has another digest than the book has for its name
+pub damaged_is : (book : Book) (m : Map) (name object : List ℕ) → fin.get m name ≡ Some object
+    → is_damaged book m name ≡ differs (digest_of book.digests name) (Some object)
+damaged_is book m name object there = elim book.digests as (λ ds.
+    is_damaged (record book { digests = ds }) m name ≡ differs (digest_of ds name) (Some object)) [
+      | None ↦ refl
+      | Some ds ↦ ap (differs (fin.get ds name)) there
+    ]
+
+pub damaged_there : (base : ℕ) (file : List ℕ) (book : Book) (spots : Spots) (name : List ℕ) (s : Spot)
+    → AreNamed spots → fin.get spots name ≡ Some s → is_damaged book (read_at base file spots) name
+    ≡ differs (digest_of book.digests name) (Some (object_at base file s))
+damaged_there base file book spots name s named is = damaged_is book (read_at base file spots) name
+    (object_at base file s)
+    (get-read_at base file spots named name ∙ ap (option_map (object_at base file)) is)
+
+-- the digest that a table of a version has for a name
+pub digest_seen : (v : ℕ) (ds : Digests) (seen : Option Map) (name : List ℕ) (two : Bool) → (v == 2) ≡ two
+    → digests_seen v ds ≡ seen → digest_of seen name ≡ (if two then fin.get ds name else None)
+digest_seen v ds seen name two is same = ap (λ (x : Option Map). digest_of x name) (sym same)
+    ∙ ap (λ (b : Bool). digest_of (if b then Some ds else None) name) is ∙ by two
+  where
+    by : (b : Bool) → digest_of (if b then Some ds else None) name ≡ (if b then fin.get ds name else None)
+    by true = refl
+    by false = refl
+
+named_by : (named live : Bool)
+    → first_refusal ((not named, ask.bad_name) ∷ (not live, ask.missing) ∷ []) ≡ None → IsTrue named
+named_by true live is = refl
+named_by false live is = absurd (cc)
+
+-- what is found has a name
+pub named_if : (s : StoreValue) (m : Moment) (name : List ℕ) → refused_by s (asks_for m name) ≡ None
+    → s.is_broken ≡ false → IsTrue (is_name name)
+named_if s m name none whole = by m (unrefused (refusal (limits_of s) (facts_at s (asks_for m name))
+    (asks_for m name)) (ap (λ (b : Bool). if b then Some why.Broken else option_map refusal_for
+    (refusal (limits_of s) (facts_at s (asks_for m name)) (asks_for m name))) (sym whole) ∙ none))
+  where
+    unrefused : (o : Option Refused) → option_map refusal_for o ≡ None → o ≡ None
+    unrefused None is = refl
+    unrefused (Some w) is = absurd (cc)
+
+    by : (n : Moment) → refusal (limits_of s) (facts_at s (asks_for n name)) (asks_for n name) ≡ None
+        → IsTrue (is_name name)
+    by moment.Now is = named_by (is_name name) (fin.contains_key s.now name) is
+    by moment.Kept is = named_by (is_name name) (fin.contains_key s.kept name) is
+
+-- why a read stops is an answer to it
+pub read_stops : (n : ℕ) (x : Refusal) → StopsARead x → AnswersRead None n (Err x)
+read_stops n x (inl is) = inr (inl (ap (λ (y : Refusal). Err y) is))
+read_stops n x (inr (inl is)) = inr (inr (inl (ap (λ (y : Refusal). Err y) is)))
+read_stops n x (inr (inr is)) = inr (inr (inr (ap (λ (y : Refusal). Err y) is)))

@@ -1,5 +1,5 @@
 -- Steps that leave the state, and the facts on which refusals depend.
-use Rattle.std.specs.Prelude.{◌≡◌, ℕ, List, Option, Some, None, option_map, is_some, refl, Bool, false, if◌then◌else◌, Result, Ok, Err, IfSome, OnOk}
+use Rattle.std.specs.Prelude.{◌≡◌, ℕ, List, Option, Some, None, option_map, is_some, refl, Bool, true, false, if◌then◌else◌, Result, Ok, Err, IfSome, OnOk}
 use Rattle.std.proofs.Common.{arith, ap, sym, ◌∙◌, subst, inl, inr}
 use Rattle.std.specs.FinMap as fin
 use Rattle.map_model.specs.Requests as ask
@@ -91,25 +91,37 @@ replies_refused limits s r reply n result why is answer =
     each ask.full step = step
     each ask.worn step = step
 
-replies_read : (limits : Limits) (s : State) (r : Request) (reply : Reply) (n : ℕ) (result : Result ℕ Refusal)
-    → Step limits s r reply s → AnswersRead None n result
+-- the reply to a read, by whether the object is damaged
+abbrev pub read_reply : Bool → Reply → Reply
+read_reply damaged reply = if damaged then ask.refused ask.damaged else reply
+
+replies_read : (limits : Limits) (s : State) (r : Request) (reply : Reply) (n : ℕ) (damaged : Bool)
+    (result : Result ℕ Refusal) → Step limits s r (read_reply damaged reply) s
+    → OnOk result (damaged ≡ false) → (result ≡ Err why.Damaged → damaged ≡ true) → AnswersRead None n result
     → IfSome (reply_of (λ (m : ℕ). reply) result) (λ x. Step limits s r x s)
-replies_read limits s r reply n result step (inl is) = subst
+replies_read limits s r reply n damaged result step fine bad (inl is) = subst
     (λ (x : Result ℕ Refusal). IfSome (reply_of (λ (m : ℕ). reply) x) (λ x. Step limits s r x s)) (sym is)
-    step
-replies_read limits s r reply n result step (inr (inl is)) = subst
+    (subst (λ (b : Bool). Step limits s r (read_reply b reply) s)
+    (subst (λ (x : Result ℕ Refusal). OnOk x (damaged ≡ false)) is fine) step)
+replies_read limits s r reply n damaged result step fine bad (inr (inl is)) = subst
     (λ (x : Result ℕ Refusal). IfSome (reply_of (λ (m : ℕ). reply) x) (λ x. Step limits s r x s)) (sym is) tt
-replies_read limits s r reply n result step (inr (inr is)) = subst
+replies_read limits s r reply n damaged result step fine bad (inr (inr (inl is))) = subst
     (λ (x : Result ℕ Refusal). IfSome (reply_of (λ (m : ℕ). reply) x) (λ x. Step limits s r x s)) (sym is) tt
+replies_read limits s r reply n damaged result step fine bad (inr (inr (inr is))) = subst
+    (λ (x : Result ℕ Refusal). IfSome (reply_of (λ (m : ℕ). reply) x) (λ x. Step limits s r x s)) (sym is)
+    (subst (λ (b : Bool). Step limits s r (read_reply b reply) s) (bad is) step)
 
 -- a read is a step with the reply of its answer
 pub read_step : {classes : ℕ} (s after : StoreValue) (file now : List ℕ) (r : Request) (reply : Reply) (n : ℕ)
-    (result : Result ℕ Refusal) → s.is_broken ≡ false → IsStore classes s → after ≡ s → now ≡ file
-    → accepted (limits_of s) (state_of s file) r ≡ unchanged (state_of s file) reply
+    (damaged : Bool) (result : Result ℕ Refusal) → s.is_broken ≡ false → IsStore classes s → after ≡ s
+    → now ≡ file
+    → accepted (limits_of s) (state_of s file) r ≡ unchanged (state_of s file) (read_reply damaged reply)
+    → (refused_by s r ≡ None → OnOk result (damaged ≡ false))
+    → (refused_by s r ≡ None → result ≡ Err why.Damaged → damaged ≡ true)
     → AnswersRead (refused_by s r) n result
     → IfSome (reply_of (λ (m : ℕ). reply) result)
     (λ x. Step (limits_of s) (state_of s file) r x (state_of after now))
-read_step s after file now r reply n result whole sound same_store same_file serves answer =
+read_step s after file now r reply n damaged result whole sound same_store same_file serves fine bad answer =
     subst (λ (x : StoreValue). IfSome (reply_of (λ (m : ℕ). reply) result)
     (λ y. Step (limits_of s) (state_of s file) r y (state_of x now))) (sym same_store)
     (subst (λ (x : List ℕ). IfSome (reply_of (λ (m : ℕ). reply) result)
@@ -118,8 +130,9 @@ read_step s after file now r reply n result whole sound same_store same_file ser
     as (λ o. refusal (limits_of s) (facts_at s r) r ≡ o → AnswersRead (option_map refusal_for o) n result
     → IfSome (reply_of (λ (m : ℕ). reply) result)
     (λ x. Step (limits_of s) (state_of s file) r x (state_of s file))) [
-      | None ↦ λ is a. replies_read (limits_of s) (state_of s file) r reply n result
-          (accepted_step (limits_of s) (state_of s file) r reply (facts ∙ is) serves) a
+      | None ↦ λ is a. replies_read (limits_of s) (state_of s file) r reply n damaged result
+          (accepted_step (limits_of s) (state_of s file) r (read_reply damaged reply) (facts ∙ is) serves)
+          (fine (served is)) (bad (served is)) a
       | Some why ↦ λ is a. replies_refused (limits_of s) (state_of s file) r reply n result why (facts ∙ is) a
     ] refl (subst (λ (b : Bool). AnswersRead (if b then Some why.Broken
     else option_map refusal_for (refusal (limits_of s) (facts_at s r) r)) n result) whole answer)))
@@ -127,6 +140,11 @@ read_step s after file now r reply n result whole sound same_store same_file ser
     facts : refusal (limits_of s) (facts_of (state_of s file) r) r ≡ refusal (limits_of s) (facts_at s r) r
     facts = ap (λ (f : Facts). refusal (limits_of s) f r)
         (facts_same s file r sound.now.named sound.kept.named)
+
+    served : refusal (limits_of s) (facts_at s r) r ≡ None → refused_by s r ≡ None
+    served is = ap (λ (b : Bool). if b then Some why.Broken
+        else option_map refusal_for (refusal (limits_of s) (facts_at s r) r)) whole
+        ∙ ap (option_map refusal_for) is
 
 -- ---- lists and numbers
 

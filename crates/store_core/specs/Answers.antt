@@ -54,14 +54,15 @@ abbrev pub AnswersName : StoreValue → List ℕ → Result (List ℕ) Refusal �
 AnswersName s name result = result ≡ (if s.is_broken then Err why.Broken
     else if is_name name then Ok name else Err why.BadName)
 
--- the same, but that the disk or the sink may fail
+-- the same, but that the disk or the sink may fail, or the object may be damaged
 abbrev pub AnswersRead : Option Refusal → ℕ → Result ℕ Refusal → Type 0
 AnswersRead None n result = (result ≡ Ok n) ⊎ (result ≡ Err why.Disk) ⊎ (result ≡ Err why.Sink)
+    ⊎ (result ≡ Err why.Damaged)
 AnswersRead (Some refused) n result = result ≡ Err refused
 
 -- the same without a sink
 abbrev pub AnswersFetch : Option Refusal → ℕ → Result ℕ Refusal → Type 0
-AnswersFetch None n result = (result ≡ Ok n) ⊎ (result ≡ Err why.Disk)
+AnswersFetch None n result = (result ≡ Ok n) ⊎ (result ≡ Err why.Disk) ⊎ (result ≡ Err why.Damaged)
 AnswersFetch (Some refused) n result = result ≡ Err refused
 
 -- the answer is the refusal; where there is none, it is Ok, or the sink failed

@@ -6,18 +6,21 @@ ghost use Rattle.slot_pair.specs.Finding.{HasDiskCause};
 ghost use Rattle.extent_table.specs.Extents.{IsInRange};
 ghost use Rattle.placement_model.specs.Reads.{object_at};
 ghost use Rattle.map_model.specs.Requests as ask;
+ghost use Rattle.store_core.specs.Readings.{digest_read};
+ghost use Rattle.store_core.specs.Reads.{IsJudged};
 ghost use Rattle.store_core.specs.Answers.{AnswersFetch, refused_by, size_at};
 ghost use Rattle.store_model.specs.Connection.{IsConnected, base_of, state_of};
 ghost use Rattle.store_model.specs.States.{object_in};
 ghost use Rattle.store_model.specs.Stores.{IsStore};
 
+use crate::judge::judge;
 use crate::{Moment, Refusal, Store};
-use disk_face::{Disk, DiskFault, read};
+use disk_face::{Disk, read};
 use extent_table::Spot;
 
 impl<const C: usize> Store<C> {
     /// Reads an object into the front of `out`, where `get` would put it. The answer is how many bytes
-    /// it has; they have to fit. It is refused as a `get` is, and the disk may fail.
+    /// it has; they have to fit. It is refused as a `get` is, so also as damaged, and the disk may fail.
     pub fn fetch<D: Disk>(&self, disk: &mut D, name: &[u8], out: &mut [u8]) -> Result<u64, Refusal>
         requires ready { IsTrue (D.state disk.old).is_ready }
         requires over { IsConnected C self.now (D.state disk.old) }
@@ -27,18 +30,31 @@ impl<const C: usize> Store<C> {
         ensures fetched { self.now.is_broken ≡ false → IsTrue (D.state disk.old).tells
             → IfOk result (λ n. take n out.new
             ≡ object_in (state_of self.now (D.state disk.old).file).map name.now) }
+        ensures judged { self.now.is_broken ≡ false → IsTrue (D.state disk.old).tells
+            → refused_by self.now (ask.get name.now) ≡ None
+            → IsJudged (digest_read self.now (ask.get name.now))
+            (object_in (state_of self.now (D.state disk.old).file).map name.now) result }
         ensures frame { Unchanged (D.state disk.old) (D.state disk.new) }
         ensures disk_cause { HasDiskCause Refusal.Disk (D.state disk.old).faults
             (D.state disk.new).faults result }
     {
         match self.find(Moment::Now, name) {
-            Ok(spot) => self.fetch_spot(disk, spot, out),
+            Ok(spot) => {
+                let digest = self.digest_of_object(Moment::Now, name);
+                self.fetch_spot(disk, spot, &digest, out)
+            }
             Err(refusal) => Err(refusal),
         }
     }
 
     /// Reads the bytes at a spot into the front of `out`.
-    fn fetch_spot<D: Disk>(&self, disk: &mut D, spot: Spot, out: &mut [u8]) -> Result<u64, Refusal>
+    fn fetch_spot<D: Disk>(
+        &self,
+        disk: &mut D,
+        spot: Spot,
+        digest: &Option<[u8; 32]>,
+        out: &mut [u8],
+    ) -> Result<u64, Refusal>
         requires ready { IsTrue (D.state disk.old).is_ready }
         requires sound { IsStore C self.now }
         requires range { IsInRange spot }
@@ -46,6 +62,8 @@ impl<const C: usize> Store<C> {
         requires within { IsTrue (D.state disk.old).tells
             → base_of self.now + spot.place + spot.size ≤ length (D.state disk.old).file }
         ensures answer { AnswersFetch None spot.size result }
+        ensures judged { IsTrue (D.state disk.old).tells → IsJudged digest.now
+            (object_at (base_of self.now) (D.state disk.old).file spot) result }
         ensures fetched { IsTrue (D.state disk.old).tells → IfOk result (λ n. take n out.new
             ≡ object_at (base_of self.now) (D.state disk.old).file spot) }
         ensures frame { Unchanged (D.state disk.old) (D.state disk.new) }
@@ -53,9 +71,9 @@ impl<const C: usize> Store<C> {
             (D.state disk.new).faults result }
     {
         let at = self.hands.base + spot.place;
-        match read(disk, at, &mut out[..spot.size as usize]) {
-            Ok(()) => Ok(spot.size),
-            Err(DiskFault) => Err(Refusal::Disk),
-        }
+        let piece = &mut out[..spot.size as usize];
+        read(disk, at, piece).map_err(|_| Refusal::Disk)?;
+        judge(digest, piece)?;
+        Ok(spot.size)
     }
 }

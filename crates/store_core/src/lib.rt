@@ -10,6 +10,7 @@ mod digest;
 mod fetch;
 mod flush;
 mod held;
+mod judge;
 mod keep;
 pub mod laws;
 mod lines;

@@ -6,14 +6,15 @@ ghost use Rattle.disk_face.specs.Frames.{Unchanged};
 ghost use Rattle.slot_pair.specs.Finding.{HasDiskCause};
 ghost use Rattle.extent_table.specs.Extents.{IsInRange};
 ghost use Rattle.placement_model.specs.Reads.{object_at};
+ghost use Rattle.slot_codec.specs.Names.{is_name};
 ghost use Rattle.map_model.specs.Requests as ask;
 ghost use Rattle.store_core.specs.Answers.{AnswersName, AnswersNumber, AnswersRead, AnswersSpot, refused_by, size_at};
 ghost use Rattle.store_model.specs.Connection.{IsConnected, base_of};
 ghost use Rattle.store_model.specs.Stores.{IsStore};
-ghost use Rattle.store_core.specs.Readings.{IsRead, asks_for, spot_read};
-ghost use Rattle.store_core.specs.Reads.{GivesObject, HasSinkCause};
+ghost use Rattle.store_core.specs.Readings.{IsRead, asks_for, digest_read, spot_read};
+ghost use Rattle.store_core.specs.Reads.{GivesObject, HasSinkCause, PutsJudged};
 
-use crate::copy::put_behind;
+use crate::copy::put_judged;
 use crate::{Moment, Refusal, Store};
 use disk_face::{Disk, Sink};
 use extent_table::Spot;
@@ -96,7 +97,8 @@ impl<const C: usize> Store<C> {
 
     /// Puts a head, and behind it the bytes of an object of now or of the last checkpoint. The head is put
     /// directly before the first of these, once they were read, or alone where there are none; nothing is
-    /// put at a refusal. The answer is how many bytes the object has.
+    /// put at a refusal, nor where the bytes have another digest than they are to have. The answer is how
+    /// many bytes the object has.
     pub fn read_behind<D: Disk, O: Sink>(
         &mut self,
         moment: Moment,
@@ -112,16 +114,35 @@ impl<const C: usize> Store<C> {
             result }
     {
         match self.find(moment, name) {
-            Ok(spot) => self.put_object(disk, spot, head, sink),
+            Ok(spot) => {
+                let digest = self.digest_of_object(moment, name);
+                self.put_object(disk, spot, &digest, head, sink)
+            }
             Err(refusal) => Err(refusal),
         }
     }
 
-    /// Puts a head and the bytes at a spot, and answers how many these are.
+    /// The digest that an object of now or of the last checkpoint is to have, if there are digests.
+    pub(crate) fn digest_of_object(&self, moment: Moment, name: &[u8]) -> Option<[u8; 32]>
+        ensures read { IsTrue (is_name name.now) → result ≡ digest_read self.now (asks_for moment name.now) }
+    {
+        if self.hands.version != 2 {
+            return None;
+        }
+        let name = Name::new(name)?;
+        match moment {
+            Moment::Now => self.hands.table.digest(&name),
+            Moment::Kept => self.hands.table.old_digest(&name),
+        }
+    }
+
+    /// Puts a head and the bytes at a spot where they have this digest, if there is one, and answers how
+    /// many these are.
     fn put_object<D: Disk, O: Sink>(
         &mut self,
         disk: &mut D,
         spot: Spot,
+        digest: &Option<[u8; 32]>,
         head: &[u8],
         sink: &mut O,
     ) -> Result<u64, Refusal>
@@ -131,6 +152,9 @@ impl<const C: usize> Store<C> {
         requires within { IsTrue (D.state disk.old).tells
             → base_of self.old + spot.place + spot.size ≤ length (D.state disk.old).file }
         ensures answer { AnswersRead None spot.size result }
+        ensures judged { PutsJudged (D.state disk.old).tells digest.now
+            (object_at (base_of self.old) (D.state disk.old).file spot) (O.state sink.old)
+            (O.state sink.new) result }
         ensures gives { IsTrue (O.state sink.old).tells → GivesObject None (D.state disk.old).tells
             (head.now ++ object_at (base_of self.old) (D.state disk.old).file spot)
             (O.state sink.old).given (O.state sink.new).given (length head.now) result }
@@ -141,11 +165,12 @@ impl<const C: usize> Store<C> {
         ensures sink_cause { HasSinkCause Refusal.Sink (O.state sink.old) (O.state sink.new) result }
     {
         let hands = &mut *self.hands;
-        put_behind(
+        put_judged(
             disk,
             hands.base + spot.place,
             spot.size,
             &mut hands.buf,
+            digest,
             head,
             sink,
         )?;

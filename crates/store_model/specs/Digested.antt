@@ -1,5 +1,5 @@
 -- Books with digests: what a layout shows of objects, and what is given as the digest of an object.
-use Rattle.std.specs.Prelude.{◌≡◌, ℕ, ◌≤◌, List, Option, Some, option_map, IfSome}
+use Rattle.std.specs.Prelude.{◌≡◌, ℕ, ◌≤◌, List, Option, Some, None, option_map, IfSome}
 use Rattle.std.specs.FinMap as fin
 use Rattle.sha2.specs.Sha256.{sha256}
 use Rattle.slot_codec.specs.Spelling.{cap}
@@ -14,6 +14,11 @@ use Rattle.placement_model.specs.LaidOut.{shown_book}
 abbrev pub digested_book : ℕ → ℕ → List ℕ → List (List ℕ) → Spots → Option Map → Book
 digested_book classes k caps grid spots digests = with_digests digests
     (shown_book classes SIZE_MAX k caps grid spots)
+
+-- the digest of a name, if there are digests
+abbrev pub digest_of : Option Map → List ℕ → Option (List ℕ)
+digest_of None name = None
+digest_of (Some digests) name = fin.get digests name
 
 -- As many names may be live as a table of version 2 has records, and no more are; and the digests are those
 -- that were kept.

@@ -6,7 +6,7 @@ use Rattle.slot_codec.specs.Spelling.{cap}
 use Rattle.map_model.specs.Maps.{Map, volume}
 use Rattle.map_model.specs.Requests as ask
 use Rattle.map_model.specs.Requests.{Request, Reply, Refused, Change, changed}
-use Rattle.segment_layout.specs.Books.{Book, next_book, version_of}
+use Rattle.segment_layout.specs.Books.{Book, is_damaged, next_book, version_of}
 
 -- what is fixed for a store: the divisor, how many names its slots have room for in version 1, the greatest
 -- size of an object
@@ -99,6 +99,11 @@ object_in m name = bytes (fin.get m name)
     bytes None = []
     bytes (Some object) = object
 
+-- the reply to a read: the object of a name, or that the book has another digest for it
+abbrev pub reads_as : Book → Map → List ℕ → Reply
+reads_as book m name = if is_damaged book m name then ask.refused ask.damaged
+    else ask.found (object_in m name)
+
 abbrev pub served_change : Limits → State → Change → Served
 served_change limits s c =
     let next = next_book limits.k s.map s.book c in
@@ -117,8 +122,8 @@ served_change limits s c =
 
 abbrev pub accepted : Limits → State → Request → Served
 accepted limits s (ask.change c) = served_change limits s c
-accepted limits s (ask.get name) = unchanged s (ask.found (object_in s.map name))
-accepted limits s (ask.old name) = unchanged s (ask.found (object_in s.kept name))
+accepted limits s (ask.get name) = unchanged s (reads_as s.book s.map name)
+accepted limits s (ask.old name) = unchanged s (reads_as s.kept_book s.kept name)
 accepted limits s ask.keep = record {
   reply = ask.kept;
   state = record s { kept = s.map; kept_book = s.book };

@@ -1,5 +1,5 @@
 -- What a job does and is answered: a change, a keep, or a get.
-use Rattle.std.specs.Prelude.{◌≡◌, ◌≢◌, ℕ, ◌≤◌, true, false, ◌||◌, List, length, Option, Some, None, Result, Ok, Err, IfSome, IsNone, IsSome, IsTrue, OnOk, refl}
+use Rattle.std.specs.Prelude.{◌≡◌, ◌≢◌, ℕ, ◌≤◌, Bool, true, false, ◌||◌, List, length, Option, Some, None, Result, Ok, Err, IfSome, IsNone, IsSome, IsTrue, OnOk, refl}
 use Rattle.std.proofs.Common.{arith, ap, sym, ◌∙◌, subst, inl, inr}
 use Rattle.std.specs.FinMap as fin
 use Rattle.disk_face.specs.States as disk
@@ -15,17 +15,19 @@ use Rattle.store_model.proofs.StateLaws.{len-read_at}
 use Rattle.store_core.specs.declared.answers.Refusal.{Refusal}
 use Rattle.store_core.specs.declared.answers.Refusal.TheVariants as why
 use Rattle.store_core.specs.declared.answers.Done.{Done}
-use Rattle.store_core.specs.Answers.{AnswersChange, AnswersNumber, AnswersRead, done_reply, refusal_for, refused_by, reply_of, size_at}
+use Rattle.store_core.specs.Answers.{AnswersChange, AnswersNumber, AnswersRead, done_reply, refusal_for, refused_by, refused_reply, reply_of, size_at}
 use Rattle.store_core.specs.Answers as store
+use Rattle.store_core.specs.Readings.{is_damaged_read}
+use Rattle.store_core.specs.declared.answers.Moment.TheVariants as moment
 use Rattle.store_core.specs.Changes.{NothingChanged}
 use Rattle.store_core.specs.Changing.{IsChange}
 use Rattle.store_model.specs.Connection.{IsConnected, StoreValue, base_of, limits_of, state_of}
 use Rattle.store_core.specs.Keeps.{AnswersKeep, kept_now}
 use Rattle.store_model.specs.Quiet.{charges_of}
-use Rattle.store_model.specs.States.{Served, State, Step, object_in}
+use Rattle.store_model.specs.States.{Served, State, Step, object_in, unchanged}
 use Rattle.store_model.specs.Stores.{IsStore}
 use Rattle.store_core.proofs.CauseLaws.{calm_disk, disk_cause_as}
-use Rattle.store_core.proofs.StepLaws.{always}
+use Rattle.store_core.proofs.StepLaws.{always, read_reply}
 use Rattle.store_model.proofs.StoreLaws.{small_if_there}
 use Rattle.segment_layout.specs.Books.{is_quiet}
 use Rattle.store_costs.specs.Calls.{IsKeep}
@@ -34,12 +36,13 @@ use Rattle.store_costs.proofs.OtherLaws.{keep_moves_nothing}
 use Rattle.ask_text.specs.Replies.{reply_line_of, told_for}
 use Rattle.ask_text.specs.declared.reply.Reply as text
 use Rattle.ask_text.specs.declared.reply.Reply.TheVariants as head
+use Rattle.ask_text.specs.declared.reply.RefusedWord.TheVariants as word
 use Rattle.ask_session.specs.declared.ends.End.{End}
 use Rattle.ask_session.specs.declared.ends.End.TheVariants as ends
 use Rattle.ask_session.specs.ReplyLines.{Answers, answer_change, answer_of}
-use Rattle.ask_session.specs.Serving.{Serves, reply_at}
+use Rattle.ask_session.specs.Serving.{Serves, reply_at, served_at}
 use Rattle.ask_session.proofs.AnswerLaws.{change_answers, keep_answers, refused_head}
-use Rattle.ask_session.proofs.ReadReplyLaws.{answer_is, get_long, get_served, number_served, refused_with}
+use Rattle.ask_session.proofs.ReadReplyLaws.{answer_is, found_damaged, found_fine, get_long, get_served, number_served, refused_with}
 use Rattle.ask_session.specs.Ready.{CanServe}
 use Rattle.ask_session.proofs.ServingLaws.{refused_stays, serves_same}
 use Rattle.work_session.specs.Counts.{asked_by, calls_by}
@@ -197,7 +200,8 @@ no_disk w is = absurd (let e : Ok (head.Refused (told_for w)) ≡ Err ends.Disk 
 number_of : (o : Option Refusal) (n size : ℕ) → AnswersRead o n (Ok size) → AnswersNumber o n (Ok size)
 number_of None n size (inl is) = is
 number_of None n size (inr (inl bad)) = absurd (cc)
-number_of None n size (inr (inr bad)) = absurd (cc)
+number_of None n size (inr (inr (inl bad))) = absurd (cc)
+number_of None n size (inr (inr (inr bad))) = absurd (cc)
 number_of (Some w) n size is = is
 
 there_short : (o : Option Spot) → IfSome o (λ x. x.size ≤ SIZE_MAX) → size_at o ≤ most_read
@@ -205,9 +209,21 @@ there_short None small = omega arith
 there_short (Some x) small = small
 
 module _ {classes : ℕ} (s : StoreValue) (a d : disk.State) (name : List ℕ) (h : CanServe classes s a)
-    (same : Unchanged a d) where
+    (same : Unchanged a d) (t : State) where
   abbrev r : Request
   r = ask.get name
+
+  abbrev object : List ℕ
+  object = object_in (state_of s a.file).map name
+
+  abbrev damaged : Bool
+  damaged = is_damaged_read (state_of s a.file) r
+
+  -- what is replied, once it is known whether the object is damaged
+  replied_as : (b : Bool) → refused_by s r ≡ None → IsTrue a.tells → damaged ≡ b
+      → served_at s a.file r ≡ unchanged (state_of s a.file) (read_reply b (ask.found object))
+  replied_as b served told is = get_served s a name h served told
+      ∙ ap (λ (c : Bool). unchanged (state_of s a.file) (read_reply c (ask.found object))) is
 
   abbrev n : ℕ
   n = size_at (fin.get s.now name)
@@ -217,19 +233,23 @@ module _ {classes : ℕ} (s : StoreValue) (a d : disk.State) (name : List ℕ) (
       (λ told. omega (arith, same.same_turn))
 
   pub get_gives : (size : ℕ) → AnswersRead (refused_by s r) n (Ok size) → d.faults ≡ a.faults
+      → (IsTrue a.tells → Step (limits_of s) (state_of s a.file) r (ask.found object) t)
       → Does classes r s s a d (Ok (head.Data size))
-  get_gives size answer calm =
+  get_gives size answer calm step =
       let number = number_of (refused_by s r) n size answer in
       let served = number_served (refused_by s r) n size number in
+      let is : IsTrue a.tells → served_at s a.file r ≡ unchanged (state_of s a.file) (ask.found object) =
+      λ told. replied_as false served.0 told (found_fine s a moment.Now name h served.0 told t object
+      (step told)) in
       record {
         serves = serves_same s r a d (Ok (head.Data size)) h same (λ told. record {
-          reply = ask.found (object_in (state_of s a.file).map name);
-          is = get_served s a name h served.0 told;
+          reply = ask.found object;
+          is = is told;
           none = refl;
         }) refl;
         sound = h.sound;
         replied = λ told. ap head.Data (sym (get_long s a name size h number told))
-            ∙ sym (ap (λ (y : Served). reply_line_of y.reply) (get_served s a name h served.0 told));
+            ∙ sym (ap (λ (y : Served). reply_line_of y.reply) (is told));
         small = omega (
           arith,
           served.1,
@@ -258,6 +278,28 @@ module _ {classes : ℕ} (s : StoreValue) (a d : disk.State) (name : List ℕ) (
         cause = y.disk_cause;
       })
 
+  -- a get of an object that is damaged
+  get_damaged : refused_by s r ≡ None → d.faults ≡ a.faults
+      → (IsTrue a.tells → Step (limits_of s) (state_of s a.file) r (ask.refused ask.damaged) t)
+      → Does classes r s s a d (answer_of why.Damaged)
+  get_damaged served calm step =
+      let is : IsTrue a.tells
+      → served_at s a.file r ≡ unchanged (state_of s a.file) (ask.refused ask.damaged) =
+      λ told. replied_as true served told (found_damaged s a moment.Now name h served told t (step told)) in
+      record {
+        serves = serves_same s r a d (Ok (head.Refused word.Damaged)) h same (λ told. record {
+          reply = ask.refused ask.damaged;
+          is = is told;
+          none = refl;
+        }) refl;
+        sound = h.sound;
+        replied = λ told. sym (ap (λ (y : Served). reply_line_of y.reply) (is told));
+        small = omega arith;
+        charges = λ full. none_charged;
+        only = tt;
+        cause = calm_disk (λ is. absurd (cc)) calm;
+      }
+
   -- a get in which the disk failed
   get_failed : HasDiskCause {T = ℕ} why.Disk a.faults d.faults (Err why.Disk)
       → Does classes r s s a d (answer_of why.Disk)
@@ -274,7 +316,7 @@ module _ {classes : ℕ} (s : StoreValue) (a d : disk.State) (name : List ℕ) (
       by : (o : Option Refusal) → refused_by s r ≡ o → Serves {T = text.Reply} classes r s s a d
           (Err ends.Disk)
       by None is = serves_same s r a d (Err ends.Disk) h same (λ told. record {
-        reply = ask.found (object_in (state_of s a.file).map name);
+        reply = read_reply damaged (ask.found object);
         is = get_served s a name h is told;
         none = refl;
       }) refl
@@ -285,8 +327,10 @@ module _ {classes : ℕ} (s : StoreValue) (a d : disk.State) (name : List ℕ) (
 
   pub get_stops : (x : Refusal) → AnswersRead (refused_by s r) n (Err x)
       → HasDiskCause {T = ℕ} why.Disk a.faults d.faults (Err x) → (x ≡ why.Sink → ⊥)
+      → (IsTrue a.tells
+      → IfSome (refused_reply x) (λ reply. Step (limits_of s) (state_of s a.file) r reply t))
       → Does classes r s s a d (answer_of x)
-  get_stops x answer cause no_sink = by (refused_by s r) refl answer
+  get_stops x answer cause no_sink step = by (refused_by s r) refl answer
     where
       by : (o : Option Refusal) → refused_by s r ≡ o → AnswersRead o n (Err x)
           → Does classes r s s a d (answer_of x)
@@ -300,4 +344,10 @@ module _ {classes : ℕ} (s : StoreValue) (a d : disk.State) (name : List ℕ) (
           subst (λ (z : Refusal). Does classes r s s a d (answer_of z)) (sym e)
           (get_failed (subst (λ (z : Refusal). HasDiskCause {T = ℕ} why.Disk a.faults d.faults (Err z)) e
           cause))
-      by None is (inr (inr failed)) = absurd (no_sink (let e : x ≡ why.Sink = cc in e))
+      by None is (inr (inr (inl failed))) = absurd (no_sink (let e : x ≡ why.Sink = cc in e))
+      by None is (inr (inr (inr failed))) =
+          let e : x ≡ why.Damaged = cc in
+          subst (λ (z : Refusal). Does classes r s s a d (answer_of z)) (sym e)
+          (get_damaged is (cause.calm (λ other. let f : why.Damaged ≡ why.Disk = (cc) in absurd (cc)))
+          (λ told. subst (λ (z : Refusal). IfSome (refused_reply z)
+          (λ reply. Step (limits_of s) (state_of s a.file) r reply t)) e (step told)))

@@ -2,7 +2,7 @@ use Rattle.std.proofs.Common.{sym, subst}
 use Rattle.disk_face.specs.Devices.{devices}
 use Rattle.store_core.specs.Answers.{refused_by, size_at}
 use Rattle.store_model.specs.Connection.{StoreValue, limits_of, state_of}
-use Rattle.store_core.specs.Readings.{asks_for, object_read, spot_read}
+use Rattle.store_core.specs.Readings.{asks_for, is_damaged_read, object_read, spot_read}
 use Rattle.ask_session.specs.Serving.{Replies}
 use Rattle.ask_session.proofs.ReadReplyLaws.{asks_only, calls_none, found_replies, number_refused, number_served, object_long, object_served, refused_replies}
 use Rattle.ask_session.proofs.reads.serve_object.Goals as goal
@@ -20,7 +20,8 @@ returns-in-Ok g c =
     (devices a (g.O.Sink.state c.args.output.now))
     (devices (g.D.Disk.state c.give.new.disk) (g.O.Sink.state c.give.new.output)) c.give.result)
     (sym c.give.ensures.store)
-    (found_replies (asks_for m name) s a h (object_read (state_of s a.file) (asks_for m name)) c.in-Ok.size
+    (found_replies (asks_for m name) s a h (is_damaged_read (state_of s a.file) (asks_for m name))
+    (object_read (state_of s a.file) (asks_for m name)) c.in-Ok.size
     (asks_only m name) (object_served s a m name h served)
     (λ told. calls_none (limits_of s) (state_of s a.file) m name)
     (object_long s a m name c.in-Ok.size h c.in-Ok.ensures)

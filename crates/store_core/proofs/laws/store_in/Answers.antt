@@ -1,4 +1,4 @@
-use Rattle.std.proofs.Common.{◌∙◌, ap, arith, lit<, refl, subst, sym}
+use Rattle.std.proofs.Common.{◌∙◌, ap, arith, lit<, subst, sym}
 use Rattle.size_class.specs.declared.TheConstants.{SIZE_MAX}
 use Rattle.slot_codec.specs.Readable.{IsSuperBlock}
 use Rattle.slot_codec.proofs.CapLaws.{cap-low}

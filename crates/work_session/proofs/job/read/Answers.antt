@@ -1,7 +1,7 @@
 use Rattle.std.proofs.Common.{ap, arith, sym, subst}
 use Rattle.std.specs.Prelude.{Err, Ok, Result}
 use Rattle.map_model.specs.Requests as ask
-use Rattle.store_model.specs.Connection.{StoreValue}
+use Rattle.store_model.specs.Connection.{StoreValue, state_of}
 use Rattle.ask_text.specs.declared.reply.Reply.{Reply}
 use Rattle.ask_text.specs.declared.reply.Reply.TheVariants as head
 use Rattle.ask_session.specs.declared.ends.End.{End}
@@ -17,8 +17,10 @@ returns-in-Ok g c = subst (λ (x : StoreValue). Does g.row.C (ask.get c.args.nam
     (g.D.Disk.state c.get.new.disk) c.args.name.now
     (can_serve c.args.store.now (g.D.Disk.state c.args.disk.now) c.requires.whole c.requires.sound
     c.requires.over c.requires.ready (g.met.D.Disk.lawful c.args.disk.now))
-    c.in-Ok.ensures.frame c.in-Ok.size c.in-Ok.ensures.answer
-    (c.in-Ok.ensures.disk_cause.calm (λ is. absurd (cc))))
+    c.in-Ok.ensures.frame (state_of c.get.new.self (g.D.Disk.state c.get.new.disk).file)
+    c.in-Ok.size c.in-Ok.ensures.answer
+    (c.in-Ok.ensures.disk_cause.calm (λ is. absurd (cc)))
+    (λ told. c.in-Ok.ensures.step c.requires.whole told))
 
 pub returns-in-Err : goal.returns-in-Err
 returns-in-Err g c = subst (λ (x : StoreValue). Does g.row.C (ask.get c.args.name.now) c.args.store.now x
@@ -31,5 +33,7 @@ returns-in-Err g c = subst (λ (x : StoreValue). Does g.row.C (ask.get c.args.na
     (g.D.Disk.state c.get.new.disk) c.args.name.now
     (can_serve c.args.store.now (g.D.Disk.state c.args.disk.now) c.requires.whole c.requires.sound
     c.requires.over c.requires.ready (g.met.D.Disk.lawful c.args.disk.now))
-    c.in-Err.ensures.frame c.in-Err.why c.in-Err.ensures.answer c.in-Err.ensures.disk_cause
-    (λ sink. omega (arith, c.in-Err.ensures.sink_cause.rose (ap Err sink)))))
+    c.in-Err.ensures.frame (state_of c.get.new.self (g.D.Disk.state c.get.new.disk).file)
+    c.in-Err.why c.in-Err.ensures.answer c.in-Err.ensures.disk_cause
+    (λ sink. omega (arith, c.in-Err.ensures.sink_cause.rose (ap Err sink)))
+    (λ told. c.in-Err.ensures.step c.requires.whole told)))

@@ -1,4 +1,3 @@
-use Rattle.std.specs.Prelude.{◌≡◌}
 use Rattle.std.proofs.Common.{◌∙◌, ap, refl, subst, sym}
 use Rattle.slot_codec.specs.Spelling.{cap}
 use Rattle.slot_codec.specs.declared.codec.SuperBlock.{SuperBlock}

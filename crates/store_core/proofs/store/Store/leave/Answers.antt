@@ -1,5 +1,5 @@
 use Rattle.std.specs.Prelude.{Option, ◌≤◌, ◌≡◌}
-use Rattle.std.proofs.Common.{◌∙◌, ap, arith, lit<, rules, subst, sym, refl}
+use Rattle.std.proofs.Common.{◌∙◌, ap, lit<, rules, subst, sym, refl}
 use Rattle.std.specs.FinMap as fin
 use Rattle.size_class.specs.Rows.{cells_of}
 use Rattle.segment_layout.specs.Layouts.{grid_of}

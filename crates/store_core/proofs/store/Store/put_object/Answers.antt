@@ -1,12 +1,24 @@
-use Rattle.std.proofs.Common.{ap, arith, refl, subst, sym, ◌∙◌}
+use Rattle.std.proofs.Common.{◌≡◌, ap, arith, refl, rules, subst, sym, ◌∙◌, ℕ, Err, None, Result}
+use Rattle.store_core.specs.Answers.{AnswersRead}
+use Rattle.store_core.specs.declared.answers.Refusal.{Refusal}
 use Rattle.std.proofs.lemmas.Grind.{common_steps}
 use Rattle.store_core.specs.Inside.{IsWhole, kept_of}
 use Rattle.store_core.proofs.InsideLaws.{lent, lent_is, whole_with}
+use Rattle.store_core.proofs.ReadingLaws.{read_stops}
 use Rattle.store_core.proofs.CauseLaws.{disk_cause_as, sink_cause_as}
 use Rattle.store_core.proofs.store.Store.put_object.Goals as goal
 
 pub returns-clause-answer : goal.returns-clause-answer
 returns-clause-answer g c = grind (arith, common_steps)
+
+pub returns-in_err-put_judged-clause-answer : goal.returns-in_err-put_judged-clause-answer
+returns-in_err-put_judged-clause-answer g c =
+    let is : c.from_residual.result ≡ Err c.in_err-put_judged.field-0.0 = search rules in
+    subst (λ (r : Result ℕ Refusal). AnswersRead None c.args.spot.size r) (sym is)
+    (read_stops c.args.spot.size c.in_err-put_judged.field-0.0 c.in_err-put_judged.ensures.judged.only)
+
+pub returns-clause-judged : goal.returns-clause-judged
+returns-clause-judged g c = grind (arith, common_steps)
 
 pub returns-clause-gives : goal.returns-clause-gives
 returns-clause-gives g c = grind (arith, common_steps)
@@ -15,8 +27,8 @@ pub returns-clause-store : goal.returns-clause-store
 returns-clause-store g c =
     ap kept_of (lent_is c.self.inside c.deref_mut-hands.ensures.value refl) ∙ c.self.view_is
 
-pub returns-in_err-put_behind-clause-store : goal.returns-in_err-put_behind-clause-store
-returns-in_err-put_behind-clause-store g c =
+pub returns-in_err-put_judged-clause-store : goal.returns-in_err-put_judged-clause-store
+returns-in_err-put_judged-clause-store g c =
     ap kept_of (lent_is c.self.inside c.deref_mut-hands.ensures.value refl) ∙ c.self.view_is
 
 pub invariant_of-self : goal.invariant_of-self
@@ -24,30 +36,30 @@ invariant_of-self g c =
     let is_lent = lent_is c.self.inside c.deref_mut-hands.ensures.value refl in
     let inside = lent c.self.inside c.deref_mut-hands.result.now c.self.inside.kept_layout.value in
     let invariant = subst IsWhole (sym is_lent) c.self.invariant in
-    whole_with inside c.put_behind.new.buf (grind (arith, invariant.buf)) invariant
+    whole_with inside c.put_judged.new.buf (grind (arith, invariant.buf)) invariant
 
 pub invariant_of-self-2 : goal.invariant_of-self-2
 invariant_of-self-2 g c =
     let is_lent = lent_is c.self.inside c.deref_mut-hands.ensures.value refl in
     let inside = lent c.self.inside c.deref_mut-hands.result.now c.self.inside.kept_layout.value in
     let invariant = subst IsWhole (sym is_lent) c.self.invariant in
-    whole_with inside c.put_behind.new.buf (grind (arith, invariant.buf)) invariant
+    whole_with inside c.put_judged.new.buf (grind (arith, invariant.buf)) invariant
 
 pub returns-clause-frame : goal.returns-clause-frame
 returns-clause-frame g c = grind (arith, common_steps)
 
 pub returns-clause-disk_cause : goal.returns-clause-disk_cause
 returns-clause-disk_cause g c =
-    disk_cause_as c.in_ok-put_behind.ensures.disk_cause (λ is. absurd (cc)) (λ is. absurd (cc))
+    disk_cause_as c.in_ok-put_judged.ensures.disk_cause (λ is. absurd (cc)) (λ is. absurd (cc))
 
 pub returns-clause-sink_cause : goal.returns-clause-sink_cause
 returns-clause-sink_cause g c =
-    sink_cause_as c.in_ok-put_behind.ensures.sink_cause (λ is. absurd (cc)) (λ is. absurd (cc))
+    sink_cause_as c.in_ok-put_judged.ensures.sink_cause (λ is. absurd (cc)) (λ is. absurd (cc))
 
-pub returns-in_err-put_behind-clause-disk_cause : goal.returns-in_err-put_behind-clause-disk_cause
-returns-in_err-put_behind-clause-disk_cause g c =
-    disk_cause_as c.in_err-put_behind.ensures.disk_cause (λ is. grind arith) (λ is. grind arith)
+pub returns-in_err-put_judged-clause-disk_cause : goal.returns-in_err-put_judged-clause-disk_cause
+returns-in_err-put_judged-clause-disk_cause g c =
+    disk_cause_as c.in_err-put_judged.ensures.disk_cause (λ is. grind arith) (λ is. grind arith)
 
-pub returns-in_err-put_behind-clause-sink_cause : goal.returns-in_err-put_behind-clause-sink_cause
-returns-in_err-put_behind-clause-sink_cause g c =
-    sink_cause_as c.in_err-put_behind.ensures.sink_cause (λ is. grind arith) (λ is. grind arith)
+pub returns-in_err-put_judged-clause-sink_cause : goal.returns-in_err-put_judged-clause-sink_cause
+returns-in_err-put_judged-clause-sink_cause g c =
+    sink_cause_as c.in_err-put_judged.ensures.sink_cause (λ is. grind arith) (λ is. grind arith)
