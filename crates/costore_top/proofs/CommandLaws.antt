@@ -19,7 +19,8 @@ use Rattle.file_commands.specs.Getting.{IsObject}
 use Rattle.file_commands.specs.Texts.{IsChecked, IsMapped}
 use Rattle.run_command.specs.Headline.{RunPromise, is_session}
 use Rattle.run_command.specs.Sessions.{RunAlways}
-use Rattle.served_file.specs.Unserved.{IsRefusedService, NeverServed}
+use Rattle.command_face.specs.Refusing.{IsRefused}
+use Rattle.served_file.specs.Unserved.{NeverServed}
 use Rattle.work_command.specs.Working.{WorkAlways, WorkPromise}
 use Rattle.costore_top.specs.Answering.{IsAnswer}
 use Rattle.costore_top.specs.Commands.{Command, check, dump, file_of, format, get, gives_answer, help, makes, map_of, mounts, reads, run, version, work}
@@ -247,7 +248,7 @@ module _ (o : Outcome) (old new : Devices) (from rest : SourceState) (same_bay s
   pub running : (file : List ℕ)
       → (IsTrue old.disk.tells → IsTrue from.tells → RunPromise o old new from rest)
       → (IsTrue old.disk.tells → NeverServed old.disk.file
-      → Ends (IsRefusedService old.disk.file) o.status old.sink new.sink)
+      → Ends (IsRefused old.disk.file) o.status old.sink new.sink)
       → (is_session o.status ≡ true) ⊎ (o.status ≡ NO_STORE)
       → IsMounted file false new.disk.last_mount (o.status ≡ DISK_FAILED) (o.status ≡ NO_FILE)
       → RunAlways o old new from rest same_input → Does (run file) o old new from rest same_bay same_input
@@ -273,7 +274,7 @@ module _ (o : Outcome) (old new : Devices) (from rest : SourceState) (same_bay s
   pub working : (file : List ℕ) (number count : ℕ) → same_input
       → (IsTrue old.disk.tells → WorkPromise number count o.status old new)
       → (IsTrue old.disk.tells → NeverServed old.disk.file
-      → Ends (IsRefusedService old.disk.file) o.status old.sink new.sink)
+      → Ends (IsRefused old.disk.file) o.status old.sink new.sink)
       → IsMounted file false new.disk.last_mount (o.status ≡ DISK_FAILED) (o.status ≡ NO_FILE)
       → WorkAlways count o.status old new
       → (o.done ≡ 0) × (o.kept_done ≡ 0) × (o.kept_turn ≡ 0)

@@ -23,8 +23,6 @@ use Rattle.table_rules.specs.Opening.{Opens, OpensBy}
 use Rattle.table_rules.specs.Sequences.{HasSequenceUpTo}
 use Rattle.store_model.specs.Opened.{LeavesRoom, RestsOnFound, RoomOf, SameOnFound, most_by, most_found}
 use Rattle.store_model.specs.States as store
-use Rattle.store_model.specs.Plain.{IsPlain}
-use Rattle.store_core.proofs.PlainLaws.{ArePlain, served_plain}
 use Rattle.store_model.proofs.OpeningLaws.{alike_itself}
 use Rattle.ask_session.specs.Runs.{last_state}
 use Rattle.command_face.specs.declared.outcome.Outcome.{Outcome}
@@ -33,7 +31,6 @@ use Rattle.served_file.specs.Served.{IsNextStart, OpensToBeing, OpensToKept, lim
 use Rattle.disk_face.specs.Devices.{devices}
 use Rattle.run_command.specs.Headline.{RunHolds}
 use Rattle.work_command.specs.Working.{WorkHolds}
-use Rattle.costore_top.proofs.PlainStates.{chain_plain, last_plain, starts_plain}
 
 -- ---- numbers
 
@@ -83,28 +80,25 @@ below_the_limit t file m b o =
 pub rests_alone : (t : choice.SlotTable) (d : State) → Only d.file d.may_leave → RestsOnFound t d
 rests_alone t d only image left = subst (SameOnFound t d.file) (sym (only image left)) (alike_itself t d.file)
 
--- an image opens, to some map and some book of version 1
+-- an image opens, to some map and some book
 pub record IsOpen (image : List ℕ) : Type 0 where
   pub m : Map
   pub b : Book
-  pub plain : IsPlain b
   pub opens : Opens CLASSES SIZE_MAX image m b
 
 kept_opens : (start : store.State) (replies : List Reply) (states : List store.State) (image : List ℕ)
-    → ((n : ℕ) → ArePlain (state_after start states n)) → OpensToKept start replies states image
-    → IsOpen image
-kept_opens start replies states image plain (inl is) =
-    record { m = start.map; b = start.book; plain = (plain 0).book; opens = is }
-kept_opens start replies states image plain (inr is) =
+    → OpensToKept start replies states image → IsOpen image
+kept_opens start replies states image (inl is) = record { m = start.map; b = start.book; opens = is }
+kept_opens start replies states image (inr is) =
     let s = state_after start states is.0 in
-    record { m = s.map; b = s.book; plain = (plain is.0).book; opens = is.2 }
+    record { m = s.map; b = s.book; opens = is.2 }
 
 being_opens : (status : ℕ) (limits : store.Limits) (s : store.State) (others : List Request) (image : List ℕ)
-    → ArePlain s → OpensToBeing status limits s others image → IsOpen image
-being_opens status limits s [] image plain is = absurd (is.1)
-being_opens status limits s (r ∷ others) image plain is =
+    → OpensToBeing status limits s others image → IsOpen image
+being_opens status limits s [] image is = absurd (is.1)
+being_opens status limits s (r ∷ others) image is =
     let t = (store.served limits s r).state in
-    record { m = t.map; b = t.book; plain = (served_plain limits s r plain).book; opens = is.1.1 }
+    record { m = t.map; b = t.book; opens = is.1.1 }
 
 begins : (t : choice.SlotTable) → t.chosen.block.k ≤ 64 → LeavesRoomTwice t → (image : List ℕ)
     → HasSequenceUpTo (most_left t.chosen.block.k t) image → IsOpen image
@@ -116,7 +110,6 @@ begins t high twice image up is =
       table = x.table;
       m = is.m;
       b = is.b;
-      plain = is.plain;
       opens = x.opens;
       low = low;
       room = room_by x.table.chosen.header.kind x.table.chosen.header.sequence
@@ -127,9 +120,9 @@ begins t high twice image up is =
 
 -- where no call of the disk failed the file is the start
 pub calm_begins : {t : choice.SlotTable} {s : store.State} {q : ℕ} {old z : State} → t.chosen.block.k ≤ 64
-    → LeavesRoomTwice t → ArePlain s → IsNextStart t s q old z → q ≤ most_left t.chosen.block.k t
+    → LeavesRoomTwice t → IsNextStart t s q old z → q ≤ most_left t.chosen.block.k t
     → MayBegin (most_left t.chosen.block.k t) z.file
-calm_begins {t} {s} {q} {old} {z} high twice plain next low =
+calm_begins {t} {s} {q} {old} {z} high twice next low =
     let within : next.table.chosen.header.sequence ≤ most_left t.chosen.block.k t =
     omega (arith, next.not_worn, low)
     in
@@ -137,7 +130,6 @@ calm_begins {t} {s} {q} {old} {z} high twice plain next low =
       table = next.table;
       m = s.kept;
       b = s.kept_book;
-      plain = plain.kept_book;
       opens = next.opens;
       low = within;
       room = room_by next.table.chosen.header.kind next.table.chosen.header.sequence
@@ -145,7 +137,7 @@ calm_begins {t} {s} {q} {old} {z} high twice plain next low =
     }
 
 module _ {t : choice.SlotTable} {m : Map} {b : Book} {old z : State} {out after : SinkState}
-    (plain : IsPlain b) (o : OpensBy CLASSES SIZE_MAX t old.file m b) (twice : LeavesRoomTwice t)
+    (o : OpensBy CLASSES SIZE_MAX t old.file m b) (twice : LeavesRoomTwice t)
     (rests : RestsOnFound t old)
     (below : z.turn < last) where
   pub run_followed : {requests : List Request} {end : List ℕ} {x : Outcome} {from rest : SourceState}
@@ -155,13 +147,10 @@ module _ {t : choice.SlotTable} {m : Map} {b : Book} {old z : State} {out after 
   run_followed {x = x} r image since =
       let room = room_once t twice in
       let limits = limits_with t.chosen.block in
-      let first = starts_plain t m b r.start plain r.starts in
       begins t (block_high old.file t o.read) twice image (r.numbered room rests below image since)
       (elim ((r.crash room rests below).crash image since) as (λ _. IsOpen image) [
-        | inl kept ↦ kept_opens r.start r.ran.replies r.ran.states image
-            (chain_plain limits r.start r.ran.answered r.ran.replies r.ran.states first r.ran.chain) kept
-        | inr being ↦ being_opens x.status limits (last_state r.start r.ran.states) r.ran.others image
-            (last_plain limits r.start r.ran.answered r.ran.replies r.ran.states first r.ran.chain) being
+        | inl kept ↦ kept_opens r.start r.ran.replies r.ran.states image kept
+        | inr being ↦ being_opens x.status limits (last_state r.start r.ran.states) r.ran.others image being
       ])
 
   pub work_followed : {number count status : ℕ}
@@ -170,11 +159,8 @@ module _ {t : choice.SlotTable} {m : Map} {b : Book} {old z : State} {out after 
   work_followed {status = status} w image since =
       let room = room_once t twice in
       let limits = limits_with t.chosen.block in
-      let first = starts_plain t m b w.start plain w.starts in
       begins t (block_high old.file t o.read) twice image (w.numbered room rests below image since)
       (elim (w.crash room rests below image since) as (λ _. IsOpen image) [
-        | inl kept ↦ kept_opens w.start w.ran.replies w.ran.states image
-            (chain_plain limits w.start w.ran.answered w.ran.replies w.ran.states first w.ran.chain) kept
-        | inr being ↦ being_opens status limits (last_state w.start w.ran.states) w.ran.others image
-            (last_plain limits w.start w.ran.answered w.ran.replies w.ran.states first w.ran.chain) being
+        | inl kept ↦ kept_opens w.start w.ran.replies w.ran.states image kept
+        | inr being ↦ being_opens status limits (last_state w.start w.ran.states) w.ran.others image being
       ])

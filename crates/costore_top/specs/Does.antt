@@ -11,7 +11,8 @@ use Rattle.command_face.specs.declared.status.TheConstants.{DISK_FAILED, DONE, F
 use Rattle.file_commands.specs.Formatting.{Formats}
 use Rattle.run_command.specs.Headline.{RunPromise, is_session}
 use Rattle.run_command.specs.Sessions.{RunAlways}
-use Rattle.served_file.specs.Unserved.{IsRefusedService, NeverServed}
+use Rattle.command_face.specs.Refusing.{IsRefused}
+use Rattle.served_file.specs.Unserved.{NeverServed}
 use Rattle.work_command.specs.Working.{WorkAlways, WorkPromise}
 use Rattle.costore_top.specs.Answering.{IsAnswer}
 use Rattle.costore_top.specs.Commands.{Command, dump, file_of, format, gives_answer, makes, mounts, reads, run, serves, work}
@@ -35,7 +36,7 @@ pub record Does (c : Command) (o : Outcome) (old new : Devices) (from rest : Sou
   pub line_alone : IsTrue (gives_answer c) → IsTrue old.sink.tells → PutsLineAlone o.status old.sink new.sink
   pub dumps : (file : List ℕ) → c ≡ dump file → DumpsItsFile o.status old new
   pub refused : IsTrue (serves c) → IsTrue old.disk.tells → NeverServed old.disk.file
-      → Ends (IsRefusedService old.disk.file) o.status old.sink new.sink
+      → Ends (IsRefused old.disk.file) o.status old.sink new.sink
   pub frame : IsFalse (serves c) → IsFalse (makes c) → Untouched old.disk new.disk
   pub keeps : IsFalse (serves c) → Keeps old.disk new.disk old.sink new.sink (o.status ≡ DISK_FAILED)
       (o.status ≡ SINK_FAILED) (o.status ≡ DONE)

@@ -6,15 +6,12 @@ use Rattle.map_model.specs.Maps.{Map}
 use Rattle.segment_layout.specs.Books.{Book}
 use Rattle.table_rules.specs.Opening.{OpensBy}
 use Rattle.store_model.specs.Opened.{LeavesRoom, most_found}
-use Rattle.store_model.specs.Plain.{IsPlain}
 
--- A file opens to a book of version 1, by a table whose sequence is at most this, and leaves room for
--- the saves of an opening.
+-- A file opens, by a table whose sequence is at most this, and leaves room for the saves of an opening.
 pub record MayBegin (most : ℕ) (file : List ℕ) : Type 0 where
   pub table : choice.SlotTable
   pub m : Map
   pub b : Book
-  pub plain : IsPlain b
   pub opens : OpensBy CLASSES SIZE_MAX table file m b
   pub low : table.chosen.header.sequence ≤ most
   pub room : LeavesRoom table

@@ -14,7 +14,8 @@ use Rattle.command_face.specs.declared.stop.StopReason.{StopReason}
 use Rattle.command_face.specs.declared.stop.StopReason.TheVariants as stop
 use Rattle.file_commands.specs.Dumped.{EndsDump}
 use Rattle.file_commands.specs.Formatting.{Formats}
-use Rattle.served_file.specs.Unserved.{IsRefusedService, NeverServed}
+use Rattle.command_face.specs.Refusing.{IsRefused}
+use Rattle.served_file.specs.Unserved.{NeverServed}
 use Rattle.costore_top.specs.Answering.{AsksForAnswer, IsAnswer, NamesNoFile}
 use Rattle.costore_top.specs.Commands.{Command, dump, file_of, format, gives_answer, makes, mounts, reads, serves}
 use Rattle.costore_top.specs.Words.{Means}
@@ -50,18 +51,14 @@ pub record DumpPromise (file : List ℕ) (status : ℕ) (old new : SinkState) : 
   pub puts : IsTrue old.tells → PutsDumpOut bytes end old.given new.given (Rose old.faults new.faults)
 
 -- The bytes of the file decide how its dump ends. Whatever the disk tells, the line is all that is put
--- where no
--- object is damaged and no device failed.
+-- where no object is damaged and no device failed.
 pub record DumpsItsFile (status : ℕ) (old new : Devices) : Type 0 where
   pub dumps : IsTrue old.disk.tells → DumpPromise old.disk.file status old.sink new.sink
   pub line_alone : IsTrue old.sink.tells → (status ≡ DAMAGED_OBJECT) ⊎ PutsLineAlone status old.sink new.sink
 
 -- The bytes of the file decide the status, and what is put. A command that gives an answer ends by the one
--- that
--- there is to them; only memory may be wanting for its table, before any byte is put. `dump` ends as they
--- say.
--- A file that doesn't open ends one that serves requests as its first refusal says, and one of version 2 by
--- the fault of its version.
+-- that there is to them; only memory may be wanting for its table, before any byte is put. `dump` ends as
+-- they say. A file that doesn't open ends one that serves requests as its first refusal says.
 pub record AnswersByItsFile (words : List (List ℕ)) (status : ℕ) (old new : Devices) : Type 0 where
   pub ends : (c : Command) → Means words c → IsTrue (gives_answer c)
       → (IsTrue (mounts c) → IsTrue old.disk.tells)
@@ -70,7 +67,7 @@ pub record AnswersByItsFile (words : List (List ℕ)) (status : ℕ) (old new : 
   pub line_alone : AsksForAnswer words → IsTrue old.sink.tells → PutsLineAlone status old.sink new.sink
   pub dumps : (file : List ℕ) → Means words (dump file) → DumpsItsFile status old new
   pub refused : (c : Command) → Means words c → IsTrue (serves c) → IsTrue old.disk.tells
-      → NeverServed old.disk.file → Ends (IsRefusedService old.disk.file) status old.sink new.sink
+      → NeverServed old.disk.file → Ends (IsRefused old.disk.file) status old.sink new.sink
 
 -- What a call keeps that serves no requests: only `format` touches its file, and the devices' own faults
 -- have their causes.

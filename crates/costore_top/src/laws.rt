@@ -9,7 +9,6 @@ ghost use Rattle.map_model.specs.Maps.{Map};
 ghost use Rattle.map_model.specs.Requests.{Request};
 ghost use Rattle.table_rules.specs.Opening.{Opens, OpensBy};
 ghost use Rattle.store_model.specs.Opened.{RestsOnFound, most_found};
-ghost use Rattle.store_model.specs.Plain.{IsPlain};
 ghost use Rattle.ask_text.specs.Inputs.{Asks};
 ghost use Rattle.costore_top.specs.Commands.{Command, check, get, map_of, run, work};
 ghost use Rattle.file_commands.specs.Getting.{given};
@@ -57,7 +56,7 @@ pub fn ends_by_the_answer()
 /// sequence found leaves room twice.
 pub fn a_crash_may_be_followed_by_a_call<B: Bay, I: Source, O: Sink>()
     ensures run { (t : choice.SlotTable) (m : Map) (b : Book) (requests : List Request) (end : List ℕ)
-        (o : Outcome) (old new : B) (from rest : I) (out after : O) → IsPlain b
+        (o : Outcome) (old new : B) (from rest : I) (out after : O)
         → OpensBy CLASSES SIZE_MAX t (B.state old).file m b
         → Asks (I.state from).left requests end
         → RunPromise o (devices (B.state old) (O.state out)) (devices (B.state new) (O.state after))
@@ -65,13 +64,13 @@ pub fn a_crash_may_be_followed_by_a_call<B: Bay, I: Source, O: Sink>()
         → LeavesRoomTwice t → RestsOnFound t (B.state old) → (B.state new).turn < last
         → LeftOnly (B.state new) (B.state old).turn (MayBegin (most_left t.chosen.block.k t)) }
     ensures work { (t : choice.SlotTable) (m : Map) (b : Book) (number count status : ℕ) (old new : B)
-        (out after : O) → IsPlain b → OpensBy CLASSES SIZE_MAX t (B.state old).file m b
+        (out after : O) → OpensBy CLASSES SIZE_MAX t (B.state old).file m b
         → WorkPromise number count status (devices (B.state old) (O.state out))
         (devices (B.state new) (O.state after))
         → LeavesRoomTwice t → RestsOnFound t (B.state old) → (B.state new).turn < last
         → LeftOnly (B.state new) (B.state old).turn (MayBegin (most_left t.chosen.block.k t)) }
     ensures calm { (t : choice.SlotTable) (m : Map) (b : Book) (requests : List Request) (end : List ℕ)
-        (o : Outcome) (old new : B) (from rest : I) (out after : O) → IsPlain b
+        (o : Outcome) (old new : B) (from rest : I) (out after : O)
         → OpensBy CLASSES SIZE_MAX t (B.state old).file m b
         → Asks (I.state from).left requests end
         → RunPromise o (devices (B.state old) (O.state out)) (devices (B.state new) (O.state after))
@@ -79,7 +78,7 @@ pub fn a_crash_may_be_followed_by_a_call<B: Bay, I: Source, O: Sink>()
         → LeavesRoomTwice t → IsCalm (B.state old).faults (B.state new).faults
         → MayBegin (most_left t.chosen.block.k t) (B.state new).file }
     ensures calm_work { (t : choice.SlotTable) (m : Map) (b : Book) (number count status : ℕ) (old new : B)
-        (out after : O) → IsPlain b → OpensBy CLASSES SIZE_MAX t (B.state old).file m b
+        (out after : O) → OpensBy CLASSES SIZE_MAX t (B.state old).file m b
         → WorkPromise number count status (devices (B.state old) (O.state out))
         (devices (B.state new) (O.state after))
         → LeavesRoomTwice t → IsCalm (B.state old).faults (B.state new).faults

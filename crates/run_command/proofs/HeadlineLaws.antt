@@ -18,7 +18,6 @@ use Rattle.map_model.specs.Requests.{Request}
 use Rattle.segment_layout.specs.Books.{Book}
 use Rattle.table_rules.specs.Opening.{OpensBy}
 use Rattle.store_model.specs.Connection.{StoreValue, state_of}
-use Rattle.store_model.specs.Plain.{IsPlain}
 use Rattle.store_model.specs.Stores.{IsStore}
 use Rattle.store_model.specs.States as store
 use Rattle.store_model.specs.Opened.{IsFoundImage, IsOpening, LeavesRoom, RestsOnFound, SameOnFound}
@@ -53,7 +52,7 @@ use Rattle.run_command.proofs.SettledLaws.{settled_still}
 use Rattle.run_command.proofs.SoFarLaws.{SoFar}
 use Rattle.run_command.proofs.UnservedLaws.{never_true, none_far, unserved_runs}
 use Rattle.served_file.proofs.FoundLaws.{found_start, found_starts, next_found}
-use Rattle.served_file.proofs.RefusedLaws.{WhyUnopened, why_unopened}
+use Rattle.served_file.proofs.RefusedLaws.{WhyUnopened, why_refused}
 use Rattle.served_file.proofs.RefusedLaws.WhyUnopened.{disk, memory}
 use Rattle.disk_face.specs.Devices.{devices}
 
@@ -68,7 +67,7 @@ module _ {D I O : Type 0} (seen : Seen D I O) (lawful : (d : D) → IsLawful (se
     (before now : Held D I O) (after : SinkState)
     (told : IsTrue (seen.disk before.disk).tells) (told_source : IsTrue (seen.source before.source).tells)
     (t : choice.SlotTable) (m : Map) (b : Book) (requests : List Request) (end : List ℕ)
-    (plain : IsPlain b) (o : OpensBy CLASSES SIZE_MAX t (seen.disk before.disk).file m b)
+    (o : OpensBy CLASSES SIZE_MAX t (seen.disk before.disk).file m b)
     (asks : Asks (seen.source before.source).left requests end) where
   abbrev old : State
   old = seen.disk before.disk
@@ -186,7 +185,7 @@ module _ {D I O : Type 0} (seen : Seen D I O) (lawful : (d : D) → IsLawful (se
       unopened_by e (opening.Table broken) none is ended line = elim none [ ]
 
       unopened : (e : SessionEnd) → IsUnopened first z e → PutsEnd e.end → Runs (outcome_of e)
-      unopened e x line = unopened_by e x.fault (why_unopened t m b first.file x.fault plain
+      unopened e x line = unopened_by e x.fault (why_refused t m b first.file x.fault
           (opens_first t m b old first mount told o)
           (x.opening.refused (told_first t m b old first mount told o))) x.opening x.ended line
 

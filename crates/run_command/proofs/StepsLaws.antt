@@ -11,13 +11,15 @@ use Rattle.disk_face.specs.declared.bay.Mounted.TheVariants.{Absent, There}
 use Rattle.disk_face.proofs.FrameLaws.{Untouched-then}
 use Rattle.size_class.specs.declared.TheConstants.{CLASSES, SIZE_MAX}
 use Rattle.table_rules.specs.Opening.{Opens}
+use Rattle.reopen.specs.Refusals.{RefusesToOpen}
 use Rattle.store_model.specs.Connection.{StoreValue}
-use Rattle.store_model.specs.Opened.{IsOpening, RefusesStore}
+use Rattle.store_model.specs.Opened.{IsOpening}
 use Rattle.reopen.specs.declared.fault.OpenFault.{OpenFault}
 use Rattle.command_face.specs.declared.status.TheConstants.{DISK_FAILED, DONE, NO_FILE, NO_MEMORY, NO_STORE, SINK_FAILED, SOURCE_FAILED}
 use Rattle.command_face.specs.Mounting.{IsMounted, mounted}
 use Rattle.command_face.specs.Refusing.{stop_of}
-use Rattle.served_file.specs.Unserved.{IsRefusedService, NeverServed}
+use Rattle.command_face.specs.Refusing.{IsRefused}
+use Rattle.served_file.specs.Unserved.{NeverServed}
 use Rattle.run_command.specs.Headline.{HasMounted, IsKeptTurn, is_session}
 use Rattle.ask_session.specs.Outside.{Held, Outside, Seen, held, outside, outside_of, served_devices}
 use Rattle.ask_session.specs.declared.ends.End.{End}
@@ -28,7 +30,7 @@ use Rattle.command_face.specs.declared.stop.StopReason.TheVariants as stop
 use Rattle.run_command.specs.declared.run.SessionEnd.{SessionEnd}
 use Rattle.run_command.proofs.ClauseLaws.{SessionKeeps, session_keeps}
 use Rattle.command_face.proofs.UnopenedLaws.{status_unopened, not_status, disk_by, mount_untouched}
-use Rattle.served_file.proofs.RefusedLaws.{opened_plain, refused_unchanged, refuses_service}
+use Rattle.served_file.proofs.RefusedLaws.{refused_unchanged, refuses}
 
 -- the devices, the mount, and the turn that is told
 pub record Whole (file : List ℕ) (before now : Outside) (same : Type 0) (e : SessionEnd) : Type 0 where
@@ -275,15 +277,15 @@ module _ {D I O : Type 0} (seen : Seen D I O) (file : List ℕ) (before now : He
           let k = keeps_of y in
           absurd (elim status as (λ _. ⊥) [ inl n ↦ k.served (inl n) | inr n ↦ k.served (inr (inl n)) ])
 
-  -- a file that isn't served ends the command as its first refusal says, or as its version does
+  -- a file that isn't served ends the command as its first refusal says
   pub refused_by : IsTrue old.tells → NeverServed old.file
       → RunSteps seen file before now e
-      → EndsBy (IsRefusedService old.file) [] e.end × (now.sink ≡ before.sink)
+      → EndsBy (IsRefused old.file) [] e.end × (now.sink ≡ before.sink)
   refused_by told never (inl (is, source, sink)) = (
-    elim is.which as (λ _. EndsBy (IsRefusedService old.file) [] e.end) [
-      | inl failed ↦ subst (λ (y : SessionEnd). EndsBy (IsRefusedService old.file) [] y.end) (sym failed.0)
+    elim is.which as (λ _. EndsBy (IsRefused old.file) [] e.end) [
+      | inl failed ↦ subst (λ (y : SessionEnd). EndsBy (IsRefused old.file) [] y.end) (sym failed.0)
           (inr refl)
-      | inr gone ↦ subst (λ (y : SessionEnd). EndsBy (IsRefusedService old.file) [] y.end) (sym gone.0) refl
+      | inr gone ↦ subst (λ (y : SessionEnd). EndsBy (IsRefused old.file) [] y.end) (sym gone.0) refl
     ],
     sink,
   )
@@ -298,15 +300,15 @@ module _ {D I O : Type 0} (seen : Seen D I O) (file : List ℕ) (before now : He
       never_opened : (a : State) (s : StoreValue) → IsOpening CLASSES (seen.disk x.first) a (Ok s) → ⊥
       never_opened a s is =
           let o = is.opened told_first in
-          never o.m o.b (opened_plain (seen.disk x.first) a s told_first is)
+          never o.m o.b
           (subst (λ (f : List ℕ). Opens CLASSES SIZE_MAX f o.m o.b) same_file
           (record { table = o.table; opens = o.found }))
 
       by : OpenRunSteps seen (held x.first before.source before.sink) now e
-          → EndsBy (IsRefusedService old.file) [] e.end × (now.sink ≡ before.sink)
+          → EndsBy (IsRefused old.file) [] e.end × (now.sink ≡ before.sink)
       by (inl (inl is, source, sink)) = (
-        subst (λ (y : SessionEnd). EndsBy (IsRefusedService old.file) [] y.end) (sym is.ended)
-            (refuses_service old.file is.fault (subst (λ (f : List ℕ). RefusesStore CLASSES f is.fault)
+        subst (λ (y : SessionEnd). EndsBy (IsRefused old.file) [] y.end) (sym is.ended)
+            (refuses old.file is.fault (subst (λ (f : List ℕ). RefusesToOpen CLASSES f is.fault)
             same_file (is.opening.refused told_first))),
         sink,
       )

@@ -17,7 +17,6 @@ use Rattle.segment_layout.specs.Bounds.{Loose}
 use Rattle.table_rules.specs.Opening.{OpensBy}
 use Rattle.table_rules.specs.Sequences.{HasSequenceUpTo}
 use Rattle.store_model.specs.States.{Limits, State, served}
-use Rattle.store_model.specs.Plain.{IsPlain}
 use Rattle.store_model.specs.Opened.{ContinuesFrom, LeavesRoom, RestsOnFound}
 use Rattle.ask_text.specs.Inputs.{Asks}
 use Rattle.ask_text.specs.Replies.{reply_text}
@@ -234,9 +233,9 @@ pub record RunHolds (found : Found) (requests : List Request) (end : List ℕ) (
       + saves_after o.status (limits_with found.block) (last_state start ran.states) ran.others
       ≤ most_left found.block.k found.table
 
--- The headline: so it is of every file of version 1 that opens, and of every input.
+-- The headline: so it is of every file that opens, and of every input.
 abbrev pub RunPromise : Outcome → Devices → Devices → SourceState → SourceState → Type 0
 RunPromise o old new from rest =
     (t : choice.SlotTable) (m : Map) (b : Book) (requests : List Request) (end : List ℕ)
-    → IsPlain b → OpensBy CLASSES SIZE_MAX t old.disk.file m b → Asks from.left requests end
+    → OpensBy CLASSES SIZE_MAX t old.disk.file m b → Asks from.left requests end
     → RunHolds (found_by t m b) requests end o old new from rest

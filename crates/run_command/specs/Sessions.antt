@@ -134,7 +134,7 @@ pub record HasCounted (o : Outcome) (told mounted : Type 0) : Type 0 where
 
 -- What the command that serves requests does whatever the file and the devices tell. Where no request was
 -- read the input is as it was, and the fault line is all that is put; where the file isn't there or is
--- refused, it stays as it was. One of version 1 that opens isn't refused.
+-- refused, it stays as it was. One that opens isn't refused.
 pub record RunAlways (o : Outcome) (old new : Devices) (from rest : SourceState)
     (same_input : Type 0) : Type 0 where
   pub keeps : KeepsRun old new from rest o.status

@@ -7,7 +7,6 @@ ghost use Rattle.segment_layout.specs.Books.{Book};
 ghost use Rattle.map_model.specs.Maps.{Map};
 ghost use Rattle.map_model.specs.Requests.{Request};
 ghost use Rattle.table_rules.specs.Opening.{OpensBy};
-ghost use Rattle.store_model.specs.Plain.{IsPlain};
 ghost use Rattle.ask_text.specs.Inputs.{Asks};
 ghost use Rattle.ask_session.specs.Runs.{budget};
 ghost use Rattle.command_face.specs.Mounting.{IsMounted, mounted};
@@ -19,13 +18,13 @@ use command_face::{DISK_FAILED, DONE, NO_FILE, NO_MEMORY, Outcome};
 use disk_face::{Bay, Mounted, Sink, Source};
 use size_class::{CLASSES, SIZE_MAX};
 
-/// Where the words are `run FILE`, the mount finds the file, it opens to a book of version 1, the input asks
-/// for fewer than 2^32 requests and has nothing behind them, and no count of failures rises, each request is
-/// answered or memory is wanting before the first.
+/// Where the words are `run FILE`, the mount finds the file, it opens, the input asks for fewer than 2^32
+/// requests and has nothing behind them, and no count of failures rises, each request is answered or memory
+/// is wanting before the first.
 pub fn requests_are_served<B: Bay, I: Source, O: Sink>()
     ensures { (t : choice.SlotTable) (m : Map) (b : Book) (file : List ℕ) (requests : List Request)
         (o : Outcome)
-        (old new : B) (from rest : I) (out after : O) → IsPlain b
+        (old new : B) (from rest : I) (out after : O)
         → OpensBy CLASSES SIZE_MAX t (B.state old).file m b
         → Asks (I.state from).left requests [] → length requests < budget
         → RunPromise o (devices (B.state old) (O.state out)) (devices (B.state new) (O.state after))

@@ -6,7 +6,8 @@ ghost use Rattle.store_model.specs.Opened.{IsOpening};
 ghost use Rattle.store_model.specs.Stores.{IsStore};
 ghost use Rattle.ask_session.specs.Outside.{held, seen_by};
 ghost use Rattle.command_face.specs.Mounting.{IsMounted};
-ghost use Rattle.served_file.specs.Unserved.{IsRefusedService, NeverServed};
+ghost use Rattle.command_face.specs.Refusing.{IsRefused};
+ghost use Rattle.served_file.specs.Unserved.{NeverServed};
 ghost use Rattle.run_command.specs.Headline.{RunPromise, is_session};
 ghost use Rattle.command_face.specs.Outcomes.{Ends};
 ghost use Rattle.disk_face.specs.Devices.{devices};
@@ -44,7 +45,7 @@ pub fn run_file<B: Bay, I: Source, O: Sink>(
         → RunPromise result (devices (B.state bay.old) (O.state output.old))
         (devices (B.state bay.new) (O.state output.new)) (I.state input.old) (I.state input.new) }
     ensures refused { IsTrue (B.state bay.old).tells → NeverServed (B.state bay.old).file
-        → Ends (IsRefusedService (B.state bay.old).file) result.status (O.state output.old)
+        → Ends (IsRefused (B.state bay.old).file) result.status (O.state output.old)
         (O.state output.new) }
     ensures known { (is_session result.status ≡ true) ⊎ (result.status ≡ NO_STORE) }
     ensures mounted { IsMounted file.now false (B.state bay.new).last_mount (result.status ≡ DISK_FAILED)

@@ -1,9 +1,7 @@
--- A file that isn't served ends a command as its refusal says, or as its version does.
+-- A file that isn't served ends a command as its refusal says.
 use Rattle.std.specs.Prelude.{◌≡◌, ℕ, List, [], None, Result, Ok, Err, IsTrue, refl}
 use Rattle.std.proofs.Common.{arith, ap, sym, ◌∙◌, subst, inl, inr}
 use Rattle.size_class.specs.declared.TheConstants.{CLASSES, SIZE_MAX}
-use Rattle.slot_codec.proofs.ChoiceLaws.{table_chosen}
-use Rattle.slot_codec.proofs.StepLaws.{from_ok}
 use Rattle.slot_codec.specs.Choice as choice
 use Rattle.slot_pair.specs.declared.find.SlotFault.TheVariants as slot
 use Rattle.map_model.specs.Maps.{Map}
@@ -16,21 +14,20 @@ use Rattle.disk_face.specs.States.{State}
 use Rattle.disk_face.specs.Frames.{AfterMount, Unchanged}
 use Rattle.store_model.specs.States as store_state
 use Rattle.store_model.specs.Connection.{StoreValue}
-use Rattle.store_model.specs.Opened.{IsOpening, RefusesStore, RefusesUnchanged}
-use Rattle.store_model.specs.Plain.{IsPlain}
+use Rattle.store_model.specs.Opened.{IsOpening, RefusesUnchanged}
 use Rattle.command_face.specs.declared.status.TheConstants.{NO_STORE}
 use Rattle.command_face.specs.Outcomes.{EndsBy, status_of}
 use Rattle.command_face.specs.Refusing.{IsRefused, stop_of}
 use Rattle.command_face.specs.declared.stop.StopReason.{StopReason}
 use Rattle.command_face.proofs.UnopenedLaws.{opens_or_not}
-use Rattle.served_file.specs.Unserved.{IsRefusedService, NeverServed}
+use Rattle.served_file.specs.Unserved.{NeverServed}
 
 -- opening it failed for want of a device or of memory
 pub data WhyUnopened : OpenFault → Type 0 where
   disk : WhyUnopened (opening.Slot slot.Disk)
   memory : WhyUnopened opening.NoMemory
 
-why_refused : (t : choice.SlotTable) (m : Map) (b : Book) (file : List ℕ) (why : OpenFault)
+pub why_refused : (t : choice.SlotTable) (m : Map) (b : Book) (file : List ℕ) (why : OpenFault)
     → OpensBy CLASSES SIZE_MAX t file m b → RefusesToOpen CLASSES file why → WhyUnopened why
 why_refused t m b file (opening.Slot slot.Disk) o is = disk
 why_refused t m b file opening.NoMemory o is = memory
@@ -41,25 +38,6 @@ why_refused t m b file (opening.Slot slot.SameSequence) o is = absurd (let read 
 why_refused t m b file (opening.Slot (slot.Codec f at)) o is = absurd (let read = o.read in cc)
 why_refused t m b file (opening.Table broken) o is =
     absurd (opens_or_not file m b (opening.Table broken) (record { table = t; opens = o }) is)
-
--- a table of version 2 gives a book with digests
-digested : (t : choice.SlotTable) (m : Map) (b : Book) (file : List ℕ) → OpensBy CLASSES SIZE_MAX t file m b
-    → t.chosen.header.version ≡ 2 → IsPlain b → ⊥
-digested t m b file o two plain =
-    let read = table_chosen file t o.read in
-    let some : choice.digests_in 2 read.1 ≡ None =
-    ap (λ v. choice.digests_in v read.1) (sym two) ∙ ap (λ (x : choice.SlotTable). x.digests) read.3
-    ∙ sym (ap (λ (x : Book). x.digests) o.same_book) ∙ plain in
-    cc
-
--- and isn't opened for that of its version
-pub why_unopened : (t : choice.SlotTable) (m : Map) (b : Book) (file : List ℕ) (why : OpenFault)
-    → IsPlain b → OpensBy CLASSES SIZE_MAX t file m b → RefusesStore CLASSES file why → WhyUnopened why
-why_unopened t m b file why plain o (inl refused) = why_refused t m b file why o refused
-why_unopened t m b file why plain o (inr is) =
-    let same : is.table ≡ t = from_ok is.table t (sym is.opens.read ∙ o.read) in
-    absurd (digested t m b file o
-    (sym (ap (λ (x : choice.SlotTable). x.chosen.header.version) same) ∙ is.version) plain)
 
 -- a file that isn't opened for what its bytes show is never served
 not_four : (why : OpenFault) → WhyUnopened why → status_of (stop_of why) ≡ NO_STORE → ⊥
@@ -72,10 +50,10 @@ not_four (opening.Slot slot.SameSequence) none four = elim none [ ]
 not_four (opening.Slot (slot.Codec f at)) none four = elim none [ ]
 not_four (opening.Table broken) none four = elim none [ ]
 
-pub unopened_never : (file : List ℕ) (why : OpenFault) → RefusesStore CLASSES file why
+pub unopened_never : (file : List ℕ) (why : OpenFault) → RefusesToOpen CLASSES file why
     → status_of (stop_of why) ≡ NO_STORE → NeverServed file
-unopened_never file why refused four m b plain opens =
-    not_four why (why_unopened opens.table m b file why plain opens.opens refused) four
+unopened_never file why refused four m b opens =
+    not_four why (why_refused opens.table m b file why opens.opens refused) four
 
 -- a refusal that isn't the disk's changes nothing
 pub refused_unchanged : (a b : State) (why : OpenFault) → status_of (stop_of why) ≡ NO_STORE
@@ -90,21 +68,8 @@ refused_unchanged a b (opening.Slot (slot.Codec f at)) four is = is
 refused_unchanged a b (opening.Table broken) four is = is
 refused_unchanged a b opening.NoMemory four is = is
 
--- what is answered so may be answered more widely
-ends_wider : (few more : Result (List ℕ) StopReason → Type 0)
-    → ((a : Result (List ℕ) StopReason) → few a → more a)
-    → (why : OpenFault) → EndsBy few [] (Err (stop_of why)) → EndsBy more [] (Err (stop_of why))
-ends_wider few more wider (opening.Slot slot.Disk) is = inr refl
-ends_wider few more wider opening.NoMemory is = refl
-ends_wider few more wider (opening.Slot slot.Short) is = (wider _ is.0, refl)
-ends_wider few more wider (opening.Slot slot.Unformatted) is = (wider _ is.0, refl)
-ends_wider few more wider (opening.Slot slot.NoGate) is = (wider _ is.0, refl)
-ends_wider few more wider (opening.Slot slot.SameSequence) is = (wider _ is.0, refl)
-ends_wider few more wider (opening.Slot (slot.Codec f at)) is = (wider _ is.0, refl)
-ends_wider few more wider (opening.Table broken) is = (wider _ is.0, refl)
-
 -- a refusal ends a command as the first refusal of the file says
-refuses : (file : List ℕ) (why : OpenFault) → RefusesToOpen CLASSES file why
+pub refuses : (file : List ℕ) (why : OpenFault) → RefusesToOpen CLASSES file why
     → EndsBy (IsRefused file) [] (Err (stop_of why))
 refuses file (opening.Slot slot.Disk) is = inr refl
 refuses file (opening.Slot slot.Short) is =
@@ -126,27 +91,6 @@ refuses file (opening.Slot (slot.Codec f at)) is = (
 refuses file (opening.Table broken) is =
     (record { fault = opening.Table broken; first = is; same = refl }, refl)
 refuses file opening.NoMemory is = refl
-
--- or as the fault of its version does
-pub refuses_service : (file : List ℕ) (why : OpenFault) → RefusesStore CLASSES file why
-    → EndsBy (IsRefusedService file) [] (Err (stop_of why))
-refuses_service file why (inl is) =
-    ends_wider (IsRefused file) (IsRefusedService file) (λ a is. inl is) why (refuses file why is)
-refuses_service file why (inr is) =
-    subst (λ (w : OpenFault). EndsBy (IsRefusedService file) [] (Err (stop_of w))) (sym is.same) (
-      inr (record {
-        fault = why;
-        unserved = is;
-        same = ap (λ (w : OpenFault). Err (stop_of w)) (sym is.same);
-      }),
-      refl,
-    )
-
--- a store that was opened has a book of version 1
-pub opened_plain : (a b : State) (s : StoreValue) (told : IsTrue a.tells) (is : IsOpening CLASSES a b (Ok s))
-    → IsPlain (is.opened told).b
-opened_plain a b s told is = sym (ap (λ (x : store_state.State). x.book.digests) (is.opened told).state)
-    ∙ is.fresh.plain
 
 -- the file that was mounted is the one that the call began with
 pub never_mounted : (old first z : State) (why : OpenFault) → AfterMount old first

@@ -6,7 +6,7 @@ use disk_face::Disk;
 use plain_layout::Refusal;
 use row_vectors::Outcome;
 use row_vectors::images::{Change, HELLO_DIGESTED, disk};
-use row_vectors::runs::{run_on, session};
+use row_vectors::runs::run_on;
 use slot_codec::CodecFault;
 use slot_pair::SlotFault;
 use std::alloc::Global;
@@ -151,20 +151,4 @@ fn answers_from_a_file_of_version_2(rt: HostRuntime) {
     for (words, puts) in ANSWERS {
         try_answer(&rt, rt.alloc(), *words, *puts);
     }
-}
-
-/// A session over a file of version 2 ends before it reads its input, and changes nothing.
-#[test]
-fn serves_no_session_over_a_file_of_version_2(rt: HostRuntime) {
-    let file = got(&rt, disk(rt.alloc(), 19608, &OTHER, &[]));
-    let served = got(&rt, session(rt.alloc(), file, b"get a\n".as_slice(), 1));
-    let refused = Outcome { status: 4, ..ENDED };
-    try_outcome(&rt, served.outcome, refused, &"session");
-    try_bytes(
-        &rt,
-        &served.put,
-        b"fault store codec 3 at 9833\n",
-        &"session",
-    );
-    try_number(&rt, served.disk.turns(), 0, &"session");
 }

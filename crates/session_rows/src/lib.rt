@@ -56,4 +56,6 @@ mod stops;
 #[cfg(test)]
 mod texts;
 #[cfg(test)]
+mod versions;
+#[cfg(test)]
 mod works;

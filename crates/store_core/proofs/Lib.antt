@@ -1,6 +1,5 @@
 pub mod CauseLaws
 pub mod StepLaws
-pub mod PlainLaws
 pub mod ReadingLaws
 pub mod PlanLaws
 pub mod BackLaws

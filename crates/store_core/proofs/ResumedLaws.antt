@@ -1,8 +1,8 @@
 -- The store of a moving table whose flush went on to its end.
 use Rattle.std.specs.FinMap as fin
-use Rattle.std.specs.Prelude.{◌≡◌, ℕ, ◌+◌, ◌-◌, ◌*◌, ◌<◌, ◌≤◌, ◌==◌, ◌^◌, false, true, List, [], length, slice_index, Some, None, Err, Ok, IsTrue, refl}
+use Rattle.std.specs.Prelude.{◌≡◌, ℕ, ◌+◌, ◌-◌, ◌*◌, ◌<◌, ◌≤◌, ◌^◌, false, true, List, [], length, slice_index, Err, Ok, IsTrue, refl}
 use Rattle.std.proofs.Common.{arith, ap, sym, ◌∙◌, subst, inl, inr}
-use Rattle.std.proofs.lemmas.Bool.{cases_lt, cond-false}
+use Rattle.std.proofs.lemmas.Bool.{cases_lt}
 use Rattle.std.proofs.lemmas.List.Sorted.{IsPermutation-sym}
 use Rattle.disk_face.specs.States as disk
 use Rattle.disk_face.specs.Counts.{HasCause}
@@ -171,7 +171,7 @@ module _ {C : ℕ} (x : Loaded C) (loads : KeepsLoaded x) (moving : x.header.kin
       opened = λ told. tt;
       over = λ told. tt;
       fresh = tt;
-      refused = λ told. inl tt;
+      refused = λ told. tt;
       found = λ told t m b o.
           found_by (found_one C (table_loaded x) t first.file _ m _ b (from told).opens o) (record {
             content = content_again x loads moving few wide y starts p packs first last
@@ -279,16 +279,14 @@ module _ {C : ℕ} (x : Loaded C) (loads : KeepsLoaded x) (moving : x.header.kin
           let seen = ap (λ (b : Book). with_digests (saved_digests (parts_of hands)) b) shown in
           record { in_use = refl; same_now = refl; kept = refl; book = seen; kept_book = seen }
 
-      again_fresh : (x.header.version == 2) ≡ false → IsFresh C s
-      again_fresh other = record {
+      again_fresh : IsFresh C s
+      again_fresh = record {
         whole = refl;
         store = ended_store hands any.0 last any_ends names_now block_now fits s is_flushed;
         same_now = refl;
         same_book = refl;
         moved = refl;
         asked = refl;
-        plain = (λ i. digests_seen (same_version i) hands.table.digests)
-            ∙ cond-false (x.header.version == 2) (Some hands.table.digests) None other;
       }
 
       module _ (told : IsTrue first.tells) where
@@ -353,15 +351,15 @@ module _ {C : ℕ} (x : Loaded C) (loads : KeepsLoaded x) (moving : x.header.kin
             alone = again_alone told;
           }
 
-      pub again_done : (x.header.version == 2) ≡ false → {T E : Type 0} (z : T) →
+      pub again_done : {T E : Type 0} (z : T) →
           CallsSoFar first.turn last.turn y.moved
           (cells_of hands.ledger.moved) 2 (hands.slots.sequence - y.in_use.sequence) (fin.len y.table.now)
           → HasCause {E = E} first.faults last.faults (Ok z) → IsOpening C first last (Ok s)
-      again_done other z calls cause = record {
+      again_done z calls cause = record {
         opened = λ told. again_opened told;
         over = λ told. ended_over hands (f told) last (told_ends told) names_now block_now fits s is_flushed
             (base_now told) (still_told told);
-        fresh = again_fresh other;
+        fresh = again_fresh;
         refused = λ told. tt;
         found = λ told t m b o.
             found_by (found_one C (table_loaded x) t first.file _ m _ b (from told).opens o)

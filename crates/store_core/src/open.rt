@@ -22,14 +22,14 @@ use held_guard::Guard;
 use reopen::{BoxedLoaded, OpenFault, load_state};
 use segment_layout::Layout;
 use size_class::SIZE_MAX;
-use slot_codec::{CodecFault, Kind, NoMemory, head_len};
+use slot_codec::{Kind, NoMemory, head_len};
 use slot_pair::SlotFault;
 use std::alloc::Global;
 
 impl<const C: usize> Store<C> {
     /// Opens a file: the store has the map that the file opens to, as it stands and as its last
-    /// checkpoint. Over a file of version 2 no store is opened. A file that is longer than its layout is
-    /// cut, and a flush that was interrupted goes on to its end, in which at most one save comes before
+    /// checkpoint. It saves tables of the version of the one it found. A file that is longer than its layout
+    /// is cut, and a flush that was interrupted goes on to its end, in which at most one save comes before
     /// each move, and one at the end. All memory is taken before anything is changed.
     pub fn open<D: Disk>(alloc: Global, disk: &mut D) -> Result<Store<C>, OpenFault>
         requires ready { IsTrue (D.state disk.old).is_ready }
@@ -38,12 +38,7 @@ impl<const C: usize> Store<C> {
         ensures { IsOpening C (D.state disk.old) (D.state disk.new) result }
     {
         let found = load_state(alloc, disk)?;
-        let (version, kind) = (found.header.version, found.header.kind);
-        if version == 2 {
-            let at = found.slots.place();
-            return Err(OpenFault::Slot(SlotFault::Codec(CodecFault::Version, at)));
-        }
-        match kind {
+        match found.header.kind {
             Kind::Settled => open_still(alloc, disk, found),
             Kind::Moving => open_moving(alloc, disk, found),
         }
@@ -61,7 +56,6 @@ fn open_still<D: Disk, const C: usize>(
     requires wide { SIZE_MAX < 2 ^ C }
     requires loads { KeepsLoaded (unboxed found) }
     requires still { found.header.value.kind ≡ kind.Settled }
-    requires plain { (found.header.value.version == 2) ≡ false }
     requires from { IsTrue (D.state disk.old).tells → IsLoadedFrom (D.state disk.old).file (unboxed found) }
     ensures { IsOpening C (D.state disk.old) (D.state disk.new) result }
 {
@@ -112,7 +106,6 @@ fn open_moving<D: Disk, const C: usize>(
     requires wide { SIZE_MAX < 2 ^ C }
     requires loads { KeepsLoaded (unboxed found) }
     requires moving { found.header.value.kind ≡ kind.Moving }
-    requires plain { (found.header.value.version == 2) ≡ false }
     requires from { IsTrue (D.state disk.old).tells → IsLoadedFrom (D.state disk.old).file (unboxed found) }
     ensures { IsOpening C (D.state disk.old) (D.state disk.new) result }
 {
@@ -134,7 +127,6 @@ fn go_on<D: Disk, const C: usize>(
     requires wide { SIZE_MAX < 2 ^ C }
     requires loads { KeepsLoaded (unboxed found) }
     requires moving { found.header.value.kind ≡ kind.Moving }
-    requires plain { (found.header.value.version == 2) ≡ false }
     requires from { IsTrue (D.state disk.old).tells → IsLoadedFrom (D.state disk.old).file (unboxed found) }
     requires none { memory.guard.spans ≡ [] }
     requires guard_room { memory.guard.room ≡ found.block.names }

@@ -1,5 +1,4 @@
 pub mod StateLaws
-pub mod PlainLemmas
 pub mod VersionLaws
 pub mod DigestLaws
 pub mod StoreLaws

@@ -1,6 +1,6 @@
 -- What opening finds in a file, and that each image that is alike on its table opens to the same.
 use Rattle.std.specs.Prelude.{◌≡◌, ℕ, ◌+◌, ◌-◌, ◌≤◌, ◌<◌, List, length, slice_index_or, Ok, Err, IfOk, IfErr, IsTrue, Result, refl}
-use Rattle.std.proofs.Common.{arith, ap, inl, sym, ◌∙◌, subst}
+use Rattle.std.proofs.Common.{arith, ap, sym, ◌∙◌, subst}
 use Rattle.byte_ranges.specs.Ranges.{SameBelow, SameWithin}
 use Rattle.disk_face.specs.States as disk
 use Rattle.disk_face.specs.Frames.{Unchanged}
@@ -30,10 +30,11 @@ use Rattle.placement_model.proofs.OpenedLaws.{opens_long, record_within}
 use Rattle.placement_model.proofs.ReadLaws.{record_at, spot_of_record}
 use Rattle.flush_run.specs.Calls.{piece_calls}
 use Rattle.flush_run.proofs.CallLaws.{calls_none, calls_wider}
+use Rattle.reopen.specs.Refusals.{RefusesToOpen}
 use Rattle.reopen.specs.declared.fault.OpenFault.{OpenFault}
 use Rattle.reopen.specs.declared.fault.OpenFault.TheVariants as fault
 use Rattle.store_model.specs.Connection.{IsOver, StoreValue, SameOnTable, base_of, state_of}
-use Rattle.store_model.specs.Opened.{HasOpenCalls, IsFoundImage, IsOpened, IsOpening, OpensFound, RefusesStore, RefusesUnchanged, RestsOnFound, SameOnFound, found_base, MostCallsOf, most_by, most_found, state_at}
+use Rattle.store_model.specs.Opened.{HasOpenCalls, IsFoundImage, IsOpened, IsOpening, OpensFound, RefusesUnchanged, RestsOnFound, SameOnFound, found_base, MostCallsOf, most_by, most_found, state_at}
 use Rattle.store_model.specs.Stores.{IsStore}
 use Rattle.store_model.proofs.OverLaws.{by_index, head_is}
 
@@ -203,7 +204,7 @@ no_memory classes a ready =
       opened = λ told. tt;
       over = λ told. tt;
       fresh = tt;
-      refused = λ told. inl tt;
+      refused = λ told. tt;
       found = λ told t m b o. stops_unchanged same told o fault.NoMemory;
       unchanged = same;
       closed = λ told none. same;
@@ -223,7 +224,7 @@ refuses_same a m (fault.Table broken) same = same
 refuses_same a m fault.NoMemory same = same
 
 pub refused_reading : {T : Type 0} (classes : ℕ) (a m : disk.State) (why : OpenFault) → Unchanged a m
-    → (IsTrue a.tells → RefusesStore classes a.file why)
+    → (IsTrue a.tells → RefusesToOpen classes a.file why)
     → HasDiskCause {T = T} (fault.Slot slot.Disk) a.faults m.faults (Err why)
     → IsOpening classes a m (Err why)
 refused_reading classes a m why same refused cause = record {
@@ -271,7 +272,7 @@ module _ {classes : ℕ} {a m d : disk.State} (same : Unchanged a m) (calm : m.f
         (next.opened (still_tells told));
     over = λ told. next.over (still_tells told);
     fresh = next.fresh;
-    refused = λ told. subst (λ f. IfErr result (RefusesStore classes f)) (same.same_file told)
+    refused = λ told. subst (λ f. IfErr result (RefusesToOpen classes f)) (same.same_file told)
         (next.refused (still_tells told));
     found = λ told t n b o. opens_then same told o (next.found (still_tells told) t n b
         (subst (λ f. OpensBy classes SIZE_MAX t f n b) (sym (same.same_file told)) o));

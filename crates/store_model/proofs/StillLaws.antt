@@ -1,5 +1,5 @@
 -- The file of a settled table that was read, where opening cuts it or its disk fails.
-use Rattle.std.specs.Prelude.{◌≡◌, ℕ, ◌+◌, ◌-◌, ◌<◌, ◌≤◌, ◌^◌, nat_lt, List, length, Ok, Err, IsTrue, Result, ◌==◌, false, refl}
+use Rattle.std.specs.Prelude.{◌≡◌, ℕ, ◌+◌, ◌-◌, ◌<◌, ◌≤◌, ◌^◌, nat_lt, List, length, Ok, Err, IsTrue, Result, refl}
 use Rattle.std.proofs.Common.{arith, ap, sym, ◌∙◌, subst, inl, inr}
 use Rattle.std.proofs.lemmas.Bool.{cases_lt, lt-ltb, le-ltb, cond-false, cond-true}
 use Rattle.disk_face.specs.States as disk
@@ -32,7 +32,7 @@ use Rattle.store_model.proofs.OverLaws.{same_itself}
 use Rattle.store_model.proofs.StillStoreLaws.{same_base, book_is, book_ends, still_over, still_state, len_low, resized_image, cut_len, cut_opens, cut_slot, still_fresh}
 
 module _ {C : ℕ} (x : Loaded C) (loads : KeepsLoaded x) (still : x.header.kind ≡ kind.Settled) (few : C ≤ 32)
-    (wide : SIZE_MAX < 2 ^ C) (other : (x.header.version == 2) ≡ false) where
+    (wide : SIZE_MAX < 2 ^ C) where
   abbrev k : ℕ
   k = x.block.k
 
@@ -138,7 +138,7 @@ module _ {C : ℕ} (x : Loaded C) (loads : KeepsLoaded x) (still : x.header.kind
         opened = λ told. tt;
         over = λ told. tt;
         fresh = tt;
-        refused = λ told. inl tt;
+        refused = λ told. tt;
         found = λ told t m b o.
             found_by (found_one C (table_loaded x) t first.file _ m _ b (from told).opens o) (record {
               content = λ room. still_content told cut;
@@ -254,7 +254,7 @@ module _ {C : ℕ} (x : Loaded C) (loads : KeepsLoaded x) (still : x.header.kind
         over = λ told. let e = ends y cut told in
             still_over x loads still few wide last.file (done_map y cut told) (done_book y cut told)
             e.slot e.opens e.long;
-        fresh = still_fresh x loads still few wide other;
+        fresh = still_fresh x loads still few wide;
         refused = λ told. tt;
         found = λ told t m b o.
             found_by (found_one C (table_loaded x) t first.file _ m _ b (from told).opens o)

@@ -1,5 +1,5 @@
 -- The store of a settled table that was read from a file, over that file and once it is cut.
-use Rattle.std.specs.Prelude.{◌≡◌, ℕ, ◌+◌, ◌-◌, ◌<◌, ◌≤◌, ◌^◌, nat_lt, cond, List, length, take, slice_index, Some, None, Ok, ◌==◌, false, refl}
+use Rattle.std.specs.Prelude.{◌≡◌, ℕ, ◌+◌, ◌-◌, ◌<◌, ◌≤◌, ◌^◌, nat_lt, cond, List, length, take, slice_index, Ok, refl}
 use Rattle.std.proofs.Common.{arith, ap, sym, ◌∙◌, subst, inl, inr}
 use Rattle.std.proofs.lemmas.Bool.{le-ltb, cond-false}
 use Rattle.std.specs.FinMap as fin
@@ -259,13 +259,12 @@ module _ {C : ℕ} (x : Loaded C) (loads : KeepsLoaded x) (still : x.header.kind
         fuller = CellsRise-itself grid;
       })
 
-  pub still_fresh : (x.header.version == 2) ≡ false → IsFresh C s
-  still_fresh other = record {
+  pub still_fresh : IsFresh C s
+  still_fresh = record {
     whole = refl;
     store = still_store;
     same_now = refl;
     same_book = refl;
     moved = refl;
     asked = refl;
-    plain = cond-false (x.header.version == 2) (Some x.table.digests) None other;
   }

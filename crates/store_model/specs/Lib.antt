@@ -8,6 +8,5 @@ pub mod Flushed
 pub mod Lines
 pub mod Flushing
 pub mod Charges
-pub mod Plain
 pub mod Opened
 pub mod Resuming

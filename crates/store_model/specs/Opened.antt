@@ -24,7 +24,6 @@ use Rattle.reopen.specs.declared.fault.OpenFault.TheVariants as fault
 use Rattle.slot_pair.specs.Finding.{HasDiskCause}
 use Rattle.slot_pair.specs.declared.find.SlotFault.TheVariants as slot
 use Rattle.store_model.specs.Connection.{IsOver, StoreValue, RestsOnTable, base_of, state_of}
-use Rattle.store_model.specs.Plain.{IsPlain, IsUnserved}
 use Rattle.store_model.specs.Stores.{IsStore}
 use Rattle.store_model.specs.States.{State}
 
@@ -95,7 +94,7 @@ pub record IsOpened (classes : ℕ) (file now : List ℕ) (s : StoreValue) : Typ
   pub state : state_of s now ≡ state_at m b s.in_use.sequence
   pub continues : ContinuesFrom table.chosen.header.kind table.chosen.header.sequence s.in_use.sequence
 
--- A store as it is opened: it isn't broken, nothing was moved or asked for yet, and it is of version 1.
+-- A store as it is opened: it isn't broken, and nothing was moved or asked for yet.
 pub record IsFresh (classes : ℕ) (s : StoreValue) : Type 0 where
   pub whole : s.is_broken ≡ false
   pub store : IsStore classes s
@@ -103,7 +102,6 @@ pub record IsFresh (classes : ℕ) (s : StoreValue) : Type 0 where
   pub same_book : s.kept_book ≡ s.book
   pub moved : s.moved ≡ zero_row
   pub asked : s.asked ≡ zero_row
-  pub plain : IsPlain s.book
 
 -- ---- the calls
 
@@ -165,25 +163,20 @@ pub record OpensFound (classes : ℕ) (t : choice.SlotTable) (m : Map) (b : Book
   pub most : MostCallsOf t.chosen.header.kind t m before.turn now.turn
   pub alone : LeavesAlone t b before now
 
--- The refusal is the first that applies to the file, or that of a version over which no store is opened.
-abbrev pub RefusesStore : ℕ → List ℕ → OpenFault → Type 0
-RefusesStore classes file why = RefusesToOpen classes file why ⊎ IsUnserved classes file why
-
 -- nothing changed where the refusal isn't that the disk failed
 abbrev pub RefusesUnchanged : disk.State → disk.State → OpenFault → Type 0
 RefusesUnchanged before now (fault.Slot slot.Disk) = Unit {0}
 RefusesUnchanged before now _ = Unchanged before now
 
 -- What opening answers and what it does. At Ok the store is over the file, and has what was found there. A
--- refusal is the first that applies, or that of version 2, and changes nothing, unless the disk or
--- memory failed; want of memory changes nothing either, and a file that opens to nothing is left alone
--- also where the disk failed.
+-- refusal is the first that applies, and changes nothing, unless the disk or memory failed; want of memory
+-- changes nothing either, and a file that opens to nothing is left alone also where the disk failed.
 pub record IsOpening (classes : ℕ) (before now : disk.State)
     (result : Result StoreValue OpenFault) : Type 0 where
   pub opened : IsTrue before.tells → IfOk result (IsOpened classes before.file now.file)
   pub over : IsTrue before.tells → IfOk result (λ s. IsOver classes s now.file)
   pub fresh : IfOk result (IsFresh classes)
-  pub refused : IsTrue before.tells → IfErr result (RefusesStore classes before.file)
+  pub refused : IsTrue before.tells → IfErr result (RefusesToOpen classes before.file)
   pub found : IsTrue before.tells → (t : choice.SlotTable) (m : Map) (b : Book)
       → OpensBy classes SIZE_MAX t before.file m b → OpensFound classes t m b before now result
   pub unchanged : IfErr result (RefusesUnchanged before now)

@@ -12,20 +12,22 @@ use Rattle.disk_face.specs.declared.bay.Mounted.TheVariants.{Absent, There}
 use Rattle.disk_face.proofs.FrameLaws.{Untouched-then}
 use Rattle.size_class.specs.declared.TheConstants.{CLASSES, SIZE_MAX}
 use Rattle.table_rules.specs.Opening.{Opens}
+use Rattle.reopen.specs.Refusals.{RefusesToOpen}
 use Rattle.store_model.specs.Connection.{StoreValue}
-use Rattle.store_model.specs.Opened.{IsOpening, RefusesStore}
+use Rattle.store_model.specs.Opened.{IsOpening}
 use Rattle.reopen.specs.declared.fault.OpenFault.{OpenFault}
 use Rattle.command_face.specs.declared.status.TheConstants.{DISK_FAILED, DONE, NO_FILE, NO_MEMORY, NO_STORE, SINK_FAILED}
 use Rattle.command_face.specs.Mounting.{IsMounted, mounted}
 use Rattle.work_command.specs.Steps.{OpenWorkSteps, WorkSteps, IsAllDone, IsNotBegun, IsRefusal, IsStoppedInJob, jobs_numbered}
 use Rattle.command_face.specs.Refusing.{stop_of}
-use Rattle.served_file.specs.Unserved.{IsRefusedService, NeverServed}
+use Rattle.command_face.specs.Refusing.{IsRefused}
+use Rattle.served_file.specs.Unserved.{NeverServed}
 use Rattle.command_face.specs.Outcomes.{EndsBy, status_at, status_of}
 use Rattle.work_command.specs.Working.{KeepsWork, has_worked, is_working}
 use Rattle.command_face.specs.declared.stop.StopReason.{StopReason}
 use Rattle.command_face.specs.declared.stop.StopReason.TheVariants as stop
 use Rattle.command_face.proofs.UnopenedLaws.{disk_by, mount_untouched, not_status, status_unopened}
-use Rattle.served_file.proofs.RefusedLaws.{opened_plain, refused_unchanged, refuses_service}
+use Rattle.served_file.proofs.RefusedLaws.{refused_unchanged, refuses}
 use Rattle.disk_face.specs.Devices.{devices}
 
 -- ---- the devices, the mount, and what was put, by the status
@@ -242,14 +244,14 @@ module _ {D : Type 0} (disk_of : D → State) (file : List ℕ) (number count : 
       by (inl (inr (inr is), same)) = in_job (disk_of x.first) x.mount x.calm x.there is same
       by (inr is) = summed (disk_of x.first) x.mount x.calm x.there is
 
-  -- a file that isn't served ends the command as its first refusal says, or as its version does
+  -- a file that isn't served ends the command as its first refusal says
   pub refused_work : IsTrue old.tells → NeverServed old.file
       → WorkSteps disk_of file (jobs_numbered number count) (devices old out) (devices z put) end
-      → EndsBy (IsRefusedService old.file) [] end × (put ≡ out)
+      → EndsBy (IsRefused old.file) [] end × (put ≡ out)
   refused_work told never (inl (is, same)) = (
-    elim is.which as (λ _. EndsBy (IsRefusedService old.file) [] end) [
-      | inl failed ↦ subst (EndsBy (IsRefusedService old.file) []) (sym failed.0) (inr refl)
-      | inr gone ↦ subst (EndsBy (IsRefusedService old.file) []) (sym gone.0) refl
+    elim is.which as (λ _. EndsBy (IsRefused old.file) [] end) [
+      | inl failed ↦ subst (EndsBy (IsRefused old.file) []) (sym failed.0) (inr refl)
+      | inr gone ↦ subst (EndsBy (IsRefused old.file) []) (sym gone.0) refl
     ],
     same,
   )
@@ -264,17 +266,17 @@ module _ {D : Type 0} (disk_of : D → State) (file : List ℕ) (number count : 
       never_opened : (a : State) (s : StoreValue) → IsOpening CLASSES (disk_of x.first) a (Ok s) → ⊥
       never_opened a s is =
           let o = is.opened told_there in
-          never o.m o.b (opened_plain (disk_of x.first) a s told_there is)
+          never o.m o.b
           (subst (λ (f : List ℕ). Opens CLASSES SIZE_MAX f o.m o.b) same_file
           (record { table = o.table; opens = o.found }))
 
       by : OpenWorkSteps disk_of (jobs_numbered number count) (devices (disk_of x.first) out)
           (devices z put) end
-          → EndsBy (IsRefusedService old.file) [] end
+          → EndsBy (IsRefused old.file) [] end
           × (put ≡ out)
       by (inl (inl is, same)) = (
-        subst (EndsBy (IsRefusedService old.file) []) (sym is.ended)
-            (refuses_service old.file is.fault (subst (λ (f : List ℕ). RefusesStore CLASSES f is.fault)
+        subst (EndsBy (IsRefused old.file) []) (sym is.ended)
+            (refuses old.file is.fault (subst (λ (f : List ℕ). RefusesToOpen CLASSES f is.fault)
             same_file (is.opening.refused told_there))),
         same,
       )

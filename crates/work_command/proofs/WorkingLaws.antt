@@ -17,7 +17,6 @@ use Rattle.store_model.specs.Connection.{StoreValue}
 use Rattle.store_model.specs.Opened.{IsFoundImage, IsOpening, LeavesRoom, RestsOnFound, SameOnFound}
 use Rattle.reopen.specs.declared.fault.OpenFault.{OpenFault}
 use Rattle.reopen.specs.declared.fault.OpenFault.TheVariants as opening
-use Rattle.store_model.specs.Plain.{IsPlain}
 use Rattle.command_face.specs.declared.status.TheConstants.{SINK_FAILED}
 use Rattle.work_command.specs.Steps.{OpenWorkSteps, WorkSteps, IsAllDone, IsNotBegun, IsRefusal, IsStoppedInJob, jobs_numbered}
 use Rattle.command_face.specs.Refusing.{stop_of}
@@ -29,7 +28,7 @@ use Rattle.command_face.specs.declared.stop.StopReason.{StopReason}
 use Rattle.command_face.specs.declared.stop.StopReason.TheVariants as stop
 use Rattle.work_command.proofs.SummaryLaws.{summary_put}
 use Rattle.served_file.proofs.FoundLaws.{found_start, found_starts, next_found}
-use Rattle.served_file.proofs.RefusedLaws.{WhyUnopened, why_unopened}
+use Rattle.served_file.proofs.RefusedLaws.{WhyUnopened, why_refused}
 use Rattle.served_file.proofs.RefusedLaws.WhyUnopened.{disk, memory}
 use Rattle.served_file.proofs.OpeningLaws.{Opened, left_first, left_opening, opened_by, opens_first, rests_first, told_first}
 use Rattle.disk_face.specs.Devices.{devices}
@@ -37,7 +36,7 @@ use Rattle.work_command.proofs.WorkLaws.{all_done, in_a_job, none_begun, none_do
 
 module _ (t : choice.SlotTable) (m : Map) (b : Book) (old : State) (lawful : IsLawful old)
     (told : IsTrue old.tells)
-    (plain : IsPlain b) (o : OpensBy CLASSES SIZE_MAX t old.file m b)
+    (o : OpensBy CLASSES SIZE_MAX t old.file m b)
     {D : Type 0} (disk_of : D → State) (number count : ℕ) (z : State) (out put after : SinkState) where
   abbrev Works : ℕ → Type 0
   Works n = WorkHolds (found_with t.chosen.block t m b) number count n (devices old out) (devices z after)
@@ -99,7 +98,7 @@ module _ (t : choice.SlotTable) (m : Map) (b : Book) (old : State) (lawful : IsL
 
       refusal : IsRefusal first z end → Works (status_at end)
       refusal x = carried (Err (stop_of x.fault)) x.ended
-          (unopened_by x.fault (why_unopened t m b first.file x.fault plain
+          (unopened_by x.fault (why_refused t m b first.file x.fault
           (opens_first t m b old first mount told o)
           (x.opening.refused (told_first t m b old first mount told o))) x.opening)
 

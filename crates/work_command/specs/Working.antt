@@ -16,7 +16,6 @@ use Rattle.segment_layout.specs.Books.{Book, book_end}
 use Rattle.table_rules.specs.Opening.{OpensBy}
 use Rattle.table_rules.specs.Sequences.{HasSequenceUpTo}
 use Rattle.store_model.specs.States.{State}
-use Rattle.store_model.specs.Plain.{IsPlain}
 use Rattle.store_model.specs.Opened.{ContinuesFrom, LeavesRoom, RestsOnFound, found_base}
 use Rattle.ask_session.specs.Runs as run
 use Rattle.ask_session.specs.Runs.{last_state}
@@ -117,10 +116,10 @@ pub record WorkHolds (found : Found) (number count status : ℕ) (old new : Devi
       (last_state start ran.states) (last_state start ran.states).sequence old.disk new.disk
   pub reach : (last_state start ran.states).sequence ≤ most_left found.block.k found.table
 
--- So it is of every file of version 1 that opens.
+-- So it is of every file that opens.
 abbrev pub WorkPromise : ℕ → ℕ → ℕ → Devices → Devices → Type 0
 WorkPromise number count status old new = (t : choice.SlotTable) (m : Map) (b : Book)
-    → IsPlain b → OpensBy CLASSES SIZE_MAX t old.disk.file m b
+    → OpensBy CLASSES SIZE_MAX t old.disk.file m b
     → WorkHolds (found_by t m b) number count status old new
 
 -- ---- whatever is told

@@ -6,7 +6,6 @@ ghost use Rattle.slot_codec.specs.Choice as choice;
 ghost use Rattle.segment_layout.specs.Books.{Book};
 ghost use Rattle.map_model.specs.Maps.{Map};
 ghost use Rattle.table_rules.specs.Opening.{OpensBy};
-ghost use Rattle.store_model.specs.Plain.{IsPlain};
 ghost use Rattle.command_face.specs.Mounting.{IsMounted, mounted};
 ghost use Rattle.disk_face.specs.Devices.{devices};
 ghost use Rattle.work_command.specs.Summaries.{eleven_jobs, summary_text};
@@ -24,12 +23,12 @@ pub fn worked_summary()
         ++ codes "seek 58049167360 25165824000\n" }
 {}
 
-/// Where the words are `work FILE NUMBER COUNT`, the mount finds the file, it opens to a book of version 1,
-/// and no count of failures rises, all jobs are done or memory is wanting.
+/// Where the words are `work FILE NUMBER COUNT`, the mount finds the file, it opens, and no count of
+/// failures rises, all jobs are done or memory is wanting.
 pub fn jobs_are_done<B: Bay, O: Sink>()
     ensures { (t : choice.SlotTable) (m : Map) (b : Book) (file : List ℕ) (number count status : ℕ)
         (old new : B)
-        (out after : O) → IsPlain b → OpensBy CLASSES SIZE_MAX t (B.state old).file m b
+        (out after : O) → OpensBy CLASSES SIZE_MAX t (B.state old).file m b
         → WorkPromise number count status (devices (B.state old) (O.state out))
         (devices (B.state new) (O.state after))
         → WorkAlways count status (devices (B.state old) (O.state out))

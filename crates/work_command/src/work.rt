@@ -5,7 +5,8 @@ ghost use Rattle.store_model.specs.Connection.{IsConnected};
 ghost use Rattle.store_model.specs.Opened.{IsFresh, IsOpening};
 ghost use Rattle.command_face.specs.Mounting.{IsMounted};
 ghost use Rattle.work_command.specs.Steps.{OpenWorkSteps, WorkSteps, jobs_numbered};
-ghost use Rattle.served_file.specs.Unserved.{IsRefusedService, NeverServed};
+ghost use Rattle.command_face.specs.Refusing.{IsRefused};
+ghost use Rattle.served_file.specs.Unserved.{NeverServed};
 ghost use Rattle.command_face.specs.Outcomes.{Ends};
 ghost use Rattle.disk_face.specs.Devices.{devices};
 ghost use Rattle.work_command.specs.Working.{WorkPromise, WorkAlways};
@@ -36,7 +37,7 @@ pub fn work_file<B: Bay, O: Sink>(
     ensures works { IsTrue (B.state bay.old).tells → WorkPromise number count result.status
         (devices (B.state bay.old) (O.state output.old)) (devices (B.state bay.new) (O.state output.new)) }
     ensures refused { IsTrue (B.state bay.old).tells → NeverServed (B.state bay.old).file
-        → Ends (IsRefusedService (B.state bay.old).file) result.status (O.state output.old)
+        → Ends (IsRefused (B.state bay.old).file) result.status (O.state output.old)
         (O.state output.new) }
     ensures mounted { IsMounted file.now false (B.state bay.new).last_mount (result.status ≡ DISK_FAILED)
         (result.status ≡ NO_FILE) }

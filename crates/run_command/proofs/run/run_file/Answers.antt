@@ -4,7 +4,7 @@ use Rattle.disk_face.specs.Devices.{devices}
 use Rattle.ask_session.specs.Outside.{held, outside_of, seen_by}
 use Rattle.command_face.specs.declared.status.TheConstants.{DISK_FAILED, NO_FILE, NO_STORE}
 use Rattle.command_face.specs.Mounting.{IsMounted}
-use Rattle.served_file.specs.Unserved.{IsRefusedService}
+use Rattle.command_face.specs.Refusing.{IsRefused}
 use Rattle.run_command.specs.Headline.{HasMounted, IsKeptTurn, RunHolds, is_session}
 use Rattle.command_face.specs.Outcomes.{status_at}
 use Rattle.run_command.specs.Sessions.{HasCounted, IsUnserved}
@@ -31,7 +31,7 @@ returns g c =
     ap (λ (x : Outcome). x.status) c.finish-outcome.ensures.status in
     let w = whole seen file start now e went in
     record {
-      headline = λ told source t m b requests end plain o asks.
+      headline = λ told source t m b requests end o asks.
           subst (λ n. RunHolds (found_with t.chosen.block t m b) requests end (record {
             status = n;
             done = e.done;
@@ -39,14 +39,14 @@ returns g c =
             kept_turn = e.kept_turn;
           }) (devices (seen.disk start.disk) (seen.sink start.sink)) (devices (seen.disk now.disk) after)
           (seen.source start.source) (seen.source now.source)) (sym status)
-          (headline seen g.met.B.Disk.lawful start now after told source t m b requests end plain o asks
+          (headline seen g.met.B.Disk.lawful start now after told source t m b requests end o asks
           file e went (line_after (outside_of seen start) (outside_of seen now) after e.end
           c.finish-outcome.result.status status w.keeps line));
       refused = λ told never.
           let refused = refused_by seen file start now e told never went in
           ends_after (outside_of seen start) (outside_of seen now) after e.end
           c.finish-outcome.result.status status w.keeps line (ap g.O.Sink.state refused.1)
-          (IsRefusedService (seen.disk start.disk).file) refused.0;
+          (IsRefused (seen.disk start.disk).file) refused.0;
       known = subst (λ n. (is_session n ≡ true) ⊎ (n ≡ NO_STORE)) (sym status)
           (known seen file start now e went);
       mounted = subst (λ n. IsMounted file false (seen.disk now.disk).last_mount (n ≡ DISK_FAILED)

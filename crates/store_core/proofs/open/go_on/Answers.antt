@@ -86,7 +86,7 @@ returns-in-Ok-resume g c =
     (again_done x r.loads r.moving r.fits r.wide (parts_of hands) starts _ packs
     a d r.from c.resume.new.hands c.resume.ensures.left c.resume.ensures.made c.resume.ensures.saves.few
     c.resume.ensures.saves.most
-    c.in-Ok-resume.ensures.ends c.in-Ok-resume.ensures.done.one r.plain _ c.in-Ok-resume.ensures.done.calls
+    c.in-Ok-resume.ensures.ends c.in-Ok-resume.ensures.done.one _ c.in-Ok-resume.ensures.done.calls
     c.in-Ok-resume.ensures.cause)
 
 pub returns-in-Err : goal.returns-in-Err

@@ -72,7 +72,7 @@ returns-in-Ok-cut_to g c =
     let seen = ap (λ (h : Header). opened_store g.row.C x.slots x.table.now
     (digests_seen h.version x.table.digests) (caps_of x.layout) (grid_of x.layout)) c.deref-2.ensures in
     subst (λ s. IsOpening g.row.C a d (Ok s)) (sym (c.in-Ok.ensures ∙ seen))
-    (still_done x r.loads r.still r.fits r.wide r.plain _ is a d r.from c.in-Ok-cut_to.ensures.short
+    (still_done x r.loads r.still r.fits r.wide _ is a d r.from c.in-Ok-cut_to.ensures.short
     c.cut_to.ensures.frame c.in-Ok-cut_to.field-0 c.in-Ok-cut_to.ensures.cut c.in-Ok-cut_to.ensures.cause)
 
 pub returns-in-Err : goal.returns-in-Err
@@ -90,6 +90,6 @@ returns-in-Err g c =
       ap (λ (l : Layout g.row.C). end_of (divisor_of l) (caps_of l)) c.deref.ensures,
       ap (λ k. end_of k (caps_of x.layout)) r.loads.divisor,
     ) in
-    still_failed x r.loads r.still r.fits r.wide r.plain _ is a d r.from c.in-Err.ensures.short
+    still_failed x r.loads r.still r.fits r.wide _ is a d r.from c.in-Err.ensures.short
     c.cut_to.ensures.frame
     c.in-Err.field-0 c.in-Err.ensures.cut c.in-Err.ensures.cause

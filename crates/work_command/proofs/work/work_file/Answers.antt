@@ -2,7 +2,7 @@
 use Rattle.std.proofs.Common.{◌≡◌, ap, false, subst, sym}
 use Rattle.command_face.specs.declared.status.TheConstants.{DISK_FAILED, NO_FILE}
 use Rattle.command_face.specs.Mounting.{IsMounted}
-use Rattle.served_file.specs.Unserved.{IsRefusedService}
+use Rattle.command_face.specs.Refusing.{IsRefused}
 use Rattle.command_face.specs.Outcomes.{status_at}
 use Rattle.work_command.specs.Working.{WorkHolds, WorkAlways}
 use Rattle.command_face.specs.declared.outcome.Outcome.{Outcome}
@@ -15,7 +15,7 @@ use Rattle.work_command.proofs.WorkingLaws.{works}
 use Rattle.work_command.proofs.work.work_file.Goals as goal
 
 pub returns-clause-works : goal.returns-clause-works
-returns-clause-works g c = λ told t m b plain opens.
+returns-clause-works g c = λ told t m b opens.
     let old = g.B.Disk.state c.args.bay.now in
     let new = g.B.Disk.state c.work_over-end.new.bay in
     let out = g.O.Sink.state c.args.output.now in
@@ -25,7 +25,7 @@ returns-clause-works g c = λ told t m b plain opens.
     ap (λ (x : Outcome). x.status) c.finish.ensures.status in
     subst (λ n. WorkHolds (found_with t.chosen.block t m b) c.args.number c.args.count n (devices old out)
     (devices new after)) (sym status)
-    (works t m b old (g.met.B.Disk.lawful c.args.bay.now) told plain opens g.B.Disk.state c.args.number
+    (works t m b old (g.met.B.Disk.lawful c.args.bay.now) told opens g.B.Disk.state c.args.number
     c.args.count new out put after
     c.args.file.now c.work_over-end.result c.work_over-end.ensures
     c.finish.ensures.line)
@@ -42,7 +42,7 @@ returns-clause-refused g c = λ told never.
     let refused = refused_work g.B.Disk.state c.args.file.now c.args.number c.args.count old new out put
     c.work_over-end.result told
     never c.work_over-end.ensures in
-    ends_by_line (IsRefusedService old.file) out put after c.work_over-end.result c.finish.result.status
+    ends_by_line (IsRefused old.file) out put after c.work_over-end.result c.finish.result.status
     status
     refused.0
     refused.1 c.finish.ensures.line

@@ -6,7 +6,6 @@ use Rattle.reopen.specs.declared.fault.OpenFault.{OpenFault}
 use Rattle.store_model.specs.Connection.{StoreValue}
 use Rattle.store_model.specs.Opened.{IsOpening}
 use Rattle.store_model.proofs.OpeningLaws.{opening_then, refused_reading}
-use Rattle.store_model.proofs.PlainLemmas.{refused_version}
 use Rattle.store_core.proofs.store.Store.open.Goals as goal
 
 pub returns-in_err-found : goal.returns-in_err-found
@@ -16,16 +15,7 @@ returns-in_err-found g c =
     let is : c.from_residual.result ≡ Err c.in_err-found.field-0.0 = search rules in
     subst (λ (r : Result StoreValue OpenFault). IsOpening g.row.C a d r) (sym is)
     (refused_reading g.row.C a d c.in_err-found.field-0.0 c.load_state.ensures.frame
-    (λ told. inl (c.in_err-found.ensures.refused told)) c.in_err-found.ensures.cause)
-
-pub returns-then-version-eq2 : goal.returns-then-version-eq2
-returns-then-version-eq2 g c =
-    let a = g.D.Disk.state c.args.disk.now in
-    let d = g.D.Disk.state c.load_state.new.disk in
-    refused_version a d (unboxed c.in_ok-found.found) c.place-at.result
-    c.load_state.ensures.frame c.in_ok-found.ensures.opened
-    (c.in_ok-found.ensures.cause.calm (λ is. absurd (cc)))
-    (search rules) (search rules)
+    c.in_err-found.ensures.refused c.in_err-found.ensures.cause)
 
 pub returns-in-Settled : goal.returns-in-Settled
 returns-in-Settled g c = opening_then c.load_state.ensures.frame
@@ -40,8 +30,7 @@ open_moving-requires g c =
     let a = g.D.Disk.state c.args.disk.now in
     let d = g.D.Disk.state c.load_state.new.disk in
     let x = unboxed c.in_ok-found.found in
-    let moving : x.header.kind ≡ kind.Moving = search rules in
-    let other : (x.header.version == 2) ≡ false = search rules in (
+    let moving : x.header.kind ≡ kind.Moving = search rules in (
       lit< tt,
       (
         lit< tt,
@@ -55,13 +44,10 @@ open_moving-requires g c =
                 c.in_ok-found.ensures.loaded,
                 (
                   moving,
-                  (
-                    other,
-                    λ told.
-                        let was : IsTrue a.tells = sym c.load_state.ensures.frame.stays.told ∙ told in
-                        subst (λ (f : List ℕ). IsLoadedFrom f x)
-                        (sym (c.load_state.ensures.frame.same_file was)) (c.in_ok-found.ensures.opened was),
-                  ),
+                  λ told.
+                      let was : IsTrue a.tells = sym c.load_state.ensures.frame.stays.told ∙ told in
+                      subst (λ (f : List ℕ). IsLoadedFrom f x)
+                      (sym (c.load_state.ensures.frame.same_file was)) (c.in_ok-found.ensures.opened was),
                 ),
               ),
             ),
@@ -75,8 +61,7 @@ open_still-requires g c =
     let a = g.D.Disk.state c.args.disk.now in
     let d = g.D.Disk.state c.load_state.new.disk in
     let x = unboxed c.in_ok-found.found in
-    let still : x.header.kind ≡ kind.Settled = search rules in
-    let other : (x.header.version == 2) ≡ false = search rules in (
+    let still : x.header.kind ≡ kind.Settled = search rules in (
       lit< tt,
       (
         lit< tt,
@@ -90,13 +75,10 @@ open_still-requires g c =
                 c.in_ok-found.ensures.loaded,
                 (
                   still,
-                  (
-                    other,
-                    λ told.
-                        let was : IsTrue a.tells = sym c.load_state.ensures.frame.stays.told ∙ told in
-                        subst (λ (f : List ℕ). IsLoadedFrom f x)
-                        (sym (c.load_state.ensures.frame.same_file was)) (c.in_ok-found.ensures.opened was),
-                  ),
+                  λ told.
+                      let was : IsTrue a.tells = sym c.load_state.ensures.frame.stays.told ∙ told in
+                      subst (λ (f : List ℕ). IsLoadedFrom f x)
+                      (sym (c.load_state.ensures.frame.same_file was)) (c.in_ok-found.ensures.opened was),
                 ),
               ),
             ),
