@@ -48,12 +48,14 @@ module _ (o : Option Refusal) (n : ℕ) (x : Refusal) (served : o ≡ None) (ans
 
   pub stop_disk : {before now : ℕ} → HasDiskCause {T = ℕ} why.Disk before now (Err x)
       → HasDiskCause ends.Disk before now result
-  stop_disk {before} {now} cause = elim (damaged_or_not x) as (λ _. HasDiskCause ends.Disk before now result) [
-    | inl is ↦ calm_disk (no_disk_fault result (sink_calm result (stop.damaged is).only))
-        (cause.calm (λ e. let f : why.Damaged ≡ why.Disk = (cc) in absurd (cc)))
-    | inr fine ↦ subst (λ (y : Result Bool End). HasDiskCause ends.Disk before now y) (sym (stop.failed fine))
-        (fault_disk o n x served fine answer cause)
-  ]
+  stop_disk {before} {now} cause = elim (damaged_or_not x)
+      as (λ _. HasDiskCause ends.Disk before now result) [
+        | inl is ↦ calm_disk (no_disk_fault result (sink_calm result (stop.damaged is).only))
+            (cause.calm (λ e. let f : why.Damaged ≡ why.Disk = (cc) in absurd (cc)))
+        | inr fine ↦ subst (λ (y : Result Bool End). HasDiskCause ends.Disk before now y)
+            (sym (stop.failed fine))
+            (fault_disk o n x served fine answer cause)
+      ]
 
   pub stop_sink : {out : SinkState} → HasSinkCause {T = ℕ} why.Sink out mid (Err x)
       → HasSinkCause ends.Sink out after result
@@ -62,7 +64,8 @@ module _ (o : Option Refusal) (n : ℕ) (x : Refusal) (served : o ≡ None) (ans
         (cause.calm (λ e. let f : why.Damaged ≡ why.Sink = (cc) in absurd (cc))) cause.told
         (stop.damaged is).cause
     | inr fine ↦ subst (λ (y : Result Bool End). HasSinkCause ends.Sink out after y) (sym (stop.failed fine))
-        (subst (λ (y : SinkState). HasSinkCause {T = Bool} ends.Sink out y (Err (fault_of x))) (sym (stop.same fine))
+        (subst (λ (y : SinkState). HasSinkCause {T = Bool} ends.Sink out y (Err (fault_of x)))
+        (sym (stop.same fine))
         (fault_sink o n x served fine answer cause))
   ]
 
@@ -77,7 +80,8 @@ module _ (o : Option Refusal) (n : ℕ) (x : Refusal) (served : o ≡ None) (ans
             (sym (bad is))
             (subst (λ (xs : List ℕ). PutsText (first_line (head.Refused word.Damaged)) xs after.given result)
             (same is) ((stop.damaged is).put told))
-        | inr fine ↦ subst (λ (y : Result Bool End). PutsText (object_text b size object) out.given after.given y)
+        | inr fine ↦ subst
+            (λ (y : Result Bool End). PutsText (object_text b size object) out.given after.given y)
             (sym (stop.failed fine))
             (subst (λ (y : SinkState). PutsText {T = Bool} (object_text b size object) out.given y.given
             (Err (fault_of x))) (sym (stop.same fine)) (by b clean))
@@ -87,4 +91,5 @@ module _ (o : Option Refusal) (n : ℕ) (x : Refusal) (served : o ≡ None) (ans
           → PutsText {T = Bool} (object_text c size object) out.given mid.given (Err (fault_of x))
       by true none = puts_none (first_line (head.Refused word.Damaged)) out.given mid.given (fault_of x)
           (ap (λ (y : SinkState). y.given) (none refl))
-      by false none = puts_front (first_line (head.Data size) ++ object) out.given mid.given x (fault_of x) puts
+      by false none = puts_front (first_line (head.Data size) ++ object) out.given mid.given x (fault_of x)
+          puts

@@ -8,8 +8,8 @@ use std::process::Abort;
 /// The words of a `get`, and what it puts.
 type Get = (&'static [&'static str], &'static str);
 
-/// A session over the file of version 2 whose one object is `hello`, with changes: its requests, what it puts,
-/// how many of its requests are kept, what `map` tells of the file then, and what each `get` puts of it.
+/// A session over the file of version 2 whose one object is `hello`, with changes: its requests, what it
+/// puts, how many of its requests are kept, what `map` tells of the file then, and what each `get` puts.
 #[derive(Clone, Copy)]
 struct Row {
     changes: &'static [Change],
@@ -70,7 +70,10 @@ const FULL: Row = Row {
         KEPT,
     ],
     kept_done: 16,
-    told: "class 2 5 0 0\nobject a 0 5\nobject d 0 0\nobject e 0 0\nobject f 0 0\nobject g 0 0\nobject h 0 0\nobject i 0 0\nobject j 0 0\nobject k 0 0\nobject l 0 0\n",
+    told: concat!(
+        "class 2 5 0 0\nobject a 0 5\nobject d 0 0\nobject e 0 0\nobject f 0 0\nobject g 0 0\n",
+        "object h 0 0\nobject i 0 0\nobject j 0 0\nobject k 0 0\nobject l 0 0\n"
+    ),
     gets: &[(A, "hello"), (L, "")],
 };
 

@@ -91,8 +91,7 @@ pub fn store_of<const C: usize>(
     requires slots { slots.block ≡ block }
     requires kept { table.now ≡ table.kept }
     requires room { table.names ≡ block.names }
-    requires version { IsTrue (is_version version) }
-    requires narrowed { version ≡ 2 → IsNarrowed block.names table }
+    requires version { IsTrue (is_version version) × (version ≡ 2 → IsNarrowed block.names table) }
     requires divisor { divisor_of layout ≡ block.k }
     requires valid { IsValid (settled_table C SIZE_MAX block.k (caps_of layout) (grid_of layout) table.now) }
     ensures { IfOk result (λ store. store

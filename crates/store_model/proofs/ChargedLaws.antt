@@ -37,7 +37,8 @@ pub record ChargesTo (x : HandsValue) (o : Option Spot) (size k : ℕ) (caps : L
 -- a flush begins at a layout with the same numbers
 pub can_start_at : {classes b k : ℕ} {caps caps2 : List ℕ} {grid : List (List ℕ)} {e : Extents}
     (kept_grid : List (List ℕ)) (x : HandsValue) (spans : List Span)
-    → CanStart classes SIZE_MAX (flush_start caps grid kept_grid b x.in_use e spans) → k ≡ x.in_use.block.k → caps2 ≡ caps
+    → CanStart classes SIZE_MAX (flush_start caps grid kept_grid b x.in_use e spans)
+    → k ≡ x.in_use.block.k → caps2 ≡ caps
     → CanStartAt classes b k caps2 grid e
 can_start_at {classes} {b} {k} {caps} {caps2} {grid} {e} kept_grid x spans start divisor same = record {
   kept_grid = kept_grid;

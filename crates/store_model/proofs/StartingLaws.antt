@@ -267,7 +267,8 @@ module _ {classes : ℕ} {kept_grid : List (List ℕ)} {x0 : HandsValue} (may : 
       -- whose object waits
 
       module _ (missed : is_quiet (new_charged k x0.caps (between k x0.caps x0.grid old) size) ≡ false) where
-        pub wait_starts : CanStart classes SIZE_MAX (flush_start x0.caps after kept_grid b x0.in_use gone freed)
+        pub wait_starts : CanStart classes SIZE_MAX
+            (flush_start x0.caps after kept_grid b x0.in_use gone freed)
         wait_starts = pending_starts (put_flight 0 some_setting) x0.caps x0.grid kept_grid x0.in_use x0.table
             x0.spans h may.base name after b gone without freed frees is object small l missed
 

@@ -48,5 +48,6 @@ returns-in-Ok g c =
 
 pub returns-in-Err : goal.returns-in-Err
 returns-in-Err g c = read_refused c.args.self.now (g.D.Disk.state c.args.disk.now) c.args.moment
-    c.args.name.now c.args.head.now c.in-Err.refusal c.in-Err.ensures.answer c.in-Err.ensures.sound c.requires.ready
+    c.args.name.now c.args.head.now c.in-Err.refusal c.in-Err.ensures.answer c.in-Err.ensures.sound
+    c.requires.ready
     (g.O.Sink.state c.args.sink.now)
