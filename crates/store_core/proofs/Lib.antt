@@ -8,6 +8,8 @@ pub mod QuietLaws
 pub mod EffectLaws
 pub mod ReadLaws
 pub mod RefusedLaws
+mod RenewLaws
+mod UpgradeLaws
 pub mod ChangingLaws
 pub mod OpenedLaws
 pub mod KeepLaws

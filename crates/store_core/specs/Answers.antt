@@ -95,8 +95,7 @@ is_disk_fault (Err refused) = is_disk refused
 -- ---- replies
 
 -- the reply of a refusal; there is none where a device failed, the store can't go on, or what is refused is
--- no
--- request
+-- no request
 abbrev pub refused_reply : Refusal → Option Reply
 refused_reply why.BadName = Some (ask.refused ask.bad_name)
 refused_reply why.TooLong = Some (ask.refused ask.too_long)

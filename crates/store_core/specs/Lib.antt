@@ -7,3 +7,4 @@ pub mod Reads
 pub mod Readings
 pub mod Flushes
 pub mod Changing
+pub mod Upgrades

@@ -73,7 +73,7 @@ impl<const C: usize> Store<C> {
 }
 
 /// What stands now is kept, and no other space is held.
-fn keep_spots(table: &mut Table, guard: &mut Guard)
+pub(crate) fn keep_spots(table: &mut Table, guard: &mut Guard)
     ensures now { table.new.now ≡ table.old.now }
     ensures kept { table.new.kept ≡ table.old.now }
     ensures digests { table.new.digests ≡ table.old.digests }

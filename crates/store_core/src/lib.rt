@@ -20,7 +20,9 @@ mod open;
 mod plan;
 mod quiet;
 mod reads;
+mod renew;
 mod store;
+mod upgrade;
 
 pub use answers::{Done, Gauge, Moment, Refusal, Stat};
 pub use store::Store;

@@ -33,6 +33,8 @@ mod replaced;
 mod requests;
 pub mod trials;
 #[cfg(test)]
+mod upgrades;
+#[cfg(test)]
 mod worked;
 #[cfg(test)]
 mod works;

@@ -43,6 +43,7 @@ pub enum Ask {
     Stat,
     Back,
     Keep,
+    Upgrade,
 }
 
 /// What a request is answered, beside the bytes that it puts.
@@ -86,6 +87,7 @@ fn answer<D: Disk>(
         }
         Ask::Del(name) => done(trial.del(name)),
         Ask::Keep => done(trial.keep()),
+        Ask::Upgrade => done(trial.upgrade()),
         Ask::Back => nothing(trial.back()),
         Ask::Get(name) => number(trial.get(name, sink)),
         Ask::Old(name) => number(trial.old(name, sink)),

@@ -80,6 +80,11 @@ impl<D: Disk> Trial<D> {
         self.store.keep(&mut self.disk)
     }
 
+    /// Gives each object its digest.
+    pub fn upgrade(&mut self) -> Result<Done, Refusal> {
+        self.store.upgrade(&mut self.disk)
+    }
+
     /// Goes back to the last checkpoint.
     pub fn back(&mut self) -> Result<(), Refusal> {
         self.store.back()

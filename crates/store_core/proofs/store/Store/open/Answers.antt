@@ -1,5 +1,5 @@
-use Rattle.std.specs.Prelude.{◌≡◌, ◌==◌, Err, IsTrue, List, Result, false, ℕ}
-use Rattle.std.proofs.Common.{◌∙◌, inl, lit<, rules, subst, sym}
+use Rattle.std.specs.Prelude.{◌≡◌, Err, IsTrue, List, Result, ℕ}
+use Rattle.std.proofs.Common.{◌∙◌, lit<, rules, subst, sym}
 use Rattle.slot_codec.specs.declared.codec.Kind.TheVariants as kind
 use Rattle.reopen.specs.Loads.{IsLoadedFrom, unboxed}
 use Rattle.reopen.specs.declared.fault.OpenFault.{OpenFault}
