@@ -130,24 +130,28 @@ returns-in_err-write_table g c =
     in
     grind (arith, common_steps, left)
 
--- but here, where grind stops at its limit
-pub returns-in_err-open_gate-clause-pair : goal.returns-in_err-open_gate-clause-pair
-returns-in_err-open_gate-clause-pair g c = grind (arith, common_steps)
-
-pub returns-in_err-open_gate-clause-same_pair : goal.returns-in_err-open_gate-clause-same_pair
-returns-in_err-open_gate-clause-same_pair g c = grind (arith, common_steps)
-
-pub returns-in_err-open_gate-clause-done : goal.returns-in_err-open_gate-clause-done
-returns-in_err-open_gate-clause-done g c = grind (arith, common_steps)
-
-pub returns-in_err-open_gate-clause-left : goal.returns-in_err-open_gate-clause-left
-returns-in_err-open_gate-clause-left g c = λ told.
-    let at = goal.at.returns-in_err-open_gate-clause-left g c in
-    rw (← c.self.view_is) (left_opening (written g at.In_ok-write_table
-    (closed g at.In_ok-close_other (begun g at.After-close_other told))) c.open_gate.ensures.writes)
-
-pub returns-in_err-open_gate-clause-frame : goal.returns-in_err-open_gate-clause-frame
-returns-in_err-open_gate-clause-frame g c = grind (arith, common_steps)
+-- Here grind stops at its limit, so each clause is named.
+pub returns-in_err-open_gate : goal.returns-in_err-open_gate
+returns-in_err-open_gate g c =
+    let at = goal.at.returns-in_err-open_gate g c in
+    record {
+      pair = grind (arith, common_steps);
+      same_pair = grind (arith, common_steps);
+      calls = record {
+        all = grind (arith, common_steps);
+        most = omega (
+          arith,
+          c.in_ok-close_other.ensures.calls.all,
+          c.in_ok-write_table.ensures.calls.all,
+          c.open_gate.ensures.calls.most,
+        );
+        cause = grind (arith, common_steps);
+      };
+      done = grind (arith, common_steps);
+      left = λ told. rw (← c.self.view_is) (left_opening (written g at.In_ok-write_table
+          (closed g at.In_ok-close_other (begun g at.After-close_other told))) c.open_gate.ensures.writes);
+      frame = grind (arith, common_steps);
+    }
 
 pub returns : goal.returns
 returns g c =
