@@ -1,6 +1,15 @@
-//! Batches: puts and removals that take effect as one, also where a crash comes between them.
+//! Batches done by a store: the text of one is kept under a name of its own until all of it was done, so
+//! that it takes effect as one.
 #![tactic(auto)]
 
-pub mod check;
+mod batcher;
+mod fault;
+mod fit;
+mod judge;
 pub mod laws;
-mod part;
+mod make;
+mod run;
+
+pub use batch_model::check::{BATCH, check_text};
+pub use batcher::Batcher;
+pub use fault::BatchFault;

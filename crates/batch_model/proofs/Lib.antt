@@ -1,0 +1,10 @@
+pub mod AppliedLaws
+pub mod ViewLaws
+pub mod TextLaws
+pub mod FitLaws
+pub mod PartLaws
+pub mod CheckLaws
+pub mod CountLaws
+pub mod MadeLaws
+pub mod KeptLaws
+pub mod NextLaws
