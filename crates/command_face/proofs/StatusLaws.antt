@@ -49,14 +49,4 @@ later_rose {between} {now} {line} a b n later last = record {
 pub calm_by : {P : Type 0} (end : Result (Unit {0}) StopReason) → OnOk end P → status_at end ≡ DONE → P
 calm_by (Ok x) calm is = calm
 calm_by (Err stop.Words) calm is = absurd (omega (arith, is))
-calm_by (Err stop.NoFile) calm is = absurd (omega (arith, is))
-calm_by (Err (stop.NotStore f)) calm is = absurd (omega (arith, is))
-calm_by (Err (stop.Taken n)) calm is = absurd (omega (arith, is))
-calm_by (Err stop.Missing) calm is = absurd (omega (arith, is))
-calm_by (Err stop.Damaged) calm is = absurd (omega (arith, is))
-calm_by (Err stop.Disk) calm is = absurd (omega (arith, is))
-calm_by (Err stop.Sink) calm is = absurd (omega (arith, is))
-calm_by (Err stop.NoMemory) calm is = absurd (omega (arith, is))
-calm_by (Err (stop.Line n)) calm is = absurd (omega (arith, is))
-calm_by (Err stop.Source) calm is = absurd (omega (arith, is))
-calm_by (Err stop.Budget) calm is = absurd (omega (arith, is))
+calm_by _ calm is = absurd (omega (arith, is))

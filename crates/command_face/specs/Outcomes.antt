@@ -3,7 +3,7 @@ use Rattle.std.specs.Prelude.{◌≡◌, ◌⊎◌, ℕ, ◌≤◌, List, [], �
 use Rattle.disk_face.specs.Counts.{Rose}
 use Rattle.disk_face.specs.Streams.{SinkState}
 use Rattle.command_face.specs.Faults.{line_of}
-use Rattle.command_face.specs.declared.status.TheConstants.{DAMAGED_OBJECT, DISK_FAILED, DONE, FAULTY_REQUEST, FAULTY_WORDS, NOT_EMPTY, NO_FILE, NO_MEMORY, NO_OBJECT, NO_STORE, SINK_FAILED, SOURCE_FAILED, TOO_MANY}
+use Rattle.command_face.specs.declared.status.TheConstants.{DAMAGED_OBJECT, DISK_FAILED, DONE, FAULTY_REQUEST, FAULTY_WORDS, NOT_EMPTY, NO_BATCH, NO_FILE, NO_MEMORY, NO_OBJECT, NO_STORE, SINK_FAILED, SOURCE_FAILED, TOO_MANY_NAMES, TOO_MANY_REQUESTS, UNFIT, WORN}
 use Rattle.command_face.specs.declared.stop.StopReason.{StopReason}
 use Rattle.command_face.specs.declared.stop.StopReason.TheVariants as stop
 
@@ -20,7 +20,11 @@ status_of stop.Sink = SINK_FAILED
 status_of stop.NoMemory = NO_MEMORY
 status_of (stop.Line n) = FAULTY_REQUEST
 status_of stop.Source = SOURCE_FAILED
-status_of stop.Budget = TOO_MANY
+status_of stop.Budget = TOO_MANY_REQUESTS
+status_of (stop.TooManyNames n) = TOO_MANY_NAMES
+status_of stop.Worn = WORN
+status_of stop.NoBatch = NO_BATCH
+status_of (stop.Unfit n) = UNFIT
 
 -- the status of a command that ends so
 abbrev pub status_at : {A : Type 0} → Result A StopReason → ℕ

@@ -41,6 +41,18 @@ pub fn fault_line(why: StopReason) -> ArrayVec<u8, 128>
         }
         StopReason::Source => push(&mut line, b"fault source\n"),
         StopReason::Budget => push(&mut line, b"fault budget\n"),
+        StopReason::TooManyNames(count) => {
+            push(&mut line, b"fault too many ");
+            push_number(&mut line, count);
+            push(&mut line, b"\n");
+        }
+        StopReason::Worn => push(&mut line, b"fault worn\n"),
+        StopReason::NoBatch => push(&mut line, b"fault no batch\n"),
+        StopReason::Unfit(number) => {
+            push(&mut line, b"fault unfit ");
+            push_number(&mut line, number);
+            push(&mut line, b"\n");
+        }
     }
     line
 }

@@ -6,8 +6,9 @@ ghost use Rattle.command_face.specs.Faults.{line_of};
 
 use crate::fault::fault_line;
 use crate::status::{
-    DAMAGED_OBJECT, DISK_FAILED, DONE, FAULTY_REQUEST, FAULTY_WORDS, NO_FILE, NO_MEMORY, NO_OBJECT,
-    NO_STORE, NOT_EMPTY, SINK_FAILED, SOURCE_FAILED, TOO_MANY,
+    DAMAGED_OBJECT, DISK_FAILED, DONE, FAULTY_REQUEST, FAULTY_WORDS, NO_BATCH, NO_FILE, NO_MEMORY,
+    NO_OBJECT, NO_STORE, NOT_EMPTY, SINK_FAILED, SOURCE_FAILED, TOO_MANY_NAMES, TOO_MANY_REQUESTS,
+    UNFIT, WORN,
 };
 use crate::stop::StopReason;
 use disk_face::Sink;
@@ -18,7 +19,8 @@ use disk_face::Sink;
 pub struct Outcome {
     /// 0 done, 1 faulty words, 2 a faulty request, 3 no file, 4 no store, 5 not an empty file, 6 no
     /// such object, 7 the disk failed, 8 the source failed, 9 the sink failed, 10 too little memory, 11
-    /// as many requests as one session answers, 13 a damaged object: the constants of `status`.
+    /// as many requests as one session answers, 13 a damaged object, 14 too many names, 15 a worn file,
+    /// 16 no batch, 17 a batch that doesn't fit: the constants of `status`.
     pub status: u8,
     /// How many requests were answered.
     pub done: u64,
@@ -79,6 +81,10 @@ fn status_at(end: &Result<(), StopReason>) -> u8
         Err(StopReason::NoMemory) => NO_MEMORY,
         Err(StopReason::Line(_)) => FAULTY_REQUEST,
         Err(StopReason::Source) => SOURCE_FAILED,
-        Err(StopReason::Budget) => TOO_MANY,
+        Err(StopReason::Budget) => TOO_MANY_REQUESTS,
+        Err(StopReason::TooManyNames(_)) => TOO_MANY_NAMES,
+        Err(StopReason::Worn) => WORN,
+        Err(StopReason::NoBatch) => NO_BATCH,
+        Err(StopReason::Unfit(_)) => UNFIT,
     }
 }

@@ -34,7 +34,19 @@ pub const SINK_FAILED: u8 = 9;
 pub const NO_MEMORY: u8 = 10;
 
 /// As many requests were answered as one session may.
-pub const TOO_MANY: u8 = 11;
+pub const TOO_MANY_REQUESTS: u8 = 11;
 
 /// The object of the name has another digest than the store has for it.
 pub const DAMAGED_OBJECT: u8 = 13;
+
+/// The store has more names than the file would have room for.
+pub const TOO_MANY_NAMES: u8 = 14;
+
+/// The sequence of the file leaves no save.
+pub const WORN: u8 = 15;
+
+/// An object under the name of a batch that is done is no batch.
+pub const NO_BATCH: u8 = 16;
+
+/// A batch doesn't fit the map.
+pub const UNFIT: u8 = 17;

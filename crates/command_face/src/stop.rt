@@ -25,4 +25,12 @@ pub enum StopReason {
     Source,
     /// As many requests were answered as one session may.
     Budget,
+    /// The store has this many names, more than a table whose records have digests has room for.
+    TooManyNames(u64),
+    /// The sequence of the file leaves no save.
+    Worn,
+    /// An object under the name of a batch that is done is no batch.
+    NoBatch,
+    /// The change of this number, from 1, of a batch doesn't fit the map.
+    Unfit(u64),
 }

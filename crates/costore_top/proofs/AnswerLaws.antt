@@ -22,7 +22,7 @@ use Rattle.file_commands.specs.Getting.{IsObject, given}
 use Rattle.file_commands.specs.Texts.{IsTold, check_text, map_text}
 use Rattle.command_face.specs.Outcomes.{Ends, EndsBy, status_at}
 use Rattle.costore_top.specs.Answering.{IsAnswer}
-use Rattle.costore_top.specs.Commands.{Command, check, dump, format, get, help, map_of, run, version, work}
+use Rattle.costore_top.specs.Commands.{Command, check, dump, format, get, help, map_of, run, upgrade, version, work}
 use Rattle.command_face.proofs.UnopenedLaws.{opens_or_not}
 
 -- ---- one answer
@@ -102,6 +102,7 @@ one_answer (map_of name) file a b g h = one_told (λ t len. map_text t) file a b
 one_answer (run name) file a b g h = absurd (g)
 one_answer (work name number count) file a b g h = absurd (g)
 one_answer (dump name) file a b g h = absurd (g)
+one_answer (upgrade name) file a b g h = absurd (g)
 one_answer help file a b g h = g ∙ sym h
 one_answer version file a b g h = g ∙ sym h
 
@@ -138,17 +139,7 @@ status_by answer bytes is (Err stop.NoFile) one by = inr (inl refl)
 status_by answer bytes is (Err stop.Disk) one by = inr (inr (inl refl))
 status_by answer bytes is (Err stop.Sink) one by = inr (inr (inr (inl refl)))
 status_by answer bytes is (Err stop.NoMemory) one by = inr (inr (inr (inr refl)))
-status_by answer bytes is (Err stop.Words) one by = inl (ap status_at (sym (one (Err stop.Words) by.0)))
-status_by answer bytes is (Err (stop.NotStore f)) one by =
-    inl (ap status_at (sym (one (Err (stop.NotStore f)) by.0)))
-status_by answer bytes is (Err (stop.Taken n)) one by =
-    inl (ap status_at (sym (one (Err (stop.Taken n)) by.0)))
-status_by answer bytes is (Err stop.Missing) one by = inl (ap status_at (sym (one (Err stop.Missing) by.0)))
-status_by answer bytes is (Err stop.Damaged) one by = inl (ap status_at (sym (one (Err stop.Damaged) by.0)))
-status_by answer bytes is (Err (stop.Line n)) one by =
-    inl (ap status_at (sym (one (Err (stop.Line n)) by.0)))
-status_by answer bytes is (Err stop.Source) one by = inl (ap status_at (sym (one (Err stop.Source) by.0)))
-status_by answer bytes is (Err stop.Budget) one by = inl (ap status_at (sym (one (Err stop.Budget) by.0)))
+status_by answer bytes is (Err why) one by = inl (ap status_at (sym (one (Err why) by.0)))
 
 pub ends_by_the_answer : (c : Command) (file : List ℕ) (answer : Result (List ℕ) StopReason) (status : ℕ)
     (old new : SinkState) → IsAnswer c file answer → Ends (IsAnswer c file) status old new

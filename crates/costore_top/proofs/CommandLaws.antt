@@ -21,13 +21,14 @@ use Rattle.run_command.specs.Headline.{RunPromise, is_session}
 use Rattle.run_command.specs.Sessions.{RunAlways}
 use Rattle.command_face.specs.Refusing.{IsRefused}
 use Rattle.served_file.specs.Unserved.{NeverServed}
+use Rattle.upgrade_command.specs.Upgrading.{UpgradeAlways, UpgradePromise}
 use Rattle.work_command.specs.Working.{WorkAlways, WorkPromise}
 use Rattle.costore_top.specs.Answering.{IsAnswer}
-use Rattle.costore_top.specs.Commands.{Command, check, dump, file_of, format, get, gives_answer, help, makes, map_of, mounts, reads, run, version, work}
+use Rattle.costore_top.specs.Commands.{Command, check, dump, file_of, format, get, gives_answer, help, makes, map_of, mounts, reads, run, upgrade, version, work}
 use Rattle.costore_top.specs.Does.{Does}
 use Rattle.costore_top.specs.declared.help.TheConstants.{HELP, VERSION}
 use Rattle.costore_top.proofs.FaultyLaws.{untouched}
-use Rattle.costore_top.proofs.OtherLaws.{session_not_one, working_not_one, working_plain}
+use Rattle.costore_top.proofs.OtherLaws.{session_not_one, upgrading_not_one, upgrading_plain, working_not_one, working_plain}
 use Rattle.costore_top.proofs.PlainLaws.{Layer}
 
 -- ---- commands that answer
@@ -269,6 +270,7 @@ module _ (o : Outcome) (old new : Devices) (from rest : SourceState) (same_bay s
     headline = λ _. promise;
     session = λ _. (known, always);
     jobs = λ f number count is. absurd (cc);
+    upgrades = λ f is. absurd (cc);
   }
 
   pub working : (file : List ℕ) (number count : ℕ) → same_input
@@ -306,4 +308,36 @@ module _ (o : Outcome) (old new : Devices) (from rest : SourceState) (same_bay s
               (subst (λ x. WorkPromise number x o.status old new) also (promise told)),
           subst (λ x. WorkAlways x o.status old new) also always,
         );
+    upgrades = λ f is. absurd (cc);
+  }
+
+  pub upgrading : (file : List ℕ) → same_input
+      → (IsTrue old.disk.tells → UpgradePromise o.status old new)
+      → (IsTrue old.disk.tells → NeverServed old.disk.file
+      → Ends (IsRefused old.disk.file) o.status old.sink new.sink)
+      → IsMounted file false new.disk.last_mount (o.status ≡ DISK_FAILED) (o.status ≡ NO_FILE)
+      → UpgradeAlways o.status old new → (o.done ≡ 0) × (o.kept_done ≡ 0) × (o.kept_turn ≡ 0)
+      → Does (upgrade file) o old new from rest same_bay same_input
+  upgrading file input promise refused mounted always numbers = record {
+    no_fault = upgrading_not_one o.status always.known;
+    fileless = λ is. absurd (cc);
+    mounted = λ _. mounted;
+    ends = λ is. absurd (cc);
+    memory = λ is. absurd (cc);
+    line_alone = λ is. absurd (cc);
+    dumps = λ f is. absurd (cc);
+    refused = λ _. refused;
+    frame = λ is. absurd (cc);
+    keeps = λ is. absurd (cc);
+    formats = λ f k names is. absurd (cc);
+    silent = λ is. absurd (cc);
+    unread = λ _. record {
+      input = input;
+      no_session = upgrading_plain o.status always.known;
+      numbers = numbers;
+    };
+    headline = λ is. absurd (cc);
+    session = λ is. absurd (cc);
+    jobs = λ f number count is. absurd (cc);
+    upgrades = λ f is. (promise, always);
   }

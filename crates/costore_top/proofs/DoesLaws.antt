@@ -9,9 +9,10 @@ use Rattle.command_face.specs.Outcomes.{Ends}
 use Rattle.command_face.specs.declared.outcome.Outcome.{Outcome}
 use Rattle.run_command.specs.Headline.{RunPromise, is_session}
 use Rattle.run_command.specs.Sessions.{RunAlways}
+use Rattle.upgrade_command.specs.Upgrading.{UpgradeAlways, UpgradePromise}
 use Rattle.work_command.specs.Working.{WorkAlways, WorkPromise}
 use Rattle.costore_top.specs.Answering.{IsAnswer, IsNotRun, ServesNothing}
-use Rattle.costore_top.specs.Commands.{Command, dump, file_of, format, gives_answer, makes, mounts, reads, run, serves, work}
+use Rattle.costore_top.specs.Commands.{Command, dump, file_of, format, gives_answer, makes, mounts, reads, run, serves, upgrade, work}
 use Rattle.costore_top.specs.Does.{Does, is_run}
 use Rattle.costore_top.specs.Promises.{AnswersByItsFile, FormatsSafely, KeepsItsFile, MountsItsFile, ReadsNoInput}
 use Rattle.costore_top.specs.Words.{Means, MeansNone}
@@ -80,3 +81,7 @@ module _ (words : List (List ℕ)) (c : Command) (means : Means words c) (o : Ou
       → (IsTrue old.disk.tells → WorkPromise number count o.status old new)
       × WorkAlways count o.status old new
   jobs_of file number count m = d.jobs file number count (sym (one (work file number count) m))
+
+  pub upgrade_of : (file : List ℕ) → Means words (upgrade file)
+      → (IsTrue old.disk.tells → UpgradePromise o.status old new) × UpgradeAlways o.status old new
+  upgrade_of file m = d.upgrades file (sym (one (upgrade file) m))

@@ -15,7 +15,7 @@ use Rattle.costore_top.specs.Answering.{ServesNothing}
 use Rattle.costore_top.specs.Promises.{AnswersByItsFile, FormatsSafely, KeepsItsFile, MountsItsFile, ReadsNoInput}
 use Rattle.costore_top.specs.Commands.{dump, format}
 use Rattle.costore_top.specs.Words.{MeansNone}
-use Rattle.costore_top.proofs.EndedLaws.{line_unless}
+use Rattle.command_face.proofs.EndedLaws.{line_unless}
 
 -- a disk that was let alone
 pub untouched : (s : State) → Untouched s s

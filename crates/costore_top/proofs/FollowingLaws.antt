@@ -30,6 +30,7 @@ use Rattle.costore_top.specs.Following.{LeavesRoomTwice, MayBegin}
 use Rattle.served_file.specs.Served.{IsNextStart, OpensToBeing, OpensToKept, limits_with, most_left, state_after, found_with}
 use Rattle.disk_face.specs.Devices.{devices}
 use Rattle.run_command.specs.Headline.{RunHolds}
+use Rattle.upgrade_command.specs.Upgrading.{UpgradeHolds, upgraded}
 use Rattle.work_command.specs.Working.{WorkHolds}
 
 -- ---- numbers
@@ -163,4 +164,16 @@ module _ {t : choice.SlotTable} {m : Map} {b : Book} {old z : State} {out after 
       (elim (w.crash room rests below image since) as (λ _. IsOpen image) [
         | inl kept ↦ kept_opens w.start w.ran.replies w.ran.states image kept
         | inr being ↦ being_opens status limits (last_state w.start w.ran.states) w.ran.others image being
+      ])
+
+  pub upgrade_followed : {status : ℕ}
+      → UpgradeHolds (found_with t.chosen.block t m b) status (devices old out) (devices z after)
+      → LeftOnly z old.turn (MayBegin (most_left t.chosen.block.k t))
+  upgrade_followed w image since =
+      let room = room_once t twice in
+      let left = upgraded t.chosen.block.names w.start in
+      begins t (block_high old.file t o.read) twice image (w.numbered room rests below image since)
+      (elim (w.crash room rests below image since) as (λ _. IsOpen image) [
+        | inl start ↦ record { m = w.start.map; b = w.start.book; opens = start }
+        | inr is ↦ record { m = left.map; b = left.book; opens = is }
       ])

@@ -7,21 +7,22 @@ use Rattle.disk_face.specs.States.{State}
 use Rattle.disk_face.specs.Streams.{SinkState, SourceState}
 use Rattle.disk_face.specs.declared.bay.Mounted.TheVariants.{There}
 use Rattle.disk_face.specs.Devices.{Devices, devices}
-use Rattle.command_face.specs.declared.status.TheConstants.{DISK_FAILED, DONE, FAULTY_REQUEST, NO_FILE, SINK_FAILED, SOURCE_FAILED, TOO_MANY}
+use Rattle.command_face.specs.declared.status.TheConstants.{DISK_FAILED, DONE, FAULTY_REQUEST, NO_FILE, SINK_FAILED, SOURCE_FAILED, TOO_MANY_REQUESTS}
 use Rattle.command_face.specs.Layers.{Answers, IsCommandReason, Keeps, KeepsAt, PutsNone}
 use Rattle.command_face.specs.Mounting.{IsMounted, mounted, not_there}
 use Rattle.command_face.specs.Outcomes.{PutsLast, line_at, status_at}
 use Rattle.command_face.specs.declared.outcome.Outcome.{Outcome}
 use Rattle.command_face.specs.declared.stop.StopReason.{StopReason}
 use Rattle.command_face.specs.declared.stop.StopReason.TheVariants as stop
-use Rattle.command_face.proofs.StatusLaws.{calm_by}
 use Rattle.file_commands.specs.Dumped.{Dumps, PutsNoDump}
 use Rattle.file_commands.specs.Formatting.{Formats, IsDone}
 use Rattle.costore_top.specs.Answering.{IsAnswer}
-use Rattle.costore_top.specs.Commands.{Command, dump, file_of, format, gives_answer, makes, mounts, reads, run, serves, work}
+use Rattle.costore_top.specs.Commands.{Command, dump, file_of, format, gives_answer, makes, mounts, reads, run, serves, upgrade, work}
 use Rattle.costore_top.specs.Does.{Does, is_run}
-use Rattle.costore_top.proofs.EndedLaws.{dumped, ended, line_after_none, line_unless, line_unless_damaged}
-use Rattle.costore_top.proofs.StatusEnds.{disk_by, file_by, formats_by, memory_by, ok_by, plain_status, sink_by, words_by}
+use Rattle.command_face.proofs.EndedLaws.{causes_by, ended, line_after_none, line_unless}
+use Rattle.costore_top.proofs.EndedLaws.{dumped, line_unless_damaged}
+use Rattle.command_face.proofs.StatusEnds.{disk_by, file_by, memory_by, words_by}
+use Rattle.costore_top.proofs.StatusEnds.{formats_by, plain_status}
 
 -- What such a command did before its line was put.
 pub record Layer {O : Type 0} (sink_of : O → SinkState) (c : Command) (old new : State) (out put : O)
@@ -58,6 +59,7 @@ does_as {o = o} {old = old} {new = new} {from = from} {rest = rest} {same_bay = 
 run_serves : (c : Command) → IsTrue (is_run c) → IsTrue (serves c)
 run_serves (run file) is = is
 run_serves (work file number count) is = not_both (sym is)
+run_serves (upgrade file) is = not_both (sym is)
 run_serves _ is = is
 
 module _ {O : Type 0} (sink_of : O → SinkState) (c : Command) (none : IsFalse (serves c))
@@ -93,26 +95,13 @@ module _ {O : Type 0} (sink_of : O → SinkState) (c : Command) (none : IsFalse 
         );
       }
 
-  rose_after : (a b d : ℕ) → Rose a b → b ≤ d → Rose a d
-  rose_after a b d rose low = omega (arith, rose, low)
-
   keeps_after : Keeps old new (sink_of out) after (o.status ≡ DISK_FAILED) (o.status ≡ SINK_FAILED)
       (o.status ≡ DONE)
   keeps_after =
       let k = layer.keeps in
       record {
-        causes = record {
-          later = k.causes.later;
-          rose = λ seven. k.causes.rose (disk_by end (sym status ∙ seven));
-          calm = λ other. k.causes.calm
-              (λ disk. other (status ∙ ap (λ (e : Result (Unit {0}) StopReason). status_at e) disk));
-          sink_later = omega (arith, k.causes.sink_later, later);
-          sink_rose = λ nine. rose_after (sink_of out).faults (sink_of put).faults after.faults
-              (k.causes.sink_rose (sink_by end (sym status ∙ nine))) later;
-          sink_calm = λ zero. calm_by end calm (sym status ∙ zero)
-              ∙ k.causes.sink_calm (ok_by end (sym status ∙ zero));
-          sink_told = told ∙ k.causes.sink_told;
-        };
+        causes = causes_by old new (sink_of out) (sink_of put) after end o.status status k.causes later calm
+            told;
         told = k.told;
         images_told = k.images_told;
         few = k.few;
@@ -150,8 +139,8 @@ module _ {O : Type 0} (sink_of : O → SinkState) (c : Command) (none : IsFalse 
         line;
     unread = λ _. record {
       input = input;
-      no_session = subst (λ n. (n ≢ FAULTY_REQUEST) × (n ≢ SOURCE_FAILED) × (n ≢ TOO_MANY)) (sym status)
-          (plain_status end layer.plain);
+      no_session = subst (λ n. (n ≢ FAULTY_REQUEST) × (n ≢ SOURCE_FAILED) × (n ≢ TOO_MANY_REQUESTS))
+          (sym status) (plain_status end layer.plain);
       numbers = (
         ap (λ (x : Outcome). x.done) is,
         ap (λ (x : Outcome). x.kept_done) is,
@@ -161,4 +150,5 @@ module _ {O : Type 0} (sink_of : O → SinkState) (c : Command) (none : IsFalse 
     headline = λ has. serves_not (run_serves c has);
     session = λ has. serves_not (run_serves c has);
     jobs = λ file number count same. serves_not (ap serves same);
+    upgrades = λ file same. serves_not (ap serves same);
   }

@@ -1,6 +1,6 @@
 -- What words ask for, and what each command is to answer.
 use Rattle.std.specs.Prelude.{◌≡◌, ℕ, List, Result, Ok, IsFalse, IsTrue}
-use Rattle.costore_top.specs.Commands.{Command, check, dump, format, get, gives_answer, help, map_of, mounts, run, serves, version, work}
+use Rattle.costore_top.specs.Commands.{Command, check, dump, format, get, gives_answer, help, map_of, mounts, run, serves, upgrade, version, work}
 use Rattle.costore_top.specs.Words.{Means}
 use Rattle.file_commands.specs.Getting.{IsObject}
 use Rattle.file_commands.specs.Texts.{IsChecked, IsMapped}
@@ -12,7 +12,7 @@ use Rattle.file_commands.specs.Formatting.{format_answer}
 abbrev pub NamesNoFile : List (List ℕ) → Type 0
 NamesNoFile words = (c : Command) → Means words c → IsFalse (mounts c)
 
--- the words don't ask for requests to be served
+-- the words don't ask for a store to be opened
 abbrev pub ServesNothing : List (List ℕ) → Type 0
 ServesNothing words = (c : Command) → Means words c → IsFalse (serves c)
 
@@ -33,5 +33,6 @@ IsAnswer (map_of name) file answer = IsMapped file answer
 IsAnswer (run name) file answer = ⊥
 IsAnswer (work name number count) file answer = ⊥
 IsAnswer (dump name) file answer = ⊥
+IsAnswer (upgrade name) file answer = ⊥
 IsAnswer help file answer = answer ≡ Ok HELP.now
 IsAnswer version file answer = answer ≡ Ok VERSION.now

@@ -14,6 +14,8 @@ pub data Command : Type 0 where
   work : List ℕ → ℕ → ℕ → Command
   -- put the dump of the file's map
   dump : List ℕ → Command
+  -- give each object of the file the digest of its bytes
+  upgrade : List ℕ → Command
   help : Command
   version : Command
 
@@ -26,6 +28,7 @@ file_of (map_of file) = file
 file_of (run file) = file
 file_of (work file number count) = file
 file_of (dump file) = file
+file_of (upgrade file) = file
 file_of _ = []
 
 -- the command mounts its file
@@ -37,6 +40,7 @@ mounts (map_of file) = true
 mounts (run file) = true
 mounts (work file number count) = true
 mounts (dump file) = true
+mounts (upgrade file) = true
 mounts _ = false
 
 -- the command makes its file where it isn't there
@@ -52,21 +56,24 @@ reads (map_of file) = true
 reads (run file) = true
 reads (work file number count) = true
 reads (dump file) = true
+reads (upgrade file) = true
 reads _ = false
 
--- the command serves requests, those of its input or those of a number
+-- the command opens a store over its file, to serve requests, those of its input or those of a number, or to
+-- give each object its digest
 abbrev pub serves : Command → Bool
 serves (run file) = true
 serves (work file number count) = true
+serves (upgrade file) = true
 serves _ = false
 
 -- the command ends by the one answer that there is to the bytes of its file, and puts all of it or nothing
--- but
--- the line of its end, unless a device failed
+-- but the line of its end, unless a device failed
 abbrev pub gives_answer : Command → Bool
 gives_answer (run file) = false
 gives_answer (work file number count) = false
 gives_answer (dump file) = false
+gives_answer (upgrade file) = false
 gives_answer _ = true
 
 -- the command may change its file, or make it
@@ -74,4 +81,5 @@ abbrev pub changes : Command → Bool
 changes (format file k names) = true
 changes (run file) = true
 changes (work file number count) = true
+changes (upgrade file) = true
 changes _ = false

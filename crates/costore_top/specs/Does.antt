@@ -13,9 +13,10 @@ use Rattle.run_command.specs.Headline.{RunPromise, is_session}
 use Rattle.run_command.specs.Sessions.{RunAlways}
 use Rattle.command_face.specs.Refusing.{IsRefused}
 use Rattle.served_file.specs.Unserved.{NeverServed}
+use Rattle.upgrade_command.specs.Upgrading.{UpgradeAlways, UpgradePromise}
 use Rattle.work_command.specs.Working.{WorkAlways, WorkPromise}
 use Rattle.costore_top.specs.Answering.{IsAnswer}
-use Rattle.costore_top.specs.Commands.{Command, dump, file_of, format, gives_answer, makes, mounts, reads, run, serves, work}
+use Rattle.costore_top.specs.Commands.{Command, dump, file_of, format, gives_answer, makes, mounts, reads, run, serves, upgrade, work}
 use Rattle.costore_top.specs.Promises.{DumpsItsFile, PutsLineAlone, ReadsNoInput}
 
 -- it serves the requests of its input
@@ -53,3 +54,5 @@ pub record Does (c : Command) (o : Outcome) (old new : Devices) (from rest : Sou
   pub jobs : (file : List ℕ) (number count : ℕ) → c ≡ work file number count
       → (IsTrue old.disk.tells → WorkPromise number count o.status old new)
       × WorkAlways count o.status old new
+  pub upgrades : (file : List ℕ) → c ≡ upgrade file
+      → (IsTrue old.disk.tells → UpgradePromise o.status old new) × UpgradeAlways o.status old new

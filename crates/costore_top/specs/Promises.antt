@@ -9,7 +9,7 @@ use Rattle.command_face.specs.Layers.{Keeps}
 use Rattle.command_face.specs.Mounting.{IsMounted}
 use Rattle.command_face.specs.Outcomes.{Ends, IsFront, PutsLast, PutsLine, line_at, status_at}
 use Rattle.command_face.specs.declared.outcome.Outcome.{Outcome}
-use Rattle.command_face.specs.declared.status.TheConstants.{DAMAGED_OBJECT, DISK_FAILED, DONE, FAULTY_REQUEST, NO_FILE, NO_MEMORY, SINK_FAILED, SOURCE_FAILED, TOO_MANY}
+use Rattle.command_face.specs.declared.status.TheConstants.{DAMAGED_OBJECT, DISK_FAILED, DONE, FAULTY_REQUEST, NO_FILE, NO_MEMORY, SINK_FAILED, SOURCE_FAILED, TOO_MANY_REQUESTS}
 use Rattle.command_face.specs.declared.stop.StopReason.{StopReason}
 use Rattle.command_face.specs.declared.stop.StopReason.TheVariants as stop
 use Rattle.file_commands.specs.Dumped.{EndsDump}
@@ -58,7 +58,7 @@ pub record DumpsItsFile (status : ℕ) (old new : Devices) : Type 0 where
 
 -- The bytes of the file decide the status, and what is put. A command that gives an answer ends by the one
 -- that there is to them; only memory may be wanting for its table, before any byte is put. `dump` ends as
--- they say. A file that doesn't open ends one that serves requests as its first refusal says.
+-- they say. A file that doesn't open ends one that opens a store as its first refusal says.
 pub record AnswersByItsFile (words : List (List ℕ)) (status : ℕ) (old new : Devices) : Type 0 where
   pub ends : (c : Command) → Means words c → IsTrue (gives_answer c)
       → (IsTrue (mounts c) → IsTrue old.disk.tells)
@@ -69,7 +69,7 @@ pub record AnswersByItsFile (words : List (List ℕ)) (status : ℕ) (old new : 
   pub refused : (c : Command) → Means words c → IsTrue (serves c) → IsTrue old.disk.tells
       → NeverServed old.disk.file → Ends (IsRefused old.disk.file) status old.sink new.sink
 
--- What a call keeps that serves no requests: only `format` touches its file, and the devices' own faults
+-- What a call keeps that opens no store: only `format` touches its file, and the devices' own faults
 -- have their causes.
 pub record KeepsItsFile (words : List (List ℕ)) (status : ℕ) (old new : Devices) : Type 0 where
   pub frame : ((c : Command) → Means words c → IsFalse (makes c)) → Untouched old.disk new.disk
@@ -89,5 +89,5 @@ pub record FormatsSafely (words : List (List ℕ)) (status : ℕ) (old new : Dev
 -- 0.
 pub record ReadsNoInput (o : Outcome) (same_input : Type 0) : Type 0 where
   pub input : same_input
-  pub no_session : (o.status ≢ FAULTY_REQUEST) × (o.status ≢ SOURCE_FAILED) × (o.status ≢ TOO_MANY)
+  pub no_session : (o.status ≢ FAULTY_REQUEST) × (o.status ≢ SOURCE_FAILED) × (o.status ≢ TOO_MANY_REQUESTS)
   pub numbers : (o.done ≡ 0) × (o.kept_done ≡ 0) × (o.kept_turn ≡ 0)

@@ -5,7 +5,7 @@ use Rattle.std.specs.Borrow.{Bor}
 use Rattle.slot_codec.specs.Names.{IsName}
 use Rattle.costore_top.specs.declared.words.Command as read
 use Rattle.costore_top.specs.declared.words.Command.TheVariants as asked
-use Rattle.costore_top.specs.Commands.{Command, format, get, check, map_of, run, work, dump, help, version}
+use Rattle.costore_top.specs.Commands.{Command, format, get, check, map_of, run, work, dump, upgrade, help, version}
 
 -- the words of a command line
 abbrev pub spelled : Command → List (List ℕ)
@@ -16,6 +16,7 @@ spelled (map_of file) = codes "map" ∷ file ∷ []
 spelled (run file) = codes "run" ∷ file ∷ []
 spelled (work file number count) = codes "work" ∷ file ∷ decimal number ∷ decimal count ∷ []
 spelled (dump file) = codes "dump" ∷ file ∷ []
+spelled (upgrade file) = codes "upgrade" ∷ file ∷ []
 spelled help = codes "--help" ∷ []
 spelled version = codes "--version" ∷ []
 
@@ -31,6 +32,7 @@ IsCommand (map_of file) = IsFile file
 IsCommand (run file) = IsFile file
 IsCommand (work file number count) = IsFile file × (number < 2 ^ 64) × (1 ≤ count) × (count ≤ 1000000)
 IsCommand (dump file) = IsFile file
+IsCommand (upgrade file) = IsFile file
 IsCommand help = Unit {0}
 IsCommand version = Unit {0}
 
@@ -55,5 +57,6 @@ command_of (asked.Map file) = map_of file.now
 command_of (asked.Run file) = run file.now
 command_of (asked.Work file number count) = work file.now number count
 command_of (asked.Dump file) = dump file.now
+command_of (asked.Upgrade file) = upgrade file.now
 command_of asked.Help = help
 command_of asked.Version = version

@@ -11,6 +11,7 @@ use disk_face::{Bay, Sink, Source};
 use file_commands::{check_from, dump_from, format_in, get_from, map_from};
 use run_command::run_file;
 use std::alloc::Global;
+use upgrade_command::upgrade_file;
 use work_command::work_file;
 
 /// Does what a command asks, and puts the fault line last.
@@ -37,6 +38,7 @@ pub fn do_command<B: Bay, I: Source, O: Sink>(
         Command::Work(file, number, count) => {
             work_file(alloc, bay, file, *number, *count, output)
         }
+        Command::Upgrade(file) => upgrade_file(alloc, bay, file, output),
         Command::Help => finish(put_whole(output, HELP.as_bytes()), output),
         Command::Version => finish(put_whole(output, VERSION.as_bytes()), output),
     }

@@ -3,9 +3,10 @@ ghost use Rattle.std.specs.Prelude.{◌≡◌, ◌⊎◌, ◌↔◌, ℕ, List, 
 ghost use Rattle.disk_face.specs.Devices.{devices};
 ghost use Rattle.run_command.specs.Headline.{RunPromise, is_session};
 ghost use Rattle.run_command.specs.Sessions.{RunAlways};
+ghost use Rattle.upgrade_command.specs.Upgrading.{UpgradeAlways, UpgradePromise};
 ghost use Rattle.work_command.specs.Working.{WorkPromise, WorkAlways};
 ghost use Rattle.costore_top.specs.Answering.{IsNotRun, ServesNothing};
-ghost use Rattle.costore_top.specs.Commands.{run, work};
+ghost use Rattle.costore_top.specs.Commands.{run, upgrade, work};
 ghost use Rattle.costore_top.specs.Promises.{AnswersByItsFile, FormatsSafely, KeepsItsFile, MountsItsFile, ReadsNoInput};
 ghost use Rattle.costore_top.specs.Words.{Means, MeansNone, texts};
 
@@ -37,7 +38,7 @@ pub fn costore<B: Bay, I: Source, O: Sink>(
     ensures answers { AnswersByItsFile (texts words.now) result.status
         (devices (B.state bay.old) (O.state output.old)) (devices (B.state bay.new) (O.state output.new)) }
 
-    // `format` alone makes changing calls, and only on an empty file, if no requests are to be served. The
+    // `format` alone makes changing calls, and only on an empty file, if no store is to be opened. The
     // devices' own faults have their causes.
     ensures keeps { ServesNothing (texts words.now) → KeepsItsFile (texts words.now) result.status
         (devices (B.state bay.old) (O.state output.old)) (devices (B.state bay.new) (O.state output.new)) }
@@ -64,6 +65,13 @@ pub fn costore<B: Bay, I: Source, O: Sink>(
         → (IsTrue (B.state bay.old).tells → WorkPromise number count result.status
         (devices (B.state bay.old) (O.state output.old)) (devices (B.state bay.new) (O.state output.new)))
         × WorkAlways count result.status (devices (B.state bay.old) (O.state output.old))
+        (devices (B.state bay.new) (O.state output.new)) }
+
+    // `upgrade` gives each object of its file the digest of its bytes.
+    ensures digests { (file : List ℕ) → Means (texts words.now) (upgrade file)
+        → (IsTrue (B.state bay.old).tells → UpgradePromise result.status
+        (devices (B.state bay.old) (O.state output.old)) (devices (B.state bay.new) (O.state output.new)))
+        × UpgradeAlways result.status (devices (B.state bay.old) (O.state output.old))
         (devices (B.state bay.new) (O.state output.new)) }
 {
     match read_command(words) {

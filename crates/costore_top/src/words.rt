@@ -19,6 +19,7 @@ pub enum Command<'a> {
     /// The file, the number of the jobs, and how many jobs (1 to 1,000,000).
     Work(&'a str, u64, u64),
     Dump(&'a str),
+    Upgrade(&'a str),
     Help,
     Version,
 }
@@ -30,6 +31,7 @@ impl Command<'_> {
     {
         match self {
             Command::Format(_, _, _) | Command::Run(_) | Command::Work(_, _, _) => true,
+            Command::Upgrade(_) => true,
             _ => false,
         }
     }
@@ -78,6 +80,8 @@ fn two_words<'a>(command: &str, file: &'a str) -> Option<Command<'a>>
         Some(Command::Run(file))
     } else if says(command, "dump") {
         Some(Command::Dump(file))
+    } else if says(command, "upgrade") {
+        Some(Command::Upgrade(file))
     } else {
         None
     }

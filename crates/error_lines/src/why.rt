@@ -81,6 +81,14 @@ impl Display for Why<'_> {
                     "{file}: damaged: the bytes of the object don't have the digest that it was put with"
                 )
             }
+            14 => {
+                let number = self.said("fault too many ").unwrap_or("some");
+                write!(
+                    f,
+                    "{file}: too-many-names: it has {number}, and a table whose records have digests has room for fewer"
+                )
+            }
+            15 => write!(f, "{file}: worn: it was saved as often as a file may be"),
             _ => f.write_str("io: it failed"),
         }
     }

@@ -35,6 +35,14 @@ const FORMS: &[Form] = &[
         words: &["FILE", "NUMBER", "COUNT"],
     },
     Form {
+        command: "dump",
+        words: &["FILE"],
+    },
+    Form {
+        command: "upgrade",
+        words: &["FILE"],
+    },
+    Form {
         command: "--help",
         words: &[],
     },

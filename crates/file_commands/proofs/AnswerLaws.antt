@@ -27,14 +27,7 @@ stopped answer old new why same no_sink stops = record {
     ends_of stop.Sink not_sink is = absurd (not_sink refl)
     ends_of stop.NoFile not_sink is = refl
     ends_of stop.NoMemory not_sink is = refl
-    ends_of stop.Words not_sink is = (is, refl)
-    ends_of (stop.NotStore f) not_sink is = (is, refl)
-    ends_of (stop.Taken n) not_sink is = (is, refl)
-    ends_of stop.Missing not_sink is = (is, refl)
-    ends_of stop.Damaged not_sink is = (is, refl)
-    ends_of (stop.Line n) not_sink is = (is, refl)
-    ends_of stop.Source not_sink is = (is, refl)
-    ends_of stop.Budget not_sink is = (is, refl)
+    ends_of why not_sink is = (is, refl)
 
 -- a layer puts what it is to answer, unless the sink fails
 pub put_answer : (answer : Result (List ℕ) StopReason → Type 0) (bytes : List ℕ) (old new : SinkState)
@@ -93,14 +86,7 @@ answers_more answer other more old new end is = record {
     ends_of (Err stop.Sink) by = more (Ok is.bytes) by
     ends_of (Err stop.NoFile) by = by
     ends_of (Err stop.NoMemory) by = by
-    ends_of (Err stop.Words) by = (more (Err stop.Words) by.0, by.1)
-    ends_of (Err (stop.NotStore f)) by = (more (Err (stop.NotStore f)) by.0, by.1)
-    ends_of (Err (stop.Taken n)) by = (more (Err (stop.Taken n)) by.0, by.1)
-    ends_of (Err stop.Missing) by = (more (Err stop.Missing) by.0, by.1)
-    ends_of (Err stop.Damaged) by = (more (Err stop.Damaged) by.0, by.1)
-    ends_of (Err (stop.Line n)) by = (more (Err (stop.Line n)) by.0, by.1)
-    ends_of (Err stop.Source) by = (more (Err stop.Source) by.0, by.1)
-    ends_of (Err stop.Budget) by = (more (Err stop.Budget) by.0, by.1)
+    ends_of (Err why) by = (more (Err why) by.0, by.1)
 
 -- what stops one command as it is to stops another that answers more
 pub stops_more : (answer other : Result (List ℕ) StopReason → Type 0)
@@ -108,16 +94,7 @@ pub stops_more : (answer other : Result (List ℕ) StopReason → Type 0)
     → StopsAs other why
 stops_more answer other more stop.Disk is = tt
 stops_more answer other more stop.NoMemory is = tt
-stops_more answer other more stop.Sink is = more (Err stop.Sink) is
-stops_more answer other more stop.NoFile is = more (Err stop.NoFile) is
-stops_more answer other more stop.Words is = more (Err stop.Words) is
-stops_more answer other more (stop.NotStore f) is = more (Err (stop.NotStore f)) is
-stops_more answer other more (stop.Taken n) is = more (Err (stop.Taken n)) is
-stops_more answer other more stop.Missing is = more (Err stop.Missing) is
-stops_more answer other more stop.Damaged is = more (Err stop.Damaged) is
-stops_more answer other more (stop.Line n) is = more (Err (stop.Line n)) is
-stops_more answer other more stop.Source is = more (Err stop.Source) is
-stops_more answer other more stop.Budget is = more (Err stop.Budget) is
+stops_more answer other more why is = more (Err why) is
 
 -- want of memory stops any command before it puts any
 pub stopped_for_memory : (answer : Result (List ℕ) StopReason → Type 0) (state : SinkState) (why : StopReason)

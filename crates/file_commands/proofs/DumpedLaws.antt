@@ -116,13 +116,7 @@ ends_unread file stop.Sink sink gone damaged is = absurd (sink refl)
 ends_unread file stop.NoFile sink gone damaged is = absurd (gone refl)
 ends_unread file stop.Damaged sink gone damaged is = absurd (damaged refl)
 ends_unread file stop.NoMemory sink gone damaged is = refl
-ends_unread file stop.Words sink gone damaged is = (is, refl)
-ends_unread file (stop.NotStore f) sink gone damaged is = (is, refl)
-ends_unread file (stop.Taken n) sink gone damaged is = (is, refl)
-ends_unread file stop.Missing sink gone damaged is = (is, refl)
-ends_unread file (stop.Line n) sink gone damaged is = (is, refl)
-ends_unread file stop.Source sink gone damaged is = (is, refl)
-ends_unread file stop.Budget sink gone damaged is = (is, refl)
+ends_unread file why sink gone damaged is = (is, refl)
 
 -- the file isn't there, or its mount failed
 pub dumps_unmounted : (name : List ℕ) (before after : State) (file : List ℕ) (state : SinkState)

@@ -185,3 +185,20 @@ fn dumps_what_stands_before_a_damaged_object(rt: HostRuntime) {
     );
     try_two(&rt, rt.alloc(), &changes, &row);
 }
+
+/// The one byte of the second object that is changed, at a place of it: the object is damaged, and the other
+/// one isn't.
+fn try_byte(rt: &impl Abort, alloc: Global, at: usize) {
+    let changes = [(152, 100), (8624, 0), (8728, 0), (at, 1)];
+    let damaged: Two = (&["get", "f", "b"], 13, b"fault damaged\n");
+    try_two(rt, alloc, &changes, &damaged);
+    let other: Two = (GET, 0, b"");
+    try_two(rt, alloc, &changes, &other);
+}
+
+#[test]
+fn tells_of_each_byte_of_an_object_that_was_changed(rt: HostRuntime) {
+    for at in 19_603..19_703 {
+        try_byte(&rt, rt.alloc(), at);
+    }
+}

@@ -75,6 +75,7 @@ const DONE: &[Told] = &told! {
     ["check", "f"] => 9 "";
     ["map", "f"] => 9 "";
     ["dump", "f"] => 9 "";
+    ["upgrade", "f"] => 9 "";
     ["work", "f", "1", "1"] => 9 "";
     ["--help"] => 9 "";
     ["--version"] => 9 "";

@@ -44,6 +44,7 @@ const COMMANDS: &[&[&str]] = &[
     &["dump", "f"],
     &["run", "f"],
     &["work", "f", "1", "1"],
+    &["upgrade", "f"],
 ];
 
 /// The status of a file that is no store.

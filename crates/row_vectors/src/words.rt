@@ -32,6 +32,10 @@ const COMMANDS: &[Told] = &told! {
     ["dump", "g"] => 3 "fault no file\n";
     ["dump", ""] => 1 "fault words\n";
     ["dump", "f", "a"] => 1 "fault words\n";
+    ["upgrade", "f"] => 0 "upgraded\n";
+    ["upgrade", "g"] => 3 "fault no file\n";
+    ["upgrade", ""] => 1 "fault words\n";
+    ["upgrade", "f", "a"] => 1 "fault words\n";
     ["format", "f", "9", "16"] => 5 "fault taken 19608\n";
     ["--version"] => 0 "costore 0.1.0\n";
 };
@@ -62,6 +66,7 @@ const PAGE: &[&str] = &[
     "  costore dump FILE                 puts all its objects as one stream",
     "  costore run FILE                  serves requests from standard input",
     "  costore work FILE NUMBER COUNT    does COUNT jobs that NUMBER draws, and puts a summary",
+    "  costore upgrade FILE              gives each object a digest, by which damage is found",
     "  costore --help                    puts this page",
     "  costore --version                 puts the version",
     "",
@@ -80,7 +85,7 @@ const PAGE: &[&str] = &[
     "",
     "status: 0 done, 1 faulty words, 2 a faulty request, 3 no such file, 4 no store, 5 the file isn't empty,",
     "6 no such object, 7 the disk failed, 8 the input failed, 9 the output failed, 10 out of memory,",
-    "11 too many requests, 13 the object was damaged.",
+    "11 too many requests, 13 the object was damaged, 14 too many names, 15 the file has saved too often.",
     "At each status but 0 and 9 one line that begins with fault is put last, but where there is no memory for",
     "the words.",
     "",

@@ -26,7 +26,7 @@ use Rattle.ask_session.specs.Sittings.{Sitting, new_sitting, unread}
 use Rattle.ask_session.specs.Runs.{HasRun, budget, calls_since, last_kept, last_state}
 use Rattle.served_file.specs.Served.{EndsTight, IsNextStart, OpensTo, OpensToKept, Ran, Starts, has_failed, limits_with, most_left, state_after, turn_opened, found_with}
 use Rattle.run_command.specs.Headline.{HowFar, IsLong, IsTold, NumbersLine, RunHolds, next_reply, next_saves, next_states, served_states}
-use Rattle.command_face.specs.declared.status.TheConstants.{DISK_FAILED, DONE, FAULTY_REQUEST, SINK_FAILED, SOURCE_FAILED, TOO_MANY}
+use Rattle.command_face.specs.declared.status.TheConstants.{DISK_FAILED, DONE, FAULTY_REQUEST, SINK_FAILED, SOURCE_FAILED, TOO_MANY_REQUESTS}
 use Rattle.command_face.specs.Outcomes.{PutsLast, line_at, status_at}
 use Rattle.command_face.specs.declared.stop.StopReason.{StopReason}
 use Rattle.command_face.specs.declared.outcome.Outcome.{Outcome}
@@ -182,9 +182,9 @@ module _ (h : SoFar) where
           limit = (λ is. absurd (omega (arith, is)), λ is. absurd (some_left fewer is));
         })
 
-    pub all_answered : TOO_MANY ≡ status_at ending → n ≡ budget → RunsWith TOO_MANY
+    pub all_answered : TOO_MANY_REQUESTS ≡ status_at ending → n ≡ budget → RunsWith TOO_MANY_REQUESTS
     all_answered status_is all =
-        between_requests after rest TOO_MANY refl refl (λ is. omega (arith, is))
+        between_requests after rest TOO_MANY_REQUESTS refl refl (λ is. omega (arith, is))
         (λ is. omega (arith, is)) sound ending
         status_is numbered line (record {
           known = refl;

@@ -11,7 +11,7 @@ use Rattle.ask_session.specs.Inputs.{is_source}
 use Rattle.ask_session.specs.Turns.{IsStopped}
 use Rattle.ask_session.specs.declared.ends.End.{End}
 use Rattle.ask_session.specs.declared.ends.End.TheVariants as ends
-use Rattle.command_face.specs.declared.status.TheConstants.{DISK_FAILED, DONE, FAULTY_REQUEST, NO_FILE, NO_MEMORY, NO_STORE, SINK_FAILED, SOURCE_FAILED, TOO_MANY}
+use Rattle.command_face.specs.declared.status.TheConstants.{DISK_FAILED, DONE, FAULTY_REQUEST, NO_FILE, NO_MEMORY, NO_STORE, SINK_FAILED, SOURCE_FAILED, TOO_MANY_REQUESTS}
 use Rattle.command_face.specs.Outcomes.{status_at}
 use Rattle.run_command.specs.Sessions.{IsUnserved, end_of}
 use Rattle.command_face.specs.declared.stop.StopReason.{StopReason}
@@ -123,7 +123,8 @@ module _ {D I O : Type 0} (seen : Seen D I O) (before now : Held D I O) (s : Sto
   session_keeps ends.Budget y = quietly ends.Budget y (y.same_disk refl) (y.same_sink refl)
       (ap (λ (x : Sitting). x.kept_turn) y.last_turn.1)
       (λ is. omega (arith, is)) (λ is. omega (arith, is)) (λ is. absurd (omega (arith, is)))
-      (none_of TOO_MANY (λ is. omega (arith, is)) (λ is. omega (arith, is)) (λ is. omega (arith, is)))
+      (none_of TOO_MANY_REQUESTS (λ is. omega (arith, is)) (λ is. omega (arith, is))
+      (λ is. omega (arith, is)))
   session_keeps ends.Disk y = stopped ends.Disk y ends.Disk y.last_turn (λ is. refl)
       (λ is. absurd (omega (arith, is))) (λ is. omega (arith, is)) (λ is. omega (arith, is))
       (none_of DISK_FAILED (λ is. omega (arith, is)) (λ is. omega (arith, is)) (λ is. omega (arith, is)))

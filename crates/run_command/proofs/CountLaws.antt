@@ -14,7 +14,7 @@ use Rattle.ask_session.specs.Runs.{EndsRun, budget, last_kept}
 use Rattle.ask_session.specs.Turns.{SameCounts}
 use Rattle.ask_session.specs.declared.ends.End.{End}
 use Rattle.ask_session.specs.declared.ends.End.TheVariants as ends
-use Rattle.command_face.specs.declared.status.TheConstants.{TOO_MANY}
+use Rattle.command_face.specs.declared.status.TheConstants.{TOO_MANY_REQUESTS}
 use Rattle.command_face.specs.Refusing.{stop_of}
 use Rattle.run_command.specs.Headline.{HasMounted}
 use Rattle.command_face.specs.Outcomes.{status_at, status_of}
@@ -51,7 +51,7 @@ kept_within done kept (reply ∷ replies) low few =
     next false = omega (arith, low, few)
 
 -- no session was begun
-none_counted : (why : StopReason) (turn : ℕ) (told mounted : Type 0) → status_of why ≢ TOO_MANY
+none_counted : (why : StopReason) (turn : ℕ) (told mounted : Type 0) → status_of why ≢ TOO_MANY_REQUESTS
     → HasCounted (outcome_of (unserved why turn)) told mounted
 none_counted why turn told mounted other = record {
   none = λ is. (refl, refl);
@@ -72,7 +72,7 @@ module _ {D I O : Type 0} (seen : Seen D I O) (start now : Held D I O) (s : Stor
     done_is : new.done ≡ y.n
     done_is = omega (arith, same.done, y.ran.done, y.few)
 
-    numbers : (status_at (end_of how new.done) ≡ TOO_MANY) ↔ (new.done ≡ budget) → HasThese how
+    numbers : (status_at (end_of how new.done) ≡ TOO_MANY_REQUESTS) ↔ (new.done ≡ budget) → HasThese how
     numbers limit = record {
       none = λ is. elim is as (λ _. (new.done ≡ 0) × (new.kept_done ≡ 0)) [
         | inl unserved ↦ absurd ((session_keeps seen start now s new how y).served unserved)
@@ -89,7 +89,7 @@ module _ {D I O : Type 0} (seen : Seen D I O) (start now : Held D I O) (s : Stor
     }
 
     -- it ended before as many were answered as may be
-    before : (status_at (end_of how new.done) ≢ TOO_MANY) → y.n ≢ budget → HasThese how
+    before : (status_at (end_of how new.done) ≢ TOO_MANY_REQUESTS) → y.n ≢ budget → HasThese how
     before other fewer = numbers (λ is. absurd (other is), λ is. absurd (fewer (sym done_is ∙ is)))
 
   session_counted : (how : End) → Session how → HasThese how
@@ -118,7 +118,7 @@ module _ {D I O : Type 0} (seen : Seen D I O) (file : List ℕ) (before now : He
   abbrev All : SessionEnd → Type 0
   All x = HasCounted (outcome_of x) (IsTrue (seen.disk before.disk).tells) (HasMounted (seen.disk now.disk))
 
-  none_of : (why : StopReason) (turn : ℕ) → status_of why ≢ TOO_MANY → e ≡ unserved why turn → All e
+  none_of : (why : StopReason) (turn : ℕ) → status_of why ≢ TOO_MANY_REQUESTS → e ≡ unserved why turn → All e
   none_of why turn other is = subst All (sym is)
       (none_counted why turn (IsTrue (seen.disk before.disk).tells) (HasMounted (seen.disk now.disk)) other)
 
@@ -131,7 +131,7 @@ module _ {D I O : Type 0} (seen : Seen D I O) (file : List ℕ) (before now : He
     where
       by : OpenRunSteps seen (held x.first before.source before.sink) now e → All e
       by (inl (inl is, source, sink)) = none_of (stop_of is.fault) (seen.disk now.disk).turn
-          (not_status is.fault TOO_MANY (λ n. omega (arith, n)) (λ n. omega (arith, n))
+          (not_status is.fault TOO_MANY_REQUESTS (λ n. omega (arith, n)) (λ n. omega (arith, n))
           (λ n. omega (arith, n)))
           is.ended
       by (inl (inr is, source, sink)) =

@@ -32,7 +32,7 @@ use Rattle.ask_session.specs.declared.ends.Turn.TheVariants as turn
 use Rattle.ask_session.specs.Runs.{EndsRun, budget}
 use Rattle.ask_session.specs.declared.ends.End.{End}
 use Rattle.ask_session.specs.declared.ends.End.TheVariants as ends
-use Rattle.command_face.specs.declared.status.TheConstants.{DISK_FAILED, DONE, FAULTY_REQUEST, NO_FILE, NO_MEMORY, SOURCE_FAILED, TOO_MANY}
+use Rattle.command_face.specs.declared.status.TheConstants.{DISK_FAILED, DONE, FAULTY_REQUEST, NO_FILE, NO_MEMORY, SOURCE_FAILED, TOO_MANY_REQUESTS}
 use Rattle.command_face.specs.Refusing.{stop_of}
 use Rattle.served_file.specs.Served.{found_with}
 use Rattle.run_command.specs.Headline.{HasMounted, HowFar, RunHolds}
@@ -329,7 +329,7 @@ module _ {D I O : Type 0} (seen : Seen D I O) (lawful : (d : D) → IsLawful (se
             kept_turn = ap (λ (x : Sitting). x.kept_turn) same;
           };
         } in
-        carried ends.Budget y sound ended un refl TOO_MANY refl
+        carried ends.Budget y sound ended un refl TOO_MANY_REQUESTS refl
         (all_answered (so_far ends.Budget y) after
         (seen.source now.source) (sound_mid ends.Budget y sound ended un refl) (Err stop.Budget) tt
         (line_mid ends.Budget y sound ended un refl) refl y.last_turn.0)

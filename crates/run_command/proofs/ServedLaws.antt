@@ -12,7 +12,7 @@ use Rattle.map_model.specs.Maps.{Map}
 use Rattle.map_model.specs.Requests.{Request}
 use Rattle.segment_layout.specs.Books.{Book}
 use Rattle.ask_session.specs.Runs.{budget}
-use Rattle.command_face.specs.declared.status.TheConstants.{DISK_FAILED, DONE, FAULTY_REQUEST, NO_FILE, NO_MEMORY, SINK_FAILED, SOURCE_FAILED, TOO_MANY}
+use Rattle.command_face.specs.declared.status.TheConstants.{DISK_FAILED, DONE, FAULTY_REQUEST, NO_FILE, NO_MEMORY, SINK_FAILED, SOURCE_FAILED, TOO_MANY_REQUESTS}
 use Rattle.command_face.specs.Mounting.{IsMounted, mounted}
 use Rattle.run_command.specs.Headline.{RunHolds, is_session}
 use Rattle.run_command.specs.Sessions.{KeepsRun}
@@ -22,7 +22,7 @@ use Rattle.served_file.specs.Served.{found_by}
 
 -- of a session's statuses those are left that no fault has, of a device or of the input
 status_calm : (n : ℕ) → is_session n ≡ true → n ≢ FAULTY_REQUEST → n ≢ NO_FILE → n ≢ DISK_FAILED
-    → n ≢ SOURCE_FAILED → n ≢ SINK_FAILED → n ≢ TOO_MANY
+    → n ≢ SOURCE_FAILED → n ≢ SINK_FAILED → n ≢ TOO_MANY_REQUESTS
     → (n ≡ DONE) ⊎ (n ≡ NO_MEMORY)
 status_calm n known two three seven eight nine eleven = elim (cases_eq n DONE)
     as (λ _. (n ≡ DONE) ⊎ (n ≡ NO_MEMORY)) [

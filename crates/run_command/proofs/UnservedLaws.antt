@@ -8,7 +8,7 @@ use Rattle.map_model.specs.Maps.{Map}
 use Rattle.segment_layout.specs.Books.{Book, book_end}
 use Rattle.table_rules.specs.Opening.{Opens}
 use Rattle.served_file.specs.Served.{IsNextStart, OpensTo, Starts, limits_with, turn_opened, found_with}
-use Rattle.command_face.specs.declared.status.TheConstants.{DONE, FAULTY_REQUEST, NO_MEMORY, SINK_FAILED, TOO_MANY}
+use Rattle.command_face.specs.declared.status.TheConstants.{DONE, FAULTY_REQUEST, NO_MEMORY, SINK_FAILED, TOO_MANY_REQUESTS}
 use Rattle.command_face.specs.Outcomes.{PutsLast, line_at, status_at}
 use Rattle.disk_face.specs.Counts.{IsCalm, Rose, last}
 use Rattle.disk_face.specs.States.{IsLawful, State}
@@ -34,7 +34,7 @@ never_true is = let e : true ≡ false = sym is in absurd (cc)
 -- how far a call came that answered no request
 pub none_far : (status : ℕ) (requests : List Request) (end : List ℕ) (from rest : SourceState)
     → is_session status ≡ true → status ≢ DONE → status ≢ FAULTY_REQUEST → status ≢ SINK_FAILED
-    → status ≢ TOO_MANY
+    → status ≢ TOO_MANY_REQUESTS
     → (status ≡ NO_MEMORY → rest ≡ from) → HowFar status 0 requests end from rest
 none_far status requests end from rest known done line sink limit memory = record {
   known = known;

@@ -28,7 +28,7 @@ use Rattle.command_face.specs.declared.stop.StopReason.TheVariants as stop
 use Rattle.command_face.specs.declared.outcome.Outcome.{Outcome}
 use Rattle.disk_face.specs.Devices.{Devices}
 use Rattle.served_file.specs.Served.{Found, found_by, limits_with, Starts, Ran, state_after, OpensTo, has_failed, EndsTight, OpensToKept, OpensToBeing, most_left, IsNextStart, turn_opened}
-use Rattle.command_face.specs.declared.status.TheConstants.{DISK_FAILED, DONE, FAULTY_REQUEST, NO_FILE, NO_MEMORY, NO_STORE, SINK_FAILED, SOURCE_FAILED, TOO_MANY}
+use Rattle.command_face.specs.declared.status.TheConstants.{DISK_FAILED, DONE, FAULTY_REQUEST, NO_FILE, NO_MEMORY, NO_STORE, SINK_FAILED, SOURCE_FAILED, TOO_MANY_REQUESTS}
 
 -- ---- the request that comes next
 
@@ -63,12 +63,12 @@ NextIsSafe limits s (r ∷ others) images = 0 < (served limits s r).saves.least
 abbrev pub is_session : ℕ → Bool
 is_session status = (status == DONE) || (status == FAULTY_REQUEST) || (status == NO_FILE)
     || (status == DISK_FAILED) || (status == SOURCE_FAILED) || (status == SINK_FAILED)
-    || (status == NO_MEMORY) || (status == TOO_MANY)
+    || (status == NO_MEMORY) || (status == TOO_MANY_REQUESTS)
 
 -- the session served its requests, and no disk or sink failed
 abbrev pub is_whole : ℕ → Bool
 is_whole status = (status == DONE) || (status == FAULTY_REQUEST) || (status == SOURCE_FAILED)
-    || (status == TOO_MANY)
+    || (status == TOO_MANY_REQUESTS)
 
 -- opening had an end that isn't want of memory
 abbrev pub has_opened : ℕ → Bool
@@ -124,7 +124,7 @@ pub record HowFar (status n : ℕ) (others : List Request) (end : List ℕ)
   pub sink : status ≡ SINK_FAILED → others ≢ []
   pub memory : status ≡ NO_MEMORY → (n ≡ 0) × (rest ≡ from)
   pub few : n ≤ budget
-  pub limit : (status ≡ TOO_MANY) ↔ (n ≡ budget)
+  pub limit : (status ≡ TOO_MANY_REQUESTS) ↔ (n ≡ budget)
 
 -- an image is as long as the start's layout, or within the bound of a step
 abbrev pub IsWithinBounds : ℕ → ℕ → State → List State → List ℕ → Type 0

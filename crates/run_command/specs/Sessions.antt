@@ -25,7 +25,7 @@ use Rattle.command_face.specs.declared.stop.StopReason.{StopReason}
 use Rattle.command_face.specs.declared.stop.StopReason.TheVariants as stop
 use Rattle.run_command.specs.declared.run.SessionEnd.{SessionEnd}
 use Rattle.command_face.specs.declared.outcome.Outcome.{Outcome}
-use Rattle.command_face.specs.declared.status.TheConstants.{DISK_FAILED, DONE, NO_FILE, NO_MEMORY, NO_STORE, SINK_FAILED, SOURCE_FAILED, TOO_MANY}
+use Rattle.command_face.specs.declared.status.TheConstants.{DISK_FAILED, DONE, NO_FILE, NO_MEMORY, NO_STORE, SINK_FAILED, SOURCE_FAILED, TOO_MANY_REQUESTS}
 
 -- how the program ends where a session ended so, after so many requests were answered
 abbrev pub end_of : End → ℕ → Result (Unit {0}) StopReason
@@ -129,7 +129,7 @@ IsUnserved status = (status ≡ NO_FILE) ⊎ (status ≡ NO_STORE) ⊎ (status �
 pub record HasCounted (o : Outcome) (told mounted : Type 0) : Type 0 where
   pub none : IsUnserved o.status ⊎ (mounted → ⊥) → (o.done ≡ 0) × (o.kept_done ≡ 0)
   pub few : o.done ≤ budget
-  pub limit : (o.status ≡ TOO_MANY) ↔ (o.done ≡ budget)
+  pub limit : (o.status ≡ TOO_MANY_REQUESTS) ↔ (o.done ≡ budget)
   pub kept : told → o.kept_done ≤ o.done
 
 -- What the command that serves requests does whatever the file and the devices tell. Where no request was

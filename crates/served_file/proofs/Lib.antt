@@ -3,3 +3,5 @@ pub mod OpeningLaws
 pub mod OverLaws
 pub mod ShownLaws
 pub mod FoundLaws
+pub mod StepsLaws
+pub mod StartLaws

@@ -1,8 +1,9 @@
 -- What mounting and opening a file leave that opens by a table.
-use Rattle.std.specs.Prelude.{◌≡◌, ℕ, ◌+◌, ◌*◌, ◌^◌, ◌<◌, ◌≤◌, false, List, length, Result, Ok, IsTrue}
+use Rattle.std.specs.Prelude.{◌≡◌, ℕ, ◌+◌, ◌*◌, ◌^◌, ◌<◌, ◌≤◌, nat_lt, false, List, length, Result, Ok, IsTrue}
 use Rattle.std.proofs.Common.{arith, ap, sym, ◌∙◌, subst}
 use Rattle.std.proofs.Math.Nat.{le-max_left, le-max_right, max-le}
-use Rattle.disk_face.specs.Counts.{last}
+use Rattle.std.proofs.lemmas.Bool.{le-ltb, cond-false}
+use Rattle.disk_face.specs.Counts.{counted}
 use Rattle.disk_face.specs.States.{IsLawful, State}
 use Rattle.disk_face.specs.Frames.{AfterMount}
 use Rattle.disk_face.specs.Moments.{Leaves, LeftOnly}
@@ -49,6 +50,14 @@ start_low t k q is = omega (
   begins_low t.chosen.header.kind t.chosen.header.sequence q is,
   le-max_left (most_found t) (2 ^ 61 + 2 * k),
 )
+
+-- no call cuts a file that ends with its layout
+pub exact_turn : (t : choice.SlotTable) (b : Book) (old : State)
+    → length old.file ≡ found_base t + book_end t.chosen.block.k b → turn_opened t b old ≡ old.turn
+exact_turn t b old exact =
+    let far = found_base t + book_end t.chosen.block.k b in
+    cond-false (nat_lt far (length old.file)) (counted old.turn 2) old.turn
+    (le-ltb far (length old.file) (omega (arith, exact)))
 
 -- A store was opened over the file that a call began with.
 pub record Opened (t : choice.SlotTable) (m : Map) (b : Book) (old a : State) (s : StoreValue) : Type 0 where
@@ -100,12 +109,6 @@ module _ (t : choice.SlotTable) (m : Map) (b : Book) (old first : State) (mount 
   pub left_first : RestsOnFound t old → Leaves old first (IsFoundImage CLASSES t m b (length old.file))
   left_first rests = Leaves-call (IsFoundImage CLASSES t m b (length old.file)) mount.time
       (λ image left. found_image CLASSES t old.file m b o image (rests image (mount.images image left)))
-
-  -- each image that was left as the call began
-  pub left_old : IsLawful old → old.turn < last → RestsOnFound t old
-      → LeftOnly old old.turn (IsFoundImage CLASSES t m b (length old.file))
-  left_old lawful below rests image since =
-      found_image CLASSES t old.file m b o image (rests image (lawful.only_now image below since))
 
   module _ (a : State) where
     -- what an opening leaves meanwhile, whether it fails or not

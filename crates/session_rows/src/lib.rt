@@ -56,6 +56,8 @@ mod stops;
 #[cfg(test)]
 mod texts;
 #[cfg(test)]
+mod upgraded;
+#[cfg(test)]
 mod versions;
 #[cfg(test)]
 mod works;

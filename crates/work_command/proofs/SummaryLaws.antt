@@ -144,24 +144,3 @@ keeps_line old z out put after end keeps later calm told = record {
   where
     rose_after : (a b c : ℕ) → Rose a b → b ≤ c → Rose a c
     rose_after a b c rose low = omega (arith, rose, low)
-
--- the line alone was put, of an end that is to be
-pub ends_by_line : (answer : Result (List ℕ) StopReason → Type 0) (out put after : SinkState)
-    (end : Result (Unit {0}) StopReason) (status : ℕ) → status ≡ status_at end → EndsBy answer [] end
-    → put ≡ out
-    → (IsTrue put.tells → PutsLast put.given after.given (line_at end) (Rose put.faults after.faults))
-    → Ends answer status out after
-ends_by_line answer out put after end status is by same line = record {
-  end = end;
-  bytes = [];
-  same_status = is;
-  by = by;
-  puts = λ told. record {
-    between = out.given;
-    object = (0, omega arith, sym (append-nil out.given));
-    whole = λ done. sym (append-nil out.given);
-    line = subst (λ (s : SinkState). PutsLast s.given after.given (line_at end) (Rose s.faults after.faults))
-        same
-        (line (subst (λ (s : SinkState). IsTrue s.tells) (sym same) told));
-  };
-}

@@ -1,8 +1,7 @@
 -- The headline of `work`, from how its jobs went.
-use Rattle.std.specs.Prelude.{◌≡◌, ◌≢◌, ◌⊎◌, ℕ, ◌+◌, ◌<◌, ◌≤◌, nat_lt, true, false, List, [], ◌∷◌, length, IsTrue, refl}
+use Rattle.std.specs.Prelude.{◌≡◌, ◌≢◌, ◌⊎◌, ℕ, ◌+◌, ◌<◌, ◌≤◌, true, false, List, [], ◌∷◌, length, IsTrue, refl}
 use Rattle.std.proofs.Common.{arith, ap, sym, ◌∙◌, subst, inl, inr, append-nil}
-use Rattle.std.proofs.lemmas.Bool.{le-ltb, cond-false}
-use Rattle.disk_face.specs.Counts.{IsCalm, counted, last}
+use Rattle.disk_face.specs.Counts.{IsCalm, last}
 use Rattle.disk_face.specs.States.{IsLawful, State}
 use Rattle.disk_face.specs.Moments.{Leaves, LeftOnly}
 use Rattle.disk_face.specs.Streams.{SinkState}
@@ -35,7 +34,7 @@ use Rattle.served_file.specs.Served.{EndsTight, IsNextStart, OpensTo, OpensToBei
 use Rattle.command_face.specs.Outcomes.{PutsLast}
 use Rattle.work_command.specs.Summaries.{summary_text}
 use Rattle.work_command.specs.Working.{WorkHolds, has_worked, is_working}
-use Rattle.served_file.proofs.OpeningLaws.{Opened, found_numbered, requests_low, start_low}
+use Rattle.served_file.proofs.OpeningLaws.{Opened, exact_turn, found_numbered, requests_low, start_low}
 use Rattle.served_file.proofs.OverLaws.{next_over, tight_over}
 use Rattle.served_file.proofs.ShownLaws.{Shows, first_kept, last_shown, some_weaker}
 use Rattle.disk_face.specs.Devices.{devices}
@@ -46,14 +45,6 @@ some_of requests n long is = omega (arith, long, ap (λ (xs : List Request). len
 
 some_jobs : (number count names : ℕ) → jobs number count names ≢ []
 some_jobs number count names = some_of (jobs number count names) count (how_many names 1 count _)
-
--- no call cuts a file that ends with its layout
-exact_turn : (t : choice.SlotTable) (b : Book) (old : State)
-    → length old.file ≡ found_base t + book_end t.chosen.block.k b → turn_opened t b old ≡ old.turn
-exact_turn t b old exact =
-    let far = found_base t + book_end t.chosen.block.k b in
-    cond-false (nat_lt far (length old.file)) (counted old.turn 2) old.turn
-    (le-ltb far (length old.file) (omega (arith, exact)))
 
 module _ (t : choice.SlotTable) (m : Map) (b : Book) (old : State) (lawful : IsLawful old)
     (o : OpensBy CLASSES SIZE_MAX t old.file m b) (number count : ℕ) (out after : SinkState) where

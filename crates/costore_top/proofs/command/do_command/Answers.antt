@@ -7,7 +7,7 @@ use Rattle.costore_top.specs.Answering.{IsAnswer}
 use Rattle.costore_top.specs.Commands.{check, dump, format, get, help, map_of, version}
 use Rattle.costore_top.specs.Words.{IsCommand, command_of}
 use Rattle.costore_top.specs.declared.help.TheConstants.{HELP, VERSION}
-use Rattle.costore_top.proofs.CommandLaws.{check_answer, dumping, formatting, get_answer, help_answer, map_answer, reading, running, telling, version_answer, working}
+use Rattle.costore_top.proofs.CommandLaws.{check_answer, dumping, formatting, get_answer, help_answer, map_answer, reading, running, telling, upgrading, version_answer, working}
 use Rattle.costore_top.proofs.PlainLaws.{does_as, plain_does}
 use Rattle.costore_top.proofs.command.do_command.Goals as goal
 
@@ -193,3 +193,15 @@ pub work_file-requires-clause-most : goal.work_file-requires-clause-most
 work_file-requires-clause-most g c =
     let valid = subst IsCommand (ap command_of c.in-Work.is) c.requires.valid in
     valid.3
+
+pub returns-in-Upgrade : goal.returns-in-Upgrade
+returns-in-Upgrade g c =
+    let e = c.upgrade_file.ensures in
+    let old = devices (g.B.Disk.state c.args.bay.now) (g.O.Sink.state c.args.output.now) in
+    let new = devices (g.B.Disk.state c.upgrade_file.new.bay) (g.O.Sink.state c.upgrade_file.new.output) in
+    let from = g.I.Source.state c.args.input.now in
+    let bay = c.upgrade_file.new.bay ≡ c.args.bay.now in
+    let input = c.args.input.now ≡ c.args.input.now in
+    does_as (ap command_of c.in-Upgrade.is)
+    (upgrading c.upgrade_file.result old new from from bay input c.in-Upgrade.file.now refl e.upgrades
+    e.refused e.mounted e.keeps e.numbers)

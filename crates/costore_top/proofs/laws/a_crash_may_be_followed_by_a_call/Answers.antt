@@ -1,4 +1,4 @@
-use Rattle.costore_top.proofs.FollowingLaws.{below_the_limit, block_high, calm_begins, rests_alone, run_followed, work_followed}
+use Rattle.costore_top.proofs.FollowingLaws.{below_the_limit, block_high, calm_begins, rests_alone, run_followed, upgrade_followed, work_followed}
 use Rattle.costore_top.proofs.laws.a_crash_may_be_followed_by_a_call.Goals as goal
 
 pub returns-clause-run : goal.returns-clause-run
@@ -18,6 +18,15 @@ pub returns-clause-calm_work : goal.returns-clause-calm_work
 returns-clause-calm_work g c t m b number count status old new out after opens works twice calm =
     let w = works t m b opens in
     calm_begins (block_high (g.B.Disk.state old).file t opens.read) twice (w.next_start calm) w.reach
+
+pub returns-clause-upgrade : goal.returns-clause-upgrade
+returns-clause-upgrade g c t m b status old new out after opens upgrades twice rests below =
+    upgrade_followed opens twice rests below (upgrades t m b opens)
+
+pub returns-clause-calm_upgrade : goal.returns-clause-calm_upgrade
+returns-clause-calm_upgrade g c t m b status old new out after opens upgrades twice calm =
+    let u = upgrades t m b opens in
+    calm_begins (block_high (g.B.Disk.state old).file t opens.read) twice (u.next_start calm) u.reach
 
 pub returns-clause-low : goal.returns-clause-low
 returns-clause-low g c = below_the_limit

@@ -1,8 +1,8 @@
 -- What the one command does that was read, or that there is none.
 use Rattle.std.proofs.Common.{refl}
-use Rattle.costore_top.proofs.DoesLaws.{answers_by_it, formats_safely, headline_of, jobs_of, keeps_it, mounts_it, reads_none, session_of, words_known}
+use Rattle.costore_top.proofs.DoesLaws.{answers_by_it, formats_safely, headline_of, jobs_of, keeps_it, mounts_it, reads_none, session_of, upgrade_of, words_known}
 use Rattle.costore_top.proofs.FaultyLaws.{answers_nothing, formats_nothing, keeps_all, mounts_nothing, reads_nothing, words_faulty}
-use Rattle.costore_top.specs.Commands.{run, work}
+use Rattle.costore_top.specs.Commands.{run, upgrade, work}
 use Rattle.costore_top.specs.Words.{command_of, texts}
 use Rattle.disk_face.specs.Devices.{devices}
 use Rattle.costore_top.proofs.top.costore.Goals as goal
@@ -28,6 +28,7 @@ returns-in-Some g c =
       headline = headline_of words command means o old new from rest _ _ does;
       session = session_of words command means o old new from rest _ _ does;
       jobs = jobs_of words command means o old new from rest _ _ does;
+      digests = upgrade_of words command means o old new from rest _ _ does;
     }
 
 pub returns-in-None : goal.returns-in-None
@@ -50,4 +51,5 @@ returns-in-None g c =
       headline = λ file means. absurd (none (run file) means);
       session = λ file means. absurd (none (run file) means);
       jobs = λ file number count means. absurd (none (work file number count) means);
+      digests = λ file means. absurd (none (upgrade file) means);
     }

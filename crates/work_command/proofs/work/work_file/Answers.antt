@@ -9,7 +9,8 @@ use Rattle.command_face.specs.declared.outcome.Outcome.{Outcome}
 use Rattle.disk_face.specs.Devices.{devices}
 use Rattle.served_file.specs.Served.{found_with}
 use Rattle.work_command.proofs.StepsLaws.{refused_work, whole}
-use Rattle.work_command.proofs.SummaryLaws.{ends_by_line, keeps_line, line_only, summary_of}
+use Rattle.work_command.proofs.SummaryLaws.{keeps_line, line_only, summary_of}
+use Rattle.command_face.proofs.EndedLaws.{ended_by_line}
 use Rattle.work_command.proofs.RefusalLaws.{never_worked}
 use Rattle.work_command.proofs.WorkingLaws.{works}
 use Rattle.work_command.proofs.work.work_file.Goals as goal
@@ -42,7 +43,7 @@ returns-clause-refused g c = λ told never.
     let refused = refused_work g.B.Disk.state c.args.file.now c.args.number c.args.count old new out put
     c.work_over-end.result told
     never c.work_over-end.ensures in
-    ends_by_line (IsRefused old.file) out put after c.work_over-end.result c.finish.result.status
+    ended_by_line (IsRefused old.file) out put after c.work_over-end.result c.finish.result.status
     status
     refused.0
     refused.1 c.finish.ensures.line

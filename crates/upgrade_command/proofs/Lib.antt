@@ -1,0 +1,5 @@
+pub mod IdleLaws
+pub mod DoneLaws
+pub mod EndsLaws
+pub mod HoldsLaws
+pub mod AlwaysLaws

@@ -1,0 +1,2 @@
+pub mod Upgrading
+pub mod Doing
