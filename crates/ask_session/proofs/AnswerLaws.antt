@@ -24,6 +24,7 @@ use Rattle.store_core.specs.Flushes.{IsFlush}
 use Rattle.store_core.specs.Keeps.{AnswersKeep, KeepsNow}
 use Rattle.store_model.specs.Quiet.{charges_of, quiet_calls}
 use Rattle.store_model.specs.States.{Served, Step, accepted, facts_of, refusal, served_change}
+use Rattle.store_core.proofs.AnsweredLaws.{refusal_at, refused_is}
 use Rattle.store_core.proofs.CauseLaws.{calm_disk}
 use Rattle.store_core.proofs.QuietLaws.{quiet_by_book}
 use Rattle.store_core.proofs.StepLaws.{served_by}
@@ -32,7 +33,7 @@ use Rattle.ask_text.specs.declared.reply.Reply.TheVariants as head
 use Rattle.ask_session.specs.ReplyLines.{Answers, answer_change, answer_of, done_reply_line}
 use Rattle.ask_session.specs.Serving.{IsServingImage, calls_of, is_changing, served_at}
 use Rattle.ask_session.specs.Ready.{CanServe}
-use Rattle.ask_session.proofs.ServingLaws.{kept_is_serving, refusal_at, refused_stays, same_length_loose, serves_same}
+use Rattle.ask_session.proofs.ServingLaws.{kept_is_serving, refused_stays, same_length_loose, serves_same}
 
 -- ---- refused
 
@@ -171,14 +172,6 @@ is_made {classes} s new r a d (Err refused) m = elim m.either as (λ _. Answers 
 pub on_ok : {A E P Q : Type 0} (result : Result A E) → (P → Q) → OnOk result P → OnOk result Q
 on_ok (Ok x) f p = f p
 on_ok (Err e) f p = tt
-
--- what a store that isn't broken refuses by
-pub refused_is : (s : StoreValue) (r : Request) (o : Option Refused) → s.is_broken ≡ false
-    → refusal (limits_of s) (facts_at s r) r ≡ o → refused_by s r ≡ option_map refusal_for o
-refused_is s r o whole is =
-    ap (λ (b : Bool). if b then Some why.Broken else option_map refusal_for (refusal (limits_of s)
-    (facts_at s r) r)) whole
-    ∙ ap (option_map refusal_for) is
 
 pub none_is : (o : Option Refusal) → o ≡ None → IsNone o
 none_is None is = search rules

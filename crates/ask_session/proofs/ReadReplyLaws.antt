@@ -21,6 +21,7 @@ use Rattle.store_core.specs.Reads.{HasSinkCause}
 use Rattle.store_model.specs.States.{Limits, Served, State, Step, accepted, object_in, refusal, unchanged}
 use Rattle.store_core.proofs.CauseLaws.{calm_disk, sink_cause_after, sink_cause_as}
 use Rattle.store_core.proofs.ChangingLaws.{unchanged_itself}
+use Rattle.store_core.proofs.AnsweredLaws.{live_if, number_served, object_size, refusal_at, refused_is, served_is}
 use Rattle.store_model.proofs.StoreLaws.{kept_lies, now_lies}
 use Rattle.store_core.proofs.StepLaws.{list_step, read_reply, served_by}
 use Rattle.store_model.specs.Lines.{lines_of, listing_of}
@@ -35,11 +36,11 @@ use Rattle.ask_session.specs.Putting.{PutsAnswer}
 use Rattle.ask_session.specs.ReplyLines.{Answers, answer_of, object_text}
 use Rattle.ask_session.specs.Serving.{IsServingFault, PutsText, Replies, acknowledges, calls_of, is_changing, is_disk, is_disk_fault, reply_at, served_at}
 use Rattle.ask_session.proofs.MakesLaws.{acknowledges_none}
-use Rattle.ask_session.proofs.AnswerLaws.{refused_head, refused_is}
+use Rattle.ask_session.proofs.AnswerLaws.{refused_head}
 use Rattle.ask_session.proofs.PutLaws.{puts_as, puts_cut, puts_then}
 use Rattle.ask_session.specs.Ready.{CanServe}
-use Rattle.ask_session.proofs.ServingLaws.{StaysAt, refusal_at}
-use Rattle.ask_session.proofs.ReplyLaws.{no_disk_fault, sink_calm, sink_serving, answers_replies, reads_replies, object_size, live_if}
+use Rattle.ask_session.proofs.ServingLaws.{StaysAt}
+use Rattle.ask_session.proofs.ReplyLaws.{no_disk_fault, sink_calm, sink_serving, answers_replies, reads_replies}
 
 -- ---- replies that are an object, or that it is damaged
 
@@ -148,25 +149,6 @@ module _ {classes : ℕ} (s : StoreValue) (a : disk.State) (h : CanServe classes
       (sink_cause_as cause (λ is. ap (λ (x : End). Err x) sink_end) (λ is. ap (λ (x : End). Err x) sink_end))
 
 -- ---- get and old
-
-pub number_served : (o : Option Refusal) (n size : ℕ) → AnswersNumber o n (Ok size) → (o ≡ None) × (size ≡ n)
-number_served None n size is = (refl, (cc))
-number_served (Some x) n size is = absurd (cc)
-
-pub number_refused : (o : Option Refusal) (n : ℕ) (x : Refusal) → AnswersNumber o n (Err x) → o ≡ Some x
-number_refused None n x is = absurd (cc)
-number_refused (Some y) n x is = let e : y ≡ x = (cc) in ap (λ (z : Refusal). Some z) e
-
--- what a store that isn't broken serves isn't refused
-pub served_is : (s : StoreValue) (r : Request) → s.is_broken ≡ false → refused_by s r ≡ None
-    → refusal (limits_of s) (facts_at s r) r ≡ None
-served_is s r whole is = by (refusal (limits_of s) (facts_at s r) r) refl
-  where
-    by : (o : Option Refused) → refusal (limits_of s) (facts_at s r) r ≡ o
-        → refusal (limits_of s) (facts_at s r) r ≡ None
-    by None e = e
-    by (Some w) e = absurd (let f : Some (refusal_for w) ≡ None = sym (refused_is s r (Some w) whole e)
-        ∙ is in cc)
 
 -- what it refuses has a reply
 pub refused_with : (s : StoreValue) (r : Request) (x : Refusal) → s.is_broken ≡ false

@@ -1,26 +1,19 @@
 -- Replies to requests, by what was answered and put.
-use Rattle.std.specs.Prelude.{◌≡◌, ◌≢◌, ◌⊎◌, ℕ, ◌+◌, Bool, true, false, not, ◌&&◌, is_some, List, [], ◌∷◌, ◌++◌, codes, length, Option, Some, None, Result, Ok, Err, IfErr, IfOk, IsTrue, refl}
+use Rattle.std.specs.Prelude.{◌≡◌, ◌≢◌, ◌⊎◌, ℕ, ◌+◌, Bool, true, false, ◌&&◌, List, ◌++◌, codes, Option, Some, None, Result, Ok, Err, IfErr, IfOk, IsTrue, refl}
 use Rattle.std.proofs.Common.{ap, sym, ◌∙◌, subst, inl, inr, append-nil}
-use Rattle.std.specs.FinMap as fin
 use Rattle.disk_face.specs.Devices.{devices}
 use Rattle.disk_face.specs.States as disk
 use Rattle.disk_face.specs.Frames.{Unchanged}
 use Rattle.disk_face.specs.Streams.{SinkState}
 use Rattle.slot_pair.specs.Finding.{HasDiskCause}
-use Rattle.byte_ranges.proofs.RangeLaws.{length-bytes_at}
 use Rattle.map_model.specs.Requests as ask
 use Rattle.map_model.specs.Requests.{Reply, Request}
-use Rattle.extent_table.specs.declared.spot.Spot.{Spot}
-use Rattle.extent_table.specs.Extents.{Spots}
-use Rattle.placement_model.specs.Reads.{AreNamed, EndWithin, read_at}
 use Rattle.store_core.specs.declared.answers.Refusal.{Refusal}
 use Rattle.store_core.specs.declared.answers.Refusal.TheVariants as why
-use Rattle.store_core.specs.Answers.{AnswersList, AnswersRead, size_at}
+use Rattle.store_core.specs.Answers.{AnswersList, AnswersRead}
 use Rattle.store_core.specs.Reads.{HasSinkCause}
 use Rattle.store_model.specs.Connection.{StoreValue}
-use Rattle.store_model.specs.States.{first_refusal, object_in}
 use Rattle.store_core.proofs.CauseLaws.{calm_sink, disk_cause_as, sink_cause_as}
-use Rattle.store_core.proofs.ReadingLaws.{object_there}
 use Rattle.ask_text.specs.Replies.{first_line, reply_line_of, reply_text}
 use Rattle.ask_text.specs.declared.reply.Reply as text
 use Rattle.ask_text.specs.declared.reply.Reply.TheVariants as head
@@ -176,30 +169,6 @@ reads_replies r s a d out after result h asks same stays plain kept puts only di
   disk_cause = disk_cause;
   sink_cause = sink_cause;
 }
-
--- ---- objects
-
-some_there : (spots : Spots) (name : List ℕ) (o : Option Spot) → fin.get spots name ≡ o → is_some o ≡ true
-    → (x : Spot) × (fin.get spots name ≡ Some x)
-some_there spots name None is some = absurd (cc)
-some_there spots name (Some x) is some = (x, is)
-
--- the size of an object that is there
-pub object_size : (base : ℕ) (file : List ℕ) (spots : Spots) (name : List ℕ) → AreNamed spots
-    → EndWithin base file spots → is_some (fin.get spots name) ≡ true
-    → length (object_in (read_at base file spots) name) ≡ size_at (fin.get spots name)
-object_size base file spots name named within live =
-    let there = some_there spots name (fin.get spots name) refl live in
-    let x = there.0 in
-    ap length (object_there base file spots name x named there.1)
-    ∙ length-bytes_at file (base + x.place) x.size (within name x there.1)
-    ∙ ap size_at (sym there.1)
-
-pub live_if : (named live : Bool)
-    → first_refusal ((not named, ask.bad_name) ∷ (not live, ask.missing) ∷ []) ≡ None → live ≡ true
-live_if true true is = refl
-live_if true false is = absurd (cc)
-live_if false live is = absurd (cc)
 
 -- ---- faults of a read
 

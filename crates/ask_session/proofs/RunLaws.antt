@@ -182,7 +182,7 @@ module _ {classes : ℕ} {old mid : Sitting} {start_side mid_side : Outside} {n 
   opens_now told rests image may =
       let told_d : IsTrue d.tells = subst IsTrue (sym x.served.replies.serves.frame.stays.told)
       (told_b told) in
-      (kept_image new.store (sound unbroken) d.file (x.served.replies.serves.over unbroken told_d) image
+      (kept_image new.store (sound unbroken) d.file (x.served.replies.serves.over.over unbroken told_d) image
       (rests_now told rests image may)).opens
 
   since_now : (kept : Bool) → IsTrue a.tells → RestsOnTable (base_of old.store) old.store.kept a

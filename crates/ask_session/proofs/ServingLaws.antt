@@ -12,9 +12,10 @@ use Rattle.segment_layout.proofs.TightLaws.{tight_is_loose}
 use Rattle.table_rules.proofs.SequenceLaws.{sequence_wider}
 use Rattle.store_model.specs.Connection.{IsKeptImage, IsOver, StoreValue, SameOnTable, base_of, limits_of, state_of}
 use Rattle.store_model.specs.Stores.{IsStore}
-use Rattle.store_model.specs.States.{Facts, Served, Step, facts_of, refusal, unchanged}
+use Rattle.store_model.specs.States.{Served, Step, facts_of, refusal, unchanged}
 use Rattle.store_core.specs.Answers.{facts_at}
-use Rattle.store_core.proofs.StepLaws.{facts_same, served_by}
+use Rattle.store_core.proofs.AnsweredLaws.{refusal_at}
+use Rattle.store_core.proofs.StepLaws.{served_by}
 use Rattle.store_model.proofs.OverLaws.{kept_image}
 use Rattle.store_core.proofs.OpenedLaws.{tight_now}
 use Rattle.ask_session.specs.declared.ends.End.{End}
@@ -71,9 +72,12 @@ serves_same {T} {classes} s r a d result h same stays calm = record {
   calls = λ told calm least. omega (arith, same.same_turn, (stays told).none, h.fits);
   reads = λ asks fault. refl;
   still = λ asks. same;
-  over = λ whole told.
-      let told_before : IsTrue a.tells = subst IsTrue same.stays.told told in
-      subst (IsOver classes s) (sym (same.same_file told_before)) (h.over told_before);
+  over = record {
+    idle = h.idle;
+    over = λ whole told.
+        let told_before : IsTrue a.tells = subst IsTrue same.stays.told told in
+        subst (IsOver classes s) (sym (same.same_file told_before)) (h.over told_before);
+  };
   broken = h.whole ∙ sym calm;
   left = λ told rests. Leaves-weaken (IsServingImage classes s r a.file) (λ image may.
       kept_is_serving s r a.file image h.sound (h.over told)
@@ -84,12 +88,6 @@ serves_same {T} {classes} s r a d result h same stays calm = record {
 }
 
 -- ---- refusals
-
--- what a request is refused by, over a file
-pub refusal_at : {classes : ℕ} (s : StoreValue) (file : List ℕ) (r : Request) → IsStore classes s
-    → refusal (limits_of s) (facts_of (state_of s file) r) r ≡ refusal (limits_of s) (facts_at s r) r
-refusal_at s file r h = ap (λ (f : Facts). refusal (limits_of s) f r)
-    (facts_same s file r h.now.named h.kept.named)
 
 -- a request that is refused
 pub refused_stays : {classes : ℕ} (s : StoreValue) (file : List ℕ) (r : Request) (w : Refused)

@@ -1,5 +1,5 @@
 //! A run of a session: one turn after another.
-ghost use Rattle.std.specs.Prelude.{◌≡◌, ◌≤◌, false};
+ghost use Rattle.std.specs.Prelude.{◌≡◌, ◌≤◌, false, None};
 ghost use Rattle.disk_face.specs.Counts.{last};
 ghost use Rattle.store_model.specs.Stores.{IsStore};
 ghost use Rattle.ask_session.specs.Outside.{held, seen_by};
@@ -39,6 +39,7 @@ impl<const C: usize> Session<C> {
 
     /// What holds of each session, and of its store while that isn't broken.
     fn is_sound(&self)
+        requires idle { self.now.store.in_hand ≡ None }
         ensures store { self.now.store.is_broken ≡ false → IsStore C self.now.store }
         ensures count { self.now.done ≤ last }
     {

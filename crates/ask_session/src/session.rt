@@ -1,5 +1,5 @@
 //! A session, and one turn of it.
-ghost use Rattle.std.specs.Prelude.{◌≡◌, false, true, if◌then◌else◌, IfOk, IfErr};
+ghost use Rattle.std.specs.Prelude.{◌≡◌, false, true, if◌then◌else◌, IfOk, IfErr, None};
 ghost use Rattle.disk_face.specs.Counts.{counted};
 ghost use Rattle.store_model.specs.Stores.{IsStore};
 ghost use Rattle.ask_session.specs.Inputs.{HasSourceCause};
@@ -47,13 +47,15 @@ impl<const C: usize> Model for Session<C> {
 }
 
 impl<const C: usize> Session<C> {
-    /// A session of a store, with the memory that it will ever have. `turn` is the disk's turn that is
-    /// told until a checkpoint is acknowledged. Where there is no memory the store comes back.
+    /// A session of a store with no flush in hand, with the memory that it will ever have. `turn` is the
+    /// disk's turn that is told until a checkpoint is acknowledged. Where there is no memory the store comes
+    /// back.
     pub fn new(
         alloc: Global,
         store: Store<C>,
         turn: u64,
     ) -> Result<Session<C>, (Store<C>, NoMemory)>
+        requires idle { store.in_hand ≡ None }
         ensures ok { IfOk result (λ session. session ≡ new_sitting store.entry turn) }
         ensures refused { IfErr result (λ back. back.0 ≡ store.entry) }
     {
@@ -104,6 +106,7 @@ impl<const C: usize> Session<C> {
 
     /// Counts a request that was answered.
     fn count(&mut self, kept: bool, turn: u64) -> Turn
+        requires idle { self.old.store.in_hand ≡ None }
         ensures answered { result ≡ Turn.Answered }
         ensures counts { self.new ≡ record self.old {
           done = counted self.old.done 1;
@@ -123,6 +126,7 @@ impl<const C: usize> Session<C> {
 
     /// Ends the session.
     fn end(&mut self, end: End) -> Turn
+        requires idle { self.old.store.in_hand ≡ None }
         ensures ended { result ≡ Turn.Ended end }
         ensures flag { self.new ≡ record self.old { ended = true } }
         ensures sound { self.new.store.is_broken ≡ false → IsStore C self.new.store }

@@ -1,5 +1,5 @@
 -- What `apply` does at each of its ends.
-use Rattle.std.specs.Prelude.{◌≡◌, ◌≢◌, ◌⊎◌, ℕ, ◌<◌, Bool, true, false, ◌||◌, List, [], ◌∷◌, length, None, Result, Ok, Err, IsTrue, refl}
+use Rattle.std.specs.Prelude.{◌≡◌, ◌≢◌, ◌⊎◌, ℕ, ◌<◌, Bool, true, false, ◌||◌, List, [], ◌∷◌, length, None, Result, Ok, Err, IfOk, IsTrue, refl}
 use Rattle.std.proofs.Common.{arith, ap, sym, ◌∙◌, subst, inl, inr}
 use Rattle.std.specs.FinMap as fin
 use Rattle.disk_face.specs.Frames.{Unchanged}
@@ -9,6 +9,7 @@ use Rattle.map_model.specs.Maps.{Map}
 use Rattle.map_model.specs.Requests.{Change}
 use Rattle.store_core.proofs.CauseLaws.{calm_disk}
 use Rattle.store_model.specs.Connection.{IsConnected}
+use Rattle.store_model.specs.Stores.{IsStore}
 use Rattle.batch_model.specs.Batches.{IsBatch, batch_name}
 use Rattle.batch_model.proofs.TextLaws.{batch_one}
 use Rattle.batch_core.specs.Answers.{AnswersApply, Applies, IsBegun, IsJudged, applied_to, is_begun, is_disk_fault, requests_of}
@@ -37,8 +38,9 @@ unchanged_same a ready = record {
 
 pub applies_same : {classes : ℕ} (x : StoreOn) (text : List ℕ) (result : Result Bool BatchFault)
     → IsTrue x.disk.is_ready → IsConnected classes x.store x.disk → AnswersApply x.store text result
+    → IfOk result (λ done. IsStore classes x.store)
     → is_begun result ≡ false → is_disk_fault result ≡ false → Applies classes text x x result
-applies_same x text result ready over answer none calm = record {
+applies_same x text result ready over answer sound none calm = record {
   answer = answer;
   same = λ other. record {
     same_store = refl;
@@ -48,6 +50,7 @@ applies_same x text result ready over answer none calm = record {
   begun = λ bad. absurd (let e : true ≡ false = sym bad ∙ none in cc);
   over = over;
   broken = or_false x.store.is_broken ∙ ap (λ (b : Bool). x.store.is_broken || b) (sym calm);
+  sound = sound;
   frame = record {
     no_turn_back = omega arith;
     stays = record { ready = ready; told = refl; images_told = refl; same_mount = refl };
@@ -67,11 +70,11 @@ judged_applies x text fault.Broken ready over whole is = absurd (is)
 judged_applies x text fault.Damaged ready over whole is = absurd (is)
 judged_applies x text fault.NoBatch ready over whole is = absurd (let bad : false ≡ true = is.0 in cc)
 judged_applies x text (fault.Line n) ready over whole is =
-    applies_same x text (Err (fault.Line n)) ready over (whole, is.1) refl refl
+    applies_same x text (Err (fault.Line n)) ready over (whole, is.1) tt refl refl
 judged_applies x text (fault.Unfit n) ready over whole is =
-    applies_same x text (Err (fault.Unfit n)) ready over (whole, is) refl refl
+    applies_same x text (Err (fault.Unfit n)) ready over (whole, is) tt refl refl
 judged_applies x text fault.Worn ready over whole is =
-    applies_same x text (Err fault.Worn) ready over ((whole, some_text text is.1, is.0), is.2) refl refl
+    applies_same x text (Err fault.Worn) ready over ((whole, some_text text is.1, is.0), is.2) tt refl refl
 judged_applies x text fault.Disk ready over whole is = absurd (is)
 
 -- ---- an empty text
@@ -86,7 +89,7 @@ some_of_length text other none = other (ap length none)
 pub empty_applies : {classes : ℕ} (x : StoreOn) (text : List ℕ) → CanGo classes x → length text ≡ 0
     → Applies classes text x x (Ok false)
 empty_applies x text go none = applies_same x text (Ok false) go.ready go.over
-    (go.whole, none_of_length text none) refl refl
+    (go.whole, none_of_length text none) go.sound refl refl
 
 -- ---- a batch
 
@@ -124,6 +127,7 @@ module _ {classes : ℕ} (x : StoreOn) (text : List ℕ) (go : CanGo classes x)
           (can m stands).free (all_applied (batch_of m)) refl told (Ok true) goes kept);
       over = goes.over;
       broken = goes.unbroken ∙ ap (λ (b : Bool). b || false) (sym go.whole);
+      sound = goes.sound;
       frame = goes.frame;
       cause = calm_disk (λ is. cc) goes.calm;
     }
@@ -135,8 +139,12 @@ module _ {classes : ℕ} (x : StoreOn) (text : List ℕ) (go : CanGo classes x)
       same = λ bad. absurd (cc);
       begun = λ _ told. begun_as (Err fault.Disk) m stands told (stops_begun x y (batch_of m) judged.0.batch
           (can m stands).free (all_applied (batch_of m)) refl told (Err fault.Disk) (λ is. cc) stops);
-      over = λ whole. absurd (let e : true ≡ false = sym stops.broken ∙ whole in cc);
+      over = record {
+        idle = stops.idle;
+        over = λ whole. absurd (let e : true ≡ false = sym stops.broken ∙ whole in cc);
+      };
       broken = stops.broken ∙ ap (λ (b : Bool). b || true) (sym go.whole);
+      sound = tt;
       frame = stops.frame;
       cause = record {
         later = stops.later;

@@ -7,6 +7,7 @@ use Rattle.size_class.specs.declared.TheConstants.{SIZE_MAX}
 use Rattle.slot_codec.proofs.CapLaws.{cap-low}
 use Rattle.map_model.specs.Maps.{Map}
 use Rattle.map_model.specs.Requests.{Change}
+use Rattle.extent_table.specs.declared.spot.Spot.{Spot}
 use Rattle.segment_layout.specs.Books.{Book, book_end, version_of}
 use Rattle.table_rules.specs.Opening.{Opens}
 use Rattle.placement_model.specs.Reads.{EndWithin, read_at}
@@ -56,7 +57,7 @@ stands_some {classes} x go = by x.disk.tells refl
       (state_on x).map,
       record {
         sized = sized_read (base_of s) x.disk.file s.now go.sound.now.named
-            (now_lies s x.disk.file go.sound (go.over go.whole (subst IsTrue (sym is) refl)));
+            (now_lies s x.disk.file go.sound (go.over.over go.whole (subst IsTrue (sym is) refl)));
         told = λ told. refl;
       },
     )
@@ -77,6 +78,16 @@ stands_absent x m name stands none = by (fin.get m name) refl
     by None e = e
     by (Some object) e = absurd (let bad : true ≡ false = sym (ap is_some e)
         ∙ sized_live m x.store.now name stands.sized ∙ ap is_some none in cc)
+
+-- and the other way
+pub absent_stands : (x : StoreOn) (m : Map) (name : List ℕ) → StandsFor x m
+    → fin.get m name ≡ None → fin.get x.store.now name ≡ None
+absent_stands x m name stands none = by (fin.get x.store.now name) refl
+  where
+    by : (o : Option Spot) → fin.get x.store.now name ≡ o → fin.get x.store.now name ≡ None
+    by None e = e
+    by (Some spot) e = absurd (let bad : true ≡ false = sym (ap is_some e)
+        ∙ sym (sized_live m x.store.now name stands.sized) ∙ ap is_some none in cc)
 
 -- ---- what fits
 
@@ -172,7 +183,7 @@ module _ {classes : ℕ} (x y : StoreOn) (b : Batch) (batch : IsBatch b.text b.c
       → IsBatchDone classes b g.requests x y
   batch_done first kept =
       let told_now : IsTrue y.disk.tells = subst IsTrue (sym first.frame.stays.told) told in
-      let over = first.over first.unbroken told_now in
+      let over = first.over.over first.unbroken told_now in
       let now : (state_on y).map ≡ applied b.changes b.map = first.stands.told told_now ∙ same in
       record {
         ran = first.ran told;

@@ -18,9 +18,10 @@ use Rattle.store_core.specs.Answers.{AnswersFetch, refusal_for, refused_by, size
 use Rattle.store_core.proofs.CauseLaws.{calm_disk, disk_cause_as}
 use Rattle.store_core.specs.Readings.{digest_read}
 use Rattle.store_core.specs.Reads as reads
-use Rattle.store_model.specs.Connection.{IsOver, state_of}
+use Rattle.store_model.specs.Connection.{IsOver, StoreValue, state_of}
 use Rattle.store_model.specs.Digested.{digest_of}
 use Rattle.store_model.specs.States.{State, object_in}
+use Rattle.store_model.specs.Stores.{IsStore}
 use Rattle.table_rules.specs.Opening.{Opens}
 use Rattle.store_model.proofs.OverLaws.{kept_image}
 use Rattle.store_model.proofs.StoreLaws.{small_object}
@@ -178,6 +179,21 @@ module _ {classes : ℕ} (x : StoreOn) (go : CanGo classes x) where
             none_there None e = refl
             none_there (Some s) e = absurd (cc)
 
+-- ---- what an answer says of the store after it
+
+-- a store that nothing was begun with isn't broken, and keeps no batch
+pub whole_by : {classes : ℕ} (s : StoreValue) → IsStore classes s → (result : Result Bool BatchFault)
+    → AnswersFinish s result → IfOk result (λ done. (s.is_broken ≡ false) × IsStore classes s)
+whole_by s h (Ok true) answer = (answer.0.0, h)
+whole_by s h (Ok false) answer = (answer.0, h)
+whole_by s h (Err why) answer = tt
+
+pub gone_by : (s : StoreValue) (result : Result Bool BatchFault) → AnswersFinish s result
+    → is_begun result ≡ false → IfOk result (λ done. fin.get s.now batch_name ≡ None)
+gone_by s (Ok true) answer none = absurd (cc)
+gone_by s (Ok false) answer none = answer.1
+gone_by s (Err why) answer none = tt
+
 -- ---- what a read leaves
 
 module _ {classes : ℕ} (x : StoreOn) (go : CanGo classes x) (d : disk.State) (frame : Unchanged x.disk d) where
@@ -191,8 +207,11 @@ module _ {classes : ℕ} (x : StoreOn) (go : CanGo classes x) (d : disk.State) (
   go_after = record {
     whole = go.whole;
     sound = go.sound;
-    over = λ whole told. subst (λ (f : List ℕ). IsOver classes x.store f)
-        (sym (frame.same_file (told_before told))) (go.over whole (told_before told));
+    over = record {
+      idle = go.over.idle;
+      over = λ whole told. subst (λ (f : List ℕ). IsOver classes x.store f)
+          (sym (frame.same_file (told_before told))) (go.over.over whole (told_before told));
+    };
     ready = frame.stays.ready;
   }
 
@@ -221,6 +240,8 @@ module _ {classes : ℕ} (x : StoreOn) (go : CanGo classes x) (d : disk.State) (
       calm = λ fine. refl;
       failed = λ bad. absurd (let e : true ≡ false = sym bad ∙ other in cc);
     };
+    whole = whole_by x.store go.sound result answer;
+    gone = gone_by x.store result answer none;
     frame = record { no_turn_back = frame.since.later; stays = frame.stays };
     cause = calm_disk (λ is. let e : true ≡ false = ap is_disk_fault (sym is) ∙ other in cc) calm;
   }
@@ -248,16 +269,18 @@ module _ {classes : ℕ} (x : StoreOn) (go : CanGo classes x) (d : disk.State) (
     begun = λ _ told changes batch. record {
       done = λ bad. absurd (cc);
       left = λ rest. Leaves-weaken _ (λ image may. inl (kept_image x.store go.sound x.disk.file
-          (go.over go.whole told) image (rest image may)).opens) frame.since;
+          (go.over.over go.whole told) image (rest image may)).opens) frame.since;
       content = inl (subst (λ (f : List ℕ). Opens classes SIZE_MAX f (state_on x).kept x.store.kept_book)
           (sym (frame.same_file told))
           (record {
-            table = (go.over go.whole told).table;
-            opens = (go.over go.whole told).checkpoint.opens;
+            table = (go.over.over go.whole told).table;
+            opens = (go.over.over go.whole told).checkpoint.opens;
           }));
     };
     over = go_after.over;
     broken = record { calm = λ bad. absurd (cc); failed = λ bad. inr (refl, frame) };
+    whole = tt;
+    gone = tt;
     frame = record { no_turn_back = frame.since.later; stays = frame.stays };
     cause = record {
       later = cause.later;

@@ -17,12 +17,13 @@ use Rattle.store_core.proofs.CauseLaws.{calm_disk}
 use Rattle.store_model.specs.Connection.{IsOver, SameOnTable, StoreValue, base_of, live_cap, state_of}
 use Rattle.store_model.specs.States.{State, object_in}
 use Rattle.store_model.proofs.OverLaws.{kept_image}
-use Rattle.batch_model.specs.Batches.{IsBatch, IsNoBatch, IsPart, Rises, batch_name}
+use Rattle.batch_model.specs.Batches.{IsBatch, IsNoBatch, IsPart, Rises, applied, batch_name}
 use Rattle.batch_model.specs.Fits.{misfit}
 use Rattle.batch_model.specs.Views.{unbatched}
 use Rattle.batch_model.proofs.CountLaws.{counted_from_is, other_way}
 use Rattle.batch_model.proofs.KeptLaws.{kept_again}
 use Rattle.batch_model.proofs.TextLaws.{batch_one}
+use Rattle.batch_model.proofs.ViewLaws.{leaves_batch}
 use Rattle.segment_layout.specs.Books.{is_damaged}
 use Rattle.batch_core.specs.Answers.{AnswersFinish, Finishes, HasFit, HasMisfit, IsBegun, IsJudged, IsKeptText, IsReadBy, IsPending, IsSound, JudgesKept, is_begun, is_disk_fault, kept_batch, kept_text}
 use Rattle.batch_core.specs.Doing.{Batch, CanDo, CanGo, IsBatchMap, IsKeptNow, all_done, half_done, is_live, last_requests, misfit_in, names_beside, requests_for, worn_from}
@@ -30,7 +31,8 @@ use Rattle.batch_core.specs.Going.{Goes, IsLeft, Stops}
 use Rattle.batch_core.specs.StoresOn.{StandsFor, StoreOn, state_on, store_on}
 use Rattle.batch_core.specs.declared.fault.BatchFault.{BatchFault}
 use Rattle.batch_core.specs.declared.fault.BatchFault.TheVariants as fault
-use Rattle.batch_core.proofs.ApplyLaws.{few_made_by, goes_begun, stops_begun}
+use Rattle.batch_core.proofs.ApplyLaws.{absent_stands, few_made_by, goes_begun, stops_begun}
+use Rattle.batch_core.proofs.FetchLaws.{gone_by, whole_by}
 use Rattle.batch_core.proofs.FitsLaws.{len_more, sized_len}
 use Rattle.batch_core.proofs.GoesLaws.{goes_then, going, stops_then}
 use Rattle.batch_core.proofs.MakeLaws.{sized_live}
@@ -59,7 +61,7 @@ module _ {classes : ℕ} (s : StoreValue) (a d : disk.State) (go : CanGo classes
     left = λ told rest. Leaves-weaken (IsLeft classes Such (store_on s a)) (λ image may.
         inl (kept_image s go.sound a.file
         (subst (λ (f : List ℕ). IsOver classes s f) (read.frame.same_file told)
-        (go.over go.whole (told_read told))) image (rest image may)).opens) read.frame.since;
+        (go.over.over go.whole (told_read told))) image (rest image may)).opens) read.frame.since;
     block = refl;
     version = refl;
     reach = omega arith;
@@ -202,6 +204,8 @@ module _ {classes : ℕ} (s : StoreValue) (a d : disk.State) (text : List ℕ)
       calm = λ other. refl;
       failed = λ bad. absurd (let e : true ≡ false = sym bad ∙ calm in cc);
     };
+    whole = whole_by s go.sound result answer;
+    gone = gone_by s result answer none;
     frame = record { no_turn_back = read.frame.since.later; stays = read.frame.stays };
     cause = calm_disk (λ is. let e : true ≡ false = ap is_disk_fault (sym is) ∙ calm in cc) read.calm;
   }
@@ -272,6 +276,9 @@ module _ {classes : ℕ} (s : StoreValue) (a d : disk.State) (text : List ℕ)
             calm = λ other. goes.unbroken ∙ sym go.whole;
             failed = λ bad. absurd (cc);
           };
+          whole = (goes.unbroken, goes.sound);
+          gone = absent_stands y (applied b.changes b.map) batch_name goes.stands
+              (leaves_batch b.changes b.map judged.0.batch.parts ∙ beside_free (store_on s d) text go kept m stands);
           frame = all.frame;
           cause = calm_disk (λ is. cc) all.calm;
         }
@@ -287,8 +294,13 @@ module _ {classes : ℕ} (s : StoreValue) (a d : disk.State) (text : List ℕ)
           begun = λ _ told. begun_kept (Err fault.Disk) told (stops_begun x y b judged.0.batch
               (beside_free (store_on s d) text go kept m stands) (all_done b) refl told (Err fault.Disk)
               (λ is. cc) all);
-          over = λ whole. absurd (let e : true ≡ false = sym all.broken ∙ whole in cc);
+          over = record {
+            idle = all.idle;
+            over = λ whole. absurd (let e : true ≡ false = sym all.broken ∙ whole in cc);
+          };
           broken = record { calm = λ other. absurd (cc); failed = λ is. inl all.broken };
+          whole = tt;
+          gone = tt;
           frame = all.frame;
           cause = record {
             later = all.later;

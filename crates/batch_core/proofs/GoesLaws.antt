@@ -92,6 +92,7 @@ module _ {classes : ℕ} {T E : Type 0} (Such : Map → Type 0) (x y : StoreOn) 
         (k.left told rest);
     content = λ told. image_one Such x (left_by r m) such y.disk.file (k.content told);
     broken = k.broken;
+    idle = k.over.idle;
     rose = k.cause.rose;
     later = k.cause.later;
     frame = k.frame;
@@ -185,6 +186,7 @@ module _ {classes : ℕ} (Such : Map → Type 0) (x y z : StoreOn) (g : Going) (
       left = λ told rest. left_then told rest (second.left (told_then told));
       content = λ told. image_then told z.disk.file (second.content (told_then told));
       broken = second.broken;
+      idle = second.idle;
       rose = omega (arith, first.calm, second.rose);
       later = omega (arith, first.calm, second.later);
       frame = record {

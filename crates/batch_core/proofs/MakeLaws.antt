@@ -73,7 +73,7 @@ module _ {classes : ℕ} (x y : StoreOn) (m : Map) (go : CanGo classes x) (stand
   d = y.disk
 
   over : IsTrue a.tells → IsOver classes s a.file
-  over = go.over go.whole
+  over = go.over.over go.whole
 
   -- ---- what a change leaves that was done
 
@@ -296,7 +296,8 @@ module _ {classes : ℕ} {T E : Type 0} (x y : StoreOn) (c : Change) (result : R
     (is : IsChange classes c x.store y.store x.disk y.disk result)
     (step : x.store.is_broken ≡ false → IsTrue x.disk.tells → IfSome (reply_of done_reply result)
     (λ reply. Step (limits_of x.store) (state_on x) (ask.change c) reply (state_on y)))
-    (sound : y.store.is_broken ≡ false → IsStore classes y.store) (m : Map) (stands : StandsFor x m) where
+    (sound : y.store.is_broken ≡ false → y.store.in_hand ≡ None → IsStore classes y.store)
+    (m : Map) (stands : StandsFor x m) where
   broken : y.store.is_broken ≡ store.is_disk_fault result
   broken = is.broken ∙ ap (λ (b : Bool). b || store.is_disk_fault result) go.whole
 
@@ -309,7 +310,7 @@ module _ {classes : ℕ} {T E : Type 0} (x y : StoreOn) (c : Change) (result : R
   )
 
   sounds : (done : Done) → result ≡ Ok done → IsStore classes y.store
-  sounds done ok = sound (broken ∙ ap (λ (z : Result Done Refusal). store.is_disk_fault z) ok)
+  sounds done ok = sound (broken ∙ ap (λ (z : Result Done Refusal). store.is_disk_fault z) ok) is.over.idle
 
   module _ (none : refused_by x.store (ask.change c) ≡ None) (answer : DoneOrDisk result) where
     quiet_makes : is_quiet (charges_of x.store c) ≡ true
@@ -445,7 +446,7 @@ module _ {classes : ℕ} {T E : Type 0} (x y : StoreOn) (result : Result Done Re
     (λ reply. Step (limits_of x.store) (state_on x) ask.keep reply (state_on y)))
     (over_now : IsConnected classes y.store y.disk)
     (broken_now : y.store.is_broken ≡ (x.store.is_broken || store.is_disk_fault result))
-    (sound : y.store.is_broken ≡ false → IsStore classes y.store) where
+    (sound : y.store.is_broken ≡ false → y.store.in_hand ≡ None → IsStore classes y.store) where
   keeps : KeepsNow classes x.store y.store x.disk y.disk result
   keeps = k (none_is (refused_by x.store ask.keep) none)
 
@@ -506,7 +507,8 @@ module _ {classes : ℕ} {T E : Type 0} (x y : StoreOn) (result : Result Done Re
           block = ap (λ (z : StoreValue). z.in_use.block) value;
           version = ap (λ (z : StoreValue). version_of z.book) value;
           reach = omega (arith, ap (λ (z : StoreValue). z.in_use.sequence) value);
-          sound = sound (broken_keep ∙ ap (λ (z : Result Done Refusal). store.is_disk_fault z) ok);
+          sound = sound (broken_keep ∙ ap (λ (z : Result Done Refusal). store.is_disk_fault z) ok)
+              over_now.idle;
         }
 
     pub keep_makes : Makes classes ask.keep x y m r

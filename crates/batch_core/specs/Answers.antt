@@ -1,5 +1,5 @@
 -- What the calls of a batcher answer, and what they leave.
-use Rattle.std.specs.Prelude.{◌≡◌, ◌≢◌, ◌⊎◌, ℕ, ◌<◌, ◌≤◌, Bool, true, false, ◌||◌, List, [], ◌∷◌, ◌++◌, length, take, Option, Some, None, Result, Ok, Err, IsTrue}
+use Rattle.std.specs.Prelude.{◌≡◌, ◌≢◌, ◌⊎◌, ℕ, ◌<◌, ◌≤◌, Bool, true, false, ◌||◌, List, [], ◌∷◌, ◌++◌, length, take, Option, Some, None, Result, Ok, Err, IfOk, IsTrue}
 use Rattle.std.specs.FinMap as fin
 use Rattle.disk_face.specs.States as disk
 use Rattle.disk_face.specs.Frames.{Unchanged}
@@ -16,6 +16,7 @@ use Rattle.store_core.specs.Answers.{size_at}
 use Rattle.store_core.specs.Changes.{NothingChanged}
 use Rattle.store_model.specs.Connection.{IsConnected, StoreValue, limits_of}
 use Rattle.store_model.specs.States.{Run, object_in}
+use Rattle.store_model.specs.Stores.{IsStore}
 use Rattle.store_model.specs.Quiet.{put_of}
 use Rattle.batch_model.specs.Batches.{IsBatch, IsNoBatch, StopsAt, applied, batch_name}
 use Rattle.batch_model.specs.Views.{unbatched}
@@ -142,6 +143,7 @@ pub record Applies (classes : ℕ) (text : List ℕ) (old new : StoreOn) (result
         → IsBegun classes (applied_to old text changes) (requests_of text changes) old new result
     pub over : IsConnected classes new.store new.disk
     pub broken : new.store.is_broken ≡ (old.store.is_broken || is_disk_fault result)
+    pub sound : IfOk result (λ done. IsStore classes new.store)
     pub frame : KeepsDisk old.disk new.disk
     pub cause : HasDiskCause fault.Disk old.disk.faults new.disk.faults result
 
@@ -195,7 +197,7 @@ pub record BreaksBy (old new : StoreOn) (result : Result Bool BatchFault) : Type
 abbrev pub kept_batch : StoreOn → List Change → Batch
 kept_batch x changes = record { text = kept_text x; changes = changes; map = unbatched (state_on x).map }
 
--- What `finish` does. Nothing changes where no batch was begun.
+-- What `finish` does. Nothing changes where no batch was begun, and after it a store keeps none.
 pub record Finishes (classes : ℕ) (old new : StoreOn) (result : Result Bool BatchFault) : Type 0 where
   pub answer : AnswersFinish old.store result
   pub judged : IsTrue old.disk.tells → JudgesKept old result
@@ -205,6 +207,8 @@ pub record Finishes (classes : ℕ) (old new : StoreOn) (result : Result Bool Ba
       → IsBegun classes (kept_batch old changes) (requests_for changes ++ last_requests) old new result
   pub over : IsConnected classes new.store new.disk
   pub broken : BreaksBy old new result
+  pub whole : IfOk result (λ done. (new.store.is_broken ≡ false) × IsStore classes new.store)
+  pub gone : IfOk result (λ done. fin.get new.store.now batch_name ≡ None)
   pub frame : KeepsDisk old.disk new.disk
   pub cause : HasDiskCause fault.Disk old.disk.faults new.disk.faults result
 

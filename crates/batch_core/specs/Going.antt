@@ -1,5 +1,5 @@
 -- Requests of a batch that a store has made one after another, and what was left meanwhile.
-use Rattle.std.specs.Prelude.{◌≡◌, ◌⊎◌, ℕ, ◌+◌, ◌*◌, ◌≤◌, true, false, List, IsTrue}
+use Rattle.std.specs.Prelude.{◌≡◌, ◌⊎◌, ℕ, ◌+◌, ◌*◌, ◌≤◌, true, false, List, None, IsTrue}
 use Rattle.disk_face.specs.Counts.{Rose}
 use Rattle.disk_face.specs.Moments.{Leaves}
 use Rattle.disk_face.specs.Writes.{KeepsDisk}
@@ -53,6 +53,7 @@ pub record Stops (classes : ℕ) (Such : Map → Type 0) (old new : StoreOn) : T
   pub left : IsTrue old.disk.tells → RestsOn old → Leaves old.disk new.disk (IsLeft classes Such old)
   pub content : IsTrue old.disk.tells → IsLeft classes Such old new.disk.file
   pub broken : new.store.is_broken ≡ true
+  pub idle : new.store.in_hand ≡ None
   pub rose : Rose old.disk.faults new.disk.faults
   pub later : old.disk.faults ≤ new.disk.faults
   pub frame : KeepsDisk old.disk new.disk

@@ -38,17 +38,18 @@ impl<const C: usize> Model for Batcher<C> {
 
     ghost coded = { kept_code };
 
-    ghost use Rattle.batch_core.specs.Inside.{HasLongText, store_in};
+    ghost use Rattle.batch_core.specs.Inside.{IsReadyIn, store_in};
 
     ghost view = { store_in };
 
-    ghost invariant = { HasLongText };
+    ghost invariant = { IsReadyIn };
 }
 
 impl<const C: usize> Batcher<C> {
     /// A batcher of a store, with the memory that it will ever have: as much as the longest object has
     /// bytes. Where there is none the store comes back.
     pub fn new(alloc: Global, store: Store<C>) -> Result<Batcher<C>, (Store<C>, NoMemory)>
+        requires idle { store.in_hand ≡ None }
         ensures ok { IfOk result (λ batcher. batcher ≡ store.entry) }
         ensures refused { IfErr result (λ back. back.0 ≡ store.entry) }
     {
@@ -68,7 +69,8 @@ impl<const C: usize> Batcher<C> {
 
     /// The store.
     pub fn into_store(self) -> Store<C>
-        ensures { result ≡ self.entry }
+        ensures same { result ≡ self.entry }
+        ensures idle { result.in_hand ≡ None }
     {
         self.store
     }

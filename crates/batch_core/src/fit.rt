@@ -51,14 +51,10 @@ fn names_beside<const C: usize>(store: &Store<C>, again: bool) -> u64
     requires whole { store.now.is_broken ≡ false }
     ensures { result ≡ names_beside again store.now }
 {
-    let names = match store.stat() {
-        Ok(stat) => stat.names,
-        Err(_) => 0,
-    };
     if again {
-        names.saturating_sub(1)
+        store.live().saturating_sub(1)
     } else {
-        names
+        store.live()
     }
 }
 

@@ -96,7 +96,7 @@ fn done(answer: Result<Done, Refusal>) -> Result<(), DiskFault>
 
 /// What holds of each store.
 fn is_sound<const C: usize>(store: &Store<C>)
-    ensures { store.now.is_broken ≡ false → IsStore C store.now }
+    ensures { store.now.is_broken ≡ false → store.now.in_hand ≡ None → IsStore C store.now }
 {
     let _ = store.is_broken();
 }

@@ -1,6 +1,7 @@
 -- One step of a flush: what it may count on, and what it makes.
 use Rattle.std.specs.Prelude.{◌≡◌, ℕ, ◌+◌, ◌*◌, ◌<◌, Bool, true, false, if◌then◌else◌, length, Option, IsFalse, OnErr, Result, Ok, Err, refl}
 use Rattle.std.proofs.Common.{arith, sym, ◌∙◌, ap, subst}
+use Rattle.std.specs.FinMap as fin
 use Rattle.disk_face.specs.States.{State}
 use Rattle.segment_layout.specs.Shapes.{end_of}
 use Rattle.slot_codec.specs.Choice as choice
@@ -12,12 +13,12 @@ use Rattle.flush_model.specs.Phases.{PlanState, moved_by}
 use Rattle.flush_model.specs.Plans.{IsSafe, relocated}
 use Rattle.flush_model.specs.Steps.{IsMover}
 use Rattle.flush_plan.specs.Shelves.{PlanFrame}
-use Rattle.flush_run.specs.Advances.{HasAdvanced, HasStopped}
+use Rattle.flush_run.specs.Advances.{HasAdvanced, HasStopped, MovesObject}
 use Rattle.flush_run.specs.FlushFrames.{FlushFrame}
 use Rattle.flush_run.specs.Hands.{AllEndBy}
 use Rattle.flush_run.specs.Loops.{BetweenMoves, LaysPaid, PacksPaid}
 use Rattle.flush_run.specs.MadeMoves.{CanMakeMove, HasMadeMove, HasNotMoved, MayTake}
-use Rattle.flush_run.specs.Moves.{FreesTarget}
+use Rattle.flush_run.specs.Moves.{FreesTarget, moved_spot}
 use Rattle.flush_run.specs.Parts.{HandsValue, size_in}
 use Rattle.flush_run.specs.Shelved.{shelf_of}
 use Rattle.flush_run.specs.Phases.{CanAdvance, GoesOn, IsOver, KeepsIn, LowIn, PaidIn, StepIn, course_in, items_in, phase_in, rank_of, saving_in}
@@ -142,6 +143,28 @@ module _ {C : ℕ} (s0 s : Phase C) {mv : Move} {first now : State} {x0 x : Hand
         by true a = a.pair
         by false a = a.pair
 
+    -- after a save, what stood is the checkpoint
+    kept_after : x.table.kept ≡ (if h.saved then x0.table.now else x0.table.kept)
+    kept_after = kept_mid ∙ by h.saved h.frees
+      where
+        by : (saved : Bool)
+            → FreesTarget saved h.target x0.in_use h.mid.in_use x0.table h.mid.table x0.spans h.mid.spans
+            → h.mid.table.kept ≡ (if saved then x0.table.now else x0.table.kept)
+        by true a = ap (λ (e : Extents). e.kept) a.table
+        by false a = ap (λ (e : Extents). e.kept) a.table
+
+    object_after : MovesObject mv x0.table.now x.table.now
+    object_after =
+        let m = h.can.mover in
+        record {
+          name = m.name;
+          spot = m.spot;
+          there = ap (λ (q : Spots). fin.get q m.name) (sym same_now) ∙ m.mover.is;
+          size = m.mover.size;
+          now = ap (λ (e : Extents). e.now) (h.moved.now m.name m.spot m.mover)
+              ∙ ap (λ (q : Spots). fin.insert q m.name (moved_spot m.spot mv.to)) same_now;
+        }
+
     pub step_advances : StepIn s0 (phase_in s0 x0.table) mv → length x0.moved ≡ 32
         → HasAdvanced s0 s x0 x first now
     step_advances step full = record {
@@ -154,6 +177,8 @@ module _ {C : ℕ} (s0 s : Phase C) {mv : Move} {first now : State} {x0 x : Hand
       pair = pair_after;
       full = full;
       row = h.row;
+      object = object_after;
+      kept = kept_after;
       sizes = λ name. sizes_moved h.can.mover h.moved name ∙ ap (λ (q : Spots). size_in q name) same_now;
       keeps = h.keeps;
       turns = h.turns;

@@ -11,8 +11,10 @@ use Rattle.flush_run.specs.HandsOn.{GoesNext}
 use Rattle.flush_run.specs.Loops.{CanSave}
 use Rattle.flush_run.specs.Parts.{HandsValue}
 use Rattle.flush_run.specs.Phases.{CanAdvance, KeepsIn, PaidIn, course_in, items_in, moved_in, phase_in, rank_of}
-use Rattle.flush_run.specs.Shelved.{phase_now}
-use Rattle.flush_run.specs.Steps.{HasMovedOne, InStep}
+use Rattle.flush_model.specs.Plans.{class_total}
+use Rattle.flush_run.specs.Shelved.{items_now, phase_now}
+use Rattle.flush_run.specs.Steps.{HandsOver, HasMovedOne, InStep}
+use Rattle.flush_run.specs.Sums.{Mark, SumsSoFar}
 use Rattle.flush_run.specs.declared.phase.Phase.{Phase}
 use Rattle.flush_run.proofs.BeginLaws.{goes_in}
 use Rattle.flush_run.proofs.HandLaws.{hand_goes, hand_pays, paid_more}
@@ -129,3 +131,15 @@ module _ {C : ℕ} {X : Type 0} (state : X → State) {d0 d : X} (same : d ≡ d
       ap (λ (v : choice.InUse). v.block.k) pair,
       paid_more s x (one_can start).on q (one_paid q paid),
     )
+
+-- what was summed up stays so where a phase handed over
+pub sums_over : {C : ℕ} {s0 s : Phase C} {x : HandsValue} {d : State} {m : Mark} → HandsOver s0 s x.table
+    → SumsSoFar m s0 x d → SumsSoFar m s x d
+sums_over {s = s} {x = x} over so = record {
+  totals = λ c. ap (λ (v : PlanFrame). class_total (items_now v x.table) c) over.course ∙ so.totals c;
+  sizes = so.sizes;
+  later = so.later;
+  lower = λ c low. so.lower c (omega (arith, low, ap (λ (v : PlanFrame). v.numbers.boundary) over.course));
+  rises = λ c. omega (arith, so.rises c, over.grows c);
+  calls = so.calls;
+}

@@ -219,6 +219,17 @@ module _ {C : ℕ} {s0 : Phase C} {x0 : HandsValue} {first : State} {m : Mark} (
           (omega (arith, e.turns)));
     }
 
+-- what is summed up so far, as if the flush ended here
+pub sums_still : {C : ℕ} {s : Phase C} {x : HandsValue} {d : State} {m : Mark} → SumsSoFar m s x d
+    → SumsUp m (course_in s).numbers.boundary 0 0 x d
+sums_still {s = s} {x} {d} {m} so = record {
+  sizes = so.sizes;
+  later = so.later;
+  lower = so.lower;
+  few = λ c. omega (arith, so.rises c, moved_at_most s (phase_in s x.table) c, so.totals c);
+  calls = subst (λ n. CallsSoFar m.turn d.turn m.moved x.moved 0 n (fin.len m.spots)) (omega arith) so.calls;
+}
+
 -- an end without a fault is one with more calls
 pub sums_wider : {m : Mark} {b : ℕ} {x : HandsValue} {d : State} → SumsUp m b 2 0 x d
     → SumsUp m b (piece_calls + 2) 1 x d

@@ -1,16 +1,28 @@
 -- What one step of a flush makes.
-use Rattle.std.specs.Prelude.{◌≡◌, ℕ, ◌+◌, ◌≤◌, Bool, true, false, if◌then◌else◌, length}
+use Rattle.std.specs.Prelude.{◌≡◌, ℕ, ◌+◌, ◌≤◌, Bool, true, false, if◌then◌else◌, List, length, Some}
+use Rattle.std.specs.FinMap as fin
+use Rattle.disk_face.specs.Counts.{counted}
 use Rattle.disk_face.specs.States.{State}
 use Rattle.data_area.specs.Pieces.{pieces}
 use Rattle.slot_pair.specs.Saves.{next_in_use, save_calls}
-use Rattle.extent_table.specs.Extents.{records_of}
+use Rattle.extent_table.specs.declared.spot.Spot.{Spot}
+use Rattle.extent_table.specs.Extents.{Spots, records_of}
 use Rattle.flush_model.specs.declared.item.Move.{Move}
 use Rattle.flush_model.specs.Phases.{moved_by}
 use Rattle.flush_run.specs.Calls.{piece_calls}
 use Rattle.flush_run.specs.MadeMoves.{RowMoves, calls_of_save}
+use Rattle.flush_run.specs.Moves.{moved_spot}
 use Rattle.flush_run.specs.Parts.{HandsValue, KeepsOn, KeepsSettling, SameSizes}
 use Rattle.flush_run.specs.Phases.{AtEnd, StepIn, course_in, phase_in, rank_of}
 use Rattle.flush_run.specs.declared.phase.Phase.{Phase}
+
+-- One name's object stands at the target of a move, and each other one where it stood.
+pub record MovesObject (mv : Move) (old new : Spots) : Type 0 where
+  pub name : List ℕ
+  pub spot : Spot
+  pub there : fin.get old name ≡ Some spot
+  pub size : spot.size ≡ mv.size
+  pub now : new ≡ fin.insert old name (moved_spot spot mv.to)
 
 -- One object was moved, the next one of its phase, and its bytes are counted. A save was made before it, or
 -- none. The calls are those of the save and of the pieces of the object.
@@ -24,6 +36,8 @@ pub record HasAdvanced {C : ℕ} (s0 s : Phase C) (x0 x : HandsValue) (first now
   pub pair : x.in_use ≡ (if saved then next_in_use x0.in_use else x0.in_use)
   pub full : length x0.moved ≡ 32
   pub row : RowMoves mv x0.moved x.moved
+  pub object : MovesObject mv x0.table.now x.table.now
+  pub kept : x.table.kept ≡ (if saved then x0.table.now else x0.table.kept)
   pub sizes : SameSizes x0.table.now x.table.now
   pub keeps : KeepsOn first now x0 x
   pub turns : now.turn ≤ first.turn + calls_of_save saved (length (records_of x0.table.now))
@@ -47,7 +61,7 @@ pub record HasEnded (x0 x : HandsValue) (first now : State) : Type 0 where
   pub spots : x.table.now ≡ x0.table.now
   pub row : x.moved ≡ x0.moved
   pub keeps : KeepsSettling first now x0 x
-  pub turns : now.turn ≤ first.turn + save_calls (length (records_of x0.table.now)) + 2
+  pub turns : now.turn ≡ counted first.turn (save_calls (length (records_of x0.table.now)) + 2)
 
 -- A device call failed: each object stands where it stood, and no byte was counted as moved. A save may have
 -- been made.

@@ -135,7 +135,7 @@ module _ (h : SoFar) where
               ∙ and_none (is_changing r)
 
           over_z : IsOver CLASSES new.store z.file
-          over_z = x.served.replies.serves.over unbroken_z
+          over_z = x.served.replies.serves.over.over unbroken_z
               (x.served.replies.serves.frame.stays.told ∙ (told_now h))
 
           block_z : new.store.in_use.block ≡ u

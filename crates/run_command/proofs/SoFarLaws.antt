@@ -256,4 +256,4 @@ module _ (h : SoFar) where
   told_now = ran.frame.stays.told ∙ op.told
 
   pub over_c : IsOver CLASSES s1.store c.file
-  over_c = ran.over ran.unbroken told_now
+  over_c = ran.over.over ran.unbroken told_now

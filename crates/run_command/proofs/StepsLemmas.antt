@@ -22,7 +22,10 @@ use Rattle.reopen.specs.declared.fault.OpenFault.{OpenFault}
 
 -- a store that was opened is over its file
 pub connected_of : (a b : State) (s : StoreValue) → IsOpening CLASSES a b (Ok s) → IsConnected CLASSES s b
-connected_of a b s opening = λ whole told. opening.over (sym opening.frame.stays.told ∙ told)
+connected_of a b s opening = record {
+  idle = opening.fresh.idle;
+  over = λ whole told. opening.over (sym opening.frame.stays.told ∙ told);
+}
 
 module _ {D I O : Type 0} (seen : Seen D I O) where
   pub steps_session : (first mid : D) (now : Held D I O) (from : I) (out : O) (store : StoreValue)

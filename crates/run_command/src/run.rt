@@ -141,6 +141,7 @@ fn unserved(why: StopReason, turn: u64) -> SessionEnd
 
 /// The end of a session, and its three numbers.
 fn ended_as(end: End, session: Session<CLASSES>) -> SessionEnd
+    requires idle { session.store.in_hand ≡ None }
     ensures ended { result ≡ ended_as end session }
     ensures sound { session.store.is_broken ≡ false → IsStore CLASSES session.store }
 {

@@ -31,7 +31,7 @@ unchanged_itself a ready = record {
 }
 
 -- a refusal is no fault of the disk
-stays_broken : (broken : Bool) (o : Option Refused) (refused : Refusal)
+pub stays_broken : (broken : Bool) (o : Option Refused) (refused : Refusal)
     → (if broken then Some why.Broken else option_map refusal_for o) ≡ Some refused
     → broken ≡ (broken || is_disk refused)
 stays_broken true o refused is = refl

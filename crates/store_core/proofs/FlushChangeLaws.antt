@@ -62,7 +62,7 @@ module _ {C : ℕ} (s : Inside C) (t : StoreValue) (is : kept_of s ≡ t) (whole
   fresh = omega (arith, can.fresh, ap (λ (x : StoreValue). x.in_use.sequence) is)
 
   over_here : IsTrue a.tells → IsOver C (kept_of s) a.file
-  over_here told = subst (λ (x : StoreValue). IsOver C x a.file) (sym is) (over can.whole told)
+  over_here told = subst (λ (x : StoreValue). IsOver C x a.file) (sym is) (over.over can.whole told)
 
   pub flush_can_run : (x : HandsValue) × (e : Change) × (g : BeforeChange)
       × CanMakeFlush C x e g (parts_of hands1) (lift_start p place) bytes a
@@ -98,7 +98,7 @@ module _ {C : ℕ} (s : Inside C) (t : StoreValue) (is : kept_of s ≡ t) (whole
         })) a d (Err why.Disk)
     flush_failed fault cause = serves_flushed needs_flush (inr refl)
         (failed_seen s c hands1 p place bytes hands2 a d flown t is why.Disk fault cause) (λ told. tt)
-        (λ sound. absurd (cc)) refl
+        (record { idle = refl; over = λ sound. absurd (cc) }) refl
 
     module _ (ends : (x : HandsValue) (e : Change) (g : BeforeChange)
         → CanMakeFlush C x e g (parts_of hands1) (lift_start p place) bytes a
@@ -119,5 +119,8 @@ module _ {C : ℕ} (s : Inside C) (t : StoreValue) (is : kept_of s ≡ t) (whole
             (done_seen s c hands1 p place bytes hands2 a d flown t is ends low high _ calls cause)
             (λ told. step_seen s c hands1 p place bytes hands2 a d flown t is ends low high told can.calm
             needs_flush)
-            (λ sound told. done_over s c hands1 p place bytes hands2 a d flown ends low high
-            (sym made.keeps.disk.stays.told ∙ told)) unbroken
+            (record {
+              idle = refl;
+              over = λ sound told. done_over s c hands1 p place bytes hands2 a d flown ends low high
+                  (sym made.keeps.disk.stays.told ∙ told);
+            }) unbroken

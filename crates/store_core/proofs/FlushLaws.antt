@@ -122,7 +122,7 @@ module _ {C : ℕ} (s : Inside C) (whole : IsWhole s) (unbroken : s.broken ≡ f
 
   -- ---- the device calls may begin
 
-  abbrev setting : List ℕ → Bool → BeforeChange
+  abbrev pub setting : List ℕ → Bool → BeforeChange
   setting file rests = record {
     map = now_map ks file;
     kept_map = kept_map ks file;
@@ -207,7 +207,7 @@ module _ {C : ℕ} (s : Inside C) (whole : IsWhole s) (unbroken : s.broken ≡ f
     -- ---- what was left
 
     module _ (over : IsOver C ks a.file) where
-      loose_at : (n : ℕ) → n ≤ p.numbers.reach → Loose k n (now_map ks a.file) (map_after ks c a.file)
+      pub loose_at : (n : ℕ) → n ≤ p.numbers.reach → Loose k n (now_map ks a.file) (map_after ks c a.file)
       loose_at n low = omega (
         arith,
         mul-le-mul_left (k - 1) low,

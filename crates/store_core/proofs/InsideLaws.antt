@@ -1,5 +1,5 @@
 -- The fields of a store after a quiet change.
-use Rattle.std.specs.Prelude.{◌≡◌, ℕ, ◌≤◌, List, Option, false, vec_len}
+use Rattle.std.specs.Prelude.{◌≡◌, ℕ, ◌≤◌, List, Option, Some, None, false, true, vec_len, refl}
 use Rattle.std.specs.FinMap as fin
 use Rattle.std.specs.Vec.{with_items}
 use Rattle.std.proofs.Common.{arith, ap, sym, ◌∙◌, subst}
@@ -18,9 +18,15 @@ use Rattle.placement_model.specs.LaidOut.{shown_book}
 use Rattle.store_model.specs.Connection.{StoreValue, base_of, live_cap}
 use Rattle.flush_run.specs.declared.hands.Hands.{Hands}
 use Rattle.store_core.specs.declared.store.Store.TheInside as store
-use Rattle.store_core.specs.Inside.{Inside, IsWhole, kept_of, unboxed}
+use Rattle.flush_run.specs.declared.phase.Phase.{Phase}
+use Rattle.flush_run.specs.Parts.{parts_of}
+use Rattle.flush_run.specs.Phases.{GoesOn, PaidIn}
+use Rattle.flush_run.specs.Sums.{SumsSoFar}
+use Rattle.store_core.specs.declared.hand.Began.{Began}
+use Rattle.store_core.specs.Inside.{HoldsAt, Inside, IsWhole, IsWholeIn, kept_in, kept_of, seen, still_frame, unboxed, untold}
 use Rattle.store_model.specs.Digested.{digested_book}
-use Rattle.store_model.specs.Stores.{IsStore}
+use Rattle.store_model.specs.Stores.{IsStanding, IsStore}
+use Rattle.store_model.proofs.HalfLaws.{standing_of}
 use Rattle.store_model.proofs.DigestLaws.{version_seen}
 use Rattle.store_model.proofs.ChangeLaws.{with_now}
 
@@ -35,6 +41,73 @@ lent_is s same same_layout = λ i. record {
   kept_layout = same_layout i;
   broken = s.broken;
 }
+
+-- ---- whether a flush is in hand
+
+-- the parts are those of a store with nothing in hand, whatever its state
+pub parts_at : {C : ℕ} (flush : Option (Phase C)) (began : Began C) (s : Inside C) → HoldsAt flush began s
+    → IsWhole (record s { broken = true })
+parts_at None began s w = record {
+  classes = w.classes;
+  wide = w.wide;
+  version = w.version;
+  base = w.base;
+  few = w.few;
+  buf = w.buf;
+  divisor = w.divisor;
+  kept_divisor = w.kept_divisor;
+  kept_caps = w.kept_caps;
+  room = w.room;
+  cap = w.cap;
+  guard_room = w.guard_room;
+  table = λ sound. absurd (cc);
+  sound = λ sound. absurd (cc);
+  freed = λ sound. absurd (cc);
+}
+parts_at (Some v) began s g = g.parts
+
+-- What is known of a store with nothing in hand: contracts see what its parts are.
+pub record AtRest {C : ℕ} (flush : Option (Phase C)) (s : Inside C) (t : StoreValue) : Type 0 where
+  pub none : flush ≡ None
+  pub view : kept_of s ≡ t
+  pub whole : IsWhole s
+
+pub rest_at : {C : ℕ} (flush : Option (Phase C)) (began : Began C) (s : Inside C) (t : StoreValue)
+    → seen flush began s ≡ t → HoldsAt flush began s → t.in_hand ≡ None → AtRest flush s t
+rest_at None began s t is whole idle = record { none = refl; view = is; whole = whole }
+rest_at (Some v) began s t is whole idle =
+    absurd (let e = ap (λ (x : StoreValue). x.in_hand) is ∙ idle in cc)
+
+pub rest_of : {C : ℕ} (i : store.Inside C) (t : StoreValue) → kept_in i ≡ t → IsWholeIn i → t.in_hand ≡ None
+    → AtRest i.flush (unboxed i) t
+rest_of i t is whole idle = rest_at i.flush i.began (unboxed i) t is whole idle
+
+-- what contracts see beside the flush in hand
+pub beside : {C : ℕ} (i : store.Inside C) (t : StoreValue) → kept_in i ≡ t
+    → kept_of (unboxed i) ≡ record t { in_hand = None }
+beside i t is = ap (λ (x : StoreValue). record x { in_hand = None }) is
+
+-- a store that isn't broken stands
+pub standing_at : {C : ℕ} (flush : Option (Phase C)) (began : Began C) (s : Inside C) → HoldsAt flush began s
+    → s.broken ≡ false → IsStanding (seen flush began s)
+standing_at None began s w whole =
+    let h = standing_of (kept_of s) (w.sound whole) in
+    record {
+      block = h.block;
+      now_named = h.now_named;
+      kept_named = h.kept_named;
+      now_in_range = h.now_in_range;
+      kept_in_range = h.kept_in_range;
+    }
+standing_at (Some v) began s g whole =
+    let h = g.goes.goes.hands in
+    record {
+      block = h.block;
+      now_named = h.table.now_named;
+      kept_named = h.table.kept_named;
+      now_in_range = h.table.now_in_range;
+      kept_in_range = h.table.kept_in_range;
+    }
 
 -- the buffer may have other bytes
 pub whole_with : {C : ℕ} (s : Inside C) (items : List ℕ) → vec_len (with_items s.hands.buf items) ≡ 65536
@@ -56,6 +129,29 @@ whole_with s items long whole = record {
   sound = whole.sound;
   freed = whole.freed;
 }
+
+-- the same, whether or not a flush is in hand
+pub holds_with : {C : ℕ} (flush : Option (Phase C)) (began : Began C) (s : Inside C) (items : List ℕ)
+    → vec_len (with_items s.hands.buf items) ≡ 65536 → HoldsAt flush began s
+    → HoldsAt flush began (record s { hands = record s.hands { buf = with_items s.hands.buf items } })
+holds_with None began s items long w = whole_with s items long w
+holds_with (Some v) began s items long g =
+    let old : vec_len s.hands.buf ≡ 65536 = g.parts.buf in
+    let same : parts_of s.hands
+    ≡ record (parts_of s.hands) { buffer = vec_len (with_items s.hands.buf items) }
+    = λ i. record (parts_of s.hands) { buffer = (old ∙ sym long) i } in
+    record {
+      unbroken = g.unbroken;
+      parts = whole_with (record s { broken = true }) items long g.parts;
+      goes = subst (λ x. GoesOn (still_frame began s v) v x untold) same g.goes;
+      keeps = g.keeps;
+      room = g.room;
+      paid = subst (λ x. PaidIn began.sequence v x) same g.paid;
+      mark = g.mark;
+      sequence = g.sequence;
+      moved = g.moved;
+      sums = subst (λ x. SumsSoFar g.mark v x untold) same g.sums;
+    }
 
 -- the version of the book is that of the tables
 pub version_is : {C : ℕ} (s : Inside C) → IsWhole s → version_of (kept_of s).book ≡ s.hands.version

@@ -284,7 +284,7 @@ module _ {C : ℕ} (s : Inside C) (t : StoreValue) (is : kept_of s ≡ t) (whole
       → Calls {T = Done} (save_calls (length (records s))) a d (Err refused)
       → KeepsNow C t new a d (Err refused)
   keep_failed refused new new_is calls = keeps_failed t store fresh (records s) same_table count
-      (connected unbroken) left_seen frame
+      (connected.over unbroken) left_seen frame
       refused new (new_is ∙ ap (λ (x : StoreValue). record x { is_broken = true }) is) calls
 
   module _ (saved : IsTrue a.tells → s.hands.slots.sequence + 1 < worn_from h.kind
@@ -305,19 +305,20 @@ module _ {C : ℕ} (s : Inside C) (t : StoreValue) (is : kept_of s ≡ t) (whole
         → Calls {E = Refusal} (save_calls (length (records s))) a d (Ok answer)
         → KeepsNow C t new a d (Ok answer)
     keep_done answer rests calls = keeps_saved t store fresh (records s) same_table count
-        (connected unbroken) left_seen frame answer new new_seen saved_seen rests calls
+        (connected.over unbroken) left_seen frame answer new new_seen saved_seen rests calls
 
     pub keep_step : IsTrue a.tells
         → Step (limits_of t) (state_of t a.file) ask.keep ask.kept (state_of new d.file)
     keep_step told = subst (λ (x : StoreValue). Step (limits_of t) (state_of t a.file) ask.keep ask.kept
         (state_of x d.file)) (sym new_seen)
-        (step_kept t store a.file (connected unbroken told) (records s) same_table d.file (saved_seen told)
+        (step_kept t store a.file (connected.over unbroken told) (records s) same_table d.file
+        (saved_seen told)
         (left_seen told).data_part fresh)
 
     pub keep_over : IsTrue d.tells → IsOver C new d.file
     keep_over told =
         let first = subst IsTrue frame.stays.told told in
         subst (λ (x : StoreValue). IsOver C x d.file) (sym new_seen)
-        (over_kept t store a.file (connected unbroken first) (records s) same_table d.file
+        (over_kept t store a.file (connected.over unbroken first) (records s) same_table d.file
         (saved_seen first)
         (left_seen first).data_part (in_use first ∙ ap (λ (x : StoreValue). Ok (next_in_use x.in_use)) is))

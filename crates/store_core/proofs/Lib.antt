@@ -7,6 +7,7 @@ pub mod InsideLaws
 pub mod QuietLaws
 pub mod EffectLaws
 pub mod ReadLaws
+pub mod AnsweredLaws
 pub mod RefusedLaws
 mod RenewLaws
 mod UpgradeLaws
@@ -23,3 +24,7 @@ pub mod CopyChargesLaws
 pub mod FlushChangeLaws
 pub mod ResumedLaws
 pub mod PutsLaws
+pub mod HoldLaws
+pub mod BegunServeLaws
+pub mod SteppedLaws
+pub mod SettledLaws

@@ -56,7 +56,7 @@ same_charges s c = ap (λ (xs : List ℕ). charge_all s.in_use.block.k s.book.ca
     (gone_items s.in_use.block.k s.book.caps (fin.get s.now c.name) ++ xs)) (item_is c.object)
 
 -- the items of a class from the boundary on have as many bytes as the objects of the map after
-sized_after : (m : Map) (spots : Spots) (c : Change) (place : ℕ) → IsSizedBy m spots
+pub sized_after : (m : Map) (spots : Spots) (c : Change) (place : ℕ) → IsSizedBy m spots
     → IsSizedBy (changed c m) (spots_after c spots place)
 sized_after m spots c place sized = by c.object
   where

@@ -1,5 +1,5 @@
 -- The store of a table that was checked against its layout.
-use Rattle.std.specs.Prelude.{◌≡◌, ℕ, ◌<◌, ◌≤◌, ◌^◌, List, [], false, vec_len, IsTrue, refl}
+use Rattle.std.specs.Prelude.{◌≡◌, ℕ, ◌<◌, ◌≤◌, ◌^◌, List, [], None, false, vec_len, IsTrue, refl}
 use Rattle.std.specs.FinMap as fin
 use Rattle.std.proofs.Common.{arith, ap, sym, ◌∙◌, subst}
 use Rattle.size_class.specs.Classes.{IsGrid, IsRow, zero_row}
@@ -164,4 +164,5 @@ module _ {C : ℕ} (s : Inside C) (n : IsNew s) where
         is_broken = n.unbroken i;
         moved = n.moved i;
         asked = n.asked i;
+        in_hand = None;
       }

@@ -10,7 +10,9 @@ use Rattle.map_model.specs.Requests as ask
 use Rattle.map_model.specs.Requests.{Change, changed}
 use Rattle.map_model.specs.Maps.{Map}
 use Rattle.segment_layout.specs.Books.{Book, digests_after, is_quiet, next_book, some_size, with_digests}
+use Rattle.segment_layout.specs.Shapes.{end_of}
 use Rattle.extent_table.specs.declared.spot.Spot.{Spot}
+use Rattle.extent_table.specs.Extents.{Spots}
 use Rattle.placement_model.specs.LaidOut.{shown_book}
 use Rattle.placement_model.specs.Quiet.{QuietTo, gone_items}
 use Rattle.placement_model.specs.Reads.{read_at}
@@ -67,6 +69,20 @@ change_step limits s after c none quiet map kept book kept_book sequence =
       low = omega (arith, sequence, ap (λ (x : Served). x.saves.least) is);
       high = omega (arith, sequence, ap (λ (x : Served). x.saves.most) is);
     }
+
+-- a store with other places, in a layout of the same capacities, is over the same file
+pub over_beside : {classes : ℕ} (s : StoreValue) (file : List ℕ) (now : Spots) (book : Book) (asked : List ℕ)
+    → book.caps ≡ s.book.caps → IsOver classes s file
+    → IsOver classes (record s { now = now; book = book; asked = asked }) file
+over_beside s file now book asked caps o = record {
+  table = o.table;
+  checkpoint = record {
+    slot = o.checkpoint.slot;
+    records = o.checkpoint.records;
+    opens = o.checkpoint.opens;
+  };
+  same_length = omega (arith, o.same_length, ap (end_of s.in_use.block.k) caps);
+}
 
 module _ {classes : ℕ} (s : StoreValue) (h : IsStore classes s) where
   abbrev k : ℕ

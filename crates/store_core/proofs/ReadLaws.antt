@@ -19,47 +19,51 @@ use Rattle.store_core.specs.declared.answers.Moment.TheVariants as moment
 use Rattle.store_core.specs.declared.answers.Refusal.{Refusal}
 use Rattle.store_core.specs.declared.answers.Refusal.TheVariants as why
 use Rattle.store_core.specs.Answers.{AnswersRead, AnswersSpot, facts_at, refusal_for, refused_by, size_at}
-use Rattle.store_model.specs.Connection.{IsOver, StoreValue, base_of, limits_of, state_of}
+use Rattle.store_model.specs.Connection.{StoreValue, base_of, limits_of, state_of}
 use Rattle.store_core.specs.Readings.{IsRead, asks_for, digest_read, is_damaged_read, object_read, spot_read}
 use Rattle.store_core.specs.Reads.{GivesObject, HasSinkCause, IsJudged}
 use Rattle.store_model.specs.States.{Limits, State, accepted, refusal, unchanged}
-use Rattle.store_model.specs.Stores.{IsStore}
+use Rattle.store_model.specs.Stores.{IsStanding, IsStore}
 use Rattle.store_core.proofs.CauseLaws.{calm_disk, calm_sink}
 use Rattle.store_core.proofs.ChangingLaws.{unchanged_itself}
 use Rattle.store_core.proofs.ReadingLaws.{IsFound, answers_read, damaged_there, digest_seen, gives_object, object_there, refused_read}
 use Rattle.store_core.proofs.RefusedLaws.{not_none}
 use Rattle.store_core.proofs.StepLaws.{read_reply, read_step}
-use Rattle.store_model.proofs.StoreLaws.{kept_lies, now_lies}
+use Rattle.store_model.specs.Halves.{IsReadable}
+use Rattle.store_model.proofs.HalfLaws.{readable_kept, readable_now}
 
 -- ---- what is found, at each moment
 
-pub found_in_range : {classes : ℕ} (s : StoreValue) → IsStore classes s → (m : Moment) (name : List ℕ)
+pub found_in_range : (s : StoreValue) → IsStanding s → (m : Moment) (name : List ℕ)
     (x : Spot) → spot_read s (asks_for m name) ≡ Some x → IsInRange x
 found_in_range s h moment.Now name x there = h.now_in_range name x there
 found_in_range s h moment.Kept name x there = h.kept_in_range name x there
 
-pub found_within : {classes : ℕ} (s : StoreValue) (file : List ℕ) → IsStore classes s → IsOver classes s file
+pub found_within : {classes : ℕ} (s : StoreValue) (d : disk.State) → IsStanding s → s.is_broken ≡ false
+    → (s.in_hand ≡ None → IsStore classes s) → IsReadable classes s d → IsTrue d.tells
     → (m : Moment) (name : List ℕ) (x : Spot) → spot_read s (asks_for m name) ≡ Some x
-    → base_of s + x.place + x.size ≤ length file
-found_within s file h over moment.Now name x there = now_lies s file h over name x there
-found_within s file h over moment.Kept name x there = kept_lies s file h over name x there
+    → base_of s + x.place + x.size ≤ length d.file
+found_within s d h whole sound over told moment.Now name x there =
+    readable_now s d over whole sound told name x there
+found_within s d h whole sound over told moment.Kept name x there =
+    readable_kept s d over whole sound h.kept_named told name x there
 
-pub found_object : {classes : ℕ} (s : StoreValue) (file : List ℕ) → IsStore classes s → (m : Moment)
+pub found_object : (s : StoreValue) (file : List ℕ) → IsStanding s → (m : Moment)
     (name : List ℕ) (x : Spot) → spot_read s (asks_for m name) ≡ Some x
     → object_read (state_of s file) (asks_for m name) ≡ object_at (base_of s) file x
-found_object s file h moment.Now name x there = object_there (base_of s) file s.now name x h.now.named there
+found_object s file h moment.Now name x there = object_there (base_of s) file s.now name x h.now_named there
 found_object s file h moment.Kept name x there =
-    object_there (base_of s) file s.kept name x h.kept.named there
+    object_there (base_of s) file s.kept name x h.kept_named there
 
 -- and whether it is damaged
-pub found_damaged : {classes : ℕ} (s : StoreValue) (file : List ℕ) → IsStore classes s → (m : Moment)
+pub found_damaged : (s : StoreValue) (file : List ℕ) → IsStanding s → (m : Moment)
     (name : List ℕ) (x : Spot) → spot_read s (asks_for m name) ≡ Some x
     → is_damaged_read (state_of s file) (asks_for m name)
     ≡ differs (digest_read s (asks_for m name)) (Some (object_at (base_of s) file x))
 found_damaged s file h moment.Now name x there =
-    damaged_there (base_of s) file s.book s.now name x h.now.named there
+    damaged_there (base_of s) file s.book s.now name x h.now_named there
 found_damaged s file h moment.Kept name x there =
-    damaged_there (base_of s) file s.kept_book s.kept name x h.kept.named there
+    damaged_there (base_of s) file s.kept_book s.kept name x h.kept_named there
 
 -- the digest that a table has for a name, where its books are a store's
 module _ (v : ℕ) (now kept : Digests) (s : StoreValue) (name : List ℕ)
@@ -120,7 +124,7 @@ module _ (s : StoreValue) (a : disk.State) (m : Moment) (name head : List ℕ) w
   abbrev r : Request
   r = asks_for m name
 
-  pub read_found : {classes : ℕ} (x : Spot) → IsFound classes s r x → (new : StoreValue) (d : disk.State)
+  pub read_found : (x : Spot) → IsFound s r x → (new : StoreValue) (d : disk.State)
       (out after : SinkState) (result : Result ℕ Refusal) → AnswersRead None x.size result
       → (IsTrue a.tells → IsJudged (digest_read s r) (object_at (base_of s) a.file x) result)
       → (IsTrue a.tells → differs (digest_read s r) (Some (object_at (base_of s) a.file x)) ≡ true
@@ -134,15 +138,15 @@ module _ (s : StoreValue) (a : disk.State) (m : Moment) (name head : List ℕ) w
   read_found x f new d out after result answer judged clean gives store frame disk_cause sink_cause =
       let answered = answers_read (refused_by s r) (size_at (spot_read s r)) x.size result f.served
       (ap size_at f.there) answer in
-      let damaged = found_damaged s a.file f.sound m name x f.there in
+      let damaged = found_damaged s a.file f.stands m name x f.there in
       record {
         answer = answered;
         clean = λ whole told is. clean told (sym damaged ∙ is);
         gives = λ told. gives_object (refused_by s r) a.tells head (object_read (state_of s a.file) r)
             (object_at (base_of s) a.file x) out.given after.given result f.served
-            (found_object s a.file f.sound m name x f.there) (gives told);
+            (found_object s a.file f.stands m name x f.there) (gives told);
         step = λ whole told. read_step s new a.file d.file r (ask.found (object_read (state_of s a.file) r))
-            (size_at (spot_read s r)) (is_damaged_read (state_of s a.file) r) result whole f.sound store
+            (size_at (spot_read s r)) (is_damaged_read (state_of s a.file) r) result whole f.stands store
             (frame.same_file told) (read_serves (limits_of s) (state_of s a.file) m name)
             (λ none. subst (λ (b : Bool). OnOk result (b ≡ false)) (sym damaged) (judged told).fine)
             (λ none is. damaged ∙ (judged told).damaged is) answered;
@@ -152,8 +156,8 @@ module _ (s : StoreValue) (a : disk.State) (m : Moment) (name head : List ℕ) w
         sink_cause = sink_cause;
       }
 
-  pub read_refused : {classes : ℕ} (x : Refusal) → AnswersSpot (refused_by s r) (spot_read s r) (Err x)
-      → (s.is_broken ≡ false → IsStore classes s) → IsTrue a.is_ready → (out : SinkState)
+  pub read_refused : (x : Refusal) → AnswersSpot (refused_by s r) (spot_read s r) (Err x)
+      → (s.is_broken ≡ false → IsStanding s) → IsTrue a.is_ready → (out : SinkState)
       → IsRead r head s s (devices a out) (devices a out) (Err x)
   read_refused x answer sound ready out =
       let is = unfound (refused_by s r) (spot_read s r) x answer in

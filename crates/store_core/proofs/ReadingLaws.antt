@@ -17,7 +17,7 @@ use Rattle.store_core.specs.declared.answers.Refusal.TheVariants as why
 use Rattle.store_core.specs.Answers.{AnswersRead, AnswersSpot, facts_at, refusal_for, refused_by}
 use Rattle.store_model.specs.Connection.{StoreValue, limits_of}
 use Rattle.store_model.specs.Digested.{digest_of}
-use Rattle.store_model.specs.Stores.{IsStore}
+use Rattle.store_model.specs.Stores.{IsStanding}
 use Rattle.store_core.specs.declared.answers.Moment.{Moment}
 use Rattle.store_core.specs.declared.answers.Moment.TheVariants as moment
 use Rattle.store_core.specs.Readings.{asks_for, spot_read}
@@ -37,20 +37,20 @@ whole_if_served true o is = absurd (cc)
 whole_if_served false o is = refl
 
 -- An object is found among the places of now or of the last checkpoint, by a store that isn't broken.
-pub record IsFound (classes : ℕ) (s : StoreValue) (r : Request) (x : Spot) : Type 0 where
+pub record IsFound (s : StoreValue) (r : Request) (x : Spot) : Type 0 where
   pub served : refused_by s r ≡ None
   pub whole : s.is_broken ≡ false
   pub there : spot_read s r ≡ Some x
-  pub sound : IsStore classes s
+  pub stands : IsStanding s
 
-pub is_found : {classes : ℕ} (s : StoreValue) (r : Request) (x : Spot)
-    → AnswersSpot (refused_by s r) (spot_read s r) (Ok x) → (s.is_broken ≡ false → IsStore classes s)
-    → IsFound classes s r x
-is_found s r x answer sound =
+pub is_found : (s : StoreValue) (r : Request) (x : Spot)
+    → AnswersSpot (refused_by s r) (spot_read s r) (Ok x) → (s.is_broken ≡ false → IsStanding s)
+    → IsFound s r x
+is_found s r x answer stands =
     let found = found_spot (refused_by s r) (spot_read s r) x answer in
     let whole = whole_if_served s.is_broken
     (option_map refusal_for (refusal (limits_of s) (facts_at s r) r)) found.0 in
-    record { served = found.0; whole = whole; there = found.1; sound = sound whole }
+    record { served = found.0; whole = whole; there = found.1; stands = stands whole }
 
 -- and where none is found, the read is refused
 pub refused_read : (o : Option Refusal) (spot : Option Spot) (why : Refusal) (n : ℕ)

@@ -287,6 +287,7 @@ module _ {C : ℕ} (x : Loaded C) (loads : KeepsLoaded x) (moving : x.header.kin
         same_book = refl;
         moved = refl;
         asked = refl;
+        idle = refl;
       }
 
       module _ (told : IsTrue first.tells) where

@@ -8,7 +8,7 @@ use Rattle.segment_layout.specs.Books.{version_of}
 use Rattle.extent_table.specs.declared.spot.Spot.{Spot}
 use Rattle.placement_model.specs.Reads.{AreNamed, object_at}
 use Rattle.placement_model.proofs.ReadLaws.{get-read_at}
-use Rattle.store_model.specs.Stores.{IsStore}
+use Rattle.store_model.specs.Stores.{IsStanding, IsStore}
 use Rattle.store_model.specs.States.{Facts, Limits, State, Served, Step, accepted, facts_of, name_of, refusal, served, unchanged}
 use Rattle.store_model.specs.Connection.{IsOver, StoreValue, base_of, limits_of, state_of}
 use Rattle.store_core.specs.Answers.{AnswersRead, facts_at, refusal_for, refused_by, refused_reply, reply_of}
@@ -112,8 +112,8 @@ replies_read limits s r reply n damaged result step fine bad (inr (inr (inr is))
     (subst (λ (b : Bool). Step limits s r (read_reply b reply) s) (bad is) step)
 
 -- a read is a step with the reply of its answer
-pub read_step : {classes : ℕ} (s after : StoreValue) (file now : List ℕ) (r : Request) (reply : Reply) (n : ℕ)
-    (damaged : Bool) (result : Result ℕ Refusal) → s.is_broken ≡ false → IsStore classes s → after ≡ s
+pub read_step : (s after : StoreValue) (file now : List ℕ) (r : Request) (reply : Reply) (n : ℕ)
+    (damaged : Bool) (result : Result ℕ Refusal) → s.is_broken ≡ false → IsStanding s → after ≡ s
     → now ≡ file
     → accepted (limits_of s) (state_of s file) r ≡ unchanged (state_of s file) (read_reply damaged reply)
     → (refused_by s r ≡ None → OnOk result (damaged ≡ false))
@@ -139,7 +139,7 @@ read_step s after file now r reply n damaged result whole sound same_store same_
   where
     facts : refusal (limits_of s) (facts_of (state_of s file) r) r ≡ refusal (limits_of s) (facts_at s r) r
     facts = ap (λ (f : Facts). refusal (limits_of s) f r)
-        (facts_same s file r sound.now.named sound.kept.named)
+        (facts_same s file r sound.now_named sound.kept_named)
 
     served : refusal (limits_of s) (facts_at s r) r ≡ None → refused_by s r ≡ None
     served is = ap (λ (b : Bool). if b then Some why.Broken

@@ -11,7 +11,6 @@ use Rattle.segment_layout.specs.Books.{digests_after}
 use Rattle.table_rules.specs.Opening.{Opens}
 use Rattle.table_rules.specs.Sequences.{HasSequenceUpTo}
 use Rattle.store_core.specs.declared.answers.Refusal.{Refusal}
-use Rattle.store_core.specs.declared.answers.Done.{Done}
 use Rattle.store_model.specs.Connection.{StoreValue, RestsOnTable, IsKeptImage, base_of, kept_map}
 use Rattle.store_model.specs.Digested.{digested_book}
 use Rattle.store_model.specs.Quiet.{IsCharged, asked_after, charges_of, quiet_calls}
@@ -48,8 +47,8 @@ pub record ChangesQuietly (classes : ℕ) (c : Change) (old new : StoreValue) : 
 -- What a quiet change does, whether the disk fails or not. The content keeps its length and opens to the last
 -- checkpoint, by a table with no greater sequence, and so does all that a crash may leave, where the disk
 -- rested on its table; it rests there still.
-pub record IsQuietChange (classes : ℕ) (c : Change) (old new : StoreValue) (before now : disk.State)
-    (result : Result Done Refusal) : Type 0 where
+pub record IsQuietChange {T : Type 0} (classes : ℕ) (c : Change) (old new : StoreValue)
+    (before now : disk.State) (result : Result T Refusal) : Type 0 where
   pub value : OnOk result (ChangesQuietly classes c old new)
   pub content : IsTrue before.tells → Opens classes SIZE_MAX now.file (kept_map old before.file) old.kept_book
   pub length : IsTrue before.tells → length now.file ≡ length before.file

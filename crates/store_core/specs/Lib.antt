@@ -8,3 +8,5 @@ pub mod Readings
 pub mod Flushes
 pub mod Changing
 pub mod Upgrades
+pub mod Begins
+pub mod Steps

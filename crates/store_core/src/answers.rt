@@ -51,6 +51,24 @@ pub struct Done {
     pub kept: bool,
 }
 
+/// A change was begun: it is done, or a flush of it is in hand.
+#[derive(Clone, Copy, Debug, PartialEq, Eq)]
+pub enum Begun {
+    /// It was quiet, and is done.
+    Done,
+    /// Its flush is in hand, until a step settles it.
+    InHand,
+}
+
+/// What a step of a flush did.
+#[derive(Clone, Copy, Debug, PartialEq, Eq)]
+pub enum Progress {
+    /// One object was moved.
+    Moved,
+    /// What stands now was saved as a settled checkpoint, and no flush is in hand.
+    Settled,
+}
+
 /// How many names and bytes there are, now and at the last checkpoint.
 #[derive(Clone, Copy, Debug, PartialEq, Eq)]
 pub struct Stat {

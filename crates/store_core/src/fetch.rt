@@ -11,7 +11,7 @@ ghost use Rattle.store_core.specs.Reads.{IsJudged};
 ghost use Rattle.store_core.specs.Answers.{AnswersFetch, refused_by, size_at};
 ghost use Rattle.store_model.specs.Connection.{IsConnected, base_of, state_of};
 ghost use Rattle.store_model.specs.States.{object_in};
-ghost use Rattle.store_model.specs.Stores.{IsStore};
+ghost use Rattle.store_model.specs.Stores.{IsStanding};
 
 use crate::judge::judge;
 use crate::{Moment, Refusal, Store};
@@ -56,7 +56,7 @@ impl<const C: usize> Store<C> {
         out: &mut [u8],
     ) -> Result<u64, Refusal>
         requires ready { IsTrue (D.state disk.old).is_ready }
-        requires sound { IsStore C self.now }
+        requires standing { IsStanding self.now }
         requires range { IsInRange spot }
         requires room { spot.size ≤ length out.old }
         requires within { IsTrue (D.state disk.old).tells

@@ -8,7 +8,8 @@ ghost use Rattle.segment_layout.specs.Books.{is_quiet};
 ghost use Rattle.map_model.specs.Requests as ask;
 ghost use Rattle.map_model.specs.Requests.{Change};
 ghost use Rattle.flush_run.specs.Calls.{CallsSoFar};
-ghost use Rattle.flush_run.specs.FlushFrames.{LeavesOldOrNew};
+ghost use Rattle.disk_face.specs.Writes.{KeepsDisk};
+ghost use Rattle.flush_run.specs.FlushFrames.{IsMidFlush, LeavesOldOrNew};
 ghost use Rattle.flush_run.specs.Parts.{HandsValue, parts_of};
 ghost use Rattle.flush_run.specs.Settling.{FlushEnds};
 ghost use Rattle.flush_run.specs.Shelved.{items_now, phase_now};
@@ -64,6 +65,43 @@ impl<const C: usize> Store<C> {
     }
 }
 
+/// Grows the file to where the flush reaches, and writes the new object.
+pub(crate) fn launch<D: Disk, const C: usize>(
+    disk: &mut D,
+    begun: &StartedFlush<C>,
+    hands: &Hands<C>,
+    bytes: &[u8],
+) -> Result<(), DiskFault>
+    requires ready { IsTrue (D.state disk.old).is_ready }
+    requires start { (x0 : HandsValue) × (c : Change) × (g : BeforeChange)
+        × CanMakeFlush C x0 c g (parts_of hands.now)
+        (lift_start (phase_now begun.now.phase.course hands.now.table) begun.now.place) bytes.now
+        (D.state disk.old) }
+    ensures flies { (x0 : HandsValue) (c : Change) (g : BeforeChange)
+        → CanMakeFlush C x0 c g (parts_of hands.now)
+        (lift_start (phase_now begun.now.phase.course hands.now.table) begun.now.place) bytes.now
+        (D.state disk.old)
+        → IsTrue (D.state disk.old).tells
+        → OnOk result (IsMidFlush (flight_of C x0 c begun.now.phase.course.numbers.reach g) hands.now.slots
+        hands.now.table (D.state disk.new)) }
+    ensures left { (x0 : HandsValue) (c : Change) (g : BeforeChange)
+        → CanMakeFlush C x0 c g (parts_of hands.now)
+        (lift_start (phase_now begun.now.phase.course hands.now.table) begun.now.place) bytes.now
+        (D.state disk.old)
+        → IsTrue (D.state disk.old).tells
+        → LeavesOldOrNew (flight_of C x0 c begun.now.phase.course.numbers.reach g)
+        (hands.now.slots.sequence + 1) (D.state disk.old) (D.state disk.new) }
+    ensures most { (D.state disk.new).turn ≤ (D.state disk.old).turn + 2 }
+    ensures frame { KeepsDisk (D.state disk.old) (D.state disk.new) }
+    ensures cause { HasCause (D.state disk.old).faults (D.state disk.new).faults result }
+{
+    disk.set_len(hands.base + begun.phase.numbers().reach)?;
+    match write_new(disk, hands.base, begun.place, bytes) {
+        Ok(()) => Ok(()),
+        Err(fault) => Err(fault),
+    }
+}
+
 /// Grows the file to where the flush reaches, writes the new object, and makes the flush.
 pub(crate) fn make_flush<D: Disk, const C: usize>(
     disk: &mut D,
@@ -101,9 +139,8 @@ pub(crate) fn make_flush<D: Disk, const C: usize>(
         (D.state disk.new) (parts_of hands.old) (parts_of hands.new) }
     ensures cause { HasCause (D.state disk.old).faults (D.state disk.new).faults result }
 {
-    let StartedFlush { phase, place } = begun;
-    disk.set_len(hands.base + phase.numbers().reach)?;
-    write_new(disk, hands.base, place, bytes)?;
+    launch(disk, &begun, hands, bytes)?;
+    let StartedFlush { phase, place: _ } = begun;
     match run(disk, phase, hands) {
         Ok(_) => Ok(()),
         Err(Halted(fault)) => Err(fault),

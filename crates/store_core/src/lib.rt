@@ -9,6 +9,7 @@ mod copy;
 mod digest;
 mod fetch;
 mod flush;
+mod hand;
 mod held;
 mod judge;
 mod keep;
@@ -21,8 +22,9 @@ mod plan;
 mod quiet;
 mod reads;
 mod renew;
+mod sliced;
 mod store;
 mod upgrade;
 
-pub use answers::{Done, Gauge, Moment, Refusal, Stat};
+pub use answers::{Begun, Done, Gauge, Moment, Progress, Refusal, Stat};
 pub use store::Store;

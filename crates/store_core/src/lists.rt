@@ -1,5 +1,5 @@
 //! What there is in a store: its names, and how many bytes they have.
-ghost use Rattle.std.specs.Prelude.{◌≡◌, ℕ, List, false, true, ◌↔◌, IsErr, IsNone, IsSome, IsTrue, OnErr, OnOk, IfOk, Err};
+ghost use Rattle.std.specs.Prelude.{◌≡◌, ℕ, List, false, true, ◌↔◌, None, IsErr, IsNone, IsSome, IsTrue, OnErr, OnOk, IfOk, Err};
 ghost use Rattle.std.specs.FinMap as fin;
 ghost use Rattle.disk_face.specs.Streams.{Puts};
 ghost use Rattle.extent_table.specs.Extents.{volume_of};
@@ -15,8 +15,8 @@ use crate::{Refusal, Stat, Store};
 use disk_face::Sink;
 
 impl<const C: usize> Store<C> {
-    /// Puts a line for each name, the name and the size of its object, by rising name. Where the sink
-    /// fails, a front of the lines was put.
+    /// Puts a line for each name, the name and the size of its object, by rising name, also while a flush
+    /// is in hand. Where the sink fails, a front of the lines was put.
     pub fn list<O: Sink>(&self, sink: &mut O) -> Result<(), Refusal>
         ensures answer { AnswersList (refused_by self.now ask.list) result }
         ensures refused { IsSome (refused_by self.now ask.list) → IsTrue (O.state sink.old).tells
@@ -24,7 +24,7 @@ impl<const C: usize> Store<C> {
         ensures put { IsNone (refused_by self.now ask.list) → IsTrue (O.state sink.old).tells
             → Puts (O.state sink.old).given (O.state sink.new).given (lines_of (listing_of self.now.now))
             result }
-        ensures step { (file : List ℕ) → IsOver C self.now file → OnOk result
+        ensures step { (file : List ℕ) → self.now.in_hand ≡ None → IsOver C self.now file → OnOk result
             (Step (limits_of self.now) (state_of self.now file) ask.list
             (ask.listed (listing_of self.now.now)) (state_of self.now file)) }
         ensures cause { HasSinkCause Refusal.Sink (O.state sink.old) (O.state sink.new) result }
@@ -37,6 +37,7 @@ impl<const C: usize> Store<C> {
 
     /// How many names and bytes there are, now and at the last checkpoint.
     pub fn stat(&self) -> Result<Stat, Refusal>
+        requires idle { self.now.in_hand ≡ None }
         ensures broken { IsErr result ↔ (self.now.is_broken ≡ true) }
         ensures refused { OnErr result (result ≡ Err Refusal.Broken) }
         ensures names { IfOk result (λ s. s.names ≡ fin.len self.now.now) }

@@ -8,6 +8,7 @@ ghost use Rattle.store_model.specs.Connection.{opened_store};
 ghost use Rattle.store_model.specs.Resuming.{MakesStore};
 
 use crate::Store;
+use crate::hand::Began;
 use data_area::Ledger;
 use flush_run::Hands;
 use held_guard::Guard;
@@ -80,6 +81,11 @@ pub(crate) fn store_with<const C: usize>(
         hands,
         kept_layout,
         broken: false,
+        flush: None,
+        began: Began {
+            sequence: 0,
+            moved: Row::zero(),
+        },
     }
 }
 

@@ -1,5 +1,5 @@
 //! Whether a put or a removal is served, and what it charges. Nothing changes yet.
-ghost use Rattle.std.specs.Prelude.{◌≡◌, ◌<◌, ◌≤◌, ◌^◌, false, nat_le, Ok, Err};
+ghost use Rattle.std.specs.Prelude.{◌≡◌, ◌<◌, ◌≤◌, ◌^◌, false, nat_le, None, Ok, Err};
 ghost use Rattle.map_model.specs.Requests as ask;
 ghost use Rattle.store_model.specs.Charges.{ChargesStore, quiet_place};
 
@@ -50,6 +50,7 @@ impl<const C: usize> Store<C> {
     /// which is 0 where none comes.
     pub(crate) fn charge(&self, name: &Name, size: u64) -> Charged<C>
         requires whole { self.now.is_broken ≡ false }
+        requires idle { self.now.in_hand ≡ None }
         requires small { size ≤ SIZE_MAX }
         ensures charges { ChargesStore self.now name.now size result.layout result.outcome }
         ensures sound { IsStore C self.now }
@@ -63,9 +64,10 @@ impl<const C: usize> Store<C> {
 
     /// The name of a put that is served.
     pub(crate) fn accept_put(&self, name: &[u8], bytes: &[u8]) -> Result<Name, Refusal>
+        requires idle { self.now.in_hand ≡ None }
         ensures answer { AcceptsName (refused_by self.now (ask.change (put_of name.now bytes.now))) name.now
             result }
-        ensures sound { self.now.is_broken ≡ false → IsStore C self.now }
+        ensures sound { self.now.is_broken ≡ false → self.now.in_hand ≡ None → IsStore C self.now }
     {
         let name = self.name_of(name)?;
         if bytes.len() as u64 > SIZE_MAX {
@@ -80,8 +82,9 @@ impl<const C: usize> Store<C> {
 
     /// The name of a removal that is served.
     pub(crate) fn accept_del(&self, name: &[u8]) -> Result<Name, Refusal>
+        requires idle { self.now.in_hand ≡ None }
         ensures answer { AcceptsName (refused_by self.now (ask.change (del_of name.now))) name.now result }
-        ensures sound { self.now.is_broken ≡ false → IsStore C self.now }
+        ensures sound { self.now.is_broken ≡ false → self.now.in_hand ≡ None → IsStore C self.now }
     {
         let name = self.name_of(name)?;
         if self.hands.table.get(&name).is_none() {

@@ -32,6 +32,7 @@ impl<const C: usize> Store<C> {
 
     /// Goes back to the last checkpoint: what stood then stands now.
     pub fn back(&mut self) -> Result<(), Refusal>
+        requires idle { self.old.in_hand ≡ None }
         ensures answer { IsErr result ↔ (self.old.is_broken ≡ true) }
         ensures refused { OnErr result (result ≡ Err Refusal.Broken) }
         ensures unchanged { OnErr result (self.new ≡ self.old) }
@@ -89,6 +90,7 @@ impl<const C: usize> Store<C> {
     /// Sets where the object of a name stands, and its digest, once it is charged and written.
     fn enter(&mut self, name: &Name, layout: Layout<C>, spot: Spot, digest: [u8; 32])
         requires whole { self.old.is_broken ≡ false }
+        requires idle { self.old.in_hand ≡ None }
         requires named { IsName name.now }
         requires room { IsSome (fin.get self.old.now name.now)
             ⊎ (fin.len self.old.now < live_cap self.old) }
@@ -118,6 +120,7 @@ impl<const C: usize> Store<C> {
     /// Takes a name out, once its object is charged.
     pub(crate) fn leave(&mut self, name: &Name, layout: Layout<C>)
         requires whole { self.old.is_broken ≡ false }
+        requires idle { self.old.in_hand ≡ None }
         requires divisor { divisor_of layout ≡ self.old.in_use.block.k }
         requires caps { caps_of layout ≡ self.old.book.caps }
         requires charged { QuietTo self.old.in_use.block.k self.old.book.caps self.old.book.grid

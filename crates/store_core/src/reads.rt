@@ -10,7 +10,8 @@ ghost use Rattle.slot_codec.specs.Names.{is_name};
 ghost use Rattle.map_model.specs.Requests as ask;
 ghost use Rattle.store_core.specs.Answers.{AnswersName, AnswersNumber, AnswersRead, AnswersSpot, refused_by, size_at};
 ghost use Rattle.store_model.specs.Connection.{IsConnected, base_of};
-ghost use Rattle.store_model.specs.Stores.{IsStore};
+ghost use Rattle.store_model.specs.Halves.{IsReadable};
+ghost use Rattle.store_model.specs.Stores.{IsStanding, IsStore};
 ghost use Rattle.store_core.specs.Readings.{IsRead, asks_for, digest_read, spot_read};
 ghost use Rattle.store_core.specs.Reads.{GivesObject, HasSinkCause, PutsJudged};
 
@@ -31,6 +32,7 @@ impl<const C: usize> Store<C> {
 
     /// The size of an object of the last checkpoint.
     pub fn old_size(&self, name: &[u8]) -> Result<u64, Refusal>
+        requires idle { self.now.in_hand ≡ None }
         ensures { AnswersNumber (refused_by self.now (ask.old name.now))
             (size_at (fin.get self.now.kept name.now)) result }
     {
@@ -45,8 +47,8 @@ impl<const C: usize> Store<C> {
         Ok(self.find(moment, name)?.size)
     }
 
-    /// Puts the bytes of an object. At Ok all of them were put, and the answer is how many they are; at
-    /// a fault of a device a front of them.
+    /// Puts the bytes of an object, also while a flush is in hand. At Ok all of them were put, and the answer
+    /// is how many they are; at a fault of a device a front of them.
     pub fn get<D: Disk, O: Sink>(
         &mut self,
         disk: &mut D,
@@ -54,7 +56,7 @@ impl<const C: usize> Store<C> {
         sink: &mut O,
     ) -> Result<u64, Refusal>
         requires ready { IsTrue (D.state disk.old).is_ready }
-        requires over { IsConnected C self.old (D.state disk.old) }
+        requires over { IsReadable C self.old (D.state disk.old) }
         ensures { IsRead (ask.get name.now) [] self.old self.new
             (devices (D.state disk.old) (O.state sink.old)) (devices (D.state disk.new) (O.state sink.new))
             result }
@@ -87,7 +89,7 @@ impl<const C: usize> Store<C> {
         sink: &mut O,
     ) -> Result<u64, Refusal>
         requires ready { IsTrue (D.state disk.old).is_ready }
-        requires over { IsConnected C self.old (D.state disk.old) }
+        requires over { IsReadable C self.old (D.state disk.old) }
         ensures { IsRead (asks_for moment name.now) [] self.old self.new
             (devices (D.state disk.old) (O.state sink.old)) (devices (D.state disk.new) (O.state sink.new))
             result }
@@ -108,7 +110,7 @@ impl<const C: usize> Store<C> {
         sink: &mut O,
     ) -> Result<u64, Refusal>
         requires ready { IsTrue (D.state disk.old).is_ready }
-        requires over { IsConnected C self.old (D.state disk.old) }
+        requires over { IsReadable C self.old (D.state disk.old) }
         ensures { IsRead (asks_for moment name.now) head.now self.old self.new
             (devices (D.state disk.old) (O.state sink.old)) (devices (D.state disk.new) (O.state sink.new))
             result }
@@ -147,7 +149,7 @@ impl<const C: usize> Store<C> {
         sink: &mut O,
     ) -> Result<u64, Refusal>
         requires ready { IsTrue (D.state disk.old).is_ready }
-        requires sound { IsStore C self.old }
+        requires standing { IsStanding self.old }
         requires range { IsInRange spot }
         requires within { IsTrue (D.state disk.old).tells
             → base_of self.old + spot.place + spot.size ≤ length (D.state disk.old).file }
@@ -181,7 +183,8 @@ impl<const C: usize> Store<C> {
     pub(crate) fn find(&self, moment: Moment, name: &[u8]) -> Result<Spot, Refusal>
         ensures answer { AnswersSpot (refused_by self.now (asks_for moment name.now))
             (spot_read self.now (asks_for moment name.now)) result }
-        ensures sound { self.now.is_broken ≡ false → IsStore C self.now }
+        ensures sound { self.now.is_broken ≡ false → self.now.in_hand ≡ None → IsStore C self.now }
+        ensures standing { self.now.is_broken ≡ false → IsStanding self.now }
     {
         let name = self.name_of(name)?;
         match moment {
@@ -193,7 +196,8 @@ impl<const C: usize> Store<C> {
     /// The name of these bytes.
     pub(crate) fn name_of(&self, name: &[u8]) -> Result<Name, Refusal>
         ensures answer { AnswersName self.now name.now result }
-        ensures sound { self.now.is_broken ≡ false → IsStore C self.now }
+        ensures sound { self.now.is_broken ≡ false → self.now.in_hand ≡ None → IsStore C self.now }
+        ensures standing { self.now.is_broken ≡ false → IsStanding self.now }
     {
         if self.is_broken() {
             return Err(Refusal::Broken);

@@ -1,11 +1,12 @@
 //! What a store keeps, and what it tells of it.
-ghost use Rattle.std.specs.Prelude.{◌≡◌, false};
+ghost use Rattle.std.specs.Prelude.{◌≡◌, ◌↔◌, false, None, IsSome, IsTrue};
 ghost use Rattle.size_class.specs.Rows.{cells_of};
 ghost use Rattle.segment_layout.specs.Books.{book_end};
 
 use crate::Gauge;
+use crate::hand::Began;
 use data_area::Ledger;
-use flush_run::Hands;
+use flush_run::{Hands, Phase};
 use segment_layout::Layout;
 use slot_codec::cap;
 use std::marker::Model;
@@ -15,12 +16,15 @@ use std::marker::Model;
 ///
 /// The hands have the parts of now, which a flush works with: the table, the layout, the guard, the
 /// slots, the ledger and the buffer. `kept_layout` is the layout of the last checkpoint. Both have some
-/// 8 kB, and stand in memory of their own, so that a store takes little of the stack.
+/// 8 kB, and stand in memory of their own, so that a store takes little of the stack. A flush in hand is the
+/// phase that it has come to, and what it began with.
 #[derive(Drop)]
 pub struct Store<const C: usize> {
     pub(crate) hands: Box<Hands<C>>,
     pub(crate) kept_layout: Box<Layout<C>>,
     pub(crate) broken: bool,
+    pub(crate) flush: Option<Phase<C>>,
+    pub(crate) began: Began<C>,
 }
 
 impl<const C: usize> Model for Store<C> {
@@ -39,15 +43,31 @@ impl<const C: usize> Model for Store<C> {
 }
 
 impl<const C: usize> Store<C> {
+    ghost use Rattle.std.specs.FinMap as fin;
     ghost use Rattle.store_model.specs.Connection.{live_cap};
-    ghost use Rattle.store_model.specs.Stores.{IsStore};
+    ghost use Rattle.store_model.specs.Stores.{IsStanding, IsStore};
 
     /// Whether a changing call of this store failed.
     pub fn is_broken(&self) -> bool
         ensures same { result ≡ self.now.is_broken }
-        ensures sound { result ≡ false → IsStore C self.now }
+        ensures sound { result ≡ false → self.now.in_hand ≡ None → IsStore C self.now }
+        ensures standing { result ≡ false → IsStanding self.now }
     {
         self.broken
+    }
+
+    /// Whether a flush is in hand: from a begin that answered so until a step settles it or the disk fails.
+    pub fn in_hand(&self) -> bool
+        ensures { IsTrue result ↔ IsSome self.now.in_hand }
+    {
+        self.flush.is_some()
+    }
+
+    /// How many names are live, also while a flush is in hand.
+    pub fn live(&self) -> u64
+        ensures { result ≡ fin.len self.now.now }
+    {
+        self.hands.table.count()
     }
 
     /// Where the layout ends, which is how long the data part is, and the sequence of the last

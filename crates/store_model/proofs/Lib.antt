@@ -18,3 +18,5 @@ pub mod StillStoreLaws
 pub mod StillLaws
 pub mod MovingLaws
 pub mod GoingLaws
+pub mod HalfLaws
+pub mod GoingOnLaws

@@ -267,4 +267,5 @@ module _ {C : ℕ} (x : Loaded C) (loads : KeepsLoaded x) (still : x.header.kind
     same_book = refl;
     moved = refl;
     asked = refl;
+    idle = refl;
   }

@@ -1,5 +1,5 @@
 -- How a store and its disk belong together.
-use Rattle.std.specs.Prelude.{◌≡◌, ℕ, ◌+◌, Bool, false, List, length, Option, Ok, Some, IsTrue}
+use Rattle.std.specs.Prelude.{◌≡◌, ℕ, ◌+◌, Bool, false, List, length, Option, Ok, Some, None, IsTrue}
 use Rattle.std.specs.FinMap as fin
 use Rattle.byte_ranges.specs.Ranges.{SameBelow, SameWithin}
 use Rattle.disk_face.specs.States as disk
@@ -17,8 +17,19 @@ use Rattle.placement_model.specs.Laid.{book_at}
 use Rattle.placement_model.specs.Reads.{read_at}
 use Rattle.store_model.specs.States.{Limits, State}
 
+-- A flush in hand, as contracts see it: how far its file reaches, the class from which on it lays the layout
+-- out anew, how many steps may still come, the sequence and the bytes moved as it began, and the book after.
+pub record FlushInHand : Type 0 where
+  pub reach : ℕ
+  pub boundary : ℕ
+  pub left : ℕ
+  pub began : ℕ
+  pub moved_then : List ℕ
+  pub book_after : Book
+
 -- What a store keeps, as its contracts see it: the slot in use, where the objects stand now and where they
--- stood at the last checkpoint, the books of both, whether it is broken, and the bytes moved and asked for.
+-- stood at the last checkpoint, the books of both, whether it is broken, the bytes moved and asked for, and
+-- the flush in hand. While one is, the book of after is the flush's, and of `book` the digests alone count.
 pub record StoreValue : Type 0 where
   pub in_use : choice.InUse
   pub now : Spots
@@ -28,6 +39,7 @@ pub record StoreValue : Type 0 where
   pub is_broken : Bool
   pub moved : List ℕ
   pub asked : List ℕ
+  pub in_hand : Option FlushInHand
 
 -- where the data part begins
 abbrev pub base_of : StoreValue → ℕ
@@ -68,9 +80,10 @@ pub record IsOver (classes : ℕ) (s : StoreValue) (file : List ℕ) : Type 0 wh
   pub checkpoint : HasCheckpoint classes s file table
   pub same_length : length file ≡ base_of s + book_end s.in_use.block.k s.book
 
--- the store is broken, or the disk tells no content, or the store is over its file
-abbrev pub IsConnected : ℕ → StoreValue → disk.State → Type 0
-IsConnected classes s d = s.is_broken ≡ false → IsTrue d.tells → IsOver classes s d.file
+-- No flush is in hand; and the store is broken, or the disk tells no content, or the store is over its file.
+pub record IsConnected (classes : ℕ) (s : StoreValue) (d : disk.State) : Type 0 where
+  pub idle : s.in_hand ≡ None
+  pub over : s.is_broken ≡ false → IsTrue d.tells → IsOver classes s d.file
 
 -- an image has the content's length, and the same bytes below the data part and on the objects of a
 -- checkpoint
@@ -103,4 +116,5 @@ opened_store classes u spots digests caps grid =
       is_broken = false;
       moved = zero_row;
       asked = zero_row;
+      in_hand = None;
     }

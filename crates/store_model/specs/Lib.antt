@@ -1,6 +1,7 @@
 pub mod States
 pub mod Digested
 pub mod Connection
+pub mod Halves
 pub mod Codes
 pub mod Stores
 pub mod Quiet

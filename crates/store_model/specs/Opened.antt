@@ -1,5 +1,5 @@
 -- What opening finds in a file, and what it leaves.
-use Rattle.std.specs.Prelude.{◌≡◌, ◌⊎◌, ℕ, ◌+◌, ◌-◌, ◌*◌, ◌^◌, ◌<◌, ◌≤◌, nat_lt, false, if◌then◌else◌, List, length, slice_index, slice_index_or, IsTrue, OnOk, IfOk, IfErr, Result}
+use Rattle.std.specs.Prelude.{◌≡◌, ◌⊎◌, ℕ, ◌+◌, ◌-◌, ◌*◌, ◌^◌, ◌<◌, ◌≤◌, nat_lt, false, if◌then◌else◌, None, List, length, slice_index, slice_index_or, IsTrue, OnOk, IfOk, IfErr, Result}
 use Rattle.byte_ranges.specs.Ranges.{SameBelow, SameWithin, resized}
 use Rattle.disk_face.specs.States as disk
 use Rattle.disk_face.specs.Counts.{counted}
@@ -94,7 +94,7 @@ pub record IsOpened (classes : ℕ) (file now : List ℕ) (s : StoreValue) : Typ
   pub state : state_of s now ≡ state_at m b s.in_use.sequence
   pub continues : ContinuesFrom table.chosen.header.kind table.chosen.header.sequence s.in_use.sequence
 
--- A store as it is opened: it isn't broken, and nothing was moved or asked for yet.
+-- A store as it is opened: it isn't broken, nothing was moved or asked for yet, and no flush is in hand.
 pub record IsFresh (classes : ℕ) (s : StoreValue) : Type 0 where
   pub whole : s.is_broken ≡ false
   pub store : IsStore classes s
@@ -102,6 +102,7 @@ pub record IsFresh (classes : ℕ) (s : StoreValue) : Type 0 where
   pub same_book : s.kept_book ≡ s.book
   pub moved : s.moved ≡ zero_row
   pub asked : s.asked ≡ zero_row
+  pub idle : s.in_hand ≡ None
 
 -- ---- the calls
 

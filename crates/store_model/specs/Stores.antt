@@ -8,6 +8,7 @@ use Rattle.segment_layout.specs.Books.{version_of}
 use Rattle.extent_table.specs.declared.spot.Spot.{Spot}
 use Rattle.extent_table.specs.Extents.{IsInRange, Spots}
 use Rattle.placement_model.specs.LaidOut.{IsLaidOut}
+use Rattle.placement_model.specs.Reads.{AreNamed}
 use Rattle.placement_model.specs.Rises.{CellsRise}
 use Rattle.store_model.specs.Connection.{StoreValue, live_cap}
 use Rattle.store_model.specs.Digested.{digested_book}
@@ -15,6 +16,15 @@ use Rattle.store_model.specs.Digested.{digested_book}
 -- places and sizes are numbers that a record of the file can hold
 abbrev pub AreInRange : Spots → Type 0
 AreInRange spots = (name : List ℕ) (x : Spot) → fin.get spots name ≡ Some x → IsInRange x
+
+-- What holds of each store that isn't broken, also while a flush is in hand: where the data part begins is
+-- low, and the places have names and are in range.
+pub record IsStanding (s : StoreValue) : Type 0 where
+  pub block : IsSuperBlock s.in_use.block
+  pub now_named : AreNamed s.now
+  pub kept_named : AreNamed s.kept
+  pub now_in_range : AreInRange s.now
+  pub kept_in_range : AreInRange s.kept
 
 -- One row of capacities holds the objects of now with what their buffers have taken, and those of the last
 -- checkpoint with what theirs had: each book is what this layout shows, and no more names are live than a

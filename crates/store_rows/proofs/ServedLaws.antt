@@ -1,6 +1,6 @@
 -- A store and its disk go on together.
-use Rattle.std.specs.Prelude.{◌≡◌, List, ℕ, Bool, true, false, Option, Some, None, Result, IsNone, IsSome, IsTrue}
-use Rattle.std.proofs.Common.{rules, sym, subst}
+use Rattle.std.specs.Prelude.{◌≡◌, List, ℕ, Bool, true, false, Option, Some, None, Result, Ok, Err, IsNone, IsSome, IsTrue, OnErr, OnOk}
+use Rattle.std.proofs.Common.{ap, rules, sym, subst, ◌∙◌}
 use Rattle.disk_face.specs.States as disk
 use Rattle.disk_face.specs.Frames.{Stays}
 use Rattle.map_model.specs.Requests.{Change}
@@ -47,3 +47,19 @@ served_kept (Some why) old new before now result served is_refused kept over =
     served_on old new before now served (is_refused (search rules)).same_disk.stays over
 served_kept None old new before now result served is_refused kept over =
     served_on old new before now served (kept (search rules)).frame.stays over
+
+-- after going back, or where that is refused
+pub served_back : {T : Type 0} (result : Result T Refusal) (old new : StoreValue) (d : disk.State)
+    → MayServe old d → OnErr result (new ≡ old)
+    → OnOk result (new ≡ record old { now = old.kept; book = old.kept_book })
+    → ((file : List ℕ) → IsOver CLASSES old file → OnOk result (IsOver CLASSES new file)) → MayServe new d
+served_back (Err why) old new d served same back over = subst (λ x. MayServe x d) (sym same) served
+served_back (Ok x) old new d served same back over = record {
+  ready = served.ready;
+  tells = served.tells;
+  over = record {
+    idle = ap (λ (s : StoreValue). s.in_hand) back ∙ served.over.idle;
+    over = λ whole told. over d.file
+        (served.over.over (sym (ap (λ (s : StoreValue). s.is_broken) back) ∙ whole) told);
+  };
+}

@@ -14,7 +14,7 @@ use std::process::Abort;
 
 /// The images of a turn that are tried: what the last sync left, what reads gave, and the written bytes
 /// and those of the write that is next as other ones.
-const CHOICES: &[Choice] = &[
+pub const CHOICES: &[Choice] = &[
     Choice::Durable,
     Choice::Newest,
     Choice::Torn(0),

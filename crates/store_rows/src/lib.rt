@@ -31,6 +31,9 @@ mod reopened;
 mod replaced;
 #[cfg(test)]
 mod requests;
+pub mod slices;
+#[cfg(test)]
+mod stepped;
 pub mod trials;
 #[cfg(test)]
 mod upgrades;

@@ -3,12 +3,13 @@ use crate::checkpoints::BASE;
 use crate::flushed::fresh;
 use crate::flushes::{FIVE, TEN};
 use crate::requests::{self, Ask, rows, try_holds, try_rows};
+use crate::slices::{Slicer, slicer_on};
 use crate::trials::{Trial, on_file};
 use crate::worked::HUNDRED;
 use disk_mem::{Choice, MemDisk, MemSink};
 use std::alloc::Global;
 use std::process::Abort;
-use store_core::Gauge;
+use store_core::{Begun, Gauge};
 
 /// The names of a store, all that it tells of them, and how long its data part is.
 #[derive(Clone, Copy)]
@@ -242,4 +243,72 @@ fn keeps_over_a_save_that_was_stopped(rt: HostRuntime) {
         BEFORE_LEFT,
     );
     try_image(&rt, rt.alloc(), &trial, (9, Choice::Durable), KEPT_LEFT);
+}
+
+/// How many steps of a flush were made before its store is let go, and what opening the file leaves.
+type Stop = (u64, Left);
+
+/// The first two steps lift an object each, the third saves the first checkpoint with all three, and the
+/// sixth settles it.
+const STOPS: &[Stop] = &[
+    (0, STOPPED),
+    (1, STOPPED),
+    (2, STOPPED),
+    (3, GOES_ON),
+    (4, GOES_ON),
+    (5, GOES_ON),
+    (6, SETTLED),
+];
+
+/// What the opening leaves that goes on with the flush.
+const GOES_ON: Left = Left {
+    map: THREE,
+    sequence: 4,
+    calls: 12,
+};
+
+/// The same of a file whose flush was settled.
+const SETTLED: Left = Left {
+    calls: 0,
+    ..GOES_ON
+};
+
+/// Makes the two puts, and begins the one of 5 bytes.
+fn begun(rt: &impl Abort, alloc: Global) -> Slicer<MemDisk> {
+    let mut sliced = slicer_on(rt, alloc, fresh(rt, alloc).into_disk());
+    let first = sliced.put("a", HUNDRED).is_some();
+    let second = sliced.put("b", TEN).is_some();
+    let third = sliced.begin_put("c", FIVE) == Some(Ok(Begun::InHand));
+    assert!(rt; first && second && third);
+    sliced
+}
+
+/// The list, and the bytes of each name, of a store of which a flush may be in hand.
+fn try_told(rt: &impl Abort, alloc: Global, sliced: &mut Slicer<MemDisk>, map: &Map) {
+    let mut sink = MemSink::with_room(alloc, 1 << 10, Vec::new(alloc)).expect(rt, "memory");
+    sliced.store().list(&mut sink).expect(rt, "a list");
+    for name in map.names {
+        sliced.get(name, &mut sink).expect(rt, "an object");
+    }
+    assert!(rt; sink.bytes() == map.told);
+}
+
+/// Makes so many steps of the flush, and opens the file as it stands then, as if the store was let go.
+fn try_stop(rt: &impl Abort, alloc: Global, stop: &Stop) {
+    let mut sliced = begun(rt, alloc);
+    for _ in 0..stop.0 {
+        try_told(rt, alloc, &mut sliced, &THREE);
+        let answer = sliced.step();
+        try_holds(rt, answer.is_some(), &stop.0);
+    }
+    try_told(rt, alloc, &mut sliced, &THREE);
+    let file = sliced.file(alloc).expect(rt, "a file");
+    try_opening(rt, alloc, (stop.0, Choice::Newest), &file, &stop.1);
+}
+
+#[test]
+fn opens_what_is_left_between_two_steps(rt: HostRuntime) {
+    for stop in STOPS {
+        try_stop(&rt, rt.alloc(), stop);
+    }
 }

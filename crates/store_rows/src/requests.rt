@@ -1,4 +1,6 @@
 //! Requests to a store, and what they are answered.
+ghost use Rattle.std.specs.Prelude.{◌≡◌, None};
+
 use crate::trials::Trial;
 use disk_face::Disk;
 use disk_mem::MemSink;
@@ -110,7 +112,9 @@ fn zeros(alloc: Global, size: usize) -> Result<Vec<u8>, AllocError> {
 const PIECE: usize = 65_536;
 
 /// What a store answers to a request that needs no disk.
-fn tell(store: &Store<CLASSES>, ask: Ask, sink: &mut MemSink) -> Reply {
+fn tell(store: &Store<CLASSES>, ask: Ask, sink: &mut MemSink) -> Reply
+    requires idle { store.now.in_hand ≡ None }
+{
     match ask {
         Ask::Size(name) => number(store.size(name.as_bytes())),
         Ask::OldSize(name) => number(store.old_size(name.as_bytes())),

@@ -1,5 +1,5 @@
 //! A store over its disk, ready for any request.
-ghost use Rattle.std.specs.Prelude.{◌≡◌, ◌≤◌, IsTrue, IfOk};
+ghost use Rattle.std.specs.Prelude.{◌≡◌, ◌≤◌, None, IsTrue, IfOk};
 
 use data_area::Ledger;
 use disk_face::{Disk, Sink};
@@ -101,7 +101,9 @@ impl<D: Disk> Trial<D> {
     }
 
     /// The store alone, for what needs no disk.
-    pub fn store(&self) -> &Store<CLASSES> {
+    pub fn store(&self) -> &Store<CLASSES>
+        ensures { result.now.in_hand ≡ None }
+    {
         &self.store
     }
 

@@ -141,7 +141,8 @@ module _ (t : choice.SlotTable) (m : Map) (b : Book) (old : State) (lawful : IsL
         crash = λ room rests below image since. inl (leaves.left room rests below image since);
         unbegun = λ which room rests below. leaves.left room rests below;
         numbered = λ room rests below.
-            numbered_by (λ k. LeftOnly z old.turn (HasSequenceUpTo (most_left k t))) (leaves.numbered room rests below);
+            numbered_by (λ k. LeftOnly z old.turn (HasSequenceUpTo (most_left k t)))
+            (leaves.numbered room rests below);
         next_start = λ calm. subst (λ (y : store.State). IsNextStart t y y.sequence old z)
             (sym (left_same (has_answered (status_at end)) (upgraded u.names start) start same_state))
             (leaves.next_start calm);
@@ -229,7 +230,7 @@ module _ (t : choice.SlotTable) (m : Map) (b : Book) (old : State) (lawful : IsL
       saved = was.upgrades.saved op.told
 
       over_z : IsOver CLASSES new z.file
-      over_z = was.over was.unbroken (was.upgrades.frame.stays.told ∙ op.told)
+      over_z = was.over.over was.unbroken (was.upgrades.frame.stays.told ∙ op.told)
 
       one : FoundSame over_z.table saved.table (kept_map new z.file) start.map new.kept_book
           (digested start).kept_book

@@ -1,6 +1,5 @@
 //! The command `upgrade`: each object of a file gets the digest of its bytes.
 ghost use Rattle.std.specs.Prelude.{◌≡◌, false, None, IsTrue};
-ghost use Rattle.std.specs.FinMap as fin;
 ghost use Rattle.disk_face.specs.Devices.{devices};
 ghost use Rattle.size_class.specs.declared.TheConstants.{CLASSES};
 ghost use Rattle.store_model.specs.Connection.{IsConnected};
@@ -94,19 +93,13 @@ fn upgrade_store<D: Disk, O: Sink>(
     ensures { IsUpgrade store (devices (D.state disk.old) (O.state output.old))
         (devices (D.state disk.new) (O.state output.new)) result }
 {
-    let names = live_names(&store);
-    match store.upgrade(disk) {
+    let names = store.live();
+    let upgraded = store.upgrade(disk);
+    store.is_broken();
+    match upgraded {
         Ok(_) => put_whole(output, LINE.as_bytes()),
         Err(refused) => Err(reason_of(refused, names)),
     }
-}
-
-/// How many names are live in a store that isn't broken.
-fn live_names(store: &Store<CLASSES>) -> u64
-    requires whole { store.now.is_broken ≡ false }
-    ensures { result ≡ fin.len store.now.now }
-{
-    store.stat().unwrap().names
 }
 
 /// What a refusal of a store of so many names is to the command.

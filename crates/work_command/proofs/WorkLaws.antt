@@ -223,7 +223,7 @@ module _ (t : choice.SlotTable) (m : Map) (b : Book) (old : State) (lawful : IsL
         newest = d.ran.newest op.told
 
         over_z : IsOver CLASSES d.new z.file
-        over_z = d.ran.over d.ran.unbroken (d.ran.frame.stays.told ∙ op.told)
+        over_z = d.ran.over.over d.ran.unbroken (d.ran.frame.stays.told ∙ op.told)
 
         pub all_done : (status : ℕ) → is_working status ≡ true → has_worked status ≡ true
             → status ≢ DISK_FAILED

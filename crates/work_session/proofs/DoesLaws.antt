@@ -26,6 +26,7 @@ use Rattle.store_core.specs.Keeps.{AnswersKeep, kept_now}
 use Rattle.store_model.specs.Quiet.{charges_of}
 use Rattle.store_model.specs.States.{Served, State, Step, object_in, unchanged}
 use Rattle.store_model.specs.Stores.{IsStore}
+use Rattle.store_core.proofs.AnsweredLaws.{number_served}
 use Rattle.store_core.proofs.CauseLaws.{calm_disk, disk_cause_as}
 use Rattle.store_core.proofs.StepLaws.{always, read_reply}
 use Rattle.store_model.proofs.StoreLaws.{small_if_there}
@@ -42,7 +43,7 @@ use Rattle.ask_session.specs.declared.ends.End.TheVariants as ends
 use Rattle.ask_session.specs.ReplyLines.{Answers, answer_change, answer_of}
 use Rattle.ask_session.specs.Serving.{Serves, reply_at, served_at}
 use Rattle.ask_session.proofs.AnswerLaws.{change_answers, keep_answers, refused_head}
-use Rattle.ask_session.proofs.ReadReplyLaws.{answer_is, found_damaged, found_fine, get_long, get_served, number_served, refused_with}
+use Rattle.ask_session.proofs.ReadReplyLaws.{answer_is, found_damaged, found_fine, get_long, get_served, refused_with}
 use Rattle.ask_session.specs.Ready.{CanServe}
 use Rattle.ask_session.proofs.ServingLaws.{refused_stays, serves_same}
 use Rattle.work_session.specs.Counts.{asked_by, calls_by}
@@ -117,8 +118,9 @@ pub can_serve : {classes : ℕ} (s : StoreValue) (a : disk.State) → s.is_broke
     → IsConnected classes s a → IsTrue a.is_ready → disk.IsLawful a → CanServe classes s a
 can_serve s a whole sound over ready lawful = record {
   whole = whole;
+  idle = over.idle;
   sound = sound;
-  over = over whole;
+  over = over.over whole;
   ready = ready;
   fits = lawful.turn_fits;
 }

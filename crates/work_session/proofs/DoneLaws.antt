@@ -276,7 +276,7 @@ module _ {classes : ℕ} (s new : StoreValue) (c : Change) (a d : disk.State) (d
     v = f.value
 
     over_new : IsTrue a.tells → IsOver classes new d.file
-    over_new told = x.over unbroken (subst IsTrue (sym f.frame.stays.told) told)
+    over_new told = x.over.over unbroken (subst IsTrue (sym f.frame.stays.told) told)
 
     -- a map after has the sizes of the new places
     sized_after : (map : Map) → IsSizedBy map s.now → IsSizedBy (changed c map) new.now

@@ -57,7 +57,7 @@ module _ {classes : ℕ} (old new : StoreValue) (jobs : List Request) (a d : dis
     told_d told = subst IsTrue (sym w.ran.frame.stays.told) told
 
     over : IsTrue a.tells → IsOver classes new d.file
-    over told = w.ran.over w.ran.unbroken (told_d told)
+    over told = w.ran.over.over w.ran.unbroken (told_d told)
 
     same_divisor : new.in_use.block.k ≡ k
     same_divisor = ap (λ (u : SuperBlock). u.k) w.ran.block

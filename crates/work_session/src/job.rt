@@ -1,5 +1,5 @@
 //! One job, done by a store.
-ghost use Rattle.std.specs.Prelude.{◌≡◌, ◌≤◌, ◌^◌, ◌<◌, ℕ, List, false, IsTrue, length};
+ghost use Rattle.std.specs.Prelude.{◌≡◌, ◌≤◌, ◌^◌, ◌<◌, ℕ, List, false, None, IsTrue, length};
 ghost use Rattle.store_model.specs.Connection.{IsConnected};
 ghost use Rattle.store_model.specs.Quiet.{del_of, put_of};
 ghost use Rattle.store_model.specs.Stores.{IsStore};
@@ -114,6 +114,7 @@ fn keep<const C: usize, D: Disk>(store: &mut Store<C>, disk: &mut D) -> Result<R
 
 /// What holds of each store.
 fn is_sound<const C: usize>(store: &Store<C>)
+    requires idle { store.now.in_hand ≡ None }
     ensures { store.now.is_broken ≡ false → IsStore C store.now }
 {
     let _ = store.is_broken();

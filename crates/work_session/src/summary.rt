@@ -1,5 +1,5 @@
 //! What is summed up of the jobs of a number.
-ghost use Rattle.std.specs.Prelude.{◌≡◌, ◌<◌, ◌≤◌, ◌+◌, ◌*◌, ◌^◌, ℕ, false, slice_index};
+ghost use Rattle.std.specs.Prelude.{◌≡◌, ◌<◌, ◌≤◌, ◌+◌, ◌*◌, ◌^◌, ℕ, false, None, slice_index};
 ghost use Rattle.std.specs.FinMap as fin;
 ghost use Rattle.byte_ranges.specs.Lists.{sum_below};
 ghost use Rattle.size_class.specs.Rows.{cells_of};
@@ -44,6 +44,7 @@ pub struct Summary {
 /// The summary of so many jobs, of which this was counted, by a store that did them.
 pub(crate) fn sum_up<const C: usize>(store: &Store<C>, requests: u64, tally: Tally) -> Summary
     requires whole { store.now.is_broken ≡ false }
+    requires idle { store.now.in_hand ≡ None }
     requires sound { IsStore C store.now }
     ensures tally { HasTally tally requests result }
     ensures end { EndsAt store.now result }
@@ -71,6 +72,7 @@ pub(crate) fn sum_up<const C: usize>(store: &Store<C>, requests: u64, tally: Tal
 /// How many names there are in a store, and how many bytes their objects have.
 fn size<const C: usize>(store: &Store<C>) -> (u64, u64)
     requires whole { store.now.is_broken ≡ false }
+    requires idle { store.now.in_hand ≡ None }
     ensures names { result.0 ≡ fin.len store.now.now }
     ensures bytes { result.1 ≡ volume_of store.now.now }
 {

@@ -1,6 +1,7 @@
 use Rattle.std.proofs.Common.{ap, refl, Err, None}
 use Rattle.map_model.specs.Requests as ask
-use Rattle.ask_session.proofs.AnswerLaws.{none_is, refused_is}
+use Rattle.store_core.proofs.AnsweredLaws.{refused_is}
+use Rattle.ask_session.proofs.AnswerLaws.{none_is}
 use Rattle.store_core.specs.declared.answers.Refusal.{Refusal}
 use Rattle.store_core.proofs.CauseLaws.{sink_cause_as}
 use Rattle.ask_session.proofs.PutLaws.{puts_sink}

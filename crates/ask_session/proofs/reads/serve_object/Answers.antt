@@ -4,7 +4,8 @@ use Rattle.store_core.specs.Answers.{refused_by, size_at}
 use Rattle.store_model.specs.Connection.{StoreValue, limits_of, state_of}
 use Rattle.store_core.specs.Readings.{asks_for, is_damaged_read, object_read, spot_read}
 use Rattle.ask_session.specs.Serving.{Replies}
-use Rattle.ask_session.proofs.ReadReplyLaws.{asks_only, calls_none, found_replies, number_refused, number_served, object_long, object_served, refused_replies}
+use Rattle.store_core.proofs.AnsweredLaws.{number_refused, number_served}
+use Rattle.ask_session.proofs.ReadReplyLaws.{asks_only, calls_none, found_replies, object_long, object_served, refused_replies}
 use Rattle.ask_session.proofs.reads.serve_object.Goals as goal
 
 pub returns-in-Ok : goal.returns-in-Ok

@@ -177,5 +177,5 @@ returns-in-Ok-settle-clause-made g c =
       spots = s.spots;
       row = s.moved;
       keeps = s.keeps;
-      turns = omega (arith, s.calls.most);
+      turns = c.in-Ok-settle.ensures.calls.all;
     })

@@ -175,7 +175,7 @@ returns-in-End-clause-done g c =
       spots = s.spots;
       row = s.moved;
       keeps = s.keeps;
-      turns = omega (arith, s.calls.most);
+      turns = c.in_ok-settle-in-End.ensures.calls.all;
     })
 
 pub returns-in-End-clause-made : goal.returns-in-End-clause-made
@@ -188,5 +188,5 @@ returns-in-End-clause-made g c =
       spots = s.spots;
       row = s.moved;
       keeps = s.keeps;
-      turns = omega (arith, s.calls.most);
+      turns = c.in_ok-settle-in-End.ensures.calls.all;
     })

@@ -14,7 +14,7 @@ use Rattle.store_model.specs.Connection.{StoreValue, live_cap}
 use Rattle.store_core.specs.Plans.{AcceptsName}
 use Rattle.store_model.specs.Quiet.{put_of}
 use Rattle.store_core.specs.Inside.{IsWhole, kept_of}
-use Rattle.store_core.proofs.InsideLaws.{lent, lent_is, opened}
+use Rattle.store_core.proofs.InsideLaws.{lent, lent_is, opened, rest_of}
 use Rattle.store_core.proofs.store.Store.accept_put.Goals as goal
 use Rattle.store_core.proofs.store.Store.accept_put.Goals.{else-is_none-via-then-is_none+else-not-room, else-is_none-via-else-is_none}
 
@@ -52,9 +52,10 @@ accepts s name object result whole named small room worn fresh =
 
 pub returns-clause-answer : goal.returns-clause-answer
 returns-clause-answer g c =
+    let rest = rest_of c.self.inside c.args.self.now c.self.view_is c.self.invariant c.requires.idle in
     let is_lent = lent_is c.self.inside c.deref-hands.ensures refl in
-    let view_is = ap kept_of is_lent ∙ c.self.view_is in
-    let invariant = subst IsWhole (sym is_lent) c.self.invariant in
+    let view_is = ap kept_of is_lent ∙ rest.view in
+    let invariant = subst IsWhole (sym is_lent) rest.whole in
     let t = c.args.self.now in
     let name = c.args.name.now in
     let said = answered t.is_broken (is_name name) c.in_ok-name.name name c.in_ok-name.ensures.answer in
@@ -93,9 +94,10 @@ refuses s name object whole named small new full =
 
 pub returns-then-not-room-clause-answer : goal.returns-then-not-room-clause-answer
 returns-then-not-room-clause-answer g c =
+    let rest = rest_of c.self.inside c.args.self.now c.self.view_is c.self.invariant c.requires.idle in
     let is_lent = lent_is c.self.inside c.deref-hands.ensures refl in
-    let view_is = ap kept_of is_lent ∙ c.self.view_is in
-    let invariant = subst IsWhole (sym is_lent) c.self.invariant in
+    let view_is = ap kept_of is_lent ∙ rest.view in
+    let invariant = subst IsWhole (sym is_lent) rest.whole in
     let t = c.args.self.now in
     let name = c.args.name.now in
     let said = answered t.is_broken (is_name name) c.in_ok-name.name name c.in_ok-name.ensures.answer in

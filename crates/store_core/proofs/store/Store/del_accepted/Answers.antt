@@ -1,10 +1,11 @@
-use Rattle.std.proofs.Common.{◌∙◌, arith, inl, refl, rules, sym}
+use Rattle.std.proofs.Common.{◌∙◌, ap, arith, inl, refl, rules, subst, sym}
+use Rattle.store_model.specs.Connection.{IsOver, StoreValue}
 use Rattle.segment_layout.specs.Layouts.{caps_of, divisor_of, grid_of}
 use Rattle.store_model.specs.Quiet.{del_of}
 use Rattle.store_core.proofs.CopyChargesLaws.{charged_gone, charged_loud, charged_quiet, del_plan}
 use Rattle.store_core.proofs.EffectLaws.{no_effects}
 use Rattle.store_core.proofs.PlanLaws.{del_served}
-use Rattle.store_core.proofs.QuietLaws.{del_step, del_value}
+use Rattle.store_core.proofs.QuietLaws.{del_step, del_value, over_beside}
 use Rattle.store_core.proofs.ServeLaws.{serves_quietly}
 use Rattle.store_core.proofs.store.Store.del_accepted.Goals as goal
 
@@ -15,7 +16,7 @@ charge-charged-requires g c = (
     omega arith,
     (
       (del_served c.args.self.now c.args.name.now c.requires.served).whole,
-      omega arith,
+      (c.requires.over.idle, omega arith),
     ),
   ),
 )
@@ -29,8 +30,14 @@ leave-requires g c =
         (
           (del_served c.args.self.now c.args.name.now c.requires.served).whole,
           (
-            charges.divisor,
-            (charges.same_caps, charged_gone charges c.in-Some.field-0 (sym c.place.ensures ∙ c.in-Some.is)),
+            c.requires.over.idle,
+            (
+              charges.divisor,
+              (
+                charges.same_caps,
+                charged_gone charges c.in-Some.field-0 (sym c.place.ensures ∙ c.in-Some.is),
+              ),
+            ),
           ),
         ),
       ),
@@ -72,13 +79,19 @@ returns-in-Some g c =
     serves_quietly (charged_quiet c.charge-charged.ensures.charges c.in-Some.field-0
     (sym c.place.ensures ∙ c.in-Some.is)) (inl refl)
     (no_effects (del_of name) t c.leave.new.self (g.D.Disk.state c.args.disk.now) _ h
-    (c.requires.over served.whole) c.requires.ready (g.met.D.Disk.lawful c.args.disk.now).turn_fits refl
+    (c.requires.over.over served.whole) c.requires.ready (g.met.D.Disk.lawful c.args.disk.now).turn_fits refl
     (del_value t h name name (divisor_of layout) (caps_of layout) (grid_of layout) p c.leave.new.self
     c.leave.ensures))
     (λ told. del_step t h name name (divisor_of layout) (caps_of layout) (grid_of layout) p
-    (g.D.Disk.state c.args.disk.now).file (c.requires.over served.whole told) c.leave.new.self
+    (g.D.Disk.state c.args.disk.now).file (c.requires.over.over served.whole told) c.leave.new.self
     c.leave.ensures)
-    (search rules) (search rules)
+    (record {
+      idle = ap (λ (x : StoreValue). x.in_hand) c.leave.ensures ∙ c.requires.over.idle;
+      over = λ whole told. subst (λ (x : StoreValue). IsOver g.row.C x
+          (g.D.Disk.state c.args.disk.now).file) (sym c.leave.ensures)
+          (over_beside t (g.D.Disk.state c.args.disk.now).file _ _ _ refl
+          (c.requires.over.over served.whole told));
+    }) (search rules)
 
 pub returns-in-None : goal.returns-in-None
 returns-in-None g c = c.flush_change.ensures

@@ -1,5 +1,8 @@
-use Rattle.std.specs.Prelude.{Option, ◌≤◌, ◌≡◌}
-use Rattle.std.proofs.Common.{◌∙◌, ◌⊎◌, ◌<◌, ap, arith, lit<, subst, sym, IsSome, inl, inr, rules, refl}
+use Rattle.std.specs.Prelude.{Option, ◌≤◌, ◌≡◌, ◌++◌, fold, List, ℕ}
+use Rattle.std.proofs.lemmas.List.Sums.{fold-append}
+use Rattle.segment_layout.specs.Books.{some_size}
+use Rattle.store_model.specs.Quiet.{added, sizes_at}
+use Rattle.std.proofs.Common.{◌∙◌, ◌⊎◌, ◌<◌, ap, arith, lit<, subst, sym, IsSome, inl, inr, refl}
 use Rattle.std.specs.FinMap as fin
 use Rattle.size_class.specs.Rows.{cells_of}
 use Rattle.segment_layout.specs.Layouts.{grid_of}
@@ -8,23 +11,24 @@ use Rattle.slot_codec.specs.Spelling.{cap}
 use Rattle.map_model.specs.Maps.{Map}
 use Rattle.extent_table.specs.Extents.{Spots, digests_seen}
 use Rattle.placement_model.specs.Held.{FreesSpot}
-use Rattle.store_model.specs.Connection.{live_cap}
+use Rattle.store_model.specs.Connection.{StoreValue, live_cap}
 use Rattle.store_model.specs.Digested.{digests_with}
 use Rattle.store_model.specs.Stores.{AreInRange}
 use Rattle.store_model.proofs.DigestLaws.{few_put, seen_with, version_with}
-use Rattle.store_model.proofs.ChangeLaws.{can_free, place_ends, store_freed, store_put}
+use Rattle.store_model.proofs.ChangeLaws.{can_free, place_ends, store_freed, store_put, with_now}
 use Rattle.store_model.proofs.EndLaws.{end_low}
-use Rattle.store_core.proofs.InsideLaws.{changed_view, changed_whole, opened, lent, lent_is}
+use Rattle.store_core.proofs.InsideLaws.{changed_view, changed_whole, lent, lent_is, opened, rest_of}
 use Rattle.store_model.proofs.StoreLaws.{small_if_there}
 use Rattle.store_core.specs.Inside.{IsWhole, kept_of}
 use Rattle.store_core.proofs.store.Store.enter.Goals as goal
 
 pub free_spot-requires : goal.free_spot-requires
 free_spot-requires g c x now_is kept_is =
+    let rest = rest_of c.self.inside c.args.self.now c.self.view_is c.self.invariant c.requires.idle in
     let is_lent = lent_is c.self.inside c.deref_mut-hands.ensures.value refl in
     let inside = lent c.self.inside c.deref_mut-hands.result.now c.self.inside.kept_layout.value in
-    let view_is = ap kept_of is_lent ∙ c.self.view_is in
-    let invariant = subst IsWhole (sym is_lent) c.self.invariant in
+    let view_is = ap kept_of is_lent ∙ rest.view in
+    let invariant = subst IsWhole (sym is_lent) rest.whole in
     let t = c.args.self.now in
     let o = opened inside t view_is invariant c.requires.whole in
     can_free t o.store c.args.name.now inside.hands.guard o.guard_room o.freed x
@@ -33,10 +37,11 @@ free_spot-requires g c x now_is kept_is =
 
 pub add_gone-requires : goal.add_gone-requires
 add_gone-requires g c =
+    let rest = rest_of c.self.inside c.args.self.now c.self.view_is c.self.invariant c.requires.idle in
     let is_lent = lent_is c.self.inside c.deref_mut-hands.ensures.value refl in
     let inside = lent c.self.inside c.deref_mut-hands.result.now c.self.inside.kept_layout.value in
-    let view_is = ap kept_of is_lent ∙ c.self.view_is in
-    let invariant = subst IsWhole (sym is_lent) c.self.invariant in
+    let view_is = ap kept_of is_lent ∙ rest.view in
+    let invariant = subst IsWhole (sym is_lent) rest.whole in
     let t = c.args.self.now in
     let o = opened inside t view_is invariant c.requires.whole in (
       lit< tt,
@@ -52,10 +57,11 @@ add_gone-requires g c =
 
 pub set-requires : goal.set-requires
 set-requires g c =
+    let rest = rest_of c.self.inside c.args.self.now c.self.view_is c.self.invariant c.requires.idle in
     let is_lent = lent_is c.self.inside c.deref_mut-hands.ensures.value refl in
     let inside = lent c.self.inside c.deref_mut-hands.result.now c.self.inside.kept_layout.value in
-    let view_is = ap kept_of is_lent ∙ c.self.view_is in
-    let invariant = subst IsWhole (sym is_lent) c.self.invariant in
+    let view_is = ap kept_of is_lent ∙ rest.view in
+    let invariant = subst IsWhole (sym is_lent) rest.whole in
     let t = c.args.self.now in
     let name = c.args.name.now in
     let o = opened inside t view_is invariant c.requires.whole in
@@ -72,10 +78,11 @@ set-requires g c =
 
 pub invariant_of-self : goal.invariant_of-self
 invariant_of-self g c =
+    let rest = rest_of c.self.inside c.args.self.now c.self.view_is c.self.invariant c.requires.idle in
     let is_lent = lent_is c.self.inside c.deref_mut-hands.ensures.value refl in
     let inside = lent c.self.inside c.deref_mut-hands.result.now c.self.inside.kept_layout.value in
-    let view_is = ap kept_of is_lent ∙ c.self.view_is in
-    let invariant = subst IsWhole (sym is_lent) c.self.invariant in
+    let view_is = ap kept_of is_lent ∙ rest.view in
+    let invariant = subst IsWhole (sym is_lent) rest.whole in
     let t = c.args.self.now in
     let name = c.args.name.now in
     let spot = c.args.spot in
@@ -86,7 +93,7 @@ invariant_of-self g c =
     ap (λ (d : Digests). digests_seen inside.hands.version d) c.set.ensures.digests
     ∙ seen_with inside.hands.version inside.hands.table.digests name c.args.digest
     ∙ ap (λ (d : Option Map). digests_with name c.args.digest d) o.digests in
-    changed_whole inside t view_is invariant c.set.new.self c.free_spot.new.guard
+    rw rest.none (changed_whole inside t view_is invariant c.set.new.self c.free_spot.new.guard
     c.add_size.new.ledger c.args.layout (fin.insert t.now name spot) after c.set.ensures.kept
     c.requires.caps (c.add_size.ensures.moved ∙ c.add_gone.ensures.moved) digests same
     c.set.ensures.rest.kept_digests c.set.ensures.table
@@ -102,14 +109,15 @@ invariant_of-self g c =
     (subst (λ x. FreesSpot x (fin.get t.kept name) inside.hands.guard.spans
     c.free_spot.new.guard.spans) (c.get-now.ensures ∙ ap (λ (m : Spots). fin.get m name) o.now)
     (subst (λ x. FreesSpot c.get-now.result x inside.hands.guard.spans c.free_spot.new.guard.spans)
-    (c.old.ensures ∙ ap (λ (m : Spots). fin.get m name) o.kept) c.free_spot.ensures.freed)))
+    (c.old.ensures ∙ ap (λ (m : Spots). fin.get m name) o.kept) c.free_spot.ensures.freed))))
 
 pub returns : goal.returns
 returns g c =
+    let rest = rest_of c.self.inside c.args.self.now c.self.view_is c.self.invariant c.requires.idle in
     let is_lent = lent_is c.self.inside c.deref_mut-hands.ensures.value refl in
     let inside = lent c.self.inside c.deref_mut-hands.result.now c.self.inside.kept_layout.value in
-    let view_is = ap kept_of is_lent ∙ c.self.view_is in
-    let invariant = subst IsWhole (sym is_lent) c.self.invariant in
+    let view_is = ap kept_of is_lent ∙ rest.view in
+    let invariant = subst IsWhole (sym is_lent) rest.whole in
     let t = c.args.self.now in
     let name = c.args.name.now in
     let o = opened inside t view_is invariant c.requires.whole in
@@ -124,4 +132,13 @@ returns g c =
     c.set.ensures.kept
     c.requires.caps (c.add_size.ensures.moved ∙ c.add_gone.ensures.moved) digests same
     c.set.ensures.rest.kept_digests in
-    search rules
+    let gone = sizes_at (fin.get t.now name) in
+    let asked : cells_of c.add_size.new.ledger.asked
+    ≡ fold added t.asked (gone ++ some_size c.args.spot.size) =
+    c.add_size.ensures.asked
+    ∙ ap (λ (a : List ℕ). fold added a (some_size c.args.spot.size)) (c.add_gone.ensures.asked
+    ∙ (λ i. fold added (ap (λ (x : StoreValue). x.asked) view_is i)
+    (sizes_at ((c.get-now.ensures ∙ ap (λ (m : Spots). fin.get m name) o.now) i))))
+    ∙ sym (fold-append added t.asked gone (some_size c.args.spot.size)) in
+    rw rest.none (view ∙ ap (λ (a : List ℕ). with_now g.row.C t (fin.insert t.now name c.args.spot) digests
+    (grid_of c.args.layout) a) asked)

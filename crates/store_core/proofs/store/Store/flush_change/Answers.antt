@@ -12,15 +12,16 @@ use Rattle.store_core.proofs.CopyChargesLaws.{bytes_of_change, can_put, change_l
 use Rattle.store_core.proofs.FlushChangeLaws.{flush_can_run, flush_done, flush_done_whole, flush_failed, is_served}
 use Rattle.store_core.proofs.FlushLaws.{may_begin}
 use Rattle.store_core.specs.Inside.{IsWhole, kept_of}
-use Rattle.store_core.proofs.InsideLaws.{lent, lent_is}
+use Rattle.store_core.proofs.InsideLaws.{lent, lent_is, rest_of}
 use Rattle.store_core.proofs.store.Store.flush_change.Goals as goal
 
 pub start_change-begun-requires : goal.start_change-begun-requires
 start_change-begun-requires g c =
+    let rest = rest_of c.self.inside c.args.self.now c.self.view_is c.self.invariant c.requires.over.idle in
     let is_lent = lent_is c.self.inside c.deref_mut-hands.ensures.value refl in
     let inside = lent c.self.inside c.deref_mut-hands.result.now c.self.inside.kept_layout.value in
-    let view_is = ap kept_of is_lent ∙ c.self.view_is in
-    let invariant = subst IsWhole (sym is_lent) c.self.invariant in
+    let view_is = ap kept_of is_lent ∙ rest.view in
+    let invariant = subst IsWhole (sym is_lent) rest.whole in
     let s = inside in
     let inv = invariant in
     let name = c.args.name.now in
@@ -66,10 +67,11 @@ start_change-begun-requires g c =
 
 pub make_flush-made-requires : goal.make_flush-made-requires
 make_flush-made-requires g c =
+    let rest = rest_of c.self.inside c.args.self.now c.self.view_is c.self.invariant c.requires.over.idle in
     let is_lent = lent_is c.self.inside c.deref_mut-hands.ensures.value refl in
     let inside = lent c.self.inside c.deref_mut-hands.result.now c.self.inside.kept_layout.value in
-    let view_is = ap kept_of is_lent ∙ c.self.view_is in
-    let invariant = subst IsWhole (sym is_lent) c.self.invariant in
+    let view_is = ap kept_of is_lent ∙ rest.view in
+    let invariant = subst IsWhole (sym is_lent) rest.whole in
     let begun = c.start_change-begun.ensures.begun in (
       lit< tt,
       (
@@ -96,11 +98,12 @@ make_flush-made-requires g c =
 
 pub returns-in-Ok : goal.returns-in-Ok
 returns-in-Ok g c =
+    let rest = rest_of c.self.inside c.args.self.now c.self.view_is c.self.invariant c.requires.over.idle in
     let is_lent = lent_is c.self.inside c.deref_mut-hands.ensures.value refl in
     let inside = lent c.self.inside c.deref_mut-hands.result.now c.self.inside.kept_layout.value in
-    let view_is = ap kept_of is_lent ∙ c.self.view_is in
-    let invariant = subst IsWhole (sym is_lent) c.self.invariant in
-    flush_done inside c.args.self.now view_is invariant
+    let view_is = ap kept_of is_lent ∙ rest.view in
+    let invariant = subst IsWhole (sym is_lent) rest.whole in
+    rw rest.none (flush_done inside c.args.self.now view_is invariant
     (change_of c.args.name.now c.args.bytes.now c.args.comes) c.requires.served
     (g.D.Disk.state c.args.disk.now) c.requires.over c.start_change-begun.new.hands
     (phase_now c.start_change-begun.result.phase.course c.start_change-begun.new.hands.table)
@@ -108,30 +111,32 @@ returns-in-Ok g c =
     (bytes_of_change c.args.name.now c.args.bytes.now c.args.comes c.requires.nothing)
     c.make_flush-made.new.hands (g.D.Disk.state c.make_flush-made.new.disk) c.make_flush-made.ensures.left
     c.make_flush-made.ensures.made c.requires.needs_flush c.in-Ok.ensures.ends c.in-Ok.ensures.saves.0
-    c.in-Ok.ensures.saves.1 c.in-Ok.ensures.calls c.in-Ok.ensures.cause
+    c.in-Ok.ensures.saves.1 c.in-Ok.ensures.calls c.in-Ok.ensures.cause)
 
 pub returns-in-Err : goal.returns-in-Err
 returns-in-Err g c =
+    let rest = rest_of c.self.inside c.args.self.now c.self.view_is c.self.invariant c.requires.over.idle in
     let is_lent = lent_is c.self.inside c.deref_mut-hands.ensures.value refl in
     let inside = lent c.self.inside c.deref_mut-hands.result.now c.self.inside.kept_layout.value in
-    let view_is = ap kept_of is_lent ∙ c.self.view_is in
-    let invariant = subst IsWhole (sym is_lent) c.self.invariant in
-    flush_failed inside c.args.self.now view_is invariant
+    let view_is = ap kept_of is_lent ∙ rest.view in
+    let invariant = subst IsWhole (sym is_lent) rest.whole in
+    rw rest.none (flush_failed inside c.args.self.now view_is invariant
     (change_of c.args.name.now c.args.bytes.now c.args.comes) c.requires.served
     (g.D.Disk.state c.args.disk.now) c.requires.over c.start_change-begun.new.hands
     (phase_now c.start_change-begun.result.phase.course c.start_change-begun.new.hands.table)
     c.start_change-begun.result.place c.args.bytes.now c.start_change-begun.ensures.begun
     (bytes_of_change c.args.name.now c.args.bytes.now c.args.comes c.requires.nothing)
     c.make_flush-made.new.hands (g.D.Disk.state c.make_flush-made.new.disk) c.make_flush-made.ensures.left
-    c.make_flush-made.ensures.made c.requires.needs_flush _ c.in-Err.ensures.cause
+    c.make_flush-made.ensures.made c.requires.needs_flush _ c.in-Err.ensures.cause)
 
 pub invariant_of-self : goal.invariant_of-self
 invariant_of-self g c =
+    let rest = rest_of c.self.inside c.args.self.now c.self.view_is c.self.invariant c.requires.over.idle in
     let is_lent = lent_is c.self.inside c.deref_mut-hands.ensures.value refl in
     let inside = lent c.self.inside c.deref_mut-hands.result.now c.self.inside.kept_layout.value in
-    let view_is = ap kept_of is_lent ∙ c.self.view_is in
-    let invariant = subst IsWhole (sym is_lent) c.self.invariant in
-    flush_done_whole inside c.args.self.now view_is invariant
+    let view_is = ap kept_of is_lent ∙ rest.view in
+    let invariant = subst IsWhole (sym is_lent) rest.whole in
+    rw rest.none (flush_done_whole inside c.args.self.now view_is invariant
     (change_of c.args.name.now c.args.bytes.now c.args.comes) c.requires.served
     (g.D.Disk.state c.args.disk.now) c.requires.over c.start_change-begun.new.hands
     (phase_now c.start_change-begun.result.phase.course c.start_change-begun.new.hands.table)
@@ -139,4 +144,4 @@ invariant_of-self g c =
     (bytes_of_change c.args.name.now c.args.bytes.now c.args.comes c.requires.nothing)
     c.make_flush-made.new.hands (g.D.Disk.state c.make_flush-made.new.disk) c.make_flush-made.ensures.left
     c.make_flush-made.ensures.made c.requires.needs_flush c.in-Ok.ensures.ends c.in-Ok.ensures.saves.0
-    c.in-Ok.ensures.saves.1
+    c.in-Ok.ensures.saves.1)

@@ -15,17 +15,18 @@ use Rattle.store_model.specs.Quiet.{del_of}
 use Rattle.store_model.specs.Stores.{AreInRange}
 use Rattle.store_model.proofs.DigestLaws.{few_gone, seen_gone, version_after}
 use Rattle.store_model.proofs.ChangeLaws.{can_free, store_gone}
-use Rattle.store_core.proofs.InsideLaws.{changed_view, changed_whole, opened, lent, lent_is}
+use Rattle.store_core.proofs.InsideLaws.{changed_view, changed_whole, lent, lent_is, opened, rest_of}
 use Rattle.store_model.proofs.StoreLaws.{small_if_there}
 use Rattle.store_core.specs.Inside.{IsWhole, kept_of}
 use Rattle.store_core.proofs.store.Store.leave.Goals as goal
 
 pub free_spot-requires : goal.free_spot-requires
 free_spot-requires g c x now_is kept_is =
+    let rest = rest_of c.self.inside c.args.self.now c.self.view_is c.self.invariant c.requires.idle in
     let is_lent = lent_is c.self.inside c.deref_mut-hands.ensures.value refl in
     let inside = lent c.self.inside c.deref_mut-hands.result.now c.self.inside.kept_layout.value in
-    let view_is = ap kept_of is_lent ∙ c.self.view_is in
-    let invariant = subst IsWhole (sym is_lent) c.self.invariant in
+    let view_is = ap kept_of is_lent ∙ rest.view in
+    let invariant = subst IsWhole (sym is_lent) rest.whole in
     let t = c.args.self.now in
     let o = opened inside t view_is invariant c.requires.whole in
     can_free t o.store c.args.name.now inside.hands.guard o.guard_room o.freed x
@@ -34,10 +35,11 @@ free_spot-requires g c x now_is kept_is =
 
 pub add_gone-requires : goal.add_gone-requires
 add_gone-requires g c =
+    let rest = rest_of c.self.inside c.args.self.now c.self.view_is c.self.invariant c.requires.idle in
     let is_lent = lent_is c.self.inside c.deref_mut-hands.ensures.value refl in
     let inside = lent c.self.inside c.deref_mut-hands.result.now c.self.inside.kept_layout.value in
-    let view_is = ap kept_of is_lent ∙ c.self.view_is in
-    let invariant = subst IsWhole (sym is_lent) c.self.invariant in
+    let view_is = ap kept_of is_lent ∙ rest.view in
+    let invariant = subst IsWhole (sym is_lent) rest.whole in
     let t = c.args.self.now in
     let o = opened inside t view_is invariant c.requires.whole in (
       lit< tt,
@@ -53,10 +55,11 @@ add_gone-requires g c =
 
 pub invariant_of-self : goal.invariant_of-self
 invariant_of-self g c =
+    let rest = rest_of c.self.inside c.args.self.now c.self.view_is c.self.invariant c.requires.idle in
     let is_lent = lent_is c.self.inside c.deref_mut-hands.ensures.value refl in
     let inside = lent c.self.inside c.deref_mut-hands.result.now c.self.inside.kept_layout.value in
-    let view_is = ap kept_of is_lent ∙ c.self.view_is in
-    let invariant = subst IsWhole (sym is_lent) c.self.invariant in
+    let view_is = ap kept_of is_lent ∙ rest.view in
+    let invariant = subst IsWhole (sym is_lent) rest.whole in
     let t = c.args.self.now in
     let name = c.args.name.now in
     let o = opened inside t view_is invariant c.requires.whole in
@@ -66,7 +69,7 @@ invariant_of-self g c =
     ap (λ (d : Digests). digests_seen inside.hands.version d) c.remove.ensures.digests
     ∙ seen_gone inside.hands.version inside.hands.table.digests name
     ∙ ap (λ (d : Option Map). digests_after (del_of name) d) o.digests in
-    changed_whole inside t view_is invariant c.remove.new.self c.free_spot.new.guard
+    rw rest.none (changed_whole inside t view_is invariant c.remove.new.self c.free_spot.new.guard
     c.add_gone.new.ledger c.args.layout (fin.remove t.now name) after c.remove.ensures.kept c.requires.caps
     c.add_gone.ensures.moved digests same c.remove.ensures.rest.kept_digests
     c.remove.ensures.table c.remove.ensures.names c.remove.ensures.rest.cap
@@ -82,14 +85,15 @@ invariant_of-self g c =
     (subst (λ x. FreesSpot x (fin.get t.kept name) inside.hands.guard.spans
     c.free_spot.new.guard.spans) (c.get-now.ensures ∙ ap (λ (m : Spots). fin.get m name) o.now)
     (subst (λ x. FreesSpot c.get-now.result x inside.hands.guard.spans c.free_spot.new.guard.spans)
-    (c.old.ensures ∙ ap (λ (m : Spots). fin.get m name) o.kept) c.free_spot.ensures.freed)))
+    (c.old.ensures ∙ ap (λ (m : Spots). fin.get m name) o.kept) c.free_spot.ensures.freed))))
 
 pub returns : goal.returns
 returns g c =
+    let rest = rest_of c.self.inside c.args.self.now c.self.view_is c.self.invariant c.requires.idle in
     let is_lent = lent_is c.self.inside c.deref_mut-hands.ensures.value refl in
     let inside = lent c.self.inside c.deref_mut-hands.result.now c.self.inside.kept_layout.value in
-    let view_is = ap kept_of is_lent ∙ c.self.view_is in
-    let invariant = subst IsWhole (sym is_lent) c.self.invariant in
+    let view_is = ap kept_of is_lent ∙ rest.view in
+    let invariant = subst IsWhole (sym is_lent) rest.whole in
     let t = c.args.self.now in
     let name = c.args.name.now in
     let o = opened inside t view_is invariant c.requires.whole in

@@ -32,4 +32,4 @@ returns-in-Err-clause-change g c = change_refused (put_of c.args.name.now c.args
 pub returns-in-Err-clause-step : goal.returns-in-Err-clause-step
 returns-in-Err-clause-step g c whole told = refused_change_step c.args.self.now
     (g.D.Disk.state c.args.disk.now).file (put_of c.args.name.now c.args.bytes.now) c.in-Err.refusal whole
-    (c.in-Err.ensures.sound whole) (unaccepted _ _ _ c.in-Err.ensures.answer)
+    (c.in-Err.ensures.sound whole c.requires.over.idle) (unaccepted _ _ _ c.in-Err.ensures.answer)

@@ -7,7 +7,7 @@ use Rattle.store_core.proofs.store.Store.put_accepted.Goals as goal
 pub charge-charged-requires : goal.charge-charged-requires
 charge-charged-requires g c =
     let can = put_served c.args.self.now c.args.name.now c.args.bytes.now c.requires.served in
-    (omega arith, (omega arith, (can.whole, can.small)))
+    (omega arith, (omega arith, (can.whole, (c.requires.over.idle, can.small))))
 
 pub put_planned-requires : goal.put_planned-requires
 put_planned-requires g c = (

@@ -2,8 +2,8 @@ use Rattle.std.proofs.Common.{◌≡◌, ap, arith, refl, rules, subst, sym, ◌
 use Rattle.store_core.specs.Answers.{AnswersRead}
 use Rattle.store_core.specs.declared.answers.Refusal.{Refusal}
 use Rattle.std.proofs.lemmas.Grind.{common_steps}
-use Rattle.store_core.specs.Inside.{IsWhole, kept_of}
-use Rattle.store_core.proofs.InsideLaws.{lent, lent_is, whole_with}
+use Rattle.store_core.specs.Inside.{HoldsAt, seen}
+use Rattle.store_core.proofs.InsideLaws.{holds_with, lent, lent_is, parts_at}
 use Rattle.store_core.proofs.ReadingLaws.{read_stops}
 use Rattle.store_core.proofs.CauseLaws.{disk_cause_as, sink_cause_as}
 use Rattle.store_core.proofs.store.Store.put_object.Goals as goal
@@ -25,25 +25,31 @@ returns-clause-gives g c = grind (arith, common_steps)
 
 pub returns-clause-store : goal.returns-clause-store
 returns-clause-store g c =
-    ap kept_of (lent_is c.self.inside c.deref_mut-hands.ensures.value refl) ∙ c.self.view_is
+    ap (λ s. seen c.self.inside.flush c.self.inside.began s)
+    (lent_is c.self.inside c.deref_mut-hands.ensures.value refl) ∙ c.self.view_is
 
 pub returns-in_err-put_judged-clause-store : goal.returns-in_err-put_judged-clause-store
 returns-in_err-put_judged-clause-store g c =
-    ap kept_of (lent_is c.self.inside c.deref_mut-hands.ensures.value refl) ∙ c.self.view_is
+    ap (λ s. seen c.self.inside.flush c.self.inside.began s)
+    (lent_is c.self.inside c.deref_mut-hands.ensures.value refl) ∙ c.self.view_is
 
 pub invariant_of-self : goal.invariant_of-self
 invariant_of-self g c =
     let is_lent = lent_is c.self.inside c.deref_mut-hands.ensures.value refl in
     let inside = lent c.self.inside c.deref_mut-hands.result.now c.self.inside.kept_layout.value in
-    let invariant = subst IsWhole (sym is_lent) c.self.invariant in
-    whole_with inside c.put_judged.new.buf (grind (arith, invariant.buf)) invariant
+    let i = c.self.inside in
+    let invariant = subst (λ s. HoldsAt i.flush i.began s) (sym is_lent) c.self.invariant in
+    let parts = parts_at i.flush i.began inside invariant in
+    holds_with i.flush i.began inside c.put_judged.new.buf (grind (arith, parts.buf)) invariant
 
 pub invariant_of-self-2 : goal.invariant_of-self-2
 invariant_of-self-2 g c =
     let is_lent = lent_is c.self.inside c.deref_mut-hands.ensures.value refl in
     let inside = lent c.self.inside c.deref_mut-hands.result.now c.self.inside.kept_layout.value in
-    let invariant = subst IsWhole (sym is_lent) c.self.invariant in
-    whole_with inside c.put_judged.new.buf (grind (arith, invariant.buf)) invariant
+    let i = c.self.inside in
+    let invariant = subst (λ s. HoldsAt i.flush i.began s) (sym is_lent) c.self.invariant in
+    let parts = parts_at i.flush i.began inside invariant in
+    holds_with i.flush i.began inside c.put_judged.new.buf (grind (arith, parts.buf)) invariant
 
 pub returns-clause-frame : goal.returns-clause-frame
 returns-clause-frame g c = grind (arith, common_steps)

@@ -2,10 +2,11 @@ use Rattle.std.specs.FinMap as fin
 use Rattle.std.proofs.Common.{◌∙◌, ◌+◌, ap, arith, lit<, subst, IsTrue, length, refl, sym}
 use Rattle.byte_ranges.specs.Ranges.{overwritten}
 use Rattle.segment_layout.specs.Layouts.{caps_of, divisor_of, grid_of}
+use Rattle.store_model.specs.Connection.{StoreValue}
 use Rattle.store_model.specs.Quiet.{IsCharged, put_of}
 use Rattle.store_model.proofs.ChangeLaws.{apart_kept, place_ends}
 use Rattle.store_core.proofs.EffectLaws.{calls_err, calls_ok, position_fits, quiet_effects}
-use Rattle.store_core.proofs.InsideLaws.{opened, lent, lent_is}
+use Rattle.store_core.proofs.InsideLaws.{lent, lent_is, opened, rest_of}
 use Rattle.store_core.proofs.PlanLaws.{put_served}
 use Rattle.store_core.proofs.QuietLaws.{put_entered, put_over, put_step, put_value}
 use Rattle.store_core.specs.Inside.{IsWhole, kept_of}
@@ -13,10 +14,11 @@ use Rattle.store_core.proofs.store.Store.put_planned.Goals as goal
 
 pub write_new-requires-clause-fits : goal.write_new-requires-clause-fits
 write_new-requires-clause-fits g c =
+    let rest = rest_of c.self.inside c.args.self.now c.self.view_is c.self.invariant c.requires.over.idle in
     let is_lent = lent_is c.self.inside c.deref.ensures refl in
     let inside = lent c.self.inside c.deref.result.now c.self.inside.kept_layout.value in
-    let view_is = ap kept_of is_lent ∙ c.self.view_is in
-    let invariant = subst IsWhole (sym is_lent) c.self.invariant in
+    let view_is = ap kept_of is_lent ∙ rest.view in
+    let invariant = subst IsWhole (sym is_lent) rest.whole in
     let t = c.args.self.now in
     let plan = c.args.plan in
     let size = length c.args.bytes.now in
@@ -28,16 +30,17 @@ write_new-requires-clause-fits g c =
 
 pub write_new-requires-clause-within : goal.write_new-requires-clause-within
 write_new-requires-clause-within g c told =
+    let rest = rest_of c.self.inside c.args.self.now c.self.view_is c.self.invariant c.requires.over.idle in
     let is_lent = lent_is c.self.inside c.deref.ensures refl in
     let inside = lent c.self.inside c.deref.result.now c.self.inside.kept_layout.value in
-    let view_is = ap kept_of is_lent ∙ c.self.view_is in
-    let invariant = subst IsWhole (sym is_lent) c.self.invariant in
+    let view_is = ap kept_of is_lent ∙ rest.view in
+    let invariant = subst IsWhole (sym is_lent) rest.whole in
     let t = c.args.self.now in
     let plan = c.args.plan in
     let size = length c.args.bytes.now in
     let served = put_served t c.args.name.now c.args.bytes.now c.requires.plan.served in
     let o = opened inside t view_is invariant served.whole in
-    let over = c.requires.over served.whole told in
+    let over = c.requires.over.over served.whole told in
     omega (
       arith,
       o.base,
@@ -59,17 +62,20 @@ enter-requires g c =
         (
           served.whole,
           (
-            served.named,
+            c.requires.over.idle,
             (
-              served.room,
+              served.named,
               (
-                omega (arith, served.small, p.size),
+                served.room,
                 (
-                  p.divisor,
+                  omega (arith, served.small, p.size),
                   (
-                    p.same_caps,
-                    subst (λ n. IsCharged t.in_use.block.k t.book.caps t.book.grid (fin.get t.now name) n
-                        (grid_of plan.layout) plan.spot.place) (sym p.size) p.charged,
+                    p.divisor,
+                    (
+                      p.same_caps,
+                      subst (λ n. IsCharged t.in_use.block.k t.book.caps t.book.grid (fin.get t.now name) n
+                          (grid_of plan.layout) plan.spot.place) (sym p.size) p.charged,
+                    ),
                   ),
                 ),
               ),
@@ -81,10 +87,11 @@ enter-requires g c =
 
 pub returns-in-Ok-clause-quiet : goal.returns-in-Ok-clause-quiet
 returns-in-Ok-clause-quiet g c =
+    let rest = rest_of c.self.inside c.args.self.now c.self.view_is c.self.invariant c.requires.over.idle in
     let is_lent = lent_is c.self.inside c.deref.ensures refl in
     let inside = lent c.self.inside c.deref.result.now c.self.inside.kept_layout.value in
-    let view_is = ap kept_of is_lent ∙ c.self.view_is in
-    let invariant = subst IsWhole (sym is_lent) c.self.invariant in
+    let view_is = ap kept_of is_lent ∙ rest.view in
+    let invariant = subst IsWhole (sym is_lent) rest.whole in
     let t = c.args.self.now in
     let plan = c.args.plan in
     let size = length c.args.bytes.now in
@@ -94,7 +101,7 @@ returns-in-Ok-clause-quiet g c =
     (g.D.Disk.state c.args.disk.now)
     (g.D.Disk.state c.write_new.new.disk) _ inside.hands.base plan.spot.place size c.requires.sound
     o.base
-    (c.requires.over served.whole)
+    (c.requires.over.over served.whole)
     (apart_kept t c.requires.sound c.args.name.now size plan.spot.place (grid_of plan.layout)
     c.requires.plan.charged) c.write_new.ensures.writes (calls_ok _ _ c.in-Ok.ensures.calls)
     (put_value t c.requires.sound c.args.name.now c.args.bytes.now (divisor_of plan.layout)
@@ -105,10 +112,11 @@ returns-in-Ok-clause-quiet g c =
 
 pub returns-in-Err-clause-quiet : goal.returns-in-Err-clause-quiet
 returns-in-Err-clause-quiet g c =
+    let rest = rest_of c.self.inside c.args.self.now c.self.view_is c.self.invariant c.requires.over.idle in
     let is_lent = lent_is c.self.inside c.deref.ensures refl in
     let inside = lent c.self.inside c.deref.result.now c.self.inside.kept_layout.value in
-    let view_is = ap kept_of is_lent ∙ c.self.view_is in
-    let invariant = subst IsWhole (sym is_lent) c.self.invariant in
+    let view_is = ap kept_of is_lent ∙ rest.view in
+    let invariant = subst IsWhole (sym is_lent) rest.whole in
     let t = c.args.self.now in
     let plan = c.args.plan in
     let size = length c.args.bytes.now in
@@ -117,16 +125,17 @@ returns-in-Err-clause-quiet g c =
     quiet_effects (put_of c.args.name.now c.args.bytes.now) t _ (g.D.Disk.state c.args.disk.now)
     (g.D.Disk.state c.write_new.new.disk) _ inside.hands.base plan.spot.place size c.requires.sound
     o.base
-    (c.requires.over served.whole)
+    (c.requires.over.over served.whole)
     (apart_kept t c.requires.sound c.args.name.now size plan.spot.place (grid_of plan.layout)
     c.requires.plan.charged) c.write_new.ensures.writes (calls_err _ _ c.in-Err.ensures.calls) tt
 
 pub returns-in-Ok-clause-step : goal.returns-in-Ok-clause-step
 returns-in-Ok-clause-step g c told =
+    let rest = rest_of c.self.inside c.args.self.now c.self.view_is c.self.invariant c.requires.over.idle in
     let is_lent = lent_is c.self.inside c.deref.ensures refl in
     let inside = lent c.self.inside c.deref.result.now c.self.inside.kept_layout.value in
-    let view_is = ap kept_of is_lent ∙ c.self.view_is in
-    let invariant = subst IsWhole (sym is_lent) c.self.invariant in
+    let view_is = ap kept_of is_lent ∙ rest.view in
+    let invariant = subst IsWhole (sym is_lent) rest.whole in
     let t = c.args.self.now in
     let plan = c.args.plan in
     let file = (g.D.Disk.state c.args.disk.now).file in
@@ -135,7 +144,7 @@ returns-in-Ok-clause-step g c told =
     put_step t c.requires.sound c.args.name.now c.args.bytes.now (divisor_of plan.layout)
     (caps_of plan.layout)
     (grid_of plan.layout) plan.spot c.requires.plan file (g.D.Disk.state c.write_new.new.disk).file
-    (c.requires.over served.whole told)
+    (c.requires.over.over served.whole told)
     (c.in-Ok.ensures.written told
     ∙ ap (λ b. overwritten file (b + plan.spot.place) c.args.bytes.now) o.base)
     c.enter.new.self
@@ -144,24 +153,34 @@ returns-in-Ok-clause-step g c told =
     c.own_digest-digest.ensures.own c.enter.new.self c.enter.ensures)
 
 pub returns-in-Ok-clause-over : goal.returns-in-Ok-clause-over
-returns-in-Ok-clause-over g c whole told =
+returns-in-Ok-clause-over g c =
+    let rest = rest_of c.self.inside c.args.self.now c.self.view_is c.self.invariant c.requires.over.idle in
     let is_lent = lent_is c.self.inside c.deref.ensures refl in
     let inside = lent c.self.inside c.deref.result.now c.self.inside.kept_layout.value in
-    let view_is = ap kept_of is_lent ∙ c.self.view_is in
-    let invariant = subst IsWhole (sym is_lent) c.self.invariant in
+    let view_is = ap kept_of is_lent ∙ rest.view in
+    let invariant = subst IsWhole (sym is_lent) rest.whole in
     let t = c.args.self.now in
     let plan = c.args.plan in
     let file = (g.D.Disk.state c.args.disk.now).file in
     let served = put_served t c.args.name.now c.args.bytes.now c.requires.plan.served in
     let o = opened inside t view_is invariant served.whole in
-    let first = subst IsTrue c.write_new.ensures.writes.stays.told told in
-    put_over t c.requires.sound c.args.name.now c.args.bytes.now (divisor_of plan.layout)
-    (caps_of plan.layout)
-    (grid_of plan.layout) plan.spot c.requires.plan file (g.D.Disk.state c.write_new.new.disk).file
-    (c.requires.over served.whole first)
-    (c.in-Ok.ensures.written first
-    ∙ ap (λ b. overwritten file (b + plan.spot.place) c.args.bytes.now) o.base)
-    c.enter.new.self
-    (put_entered t c.requires.sound c.args.name.now c.args.bytes.now (divisor_of plan.layout)
-    (caps_of plan.layout) (grid_of plan.layout) plan.spot c.requires.plan _
-    c.own_digest-digest.ensures.own c.enter.new.self c.enter.ensures)
+    record {
+      idle = ap (λ (x : StoreValue). x.in_hand) c.enter.ensures ∙ c.requires.over.idle;
+      over = λ whole told.
+          let first = subst IsTrue c.write_new.ensures.writes.stays.told told in
+          put_over t c.requires.sound c.args.name.now c.args.bytes.now (divisor_of plan.layout)
+          (caps_of plan.layout)
+          (grid_of plan.layout) plan.spot c.requires.plan file (g.D.Disk.state c.write_new.new.disk).file
+          (c.requires.over.over served.whole first)
+          (c.in-Ok.ensures.written first
+          ∙ ap (λ b. overwritten file (b + plan.spot.place) c.args.bytes.now) o.base)
+          c.enter.new.self
+          (put_entered t c.requires.sound c.args.name.now c.args.bytes.now (divisor_of plan.layout)
+          (caps_of plan.layout) (grid_of plan.layout) plan.spot c.requires.plan _
+          c.own_digest-digest.ensures.own c.enter.new.self c.enter.ensures);
+    }
+
+pub returns-in-Err-clause-over : goal.returns-in-Err-clause-over
+returns-in-Err-clause-over g c =
+    let rest = rest_of c.self.inside c.args.self.now c.self.view_is c.self.invariant c.requires.over.idle in
+    rw rest.none (record { idle = refl; over = λ sound. absurd (cc) })

@@ -13,16 +13,16 @@ put_object-requires g c =
     let s = c.args.self.now in
     let m = c.args.moment in
     let name = c.args.name.now in
-    let f = is_found s (asks_for m name) c.in-Ok.spot c.in-Ok.ensures.answer c.in-Ok.ensures.sound in (
+    let f = is_found s (asks_for m name) c.in-Ok.spot c.in-Ok.ensures.answer c.in-Ok.ensures.standing in (
       omega arith,
       (
         c.requires.ready,
         (
-          f.sound,
+          f.stands,
           (
-            found_in_range s f.sound m name c.in-Ok.spot f.there,
-            λ told. found_within s (g.D.Disk.state c.args.disk.now).file f.sound
-                (c.requires.over f.whole told) m name c.in-Ok.spot f.there,
+            found_in_range s f.stands m name c.in-Ok.spot f.there,
+            λ told. found_within s (g.D.Disk.state c.args.disk.now) f.stands f.whole
+                (c.in-Ok.ensures.sound f.whole) c.requires.over told m name c.in-Ok.spot f.there,
           ),
         ),
       ),
@@ -33,7 +33,7 @@ returns-in-Ok g c =
     let s = c.args.self.now in
     let m = c.args.moment in
     let name = c.args.name.now in
-    let f = is_found s (asks_for m name) c.in-Ok.spot c.in-Ok.ensures.answer c.in-Ok.ensures.sound in
+    let f = is_found s (asks_for m name) c.in-Ok.spot c.in-Ok.ensures.answer c.in-Ok.ensures.standing in
     let digest = c.digest_of_object-digest.ensures.read (named_if s m name f.served f.whole) in
     let object = object_at (base_of s) (g.D.Disk.state c.args.disk.now).file c.in-Ok.spot in
     read_found s (g.D.Disk.state c.args.disk.now) m name c.args.head.now c.in-Ok.spot
@@ -48,6 +48,6 @@ returns-in-Ok g c =
 
 pub returns-in-Err : goal.returns-in-Err
 returns-in-Err g c = read_refused c.args.self.now (g.D.Disk.state c.args.disk.now) c.args.moment
-    c.args.name.now c.args.head.now c.in-Err.refusal c.in-Err.ensures.answer c.in-Err.ensures.sound
+    c.args.name.now c.args.head.now c.in-Err.refusal c.in-Err.ensures.answer c.in-Err.ensures.standing
     c.requires.ready
     (g.O.Sink.state c.args.sink.now)

@@ -14,15 +14,16 @@ use Rattle.store_core.specs.Inside.{kept_of, IsWhole}
 use Rattle.store_core.proofs.EffectLaws.{calls_err, calls_ok}
 use Rattle.store_core.proofs.KeepEffectLaws.{header_is, keep_done, keep_failed, keep_over, keep_step, kept_view, kept_whole}
 use Rattle.store_core.proofs.KeepLaws.{length-records_of}
-use Rattle.store_core.proofs.InsideLaws.{few_live, lent, lent_is}
+use Rattle.store_core.proofs.InsideLaws.{few_live, lent, lent_is, rest_of}
 use Rattle.store_core.proofs.store.Store.save_now.Goals as goal
 
 pub save-requires-clause-save : goal.save-requires-clause-save
 save-requires-clause-save g c =
+    let rest = rest_of c.self.inside c.args.self.now c.self.view_is c.self.invariant c.requires.over.idle in
     let is_lent = lent_is c.self.inside c.deref_mut-hands.ensures.value refl in
     let inside = lent c.self.inside c.deref_mut-hands.result.now c.self.inside.kept_layout.value in
-    let view_is = ap kept_of is_lent ∙ c.self.view_is in
-    let invariant = subst IsWhole (sym is_lent) c.self.invariant in
+    let view_is = ap kept_of is_lent ∙ rest.view in
+    let invariant = subst IsWhole (sym is_lent) rest.whole in
     let names = inside.hands.slots.block.names in
     let unbroken = ap (λ (x : StoreValue). x.is_broken) view_is ∙ c.requires.whole in
     let table = invariant.table unbroken in
@@ -44,12 +45,13 @@ save-requires-clause-save g c =
 
 pub returns-in-Err-clause-kept : goal.returns-in-Err-clause-kept
 returns-in-Err-clause-kept g c =
+    let rest = rest_of c.self.inside c.args.self.now c.self.view_is c.self.invariant c.requires.over.idle in
     let is_lent = lent_is c.self.inside c.deref_mut-hands.ensures.value refl in
     let inside = lent c.self.inside c.deref_mut-hands.result.now c.self.inside.kept_layout.value in
-    let view_is = ap kept_of is_lent ∙ c.self.view_is in
-    let invariant = subst IsWhole (sym is_lent) c.self.invariant in
+    let view_is = ap kept_of is_lent ∙ rest.view in
+    let invariant = subst IsWhole (sym is_lent) rest.whole in
     let same = c.in-Err.ensures.same_pair in
-    keep_failed inside c.args.self.now view_is invariant c.requires.whole
+    rw rest.none (keep_failed inside c.args.self.now view_is invariant c.requires.whole
     c.requires.fresh
     c.settled_header-next.result
     (header_is inside invariant c.settled_header-next.result c.settled_header-next.ensures.header)
@@ -64,27 +66,29 @@ returns-in-Err-clause-kept g c =
           (grid_of inside.kept_layout) inside.hands.table.kept
           (digests_seen inside.hands.version inside.hands.table.kept_digests);
       is_broken = true;
-    }) (calls_err _ _ c.in-Err.ensures.calls)
+    }) (calls_err _ _ c.in-Err.ensures.calls))
 
 pub invariant_of-self : goal.invariant_of-self
 invariant_of-self g c =
+    let rest = rest_of c.self.inside c.args.self.now c.self.view_is c.self.invariant c.requires.over.idle in
     let is_lent = lent_is c.self.inside c.deref_mut-hands.ensures.value refl in
     let inside = lent c.self.inside c.deref_mut-hands.result.now c.self.inside.kept_layout.value in
-    let invariant = subst IsWhole (sym is_lent) c.self.invariant in
-    kept_whole inside invariant c.keep_spots.new.table
+    let invariant = subst IsWhole (sym is_lent) rest.whole in
+    rw rest.none (kept_whole inside invariant c.keep_spots.new.table
     c.keep_spots.new.guard c.save.new.self _ c.in-Ok.ensures.pair.pair c.keep_spots.ensures.now
     c.keep_spots.ensures.kept c.keep_spots.ensures.digests c.keep_spots.ensures.kept_digests
     c.keep_spots.ensures.table c.keep_spots.ensures.names c.keep_spots.ensures.cap c.keep_spots.ensures.empty
     c.keep_spots.ensures.room
-    (search rules)
+    (search rules))
 
 pub returns-in-Ok-clause-kept : goal.returns-in-Ok-clause-kept
 returns-in-Ok-clause-kept g c =
+    let rest = rest_of c.self.inside c.args.self.now c.self.view_is c.self.invariant c.requires.over.idle in
     let is_lent = lent_is c.self.inside c.deref_mut-hands.ensures.value refl in
     let inside = lent c.self.inside c.deref_mut-hands.result.now c.self.inside.kept_layout.value in
-    let view_is = ap kept_of is_lent ∙ c.self.view_is in
-    let invariant = subst IsWhole (sym is_lent) c.self.invariant in
-    keep_done inside c.args.self.now view_is invariant c.requires.whole c.requires.fresh
+    let view_is = ap kept_of is_lent ∙ rest.view in
+    let invariant = subst IsWhole (sym is_lent) rest.whole in
+    rw rest.none (keep_done inside c.args.self.now view_is invariant c.requires.whole c.requires.fresh
     c.settled_header-next.result
     (header_is inside invariant c.settled_header-next.result c.settled_header-next.ensures.header)
     c.requires.over c.save.ensures.left
@@ -94,14 +98,15 @@ returns-in-Ok-clause-kept g c =
     (with_items inside.hands.buf c.save.new.buf) c.in-Ok.ensures.pair.pair c.keep_spots.ensures.now
     c.keep_spots.ensures.kept c.keep_spots.ensures.digests c.keep_spots.ensures.kept_digests) _
     (λ told. (c.in-Ok.ensures.done told).rests)
-    (calls_ok _ _ c.in-Ok.ensures.calls)
+    (calls_ok _ _ c.in-Ok.ensures.calls))
 
 pub returns-in-Ok-clause-step : goal.returns-in-Ok-clause-step
 returns-in-Ok-clause-step g c =
+    let rest = rest_of c.self.inside c.args.self.now c.self.view_is c.self.invariant c.requires.over.idle in
     let is_lent = lent_is c.self.inside c.deref_mut-hands.ensures.value refl in
     let inside = lent c.self.inside c.deref_mut-hands.result.now c.self.inside.kept_layout.value in
-    let view_is = ap kept_of is_lent ∙ c.self.view_is in
-    let invariant = subst IsWhole (sym is_lent) c.self.invariant in
+    let view_is = ap kept_of is_lent ∙ rest.view in
+    let invariant = subst IsWhole (sym is_lent) rest.whole in
     keep_step inside c.args.self.now view_is invariant c.requires.whole c.requires.fresh
     c.settled_header-next.result
     (header_is inside invariant c.settled_header-next.result c.settled_header-next.ensures.header)
@@ -113,17 +118,26 @@ returns-in-Ok-clause-step g c =
     c.keep_spots.ensures.kept c.keep_spots.ensures.digests c.keep_spots.ensures.kept_digests)
 
 pub returns-in-Ok-clause-over : goal.returns-in-Ok-clause-over
-returns-in-Ok-clause-over g c unbroken =
+returns-in-Ok-clause-over g c =
+    let rest = rest_of c.self.inside c.args.self.now c.self.view_is c.self.invariant c.requires.over.idle in
     let is_lent = lent_is c.self.inside c.deref_mut-hands.ensures.value refl in
     let inside = lent c.self.inside c.deref_mut-hands.result.now c.self.inside.kept_layout.value in
-    let view_is = ap kept_of is_lent ∙ c.self.view_is in
-    let invariant = subst IsWhole (sym is_lent) c.self.invariant in
-    keep_over inside c.args.self.now view_is invariant c.requires.whole c.requires.fresh
-    c.settled_header-next.result
-    (header_is inside invariant c.settled_header-next.result c.settled_header-next.ensures.header)
-    c.requires.over c.save.ensures.left
-    c.save.ensures.frame (λ told. (c.in-Ok.ensures.done told).saved)
-    (λ told. (c.in-Ok.ensures.done told).in_use) _
-    (kept_view inside invariant c.keep_spots.new.table c.keep_spots.new.guard c.save.new.self
-    (with_items inside.hands.buf c.save.new.buf) c.in-Ok.ensures.pair.pair c.keep_spots.ensures.now
-    c.keep_spots.ensures.kept c.keep_spots.ensures.digests c.keep_spots.ensures.kept_digests)
+    let view_is = ap kept_of is_lent ∙ rest.view in
+    let invariant = subst IsWhole (sym is_lent) rest.whole in
+    rw rest.none (record {
+      idle = refl;
+      over = λ unbroken. keep_over inside c.args.self.now view_is invariant c.requires.whole c.requires.fresh
+          c.settled_header-next.result
+          (header_is inside invariant c.settled_header-next.result c.settled_header-next.ensures.header)
+          c.requires.over c.save.ensures.left
+          c.save.ensures.frame (λ told. (c.in-Ok.ensures.done told).saved)
+          (λ told. (c.in-Ok.ensures.done told).in_use) _
+          (kept_view inside invariant c.keep_spots.new.table c.keep_spots.new.guard c.save.new.self
+          (with_items inside.hands.buf c.save.new.buf) c.in-Ok.ensures.pair.pair c.keep_spots.ensures.now
+          c.keep_spots.ensures.kept c.keep_spots.ensures.digests c.keep_spots.ensures.kept_digests);
+    })
+
+pub returns-in-Err-clause-over : goal.returns-in-Err-clause-over
+returns-in-Err-clause-over g c =
+    let rest = rest_of c.self.inside c.args.self.now c.self.view_is c.self.invariant c.requires.over.idle in
+    rw rest.none (record { idle = refl; over = λ sound. absurd (cc) })

@@ -1,0 +1,3 @@
+pub mod GoingLaws
+pub mod EndedLaws
+pub mod SlicedLaws
