@@ -1,0 +1,5 @@
+pub mod ListLaws
+pub mod AnswerLaws
+pub mod CoherenceLaws
+mod GetLaws
+pub mod DropLaws
