@@ -15,7 +15,7 @@ pub const NO_FILE: u8 = 3;
 /// The file is no store.
 pub const NO_STORE: u8 = 4;
 
-/// A file that is to be formatted isn't empty.
+/// A file that is to be made isn't empty.
 pub const NOT_EMPTY: u8 = 5;
 
 /// The store has no object of the name.
@@ -39,7 +39,7 @@ pub const TOO_MANY_REQUESTS: u8 = 11;
 /// The object of the name has another digest than the store has for it.
 pub const DAMAGED_OBJECT: u8 = 13;
 
-/// The store has more names than the file would have room for.
+/// The store or the dump has more names than the file would have room for.
 pub const TOO_MANY_NAMES: u8 = 14;
 
 /// The sequence of the file leaves no save.

@@ -10,7 +10,7 @@ pub enum StopReason {
     NoFile,
     /// What the bytes of the file show first: no fault of the disk, and no want of memory.
     NotStore(OpenFault),
-    /// A file that is to be formatted has this length, in bytes.
+    /// A file that is to be made has this length, in bytes.
     Taken(u64),
     /// The store has no object of the name.
     Missing,
@@ -20,12 +20,14 @@ pub enum StopReason {
     Sink,
     /// There is too little memory for the table of the file, or for a session.
     NoMemory,
-    /// The request of this number, from 1, is no request.
+    /// The request of this number, from 1, is none. Of a dump the object of this number can't stand there, or
+    /// its first line where it is 0.
     Line(u64),
     Source,
     /// As many requests were answered as one session may.
     Budget,
-    /// The store has this many names, more than a table whose records have digests has room for.
+    /// There are this many names, more than there is room for: in a store, of a table whose records have
+    /// digests, or in a dump.
     TooManyNames(u64),
     /// The sequence of the file leaves no save.
     Worn,

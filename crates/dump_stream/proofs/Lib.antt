@@ -2,9 +2,9 @@ pub mod CutLaws
 pub mod HeadLaws
 pub mod TextLaws
 pub mod ReadLaws
-mod WriteLaws
+pub mod WriteLaws
 mod PutLaws
 mod FillLaws
 mod SoundLaws
-mod SumLaws
+pub mod SumLaws
 mod DumpLaws

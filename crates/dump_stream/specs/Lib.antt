@@ -1,3 +1,5 @@
 pub mod Heads
 pub mod Dumps
 pub mod Dumping
+pub mod Loading
+pub mod Placing

@@ -9,3 +9,4 @@ mod sums;
 pub use head::{DumpHead, read_head, write_head};
 pub use laws::a_dump_is_of_one_map;
 pub use putting::{DumpFault, dump, dump_boxed};
+pub use sums::add_size;

@@ -33,7 +33,7 @@ pub(crate) fn head_of<const C: usize>(table: &Table) -> DumpHead<C>
 }
 
 /// Adds an object's bytes to the volume of its class.
-fn add_size<const C: usize>(volumes: &mut Row<C>, size: u64)
+pub fn add_size<const C: usize>(volumes: &mut Row<C>, size: u64)
     requires fits { C ≤ 32 }
     requires wide { SIZE_MAX < 2 ^ C }
     requires small { size ≤ SIZE_MAX }

@@ -1,0 +1,3 @@
+mod AheadLemmas
+mod PieceLemmas
+pub mod LineLaws

@@ -1,0 +1,5 @@
+pub mod FaultLaws
+pub mod LoadedLaws
+pub mod StepLaws
+pub mod AlwaysLaws
+pub mod TakenLaws

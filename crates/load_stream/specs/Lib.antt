@@ -1,0 +1,6 @@
+pub mod Causes
+pub mod Faults
+pub mod Images
+pub mod Loaded
+pub mod Saved
+pub mod Steps
