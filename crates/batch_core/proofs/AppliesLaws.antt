@@ -18,7 +18,7 @@ use Rattle.batch_core.specs.Going.{Goes, Stops}
 use Rattle.batch_core.specs.StoresOn.{StandsFor, StoreOn}
 use Rattle.batch_core.specs.declared.fault.BatchFault.{BatchFault}
 use Rattle.batch_core.specs.declared.fault.BatchFault.TheVariants as fault
-use Rattle.batch_core.proofs.ApplyLaws.{can_apply, goes_begun, stops_begun}
+use Rattle.batch_core.proofs.ApplyLaws.{can_apply, few_made_by, goes_begun, stops_begun}
 
 or_false : (b : Bool) → b ≡ (b || false)
 or_false true = refl
@@ -124,7 +124,10 @@ module _ {classes : ℕ} (x : StoreOn) (text : List ℕ) (go : CanGo classes x)
       answer = ((go.whole, some, judged.0), early);
       same = λ bad. absurd (cc);
       begun = λ _ told. begun_as (Ok true) m stands told (goes_begun x y (batch_of m) judged.0.batch
-          (can m stands).free (all_applied (batch_of m)) refl told (Ok true) goes kept);
+          (can m stands).free (all_applied (batch_of m)) refl told (Ok true) goes (omega (
+            arith,
+            few_made_by x false (batch_of m) go judged.0.batch (can m stands).fits,
+          )) kept);
       over = goes.over;
       broken = goes.unbroken ∙ ap (λ (b : Bool). b || false) (sym go.whole);
       sound = goes.sound;

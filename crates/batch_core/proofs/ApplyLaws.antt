@@ -1,5 +1,5 @@
 -- A batch that is applied: that a store can, and what it comes to.
-use Rattle.std.specs.Prelude.{◌≡◌, ◌≢◌, ℕ, ◌+◌, ◌<◌, ◌≤◌, Bool, true, false, List, [], ◌∷◌, length, is_some, replicate, Option, Some, None, Result, Ok, IsTrue, refl}
+use Rattle.std.specs.Prelude.{◌≡◌, ◌≢◌, ◌⊎◌, ℕ, ◌+◌, ◌<◌, ◌≤◌, Bool, true, false, List, [], ◌∷◌, length, is_some, replicate, Option, Some, None, Result, Ok, IsTrue, refl}
 use Rattle.std.proofs.Common.{arith, ap, sym, ◌∙◌, subst, inl, inr, append-nil}
 use Rattle.std.proofs.lemmas.List.{length-replicate}
 use Rattle.std.specs.FinMap as fin
@@ -10,11 +10,13 @@ use Rattle.map_model.specs.Requests.{Change}
 use Rattle.extent_table.specs.declared.spot.Spot.{Spot}
 use Rattle.segment_layout.specs.Books.{Book, book_end, version_of}
 use Rattle.table_rules.specs.Opening.{Opens}
+use Rattle.table_rules.specs.Sequences.{HasSequenceUpTo}
+use Rattle.table_rules.proofs.SequenceLaws.{sequence_wider}
 use Rattle.placement_model.specs.Reads.{EndWithin, read_at}
 use Rattle.placement_model.proofs.LaidOutLaws.{laid_within}
 use Rattle.change_charges.proofs.SizedLaws.{sized_read}
 use Rattle.store_model.specs.Connection.{StoreValue, base_of, live_cap}
-use Rattle.store_model.proofs.OverLaws.{kept_image}
+use Rattle.store_model.proofs.OverLaws.{kept_image, same_itself}
 use Rattle.store_model.proofs.StoreLaws.{now_lies}
 use Rattle.batch_model.specs.Batches.{IsBatch, applied, batch_name, batch_text}
 use Rattle.batch_model.specs.Fits.{counted_misfit, made, misfit}
@@ -25,12 +27,13 @@ use Rattle.batch_model.proofs.ViewLaws.{leaves_batch}
 use Rattle.batch_core.specs.Answers.{HasFit, IsBatchDone, IsBegun}
 use Rattle.batch_core.specs.declared.fault.BatchFault.{BatchFault}
 use Rattle.batch_core.specs.Doing.{Batch, CanApply, CanBegin, CanDo, CanGo, IsBatchMap, IsKeptNow, begun, misfit_in, worn_from}
-use Rattle.batch_core.specs.Going.{Goes, Going, IsLeft, Stops}
+use Rattle.batch_core.specs.Going.{Goes, Going, Stops, most_after}
+use Rattle.batch_core.specs.Making.{OpensAs, OpensToLast}
 use Rattle.batch_core.specs.StoresOn.{StandsFor, StoreOn, state_on}
 use Rattle.batch_core.proofs.DoLaws.{same_cap}
 use Rattle.batch_core.proofs.FitsLaws.{counts_of, sized_len}
 use Rattle.batch_core.proofs.GoesLaws.{can_go_then}
-use Rattle.batch_core.proofs.MakeLaws.{sized_live}
+use Rattle.batch_core.proofs.RequestLaws.{sized_live}
 
 -- ---- a map that a store stands for
 
@@ -179,9 +182,9 @@ module _ {classes : ℕ} (x : StoreOn) (text : List ℕ) (b : Batch) (can : CanA
 module _ {classes : ℕ} (x y : StoreOn) (b : Batch) (batch : IsBatch b.text b.changes)
     (free : fin.get b.map batch_name ≡ None) (g : Going) (same : g.map ≡ applied b.changes b.map)
     (told : IsTrue x.disk.tells) where
-  pub batch_done : Goes classes (IsBatchMap b) x y g → IsKeptNow y.store
+  pub batch_done : Goes classes (IsBatchMap b) x y g → g.made ≤ 131076 → IsKeptNow y.store
       → IsBatchDone classes b g.requests x y
-  batch_done first kept =
+  batch_done first few kept =
       let told_now : IsTrue y.disk.tells = subst IsTrue (sym first.frame.stays.told) told in
       let over = first.over.over first.unbroken told_now in
       let now : (state_on y).map ≡ applied b.changes b.map = first.stands.told told_now ∙ same in
@@ -189,6 +192,10 @@ module _ {classes : ℕ} (x y : StoreOn) (b : Batch) (batch : IsBatch b.text b.c
         ran = first.ran told;
         same_map = now;
         kept = ap (read_at (base_of y.store) y.disk.file) kept.0 ∙ now;
+        kept_book = kept.1;
+        block = first.block;
+        same_cap = same_cap (IsBatchMap b) x y g first;
+        reach = omega (arith, first.reach, few);
         gone = leaves_batch b.changes b.map batch.parts ∙ free;
         opens = record { table = over.table; opens = over.checkpoint.opens };
         rests = first.rests told;
@@ -196,25 +203,38 @@ module _ {classes : ℕ} (x y : StoreOn) (b : Batch) (batch : IsBatch b.text b.c
             (first.rests told rest image may)).opens;
       }
 
-  pub goes_begun : (result : Result Bool BatchFault) → Goes classes (IsBatchMap b) x y g
+  -- the content's sequence is that of the store
+  low_now : Goes classes (IsBatchMap b) x y g → HasSequenceUpTo (most_after x) y.disk.file
+  low_now first =
+      let told_now : IsTrue y.disk.tells = subst IsTrue (sym first.frame.stays.told) told in
+      sequence_wider y.store.in_use.sequence (most_after x) y.disk.file first.most
+      (kept_image y.store first.sound y.disk.file (first.over.over first.unbroken told_now) y.disk.file
+      (same_itself (base_of y.store) y.store.kept y.disk.file)).sequence
+
+  pub goes_begun : (result : Result Bool BatchFault) → Goes classes (IsBatchMap b) x y g → g.made ≤ 131076
       → IsKeptNow y.store → IsBegun classes b g.requests x y result
-  goes_begun result first kept = record {
-    done = λ ok. batch_done first kept;
+  goes_begun result first few kept = record {
+    done = λ ok. batch_done first few kept;
     left = first.left told;
-    content = elim (first.kept told) as (λ _. IsLeft classes (IsBatchMap b) x y.disk.file) [
-      | inl before ↦ inl (subst (λ (m : Map). Opens classes SIZE_MAX y.disk.file m x.store.kept_book) before.0
-          (subst (λ (k : Book). Opens classes SIZE_MAX y.disk.file (state_on y).kept k) before.1
-          (batch_done first kept).opens))
-      | inr such ↦ inr (
-        (state_on y).kept,
-        such.0,
-        record {
-          book = y.store.kept_book;
-          opens = (batch_done first kept).opens;
-          same_version = such.1;
-        },
-      )
-    ];
+    content = record {
+      opens = elim (first.kept told) as (λ _. OpensToLast classes x y.disk.file
+          ⊎ ((m : Map) × IsBatchMap b m × OpensAs classes (version_of x.store.book) m y.disk.file)) [
+            | inl before ↦ inl (subst
+                (λ (m : Map). Opens classes SIZE_MAX y.disk.file m x.store.kept_book) before.0
+                (subst (λ (k : Book). Opens classes SIZE_MAX y.disk.file (state_on y).kept k) before.1
+                (batch_done first few kept).opens))
+            | inr such ↦ inr (
+              (state_on y).kept,
+              such.0,
+              record {
+                book = y.store.kept_book;
+                opens = (batch_done first few kept).opens;
+                same_version = such.1;
+              },
+            )
+          ];
+      sequence = low_now first;
+    };
   }
 
   pub stops_begun : (result : Result Bool BatchFault) → result ≢ Ok true

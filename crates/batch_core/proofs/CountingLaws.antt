@@ -49,13 +49,15 @@ module _ (again : Bool) (s : StoreValue) (changes : List Change) (rest behind : 
         (counted_from again (live_cap s) (n + 1) (is_live s) after next.others) (Some n) (test_is ∙ stops))
 
     pub counting_more : answer ≡ true → IsCounting again s changes behind left (n + 1)
-    counting_more goes = subst (λ (k : ℕ). IsCounting again s changes behind k (n + 1)) (sym left_is) (record {
-      others = next.others;
-      text = next.rest;
-      parts = (subst (λ (cs : List Change). AllByRecursion IsPart cs) next.first is.parts).1;
-      same = counted ∙ cond-true test
-          (counted_from again (live_cap s) (n + 1) (is_live s) after next.others) (Some n) (test_is ∙ goes);
-    })
+    counting_more goes =
+        subst (λ (k : ℕ). IsCounting again s changes behind k (n + 1)) (sym left_is) (record {
+          others = next.others;
+          text = next.rest;
+          parts = (subst (λ (cs : List Change). AllByRecursion IsPart cs) next.first is.parts).1;
+          same = counted ∙ cond-true test
+              (counted_from again (live_cap s) (n + 1) (is_live s) after next.others) (Some n)
+              (test_is ∙ goes);
+        })
 
 -- fewer than there may be are left
 pub counting_low : (some : Bool) (left cap : ℕ) (answer : Bool) → answer ≡ (some && nat_lt left cap)

@@ -1,5 +1,5 @@
 -- A batch that a store begins, goes on with, and ends.
-use Rattle.std.specs.Prelude.{◌≡◌, ℕ, ◌+◌, ◌≤◌, Bool, true, false, ◌||◌, if◌then◌else◌, List, [], ◌∷◌, ◌++◌, length, is_some, None, Result, Ok, Err, refl}
+use Rattle.std.specs.Prelude.{◌≡◌, ℕ, ◌+◌, ◌^◌, ◌≤◌, List, [], ◌∷◌, ◌++◌, length, None, Result, Ok, Err, refl}
 use Rattle.std.proofs.Common.{arith, ap, sym, ◌∙◌, subst, inl, inr, append-nil}
 use Rattle.std.specs.FinMap as fin
 use Rattle.std.specs.List.{AllByRecursion}
@@ -23,10 +23,10 @@ use Rattle.batch_model.proofs.NextLaws.{IsNext, cons_append, made-append, made_b
 use Rattle.batch_model.proofs.ViewLaws.{leaves_batch}
 use Rattle.batch_core.specs.Doing.{Batch, CanBegin, CanDo, CanEnd, CanGo, GoesOrStops, IsBatchMap, IsDoing, all_changes, begun, ended, half_done, requests_for}
 use Rattle.batch_core.specs.Going.{Goes, Going, Stops}
-use Rattle.batch_core.specs.Making.{CanMake, Makes, left_by, raised_by}
+use Rattle.batch_core.specs.Making.{CanMake, Makes, left_by, most_raised, raised_by}
 use Rattle.batch_core.specs.StoresOn.{StandsFor, StoreOn}
 use Rattle.batch_core.proofs.FitsLaws.{can_change, del_refused, keep_refused, part, put_refused, room_for, sized_len}
-use Rattle.batch_core.proofs.GoesLaws.{can_go_then, goes_none, goes_one, goes_then, going, stops_one, stops_then}
+use Rattle.batch_core.proofs.GoesLaws.{can_go_then, goes_none, goes_one, goes_then, going, raised_low, stops_one, stops_then}
 
 -- ---- the same, said otherwise
 
@@ -45,6 +45,7 @@ goes_as {classes} Such x y g requests n m same_requests low same_map first =
       block = first.block;
       version = first.version;
       reach = omega (arith, first.reach, low);
+      most = first.most;
       unbroken = first.unbroken;
       sound = first.sound;
       over = first.over;
@@ -57,19 +58,6 @@ pub same_cap : {classes : ℕ} (Such : Map → Type 0) (x y : StoreOn) (g : Goin
     → Goes classes Such x y g → live_cap y.store ≡ live_cap x.store
 same_cap Such x y g first = λ i. cap (ap (λ (u : SuperBlock). u.names) first.block i) (first.version i)
 
-raised_low : (r : Request) (m : Map) → raised_by r m ≤ 1
-raised_low (ask.change c) m = by (is_some c.object || fin.contains_key m c.name)
-  where
-    by : (b : Bool) → (if b then 1 else 0) ≤ 1
-    by true = omega arith
-    by false = omega arith
-raised_low (ask.get name) m = omega arith
-raised_low (ask.old name) m = omega arith
-raised_low ask.keep m = omega arith
-raised_low ask.back m = omega arith
-raised_low ask.list m = omega arith
-raised_low ask.stat m = omega arith
-
 -- requests, and then others, by the answer of those
 pub then_or : {classes : ℕ} {T E : Type 0} (b : Batch) (x y z : StoreOn) (g h : Going)
     → Goes classes (IsBatchMap b) x y g → (r : Result T E) → GoesOrStops classes b y z h r
@@ -79,15 +67,17 @@ then_or b x y z g h first (Err e) second = stops_then (IsBatchMap b) x y z g fir
 
 -- one request, by its answer
 pub one_or : {classes : ℕ} {T E : Type 0} (b : Batch) (x y : StoreOn) (r : Request) (m : Map)
-    → IsBatchMap b (left_by r m) → (answer : Result T E) → Makes classes r x y m answer
+    → IsBatchMap b (left_by r m) → x.store.in_use.sequence + most_raised ≤ 2 ^ 61 → (answer : Result T E)
+    → Makes classes r x y m answer
     → GoesOrStops classes b x y (going (r ∷ []) (raised_by r m) (left_by r m)) answer
-one_or b x y r m such (Ok u) k = goes_one (IsBatchMap b) x y r m such u k
-one_or b x y r m such (Err e) k = stops_one (IsBatchMap b) x y r m such e k
+one_or b x y r m such early (Ok u) k = goes_one (IsBatchMap b) x y r m such early u k
+one_or b x y r m such early (Err e) k = stops_one (IsBatchMap b) x y r m such early e k
 
 pub as_or : {T E : Type 0} (classes : ℕ) (b : Batch) (x y : StoreOn) (g : Going) (requests : List Request)
     (n : ℕ) (m : Map) (r : Result T E) → g.requests ≡ requests → g.made ≤ n → g.map ≡ m
     → GoesOrStops classes b x y g r → GoesOrStops classes b x y (going requests n m) r
-as_or classes b x y g requests n m (Ok u) same low is first = goes_as (IsBatchMap b) x y g requests n m same low is first
+as_or classes b x y g requests n m (Ok u) same low is first =
+    goes_as (IsBatchMap b) x y g requests n m same low is first
 as_or classes b x y g requests n m (Err e) same low is first = first
 
 -- a map of a batch, by how far it is
@@ -110,13 +100,15 @@ module _ {classes : ℕ} (x : StoreOn) (text : List ℕ) (b : Batch) (can : CanB
     begin_or : (answer : Result T E) → Makes classes (ask.change (put_of batch_name text)) x y b.map answer
         → GoesOrStops classes b x y (going (ask.change (put_of batch_name b.text) ∷ []) 1 (half_done b []))
         answer
-    begin_or answer k = as_or classes b x y _ (ask.change (put_of batch_name b.text) ∷ []) 1 (half_done b []) answer
-        refl (raised_low (ask.change (put_of batch_name b.text)) b.map) refl
-        (one_or b x y (ask.change (put_of batch_name b.text)) b.map (half_map b [] b.changes refl) answer
+    begin_or answer k = as_or classes b x y _ (ask.change (put_of batch_name b.text) ∷ []) 1 (half_done b [])
+        answer refl (raised_low (ask.change (put_of batch_name b.text)) b.map) refl
+        (one_or b x y (ask.change (put_of batch_name b.text)) b.map (half_map b [] b.changes refl)
+        (omega (arith, can.early)) answer
         (subst (λ (t : List ℕ). Makes classes (ask.change (put_of batch_name t)) x y b.map answer)
         (sym can.same_text) k))
 
-    module _ (u : T) (k : Makes {T = T} {E = E} classes (ask.change (put_of batch_name text)) x y b.map (Ok u)) where
+    module _ (u : T) (k : Makes {T = T} {E = E} classes (ask.change (put_of batch_name text)) x y b.map
+        (Ok u)) where
       begun_one : Goes classes (IsBatchMap b) x y
           (going (ask.change (put_of batch_name b.text) ∷ []) 1 (half_done b []))
       begun_one = begin_or (Ok u) k
@@ -134,9 +126,11 @@ module _ {classes : ℕ} (x : StoreOn) (text : List ℕ) (b : Batch) (can : CanB
           → Makes classes ask.keep y z (half_done b []) answer
           → GoesOrStops classes b x z (begun b) answer
       begun_or z answer k = then_or b x y z _ _ begun_one answer
-          (one_or b y z ask.keep (half_done b []) (half_map b [] b.changes refl) answer k)
+          (one_or b y z ask.keep (half_done b []) (half_map b [] b.changes refl)
+          (omega (arith, begun_one.reach, can.early)) answer k)
 
-    pub begin_stops : (e : E) → Makes {T = T} {E = E} classes (ask.change (put_of batch_name text)) x y b.map (Err e)
+    pub begin_stops : (e : E)
+        → Makes {T = T} {E = E} classes (ask.change (put_of batch_name text)) x y b.map (Err e)
         → Stops classes (IsBatchMap b) x y
     begin_stops e k = begin_or (Err e) k
 
@@ -159,12 +153,13 @@ module _ {classes : ℕ} (x : StoreOn) (b : Batch) (can : CanEnd classes x b) wh
         → Makes classes (ask.change (del_of batch_name)) x y (half_done b b.changes) answer
         → GoesOrStops classes b x y (going (ask.change (del_of batch_name) ∷ []) 1 (applied b.changes b.map))
         answer
-    end_or answer k = as_or classes b x y _ (ask.change (del_of batch_name) ∷ []) 1 (applied b.changes b.map) answer
-        refl (raised_low (ask.change (del_of batch_name)) (half_done b b.changes)) gone
-        (one_or b x y (ask.change (del_of batch_name)) (half_done b b.changes) (inr gone) answer k)
+    end_or answer k = as_or classes b x y _ (ask.change (del_of batch_name) ∷ []) 1 (applied b.changes b.map)
+        answer refl (raised_low (ask.change (del_of batch_name)) (half_done b b.changes)) gone
+        (one_or b x y (ask.change (del_of batch_name)) (half_done b b.changes) (inr gone)
+        (omega (arith, can.early)) answer k)
 
-    module _ (u : T) (k : Makes {T = T} {E = E} classes (ask.change (del_of batch_name)) x y (half_done b b.changes)
-        (Ok u)) where
+    module _ (u : T) (k : Makes {T = T} {E = E} classes (ask.change (del_of batch_name)) x y
+        (half_done b b.changes) (Ok u)) where
       ended_one : Goes classes (IsBatchMap b) x y
           (going (ask.change (del_of batch_name) ∷ []) 1 (applied b.changes b.map))
       ended_one = end_or (Ok u) k
@@ -182,7 +177,8 @@ module _ {classes : ℕ} (x : StoreOn) (b : Batch) (can : CanEnd classes x b) wh
           → Makes classes ask.keep y z (applied b.changes b.map) answer
           → GoesOrStops classes b x z (ended b) answer
       ended_or z answer k = then_or b x y z _ _ ended_one answer
-          (one_or b y z ask.keep (applied b.changes b.map) all_gone answer k)
+          (one_or b y z ask.keep (applied b.changes b.map) all_gone
+          (omega (arith, ended_one.reach, can.early)) answer k)
 
     pub end_stops : (e : E) → Makes {T = T} {E = E} classes (ask.change (del_of batch_name)) x y
         (half_done b b.changes) (Err e) → Stops classes (IsBatchMap b) x y
@@ -234,6 +230,9 @@ module _ {classes : ℕ} (x : StoreOn) (text : List ℕ) (b : Batch) (can : CanD
     pub doing_go : CanGo classes y
     doing_go = can_go_then (IsBatchMap b) x y y _ is.goes
 
+    doing_early : y.store.in_use.sequence + most_raised ≤ 2 ^ 61
+    doing_early = omega (arith, is.goes.reach, can.early, made_low)
+
     pub doing_may : CanMake y.store (ask.change d)
     doing_may = can_change b (live_cap x.store) batch can.free can.fits is.finished d next.others split_next y
         doing_go is.goes.stands (sym (same_cap (IsBatchMap b) x y _ is.goes))
@@ -275,14 +274,14 @@ module _ {classes : ℕ} (x : StoreOn) (text : List ℕ) (b : Batch) (can : CanD
           (made (is.finished ++ d ∷ []) b.map) (half_done b (is.finished ++ d ∷ []))
           (sym (requests_push is.finished d)) made_next map_next
           (goes_then (IsBatchMap b) x y z _ is.goes _ (goes_one (IsBatchMap b) y z (ask.change d)
-          (half_done b is.finished) such u k));
+          (half_done b is.finished) such doing_early u k));
     }
 
     pub doing_stops : {T E : Type 0} (z : StoreOn) (e : E)
         → Makes {T = T} {E = E} classes (ask.change d) y z (half_done b is.finished) (Err e)
         → Stops classes (IsBatchMap b) x z
     doing_stops z e k = stops_then (IsBatchMap b) x y z _ is.goes (stops_one (IsBatchMap b) y z (ask.change d)
-        (half_done b is.finished) such e k)
+        (half_done b is.finished) such doing_early e k)
 
   pub doing_done : (y : StoreOn) (rest : List ℕ) → IsDoing classes b x y rest → IsNoPart rest
       → Goes classes (IsBatchMap b) x y (all_changes b)

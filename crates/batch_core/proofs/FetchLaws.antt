@@ -18,21 +18,22 @@ use Rattle.store_core.specs.Answers.{AnswersFetch, refusal_for, refused_by, size
 use Rattle.store_core.proofs.CauseLaws.{calm_disk, disk_cause_as}
 use Rattle.store_core.specs.Readings.{digest_read}
 use Rattle.store_core.specs.Reads as reads
-use Rattle.store_model.specs.Connection.{IsOver, StoreValue, state_of}
+use Rattle.store_model.specs.Connection.{IsOver, StoreValue, base_of, state_of}
 use Rattle.store_model.specs.Digested.{digest_of}
 use Rattle.store_model.specs.States.{State, object_in}
 use Rattle.store_model.specs.Stores.{IsStore}
-use Rattle.table_rules.specs.Opening.{Opens}
-use Rattle.store_model.proofs.OverLaws.{kept_image}
+use Rattle.store_model.proofs.OverLaws.{kept_image, same_itself}
 use Rattle.store_model.proofs.StoreLaws.{small_object}
 use Rattle.batch_model.specs.Batches.{batch_name}
-use Rattle.batch_core.specs.Answers.{AnswersFinish, FetchedAs, Finishes, IsFetched, IsKeptText, JudgesKept, fetched_of, is_begun, is_disk_fault}
-use Rattle.batch_core.specs.Doing.{CanGo}
+use Rattle.batch_core.specs.Answers.{AnswersFinish, FetchedAs, Finishes, IsFetched, IsKeptText, JudgesKept, fetched_of, is_begun, is_disk_fault, kept_batch}
+use Rattle.batch_core.specs.Doing.{CanGo, IsBatchMap}
+use Rattle.batch_core.specs.Going.{IsLeft}
 use Rattle.batch_core.specs.StoresOn.{StoreOn, state_on, store_on}
 use Rattle.batch_core.specs.declared.fault.BatchFault.{BatchFault}
 use Rattle.batch_core.specs.declared.fault.BatchFault.TheVariants as fault
 use Rattle.batch_core.proofs.ApplyLaws.{stands_some}
-use Rattle.batch_core.proofs.MakeLaws.{sized_live}
+use Rattle.batch_core.proofs.GoesLaws.{kept_left}
+use Rattle.batch_core.proofs.RequestLaws.{sized_live}
 use Rattle.batch_core.proofs.ServedLaws.{refused_whole}
 
 some_object : (m : Map) (name : List ℕ) → fin.contains_key m name ≡ true
@@ -65,12 +66,17 @@ module _ {classes : ℕ} (x : StoreOn) (go : CanGo classes x) where
       by None is = omega arith
       by (Some s) is = small_object x.store go.sound batch_name s is
 
-  map_live : fin.contains_key x.store.now batch_name ≡ true → IsTrue x.disk.tells
+  pub map_live : fin.contains_key x.store.now batch_name ≡ true → IsTrue x.disk.tells
       → fin.contains_key (state_on x).map batch_name ≡ true
   map_live live told =
       let held = stands_some x go in
       ap (λ (m : Map). fin.contains_key m batch_name) (held.1.told told)
       ∙ sized_live held.0 x.store.now batch_name held.1.sized ∙ live
+
+  -- what the state keeps as a batch
+  pub there : IsTrue (fin.contains_key x.store.now batch_name) → IsTrue x.disk.tells
+      → fin.get (state_on x).map batch_name ≡ Some (object_in (state_on x).map batch_name)
+  there live told = some_object (state_on x).map batch_name (map_live live told)
 
   none_refused : fin.contains_key x.store.now batch_name ≡ true
       → refused_by x.store (ask.get batch_name) ≡ None
@@ -146,7 +152,8 @@ module _ {classes : ℕ} (x : StoreOn) (go : CanGo classes x) where
               sym (ap fetched_of ok) ∙ is in cc)
           | inr rest ↦ elim rest as (λ _. r ≡ Err why.Disk) [
             | inl failed ↦ failed
-            | inr bad ↦ absurd (let e : Err fault.Damaged ≡ Err fault.Disk = sym (ap fetched_of bad) ∙ is in cc)
+            | inr bad ↦
+                absurd (let e : Err fault.Damaged ≡ Err fault.Disk = sym (ap fetched_of bad) ∙ is in cc)
           ]
         ]
         by false gone = absurd (let e : Ok None ≡ Err fault.Disk = sym (ap fetched_of (missing r answer gone))
@@ -196,7 +203,8 @@ gone_by s (Err why) answer none = tt
 
 -- ---- what a read leaves
 
-module _ {classes : ℕ} (x : StoreOn) (go : CanGo classes x) (d : disk.State) (frame : Unchanged x.disk d) where
+module _ {classes : ℕ} (x : StoreOn) (go : CanGo classes x) (d : disk.State)
+    (frame : Unchanged x.disk d) where
   told_before : IsTrue d.tells → IsTrue x.disk.tells
   told_before told = subst IsTrue frame.stays.told told
 
@@ -233,6 +241,7 @@ module _ {classes : ℕ} (x : StoreOn) (go : CanGo classes x) (d : disk.State) (
   still_finishes result calm answer judged none other = record {
     answer = answer;
     judged = judged;
+    fails = λ bad. absurd (let e : true ≡ false = sym bad ∙ other in cc);
     same = λ begun. record { same_store = refl; same_disk = frame; same_faults = calm };
     begun = λ bad. absurd (let e : true ≡ false = sym bad ∙ none in cc);
     over = go_after.over;
@@ -265,17 +274,17 @@ module _ {classes : ℕ} (x : StoreOn) (go : CanGo classes x) (d : disk.State) (
   fault_finishes text fault.Disk is cause = record {
     answer = (go.whole, is);
     judged = λ told. tt;
+    fails = λ _ told. inr (refl, frame);
     same = λ bad. absurd (cc);
     begun = λ _ told changes batch. record {
       done = λ bad. absurd (cc);
-      left = λ rest. Leaves-weaken _ (λ image may. inl (kept_image x.store go.sound x.disk.file
-          (go.over.over go.whole told) image (rest image may)).opens) frame.since;
-      content = inl (subst (λ (f : List ℕ). Opens classes SIZE_MAX f (state_on x).kept x.store.kept_book)
+      left = λ rest. Leaves-weaken _ (λ image may. kept_left _ x image (kept_image x.store go.sound
+          x.disk.file (go.over.over go.whole told) image (rest image may))) frame.since;
+      content = subst (λ (f : List ℕ). IsLeft classes (IsBatchMap (kept_batch x changes)) x f)
           (sym (frame.same_file told))
-          (record {
-            table = (go.over.over go.whole told).table;
-            opens = (go.over.over go.whole told).checkpoint.opens;
-          }));
+          (kept_left (IsBatchMap (kept_batch x changes)) x x.disk.file
+          (kept_image x.store go.sound x.disk.file (go.over.over go.whole told) x.disk.file
+          (same_itself (base_of x.store) x.store.kept x.disk.file)));
     };
     over = go_after.over;
     broken = record { calm = λ bad. absurd (cc); failed = λ bad. inr (refl, frame) };

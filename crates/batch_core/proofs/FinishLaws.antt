@@ -1,6 +1,7 @@
 -- What `finish` does once the text was read.
-use Rattle.std.specs.Prelude.{◌≡◌, ℕ, ◌+◌, ◌<◌, nat_lt, Bool, true, false, cond, if◌then◌else◌, List, [], ◌∷◌, ◌++◌, length, is_some, Option, Some, None, option_map, Result, Ok, Err, IsTrue, refl}
+use Rattle.std.specs.Prelude.{◌≡◌, ℕ, ◌+◌, ◌^◌, ◌<◌, nat_lt, Bool, true, false, cond, if◌then◌else◌, List, [], ◌∷◌, ◌++◌, length, is_some, Option, Some, None, option_map, Result, Ok, Err, IsTrue, refl}
 use Rattle.std.proofs.Common.{arith, ap, sym, ◌∙◌, subst, inl}
+use Rattle.std.proofs.Math.Nat.{le-max_left}
 use Rattle.std.proofs.lemmas.Bool.{cond-false}
 use Rattle.std.specs.FinMap as fin
 use Rattle.std.specs.List.{AllByRecursion}
@@ -31,11 +32,11 @@ use Rattle.batch_core.specs.Going.{Goes, IsLeft, Stops}
 use Rattle.batch_core.specs.StoresOn.{StandsFor, StoreOn, state_on, store_on}
 use Rattle.batch_core.specs.declared.fault.BatchFault.{BatchFault}
 use Rattle.batch_core.specs.declared.fault.BatchFault.TheVariants as fault
-use Rattle.batch_core.proofs.ApplyLaws.{absent_stands, few_made_by, goes_begun, stops_begun}
-use Rattle.batch_core.proofs.FetchLaws.{gone_by, whole_by}
+use Rattle.batch_core.proofs.ApplyLaws.{absent_stands, few_made_by, goes_begun, stands_some, stops_begun}
+use Rattle.batch_core.proofs.FetchLaws.{gone_by, there, whole_by}
 use Rattle.batch_core.proofs.FitsLaws.{len_more, sized_len}
-use Rattle.batch_core.proofs.GoesLaws.{goes_then, going, stops_then}
-use Rattle.batch_core.proofs.MakeLaws.{sized_live}
+use Rattle.batch_core.proofs.GoesLaws.{goes_then, going, kept_left, stops_then}
+use Rattle.batch_core.proofs.RequestLaws.{sized_live}
 
 -- ---- a disk that was read
 
@@ -53,15 +54,16 @@ module _ {classes : ℕ} (s : StoreValue) (a d : disk.State) (go : CanGo classes
   pub goes_read : (Such : Map → Type 0) (m : Map) → StandsFor (store_on s d) m
       → Goes classes Such (store_on s a) (store_on s d) (going [] 0 m)
   goes_read Such m stands = record {
+    most = le-max_left s.in_use.sequence (2 ^ 61);
     ran = λ told. ([], same_state told);
     stands = stands;
     kept = λ told. inl (ap (λ (t : State). t.kept) (same_state told), refl);
     rests = λ told rest image may. subst (λ (f : List ℕ). SameOnTable (base_of s) s.kept f image)
         (sym (read.frame.same_file told)) (rest image (read.frame.images image may));
     left = λ told rest. Leaves-weaken (IsLeft classes Such (store_on s a)) (λ image may.
-        inl (kept_image s go.sound a.file
+        kept_left Such (store_on s a) image (kept_image s go.sound a.file
         (subst (λ (f : List ℕ). IsOver classes s f) (read.frame.same_file told)
-        (go.over.over go.whole (told_read told))) image (rest image may)).opens) read.frame.since;
+        (go.over.over go.whole (told_read told))) image (rest image may))) read.frame.since;
     block = refl;
     version = refl;
     reach = omega arith;
@@ -157,7 +159,7 @@ module _ {classes : ℕ} (x : StoreOn) (text : List ℕ) (go : CanGo classes x) 
     abbrev pub kept_as : Batch
     kept_as = record { text = text; changes = judged.0.changes; map = beside }
 
-    fits_kept : misfit true (live_cap x.store) beside judged.0.changes ≡ None
+    pub fits_kept : misfit true (live_cap x.store) beside judged.0.changes ≡ None
     fits_kept = sym (fits_beside judged.0.changes judged.0.batch) ∙ judged.0.fits
 
     pub can_finish : CanDo classes x text kept_as
@@ -197,6 +199,7 @@ module _ {classes : ℕ} (s : StoreValue) (a d : disk.State) (text : List ℕ)
   read_finishes result answer judged none calm = record {
     answer = answer;
     judged = judged;
+    fails = λ bad. absurd (let e : true ≡ false = sym bad ∙ calm in cc);
     same = λ other. record { same_store = refl; same_disk = read.frame; same_faults = read.calm };
     begun = λ bad. absurd (let e : true ≡ false = sym bad ∙ none in cc);
     over = go.over;
@@ -221,7 +224,8 @@ module _ {classes : ℕ} (s : StoreValue) (a d : disk.State) (text : List ℕ)
       (λ told. (sound_first told, subst (λ (t : List ℕ). IsNoBatch t) (text_first told) is.1)) refl refl
   judged_finishes (fault.Line n) is = absurd (let bad : true ≡ false = is.0 in cc)
   judged_finishes (fault.Unfit n) is = read_finishes (Err (fault.Unfit n)) pending
-      (λ told. (sound_first told, subst (λ (t : List ℕ). HasMisfit true s t n) (text_first told) is)) refl refl
+      (λ told. (sound_first told, subst (λ (t : List ℕ). HasMisfit true s t n) (text_first told) is)) refl
+      refl
   judged_finishes fault.Worn is = read_finishes (Err fault.Worn) (pending, is.2)
       (λ told. (sound_first told, subst (λ (t : List ℕ). HasFit true s t) (text_first told) is.0)) refl refl
   judged_finishes fault.Disk is = absurd (is)
@@ -269,8 +273,13 @@ module _ {classes : ℕ} (s : StoreValue) (a d : disk.State) (text : List ℕ)
             subst (λ (t : List ℕ). HasFit true s t) (text_first told) judged.0,
           );
           same = λ bad. absurd (cc);
+          fails = λ bad. absurd (cc);
           begun = λ _ told. begun_kept (Ok true) told (goes_begun x y b judged.0.batch
-              (beside_free (store_on s d) text go kept m stands) _ refl told (Ok true) all now);
+              (beside_free (store_on s d) text go kept m stands) _ refl told (Ok true) all (omega (
+                arith,
+                few_made_by (store_on s d) true b go judged.0.batch
+                    (fits_kept (store_on s d) text go kept m stands judged),
+              )) now);
           over = goes.over;
           broken = record {
             calm = λ other. goes.unbroken ∙ sym go.whole;
@@ -278,7 +287,8 @@ module _ {classes : ℕ} (s : StoreValue) (a d : disk.State) (text : List ℕ)
           };
           whole = (goes.unbroken, goes.sound);
           gone = absent_stands y (applied b.changes b.map) batch_name goes.stands
-              (leaves_batch b.changes b.map judged.0.batch.parts ∙ beside_free (store_on s d) text go kept m stands);
+              (leaves_batch b.changes b.map judged.0.batch.parts
+              ∙ beside_free (store_on s d) text go kept m stands);
           frame = all.frame;
           cause = calm_disk (λ is. cc) all.calm;
         }
@@ -290,6 +300,11 @@ module _ {classes : ℕ} (s : StoreValue) (a d : disk.State) (text : List ℕ)
         record {
           answer = pending;
           judged = λ told. tt;
+          fails = λ _ told. inl (record {
+            sound = sound_first told;
+            fit = subst (λ (t : List ℕ). HasFit true s t) (text_first told) judged.0;
+            early = early;
+          });
           same = λ bad. absurd (cc);
           begun = λ _ told. begun_kept (Err fault.Disk) told (stops_begun x y b judged.0.batch
               (beside_free (store_on s d) text go kept m stands) (all_done b) refl told (Err fault.Disk)
@@ -308,3 +323,35 @@ module _ {classes : ℕ} (s : StoreValue) (a d : disk.State) (text : List ℕ)
             calm = λ other. absurd (other refl);
           };
         }
+
+-- ---- by the state
+
+module _ {classes : ℕ} (x : StoreOn) (go : CanGo classes x) (told : IsTrue x.disk.tells)
+    (live : IsTrue (fin.contains_key x.store.now batch_name)) where
+  -- what is kept, as it would be read
+  kept_itself : IsSound x → IsKeptText x (kept_text x)
+  kept_itself sound =
+      let held = stands_some x go in
+      record {
+        pending = live;
+        long = sizes (fin.get x.store.now batch_name) (fin.get (state_on x).map batch_name) live
+            (there x go live told) (subst (λ (m : Map). option_map length (fin.get m batch_name)
+            ≡ option_map (λ (s : Spot). s.size) (fin.get x.store.now batch_name)) (sym (held.1.told told))
+            (held.1.sized batch_name));
+        same = λ _. refl;
+        sound = λ _. sound;
+      }
+    where
+      sizes : (p : Option Spot) (o : Option (List ℕ)) → IsTrue (is_some p) → o ≡ Some (kept_text x)
+          → option_map length o ≡ option_map (λ (s : Spot). s.size) p → size_at p ≡ length (kept_text x)
+      sizes None o some is same = absurd (cc)
+      sizes (Some s) o some is same =
+          let e : Some (length (kept_text x)) ≡ Some s.size = sym (ap (option_map length) is) ∙ same in cc
+
+  -- whether a batch fits beside the store is whether it fits the map of its state without the batch
+  pub fits_state : IsSound x → (changes : List Change) → IsBatch (kept_text x) changes
+      → misfit_in true x.store changes ≡ misfit true (live_cap x.store) (unbatched (state_on x).map) changes
+  fits_state sound changes batch =
+      let held = stands_some x go in
+      fits_beside x (kept_text x) go (kept_itself sound) held.0 held.1 changes batch
+      ∙ ap (λ (m : Map). misfit true (live_cap x.store) (unbatched m) changes) (sym (held.1.told told))

@@ -32,7 +32,7 @@ use Rattle.batch_model.proofs.ViewLaws.{front_parts, leaves_batch}
 use Rattle.batch_core.specs.Doing.{Batch, CanGo, half_done}
 use Rattle.batch_core.specs.Making.{CanMake}
 use Rattle.batch_core.specs.StoresOn.{StandsFor, StoreOn}
-use Rattle.batch_core.proofs.MakeLaws.{sized_live}
+use Rattle.batch_core.proofs.RequestLaws.{sized_live}
 use Rattle.batch_core.proofs.ServedLaws.{refused_whole}
 
 -- ---- counts

@@ -73,7 +73,8 @@ missing_gone limits f c is = by c.object refl
     by None e = (
       e,
       not_true f.is_live (three (not (is_name c.name)) (not f.is_live) (nat_le refused_from f.sequence)
-          (subst (λ (o : Option (List ℕ)). refusal limits f (ask.change (record { name = c.name; object = o }))
+          (subst (λ (o : Option (List ℕ)).
+          refusal limits f (ask.change (record { name = c.name; object = o }))
           ≡ Some ask.missing) e is)),
     )
     by (Some object) e = absurd (four (not (is_name c.name)) (nat_lt limits.size_max (length object))

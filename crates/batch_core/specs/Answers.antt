@@ -1,5 +1,5 @@
 -- What the calls of a batcher answer, and what they leave.
-use Rattle.std.specs.Prelude.{◌≡◌, ◌≢◌, ◌⊎◌, ℕ, ◌<◌, ◌≤◌, Bool, true, false, ◌||◌, List, [], ◌∷◌, ◌++◌, length, take, Option, Some, None, Result, Ok, Err, IfOk, IsTrue}
+use Rattle.std.specs.Prelude.{◌≡◌, ◌≢◌, ◌⊎◌, ℕ, ◌+◌, ◌<◌, ◌^◌, ◌≤◌, Bool, true, false, ◌||◌, List, [], ◌∷◌, ◌++◌, length, take, Option, Some, None, Result, Ok, Err, IfOk, IsTrue}
 use Rattle.std.specs.FinMap as fin
 use Rattle.disk_face.specs.States as disk
 use Rattle.disk_face.specs.Frames.{Unchanged}
@@ -14,7 +14,7 @@ use Rattle.store_core.specs.declared.answers.Refusal.{Refusal}
 use Rattle.store_core.specs.declared.answers.Refusal.TheVariants as why
 use Rattle.store_core.specs.Answers.{size_at}
 use Rattle.store_core.specs.Changes.{NothingChanged}
-use Rattle.store_model.specs.Connection.{IsConnected, StoreValue, limits_of}
+use Rattle.store_model.specs.Connection.{IsConnected, StoreValue, limits_of, live_cap}
 use Rattle.store_model.specs.States.{Run, object_in}
 use Rattle.store_model.specs.Stores.{IsStore}
 use Rattle.store_model.specs.Quiet.{put_of}
@@ -110,11 +110,16 @@ requests_of text changes = ask.change (put_of batch_name text) ∷ ask.keep ∷ 
 -- ---- a batch that was begun
 
 -- All of a batch was done: its requests were made one after another, what stands is the map after its
--- changes, which is the checkpoint, and a crash leaves that alone.
+-- changes, which is the checkpoint, and a crash leaves that alone. As many names may be live, and the
+-- sequence rose by less than 2^25.
 pub record IsBatchDone (classes : ℕ) (b : Batch) (requests : List Request) (old new : StoreOn) : Type 0 where
   pub ran : (replies : List Reply) × Run (limits_of old.store) (state_on old) requests replies (state_on new)
   pub same_map : (state_on new).map ≡ applied b.changes b.map
   pub kept : (state_on new).kept ≡ applied b.changes b.map
+  pub kept_book : new.store.kept_book ≡ new.store.book
+  pub block : new.store.in_use.block ≡ old.store.in_use.block
+  pub same_cap : live_cap new.store ≡ live_cap old.store
+  pub reach : new.store.in_use.sequence < old.store.in_use.sequence + 2 ^ 25
   pub gone : fin.get (applied b.changes b.map) batch_name ≡ None
   pub opens : OpensToLast classes new new.disk.file
   pub rests : RestsOn old → RestsOn new
@@ -134,18 +139,18 @@ SameUnbegun old new result = is_begun result ≡ false
     → NothingChanged old.store new.store old.disk new.disk
 
 -- What `apply` does. Nothing changes where no batch was begun; the store is broken where the disk failed.
-pub record Applies (classes : ℕ) (text : List ℕ) (old new : StoreOn) (result : Result Bool BatchFault) : Type 0
-  where
-    pub answer : AnswersApply old.store text result
-    pub same : SameUnbegun old new result
-    pub begun : is_begun result ≡ true → IsTrue old.disk.tells → (changes : List Change)
-        → IsBatch text changes
-        → IsBegun classes (applied_to old text changes) (requests_of text changes) old new result
-    pub over : IsConnected classes new.store new.disk
-    pub broken : new.store.is_broken ≡ (old.store.is_broken || is_disk_fault result)
-    pub sound : IfOk result (λ done. IsStore classes new.store)
-    pub frame : KeepsDisk old.disk new.disk
-    pub cause : HasDiskCause fault.Disk old.disk.faults new.disk.faults result
+pub record Applies (classes : ℕ) (text : List ℕ) (old new : StoreOn) (result : Result Bool BatchFault)
+    : Type 0 where
+  pub answer : AnswersApply old.store text result
+  pub same : SameUnbegun old new result
+  pub begun : is_begun result ≡ true → IsTrue old.disk.tells → (changes : List Change)
+      → IsBatch text changes
+      → IsBegun classes (applied_to old text changes) (requests_of text changes) old new result
+  pub over : IsConnected classes new.store new.disk
+  pub broken : new.store.is_broken ≡ (old.store.is_broken || is_disk_fault result)
+  pub sound : IfOk result (λ done. IsStore classes new.store)
+  pub frame : KeepsDisk old.disk new.disk
+  pub cause : HasDiskCause fault.Disk old.disk.faults new.disk.faults result
 
 -- ---- finish
 
@@ -186,21 +191,36 @@ AnswersFinish s (Err (fault.Unfit n)) = IsPending s
 AnswersFinish s (Err fault.Worn) = IsPending s × (worn_from ≤ s.in_use.sequence)
 AnswersFinish s (Err fault.Disk) = IsPending s
 
+-- neither the store nor the disk changed
+abbrev pub ChangesNothing : StoreOn → StoreOn → Type 0
+ChangesNothing old new = (new.store ≡ old.store) × Unchanged old.disk new.disk
+
 -- A store is broken by a request in which the disk failed; where it failed as the text was read, nothing
 -- changed.
 pub record BreaksBy (old new : StoreOn) (result : Result Bool BatchFault) : Type 0 where
   pub calm : is_disk_fault result ≡ false → new.store.is_broken ≡ old.store.is_broken
-  pub failed : is_disk_fault result ≡ true → (new.store.is_broken ≡ true)
-      ⊎ ((new.store ≡ old.store) × Unchanged old.disk new.disk)
+  pub failed : is_disk_fault result ≡ true → (new.store.is_broken ≡ true) ⊎ ChangesNothing old new
+
+-- the batch that a store keeps isn't damaged, fits beside it, and may be begun
+pub record MayFinish (x : StoreOn) : Type 0 where
+  pub sound : IsSound x
+  pub fit : HasFit true x.store (kept_text x)
+  pub early : x.store.in_use.sequence < worn_from
+
+-- the disk failed in a batch that may be begun, or nothing changed
+abbrev pub FailsIn : StoreOn → StoreOn → Type 0
+FailsIn old new = MayFinish old ⊎ ChangesNothing old new
 
 -- the batch that a store keeps, over a disk that tells its content
 abbrev pub kept_batch : StoreOn → List Change → Batch
 kept_batch x changes = record { text = kept_text x; changes = changes; map = unbatched (state_on x).map }
 
--- What `finish` does. Nothing changes where no batch was begun, and after it a store keeps none.
+-- What `finish` does. Nothing changes where no batch was begun, and after it a store keeps none. The disk's
+-- fault comes in a batch that may be begun, or changes nothing.
 pub record Finishes (classes : ℕ) (old new : StoreOn) (result : Result Bool BatchFault) : Type 0 where
   pub answer : AnswersFinish old.store result
   pub judged : IsTrue old.disk.tells → JudgesKept old result
+  pub fails : is_disk_fault result ≡ true → IsTrue old.disk.tells → FailsIn old new
   pub same : SameUnbegun old new result
   pub begun : is_begun result ≡ true → IsTrue old.disk.tells → (changes : List Change)
       → IsBatch (kept_text old) changes

@@ -1,22 +1,28 @@
 -- Requests of a batch that a store has made one after another, and what was left meanwhile.
-use Rattle.std.specs.Prelude.{◌≡◌, ◌⊎◌, ℕ, ◌+◌, ◌*◌, ◌≤◌, true, false, List, None, IsTrue}
+use Rattle.std.specs.Prelude.{◌≡◌, ◌⊎◌, ℕ, ◌+◌, ◌*◌, ◌^◌, ◌≤◌, max, true, false, List, None, IsTrue}
 use Rattle.disk_face.specs.Counts.{Rose}
 use Rattle.disk_face.specs.Moments.{Leaves}
 use Rattle.disk_face.specs.Writes.{KeepsDisk}
 use Rattle.map_model.specs.Maps.{Map}
 use Rattle.map_model.specs.Requests.{Reply, Request}
 use Rattle.segment_layout.specs.Books.{version_of}
+use Rattle.table_rules.specs.Sequences.{HasSequenceUpTo}
 use Rattle.store_model.specs.Connection.{IsConnected, limits_of}
 use Rattle.store_model.specs.States.{Run}
 use Rattle.store_model.specs.Stores.{IsStore}
 use Rattle.batch_core.specs.Making.{OpensAs, OpensToLast, most_raised}
 use Rattle.batch_core.specs.StoresOn.{RestsOn, StandsFor, StoreOn, state_on}
 
+-- the sequence of a store, or the one from which on it refuses, if that is greater
+abbrev pub most_after : StoreOn → ℕ
+most_after x = max x.store.in_use.sequence (2 ^ 61)
+
 -- An image opens to the last checkpoint of a store, or to such a map and a book of the version of the
--- store's.
-abbrev pub IsLeft : ℕ → (Map → Type 0) → StoreOn → List ℕ → Type 0
-IsLeft classes Such x image = OpensToLast classes x image
-    ⊎ ((m : Map) × Such m × OpensAs classes (version_of x.store.book) m image)
+-- store's, by a table with at most that sequence.
+pub record IsLeft (classes : ℕ) (Such : Map → Type 0) (x : StoreOn) (image : List ℕ) : Type 0 where
+  pub opens : OpensToLast classes x image
+      ⊎ ((m : Map) × Such m × OpensAs classes (version_of x.store.book) m image)
+  pub sequence : HasSequenceUpTo (most_after x) image
 
 -- The last checkpoint is the one before, or is of such a map, with a book of the version before.
 abbrev pub KeepsSuch : (Map → Type 0) → StoreOn → StoreOn → Type 0
@@ -42,6 +48,7 @@ pub record Goes (classes : ℕ) (Such : Map → Type 0) (old new : StoreOn) (g :
   pub block : new.store.in_use.block ≡ old.store.in_use.block
   pub version : version_of new.store.book ≡ version_of old.store.book
   pub reach : new.store.in_use.sequence ≤ old.store.in_use.sequence + most_raised * g.made
+  pub most : new.store.in_use.sequence ≤ most_after old
   pub unbroken : new.store.is_broken ≡ false
   pub sound : IsStore classes new.store
   pub over : IsConnected classes new.store new.disk

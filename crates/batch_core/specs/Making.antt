@@ -9,6 +9,7 @@ use Rattle.map_model.specs.Requests as ask
 use Rattle.map_model.specs.Requests.{Change, Reply, Request, changed}
 use Rattle.segment_layout.specs.Books.{Book, version_of}
 use Rattle.table_rules.specs.Opening.{Opens}
+use Rattle.table_rules.specs.Sequences.{HasSequenceUpTo}
 use Rattle.store_core.specs.Answers.{refused_by}
 use Rattle.store_core.specs.declared.answers.Done.{Done}
 use Rattle.store_core.specs.declared.answers.Refusal.{Refusal}
@@ -61,10 +62,11 @@ pub record IsDone (classes : ℕ) (r : Request) (old new : StoreOn) (m : Map) : 
   pub reach : new.store.in_use.sequence ≤ old.store.in_use.sequence + most_raised * raised_by r m
   pub sound : IsStore classes new.store
 
--- What is left meanwhile opens to the last checkpoint, or to the map after the request.
-abbrev pub IsMakingImage : ℕ → StoreOn → Map → List ℕ → Type 0
-IsMakingImage classes old m image = OpensToLast classes old image
-    ⊎ OpensAs classes (version_of old.store.book) m image
+-- What is left meanwhile opens to the last checkpoint, or to the map after the request, by a table with a
+-- sequence that the request may raise it to.
+pub record IsMakingImage (classes : ℕ) (old : StoreOn) (m : Map) (image : List ℕ) : Type 0 where
+  pub opens : OpensToLast classes old image ⊎ OpensAs classes (version_of old.store.book) m image
+  pub sequence : HasSequenceUpTo (old.store.in_use.sequence + most_raised) image
 
 -- A request was made by a store that stands for a map, whether the disk fails or not.
 pub record Makes {T E : Type 0} (classes : ℕ) (r : Request) (old new : StoreOn) (m : Map)

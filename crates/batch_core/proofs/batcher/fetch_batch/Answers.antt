@@ -29,7 +29,8 @@ returns-clause-fetched g c = subst (λ (r : Result (Option ℕ) BatchFault). IsF
     c.fetch-answer.new.out r)
     (sym c.fetched.ensures)
     (fetch_is (store_on c.args.store.now (g.D.Disk.state c.args.disk.now)) c.requires.go
-    (g.D.Disk.state c.fetch-answer.new.disk) c.fetch-answer.new.out (omega (arith, c.requires.room, c.fetch-answer.auto.out))
+    (g.D.Disk.state c.fetch-answer.new.disk) c.fetch-answer.new.out
+    (omega (arith, c.requires.room, c.fetch-answer.auto.out))
     c.fetch-answer.result
     c.fetch-answer.ensures.answer c.fetch-answer.ensures.fetched c.fetch-answer.ensures.judged
     c.fetch-answer.ensures.frame c.fetch-answer.ensures.disk_cause)

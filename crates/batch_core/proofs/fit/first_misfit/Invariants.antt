@@ -7,7 +7,8 @@ use Rattle.batch_core.proofs.fit.first_misfit.Given as goal
 
 abbrev pub invariant-parts : goal.invariant-parts
 invariant-parts g l = ((changes : List Change) → IsBatch l.text changes
-    → IsCounting l.again l.store changes l.rest l.count l.n) × (l.count < l.cap) × (l.n + length l.rest ≤ length l.text + 1)
+    → IsCounting l.again l.store changes l.rest l.count l.n) × (l.count < l.cap)
+    × (l.n + length l.rest ≤ length l.text + 1)
 
 abbrev pub decreases-parts : goal.decreases-parts
 decreases-parts g l = length l.rest

@@ -43,6 +43,7 @@ parts-preserved g c b can =
     (c.in-Ok.ensures (half_done b is.finished) is.goes.stands)
 
 pub returns : goal.returns
-returns g c b can = doing_done (store_on c.args.store.now (g.D.Disk.state c.args.disk.now)) c.args.text.now b can
+returns g c b can = doing_done (store_on c.args.store.now (g.D.Disk.state c.args.disk.now)) c.args.text.now b
+    can
     (store_on c.parts.store (g.D.Disk.state c.parts.disk)) c.parts.rest.now (c.parts.invariant b can)
     c.in_default.ensures

@@ -15,7 +15,8 @@ remove-requires g c = (
 )
 
 pub returns-in-Err-clause-went : goal.returns-in-Err-clause-went
-returns-in-Err-clause-went g c b can = end_stops (store_on c.args.store.now (g.D.Disk.state c.args.disk.now)) b can
+returns-in-Err-clause-went g c b can =
+    end_stops (store_on c.args.store.now (g.D.Disk.state c.args.disk.now)) b can
     (store_on c.remove.new.store (g.D.Disk.state c.remove.new.disk)) _
     (c.in-Err.ensures (half_done b b.changes) can.stands)
 

@@ -1,0 +1,11 @@
+pub mod ReadLaws
+pub mod DoneLaws
+pub mod AlwaysLaws
+pub mod SourceLaws
+pub mod FrontLaws
+pub mod EndsLaws
+pub mod StageLaws
+pub mod AlikeLaws
+pub mod KnownLaws
+pub mod InputLaws
+pub mod HoldsLaws

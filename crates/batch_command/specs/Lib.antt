@@ -1,0 +1,4 @@
+pub mod Reading
+pub mod Doing
+pub mod Batching
+pub mod Promise
