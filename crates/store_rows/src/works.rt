@@ -19,8 +19,9 @@ fn work_on_new(rt: &impl Abort, alloc: Global, k: u64, number: u64, count: u64) 
 {
     let mut disk = PlainDisk::with_room(alloc, 1 << 20).expect(rt, "memory");
     SlotPair::format(&mut disk, k, 16).expect(rt, "a format");
-    let store = Store::<CLASSES>::open(alloc, &mut disk).expect(rt, "a store");
-    do_work(alloc, store, &mut disk, number, count).expect(rt, "a summary")
+    let mut store = Store::<CLASSES>::open(alloc, &mut disk).expect(rt, "a store");
+    let names = store.names();
+    do_work(alloc, &mut store, &mut disk, number, count, names).expect(rt, "a summary")
 }
 
 /// A divisor, the number of a work and its count of jobs, and what it comes to.

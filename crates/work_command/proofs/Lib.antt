@@ -4,3 +4,4 @@ mod StepsLemmas
 mod StepsLaws
 mod SummaryLaws
 mod WorkingLaws
+mod CachedLaws

@@ -18,7 +18,8 @@ use Rattle.store_model.specs.Opened.{IsOpening}
 use Rattle.reopen.specs.declared.fault.OpenFault.{OpenFault}
 use Rattle.command_face.specs.declared.status.TheConstants.{DISK_FAILED, DONE, NO_FILE, NO_MEMORY, NO_STORE, SINK_FAILED}
 use Rattle.command_face.specs.Mounting.{IsMounted, mounted}
-use Rattle.work_command.specs.Steps.{OpenWorkSteps, WorkSteps, IsAllDone, IsNotBegun, IsRefusal, IsStoppedInJob, jobs_numbered}
+use Rattle.work_command.specs.Steps.{OpenWorkSteps, WorkSteps, IsAllDone, IsNotBegun, IsRefusal, IsStoppedInJob}
+use Rattle.work_command.specs.Asked.{NumberedJobs}
 use Rattle.command_face.specs.Refusing.{stop_of}
 use Rattle.command_face.specs.Refusing.{IsRefused}
 use Rattle.served_file.specs.Unserved.{NeverServed}
@@ -57,7 +58,7 @@ no_sink old z out put n later rose turns told images nine same = record {
   sink_told = ap (λ (x : SinkState). x.tells) same;
 }
 
-module _ (file : List ℕ) (number count : ℕ) (old z : State) (out put : SinkState) where
+module _ (file : List ℕ) (asked : NumberedJobs) (old z : State) (out put : SinkState) where
   abbrev All : ℕ → Type 0
   All n = Whole file old z out put n
 
@@ -146,20 +147,20 @@ known_refusal n (inl four) = inr four
 known_refusal n (inr (inl seven)) = inl (ap is_working seven)
 known_refusal n (inr (inr ten)) = inl (ap is_working ten)
 
-module _ {D : Type 0} (disk_of : D → State) (file : List ℕ) (number count : ℕ) (old z : State)
+module _ {D : Type 0} (disk_of : D → State) (file : List ℕ) (asked : NumberedJobs) (old z : State)
     (out put : SinkState)
     (end : Result (Unit {0}) StopReason) where
   -- the status of this end
-  carried : (e : Result (Unit {0}) StopReason) → end ≡ e → All file number count old z out put (status_at e)
-      → All file number count old z out put (status_at end)
-  carried e is all = subst (λ (x : Result (Unit {0}) StopReason). All file number count old z out put
+  carried : (e : Result (Unit {0}) StopReason) → end ≡ e → All file asked old z out put (status_at e)
+      → All file asked old z out put (status_at end)
+  carried e is all = subst (λ (x : Result (Unit {0}) StopReason). All file asked old z out put
       (status_at x)) (sym is) all
 
   module _ (first : State) (mount : AfterMount old first) (calm : first.faults ≡ old.faults)
       (there : first.last_mount ≡ mounted file false There) where
-    refusal : IsRefusal first z end → put ≡ out → All file number count old z out put (status_at end)
+    refusal : IsRefusal first z end → put ≡ out → All file asked old z out put (status_at end)
     refusal x same = carried (Err (stop_of x.fault)) x.ended
-        (stopped_there file number count old z out put first mount calm there x.opening.frame
+        (stopped_there file asked old z out put first mount calm there x.opening.frame
         x.opening.cause.later
         (status_of (stop_of x.fault)) (known_refusal (status_of (stop_of x.fault)) (status_unopened x.fault))
         (not_status x.fault 3 (λ y. omega (arith, y)) (λ y. omega (arith, y)) (λ y. omega (arith, y)))
@@ -168,9 +169,9 @@ module _ {D : Type 0} (disk_of : D → State) (file : List ℕ) (number count : 
         (λ four. Untouched-then (mount_untouched old first mount (omega (arith, calm)))
         (refused_unchanged first z x.fault four x.opening.unchanged)))
 
-    not_begun : IsNotBegun first z end → put ≡ out → All file number count old z out put (status_at end)
+    not_begun : IsNotBegun first z end → put ≡ out → All file asked old z out put (status_at end)
     not_begun x same = carried (Err stop.NoMemory) x.ended
-        (stopped_there file number count old z out put first mount calm there x.opening.frame
+        (stopped_there file asked old z out put first mount calm there x.opening.frame
         x.opening.cause.later 10
         (inl refl) (λ is. omega (arith, is)) (λ is. omega (arith, is)) (λ is. absurd (omega (arith, is))) same
         (λ is. absurd (omega (arith, is))))
@@ -190,11 +191,11 @@ module _ {D : Type 0} (disk_of : D → State) (file : List ℕ) (number count : 
     rose_before : (a b c : ℕ) → a ≤ b → Rose b c → Rose a c
     rose_before a b c low rose = omega (arith, low, rose)
 
-    in_job : IsStoppedInJob disk_of (jobs_numbered number count) first z end → put ≡ out
-        → All file number count old z out put
+    in_job : IsStoppedInJob disk_of asked first z end → put ≡ out
+        → All file asked old z out put
         (status_at end)
     in_job x same = carried (Err stop.Disk) x.ended
-        (stopped_there file number count old z out put first mount calm there
+        (stopped_there file asked old z out put first mount calm there
         (frame_after x.opening.frame x.stopped.frame) (omega (arith, x.opening.cause.later, x.stopped.later))
         7 (inl refl)
         (λ is. omega (arith, is)) (λ is. omega (arith, is))
@@ -202,8 +203,8 @@ module _ {D : Type 0} (disk_of : D → State) (file : List ℕ) (number count : 
         same
         (λ is. absurd (omega (arith, is))))
 
-    summed : IsAllDone disk_of (jobs_numbered number count) (devices first out) (devices z put) end
-        → All file number count old z out put
+    summed : IsAllDone disk_of asked (devices first out) (devices z put) end
+        → All file asked old z out put
         (status_at end)
     summed x = by end refl x.only x.cause
       where
@@ -215,29 +216,29 @@ module _ {D : Type 0} (disk_of : D → State) (file : List ℕ) (number count : 
 
         by : (e : Result (Unit {0}) StopReason) → end ≡ e → OnErr e (e ≡ Err stop.Sink)
             → HasCause out.faults put.faults e
-            → All file number count old z out put (status_at end)
+            → All file asked old z out put (status_at end)
         by (Ok y) is only cause = carried (Ok y) is
-            (put_there file number count old z out put first mount calm there frame later 0 refl refl
+            (put_there file asked old z out put first mount calm there frame later 0 refl refl
             (λ n. omega (arith, n)) (λ n. omega (arith, n)) (λ n. omega (arith, n)) cause.later
             (λ n. absurd (omega (arith, n))) (λ n. cause.calm) x.told)
         by (Err why) is only cause = carried (Err stop.Sink) (is ∙ only)
-            (put_there file number count old z out put first mount calm there frame later 9 refl refl
+            (put_there file asked old z out put first mount calm there frame later 9 refl refl
             (λ n. omega (arith, n)) (λ n. omega (arith, n)) (λ n. omega (arith, n)) cause.later
             (λ n. cause.rose) (λ n. absurd (omega (arith, n))) x.told)
 
-  pub whole : WorkSteps disk_of file (jobs_numbered number count) (devices old out) (devices z put) end
+  pub whole : WorkSteps disk_of file asked (devices old out) (devices z put) end
       → Whole file old z out put (status_at end)
-  whole (inl (is, same)) = elim is.which as (λ _. All file number count old z out put (status_at end)) [
+  whole (inl (is, same)) = elim is.which as (λ _. All file asked old z out put (status_at end)) [
     | inl failed ↦ carried (Err stop.Disk) failed.0
-        (mount_failed file number count old z out put is.mount is.later failed.2 failed.1 same)
+        (mount_failed file asked old z out put is.mount is.later failed.2 failed.1 same)
     | inr gone ↦ carried (Err stop.NoFile) gone.0
-        (file_absent file number count old z out put is.mount is.later gone.1 same)
+        (file_absent file asked old z out put is.mount is.later gone.1 same)
   ]
   whole (inr x) = by x.steps
     where
-      by : OpenWorkSteps disk_of (jobs_numbered number count) (devices (disk_of x.first) out)
+      by : OpenWorkSteps disk_of asked (devices (disk_of x.first) out)
           (devices z put) end
-          → All file number count old z out put
+          → All file asked old z out put
           (status_at end)
       by (inl (inl is, same)) = refusal (disk_of x.first) x.mount x.calm x.there is same
       by (inl (inr (inl is), same)) = not_begun (disk_of x.first) x.mount x.calm x.there is same
@@ -246,7 +247,7 @@ module _ {D : Type 0} (disk_of : D → State) (file : List ℕ) (number count : 
 
   -- a file that isn't served ends the command as its first refusal says
   pub refused_work : IsTrue old.tells → NeverServed old.file
-      → WorkSteps disk_of file (jobs_numbered number count) (devices old out) (devices z put) end
+      → WorkSteps disk_of file asked (devices old out) (devices z put) end
       → EndsBy (IsRefused old.file) [] end × (put ≡ out)
   refused_work told never (inl (is, same)) = (
     elim is.which as (λ _. EndsBy (IsRefused old.file) [] end) [
@@ -270,7 +271,7 @@ module _ {D : Type 0} (disk_of : D → State) (file : List ℕ) (number count : 
           (subst (λ (f : List ℕ). Opens CLASSES SIZE_MAX f o.m o.b) same_file
           (record { table = o.table; opens = o.found }))
 
-      by : OpenWorkSteps disk_of (jobs_numbered number count) (devices (disk_of x.first) out)
+      by : OpenWorkSteps disk_of asked (devices (disk_of x.first) out)
           (devices z put) end
           → EndsBy (IsRefused old.file) [] end
           × (put ≡ out)
@@ -309,13 +310,13 @@ status_calm n known three seven nine = elim (cases_eq n DONE) as (λ _. (n ≡ D
         absurd (cc)
 
 -- the jobs are done, or memory is wanting, where no fault came
-pub jobs_done : (file : List ℕ) (number count n : ℕ) (old z : State) (out after : SinkState)
+pub jobs_done : (file : List ℕ) (n : ℕ) (old z : State) (out after : SinkState)
     → is_working n ≡ true
     → KeepsWork (devices old out) (devices z after) n
     → IsMounted file false z.last_mount (n ≡ DISK_FAILED) (n ≡ NO_FILE)
     → z.last_mount ≡ mounted file false There → IsCalm old.faults z.faults
     → IsCalm out.faults after.faults → (n ≡ DONE) ⊎ (n ≡ NO_MEMORY)
-jobs_done file number count n old z out after known keeps mount there calm sink_calm = status_calm n known
+jobs_done file n old z out after known keeps mount there calm sink_calm = status_calm n known
     (λ is. absurd (false≢true (ap is_mounted (sym (mount.absent.0 is) ∙ there))))
     (λ is. omega (arith, keeps.rose is, calm.same, calm.below))
     (λ is. omega (arith, keeps.sink_rose is, sink_calm.same, sink_calm.below))

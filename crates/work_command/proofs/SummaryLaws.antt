@@ -8,11 +8,11 @@ use Rattle.disk_face.specs.States.{State}
 use Rattle.disk_face.specs.Streams.{Puts, SinkState}
 use Rattle.work_maker.proofs.ListLaws.{how_many}
 use Rattle.command_face.specs.declared.status.TheConstants.{DISK_FAILED, DONE, NO_MEMORY, NO_STORE, SINK_FAILED}
-use Rattle.work_command.specs.Steps.{OpenWorkSteps, WorkSteps, IsAllDone, jobs_numbered}
+use Rattle.work_command.specs.Steps.{OpenWorkSteps, WorkSteps, IsAllDone}
+use Rattle.work_command.specs.Asked.{NumberedJobs}
 use Rattle.command_face.specs.Faults.{line_of}
 use Rattle.command_face.specs.Refusing.{stop_of}
 use Rattle.command_face.specs.Outcomes.{Ends, EndsBy, IsFront, PutsLast, PutsLine, line_at, status_at, status_of}
-use Rattle.work_command.specs.Summaries.{summary_text}
 use Rattle.work_command.specs.Working.{KeepsWork, PutsSummary, has_worked}
 use Rattle.command_face.specs.declared.stop.StopReason.{StopReason}
 use Rattle.command_face.specs.declared.stop.StopReason.TheVariants as stop
@@ -39,19 +39,19 @@ text_put out put after text e failed puts same whole = record {
   whole = whole;
 }
 
-module _ {D : Type 0} (disk_of : D → State) (number count : ℕ) (z : State) (out put after : SinkState)
+module _ {D : Type 0} (disk_of : D → State) (asked : NumberedJobs) (z : State) (out put after : SinkState)
     (end : Result (Unit {0}) StopReason) (line : IsTrue put.tells
     → PutsLast put.given after.given (line_at end) (Rose put.faults after.faults)) where
   -- where all jobs were done a summary is put, or a front of it
   pub summary_put : {first : State}
-      (x : IsAllDone disk_of (jobs_numbered number count) (devices first out) (devices z put)
+      (x : IsAllDone disk_of asked (devices first out) (devices z put)
       end)
       → IsTrue out.tells
-      → PutsLast out.given after.given (summary_text x.summary) (status_at end ≡ SINK_FAILED)
+      → PutsLast out.given after.given x.text (status_at end ≡ SINK_FAILED)
   summary_put x told = by end x.only (x.puts told) (line (x.told ∙ told))
     where
       text : List ℕ
-      text = summary_text x.summary
+      text = x.text
 
       by : (e : Result (Unit {0}) StopReason) → OnErr e (e ≡ Err stop.Sink) → Puts out.given put.given text e
           → PutsLast put.given after.given (line_at e) (Rose put.faults after.faults)
@@ -81,18 +81,19 @@ module _ {D : Type 0} (disk_of : D → State) (number count : ℕ) (z : State) (
 
   -- what the summary says on any disk
   pub summary_of : {file : List ℕ} {old : State}
-      → WorkSteps disk_of file (jobs_numbered number count) (devices old out)
+      → WorkSteps disk_of file asked (devices old out)
       (devices z put) end
-      → IsTrue (has_worked (status_at end)) → PutsSummary count (status_at end) out after
-  summary_of (inl (is, same)) worked = elim is.which as (λ _. PutsSummary count (status_at end) out after) [
-    | inl failed ↦ unworked (Err stop.Disk) failed.0 refl worked
-    | inr gone ↦ unworked (Err stop.NoFile) gone.0 refl worked
-  ]
+      → IsTrue (has_worked (status_at end)) → PutsSummary asked.count asked.entries (status_at end) out after
+  summary_of (inl (is, same)) worked = elim is.which
+      as (λ _. PutsSummary asked.count asked.entries (status_at end) out after) [
+        | inl failed ↦ unworked (Err stop.Disk) failed.0 refl worked
+        | inr gone ↦ unworked (Err stop.NoFile) gone.0 refl worked
+      ]
   summary_of (inr x) worked = by x.steps
     where
-      by : OpenWorkSteps disk_of (jobs_numbered number count) (devices (disk_of x.first) out)
+      by : OpenWorkSteps disk_of asked (devices (disk_of x.first) out)
           (devices z put) end
-          → PutsSummary count (status_at end) out after
+          → PutsSummary asked.count asked.entries (status_at end) out after
       by (inl (inl is, same)) = unworked (Err (stop_of is.fault)) is.ended
           (unworked_refusal (status_of (stop_of is.fault)) (status_unopened is.fault)) worked
       by (inl (inr (inl is), same)) = unworked (Err stop.NoMemory) is.ended refl worked
@@ -100,13 +101,15 @@ module _ {D : Type 0} (disk_of : D → State) (number count : ℕ) (z : State) (
       by (inr is) = record {
         summary = is.summary;
         sums = record {
-          requests = is.done.requests ∙ how_many is.store.in_use.block.names 1 count _;
+          requests = is.done.requests ∙ how_many is.store.in_use.block.names 1 asked.count _;
           few = is.done.few;
           moved_row = is.done.new.moved;
           asked_row = is.done.new.asked;
           lines = is.done.lines;
           same = is.done.same;
         };
+        text = is.text;
+        tells = is.tells_on;
         puts = summary_put is;
       }
 

@@ -29,11 +29,10 @@ use Rattle.work_maker.proofs.ListLaws.{how_many}
 use Rattle.work_session.specs.Works.{ArePaidLines, HasDone, HasStopped, IsJobImage}
 use Rattle.work_session.specs.declared.summary.Summary.{Summary}
 use Rattle.command_face.specs.declared.status.TheConstants.{DISK_FAILED, NO_FILE, NO_MEMORY, SINK_FAILED}
-use Rattle.work_command.specs.Steps.{jobs_of, jobs_numbered}
+use Rattle.work_command.specs.Asked.{NumberedJobs, Tells, jobs_of}
 use Rattle.served_file.specs.Served.{EndsTight, IsNextStart, OpensTo, OpensToBeing, OpensToKept, Starts, limits_with, most_left, turn_opened, found_with}
 use Rattle.command_face.specs.Outcomes.{PutsLast}
-use Rattle.work_command.specs.Summaries.{summary_text}
-use Rattle.work_command.specs.Working.{WorkHolds, has_worked, is_working}
+use Rattle.work_command.specs.Working.{JobsHold, has_worked, is_working}
 use Rattle.served_file.proofs.OpeningLaws.{Opened, exact_turn, found_numbered, requests_low, start_low}
 use Rattle.served_file.proofs.OverLaws.{next_over, tight_over}
 use Rattle.served_file.proofs.ShownLaws.{Shows, first_kept, last_shown, some_weaker}
@@ -47,7 +46,7 @@ some_jobs : (number count names : ℕ) → jobs number count names ≢ []
 some_jobs number count names = some_of (jobs number count names) count (how_many names 1 count _)
 
 module _ (t : choice.SlotTable) (m : Map) (b : Book) (old : State) (lawful : IsLawful old)
-    (o : OpensBy CLASSES SIZE_MAX t old.file m b) (number count : ℕ) (out after : SinkState) where
+    (o : OpensBy CLASSES SIZE_MAX t old.file m b) (asked : NumberedJobs) (out after : SinkState) where
   -- each image that was left as the call began
   left_before : old.turn < last → RestsOnFound t old
       → LeftOnly old old.turn (IsFoundImage CLASSES t m b (length old.file))
@@ -77,7 +76,7 @@ module _ (t : choice.SlotTable) (m : Map) (b : Book) (old : State) (lawful : IsL
 
     pub none_begun : (status : ℕ) → is_working status ≡ true → has_worked status ≡ false
         → (IsCalm old.faults z.faults → IsNextStart t start start.sequence old z)
-        → WorkHolds (found_with u t m b) number count status (devices old out) (devices z after)
+        → JobsHold (found_with u t m b) asked status (devices old out) (devices z after)
     none_begun status known none next = record {
       start = start;
       starts = starts;
@@ -85,7 +84,7 @@ module _ (t : choice.SlotTable) (m : Map) (b : Book) (old : State) (lawful : IsL
       n = 0;
       ran = record {
         answered = [];
-        others = jobs number count u.names;
+        others = jobs asked.number asked.count u.names;
         split = refl;
         count = refl;
         replies = [];
@@ -95,7 +94,7 @@ module _ (t : choice.SlotTable) (m : Map) (b : Book) (old : State) (lawful : IsL
       far = record {
         known = known;
         all = λ is. absurd (let e : true ≡ false = sym is ∙ none in cc);
-        some = λ is. some_jobs number count u.names;
+        some = λ is. some_jobs asked.number asked.count u.names;
         none = λ is. refl;
       };
       done = λ is. absurd (let e : true ≡ false = sym is ∙ none in cc);
@@ -128,7 +127,7 @@ module _ (t : choice.SlotTable) (m : Map) (b : Book) (old : State) (lawful : IsL
     left_mid room rests below = left_start u start starts op.later op.left room rests below
 
     pub none_done : (status : ℕ) → is_working status ≡ true → has_worked status ≡ false
-        → WorkHolds (found_with u t m b) number count status (devices old out) (devices mid after)
+        → JobsHold (found_with u t m b) asked status (devices old out) (devices mid after)
     none_done status known none = none_begun u start starts op.later op.left status known none
         (λ calm. next_over t s old mid s.in_use.sequence op.sound op.over op.block (omega arith) op.rests)
 
@@ -171,8 +170,8 @@ module _ (t : choice.SlotTable) (m : Map) (b : Book) (old : State) (lawful : IsL
           image (requests_low t u.k s.in_use.sequence op.most)) left)
 
       -- the disk failed in a job
-      pub in_a_job : HasStopped CLASSES s (jobs_of (jobs_numbered number count) s) mid z
-          → WorkHolds (found_with u t m b) number count 7 (devices old out) (devices z after)
+      pub in_a_job : HasStopped CLASSES s (jobs_of asked s) mid z
+          → JobsHold (found_with u t m b) asked 7 (devices old out) (devices z after)
       in_a_job x = record {
         start = start;
         starts = starts;
@@ -212,9 +211,9 @@ module _ (t : choice.SlotTable) (m : Map) (b : Book) (old : State) (lawful : IsL
       }
 
       -- all jobs were done
-      module _ (x : Summary) (d : HasDone CLASSES s (jobs_of (jobs_numbered number count) s) mid z x) where
+      module _ (x : Summary) (d : HasDone CLASSES s (jobs_of asked s) mid z x) where
         abbrev requests : List Request
-        requests = jobs_of (jobs_numbered number count) s
+        requests = jobs_of asked s
 
         chain_d : Chain (limits_of s) start requests d.replies d.states
         chain_d = d.ran.chain op.told
@@ -228,9 +227,10 @@ module _ (t : choice.SlotTable) (m : Map) (b : Book) (old : State) (lawful : IsL
         pub all_done : (status : ℕ) → is_working status ≡ true → has_worked status ≡ true
             → status ≢ DISK_FAILED
             → ((status ≡ NO_FILE) ⊎ (status ≡ NO_MEMORY) → ⊥)
-            → (IsTrue out.tells → PutsLast out.given after.given (summary_text x) (status ≡ SINK_FAILED))
-            → WorkHolds (found_with u t m b) number count status (devices old out) (devices z after)
-        all_done status known worked seven begun puts = record {
+            → (text : List ℕ) → Tells asked.entries requests d.replies x text
+            → (IsTrue out.tells → PutsLast out.given after.given text (status ≡ SINK_FAILED))
+            → JobsHold (found_with u t m b) asked status (devices old out) (devices z after)
+        all_done status known worked seven begun text tells puts = record {
           start = start;
           starts = starts;
           continues = λ is. op.continues;
@@ -263,6 +263,8 @@ module _ (t : choice.SlotTable) (m : Map) (b : Book) (old : State) (lawful : IsL
               paid = subst (λ (g : List (List ℕ)). ArePaidLines CLASSES u.k g x)
                   (ap (λ (y : store.State). y.book.grid) op.state) d.paid;
             };
+            text = text;
+            tells = tells;
             puts = puts;
             saved = record {
               ends = subst (λ (y : store.State). EndsTight u.k (head_len u.names) y z.file) newest

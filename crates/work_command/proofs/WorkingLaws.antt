@@ -18,12 +18,12 @@ use Rattle.store_model.specs.Opened.{IsFoundImage, IsOpening, LeavesRoom, RestsO
 use Rattle.reopen.specs.declared.fault.OpenFault.{OpenFault}
 use Rattle.reopen.specs.declared.fault.OpenFault.TheVariants as opening
 use Rattle.command_face.specs.declared.status.TheConstants.{SINK_FAILED}
-use Rattle.work_command.specs.Steps.{OpenWorkSteps, WorkSteps, IsAllDone, IsNotBegun, IsRefusal, IsStoppedInJob, jobs_numbered}
+use Rattle.work_command.specs.Steps.{OpenWorkSteps, WorkSteps, IsAllDone, IsNotBegun, IsRefusal, IsStoppedInJob}
+use Rattle.work_command.specs.Asked.{NumberedJobs}
 use Rattle.command_face.specs.Refusing.{stop_of}
 use Rattle.served_file.specs.Served.{found_with}
 use Rattle.command_face.specs.Outcomes.{PutsLast, line_at, status_at, status_of}
-use Rattle.work_command.specs.Summaries.{summary_text}
-use Rattle.work_command.specs.Working.{WorkHolds}
+use Rattle.work_command.specs.Working.{JobsHold}
 use Rattle.command_face.specs.declared.stop.StopReason.{StopReason}
 use Rattle.command_face.specs.declared.stop.StopReason.TheVariants as stop
 use Rattle.work_command.proofs.SummaryLaws.{summary_put}
@@ -37,9 +37,9 @@ use Rattle.work_command.proofs.WorkLaws.{all_done, in_a_job, none_begun, none_do
 module _ (t : choice.SlotTable) (m : Map) (b : Book) (old : State) (lawful : IsLawful old)
     (told : IsTrue old.tells)
     (o : OpensBy CLASSES SIZE_MAX t old.file m b)
-    {D : Type 0} (disk_of : D → State) (number count : ℕ) (z : State) (out put after : SinkState) where
+    {D : Type 0} (disk_of : D → State) (asked : NumberedJobs) (z : State) (out put after : SinkState) where
   abbrev Works : ℕ → Type 0
-  Works n = WorkHolds (found_with t.chosen.block t m b) number count n (devices old out) (devices z after)
+  Works n = JobsHold (found_with t.chosen.block t m b) asked n (devices old out) (devices z after)
 
   -- the line of an end is put behind what was put
   abbrev PutsEnd : Result (Unit {0}) StopReason → Type 0
@@ -50,12 +50,12 @@ module _ (t : choice.SlotTable) (m : Map) (b : Book) (old : State) (lawful : IsL
   failed_before : old.turn ≤ z.turn
       → (LeavesRoom t → RestsOnFound t old → Leaves old z (IsFoundImage CLASSES t m b (length old.file)))
       → Rose old.faults z.faults → Works 7
-  failed_before later left rose = none_begun t m b old lawful o number count out after t.chosen.block
+  failed_before later left rose = none_begun t m b old lawful o asked out after t.chosen.block
       (found_start t m b) (found_starts t m b) later left 7 refl refl
       (λ calm. absurd (omega (arith, rose, calm.same, calm.below)))
 
   absent : AfterMount old z → Works 3
-  absent mount = none_begun t m b old lawful o number count out after t.chosen.block (found_start t m b)
+  absent mount = none_begun t m b old lawful o asked out after t.chosen.block (found_start t m b)
       (found_starts t m b) mount.time.later (λ room. left_first t m b old z mount told o) 3 refl refl
       (λ calm. next_found t m b old z o (mount.same_file told) (rests_first t m b old z mount told o))
 
@@ -70,7 +70,7 @@ module _ (t : choice.SlotTable) (m : Map) (b : Book) (old : State) (lawful : IsL
         let same : Unchanged first z = is.unchanged in
         let file : z.file ≡ old.file = same.same_file (told_first t m b old first mount told o)
         ∙ mount.same_file told in
-        none_begun t m b old lawful o number count out after t.chosen.block (found_start t m b)
+        none_begun t m b old lawful o asked out after t.chosen.block (found_start t m b)
         (found_starts t m b) (omega (arith, mount.same_turn, same.same_turn))
         (left_opening t m b old first mount told o z (Err opening.NoMemory) is) 10 refl refl
         (λ calm. next_found t m b old z o file (λ rests image left.
@@ -90,9 +90,9 @@ module _ (t : choice.SlotTable) (m : Map) (b : Book) (old : State) (lawful : IsL
 
       -- the superblock of the store is that of the table found
       over_block : {mid : State} {s : StoreValue} (n : ℕ) → Opened t m b old mid s
-          → WorkHolds (found_with s.in_use.block t m b) number count n (devices old out) (devices z after) →
+          → JobsHold (found_with s.in_use.block t m b) asked n (devices old out) (devices z after) →
           Works n
-      over_block n op works = subst (λ (u : SuperBlock). WorkHolds (found_with u t m b) number count n
+      over_block n op works = subst (λ (u : SuperBlock). JobsHold (found_with u t m b) asked n
           (devices old out) (devices z after))
           op.block works
 
@@ -107,18 +107,18 @@ module _ (t : choice.SlotTable) (m : Map) (b : Book) (old : State) (lawful : IsL
           let op : Opened t m b old z x.store =
           opened_by t m b old first mount told o z x.store calm_mount x.opening in
           carried (Err stop.NoMemory) x.ended (over_block 10 op
-          (none_done t m b old lawful o number count out after op 10 refl refl))
+          (none_done t m b old lawful o asked out after op 10 refl refl))
 
-      in_job : IsStoppedInJob disk_of (jobs_numbered number count) first z end → Works (status_at end)
+      in_job : IsStoppedInJob disk_of asked first z end → Works (status_at end)
       in_job x =
           let op : Opened t m b old (disk_of x.mid) x.store =
           opened_by t m b old first mount told o (disk_of x.mid) x.store calm_mount x.opening in
           carried (Err stop.Disk) x.ended (over_block 7 op
-          (in_a_job t m b old lawful o number count out after op x.stopped))
+          (in_a_job t m b old lawful o asked out after op x.stopped))
 
       -- ---- all jobs were done
 
-      summed : IsAllDone disk_of (jobs_numbered number count) (devices first out) (devices z put) end
+      summed : IsAllDone disk_of asked (devices first out) (devices z put) end
           → PutsEnd end → Works
           (status_at end)
       summed x line = by end refl x.only
@@ -127,24 +127,25 @@ module _ (t : choice.SlotTable) (m : Map) (b : Book) (old : State) (lawful : IsL
           op = opened_by t m b old first mount told o (disk_of x.mid) x.store calm_mount x.opening
 
           puts : (e : Result (Unit {0}) StopReason) → end ≡ e → IsTrue out.tells
-              → PutsLast out.given after.given (summary_text x.summary) (status_at e ≡ SINK_FAILED)
+              → PutsLast out.given after.given x.text (status_at e ≡ SINK_FAILED)
           puts e is = subst (λ (e : Result (Unit {0}) StopReason). IsTrue out.tells
-              → PutsLast out.given after.given (summary_text x.summary) (status_at e ≡ SINK_FAILED)) is
-              (summary_put disk_of number count z out put after end line x)
+              → PutsLast out.given after.given x.text (status_at e ≡ SINK_FAILED)) is
+              (summary_put disk_of asked z out put after end line x)
 
           by : (e : Result (Unit {0}) StopReason) → end ≡ e → OnErr e (e ≡ Err stop.Sink)
               → Works (status_at end)
           by (Ok y) is only = carried (Ok y) is (over_block 0 op
-              (all_done t m b old lawful o number count out after op x.summary x.done 0 refl refl
-              (λ n. omega (arith, n)) (λ n. omega (arith, n)) (puts (Ok y) is)))
+              (all_done t m b old lawful o asked out after op x.summary x.done 0 refl refl
+              (λ n. omega (arith, n)) (λ n. omega (arith, n)) x.text (x.tells op.told) (puts (Ok y) is)))
           by (Err why) is only = carried (Err stop.Sink) (is ∙ only) (over_block 9 op
-              (all_done t m b old lawful o number count out after op x.summary x.done 9 refl refl
-              (λ n. omega (arith, n)) (λ n. omega (arith, n)) (puts (Err stop.Sink) (is ∙ only))))
+              (all_done t m b old lawful o asked out after op x.summary x.done 9 refl refl
+              (λ n. omega (arith, n)) (λ n. omega (arith, n)) x.text (x.tells op.told)
+              (puts (Err stop.Sink) (is ∙ only))))
 
   -- ---- all of them
 
   pub works : (file : List ℕ) (end : Result (Unit {0}) StopReason)
-      → WorkSteps disk_of file (jobs_numbered number count) (devices old out) (devices z put) end
+      → WorkSteps disk_of file asked (devices old out) (devices z put) end
       → PutsEnd end
       → Works (status_at end)
   works c end (inl (is, same)) line = elim is.which as (λ _. Works (status_at end)) [
@@ -155,7 +156,7 @@ module _ (t : choice.SlotTable) (m : Map) (b : Book) (old : State) (lawful : IsL
   ]
   works c end (inr x) line = by x.steps
     where
-      by : OpenWorkSteps disk_of (jobs_numbered number count) (devices (disk_of x.first) out)
+      by : OpenWorkSteps disk_of asked (devices (disk_of x.first) out)
           (devices z put) end → Works (status_at end)
       by (inl (inl is, same)) = refusal (disk_of x.first) x.mount x.calm end is
       by (inl (inr (inl is), same)) = not_begun (disk_of x.first) x.mount x.calm end is

@@ -1,3 +1,4 @@
 pub mod Summaries
+pub mod Asked
 pub mod Working
 pub mod Steps

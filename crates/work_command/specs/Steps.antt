@@ -6,31 +6,17 @@ use Rattle.disk_face.specs.States.{State}
 use Rattle.disk_face.specs.Streams.{Puts}
 use Rattle.disk_face.specs.declared.bay.Mounted.TheVariants.{There}
 use Rattle.size_class.specs.declared.TheConstants.{CLASSES}
-use Rattle.map_model.specs.Requests.{Request}
 use Rattle.store_model.specs.Connection.{StoreValue}
 use Rattle.store_model.specs.Opened.{IsOpening}
 use Rattle.reopen.specs.declared.fault.OpenFault.{OpenFault}
-use Rattle.work_maker.specs.Jobs.{jobs}
 use Rattle.work_session.specs.Works.{HasDone, HasStopped}
 use Rattle.work_session.specs.declared.summary.Summary.{Summary}
 use Rattle.disk_face.specs.Devices.{Devices, devices}
 use Rattle.command_face.specs.Mounting.{IsNotThere, mounted}
 use Rattle.command_face.specs.Refusing.{stop_of}
-use Rattle.work_command.specs.Summaries.{summary_text}
+use Rattle.work_command.specs.Asked.{NumberedJobs, Tells, TellsOn, jobs_of}
 use Rattle.command_face.specs.declared.stop.StopReason.{StopReason}
 use Rattle.command_face.specs.declared.stop.StopReason.TheVariants as stop
-
--- which jobs are asked for: those of a number, and how many
-pub record NumberedJobs : Type 0 where
-  pub number : ℕ
-  pub count : ℕ
-
-abbrev pub jobs_numbered : ℕ → ℕ → NumberedJobs
-jobs_numbered number count = record { number = number; count = count }
-
--- these jobs for a store
-abbrev pub jobs_of : NumberedJobs → StoreValue → List Request
-jobs_of asked s = jobs asked.number asked.count s.in_use.block.names
 
 -- the file wasn't opened
 pub record IsRefusal (before now : State) (end : Result (Unit {0}) StopReason) : Type 0 where
@@ -53,7 +39,7 @@ pub record IsStoppedInJob {D : Type 0} (disk_of : D → State) (asked : Numbered
   pub stopped : HasStopped CLASSES store (jobs_of asked store) (disk_of mid) now
   pub ended : end ≡ Err stop.Disk
 
--- It was opened, at `mid`, all jobs were done, and their summary was put, unless the sink failed.
+-- It was opened, at `mid`, all jobs were done, and the text of their summary was put, unless the sink failed.
 pub record IsAllDone {D : Type 0} (disk_of : D → State) (asked : NumberedJobs) (before now : Devices)
     (end : Result (Unit {0}) StopReason) : Type 0 where
   pub store : StoreValue
@@ -61,7 +47,11 @@ pub record IsAllDone {D : Type 0} (disk_of : D → State) (asked : NumberedJobs)
   pub opening : IsOpening CLASSES before.disk (disk_of mid) (Ok store)
   pub summary : Summary
   pub done : HasDone CLASSES store (jobs_of asked store) (disk_of mid) now.disk summary
-  pub puts : IsTrue before.sink.tells → Puts before.sink.given now.sink.given (summary_text summary) end
+  pub text : List ℕ
+  pub tells : IsTrue (disk_of mid).tells
+      → Tells asked.entries (jobs_of asked store) done.replies summary text
+  pub tells_on : TellsOn asked.entries summary text
+  pub puts : IsTrue before.sink.tells → Puts before.sink.given now.sink.given text end
   pub only : OnErr end (end ≡ Err stop.Sink)
   pub cause : HasCause before.sink.faults now.sink.faults end
   pub told : now.sink.tells ≡ before.sink.tells

@@ -1,6 +1,8 @@
--- The text of `work`: the summary of what the jobs of a number did.
+-- The texts of `work` and of `cached`: the summary of what the jobs of a number did, and the counts of a
+-- cache.
 use Rattle.std.specs.Prelude.{ℕ, List, ◌++◌, codes}
 use Rattle.command_face.specs.Lines.{numbered}
+use Rattle.read_cache.specs.Lists.{Listing}
 use Rattle.work_session.specs.declared.summary.Summary.{Summary}
 use Rattle.work_session.specs.declared.summary.Cost.{Cost}
 
@@ -31,6 +33,12 @@ cost_lines s = cost_line (codes "linear") s.linear ++ cost_line (codes "flat") s
 -- the twelve lines
 abbrev pub summary_text : Summary → List ℕ
 summary_text s = answer_lines s ++ store_lines s ++ cost_lines s
+
+-- how many gets were of objects that a cache had, how many of ones that it hadn't, and how many of the latter
+-- it didn't take for want of memory
+abbrev pub cache_lines : Listing → List ℕ
+cache_lines l = count_line (codes "hits") l.hits ++ count_line (codes "misses") l.misses
+    ++ count_line (codes "drops") l.drops
 
 -- Eleven jobs as a worked example, whose moves weigh what three puts of 5, 10 and 100 bytes had moved.
 abbrev pub eleven_jobs : Summary

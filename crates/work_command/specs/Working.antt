@@ -1,5 +1,6 @@
--- The headline of `work`: what the jobs of a number do to a file, what is put of them, and what they cost.
-use Rattle.std.specs.Prelude.{◌≡◌, ◌≢◌, ◌⊎◌, ℕ, ◌+◌, ◌-◌, ◌*◌, ◌/◌, ◌^◌, ◌<◌, ◌≤◌, ◌==◌, Bool, true, false, ◌||◌, List, [], length, slice_index, IsTrue}
+-- The headlines of `work` and of `cached`: what the jobs of a number do to a file, what is put of them, and
+-- what they cost.
+use Rattle.std.specs.Prelude.{◌≡◌, ◌≢◌, ◌⊎◌, ℕ, ◌+◌, ◌-◌, ◌*◌, ◌/◌, ◌^◌, ◌<◌, ◌≤◌, ◌==◌, Bool, true, false, ◌||◌, List, [], length, slice_index, Option, Some, None, IsTrue}
 use Rattle.disk_face.specs.Counts.{IsCalm, Rose, last}
 use Rattle.disk_face.specs.Frames.{Untouched}
 use Rattle.disk_face.specs.Moments.{LeftOnly}
@@ -27,7 +28,7 @@ use Rattle.disk_face.specs.Devices.{Devices}
 use Rattle.served_file.specs.Served.{EndsTight, Found, found_by, IsNextStart, OpensTo, OpensToBeing, OpensToKept, Ran, Starts, limits_with, most_left}
 use Rattle.command_face.specs.Outcomes.{PutsLast, PutsLine}
 use Rattle.served_file.specs.Unserved.{NeverServed}
-use Rattle.work_command.specs.Summaries.{summary_text}
+use Rattle.work_command.specs.Asked.{NumberedJobs, Tells, TellsOn, jobs_numbered}
 use Rattle.command_face.specs.declared.status.TheConstants.{DISK_FAILED, DONE, NO_FILE, NO_MEMORY, NO_STORE, SINK_FAILED}
 
 -- ---- statuses
@@ -71,15 +72,17 @@ pub record HasSaved (u : SuperBlock) (s : State) (rested : Type 0) (new : disk.S
   pub opens : run.OpensToKept CLASSES s new.file
   pub safe : rested → (image : List ℕ) → new.may_leave image → run.OpensToKept CLASSES s image
 
--- All jobs were done: the summary was put, or where the sink failed a front of it. Over a settled file that
--- ended with its layout the changing calls are at most those of the jobs and those of the bytes moved: one
--- for the least size of an object of each class, and one for each 65,536 bytes.
-pub record AreDone (found : Found) (start : State) (requests : List Request) (replies : List Reply)
-    (states : List State) (status : ℕ) (old new : Devices) : Type 0 where
+-- All jobs were done: the summary was put, with the counts of a cache where they were done through one, or
+-- where the sink failed a front of it. Over a settled file that ended with its layout the changing calls are
+-- at most those of the jobs and those of the bytes moved: one for the least size of an object of each class,
+-- and one for each 65,536 bytes.
+pub record AreDone (found : Found) (entries : Option ℕ) (start : State) (requests : List Request)
+    (replies : List Reply) (states : List State) (status : ℕ) (old new : Devices) : Type 0 where
   pub summary : Summary
   pub sums : SumsUp found.block.k found.b start requests replies states summary
-  pub puts : IsTrue old.sink.tells
-      → PutsLast old.sink.given new.sink.given (summary_text summary) (status ≡ SINK_FAILED)
+  pub text : List ℕ
+  pub tells : Tells entries requests replies summary text
+  pub puts : IsTrue old.sink.tells → PutsLast old.sink.given new.sink.given text (status ≡ SINK_FAILED)
   pub saved : HasSaved found.block (last_state start states) (RestsOnFound found.table old.disk) new.disk
   pub calls : found.table.chosen.header.kind ≡ kind.Settled
       → length old.disk.file ≡ found_base found.table + book_end found.table.chosen.block.k found.b
@@ -94,16 +97,16 @@ pub record AreDone (found : Found) (start : State) (requests : List Request) (re
 -- leaves room for the saves of its flush: at any moment a crash leaves the start, or what stood after a job
 -- that made a checkpoint, or the one that the job makes in which the disk failed; and the start alone where
 -- no job was begun.
-pub record WorkHolds (found : Found) (number count status : ℕ) (old new : Devices) : Type 0 where
+pub record JobsHold (found : Found) (asked : NumberedJobs) (status : ℕ) (old new : Devices) : Type 0 where
   pub start : State
   pub starts : Starts found.table found.m found.b start
   pub continues : IsTrue (has_worked status)
       → ContinuesFrom found.table.chosen.header.kind found.table.chosen.header.sequence start.sequence
   pub n : ℕ
-  pub ran : Ran (limits_with found.block) start (jobs number count found.block.names) n
+  pub ran : Ran (limits_with found.block) start (jobs asked.number asked.count found.block.names) n
   pub far : HowManyJobs status n ran.others
   pub done : IsTrue (has_worked status)
-      → AreDone found start ran.answered ran.replies ran.states status old new
+      → AreDone found asked.entries start ran.answered ran.replies ran.states status old new
   pub crash : LeavesRoom found.table → RestsOnFound found.table old.disk → new.disk.turn < last
       → LeftOnly new.disk old.disk.turn (λ image. OpensToKept start ran.replies ran.states image
       ⊎ OpensToBeing status (limits_with found.block) (last_state start ran.states) ran.others image)
@@ -117,10 +120,21 @@ pub record WorkHolds (found : Found) (number count status : ℕ) (old new : Devi
   pub reach : (last_state start ran.states).sequence ≤ most_left found.block.k found.table
 
 -- So it is of every file that opens.
+abbrev pub JobsPromise : NumberedJobs → ℕ → Devices → Devices → Type 0
+JobsPromise asked status old new = (t : choice.SlotTable) (m : Map) (b : Book)
+    → OpensBy CLASSES SIZE_MAX t old.disk.file m b → JobsHold (found_by t m b) asked status old new
+
+-- the promise of `work NUMBER COUNT`
+abbrev pub WorkHolds : Found → ℕ → ℕ → ℕ → Devices → Devices → Type 0
+WorkHolds found number count status old new = JobsHold found (jobs_numbered number count None) status old new
+
 abbrev pub WorkPromise : ℕ → ℕ → ℕ → Devices → Devices → Type 0
-WorkPromise number count status old new = (t : choice.SlotTable) (m : Map) (b : Book)
-    → OpensBy CLASSES SIZE_MAX t old.disk.file m b
-    → WorkHolds (found_by t m b) number count status old new
+WorkPromise number count status old new = JobsPromise (jobs_numbered number count None) status old new
+
+-- the promise of `cached NUMBER COUNT ENTRIES`: that of `work`, and what its cache counted
+abbrev pub CachedPromise : ℕ → ℕ → ℕ → ℕ → Devices → Devices → Type 0
+CachedPromise number count entries status old new =
+    JobsPromise (jobs_numbered number count (Some entries)) status old new
 
 -- ---- whatever is told
 
@@ -147,19 +161,29 @@ pub record SumsUpJobs (count : ℕ) (x : Summary) : Type 0 where
   pub lines : LinesOf CLASSES moved_row asked_row x
   pub same : x.moved * 2 ^ (CLASSES - 1) ≡ x.linear.moved
 
--- The summary of a list of jobs was put, or where the sink failed a front of it.
-pub record PutsSummary (count status : ℕ) (out after : SinkState) : Type 0 where
+-- The summary of a list of jobs was put, with the counts of a cache where they were done through one, or
+-- where the sink failed a front of it.
+pub record PutsSummary (count : ℕ) (entries : Option ℕ) (status : ℕ) (out after : SinkState) : Type 0 where
   pub summary : Summary
   pub sums : SumsUpJobs count summary
-  pub puts : IsTrue out.tells → PutsLast out.given after.given (summary_text summary) (status ≡ SINK_FAILED)
+  pub text : List ℕ
+  pub tells : TellsOn entries summary text
+  pub puts : IsTrue out.tells → PutsLast out.given after.given text (status ≡ SINK_FAILED)
 
--- What `work` does whatever the file and the devices tell. Where all jobs were done their summary is put, and
+-- What jobs do whatever the file and the devices tell. Where all jobs were done their summary is put, and
 -- else the fault line alone; where the file isn't there or is refused, it stays as it was. One that opens
 -- isn't refused.
-pub record WorkAlways (count status : ℕ) (old new : Devices) : Type 0 where
+pub record JobsAlways (count : ℕ) (entries : Option ℕ) (status : ℕ) (old new : Devices) : Type 0 where
   pub known : (is_working status ≡ true) ⊎ (status ≡ NO_STORE)
   pub keeps : KeepsWork old new status
   pub untouched : (status ≡ NO_FILE) ⊎ (status ≡ NO_STORE) → Untouched old.disk new.disk
   pub refused : IsTrue old.disk.tells → status ≡ NO_STORE → NeverServed old.disk.file
-  pub summed : IsTrue (has_worked status) → PutsSummary count status old.sink new.sink
+  pub summed : IsTrue (has_worked status) → PutsSummary count entries status old.sink new.sink
   pub line_alone : IsTrue old.sink.tells → has_worked status ≡ false → PutsLine status old.sink new.sink
+
+-- what `work` does always, and what `cached` does
+abbrev pub WorkAlways : ℕ → ℕ → Devices → Devices → Type 0
+WorkAlways count status old new = JobsAlways count None status old new
+
+abbrev pub CachedAlways : ℕ → ℕ → ℕ → Devices → Devices → Type 0
+CachedAlways count entries status old new = JobsAlways count (Some entries) status old new

@@ -8,8 +8,10 @@ ghost use Rattle.map_model.specs.Maps.{Map};
 ghost use Rattle.table_rules.specs.Opening.{OpensBy};
 ghost use Rattle.command_face.specs.Mounting.{IsMounted, mounted};
 ghost use Rattle.disk_face.specs.Devices.{devices};
-ghost use Rattle.work_command.specs.Summaries.{eleven_jobs, summary_text};
-ghost use Rattle.work_command.specs.Working.{WorkPromise, WorkAlways};
+ghost use Rattle.read_cache.specs.Examples.{a_and_b};
+ghost use Rattle.work_command.specs.Asked.{NumberedJobs};
+ghost use Rattle.work_command.specs.Summaries.{cache_lines, eleven_jobs, summary_text};
+ghost use Rattle.work_command.specs.Working.{JobsAlways, JobsPromise};
 
 use command_face::{DISK_FAILED, DONE, NO_FILE, NO_MEMORY};
 use disk_face::{Bay, Mounted, Sink};
@@ -23,15 +25,19 @@ pub fn worked_summary()
         ++ codes "seek 58049167360 25165824000\n" }
 {}
 
-/// Where the words are `work FILE NUMBER COUNT`, the mount finds the file, it opens, and no count of
-/// failures rises, all jobs are done or memory is wanting.
+/// What `cached` puts of a cache of which two gets were hits and six were misses.
+pub fn worked_counts()
+    ensures { cache_lines a_and_b ≡ codes "hits 2\nmisses 6\ndrops 0\n" }
+{}
+
+/// Where the words are `work FILE NUMBER COUNT` or `cached FILE NUMBER COUNT ENTRIES`, the mount finds the
+/// file, it opens, and no count of failures rises, all jobs are done or memory is wanting.
 pub fn jobs_are_done<B: Bay, O: Sink>()
-    ensures { (t : choice.SlotTable) (m : Map) (b : Book) (file : List ℕ) (number count status : ℕ)
-        (old new : B)
-        (out after : O) → OpensBy CLASSES SIZE_MAX t (B.state old).file m b
-        → WorkPromise number count status (devices (B.state old) (O.state out))
+    ensures { (t : choice.SlotTable) (m : Map) (b : Book) (file : List ℕ) (asked : NumberedJobs)
+        (status : ℕ) (old new : B) (out after : O) → OpensBy CLASSES SIZE_MAX t (B.state old).file m b
+        → JobsPromise asked status (devices (B.state old) (O.state out))
         (devices (B.state new) (O.state after))
-        → WorkAlways count status (devices (B.state old) (O.state out))
+        → JobsAlways asked.count asked.entries status (devices (B.state old) (O.state out))
         (devices (B.state new) (O.state after))
         → IsMounted file false (B.state new).last_mount (status ≡ DISK_FAILED) (status ≡ NO_FILE)
         → (B.state new).last_mount ≡ mounted file false There

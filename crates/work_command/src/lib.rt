@@ -1,9 +1,10 @@
-//! The command `work`: the jobs of a number over a file, and their summary.
+//! The commands `work` and `cached`: the jobs of a number over a file, by its store or through a cache, and
+//! their summary.
 #![tactic(auto)]
 
 mod laws;
 mod summary;
 mod work;
 
-pub use laws::{jobs_are_done, worked_summary};
-pub use work::work_file;
+pub use laws::{jobs_are_done, worked_counts, worked_summary};
+pub use work::{cached_file, work_file};

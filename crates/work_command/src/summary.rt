@@ -1,22 +1,36 @@
-//! The text of a summary.
+//! The text of a summary, and of what a cache counted.
 ghost use Rattle.std.specs.Prelude.{◌≡◌, ◌+◌, ◌≤◌, ◌++◌, length};
 ghost use Rattle.arrayvec.specs.ArrayVec.{array_vec_len};
-ghost use Rattle.work_command.specs.Summaries.{answer_lines, cost_line, cost_lines, count_line, store_lines, summary_text};
+ghost use Rattle.work_command.specs.Summaries.{answer_lines, cache_lines, cost_line, cost_lines, count_line, store_lines, summary_text};
 ghost use Rattle.command_face.specs.Lines.{numbered};
 
 use arrayvec::ArrayVec;
 use command_face::push;
 use itoa::Buffer;
+use read_cache::Cached;
+use size_class::CLASSES;
 use work_session::{Cost, Summary};
 
-/// The twelve lines of a summary, each with its newline; they have fewer than 1,000 bytes.
+/// The twelve lines of a summary, each with its newline; they have at most 900 bytes.
 pub fn summary_text(summary: &Summary) -> ArrayVec<u8, 4096>
-    ensures { result.items ≡ summary_text summary.now }
+    ensures lines { result.items ≡ summary_text summary.now }
+    ensures short { array_vec_len result ≤ 900 }
 {
     let mut text = ArrayVec::new();
     push_answers(&mut text, summary);
     push_store(&mut text, summary);
     push_costs(&mut text, summary);
+    text
+}
+
+/// The lines of a summary, and three of what the cache counted whose store did the jobs.
+pub fn cached_text(summary: &Summary, cached: &Cached<CLASSES>) -> ArrayVec<u8, 4096>
+    ensures { result.items ≡ summary_text summary.now ++ cache_lines cached.now.list }
+{
+    let mut text = summary_text(summary);
+    push_count(&mut text, b"hits", u128::from(cached.hits()));
+    push_count(&mut text, b"misses", u128::from(cached.misses()));
+    push_count(&mut text, b"drops", u128::from(cached.drops()));
     text
 }
 
@@ -48,7 +62,8 @@ fn push_store(text: &mut ArrayVec<u8, 4096>, summary: &Summary)
 /// Adds what that cost.
 fn push_costs(text: &mut ArrayVec<u8, 4096>, summary: &Summary)
     requires room { array_vec_len text.old ≤ 2000 }
-    ensures { text.new.items ≡ text.old.items ++ cost_lines summary.now }
+    ensures lines { text.new.items ≡ text.old.items ++ cost_lines summary.now }
+    ensures short { array_vec_len text.new ≤ array_vec_len text.old + 300 }
 {
     push_cost(text, b"linear", &summary.linear);
     push_cost(text, b"flat", &summary.flat);

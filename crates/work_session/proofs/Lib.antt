@@ -1,9 +1,11 @@
+mod CacheLaws
 mod CallLaws
 mod DoesLaws
 mod DoneLaws
 mod LedgerLaws
 mod PatternLaws
 mod RowLaws
+mod ServingLaws
 mod WholeLaws
 mod WorkLaws
 mod WorkingLaws

@@ -41,7 +41,7 @@ module _ {classes : ℕ} (old new : StoreValue) (jobs : List Request) (a d : dis
     (lines : LinesOf classes new.moved new.asked x) (zeros : (c : ℕ) → classes ≤ c
     → slice_index new.moved c ≡ 0)
   where
-    all_jobs : jobs ≡ w.jobs
+    pub all_jobs : jobs ≡ w.jobs
     all_jobs = w.split ∙ append-nil w.jobs
 
     abbrev start : State
@@ -56,13 +56,13 @@ module _ {classes : ℕ} (old new : StoreValue) (jobs : List Request) (a d : dis
     told_d : IsTrue a.tells → IsTrue d.tells
     told_d told = subst IsTrue (sym w.ran.frame.stays.told) told
 
-    over : IsTrue a.tells → IsOver classes new d.file
+    pub over : IsTrue a.tells → IsOver classes new d.file
     over told = w.ran.over.over w.ran.unbroken (told_d told)
 
     same_divisor : new.in_use.block.k ≡ k
     same_divisor = ap (λ (u : SuperBlock). u.k) w.ran.block
 
-    counts : IsTrue a.tells → CountsOf k w.replies last x
+    pub counts : IsTrue a.tells → CountsOf k w.replies last x
     counts told =
         let h = w.counts told in
         let newest = w.ran.newest told in
@@ -92,14 +92,14 @@ module _ {classes : ℕ} (old new : StoreValue) (jobs : List Request) (a d : dis
           ap (λ (n : ℕ). factor new.in_use.block.k * n) h.asked,
         ))
 
-    paid : ArePaidLines classes k old.book.grid x
+    pub paid : ArePaidLines classes k old.book.grid x
     paid = record {
       by_linear = paid_line linear (linear_is classes) x.linear lines.by_linear;
       by_flat = paid_line flat (flat_is classes) x.flat lines.by_flat;
       by_seek = paid_line seek (seek_is classes) x.seek lines.by_seek;
     }
 
-    pub has_done : HasDone classes old jobs a d x
+    abbrev pub has_done : HasDone classes old jobs a d x
     has_done = record {
       new = new;
       replies = w.replies;

@@ -14,8 +14,9 @@ use Rattle.work_session.specs.declared.tally.Tally.{Tally}
 use Rattle.work_session.proofs.LedgerLaws.{full_row, ledger_more, ledger_none, tally_few, tally_more, tally_read}
 use Rattle.work_session.proofs.WorkLaws.{work_stopped, worked_more, worked_none}
 
-pub working_none : {classes : ℕ} (s : StoreValue) (all : List Request) (a : disk.State) → IsFresh classes s
-    → IsConnected classes s a → IsTrue a.is_ready → IsWorking classes s s all all a a no_tally
+abbrev pub working_none : {classes : ℕ} (s : StoreValue) (all : List Request) (a : disk.State)
+    → IsFresh classes s → IsConnected classes s a → IsTrue a.is_ready
+    → IsWorking classes s s all all a a no_tally
 working_none {classes} s all a fresh over ready = record {
   jobs = [];
   replies = [];
@@ -34,12 +35,12 @@ module _ {classes : ℕ} (old mid new : StoreValue) (all left : List Request) (r
   pub few_jobs : length x.jobs + 1 ≤ length all
   few_jobs = omega (arith, ap length x.split, length-append x.jobs (r ∷ left))
 
-  told_b : IsTrue a.tells → IsTrue b.tells
+  pub told_b : IsTrue a.tells → IsTrue b.tells
   told_b told = subst IsTrue (sym x.ran.frame.stays.told) told
 
   module _ (head : text.Reply) (does : Does classes r mid new b d (Ok head)) (few : length all
       ≤ 1000001) where
-    pub working_more : IsWorking classes old new all left a d (tally_with t head)
+    abbrev pub working_more : IsWorking classes old new all left a d (tally_with t head)
     working_more = record {
       jobs = x.jobs ++ r ∷ [];
       replies = x.replies ++ reply_at mid b.file r ∷ [];

@@ -1,3 +1,4 @@
 pub mod Counts
 pub mod Works
 pub mod Jobs
+pub mod Servers

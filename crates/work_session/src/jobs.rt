@@ -3,35 +3,37 @@ ghost use Rattle.std.specs.Prelude.{◌≡◌, ◌≤◌, ◌^◌, [], false, If
 ghost use Rattle.store_model.specs.Connection.{IsConnected};
 ghost use Rattle.store_model.specs.Opened.{IsFresh};
 ghost use Rattle.work_maker.specs.Making.{jobs_left};
-ghost use Rattle.work_session.specs.Jobs.{IsPattern, IsWorking};
+ghost use Rattle.work_session.specs.Jobs.{IsPattern};
+ghost use Rattle.work_session.specs.Servers.{IsServing};
 ghost use Rattle.work_session.specs.Works.{HasStopped};
 
+use crate::Server;
 use crate::job::do_job;
 use crate::tally::Tally;
 use disk_face::{Disk, DiskFault};
-use store_core::Store;
 use work_maker::Work;
 
 /// Does the jobs that are left, and counts their replies.
-pub(crate) fn do_jobs<const C: usize, D: Disk>(
-    store: &mut Store<C>,
+pub(crate) fn do_jobs<S: Server<C>, const C: usize, D: Disk>(
+    server: &mut S,
     disk: &mut D,
     pattern: &[u8],
     work: &mut Work,
 ) -> Result<Tally, DiskFault>
     requires ready { IsTrue (D.state disk.old).is_ready }
-    requires over { IsConnected C store.old (D.state disk.old) }
-    requires fresh { IsFresh C store.old }
+    requires over { IsConnected C (S.store server.old) (D.state disk.old) }
+    requires fresh { IsFresh C (S.store server.old) }
+    requires knows { S.knows server.old (D.state disk.old) }
     requires pattern { IsPattern pattern.now }
     requires few { length (jobs_left work.old) ≤ 1000001 }
-    ensures done { IfOk result (λ tally. IsWorking C store.old store.new (jobs_left work.old) []
-        (D.state disk.old) (D.state disk.new) tally) }
-    ensures stopped { OnErr result (HasStopped C store.old (jobs_left work.old) (D.state disk.old)
+    ensures done { IfOk result (λ tally. IsServing S.store S.knows S.becomes C server.old server.new
+        (jobs_left work.old) [] (D.state disk.old) (D.state disk.new) tally) }
+    ensures stopped { OnErr result (HasStopped C (S.store server.old) (jobs_left work.old) (D.state disk.old)
         (D.state disk.new)) }
 {
     let mut tally = Tally::none();
     'jobs: while let Some(job) = work.next() {
-        match do_job(store, disk, pattern, &job) {
+        match do_job(server, disk, pattern, &job) {
             Ok(reply) => tally.add(&reply),
             Err(_) => return Err(DiskFault),
         }

@@ -9,10 +9,10 @@ ghost use Rattle.store_model.specs.Stores.{IsStore};
 ghost use Rattle.work_session.specs.Jobs.{HasTally};
 ghost use Rattle.work_session.specs.Works.{EndsAt, IsLine, LinesOf};
 
+use crate::Server;
 use crate::tally::Tally;
 use move_cost::{CostTable, Flat, Linear, Seek, weighted};
 use size_class::Row;
-use store_core::Store;
 
 /// What the bytes moved and the bytes asked for cost by one table, each times `2^(C - 1)`.
 #[derive(Clone, Copy, Debug, PartialEq, Eq)]
@@ -41,18 +41,22 @@ pub struct Summary {
     pub seek: Cost,
 }
 
-/// The summary of so many jobs, of which this was counted, by a store that did them.
-pub(crate) fn sum_up<const C: usize>(store: &Store<C>, requests: u64, tally: Tally) -> Summary
-    requires whole { store.now.is_broken ≡ false }
-    requires idle { store.now.in_hand ≡ None }
-    requires sound { IsStore C store.now }
+/// The summary of so many jobs, of which this was counted, by what did them.
+pub(crate) fn sum_up<S: Server<C>, const C: usize>(
+    server: &S,
+    requests: u64,
+    tally: Tally,
+) -> Summary
+    requires whole { (S.store server.now).is_broken ≡ false }
+    requires idle { (S.store server.now).in_hand ≡ None }
+    requires sound { IsStore C (S.store server.now) }
     ensures tally { HasTally tally requests result }
-    ensures end { EndsAt store.now result }
-    ensures lines { LinesOf C store.now.moved store.now.asked result }
-    ensures zeros { (c : ℕ) → C ≤ c → slice_index store.now.moved c ≡ 0 }
+    ensures end { EndsAt (S.store server.now) result }
+    ensures lines { LinesOf C (S.store server.now).moved (S.store server.now).asked result }
+    ensures zeros { (c : ℕ) → C ≤ c → slice_index (S.store server.now).moved c ≡ 0 }
 {
-    let (names, bytes) = size(store);
-    let ledger = store.ledger();
+    let (names, bytes) = server.names_and_bytes();
+    let ledger = server.ledger_now();
     Summary {
         requests,
         ok: tally.ok,
@@ -61,25 +65,11 @@ pub(crate) fn sum_up<const C: usize>(store: &Store<C>, requests: u64, tally: Tal
         refused: tally.refused,
         names,
         bytes,
-        length: store.gauge().length,
+        length: server.length(),
         moved: total(&ledger.moved),
         linear: line(&Linear, &ledger.moved, &ledger.asked),
         flat: line(&Flat, &ledger.moved, &ledger.asked),
         seek: line(&Seek, &ledger.moved, &ledger.asked),
-    }
-}
-
-/// How many names there are in a store, and how many bytes their objects have.
-fn size<const C: usize>(store: &Store<C>) -> (u64, u64)
-    requires whole { store.now.is_broken ≡ false }
-    requires idle { store.now.in_hand ≡ None }
-    ensures names { result.0 ≡ fin.len store.now.now }
-    ensures bytes { result.1 ≡ volume_of store.now.now }
-{
-    match store.stat() {
-        Ok(stat) => (stat.names, stat.bytes),
-        // The store isn't broken.
-        Err(_) => unreachable!(),
     }
 }
 

@@ -4,16 +4,16 @@ ghost use Rattle.disk_face.specs.Writes.{KeepsDisk};
 ghost use Rattle.store_model.specs.Connection.{IsConnected};
 ghost use Rattle.store_model.specs.Opened.{IsFresh};
 ghost use Rattle.work_maker.specs.Jobs.{jobs};
-ghost use Rattle.work_session.specs.Works.{HasDone, HasStopped};
+ghost use Rattle.work_session.specs.Servers.{HasServed};
+ghost use Rattle.work_session.specs.Works.{HasStopped};
 
-use crate::Summary;
 use crate::jobs::do_jobs;
 use crate::pattern::counting;
 use crate::summary::sum_up;
+use crate::{Server, Summary};
 use disk_face::{Disk, DiskFault};
 use slot_codec::NoMemory;
 use std::alloc::Global;
-use store_core::Store;
 use work_maker::Work;
 
 /// Why a work wasn't done.
@@ -25,25 +25,30 @@ pub enum WorkFault {
     NoMemory,
 }
 
-/// Does the jobs of a number by a store that was opened: `count` of them, from 1 to 1,000,000, and a
-/// checkpoint, and sums up what they came to. What gets give is dropped. After the bytes of objects are
-/// made, which are 8,447, no memory is taken.
-pub fn do_work<const C: usize, D: Disk>(
+/// Does the jobs of a number by a store that was opened, or by one behind a cache that is empty: `count` of
+/// them, from 1 to 1,000,000, of so many names as the store's file is for, and a checkpoint; and sums up
+/// what they came to. What gets give is dropped. After the bytes of objects are made, which are 8,447, no
+/// job wants memory.
+pub fn do_work<S: Server<C>, const C: usize, D: Disk>(
     alloc: Global,
-    store: Store<C>,
+    server: &mut S,
     disk: &mut D,
     number: u64,
     count: u64,
+    names: u64,
 ) -> Result<Summary, WorkFault>
     requires ready { IsTrue (D.state disk.old).is_ready }
-    requires over { IsConnected C store (D.state disk.old) }
-    requires fresh { IsFresh C store }
+    requires over { IsConnected C (S.store server.old) (D.state disk.old) }
+    requires fresh { IsFresh C (S.store server.old) }
+    requires knows { S.knows server.old (D.state disk.old) }
+    requires names { names ≡ (S.store server.old).in_use.block.names }
     requires least { 1 ≤ count }
     requires most { count ≤ 1000000 }
-    ensures done { IfOk result (HasDone C store.entry (jobs number count store.entry.in_use.block.names)
-        (D.state disk.old) (D.state disk.new)) }
-    ensures stopped { result ≡ Err WorkFault.Disk
-        → HasStopped C store.entry (jobs number count store.entry.in_use.block.names) (D.state disk.old)
+    ensures done { IfOk result (HasServed S.store S.becomes C server.old server.new
+        (jobs number count (S.store server.old).in_use.block.names) (D.state disk.old)
+        (D.state disk.new)) }
+    ensures stopped { result ≡ Err WorkFault.Disk → HasStopped C (S.store server.old)
+        (jobs number count (S.store server.old).in_use.block.names) (D.state disk.old)
         (D.state disk.new) }
     ensures memory { result ≡ Err WorkFault.NoMemory → disk.new ≡ disk.old }
     ensures frame { KeepsDisk (D.state disk.old) (D.state disk.new) }
@@ -52,10 +57,9 @@ pub fn do_work<const C: usize, D: Disk>(
     let Ok(pattern) = counting(alloc) else {
         return Err(WorkFault::NoMemory);
     };
-    let mut store = store;
-    let mut work = Work::new(number, count, store.names());
-    match do_jobs(&mut store, disk, pattern.as_slice(), &mut work) {
-        Ok(tally) => Ok(sum_up(&store, count + 1, tally)),
+    let mut work = Work::new(number, count, names);
+    match do_jobs(server, disk, pattern.as_slice(), &mut work) {
+        Ok(tally) => Ok(sum_up(server, count + 1, tally)),
         Err(DiskFault) => Err(WorkFault::Disk),
     }
 }

@@ -5,15 +5,17 @@ use Rattle.ask_text.specs.declared.reply.Reply.{Reply}
 use Rattle.ask_session.specs.declared.ends.End.{End}
 use Rattle.work_session.specs.Jobs.{Does}
 use Rattle.work_session.proofs.DoesLaws.{can_serve, keep_does}
-use Rattle.work_session.proofs.job.keep.Goals as goal
+use Rattle.work_session.proofs.ServingLaws.{store_serves}
+use Rattle.work_session.proofs.by_store.StoreServer.save.Goals as goal
 
 pub returns : goal.returns
-returns g c = subst (λ (x : Result Reply End). Does g.row.C ask.keep c.args.store.now c.keep-answer.new.self
+returns g c = store_serves (
+    subst (λ (x : Result Reply End). Does g.row.C ask.keep c.args.self.now c.keep-answer.new.self
     (g.D.Disk.state c.args.disk.now) (g.D.Disk.state c.keep-answer.new.disk) x)
     (sym c.answer_change.ensures)
-    (keep_does c.args.store.now c.keep-answer.new.self
+    (keep_does c.args.self.now c.keep-answer.new.self
     (g.D.Disk.state c.args.disk.now) (g.D.Disk.state c.keep-answer.new.disk)
-    (can_serve c.args.store.now (g.D.Disk.state c.args.disk.now) c.requires.whole c.requires.sound
+    (can_serve c.args.self.now (g.D.Disk.state c.args.disk.now) c.requires.whole c.requires.sound
     c.requires.over c.requires.ready (g.met.D.Disk.lawful c.args.disk.now))
     c.keep-answer.result
     (record {
@@ -21,4 +23,4 @@ returns g c = subst (λ (x : Result Reply End). Does g.row.C ask.keep c.args.sto
       refused = c.keep-answer.ensures.refused;
       kept = c.keep-answer.ensures.kept;
     })
-    c.keep-answer.ensures.step c.keep-answer.ensures.over c.keep-answer.ensures.broken c.is_sound.ensures)
+    c.keep-answer.ensures.step c.keep-answer.ensures.over c.keep-answer.ensures.broken c.is_sound.ensures))

@@ -7,16 +7,18 @@ use Rattle.ask_session.specs.declared.ends.End.{End}
 use Rattle.work_session.specs.Jobs.{Does}
 use Rattle.work_session.proofs.DoesLaws.{can_serve, change_does}
 use Rattle.work_session.proofs.DoneLaws.{del_short}
-use Rattle.work_session.proofs.job.remove.Goals as goal
+use Rattle.work_session.proofs.ServingLaws.{store_serves}
+use Rattle.work_session.proofs.by_store.StoreServer.remove.Goals as goal
 
 pub returns : goal.returns
-returns g c = subst (λ (x : Result Reply End). Does g.row.C (ask.change
-    (del_of c.args.name.now)) c.args.store.now c.del-answer.new.self (g.D.Disk.state c.args.disk.now)
+returns g c = store_serves (
+    subst (λ (x : Result Reply End). Does g.row.C (ask.change
+    (del_of c.args.name.now)) c.args.self.now c.del-answer.new.self (g.D.Disk.state c.args.disk.now)
     (g.D.Disk.state c.del-answer.new.disk) x)
     (sym c.answer_change.ensures)
-    (change_does c.args.store.now c.del-answer.new.self (del_of c.args.name.now)
+    (change_does c.args.self.now c.del-answer.new.self (del_of c.args.name.now)
     (g.D.Disk.state c.args.disk.now) (g.D.Disk.state c.del-answer.new.disk) c.del-answer.result
-    (can_serve c.args.store.now (g.D.Disk.state c.args.disk.now) c.requires.whole c.requires.sound
+    (can_serve c.args.self.now (g.D.Disk.state c.args.disk.now) c.requires.whole c.requires.sound
     c.requires.over c.requires.ready (g.met.D.Disk.lawful c.args.disk.now))
     (del_short c.args.name.now)
-    c.del-answer.ensures.change c.del-answer.ensures.step c.is_sound.ensures)
+    c.del-answer.ensures.change c.del-answer.ensures.step c.is_sound.ensures))

@@ -4,7 +4,8 @@ use Rattle.command_face.specs.declared.status.TheConstants.{DISK_FAILED, NO_FILE
 use Rattle.command_face.specs.Mounting.{IsMounted}
 use Rattle.command_face.specs.Refusing.{IsRefused}
 use Rattle.command_face.specs.Outcomes.{status_at}
-use Rattle.work_command.specs.Working.{WorkHolds, WorkAlways}
+use Rattle.work_command.specs.Asked.{jobs_numbered}
+use Rattle.work_command.specs.Working.{JobsAlways, JobsHold}
 use Rattle.command_face.specs.declared.outcome.Outcome.{Outcome}
 use Rattle.disk_face.specs.Devices.{devices}
 use Rattle.served_file.specs.Served.{found_with}
@@ -13,7 +14,7 @@ use Rattle.work_command.proofs.SummaryLaws.{keeps_line, line_only, summary_of}
 use Rattle.command_face.proofs.EndedLaws.{ended_by_line}
 use Rattle.work_command.proofs.RefusalLaws.{never_worked}
 use Rattle.work_command.proofs.WorkingLaws.{works}
-use Rattle.work_command.proofs.work.work_file.Goals as goal
+use Rattle.work_command.proofs.work.jobs_over.Goals as goal
 
 pub returns-clause-works : goal.returns-clause-works
 returns-clause-works g c = λ told t m b opens.
@@ -24,10 +25,11 @@ returns-clause-works g c = λ told t m b opens.
     let after = g.O.Sink.state c.finish.new.output in
     let status : c.finish.result.status ≡ status_at c.work_over-end.result =
     ap (λ (x : Outcome). x.status) c.finish.ensures.status in
-    subst (λ n. WorkHolds (found_with t.chosen.block t m b) c.args.number c.args.count n (devices old out)
-    (devices new after)) (sym status)
-    (works t m b old (g.met.B.Disk.lawful c.args.bay.now) told opens g.B.Disk.state c.args.number
-    c.args.count new out put after
+    subst (λ n. JobsHold (found_with t.chosen.block t m b)
+    (jobs_numbered c.args.number c.args.count c.args.entries) n (devices old out) (devices new after))
+    (sym status)
+    (works t m b old (g.met.B.Disk.lawful c.args.bay.now) told opens g.B.Disk.state
+    (jobs_numbered c.args.number c.args.count c.args.entries) new out put after
     c.args.file.now c.work_over-end.result c.work_over-end.ensures
     c.finish.ensures.line)
 
@@ -40,7 +42,8 @@ returns-clause-refused g c = λ told never.
     let after = g.O.Sink.state c.finish.new.output in
     let status : c.finish.result.status ≡ status_at c.work_over-end.result =
     ap (λ (x : Outcome). x.status) c.finish.ensures.status in
-    let refused = refused_work g.B.Disk.state c.args.file.now c.args.number c.args.count old new out put
+    let refused = refused_work g.B.Disk.state c.args.file.now
+    (jobs_numbered c.args.number c.args.count c.args.entries) old new out put
     c.work_over-end.result told
     never c.work_over-end.ensures in
     ended_by_line (IsRefused old.file) out put after c.work_over-end.result c.finish.result.status
@@ -58,7 +61,8 @@ returns-clause-mounted g c =
     ap (λ (x : Outcome). x.status) c.finish.ensures.status in
     subst (λ n. IsMounted c.args.file.now false new.last_mount (n ≡ DISK_FAILED) (n ≡ NO_FILE))
     (sym status)
-    (whole g.B.Disk.state c.args.file.now c.args.number c.args.count old new out put c.work_over-end.result
+    (whole g.B.Disk.state c.args.file.now
+    (jobs_numbered c.args.number c.args.count c.args.entries) old new out put c.work_over-end.result
     c.work_over-end.ensures).mounted
 
 pub returns-clause-keeps : goal.returns-clause-keeps
@@ -71,17 +75,20 @@ returns-clause-keeps g c =
     let end = c.work_over-end.result in
     let status : c.finish.result.status ≡ status_at end = ap (λ (x : Outcome). x.status)
     c.finish.ensures.status in
-    let w = whole g.B.Disk.state c.args.file.now c.args.number c.args.count old new out put end
+    let w = whole g.B.Disk.state c.args.file.now
+    (jobs_numbered c.args.number c.args.count c.args.entries) old new out put end
     c.work_over-end.ensures in
-    subst (λ n. WorkAlways c.args.count n (devices old out) (devices new after)) (sym status) (record {
+    subst (λ n. JobsAlways c.args.count c.args.entries n (devices old out) (devices new after)) (sym status)
+    (record {
       known = w.known;
       keeps = keeps_line old new out put after end w.keeps c.finish.ensures.later c.finish.ensures.calm
           c.finish.ensures.told;
       untouched = w.untouched;
-      refused = λ told four. never_worked g.B.Disk.state c.args.file.now c.args.number c.args.count old new
-          out
-          put end told four c.work_over-end.ensures;
-      summed = summary_of g.B.Disk.state c.args.number c.args.count new out put after end
+      refused = λ told four. never_worked g.B.Disk.state c.args.file.now
+          (jobs_numbered c.args.number c.args.count c.args.entries) old new out put end told four
+          c.work_over-end.ensures;
+      summed = summary_of g.B.Disk.state
+          (jobs_numbered c.args.number c.args.count c.args.entries) new out put after end
           c.finish.ensures.line c.work_over-end.ensures;
       line_alone = λ told none. line_only out put after end none (w.nothing none) told c.finish.ensures.line;
     })
