@@ -11,6 +11,7 @@ mod refused;
 mod shown;
 mod tally;
 mod unkept;
+mod unread;
 mod why;
 mod wrong;
 

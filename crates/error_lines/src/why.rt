@@ -1,7 +1,8 @@
 //! The line on standard error: what failed, by a stable word and in words for people.
 use crate::failed::Failed;
 use crate::refused::Refused;
-use crate::shown::{Front, Shown};
+use crate::shown::Shown;
+use crate::unread::Unread;
 use crate::wrong::Wrong;
 use disk_file::Cause;
 use std::fmt::{self, Display, Formatter};
@@ -50,11 +51,8 @@ impl Display for Why<'_> {
             }
             2 => {
                 let number = self.said("fault request ").unwrap_or("?");
-                let begun = Begins(self.begun);
-                write!(
-                    f,
-                    "standard input: request: request {number} is none, or the input ends within it; {begun}"
-                )
+                let unread = Unread(command_of(self.words), number, self.begun);
+                write!(f, "standard input: request: {unread}")
             }
             3 => {
                 let error = Error::from_raw_os_error(NOTHING_THERE);
@@ -76,35 +74,57 @@ impl Display for Why<'_> {
                 "standard input: budget: a session has answered as many requests as it may",
             ),
             13 => {
+                let object = if command_of(self.words) == "batch" {
+                    "the batch that it keeps"
+                } else {
+                    "the object"
+                };
                 write!(
                     f,
-                    "{file}: damaged: the bytes of the object don't have the digest that it was put with"
+                    "{file}: damaged: the bytes of {object} don't have the digest that it was put with"
                 )
             }
             14 => {
                 let number = self.said("fault too many ").unwrap_or("some");
-                write!(
-                    f,
-                    "{file}: too-many-names: it has {number}, and a table whose records have digests has room for fewer"
-                )
+                let many = TooMany(command_of(self.words), number);
+                write!(f, "{file}: too-many-names: {many}")
             }
             15 => write!(f, "{file}: worn: it was saved as often as a file may be"),
+            16 => write!(
+                f,
+                "{file}: no-batch: the bytes of its object !batch are no batch"
+            ),
+            17 => {
+                let number = self.said("fault unfit ").unwrap_or("?");
+                write!(
+                    f,
+                    "{file}: unfit: request {number} of the batch removes a name that isn't there, or leaves no room"
+                )
+            }
             _ => f.write_str("io: it failed"),
         }
     }
 }
 
-/// How a line begins that is no request, or that of one that isn't whole.
-#[derive(Clone, Copy)]
-struct Begins<'a>(&'a [u8]);
+/// The first word of a command line, or nothing.
+fn command_of<'a>(words: &[&'a str]) -> &'a str {
+    words.get(0).copied().unwrap_or("")
+}
 
-impl Display for Begins<'_> {
+/// Of how many names there is no room, by the command that found them.
+#[derive(Clone, Copy)]
+struct TooMany<'a>(&'a str, &'a str);
+
+impl Display for TooMany<'_> {
     fn fmt<W: fmt::Write>(&self, f: &mut Formatter<W>) -> fmt::Result {
-        if self.0.is_empty() {
-            return f.write_str("its line is blank");
+        let TooMany(command, number) = *self;
+        if command == "load" {
+            return write!(f, "the dump has {number}, and NAMES gives room for fewer");
         }
-        let front = Front(self.0);
-        write!(f, "it begins with {front}")
+        write!(
+            f,
+            "it has {number}, and a table whose records have digests has room for fewer"
+        )
     }
 }
 

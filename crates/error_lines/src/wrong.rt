@@ -43,6 +43,18 @@ const FORMS: &[Form] = &[
         words: &["FILE"],
     },
     Form {
+        command: "load",
+        words: &["FILE", "K", "NAMES"],
+    },
+    Form {
+        command: "batch",
+        words: &["FILE"],
+    },
+    Form {
+        command: "cached",
+        words: &["FILE", "NUMBER", "COUNT", "ENTRIES"],
+    },
+    Form {
         command: "--help",
         words: &[],
     },
@@ -129,6 +141,7 @@ fn range_of(name: &str) -> &'static str {
         "NAMES" => "a number from 16 to 65536",
         "NUMBER" => "a number from 0 to 18446744073709551615",
         "COUNT" => "a number from 1 to 1000000",
+        "ENTRIES" => "a number from 1 to 4096",
         _ => "any text but the empty one",
     }
 }
@@ -143,6 +156,7 @@ fn may_be(name: &str, word: &str) -> bool {
         "NAMES" => is_number(word, 16, 65_536),
         "NUMBER" => is_number(word, 0, u64::MAX),
         "COUNT" => is_number(word, 1, 1_000_000),
+        "ENTRIES" => is_number(word, 1, 4_096),
         _ => !word.is_empty(),
     }
 }
