@@ -3,9 +3,10 @@ ghost use Rattle.std.specs.Prelude.{◌≡◌, ◌≤◌, IsTrue, length};
 
 mod phases;
 
+use crate::numbered::names_of;
 use disk_face::Disk;
 use disk_mem::PlainDisk;
-use phases::{Cost, OBJECT, changes, checkpoint, names_of};
+use phases::{Cost, OBJECT, changes, checkpoint};
 use slot_pair::SlotPair;
 use std::alloc::Global;
 use std::io;

@@ -1,13 +1,16 @@
 //! Measures the parts of a store: `bench disk PIECES` a real file, `bench table NAMES` the table of names,
-//! `bench flush NAMES` flushes and checkpoints, `bench open NAMES` openings. There are 16 to 65,536 names.
-//! With no word each is measured with few, and nothing is printed.
+//! `bench flush NAMES` flushes and checkpoints, `bench open NAMES` openings, `bench pause NAMES` how long a
+//! flush keeps its caller waiting, `bench cached NAMES` reads behind a cache. There are 16 to 65,536 names. With
+//! no word each is measured with few, and nothing is printed.
 #![tactic(auto)]
 
+mod cached;
 mod clock;
 mod disk;
 mod flush;
 mod numbered;
 mod opening;
+mod pause;
 mod table;
 
 use std::env;
@@ -15,6 +18,9 @@ use std::test::Fail;
 
 /// Pieces or names where no word says how many.
 const FEW: u64 = 64;
+
+/// The same where each flush syncs a real file.
+const FEWEST: u64 = 16;
 
 fn main(rt: HostRuntime) -> Result<(), Fail> {
     match env::args(&rt)?.nth(1) {
@@ -36,7 +42,9 @@ fn each(rt: &HostRuntime) -> Result<(), Fail> {
     disk::measure(rt, FEW, false)?;
     table::measure(rt, FEW, false)?;
     flush::measure(rt, FEW, false)?;
-    opening::measure(rt, FEW, false)
+    opening::measure(rt, FEW, false)?;
+    pause::measure(rt, FEWEST, false)?;
+    cached::measure(rt, FEWEST, false)
 }
 
 /// Measures one part, and prints what was measured.
@@ -51,6 +59,8 @@ fn one(rt: &HostRuntime, what: &str, count: u64) -> Result<(), Fail> {
         "table" => table::measure(rt, count, true),
         "flush" => flush::measure(rt, count, true),
         "open" => opening::measure(rt, count, true),
-        _ => Err("disk, table, flush or open")?,
+        "pause" => pause::measure(rt, count, true),
+        "cached" => cached::measure(rt, count, true),
+        _ => Err("disk, table, flush, open, pause or cached")?,
     }
 }

@@ -10,3 +10,12 @@ pub fn scrambled(alloc: Global, letter: char, n: u64, count: u64) -> Result<Stri
     let number = n.wrapping_mul(STRIDE) % count.max(1);
     format!(in alloc; "{letter}{number:08}")
 }
+
+/// A name for each number below `count`, in a scrambled order.
+pub fn names_of(alloc: Global, count: u64) -> Result<Vec<String>, AllocError> {
+    let mut names = Vec::new(alloc);
+    for n in 0..count {
+        names.push(scrambled(alloc, 'o', n, count)?)?;
+    }
+    Ok(names)
+}

@@ -10,6 +10,7 @@ use disk_file::{
     Cause, FileBay, StdSink, StdSource, Use, hold_numbers, is_own_errors, is_own_stream,
 };
 use error_lines::{Asked, Backs, Failed, Heard, Unkept, Why};
+use progress_lines::{CountedSink, CountedSource, Pace, Stream, is_terminal};
 use std::alloc::{AllocError, Global};
 use std::env;
 use std::io::{self, ErrorKind};
@@ -30,6 +31,12 @@ const SINK_FAULT: u8 = 9;
 
 /// The status where there is no memory for the words.
 const NO_MEMORY: u8 = 10;
+
+/// The commands that read their input to its end, however long it is.
+const READERS: &[&str] = &["run", "load", "batch"];
+
+/// The commands that put all objects of a file.
+const PUTTERS: &[&str] = &["dump"];
 
 fn main(rt: HostRuntime) -> ExitCode {
     let _held = match hold_numbers(&rt) {
@@ -80,9 +87,13 @@ fn call(rt: &HostRuntime, texts: &[&str], are_text: bool) -> Outcome {
         FileBay::reading(rt)
     };
     let backs = Backs::new();
-    let mut input = Asked::new(StdSource::new(rt.stdin()), &backs);
-    let mut output = Heard::new(StdSink::new(rt.stdout()), &backs);
+    let read = Pace::new(rt, "read", is_watched(rt, texts, READERS, Stream::Input));
+    let put = Pace::new(rt, "put", is_watched(rt, texts, PUTTERS, Stream::Output));
+    let mut input = Asked::new(CountedSource::new(StdSource::new(rt.stdin()), read), &backs);
+    let mut output = Heard::new(CountedSink::new(StdSink::new(rt.stdout()), put), &backs);
     let outcome = costore(rt.alloc(), texts, &mut bay, &mut input, &mut output);
+    input.source().end();
+    output.sink().end();
     tell(
         rt,
         Why {
@@ -93,8 +104,8 @@ fn call(rt: &HostRuntime, texts: &[&str], are_text: bool) -> Outcome {
             line: output.line(),
             begun: input.line(),
             disk: bay.cause(),
-            input: input.source().cause(),
-            output: output.sink().cause(),
+            input: input.source().source().cause(),
+            output: output.sink().sink().cause(),
         },
     );
     if serves(texts) {
@@ -149,6 +160,15 @@ fn tell_unkept(rt: &HostRuntime, file: &str, outcome: &Outcome, requests: u64) {
 /// The file that words name, or nothing.
 fn file_of<'a>(words: &[&'a str]) -> &'a str {
     words.get(1).copied().unwrap_or("")
+}
+
+/// Whether it is said how far a call is: of these commands, where standard error is a terminal, and the
+/// stream that they read or write isn't.
+fn is_watched(rt: &HostRuntime, words: &[&str], commands: &[&str], stream: Stream) -> bool {
+    let Some(word) = words.get(0).copied() else {
+        return false;
+    };
+    commands.contains(&word) && is_terminal(rt, Stream::Errors) && !is_terminal(rt, stream)
 }
 
 /// Whether words ask for a session.

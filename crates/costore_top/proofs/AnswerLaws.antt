@@ -22,7 +22,7 @@ use Rattle.file_commands.specs.Getting.{IsObject, given}
 use Rattle.file_commands.specs.Texts.{IsTold, check_text, map_text}
 use Rattle.command_face.specs.Outcomes.{Ends, EndsBy, status_at}
 use Rattle.costore_top.specs.Answering.{IsAnswer}
-use Rattle.costore_top.specs.Commands.{Command, check, dump, format, get, help, map_of, run, upgrade, version, work}
+use Rattle.costore_top.specs.Commands.{Command, batch, cached, check, dump, format, get, help, load, map_of, run, upgrade, version, work}
 use Rattle.command_face.proofs.UnopenedLaws.{opens_or_not}
 
 -- ---- one answer
@@ -103,6 +103,9 @@ one_answer (run name) file a b g h = absurd (g)
 one_answer (work name number count) file a b g h = absurd (g)
 one_answer (dump name) file a b g h = absurd (g)
 one_answer (upgrade name) file a b g h = absurd (g)
+one_answer (load name k names) file a b g h = absurd (g)
+one_answer (batch name) file a b g h = absurd (g)
+one_answer (cached name number count entries) file a b g h = absurd (g)
 one_answer help file a b g h = g ∙ sym h
 one_answer version file a b g h = g ∙ sym h
 

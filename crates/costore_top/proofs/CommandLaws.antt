@@ -1,15 +1,15 @@
 -- What each command does, from what its crate says of it.
-use Rattle.std.specs.Prelude.{◌≡◌, ◌≢◌, ◌⊎◌, ℕ, true, false, List, Result, Ok, Err, IfErr, IsTrue, IsFalse, OnErr, length}
+use Rattle.std.specs.Prelude.{◌≡◌, ◌≢◌, ℕ, true, false, List, Result, Ok, Err, IfErr, IsTrue, IsFalse, OnErr, length}
 use Rattle.std.proofs.Common.{arith, ap, refl, sym, ◌∙◌, subst, inl, inr}
 use Rattle.disk_face.specs.Counts.{HasCause}
 use Rattle.disk_face.specs.Frames.{Untouched}
 use Rattle.disk_face.specs.States.{State}
 use Rattle.disk_face.specs.Streams.{Puts, SinkState, SourceState}
 use Rattle.disk_face.specs.Devices.{Devices}
-use Rattle.command_face.specs.declared.status.TheConstants.{DISK_FAILED, NO_FILE, NO_STORE}
+use Rattle.command_face.specs.declared.status.TheConstants.{DISK_FAILED, FAULTY_WORDS, NO_FILE}
 use Rattle.command_face.specs.Layers.{Answers, IsCommandReason, KeepsAt, PutsNone}
 use Rattle.command_face.specs.Mounting.{IsMounted}
-use Rattle.command_face.specs.Outcomes.{Ends, EndsBy}
+use Rattle.command_face.specs.Outcomes.{Ends, EndsBy, PutsLine}
 use Rattle.command_face.specs.declared.outcome.Outcome.{Outcome}
 use Rattle.command_face.specs.declared.stop.StopReason.{StopReason}
 use Rattle.command_face.specs.declared.stop.StopReason.TheVariants as stop
@@ -17,19 +17,15 @@ use Rattle.file_commands.specs.Dumped.{Dumps, PutsNoDump}
 use Rattle.file_commands.specs.Formatting.{Formats, IsDone, format_answer}
 use Rattle.file_commands.specs.Getting.{IsObject}
 use Rattle.file_commands.specs.Texts.{IsChecked, IsMapped}
-use Rattle.run_command.specs.Headline.{RunPromise, is_session}
-use Rattle.run_command.specs.Sessions.{RunAlways}
 use Rattle.command_face.specs.Refusing.{IsRefused}
 use Rattle.served_file.specs.Unserved.{NeverServed}
-use Rattle.upgrade_command.specs.Upgrading.{UpgradeAlways, UpgradePromise}
-use Rattle.work_command.specs.Working.{WorkAlways, WorkPromise}
 use Rattle.costore_top.specs.Answering.{IsAnswer}
-use Rattle.costore_top.specs.Commands.{Command, check, dump, file_of, format, get, gives_answer, help, makes, map_of, mounts, reads, run, upgrade, version, work}
-use Rattle.costore_top.specs.Does.{Does}
+use Rattle.costore_top.specs.Commands.{Command, check, dump, file_of, format, get, gives_answer, help, is_run, makes, map_of, mounts, reads, reads_input, serves, version, writes}
+use Rattle.costore_top.specs.Does.{Does, Promised}
+use Rattle.costore_top.specs.Promises.{CountsNone, KeepsInput}
 use Rattle.costore_top.specs.declared.help.TheConstants.{HELP, VERSION}
 use Rattle.costore_top.proofs.FaultyLaws.{untouched}
-use Rattle.costore_top.proofs.OtherLaws.{session_not_one, upgrading_not_one, upgrading_plain, working_not_one, working_plain}
-use Rattle.costore_top.proofs.PlainLaws.{Layer}
+use Rattle.costore_top.proofs.PlainLaws.{Layer, not_both}
 
 -- ---- commands that answer
 
@@ -243,101 +239,33 @@ module _ {O : Type 0} (sink_of : O → SinkState) (c : Command) (text : List ℕ
         };
       }
 
--- ---- commands that serve requests
+-- ---- commands that write objects
 
-module _ (o : Outcome) (old new : Devices) (from rest : SourceState) (same_bay same_input : Type 0) where
-  pub running : (file : List ℕ)
-      → (IsTrue old.disk.tells → IsTrue from.tells → RunPromise o old new from rest)
-      → (IsTrue old.disk.tells → NeverServed old.disk.file
+-- A command that opens a store or loads one: it gives no answer that the file alone decides.
+module _ (c : Command) (has_file : IsTrue (mounts c)) (has_table : IsTrue (reads c))
+    (no_answer : IsFalse (gives_answer c)) (objects : IsTrue (writes c)) (o : Outcome) (old new : Devices)
+    (from rest : SourceState) (same_bay same_input : Type 0) where
+  pub writing : o.status ≢ FAULTY_WORDS
+      → IsMounted (file_of c) (makes c) new.disk.last_mount (o.status ≡ DISK_FAILED) (o.status ≡ NO_FILE)
+      → (IsTrue (serves c) → IsTrue old.disk.tells → NeverServed old.disk.file
       → Ends (IsRefused old.disk.file) o.status old.sink new.sink)
-      → (is_session o.status ≡ true) ⊎ (o.status ≡ NO_STORE)
-      → IsMounted file false new.disk.last_mount (o.status ≡ DISK_FAILED) (o.status ≡ NO_FILE)
-      → RunAlways o old new from rest same_input → Does (run file) o old new from rest same_bay same_input
-  running file promise refused known mounted always = record {
-    no_fault = session_not_one o.status known;
-    fileless = λ is. absurd (cc);
+      → (IsTrue (makes c) → IsTrue old.sink.tells → o.status ≡ DISK_FAILED
+      → PutsLine DISK_FAILED old.sink new.sink)
+      → (IsFalse (reads_input c) → KeepsInput o same_input) → (IsFalse (is_run c) → CountsNone o)
+      → Promised c o old new from rest same_input → Does c o old new from rest same_bay same_input
+  writing words mounted refused silent unread numbers promise = record {
+    no_fault = words;
+    fileless = λ none. not_both (sym has_file ∙ none);
     mounted = λ _. mounted;
-    ends = λ is. absurd (cc);
-    memory = λ is. absurd (cc);
-    line_alone = λ is. absurd (cc);
-    dumps = λ f is. absurd (cc);
-    refused = λ _. refused;
-    frame = λ is. absurd (cc);
-    keeps = λ is. absurd (cc);
-    formats = λ f k names is. absurd (cc);
-    silent = λ is. absurd (cc);
-    unread = λ is. absurd (cc);
-    headline = λ _. promise;
-    session = λ _. (known, always);
-    jobs = λ f number count is. absurd (cc);
-    upgrades = λ f is. absurd (cc);
-  }
-
-  pub working : (file : List ℕ) (number count : ℕ) → same_input
-      → (IsTrue old.disk.tells → WorkPromise number count o.status old new)
-      → (IsTrue old.disk.tells → NeverServed old.disk.file
-      → Ends (IsRefused old.disk.file) o.status old.sink new.sink)
-      → IsMounted file false new.disk.last_mount (o.status ≡ DISK_FAILED) (o.status ≡ NO_FILE)
-      → WorkAlways count o.status old new
-      → (o.done ≡ 0) × (o.kept_done ≡ 0) × (o.kept_turn ≡ 0)
-      → Does (work file number count) o old new from rest same_bay same_input
-  working file number count input promise refused mounted always numbers = record {
-    no_fault = working_not_one o.status always.known;
-    fileless = λ is. absurd (cc);
-    mounted = λ _. mounted;
-    ends = λ is. absurd (cc);
-    memory = λ is. absurd (cc);
-    line_alone = λ is. absurd (cc);
-    dumps = λ f is. absurd (cc);
-    refused = λ _. refused;
-    frame = λ is. absurd (cc);
-    keeps = λ is. absurd (cc);
-    formats = λ f k names is. absurd (cc);
-    silent = λ is. absurd (cc);
-    unread = λ _. record {
-      input = input;
-      no_session = working_plain o.status always.known;
-      numbers = numbers;
-    };
-    headline = λ is. absurd (cc);
-    session = λ is. absurd (cc);
-    jobs = λ f n k is.
-        let same : number ≡ n = cc in
-        let also : count ≡ k = cc in (
-          λ told. subst (λ x. WorkPromise x k o.status old new) same
-              (subst (λ x. WorkPromise number x o.status old new) also (promise told)),
-          subst (λ x. WorkAlways x o.status old new) also always,
-        );
-    upgrades = λ f is. absurd (cc);
-  }
-
-  pub upgrading : (file : List ℕ) → same_input
-      → (IsTrue old.disk.tells → UpgradePromise o.status old new)
-      → (IsTrue old.disk.tells → NeverServed old.disk.file
-      → Ends (IsRefused old.disk.file) o.status old.sink new.sink)
-      → IsMounted file false new.disk.last_mount (o.status ≡ DISK_FAILED) (o.status ≡ NO_FILE)
-      → UpgradeAlways o.status old new → (o.done ≡ 0) × (o.kept_done ≡ 0) × (o.kept_turn ≡ 0)
-      → Does (upgrade file) o old new from rest same_bay same_input
-  upgrading file input promise refused mounted always numbers = record {
-    no_fault = upgrading_not_one o.status always.known;
-    fileless = λ is. absurd (cc);
-    mounted = λ _. mounted;
-    ends = λ is. absurd (cc);
-    memory = λ is. absurd (cc);
-    line_alone = λ is. absurd (cc);
-    dumps = λ f is. absurd (cc);
-    refused = λ _. refused;
-    frame = λ is. absurd (cc);
-    keeps = λ is. absurd (cc);
-    formats = λ f k names is. absurd (cc);
-    silent = λ is. absurd (cc);
-    unread = λ _. record {
-      input = input;
-      no_session = upgrading_plain o.status always.known;
-      numbers = numbers;
-    };
-    headline = λ is. absurd (cc);
-    session = λ is. absurd (cc);
-    jobs = λ f number count is. absurd (cc);
-    upgrades = λ f is. (promise, always);
+    ends = λ is. not_both (sym is ∙ no_answer);
+    memory = λ none. not_both (sym has_table ∙ none);
+    line_alone = λ is. not_both (sym is ∙ no_answer);
+    refused = refused;
+    frame = λ none. not_both (sym objects ∙ none);
+    keeps = λ none. not_both (sym objects ∙ none);
+    formats = λ file k names is. not_both (sym objects ∙ ap writes is);
+    silent = silent;
+    unread = unread;
+    numbers = numbers;
+    promise = promise;
   }

@@ -9,12 +9,10 @@ use Rattle.command_face.specs.Outcomes.{Ends}
 use Rattle.command_face.specs.declared.outcome.Outcome.{Outcome}
 use Rattle.run_command.specs.Headline.{RunPromise, is_session}
 use Rattle.run_command.specs.Sessions.{RunAlways}
-use Rattle.upgrade_command.specs.Upgrading.{UpgradeAlways, UpgradePromise}
-use Rattle.work_command.specs.Working.{WorkAlways, WorkPromise}
-use Rattle.costore_top.specs.Answering.{IsAnswer, IsNotRun, ServesNothing}
-use Rattle.costore_top.specs.Commands.{Command, dump, file_of, format, gives_answer, makes, mounts, reads, run, serves, upgrade, work}
-use Rattle.costore_top.specs.Does.{Does, is_run}
-use Rattle.costore_top.specs.Promises.{AnswersByItsFile, FormatsSafely, KeepsItsFile, MountsItsFile, ReadsNoInput}
+use Rattle.costore_top.specs.Answering.{IsAnswer, WritesNoObject}
+use Rattle.costore_top.specs.Commands.{Command, batch, cached, dump, file_of, format, gives_answer, is_run, load, makes, mounts, reads, run, serves, upgrade, work}
+use Rattle.costore_top.specs.Does.{Does, Promised}
+use Rattle.costore_top.specs.Promises.{AnswersByItsFile, ChangesAsOne, DoesJobs, FormatsSafely, KeepsItsFile, MountsItsFile, ReadsInput}
 use Rattle.costore_top.specs.Words.{Means, MeansNone}
 use Rattle.costore_top.proofs.WordLists.{means_one}
 
@@ -28,6 +26,9 @@ module _ (words : List (List ℕ)) (c : Command) (means : Means words c) (o : Ou
     (d : Does c o old new from rest same_bay same_input) where
   one : (x : Command) → Means words x → x ≡ c
   one x m = means_one words x c m means
+
+  promised : (x : Command) → Means words x → Promised x o old new from rest same_input
+  promised x m = subst (λ (y : Command). Promised y o old new from rest same_input) (sym (one x m)) d.promise
 
   pub words_known : (o.status ≡ FAULTY_WORDS) ↔ MeansNone words
   words_known = (λ is. absurd (d.no_fault is), λ none. absurd (none c means))
@@ -49,12 +50,12 @@ module _ (words : List (List ℕ)) (c : Command) (means : Means words c) (o : Ou
         (λ is. told (subst (λ (y : Command). IsTrue (mounts y)) (sym (one x m)) is)));
     memory = λ x m none. d.memory (subst (λ (y : Command). IsFalse (reads y)) (one x m) none);
     line_alone = λ none told. d.line_alone (none c means) told;
-    dumps = λ file m. d.dumps file (sym (one (dump file) m));
+    dumps = λ file m. promised (dump file) m;
     refused = λ x m is told never. d.refused (subst (λ (y : Command). IsTrue (serves y)) (one x m) is) told
         never;
   }
 
-  pub keeps_it : ServesNothing words → KeepsItsFile words o.status old new
+  pub keeps_it : WritesNoObject words → KeepsItsFile words o.status old new
   keeps_it none = record {
     frame = λ kept. d.frame (none c means) (kept c means);
     keeps = d.keeps (none c means);
@@ -66,22 +67,29 @@ module _ (words : List (List ℕ)) (c : Command) (means : Means words c) (o : Ou
     silent = λ x m is. d.silent (subst (λ (y : Command). IsTrue (makes y)) (one x m) is);
   }
 
-  pub reads_none : IsNotRun words → ReadsNoInput o same_input
-  reads_none none = d.unread (not_run c (λ file is. none file (subst (Means words) is means)))
+  pub reads_it : ReadsInput words o same_input
+  reads_it = record {
+    unread = λ none. d.unread (none c means);
+    numbers = λ none. d.numbers (not_run c (λ file is. none file (subst (Means words) is means)));
+  }
 
   pub headline_of : (file : List ℕ) → Means words (run file) → IsTrue old.disk.tells → IsTrue from.tells
       → RunPromise o old new from rest
-  headline_of file m = d.headline (ap is_run (sym (one (run file) m)))
+  headline_of file m = (promised (run file) m).headline
 
   pub session_of : (file : List ℕ) → Means words (run file)
       → ((is_session o.status ≡ true) ⊎ (o.status ≡ NO_STORE)) × RunAlways o old new from rest same_input
-  session_of file m = d.session (ap is_run (sym (one (run file) m)))
+  session_of file m = ((promised (run file) m).known, (promised (run file) m).always)
 
-  pub jobs_of : (file : List ℕ) (number count : ℕ) → Means words (work file number count)
-      → (IsTrue old.disk.tells → WorkPromise number count o.status old new)
-      × WorkAlways count o.status old new
-  jobs_of file number count m = d.jobs file number count (sym (one (work file number count) m))
+  pub jobs_of : DoesJobs words o.status old new
+  jobs_of = record {
+    work = λ file number count m. promised (work file number count) m;
+    cached = λ file number count entries m. promised (cached file number count entries) m;
+  }
 
-  pub upgrade_of : (file : List ℕ) → Means words (upgrade file)
-      → (IsTrue old.disk.tells → UpgradePromise o.status old new) × UpgradeAlways o.status old new
-  upgrade_of file m = d.upgrades file (sym (one (upgrade file) m))
+  pub changes_of : ChangesAsOne words o.status old new from rest same_input
+  changes_of = record {
+    upgrade = λ file m. promised (upgrade file) m;
+    load = λ file k names m. promised (load file k names) m;
+    batch = λ file m. promised (batch file) m;
+  }

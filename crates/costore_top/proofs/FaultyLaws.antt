@@ -4,16 +4,16 @@ use Rattle.std.proofs.Common.{arith, ap, refl, sym, ◌∙◌, inr}
 use Rattle.disk_face.specs.Counts.{Rose}
 use Rattle.disk_face.specs.Frames.{Untouched}
 use Rattle.disk_face.specs.States.{State}
-use Rattle.disk_face.specs.Streams.{SinkState}
+use Rattle.disk_face.specs.Streams.{SinkState, SourceState}
 use Rattle.disk_face.proofs.MomentLaws.{Leaves-none}
 use Rattle.disk_face.specs.Devices.{devices}
 use Rattle.command_face.specs.declared.status.TheConstants.{FAULTY_WORDS}
 use Rattle.command_face.specs.Outcomes.{PutsLast, line_at}
 use Rattle.command_face.specs.declared.outcome.Outcome.{Outcome}
 use Rattle.command_face.specs.declared.stop.StopReason.TheVariants as stop
-use Rattle.costore_top.specs.Answering.{ServesNothing}
-use Rattle.costore_top.specs.Promises.{AnswersByItsFile, FormatsSafely, KeepsItsFile, MountsItsFile, ReadsNoInput}
-use Rattle.costore_top.specs.Commands.{dump, format}
+use Rattle.costore_top.specs.Answering.{WritesNoObject}
+use Rattle.costore_top.specs.Promises.{AnswersByItsFile, ChangesAsOne, DoesJobs, FormatsSafely, KeepsItsFile, MountsItsFile, ReadsInput}
+use Rattle.costore_top.specs.Commands.{batch, cached, dump, format, load, upgrade, work}
 use Rattle.costore_top.specs.Words.{MeansNone}
 use Rattle.command_face.proofs.EndedLaws.{line_unless}
 
@@ -53,19 +53,29 @@ module _ (words : List (List ℕ)) (none : MeansNone words) (o : Outcome) (disk 
     silent = λ x m. absurd (none x m);
   }
 
-  pub reads_nothing : {same_input : Type 0} → same_input → ReadsNoInput o same_input
+  pub reads_nothing : {same_input : Type 0} → same_input → ReadsInput words o same_input
   reads_nothing same = record {
-    input = same;
-    no_session = (
-      not_status 2 (λ e. omega (arith, e)),
-      not_status 8 (λ e. omega (arith, e)),
+    unread = λ _. (same, not_status 2 (λ e. omega (arith, e)), not_status 8 (λ e. omega (arith, e)));
+    numbers = λ _. (
       not_status 11 (λ e. omega (arith, e)),
-    );
-    numbers = (
       ap (λ (x : Outcome). x.done) is,
       ap (λ (x : Outcome). x.kept_done) is,
       ap (λ (x : Outcome). x.kept_turn) is,
     );
+  }
+
+  pub does_no_job : DoesJobs words o.status (devices disk out) (devices disk after)
+  does_no_job = record {
+    work = λ file number count m. absurd (none (work file number count) m);
+    cached = λ file number count entries m. absurd (none (cached file number count entries) m);
+  }
+
+  pub changes_nothing : (from rest : SourceState) (same_input : Type 0)
+      → ChangesAsOne words o.status (devices disk out) (devices disk after) from rest same_input
+  changes_nothing from rest same_input = record {
+    upgrade = λ file m. absurd (none (upgrade file) m);
+    load = λ file k names m. absurd (none (load file k names) m);
+    batch = λ file m. absurd (none (batch file) m);
   }
 
   module _ (line : IsTrue out.tells
@@ -81,7 +91,7 @@ module _ (words : List (List ℕ)) (none : MeansNone words) (o : Outcome) (disk 
       refused = λ x m. absurd (none x m);
     }
 
-    pub keeps_all : after.tells ≡ out.tells → out.faults ≤ after.faults → ServesNothing words
+    pub keeps_all : after.tells ≡ out.tells → out.faults ≤ after.faults → WritesNoObject words
         → KeepsItsFile words o.status (devices disk out) (devices disk after)
     keeps_all told later _ = record {
       frame = λ _. untouched disk;

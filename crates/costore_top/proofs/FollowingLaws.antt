@@ -31,7 +31,9 @@ use Rattle.served_file.specs.Served.{IsNextStart, OpensToBeing, OpensToKept, lim
 use Rattle.disk_face.specs.Devices.{devices}
 use Rattle.run_command.specs.Headline.{RunHolds}
 use Rattle.upgrade_command.specs.Upgrading.{UpgradeHolds, upgraded}
-use Rattle.work_command.specs.Working.{WorkHolds}
+use Rattle.batch_command.specs.Promise.{BatchHolds, IsBatchImage}
+use Rattle.work_command.specs.Asked.{NumberedJobs}
+use Rattle.work_command.specs.Working.{JobsHold}
 
 -- ---- numbers
 
@@ -101,6 +103,14 @@ being_opens status limits s (r ∷ others) image is =
     let t = (store.served limits s r).state in
     record { m = t.map; b = t.book; opens = is.1.1 }
 
+batch_opens : (limits : store.Limits) (start : store.State) (text image : List ℕ)
+    → IsBatchImage limits start text image → IsOpen image
+batch_opens limits start text image (inl is) = record { m = start.map; b = start.book; opens = is }
+batch_opens limits start text image (inr (inl x)) =
+    record { m = x.opens.m; b = x.opens.b; opens = x.opens.opens }
+batch_opens limits start text image (inr (inr x)) =
+    record { m = x.opens.m; b = x.opens.b; opens = x.opens.opens }
+
 begins : (t : choice.SlotTable) → t.chosen.block.k ≤ 64 → LeavesRoomTwice t → (image : List ℕ)
     → HasSequenceUpTo (most_left t.chosen.block.k t) image → IsOpen image
     → MayBegin (most_left t.chosen.block.k t) image
@@ -154,8 +164,8 @@ module _ {t : choice.SlotTable} {m : Map} {b : Book} {old z : State} {out after 
         | inr being ↦ being_opens x.status limits (last_state r.start r.ran.states) r.ran.others image being
       ])
 
-  pub work_followed : {number count status : ℕ}
-      → WorkHolds (found_with t.chosen.block t m b) number count status (devices old out) (devices z after)
+  pub work_followed : {asked : NumberedJobs} {status : ℕ}
+      → JobsHold (found_with t.chosen.block t m b) asked status (devices old out) (devices z after)
       → LeftOnly z old.turn (MayBegin (most_left t.chosen.block.k t))
   work_followed {status = status} w image since =
       let room = room_once t twice in
@@ -177,3 +187,11 @@ module _ {t : choice.SlotTable} {m : Map} {b : Book} {old z : State} {out after 
         | inl start ↦ record { m = w.start.map; b = w.start.book; opens = start }
         | inr is ↦ record { m = left.map; b = left.book; opens = is }
       ])
+
+  pub batch_followed : {text : List ℕ} {status : ℕ}
+      → BatchHolds (found_with t.chosen.block t m b) text status (devices old out) (devices z after)
+      → LeftOnly z old.turn (MayBegin (most_left t.chosen.block.k t))
+  batch_followed {text = text} w image since =
+      let room = room_once t twice in
+      begins t (block_high old.file t o.read) twice image (w.numbered room rests below image since)
+      (batch_opens (limits_with t.chosen.block) w.start text image (w.crash room rests below image since))

@@ -1,8 +1,12 @@
--- Which statuses `run`, `work` and `upgrade` never end with.
-use Rattle.std.specs.Prelude.{◌≡◌, ◌≢◌, ◌⊎◌, ℕ, Bool, true, false}
-use Rattle.std.proofs.Common.{ap, arith, refl, sym, ◌∙◌, inl, inr}
-use Rattle.command_face.specs.declared.status.TheConstants.{FAULTY_REQUEST, FAULTY_WORDS, NO_STORE, SOURCE_FAILED, TOO_MANY_REQUESTS}
+-- Which statuses the commands that write objects never end with.
+use Rattle.std.specs.Prelude.{◌≡◌, ◌≢◌, ◌⊎◌, ℕ, Bool, true, false, IsTrue}
+use Rattle.std.proofs.Common.{ap, arith, refl, subst, sym, ◌∙◌, inl, inr}
+use Rattle.disk_face.specs.Devices.{Devices}
+use Rattle.command_face.specs.Outcomes.{PutsLine}
+use Rattle.command_face.specs.declared.status.TheConstants.{DISK_FAILED, FAULTY_REQUEST, FAULTY_WORDS, NO_STORE, SOURCE_FAILED, TOO_MANY_REQUESTS}
 use Rattle.run_command.specs.Headline.{is_session}
+use Rattle.batch_command.specs.Batching.{is_batching}
+use Rattle.load_command.specs.Loading.{LoadAlways, is_loading}
 use Rattle.upgrade_command.specs.Upgrading.{is_upgrading}
 use Rattle.work_command.specs.Working.{is_working}
 
@@ -41,3 +45,30 @@ upgrading_not_one status = known_not is_upgrading status FAULTY_WORDS refl (λ e
 pub upgrading_plain : (status : ℕ) → (is_upgrading status ≡ true) ⊎ (status ≡ NO_STORE)
     → (status ≢ FAULTY_REQUEST) × (status ≢ SOURCE_FAILED) × (status ≢ TOO_MANY_REQUESTS)
 upgrading_plain status = plain is_upgrading status refl refl refl
+
+-- they read an input, so two of the others come
+pub batching_known : (status : ℕ) → (is_batching status ≡ true) ⊎ (status ≡ NO_STORE)
+    → (status ≢ FAULTY_WORDS) × (status ≢ TOO_MANY_REQUESTS)
+batching_known status is = (
+  known_not is_batching status FAULTY_WORDS refl (λ e. omega (arith, e)) is,
+  known_not is_batching status TOO_MANY_REQUESTS refl (λ e. omega (arith, e)) is,
+)
+
+pub loading_known : (status : ℕ) → is_loading status ≡ true
+    → (status ≢ FAULTY_WORDS) × (status ≢ TOO_MANY_REQUESTS)
+loading_known status is = (
+  known_not is_loading status FAULTY_WORDS refl (λ e. omega (arith, e)) (inl is),
+  known_not is_loading status TOO_MANY_REQUESTS refl (λ e. omega (arith, e)) (inl is),
+)
+
+-- where the disk failed the line is all that `load` has put
+pub loading_silent : (status : ℕ) (old new : Devices) → LoadAlways status old new → IsTrue old.sink.tells
+    → status ≡ DISK_FAILED → PutsLine DISK_FAILED old.sink new.sink
+loading_silent status old new always told seven = elim (always.line_alone told) as
+    (λ _. PutsLine DISK_FAILED old.sink new.sink) [
+      | inl done ↦ absurd (omega (arith, done, seven))
+      | inr rest ↦ elim rest as (λ _. PutsLine DISK_FAILED old.sink new.sink) [
+        | inl sink ↦ absurd (omega (arith, sink, seven))
+        | inr line ↦ subst (λ n. PutsLine n old.sink new.sink) seven line
+      ]
+    ]

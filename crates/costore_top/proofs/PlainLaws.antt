@@ -1,6 +1,6 @@
--- What a command does that serves no requests, from how it ended and the line of its end.
+-- What a command does that writes no object, from how it ended and the line of its end.
 use Rattle.std.specs.Prelude.{◌≡◌, ◌≢◌, ◌⊎◌, ◌≤◌, ℕ, true, false, List, Result, Err, IfErr, IsTrue, IsFalse, OnOk, length}
-use Rattle.std.proofs.Common.{arith, ap, sym, ◌∙◌, subst, inl, inr}
+use Rattle.std.proofs.Common.{arith, ap, refl, sym, ◌∙◌, subst, inl, inr}
 use Rattle.disk_face.specs.Counts.{Rose}
 use Rattle.disk_face.specs.Frames.{Untouched}
 use Rattle.disk_face.specs.States.{State}
@@ -17,8 +17,9 @@ use Rattle.command_face.specs.declared.stop.StopReason.TheVariants as stop
 use Rattle.file_commands.specs.Dumped.{Dumps, PutsNoDump}
 use Rattle.file_commands.specs.Formatting.{Formats, IsDone}
 use Rattle.costore_top.specs.Answering.{IsAnswer}
-use Rattle.costore_top.specs.Commands.{Command, dump, file_of, format, gives_answer, makes, mounts, reads, run, serves, upgrade, work}
-use Rattle.costore_top.specs.Does.{Does, is_run}
+use Rattle.costore_top.specs.Commands.{Command, batch, cached, dump, file_of, format, gives_answer, is_run, load, makes, mounts, reads, run, serves, upgrade, work, writes}
+use Rattle.costore_top.specs.Does.{Does, Promised}
+use Rattle.costore_top.specs.Promises.{DumpsItsFile}
 use Rattle.command_face.proofs.EndedLaws.{causes_by, ended, line_after_none, line_unless}
 use Rattle.costore_top.proofs.EndedLaws.{dumped, line_unless_damaged}
 use Rattle.command_face.proofs.StatusEnds.{disk_by, file_by, memory_by, words_by}
@@ -45,7 +46,7 @@ pub record Layer {O : Type 0} (sink_of : O → SinkState) (c : Command) (old new
   pub silent : IsTrue (makes c) → end ≡ Err stop.Disk → put ≡ out
   pub keeps : KeepsAt old new (sink_of out) (sink_of put) end
 
-not_both : {A : Type 0} → true ≡ false → A
+pub not_both : {A : Type 0} → true ≡ false → A
 not_both is = absurd (cc)
 
 -- what a command does, that is another by name
@@ -56,13 +57,26 @@ does_as {o = o} {old = old} {new = new} {from = from} {rest = rest} {same_bay = 
     {same_input = same_input} is does =
     subst (λ (x : Command). Does x o old new from rest same_bay same_input) (sym is) does
 
-run_serves : (c : Command) → IsTrue (is_run c) → IsTrue (serves c)
-run_serves (run file) is = is
-run_serves (work file number count) is = not_both (sym is)
-run_serves (upgrade file) is = not_both (sym is)
-run_serves _ is = is
+-- a command that writes no object opens no store
+serves_none : (c : Command) → IsFalse (writes c) → IsFalse (serves c)
+serves_none (load file k names) none = refl
+serves_none _ none = none
 
-module _ {O : Type 0} (sink_of : O → SinkState) (c : Command) (none : IsFalse (serves c))
+-- what such a command promises beside the rest: `dump` alone does
+plain_promise : (c : Command) (o : Outcome) (old new : Devices) (from rest : SourceState)
+    (same_input : Type 0) → IsFalse (writes c)
+    → ((file : List ℕ) → c ≡ dump file → DumpsItsFile o.status old new)
+    → Promised c o old new from rest same_input
+plain_promise (dump file) o old new from rest same_input none dumps = dumps file refl
+plain_promise (run file) o old new from rest same_input none dumps = not_both none
+plain_promise (work file number count) o old new from rest same_input none dumps = not_both none
+plain_promise (upgrade file) o old new from rest same_input none dumps = not_both none
+plain_promise (load file k names) o old new from rest same_input none dumps = not_both none
+plain_promise (batch file) o old new from rest same_input none dumps = not_both none
+plain_promise (cached file number count entries) o old new from rest same_input none dumps = not_both none
+plain_promise _ o old new from rest same_input none dumps = tt
+
+module _ {O : Type 0} (sink_of : O → SinkState) (c : Command) (none : IsFalse (writes c))
     (old new : State) (out put : O) (after : SinkState) (from rest : SourceState)
     (same_bay same_input : Type 0) (input : same_input) (end : Result (Unit {0}) StopReason) (o : Outcome)
     (is : o ≡ record { status = status_at end; done = 0; kept_done = 0; kept_turn = 0 })
@@ -75,7 +89,7 @@ module _ {O : Type 0} (sink_of : O → SinkState) (c : Command) (none : IsFalse 
   status = ap (λ (x : Outcome). x.status) is
 
   serves_not : {A : Type 0} → IsTrue (serves c) → A
-  serves_not has = not_both (sym has ∙ none)
+  serves_not has = not_both (sym has ∙ serves_none c none)
 
   mounted_as : IsTrue (mounts c) → IsMounted (file_of c) (makes c) new.last_mount (o.status ≡ DISK_FAILED)
       (o.status ≡ NO_FILE)
@@ -108,6 +122,10 @@ module _ {O : Type 0} (sink_of : O → SinkState) (c : Command) (none : IsFalse 
         taken = k.taken;
       }
 
+  no_session : (o.status ≢ FAULTY_REQUEST) × (o.status ≢ SOURCE_FAILED) × (o.status ≢ TOO_MANY_REQUESTS)
+  no_session = subst (λ n. (n ≢ FAULTY_REQUEST) × (n ≢ SOURCE_FAILED) × (n ≢ TOO_MANY_REQUESTS))
+      (sym status) (plain_status end layer.plain)
+
   pub plain_does : Does c o (devices old (sink_of out)) (devices new after) from rest same_bay same_input
   plain_does = record {
     no_fault = λ one. layer.no_fault (words_by end (sym status ∙ one));
@@ -121,12 +139,6 @@ module _ {O : Type 0} (sink_of : O → SinkState) (c : Command) (none : IsFalse 
     memory = λ no_memory ten. layer.memory no_memory (memory_by end (sym status ∙ ten));
     line_alone = λ gives tells. line_unless sink_of out put after end o.status status
         (layer.nothing_put gives) tells line;
-    dumps = λ file same. record {
-      dumps = λ told. dumped old.file end o.status (sink_of out) (sink_of put) after status
-          (layer.dumps file same told) layer.keeps.causes.sink_told layer.keeps.causes.sink_later line;
-      line_alone = λ sink_told. line_unless_damaged sink_of out put after end o.status status
-          (layer.no_dump file same) sink_told line;
-    };
     refused = λ has. serves_not has;
     frame = λ _ kept. layer.frame kept;
     keeps = λ _. keeps_after;
@@ -137,18 +149,18 @@ module _ {O : Type 0} (sink_of : O → SinkState) (c : Command) (none : IsFalse 
         let disk = disk_by end (sym status ∙ failed) in
         line_after_none (sink_of out) (sink_of put) after end (ap sink_of (layer.silent made disk)) disk tells
         line;
-    unread = λ _. record {
-      input = input;
-      no_session = subst (λ n. (n ≢ FAULTY_REQUEST) × (n ≢ SOURCE_FAILED) × (n ≢ TOO_MANY_REQUESTS))
-          (sym status) (plain_status end layer.plain);
-      numbers = (
-        ap (λ (x : Outcome). x.done) is,
-        ap (λ (x : Outcome). x.kept_done) is,
-        ap (λ (x : Outcome). x.kept_turn) is,
-      );
-    };
-    headline = λ has. serves_not (run_serves c has);
-    session = λ has. serves_not (run_serves c has);
-    jobs = λ file number count same. serves_not (ap serves same);
-    upgrades = λ file same. serves_not (ap serves same);
+    unread = λ _. (input, no_session.0, no_session.1);
+    numbers = λ _. (
+      no_session.2,
+      ap (λ (x : Outcome). x.done) is,
+      ap (λ (x : Outcome). x.kept_done) is,
+      ap (λ (x : Outcome). x.kept_turn) is,
+    );
+    promise = plain_promise c o (devices old (sink_of out)) (devices new after) from rest same_input none
+        (λ file same. record {
+          dumps = λ told. dumped old.file end o.status (sink_of out) (sink_of put) after status
+              (layer.dumps file same told) layer.keeps.causes.sink_told layer.keeps.causes.sink_later line;
+          line_alone = λ sink_told. line_unless_damaged sink_of out put after end o.status status
+              (layer.no_dump file same) sink_told line;
+        });
   }

@@ -1,6 +1,6 @@
 -- What words ask for, and what each command is to answer.
 use Rattle.std.specs.Prelude.{◌≡◌, ℕ, List, Result, Ok, IsFalse, IsTrue}
-use Rattle.costore_top.specs.Commands.{Command, check, dump, format, get, gives_answer, help, map_of, mounts, run, serves, upgrade, version, work}
+use Rattle.costore_top.specs.Commands.{Command, batch, cached, check, dump, format, get, gives_answer, help, load, map_of, mounts, reads_input, run, serves, upgrade, version, work, writes}
 use Rattle.costore_top.specs.Words.{Means}
 use Rattle.file_commands.specs.Getting.{IsObject}
 use Rattle.file_commands.specs.Texts.{IsChecked, IsMapped}
@@ -12,17 +12,21 @@ use Rattle.file_commands.specs.Formatting.{format_answer}
 abbrev pub NamesNoFile : List (List ℕ) → Type 0
 NamesNoFile words = (c : Command) → Means words c → IsFalse (mounts c)
 
--- the words don't ask for a store to be opened
-abbrev pub ServesNothing : List (List ℕ) → Type 0
-ServesNothing words = (c : Command) → Means words c → IsFalse (serves c)
+-- the words don't ask for a store to be opened, nor for the objects of one to be written
+abbrev pub WritesNoObject : List (List ℕ) → Type 0
+WritesNoObject words = (c : Command) → Means words c → IsFalse (writes c)
 
 -- the words ask for the one answer that there is to the bytes of the file
 abbrev pub AsksForAnswer : List (List ℕ) → Type 0
 AsksForAnswer words = (c : Command) → Means words c → IsTrue (gives_answer c)
 
--- the words don't ask for the requests of the input
+-- the words don't ask for the requests of a session
 abbrev pub IsNotRun : List (List ℕ) → Type 0
 IsNotRun words = (file : List ℕ) → Means words (run file) → ⊥
+
+-- the words don't ask for what the input has
+abbrev pub AsksForNoInput : List (List ℕ) → Type 0
+AsksForNoInput words = (c : Command) → Means words c → IsFalse (reads_input c)
 
 -- what a command is to answer, against the bytes of its file
 unfoldable pub IsAnswer : Command → List ℕ → Result (List ℕ) StopReason → Type 0
@@ -34,5 +38,8 @@ IsAnswer (run name) file answer = ⊥
 IsAnswer (work name number count) file answer = ⊥
 IsAnswer (dump name) file answer = ⊥
 IsAnswer (upgrade name) file answer = ⊥
+IsAnswer (load name k names) file answer = ⊥
+IsAnswer (batch name) file answer = ⊥
+IsAnswer (cached name number count entries) file answer = ⊥
 IsAnswer help file answer = answer ≡ Ok HELP.now
 IsAnswer version file answer = answer ≡ Ok VERSION.now

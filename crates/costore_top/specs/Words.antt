@@ -5,7 +5,7 @@ use Rattle.std.specs.Borrow.{Bor}
 use Rattle.slot_codec.specs.Names.{IsName}
 use Rattle.costore_top.specs.declared.words.Command as read
 use Rattle.costore_top.specs.declared.words.Command.TheVariants as asked
-use Rattle.costore_top.specs.Commands.{Command, format, get, check, map_of, run, work, dump, upgrade, help, version}
+use Rattle.costore_top.specs.Commands.{Command, format, get, check, map_of, run, work, dump, upgrade, load, batch, cached, help, version}
 
 -- the words of a command line
 abbrev pub spelled : Command → List (List ℕ)
@@ -17,6 +17,10 @@ spelled (run file) = codes "run" ∷ file ∷ []
 spelled (work file number count) = codes "work" ∷ file ∷ decimal number ∷ decimal count ∷ []
 spelled (dump file) = codes "dump" ∷ file ∷ []
 spelled (upgrade file) = codes "upgrade" ∷ file ∷ []
+spelled (load file k names) = codes "load" ∷ file ∷ decimal k ∷ decimal names ∷ []
+spelled (batch file) = codes "batch" ∷ file ∷ []
+spelled (cached file number count entries) =
+    codes "cached" ∷ file ∷ decimal number ∷ decimal count ∷ decimal entries ∷ []
 spelled help = codes "--help" ∷ []
 spelled version = codes "--version" ∷ []
 
@@ -24,15 +28,27 @@ spelled version = codes "--version" ∷ []
 abbrev pub IsFile : List ℕ → Type 0
 IsFile file = 0 < length file
 
+-- a store may have this divisor of its buffers, and room for so many names
+abbrev pub IsShape : ℕ → ℕ → Type 0
+IsShape k names = (2 ≤ k) × (k ≤ 64) × (16 ≤ names) × (names ≤ 65536)
+
+-- jobs may be drawn by this number, and so many
+abbrev pub AreJobs : ℕ → ℕ → Type 0
+AreJobs number count = (number < 2 ^ 64) × (1 ≤ count) × (count ≤ 1000000)
+
 abbrev pub IsCommand : Command → Type 0
-IsCommand (format file k names) = IsFile file × (2 ≤ k) × (k ≤ 64) × (16 ≤ names) × (names ≤ 65536)
+IsCommand (format file k names) = IsFile file × IsShape k names
 IsCommand (get file name) = IsFile file × IsName name
 IsCommand (check file) = IsFile file
 IsCommand (map_of file) = IsFile file
 IsCommand (run file) = IsFile file
-IsCommand (work file number count) = IsFile file × (number < 2 ^ 64) × (1 ≤ count) × (count ≤ 1000000)
+IsCommand (work file number count) = IsFile file × AreJobs number count
 IsCommand (dump file) = IsFile file
 IsCommand (upgrade file) = IsFile file
+IsCommand (load file k names) = IsFile file × IsShape k names
+IsCommand (batch file) = IsFile file
+IsCommand (cached file number count entries) =
+    IsFile file × AreJobs number count × (1 ≤ entries) × (entries ≤ 4096)
 IsCommand help = Unit {0}
 IsCommand version = Unit {0}
 
@@ -58,5 +74,8 @@ command_of (asked.Run file) = run file.now
 command_of (asked.Work file number count) = work file.now number count
 command_of (asked.Dump file) = dump file.now
 command_of (asked.Upgrade file) = upgrade file.now
+command_of (asked.Load file k names) = load file.now k names
+command_of (asked.Batch file) = batch file.now
+command_of (asked.Cached file number count entries) = cached file.now number count entries
 command_of asked.Help = help
 command_of asked.Version = version

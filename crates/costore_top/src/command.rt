@@ -6,13 +6,15 @@ ghost use Rattle.costore_top.specs.Words.{IsCommand, command_of};
 
 use crate::help::{HELP, VERSION};
 use crate::words::Command;
+use batch_command::batch_file;
 use command_face::{Outcome, finish, put_whole};
 use disk_face::{Bay, Sink, Source};
 use file_commands::{check_from, dump_from, format_in, get_from, map_from};
+use load_command::load_file;
 use run_command::run_file;
 use std::alloc::Global;
 use upgrade_command::upgrade_file;
-use work_command::work_file;
+use work_command::{cached_file, work_file};
 
 /// Does what a command asks, and puts the fault line last.
 pub fn do_command<B: Bay, I: Source, O: Sink>(
@@ -38,7 +40,12 @@ pub fn do_command<B: Bay, I: Source, O: Sink>(
         Command::Work(file, number, count) => {
             work_file(alloc, bay, file, *number, *count, output)
         }
+        Command::Cached(file, number, count, entries) => {
+            cached_file(alloc, bay, file, *number, *count, *entries, output)
+        }
         Command::Upgrade(file) => upgrade_file(alloc, bay, file, output),
+        Command::Load(file, k, names) => { load_file(alloc, bay, file, *k, *names, input, output) }
+        Command::Batch(file) => batch_file(alloc, bay, file, input, output),
         Command::Help => finish(put_whole(output, HELP.as_bytes()), output),
         Command::Version => finish(put_whole(output, VERSION.as_bytes()), output),
     }

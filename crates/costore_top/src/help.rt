@@ -13,12 +13,17 @@ commands:
   costore run FILE                  serves requests from standard input
   costore work FILE NUMBER COUNT    does COUNT jobs that NUMBER draws, and puts a summary
   costore upgrade FILE              gives each object a digest, by which damage is found
+  costore load FILE K NAMES         makes a store of FILE of a stream that dump has put
+  costore batch FILE                does the puts and dels of standard input, all or none
+  costore cached FILE NUMBER COUNT ENTRIES
+                                    does what work does, behind a cache of ENTRIES objects
   costore --help                    puts this page
   costore --version                 puts the version
 
 FILE is any text that isn't empty. NAME is 1 to 63 bytes of printable ASCII without blanks.
 K is 2 to 64: a buffer has a k-th of its segment. NAMES is 16 to 65536: how many objects may be live.
-NUMBER is 0 to 18446744073709551615, COUNT is 1 to 1000000. Numbers have no sign and no leading zero.
+NUMBER is 0 to 18446744073709551615, COUNT is 1 to 1000000, ENTRIES is 1 to 4096. Numbers have no sign and
+no leading zero.
 
 check puts store K NAMES COUNT BYTES DATA SEQUENCE KIND: how many objects there are and how many bytes they
 have, how many the file has behind its head, the number of its checkpoint, and still, or moving where a
@@ -27,11 +32,13 @@ object NAME PLACE SIZE for each object; before them moving BOUNDARY WALL SLACK f
 
 work puts, removes and reads objects named o0, o1 and so on, saves, and then puts twelve lines: requests,
 ok and kept (those done without a checkpoint and with one), read (bytes), refused; names, bytes and length
-at the end; moved (bytes); and linear, flat and seek, what the bytes moved and those asked for cost.
+at the end; moved (bytes); and linear, flat and seek, what the bytes moved and those asked for cost. cached
+puts three lines more: hits, misses and drops, how many reads the cache served and how many it didn't.
 
 status: 0 done, 1 faulty words, 2 a faulty request, 3 no such file, 4 no store, 5 the file isn't empty,
 6 no such object, 7 the disk failed, 8 the input failed, 9 the output failed, 10 out of memory,
-11 too many requests, 13 the object was damaged, 14 too many names, 15 the file has saved too often.
+11 too many requests, 13 the object was damaged, 14 too many names, 15 the file has saved too often,
+16 what the file keeps as a batch is none, 17 the batch doesn't fit the file.
 At each status but 0 and 9 one line that begins with fault is put last, but where there is no memory for
 the words.
 
@@ -40,6 +47,8 @@ examples: costore format blocks 9 1024
           costore get blocks a
           costore check blocks
           costore map blocks
+          costore dump blocks | costore load copy 9 1024
+          printf 'put b 5\\nworld\\n' | costore batch blocks
           costore work blocks 1 1000
 ";
 

@@ -20,7 +20,9 @@ ghost use Rattle.disk_face.specs.Devices.{devices};
 ghost use Rattle.costore_top.specs.Answering.{IsAnswer};
 ghost use Rattle.file_commands.specs.Texts.{check_text, map_text};
 ghost use Rattle.upgrade_command.specs.Upgrading.{UpgradePromise};
-ghost use Rattle.work_command.specs.Working.{WorkPromise};
+ghost use Rattle.batch_command.specs.Promise.{BatchPromise};
+ghost use Rattle.work_command.specs.Asked.{NumberedJobs};
+ghost use Rattle.work_command.specs.Working.{JobsPromise};
 
 use command_face::{DISK_FAILED, NO_FILE, NO_MEMORY, Outcome, SINK_FAILED, StopReason};
 use disk_face::{Bay, Sink, Source};
@@ -50,11 +52,11 @@ pub fn ends_by_the_answer()
         ⊎ (status ≡ NO_FILE) ⊎ (status ≡ DISK_FAILED) ⊎ (status ≡ SINK_FAILED) ⊎ (status ≡ NO_MEMORY) }
 {}
 
-/// What a crash leaves at any moment of `run`, `work` or `upgrade` may be the start of another call: it
-/// opens, by a table whose sequence leaves room for the saves of an opening, and a disk that has it and is
-/// left alone rests on that table. So is the file where no call of the disk failed. The sequence is below the
-/// limit that requests keep, or an opening raised it by fewer than 2^18. So a call may follow each crash
-/// while the sequence found leaves room twice.
+/// What a crash leaves at any moment of `run`, `batch`, `upgrade`, `work` or `cached` may be the start of
+/// another call: it opens, by a table whose sequence leaves room for the saves of an opening, and a disk
+/// that has it and is left alone rests on that table. So is the file where no call of the disk failed. The
+/// sequence is below the limit that requests keep, or an opening raised it by fewer than 2^18. So a call may
+/// follow each crash while the sequence found leaves room twice.
 pub fn a_crash_may_be_followed_by_a_call<B: Bay, I: Source, O: Sink>()
     ensures run { (t : choice.SlotTable) (m : Map) (b : Book) (requests : List Request) (end : List ℕ)
         (o : Outcome) (old new : B) (from rest : I) (out after : O)
@@ -64,9 +66,9 @@ pub fn a_crash_may_be_followed_by_a_call<B: Bay, I: Source, O: Sink>()
         (I.state from) (I.state rest)
         → LeavesRoomTwice t → RestsOnFound t (B.state old) → (B.state new).turn < last
         → LeftOnly (B.state new) (B.state old).turn (MayBegin (most_left t.chosen.block.k t)) }
-    ensures work { (t : choice.SlotTable) (m : Map) (b : Book) (number count status : ℕ) (old new : B)
-        (out after : O) → OpensBy CLASSES SIZE_MAX t (B.state old).file m b
-        → WorkPromise number count status (devices (B.state old) (O.state out))
+    ensures work { (t : choice.SlotTable) (m : Map) (b : Book) (asked : NumberedJobs) (status : ℕ)
+        (old new : B) (out after : O) → OpensBy CLASSES SIZE_MAX t (B.state old).file m b
+        → JobsPromise asked status (devices (B.state old) (O.state out))
         (devices (B.state new) (O.state after))
         → LeavesRoomTwice t → RestsOnFound t (B.state old) → (B.state new).turn < last
         → LeftOnly (B.state new) (B.state old).turn (MayBegin (most_left t.chosen.block.k t)) }
@@ -78,9 +80,9 @@ pub fn a_crash_may_be_followed_by_a_call<B: Bay, I: Source, O: Sink>()
         (I.state from) (I.state rest)
         → LeavesRoomTwice t → IsCalm (B.state old).faults (B.state new).faults
         → MayBegin (most_left t.chosen.block.k t) (B.state new).file }
-    ensures calm_work { (t : choice.SlotTable) (m : Map) (b : Book) (number count status : ℕ) (old new : B)
-        (out after : O) → OpensBy CLASSES SIZE_MAX t (B.state old).file m b
-        → WorkPromise number count status (devices (B.state old) (O.state out))
+    ensures calm_work { (t : choice.SlotTable) (m : Map) (b : Book) (asked : NumberedJobs) (status : ℕ)
+        (old new : B) (out after : O) → OpensBy CLASSES SIZE_MAX t (B.state old).file m b
+        → JobsPromise asked status (devices (B.state old) (O.state out))
         (devices (B.state new) (O.state after))
         → LeavesRoomTwice t → IsCalm (B.state old).faults (B.state new).faults
         → MayBegin (most_left t.chosen.block.k t) (B.state new).file }
@@ -92,6 +94,18 @@ pub fn a_crash_may_be_followed_by_a_call<B: Bay, I: Source, O: Sink>()
     ensures calm_upgrade { (t : choice.SlotTable) (m : Map) (b : Book) (status : ℕ) (old new : B)
         (out after : O) → OpensBy CLASSES SIZE_MAX t (B.state old).file m b
         → UpgradePromise status (devices (B.state old) (O.state out)) (devices (B.state new) (O.state after))
+        → LeavesRoomTwice t → IsCalm (B.state old).faults (B.state new).faults
+        → MayBegin (most_left t.chosen.block.k t) (B.state new).file }
+    ensures batch { (t : choice.SlotTable) (m : Map) (b : Book) (text : List ℕ) (status : ℕ) (old new : B)
+        (out after : O) → OpensBy CLASSES SIZE_MAX t (B.state old).file m b
+        → BatchPromise text status (devices (B.state old) (O.state out))
+        (devices (B.state new) (O.state after))
+        → LeavesRoomTwice t → RestsOnFound t (B.state old) → (B.state new).turn < last
+        → LeftOnly (B.state new) (B.state old).turn (MayBegin (most_left t.chosen.block.k t)) }
+    ensures calm_batch { (t : choice.SlotTable) (m : Map) (b : Book) (text : List ℕ) (status : ℕ)
+        (old new : B) (out after : O) → OpensBy CLASSES SIZE_MAX t (B.state old).file m b
+        → BatchPromise text status (devices (B.state old) (O.state out))
+        (devices (B.state new) (O.state after))
         → LeavesRoomTwice t → IsCalm (B.state old).faults (B.state new).faults
         → MayBegin (most_left t.chosen.block.k t) (B.state new).file }
     ensures low { (t : choice.SlotTable) (file : List ℕ) (m : Map) (b : Book)

@@ -3,11 +3,9 @@ ghost use Rattle.std.specs.Prelude.{◌≡◌, ◌⊎◌, ◌↔◌, ℕ, List, 
 ghost use Rattle.disk_face.specs.Devices.{devices};
 ghost use Rattle.run_command.specs.Headline.{RunPromise, is_session};
 ghost use Rattle.run_command.specs.Sessions.{RunAlways};
-ghost use Rattle.upgrade_command.specs.Upgrading.{UpgradeAlways, UpgradePromise};
-ghost use Rattle.work_command.specs.Working.{WorkPromise, WorkAlways};
-ghost use Rattle.costore_top.specs.Answering.{IsNotRun, ServesNothing};
-ghost use Rattle.costore_top.specs.Commands.{run, upgrade, work};
-ghost use Rattle.costore_top.specs.Promises.{AnswersByItsFile, FormatsSafely, KeepsItsFile, MountsItsFile, ReadsNoInput};
+ghost use Rattle.costore_top.specs.Answering.{WritesNoObject};
+ghost use Rattle.costore_top.specs.Commands.{run};
+ghost use Rattle.costore_top.specs.Promises.{AnswersByItsFile, ChangesAsOne, DoesJobs, FormatsSafely, KeepsItsFile, MountsItsFile, ReadsInput};
 ghost use Rattle.costore_top.specs.Words.{Means, MeansNone, texts};
 
 use crate::command::do_command;
@@ -17,8 +15,9 @@ use disk_face::{Bay, Sink, Source};
 use std::alloc::Global;
 
 /// The whole program: does what the words of the command line ask, without the program's name, with
-/// the files of a bay that has mounted none. It takes memory for the table of a file, and for the bytes
-/// of which `work` makes objects. At each status but 0 and 9 one line is put last that tells why.
+/// the files of a bay that has mounted none. It takes memory for the table of a file, for the bytes of which
+/// `work` makes objects and of which `cached` lists some, and for the text of a batch. At each status but 0
+/// and 9 one line is put last that tells why.
 pub fn costore<B: Bay, I: Source, O: Sink>(
     alloc: Global,
     words: &[&str],
@@ -38,15 +37,16 @@ pub fn costore<B: Bay, I: Source, O: Sink>(
     ensures answers { AnswersByItsFile (texts words.now) result.status
         (devices (B.state bay.old) (O.state output.old)) (devices (B.state bay.new) (O.state output.new)) }
 
-    // `format` alone makes changing calls, and only on an empty file, if no store is to be opened. The
-    // devices' own faults have their causes.
-    ensures keeps { ServesNothing (texts words.now) → KeepsItsFile (texts words.now) result.status
+    // `format` alone makes changing calls, and only on an empty file, if no store is to be opened or loaded.
+    // The devices' own faults have their causes.
+    ensures keeps { WritesNoObject (texts words.now) → KeepsItsFile (texts words.now) result.status
         (devices (B.state bay.old) (O.state output.old)) (devices (B.state bay.new) (O.state output.new)) }
     ensures formats { FormatsSafely (texts words.now) result.status
         (devices (B.state bay.old) (O.state output.old)) (devices (B.state bay.new) (O.state output.new)) }
 
-    // No call but `run` reads the input, and the three numbers are of its requests.
-    ensures unread { IsNotRun (texts words.now) → ReadsNoInput result (input.new ≡ input.old) }
+    // No call but `run`, `load` and `batch` reads the input, and the three numbers are of the requests of
+    // `run`.
+    ensures unread { ReadsInput (texts words.now) result (input.new ≡ input.old) }
 
     // `run` serves the requests of the input. Of a file that opens, and a disk and an input that tell, this
     // is the headline; the rest holds whatever they tell.
@@ -60,19 +60,14 @@ pub fn costore<B: Bay, I: Source, O: Sink>(
         (devices (B.state bay.new) (O.state output.new)) (I.state input.old) (I.state input.new)
         (input.new ≡ input.old) }
 
-    // `work` serves the jobs of a number, and puts a summary of them.
-    ensures jobs { (file : List ℕ) (number count : ℕ) → Means (texts words.now) (work file number count)
-        → (IsTrue (B.state bay.old).tells → WorkPromise number count result.status
-        (devices (B.state bay.old) (O.state output.old)) (devices (B.state bay.new) (O.state output.new)))
-        × WorkAlways count result.status (devices (B.state bay.old) (O.state output.old))
+    // `work` and `cached` serve the jobs of a number, and put a summary of them.
+    ensures jobs { DoesJobs (texts words.now) result.status (devices (B.state bay.old) (O.state output.old))
         (devices (B.state bay.new) (O.state output.new)) }
 
-    // `upgrade` gives each object of its file the digest of its bytes.
-    ensures digests { (file : List ℕ) → Means (texts words.now) (upgrade file)
-        → (IsTrue (B.state bay.old).tells → UpgradePromise result.status
-        (devices (B.state bay.old) (O.state output.old)) (devices (B.state bay.new) (O.state output.new)))
-        × UpgradeAlways result.status (devices (B.state bay.old) (O.state output.old))
-        (devices (B.state bay.new) (O.state output.new)) }
+    // `upgrade`, `load` and `batch` change their file as one: what a stop leaves is what was there, or all.
+    ensures changes { ChangesAsOne (texts words.now) result.status
+        (devices (B.state bay.old) (O.state output.old)) (devices (B.state bay.new) (O.state output.new))
+        (I.state input.old) (I.state input.new) (input.new ≡ input.old) }
 {
     match read_command(words) {
         Some(command) => do_command(alloc, &command, bay, input, output),

@@ -20,6 +20,12 @@ pub enum Command<'a> {
     Work(&'a str, u64, u64),
     Dump(&'a str),
     Upgrade(&'a str),
+    /// The file, k (2 to 64), and the number of names (16 to 65,536).
+    Load(&'a str, u64, u64),
+    Batch(&'a str),
+    /// The file, the number of the jobs, how many jobs (1 to 1,000,000), and how many objects the cache lists
+    /// (1 to 4,096).
+    Cached(&'a str, u64, u64, u64),
     Help,
     Version,
 }
@@ -31,6 +37,7 @@ impl Command<'_> {
     {
         match self {
             Command::Format(_, _, _) | Command::Run(_) | Command::Work(_, _, _) => true,
+            Command::Load(_, _, _) | Command::Batch(_) | Command::Cached(_, _, _, _) => true,
             Command::Upgrade(_) => true,
             _ => false,
         }
@@ -47,6 +54,7 @@ pub fn read_command<'a>(words: &[&'a str]) -> Option<Command<'a>>
         [command, file] => two_words(command, file),
         [command, file, name] => three_words(command, file, name),
         [command, file, first, second] => four_words(command, file, first, second),
+        [command, file, first, second, third] => five_words(command, file, first, second, third),
         _ => None,
     }
 }
@@ -82,6 +90,8 @@ fn two_words<'a>(command: &str, file: &'a str) -> Option<Command<'a>>
         Some(Command::Dump(file))
     } else if says(command, "upgrade") {
         Some(Command::Upgrade(file))
+    } else if says(command, "batch") {
+        Some(Command::Batch(file))
     } else {
         None
     }
@@ -110,6 +120,10 @@ fn four_words<'a>(command: &str, file: &'a str, first: &str, second: &str) -> Op
         let k = number(first, 2, 64)?;
         let names = number(second, 16, 65_536)?;
         Some(Command::Format(file, k, names))
+    } else if says(command, "load") {
+        let k = number(first, 2, 64)?;
+        let names = number(second, 16, 65_536)?;
+        Some(Command::Load(file, k, names))
     } else if says(command, "work") {
         let jobs = number(first, 0, u64::MAX)?;
         let count = number(second, 1, 1_000_000)?;
@@ -117,6 +131,27 @@ fn four_words<'a>(command: &str, file: &'a str, first: &str, second: &str) -> Op
     } else {
         None
     }
+}
+
+/// `cached FILE NUMBER COUNT ENTRIES`.
+fn five_words<'a>(
+    command: &str,
+    file: &'a str,
+    first: &str,
+    second: &str,
+    third: &str,
+) -> Option<Command<'a>>
+    ensures { MatchOption result
+        (MeansNone (command.now ∷ file.now ∷ first.now ∷ second.now ∷ third.now ∷ []))
+        (λ read. Means (command.now ∷ file.now ∷ first.now ∷ second.now ∷ third.now ∷ []) (command_of read)) }
+{
+    if !says(command, "cached") || file.is_empty() {
+        return None;
+    }
+    let jobs = number(first, 0, u64::MAX)?;
+    let count = number(second, 1, 1_000_000)?;
+    let entries = number(third, 1, 4_096)?;
+    Some(Command::Cached(file, jobs, count, entries))
 }
 
 /// The number from `low` to `high` that a word spells: decimal digits without a sign or a leading

@@ -44,6 +44,8 @@ const COMMANDS: &[&[&str]] = &[
     &["dump", "f"],
     &["run", "f"],
     &["work", "f", "1", "1"],
+    &["cached", "f", "1", "1", "1"],
+    &["batch", "f"],
     &["upgrade", "f"],
 ];
 

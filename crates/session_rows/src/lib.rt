@@ -6,7 +6,11 @@
 #[cfg(test)]
 mod answers;
 #[cfg(test)]
+mod batched;
+#[cfg(test)]
 mod cases;
+#[cfg(test)]
+mod copied;
 #[cfg(test)]
 mod digested;
 #[cfg(test)]
@@ -25,6 +29,10 @@ mod hand_made;
 mod hundreds;
 #[cfg(test)]
 mod images;
+#[cfg(test)]
+mod load_images;
+#[cfg(test)]
+mod loaded;
 #[cfg(test)]
 mod moments;
 #[cfg(test)]

@@ -1,5 +1,5 @@
-//! The command `work` over new files, and the summaries that a plain program in another language found of the
-//! same jobs.
+//! The commands `work` and `cached` over new files, and what a plain program in another language found of the
+//! same jobs: their summaries, and the counts of a cache.
 use crate::answers::{got, try_bytes, try_holds, try_outcome};
 use disk_mem::PlainDisk;
 use row_vectors::runs::{ended, run_on};
@@ -10,11 +10,21 @@ use std::process::Abort;
 const ROOM: u64 = 1 << 25;
 
 /// The summary of 5,000 jobs of number 1 at a divisor of 9 and with 4,096 names.
-const FIVE_THOUSAND: &str = concat!(
-    "requests 5001\nok 3277\nkept 646\nread 824408\nrefused 879\nnames 2078\nbytes 8445335\n",
-    "length 9285713\nmoved 312503692\nlinear 20971767765925888 1153363068583936\n",
-    "flat 6822083559424 427206426624\nseek 21408381113729024 1180704279887872\n",
-);
+macro_rules! five_thousand {
+    ($counts:literal) => {
+        concat!(
+            "requests 5001\nok 3277\nkept 646\nread 824408\nrefused 879\nnames 2078\nbytes 8445335\n",
+            "length 9285713\nmoved 312503692\nlinear 20971767765925888 1153363068583936\n",
+            "flat 6822083559424 427206426624\nseek 21408381113729024 1180704279887872\n",
+            $counts,
+        )
+    };
+}
+
+const FIVE_THOUSAND: &str = five_thousand!("");
+
+/// The same, and the counts of a cache of 64 objects.
+const FIVE_THOUSAND_CACHED: &str = five_thousand!("hits 1\nmisses 93\ndrops 0\n");
 
 /// A disk with a new store of a divisor and so many names.
 fn made(rt: &impl Abort, alloc: Global, k: &str, names: &str) -> PlainDisk {
@@ -24,13 +34,12 @@ fn made(rt: &impl Abort, alloc: Global, k: &str, names: &str) -> PlainDisk {
     ran.disk
 }
 
-/// Tries the summary of jobs over a new file with this divisor and so many names.
-fn try_work(rt: &impl Abort, alloc: Global, [k, names, number, count]: [&str; 4], summary: &str) {
+/// Tries what a command puts over a new file with this divisor and so many names.
+fn try_jobs(rt: &impl Abort, alloc: Global, [k, names]: [&str; 2], words: &[&str], text: &str) {
     let disk = made(rt, alloc, k, names);
-    let words = ["work", "f", number, count];
-    let ran = got(rt, run_on(alloc, &words, true, disk, Vec::new(alloc)));
-    try_bytes(rt, &ran.put, summary.as_bytes(), &summary);
-    try_outcome(rt, ran.outcome, ended(0), &summary);
+    let ran = got(rt, run_on(alloc, words, true, disk, Vec::new(alloc)));
+    try_bytes(rt, &ran.put, text.as_bytes(), &text);
+    try_outcome(rt, ran.outcome, ended(0), &text);
 }
 
 /// The summary of 2,000 jobs of number 1 at a divisor of 9 and with 4,096 names.
@@ -41,22 +50,64 @@ const FIRST: &str = concat!(
 );
 
 /// The summary of 2,000 jobs of number 7 at a divisor of 2 and with 64 names.
-const SEVENTH: &str = concat!(
-    "requests 2001\nok 1315\nkept 359\nread 881057\nrefused 108\nnames 57\nbytes 227563\n",
-    "length 331223\nmoved 34041866\nlinear 2284510955700224 637253223186432\n",
-    "flat 753261133824 242422874112\nseek 2332719668264960 652768287129600\n",
-);
+macro_rules! seventh {
+    ($counts:literal) => {
+        concat!(
+            "requests 2001\nok 1315\nkept 359\nread 881057\nrefused 108\nnames 57\nbytes 227563\n",
+            "length 331223\nmoved 34041866\nlinear 2284510955700224 637253223186432\n",
+            "flat 753261133824 242422874112\nseek 2332719668264960 652768287129600\n",
+            $counts,
+        )
+    };
+}
+
+const SEVENTH: &str = seventh!("");
 
 #[test]
 fn sums_up_two_thousand_jobs(rt: HostRuntime) {
-    try_work(&rt, rt.alloc(), ["9", "4096", "1", "2000"], FIRST);
-    try_work(&rt, rt.alloc(), ["2", "64", "7", "2000"], SEVENTH);
+    try_jobs(
+        &rt,
+        rt.alloc(),
+        ["9", "4096"],
+        &["work", "f", "1", "2000"],
+        FIRST,
+    );
+    try_jobs(
+        &rt,
+        rt.alloc(),
+        ["2", "64"],
+        &["work", "f", "7", "2000"],
+        SEVENTH,
+    );
 }
 
 #[test]
 fn does_the_same_jobs_again_over_another_file(rt: HostRuntime) {
-    try_work(&rt, rt.alloc(), ["9", "4096", "1", "5000"], FIVE_THOUSAND);
-    try_work(&rt, rt.alloc(), ["9", "4096", "1", "5000"], FIVE_THOUSAND);
+    let words = &["work", "f", "1", "5000"];
+    try_jobs(&rt, rt.alloc(), ["9", "4096"], words, FIVE_THOUSAND);
+    try_jobs(&rt, rt.alloc(), ["9", "4096"], words, FIVE_THOUSAND);
+}
+
+#[test]
+fn does_the_same_jobs_again_through_a_cache(rt: HostRuntime) {
+    let words = &["cached", "f", "1", "5000", "64"];
+    try_jobs(&rt, rt.alloc(), ["9", "4096"], words, FIVE_THOUSAND_CACHED);
+    try_jobs(&rt, rt.alloc(), ["9", "4096"], words, FIVE_THOUSAND_CACHED);
+}
+
+/// How many objects a cache has room for, and what is put of 2,000 jobs of number 7 that are done through it.
+const CACHES: &[(&str, &str)] = &[
+    ("1", seventh!("hits 3\nmisses 110\ndrops 0\n")),
+    ("4", seventh!("hits 9\nmisses 104\ndrops 0\n")),
+    ("4096", seventh!("hits 12\nmisses 101\ndrops 0\n")),
+];
+
+#[test]
+fn counts_the_hits_of_caches(rt: HostRuntime) {
+    for (entries, text) in CACHES {
+        let words = &["cached", "f", "7", "2000", *entries];
+        try_jobs(&rt, rt.alloc(), ["2", "64"], words, *text);
+    }
 }
 
 /// By each cost what was moved, and what was asked for.

@@ -1,8 +1,6 @@
 //! Times changes and checkpoints of a store.
 use crate::clock::{micros, nanos, now};
-use crate::numbered::scrambled;
 use disk_face::Disk;
-use std::alloc::{AllocError, Global};
 use std::test::Fail;
 use store_core::Refusal;
 use store_rows::trials::Trial;
@@ -26,15 +24,6 @@ pub struct Cost {
     pub flush_nanos: u64,
     pub moves: u64,
     pub saves: u64,
-}
-
-/// A name for each number below `count`, in a scrambled order.
-pub fn names_of(alloc: Global, count: u64) -> Result<Vec<String>, AllocError> {
-    let mut names = Vec::new(alloc);
-    for n in 0..count {
-        names.push(scrambled(alloc, 'o', n, count)?)?;
-    }
-    Ok(names)
 }
 
 /// Puts the object under each name, or removes each where there is none.

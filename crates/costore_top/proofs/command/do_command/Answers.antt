@@ -4,10 +4,11 @@ use Rattle.disk_face.specs.Devices.{devices}
 use Rattle.file_commands.specs.Getting.{IsObject}
 use Rattle.file_commands.specs.Texts.{IsChecked, IsMapped}
 use Rattle.costore_top.specs.Answering.{IsAnswer}
-use Rattle.costore_top.specs.Commands.{check, dump, format, get, help, map_of, version}
+use Rattle.costore_top.specs.Commands.{batch, cached, check, dump, format, get, help, load, map_of, run, upgrade, version, work}
 use Rattle.costore_top.specs.Words.{IsCommand, command_of}
 use Rattle.costore_top.specs.declared.help.TheConstants.{HELP, VERSION}
-use Rattle.costore_top.proofs.CommandLaws.{check_answer, dumping, formatting, get_answer, help_answer, map_answer, reading, running, telling, upgrading, version_answer, working}
+use Rattle.costore_top.proofs.CommandLaws.{check_answer, dumping, formatting, get_answer, help_answer, map_answer, reading, telling, version_answer, writing}
+use Rattle.costore_top.proofs.OtherLaws.{batching_known, loading_known, loading_silent, session_not_one, upgrading_not_one, upgrading_plain, working_not_one, working_plain}
 use Rattle.costore_top.proofs.PlainLaws.{does_as, plain_does}
 use Rattle.costore_top.proofs.command.do_command.Goals as goal
 
@@ -34,7 +35,7 @@ returns-in-Format g c =
 pub format_in-requires-clause-sizes : goal.format_in-requires-clause-sizes
 format_in-requires-clause-sizes g c =
     let valid = subst IsCommand (ap command_of c.in-Format.is) c.requires.valid in
-    (valid.1, valid.2, valid.3, valid.4)
+    valid.1
 
 pub returns-in-Get : goal.returns-in-Get
 returns-in-Get g c =
@@ -157,7 +158,7 @@ returns-in-Version g c =
     from from bay input refl c.put_whole-in-Version.result c.finish-in-Version.result f.status f.line f.told
     f.later f.calm layer)
 
--- ---- commands that serve requests
+-- ---- commands that write objects
 
 pub returns-in-Run : goal.returns-in-Run
 returns-in-Run g c =
@@ -169,8 +170,10 @@ returns-in-Run g c =
     let bay = c.run_file.new.bay ≡ c.args.bay.now in
     let input = c.run_file.new.input ≡ c.args.input.now in
     does_as (ap command_of c.in-Run.is)
-    (running c.run_file.result old new from rest bay input c.in-Run.file.now e.headline e.refused e.known
-    e.mounted e.serves)
+    (writing (run c.in-Run.file.now) refl refl refl refl c.run_file.result old new from rest bay input
+    (session_not_one c.run_file.result.status e.known) e.mounted (λ _. e.refused) (λ is. absurd (cc))
+    (λ is. absurd (cc)) (λ is. absurd (cc))
+    (record { headline = e.headline; known = e.known; always = e.serves }))
 
 pub returns-in-Work : goal.returns-in-Work
 returns-in-Work g c =
@@ -180,18 +183,58 @@ returns-in-Work g c =
     let from = g.I.Source.state c.args.input.now in
     let bay = c.work_file.new.bay ≡ c.args.bay.now in
     let input = c.args.input.now ≡ c.args.input.now in
+    let none = working_plain c.work_file.result.status e.keeps.known in
     does_as (ap command_of c.in-Work.is)
-    (working c.work_file.result old new from from bay input c.in-Work.file.now c.in-Work.number
-    c.in-Work.count refl e.works e.refused e.mounted e.keeps e.numbers)
+    (writing (work c.in-Work.file.now c.in-Work.number c.in-Work.count) refl refl refl refl
+    c.work_file.result old new from from bay input
+    (working_not_one c.work_file.result.status e.keeps.known) e.mounted (λ _. e.refused) (λ is. absurd (cc))
+    (λ _. (refl, none.0, none.1))
+    (λ _. (none.2, e.numbers.0, e.numbers.1, e.numbers.2)) (e.works, e.keeps))
 
 pub work_file-requires-clause-least : goal.work_file-requires-clause-least
 work_file-requires-clause-least g c =
     let valid = subst IsCommand (ap command_of c.in-Work.is) c.requires.valid in
-    valid.2
+    valid.1.1
 
 pub work_file-requires-clause-most : goal.work_file-requires-clause-most
 work_file-requires-clause-most g c =
     let valid = subst IsCommand (ap command_of c.in-Work.is) c.requires.valid in
+    valid.1.2
+
+pub returns-in-Cached : goal.returns-in-Cached
+returns-in-Cached g c =
+    let e = c.cached_file.ensures in
+    let old = devices (g.B.Disk.state c.args.bay.now) (g.O.Sink.state c.args.output.now) in
+    let new = devices (g.B.Disk.state c.cached_file.new.bay) (g.O.Sink.state c.cached_file.new.output) in
+    let from = g.I.Source.state c.args.input.now in
+    let bay = c.cached_file.new.bay ≡ c.args.bay.now in
+    let input = c.args.input.now ≡ c.args.input.now in
+    let none = working_plain c.cached_file.result.status e.keeps.known in
+    does_as (ap command_of c.in-Cached.is)
+    (writing (cached c.in-Cached.file.now c.in-Cached.number c.in-Cached.count c.in-Cached.entries) refl refl
+    refl refl c.cached_file.result old new from from bay input
+    (working_not_one c.cached_file.result.status e.keeps.known) e.mounted (λ _. e.refused)
+    (λ is. absurd (cc)) (λ _. (refl, none.0, none.1))
+    (λ _. (none.2, e.numbers.0, e.numbers.1, e.numbers.2)) (e.works, e.keeps))
+
+pub cached_file-requires-clause-least : goal.cached_file-requires-clause-least
+cached_file-requires-clause-least g c =
+    let valid = subst IsCommand (ap command_of c.in-Cached.is) c.requires.valid in
+    valid.1.1
+
+pub cached_file-requires-clause-most : goal.cached_file-requires-clause-most
+cached_file-requires-clause-most g c =
+    let valid = subst IsCommand (ap command_of c.in-Cached.is) c.requires.valid in
+    valid.1.2
+
+pub cached_file-requires-clause-some : goal.cached_file-requires-clause-some
+cached_file-requires-clause-some g c =
+    let valid = subst IsCommand (ap command_of c.in-Cached.is) c.requires.valid in
+    valid.2
+
+pub cached_file-requires-clause-few : goal.cached_file-requires-clause-few
+cached_file-requires-clause-few g c =
+    let valid = subst IsCommand (ap command_of c.in-Cached.is) c.requires.valid in
     valid.3
 
 pub returns-in-Upgrade : goal.returns-in-Upgrade
@@ -202,6 +245,47 @@ returns-in-Upgrade g c =
     let from = g.I.Source.state c.args.input.now in
     let bay = c.upgrade_file.new.bay ≡ c.args.bay.now in
     let input = c.args.input.now ≡ c.args.input.now in
+    let none = upgrading_plain c.upgrade_file.result.status e.keeps.known in
     does_as (ap command_of c.in-Upgrade.is)
-    (upgrading c.upgrade_file.result old new from from bay input c.in-Upgrade.file.now refl e.upgrades
-    e.refused e.mounted e.keeps e.numbers)
+    (writing (upgrade c.in-Upgrade.file.now) refl refl refl refl c.upgrade_file.result old new from from bay
+    input (upgrading_not_one c.upgrade_file.result.status e.keeps.known) e.mounted (λ _. e.refused)
+    (λ is. absurd (cc)) (λ _. (refl, none.0, none.1))
+    (λ _. (none.2, e.numbers.0, e.numbers.1, e.numbers.2)) (e.upgrades, e.keeps))
+
+pub returns-in-Batch : goal.returns-in-Batch
+returns-in-Batch g c =
+    let e = c.batch_file.ensures in
+    let old = devices (g.B.Disk.state c.args.bay.now) (g.O.Sink.state c.args.output.now) in
+    let new = devices (g.B.Disk.state c.batch_file.new.bay) (g.O.Sink.state c.batch_file.new.output) in
+    let from = g.I.Source.state c.args.input.now in
+    let rest = g.I.Source.state c.batch_file.new.input in
+    let bay = c.batch_file.new.bay ≡ c.args.bay.now in
+    let input = c.batch_file.new.input ≡ c.args.input.now in
+    let none = batching_known c.batch_file.result.status e.keeps.known in
+    does_as (ap command_of c.in-Batch.is)
+    (writing (batch c.in-Batch.file.now) refl refl refl refl c.batch_file.result old new from rest bay input
+    none.0 e.mounted (λ _. e.refused) (λ is. absurd (cc)) (λ is. absurd (cc))
+    (λ _. (none.1, e.numbers.0, e.numbers.1, e.numbers.2))
+    (e.batches, e.keeps, e.reads))
+
+pub returns-in-Load : goal.returns-in-Load
+returns-in-Load g c =
+    let e = c.load_file.ensures in
+    let old = devices (g.B.Disk.state c.args.bay.now) (g.O.Sink.state c.args.output.now) in
+    let new = devices (g.B.Disk.state c.load_file.new.bay) (g.O.Sink.state c.load_file.new.output) in
+    let from = g.I.Source.state c.args.input.now in
+    let rest = g.I.Source.state c.load_file.new.input in
+    let bay = c.load_file.new.bay ≡ c.args.bay.now in
+    let input = c.load_file.new.input ≡ c.args.input.now in
+    let status = c.load_file.result.status in
+    let none = loading_known status e.keeps.known in
+    does_as (ap command_of c.in-Load.is)
+    (writing (load c.in-Load.file.now c.in-Load.k c.in-Load.names) refl refl refl refl c.load_file.result old
+    new from rest bay input none.0 e.mounted (λ is. absurd (cc))
+    (λ _ told seven. loading_silent status old new e.keeps told seven) (λ is. absurd (cc))
+    (λ _. (none.1, e.numbers.0, e.numbers.1, e.numbers.2)) (e.loads, e.keeps, e.reads))
+
+pub load_file-requires-clause-sizes : goal.load_file-requires-clause-sizes
+load_file-requires-clause-sizes g c =
+    let valid = subst IsCommand (ap command_of c.in-Load.is) c.requires.valid in
+    valid.1

@@ -1,8 +1,8 @@
 -- What the one command does that was read, or that there is none.
-use Rattle.std.proofs.Common.{refl}
-use Rattle.costore_top.proofs.DoesLaws.{answers_by_it, formats_safely, headline_of, jobs_of, keeps_it, mounts_it, reads_none, session_of, upgrade_of, words_known}
-use Rattle.costore_top.proofs.FaultyLaws.{answers_nothing, formats_nothing, keeps_all, mounts_nothing, reads_nothing, words_faulty}
-use Rattle.costore_top.specs.Commands.{run, upgrade, work}
+use Rattle.std.proofs.Common.{◌≡◌, refl}
+use Rattle.costore_top.proofs.DoesLaws.{answers_by_it, changes_of, formats_safely, headline_of, jobs_of, keeps_it, mounts_it, reads_it, session_of, words_known}
+use Rattle.costore_top.proofs.FaultyLaws.{answers_nothing, changes_nothing, does_no_job, formats_nothing, keeps_all, mounts_nothing, reads_nothing, words_faulty}
+use Rattle.costore_top.specs.Commands.{run}
 use Rattle.costore_top.specs.Words.{command_of, texts}
 use Rattle.disk_face.specs.Devices.{devices}
 use Rattle.costore_top.proofs.top.costore.Goals as goal
@@ -24,11 +24,11 @@ returns-in-Some g c =
       answers = answers_by_it words command means o old new from rest _ _ does;
       keeps = keeps_it words command means o old new from rest _ _ does;
       formats = formats_safely words command means o old new from rest _ _ does;
-      unread = reads_none words command means o old new from rest _ _ does;
+      unread = reads_it words command means o old new from rest _ _ does;
       headline = headline_of words command means o old new from rest _ _ does;
       session = session_of words command means o old new from rest _ _ does;
       jobs = jobs_of words command means o old new from rest _ _ does;
-      digests = upgrade_of words command means o old new from rest _ _ does;
+      changes = changes_of words command means o old new from rest _ _ does;
     }
 
 pub returns-in-None : goal.returns-in-None
@@ -47,9 +47,10 @@ returns-in-None g c =
       answers = answers_nothing words none o disk out after is line;
       keeps = keeps_all words none o disk out after is line c.finish.ensures.told c.finish.ensures.later;
       formats = formats_nothing words none o disk out after is;
-      unread = λ _. reads_nothing words none o disk out after is refl;
+      unread = reads_nothing words none o disk out after is refl;
       headline = λ file means. absurd (none (run file) means);
       session = λ file means. absurd (none (run file) means);
-      jobs = λ file number count means. absurd (none (work file number count) means);
-      digests = λ file means. absurd (none (upgrade file) means);
+      jobs = does_no_job words none o disk out after is;
+      changes = changes_nothing words none o disk out after is (g.I.Source.state c.args.input.now)
+          (g.I.Source.state c.args.input.now) (c.args.input.now ≡ c.args.input.now);
     }
