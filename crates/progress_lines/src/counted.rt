@@ -1,8 +1,8 @@
 //! A source and a sink whose bytes are counted.
-ghost use Rattle.std.specs.Prelude.{◌≡◌, ◌≤◌, length, IfOk, IsTrue};
+ghost use Rattle.std.specs.Prelude.{◌≡◌, ◌+◌, ◌-◌, ◌^◌, ◌≤◌, length, min, IfOk, IsTrue, OnOk};
 ghost use Rattle.disk_face.specs.Counts.{HasCause};
 ghost use Rattle.disk_face.specs.Streams.{Puts, Takes};
-ghost use Rattle.progress_lines.specs.Counts.{sink_of, source_of};
+ghost use Rattle.progress_lines.specs.Counts.{pace_of_sink, pace_of_source, passed, sink_of, source_of};
 
 use crate::pace::Pace;
 use disk_face::{Sink, SinkFault, Source, SourceFault};
@@ -19,7 +19,8 @@ pub struct CountedSource<'a, I: Source, R: Clock + Eprint> {
 impl<'a, I: Source, R: Clock + Eprint> CountedSource<'a, I, R> {
     /// Round a source.
     pub fn new(source: I, pace: Pace<'a, R>) -> CountedSource<'a, I, R>
-        ensures { source_of result ≡ source }
+        ensures source { source_of result ≡ source }
+        ensures pace { pace_of_source result ≡ pace.entry }
     {
         CountedSource { source, pace }
     }
@@ -47,6 +48,8 @@ impl<I: Source, R: Clock + Eprint> Source for CountedSource<'_, I, R> {
         ensures told { (I.state (source_of self.new)).tells ≡ (I.state (source_of self.old)).tells }
         ensures cause { HasCause (I.state (source_of self.old)).faults (I.state (source_of self.new)).faults
             result }
+        ensures counted { IfOk result (λ n. passed (pace_of_source self.new)
+            ≡ min (passed (pace_of_source self.old) + n) (2 ^ 64 - 1)) }
     {
         let n = self.source.take(out)?;
         self.pace.pass(n as u64);
@@ -64,7 +67,8 @@ pub struct CountedSink<'a, O: Sink, R: Clock + Eprint> {
 impl<'a, O: Sink, R: Clock + Eprint> CountedSink<'a, O, R> {
     /// Round a sink.
     pub fn new(sink: O, pace: Pace<'a, R>) -> CountedSink<'a, O, R>
-        ensures { sink_of result ≡ sink }
+        ensures sink { sink_of result ≡ sink }
+        ensures pace { pace_of_sink result ≡ pace.entry }
     {
         CountedSink { sink, pace }
     }
@@ -91,6 +95,8 @@ impl<O: Sink, R: Clock + Eprint> Sink for CountedSink<'_, O, R> {
         ensures told { (O.state (sink_of self.new)).tells ≡ (O.state (sink_of self.old)).tells }
         ensures cause { HasCause (O.state (sink_of self.old)).faults (O.state (sink_of self.new)).faults
             result }
+        ensures counted { OnOk result (passed (pace_of_sink self.new)
+            ≡ min (passed (pace_of_sink self.old) + length bytes.now) (2 ^ 64 - 1)) }
     {
         self.sink.put(bytes)?;
         self.pace.pass(bytes.len() as u64);

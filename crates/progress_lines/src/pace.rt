@@ -1,6 +1,6 @@
 //! A count of bytes that is said once a second.
-ghost use Rattle.std.specs.Prelude.{◌≡◌, ◌+◌, ◌-◌, ◌^◌, min};
-ghost use Rattle.progress_lines.specs.Counts.{passed};
+ghost use Rattle.std.specs.Prelude.{◌≡◌, ◌+◌, ◌-◌, ◌^◌, false, min, true};
+ghost use Rattle.progress_lines.specs.Counts.{IsSilent, has_said, passed, word_of};
 
 use std::io::Eprint;
 use std::time::{Clock, Duration, Instant};
@@ -24,7 +24,10 @@ pub struct Pace<'a, R: Clock + Eprint> {
 impl<'a, R: Clock + Eprint> Pace<'a, R> {
     /// A count of no bytes, which begins now where it is on.
     pub fn new(rt: &'a R, done: &'a str, is_on: bool) -> Pace<'a, R>
-        ensures { passed result ≡ 0 }
+        ensures bytes { passed result ≡ 0 }
+        ensures word { word_of result ≡ done.entry }
+        ensures begun { has_said result ≡ false }
+        ensures off { is_on ≡ false → IsSilent result }
     {
         let last = if is_on { Instant::now(rt).ok() } else { None };
         Pace {
@@ -38,7 +41,10 @@ impl<'a, R: Clock + Eprint> Pace<'a, R> {
 
     /// Counts bytes that went by, up to 2^64 - 1, and says the sum where a second has passed.
     pub fn pass(&mut self, bytes: u64)
-        ensures { passed self.new ≡ min (passed self.old + bytes) (2 ^ 64 - 1) }
+        ensures bytes { passed self.new ≡ min (passed self.old + bytes) (2 ^ 64 - 1) }
+        ensures word { word_of self.new ≡ word_of self.old }
+        ensures said { has_said self.old ≡ true → has_said self.new ≡ true }
+        ensures off { IsSilent self.old → IsSilent self.new }
     {
         self.bytes = self.bytes.saturating_add(bytes);
         let Some(last) = self.last else {
