@@ -1,32 +1,40 @@
--- A line, an object and a newline in a buffer, one behind another.
+-- A line, an object and a newline in a buffer, one behind another and behind what is held.
 use Rattle.std.specs.Prelude.{◌≡◌, ℕ, ◌+◌, ◌-◌, ◌<◌, List, [], ◌∷◌, ◌++◌, length, take, drop, slice_set}
-use Rattle.std.proofs.Common.{arith, ap, sym, ◌∙◌, append_assoc, length-append, length-drop}
-use Rattle.std.proofs.Math.Seq.{take-append_seam}
+use Rattle.std.proofs.Common.{arith, ap, sym, ◌∙◌, append_assoc, length-drop}
 use Rattle.std.proofs.lemmas.List.{length-take-le, take_more_set}
-use Rattle.std.proofs.lemmas.Slice.{between-put_mid, take-put_mid}
+use Rattle.std.proofs.lemmas.Slice.{between-put_mid, take-put_mid, take-put_mid_below}
 use borrow.Rule.Slice.PartMut.{put_mid, same_len_mid}
 
-module _ (line buf copied part : List ℕ) (size : ℕ) (room : length line + size < length buf)
+module _ (buf line copied part : List ℕ) (held size : ℕ) (room : held + length line + size < length buf)
     (same : copied ≡ line) where
   abbrev n : ℕ
-  n = length line
+  n = held + length line
+
+  abbrev j : ℕ
+  j = n - held
 
   abbrev k : ℕ
   k = n + size - n
 
-  -- the buffer with the line in front
+  -- the buffer with the line in its place
   abbrev before : List ℕ
-  before = copied ++ drop n buf
+  before = put_mid held j buf copied
+
+  line_long : length (take j (drop held buf)) ≡ length line
+  line_long = length-take-le j (drop held buf) (omega (arith, length-drop held buf, room)) ∙ omega arith
 
   before_long : length before ≡ length buf
-  before_long = omega (arith, length-append copied (drop n buf), ap length same, length-drop n buf, room)
+  before_long = same_len_mid held j buf copied (ap length same ∙ sym line_long)
 
   -- the part that is read into
   pub part_long : length (take k (drop n before)) ≡ size
   part_long = length-take-le k (drop n before) (omega (arith, length-drop n before, before_long, room))
       ∙ omega arith
 
-  module _ (long : length part ≡ size) where
+  module _ (read : length part ≡ length (take k (drop n before))) where
+    long : length part ≡ size
+    long = read ∙ part_long
+
     pub part_is : take k (drop n (put_mid n k before part)) ≡ part
     part_is = between-put_mid n k before part (n + size) (omega (arith, before_long, room))
         (omega (arith, long))
@@ -34,17 +42,25 @@ module _ (line buf copied part : List ℕ) (size : ℕ) (room : length line + si
     put_long : n + size < length (put_mid n k before part)
     put_long = omega (
       arith,
-      same_len_mid n k before part (long ∙ sym part_long),
+      same_len_mid n k before part read,
       before_long,
       room,
     )
 
+    -- what is held stays
+    pub held_stays : take held (put_mid n k before part) ≡ take held buf
+    held_stays =
+        take-put_mid_below n k before part held (omega arith) (omega (arith, before_long, room))
+        ∙ take-put_mid_below held j buf copied held (omega arith) (omega (arith, room))
+
     pub filled : take (n + size + 1) (slice_set (put_mid n k before part) (n + size) 10)
-        ≡ line ++ (part ++ 10 ∷ [])
+        ≡ take held buf ++ (line ++ (part ++ 10 ∷ []))
     filled =
         take_more_set (put_mid n k before part) (n + size) 10 put_long
         ∙ ap (λ (xs : List ℕ). xs ++ 10 ∷ []) (take-put_mid n k before part (n + size) (omega (arith, long))
         (omega (arith, before_long, room))
-        ∙ ap (λ (xs : List ℕ). xs ++ part) (ap (λ (xs : List ℕ). take n (xs ++ drop n buf)) same
-        ∙ take-append_seam line (drop n buf)))
-        ∙ append_assoc line part (10 ∷ [])
+        ∙ ap (λ (xs : List ℕ). xs ++ part) (take-put_mid held j buf copied n (omega (arith, ap length same))
+        (omega (arith, room))
+        ∙ ap (λ (xs : List ℕ). take held buf ++ xs) same))
+        ∙ append_assoc (take held buf ++ line) part (10 ∷ [])
+        ∙ append_assoc (take held buf) line (part ++ 10 ∷ [])

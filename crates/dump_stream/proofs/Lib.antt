@@ -4,6 +4,7 @@ pub mod TextLaws
 pub mod ReadLaws
 pub mod WriteLaws
 mod PutLaws
+mod GatherLaws
 mod FillLaws
 mod SoundLaws
 pub mod SumLaws

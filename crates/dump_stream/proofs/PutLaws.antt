@@ -4,7 +4,7 @@ use Rattle.std.proofs.Common.{arith, ap, sym, ◌∙◌, append_assoc, append-ni
 use Rattle.std.proofs.Math.Seq.{take-append-add}
 use Rattle.std.proofs.lemmas.Bool.{and_parts, leb-true}
 use Rattle.std.proofs.lemmas.Grind.{flat_map-append}
-use Rattle.std.proofs.lemmas.List.{take-append-drop, take-append-le, take_all, take_more}
+use Rattle.std.proofs.lemmas.List.{take-append-drop, take-append-le, take_more}
 use Rattle.std.proofs.lemmas.Option.{get_or_from_slice_get, slice_get-map, slice_get_within}
 use Rattle.std.specs.FinMap as fin
 use Rattle.std.specs.Fmt.{decimal}
@@ -18,7 +18,7 @@ use Rattle.extent_table.specs.Extents.{Spots}
 use Rattle.placement_model.specs.Reads.{object_at}
 use Rattle.placement_model.proofs.ReadLaws.{found_by_name}
 use Rattle.dump_stream.specs.Dumps.{object_text, objects_text}
-use Rattle.dump_stream.specs.Dumping.{read_entry}
+use Rattle.dump_stream.specs.Dumping.{Front, read_entry}
 
 pub name_short : (name : List ℕ) → IsName name → length name ≤ 63
 name_short name h =
@@ -27,10 +27,6 @@ name_short name h =
     leb-true (length name) 63 (and_parts (nat_lt 0 (length name)) (nat_le (length name) 63) outer.0).1
 
 -- ---- one text after another
-
--- a front of a text was put
-abbrev pub Front : List ℕ → List ℕ → List ℕ → Type 0
-Front before now text = (n : ℕ) × (n ≤ length text) × (now ≡ before ++ take n text)
 
 pub front_wider : (before now xs ys : List ℕ) → Front before now xs → Front before now (xs ++ ys)
 front_wider before now xs ys (n, low, is) = (
@@ -91,7 +87,7 @@ module _ (before : List ℕ) (line bytes : List ℕ) where
 -- ---- the texts of objects
 
 module _ (es : List Entry) (n : ℕ) (e : Entry) (is : slice_get es n ≡ Some e) where
-  text_more : objects_text (take (n + 1) es) ≡ objects_text (take n es) ++ object_text e
+  pub text_more : objects_text (take (n + 1) es) ≡ objects_text (take n es) ++ object_text e
   text_more =
       let low : n < length es = slice_get_within es n e is in
       let one : slice_index_or es n e ≡ e = get_or_from_slice_get es n e e is in
@@ -100,27 +96,13 @@ module _ (es : List Entry) (n : ℕ) (e : Entry) (is : slice_get es n ≡ Some e
       ∙ ap (λ (ys : List ℕ). objects_text (take n es) ++ ys)
       (ap (λ (x : Entry). objects_text (x ∷ [])) one ∙ append-nil (object_text e))
 
-  pub objects_more : (before mid now : List ℕ) → mid ≡ before ++ objects_text (take n es)
-      → now ≡ mid ++ object_text e → now ≡ before ++ objects_text (take (n + 1) es)
-  objects_more before mid now first second =
-      second
-      ∙ ap (λ (s : List ℕ). s ++ object_text e) first
-      ∙ append_assoc before (objects_text (take n es)) (object_text e)
-      ∙ ap (λ (s : List ℕ). before ++ s) (sym text_more)
-
-  pub objects_stop : (before mid now : List ℕ) → mid ≡ before ++ objects_text (take n es)
-      → Front mid now (object_text e) → Front before now (objects_text es)
-  objects_stop before mid now first f = subst (Front before now)
+  pub objects_stop : (before now : List ℕ) → Front before now (objects_text (take n es) ++ object_text e)
+      → Front before now (objects_text es)
+  objects_stop before now f = subst (Front before now)
       (sym (flat_map-append object_text (take (n + 1) es) (drop (n + 1) es))
       ∙ ap objects_text (take-append-drop (n + 1) es))
       (front_wider before now (objects_text (take (n + 1) es)) (objects_text (drop (n + 1) es))
-      (subst (Front before now) (sym text_more)
-      (front_then before mid now (objects_text (take n es)) (object_text e) first f)))
-
-pub objects_all : (es : List Entry) (n : ℕ) (before now : List ℕ) → length es ≤ n
-    → now ≡ before ++ objects_text (take n es) → now ≡ before ++ objects_text es
-objects_all es n before now end is = is
-    ∙ ap (λ (xs : List Entry). before ++ objects_text xs) (take_all n es end)
+      (subst (Front before now) (sym text_more) f))
 
 -- the entries of spots
 

@@ -1,5 +1,5 @@
 -- Objects up to the first that is spoilt.
-use Rattle.std.specs.Prelude.{◌≡◌, ℕ, zero, suc, ◌+◌, ◌≤◌, true, false, List, [], ◌∷◌, ◌++◌, length, take, slice_get, Option, Some, Result, Err, Ok, IsTrue}
+use Rattle.std.specs.Prelude.{◌≡◌, ℕ, zero, suc, ◌+◌, ◌≤◌, true, false, List, [], ◌∷◌, ◌++◌, length, take, slice_get, Option, Some, Result, Err, Ok, IsTrue, OnOk}
 use Rattle.std.proofs.Common.{arith, ap, sym, ◌∙◌, subst}
 use Rattle.std.proofs.lemmas.Bool.{cond-true, cond-false}
 use Rattle.std.proofs.lemmas.List.{take_all}
@@ -10,10 +10,11 @@ use Rattle.map_model.specs.Weights.{Entry}
 use Rattle.disk_face.specs.Streams.{Puts, SinkState}
 use Rattle.segment_layout.specs.Books.{differs}
 use Rattle.dump_stream.specs.Dumps.{dump_line, object_text, objects_text}
-use Rattle.dump_stream.specs.Dumping.{AreSound, PutsDump, PutsIfSound, PutsSound, digest_of, is_spoilt, sound_front}
+use Rattle.dump_stream.specs.Dumping.{AreSound, Gathers, GathersIfSound, PutsDump, PutsIfSound, PutsSound, is_spoilt, sound_front}
 use Rattle.dump_stream.specs.declared.putting.DumpFault.{DumpFault}
 use Rattle.dump_stream.specs.declared.putting.DumpFault.TheVariants as faults
-use Rattle.dump_stream.proofs.PutLaws.{front_wider, objects_all, objects_more, objects_stop, put_then}
+use Rattle.dump_stream.proofs.GatherLaws.{failed, failed_same, gathers_end, gathers_front, gathers_stop, gathers_then}
+use Rattle.dump_stream.proofs.PutLaws.{front_wider, objects_stop, put_then, text_more}
 
 module _ (digests : Option Map) where
   -- one more that isn't
@@ -54,50 +55,68 @@ module _ (digests : Option Map) where
 
 -- ---- what is put
 
-module _ (digests : Option Map) (es : List Entry) (before mid : SinkState) (n : ℕ)
+-- The objects in front of the n-th were gathered.
+module _ (digests : Option Map) (es : List Entry) (before mid : SinkState) (n : ℕ) (held : List ℕ)
     (same_told : mid.tells ≡ before.tells)
-    (first : IsTrue before.tells → mid.given ≡ before.given ++ objects_text (take n es))
+    (first : IsTrue before.tells → Gathers [] (objects_text (take n es)) before.given mid.given held)
     (sound : AreSound digests (take n es)) where
   there : IsTrue before.tells → IsTrue mid.tells
   there told = subst IsTrue (sym same_told) told
 
-  module _ (e : Entry) (is : slice_get es n ≡ Some e) (after : SinkState) where
-    -- a fault at the next object
+  module _ (e : Entry) (is : slice_get es n ≡ Some e) (now : SinkState) (buffer : List ℕ) where
+    -- a fault at the next
     pub stopped : {T : Type 0} (why : DumpFault)
-        → PutsIfSound {T = T} (digest_of digests e.0) e.1 (object_text e) mid after (Err why)
-        → PutsSound {T = T} digests es before after (Err why)
-    stopped why x = record {
+        → GathersIfSound (is_spoilt digests e) held (object_text e) mid now buffer (Err why)
+        → PutsSound {T = T} digests es before now (Err why)
+    stopped {T} why x = record {
       puts = λ told other. record {
         all = tt;
-        front = objects_stop es n e is before.given mid.given after.given (first told)
-            (x.puts (there told) other).front;
+        front = objects_stop es n e is before.given now.given
+            (gathers_front [] (objects_text (take n es)) before.given mid.given held (first told)
+            (object_text e) now.given
+            (x.front (there told) (λ bad. other (failed_same ℕ T why faults.Damaged bad))));
       };
-      stops = λ told damaged. x.nothing damaged ∙ first told
+      stops = λ told bad. gathers_stop [] (objects_text (take n es)) before.given mid.given held
+          (first told) now.given (x.stops (there told) (back bad))
           ∙ ap (λ (ys : List Entry). before.given ++ objects_text ys)
-          (sym (front_is digests es n e is sound (x.damaged damaged)));
-      damaged = λ damaged all. not_all digests es n e is (x.damaged damaged) all;
+          (sym (front_is digests es n e is sound (x.damaged (back bad))));
+      damaged = λ bad all. not_all digests es n e is (x.damaged (back bad)) all;
       sound = tt;
     }
+      where
+        back : failed T why ≡ failed T faults.Damaged → failed ℕ why ≡ failed ℕ faults.Damaged
+        back = failed_same T ℕ why faults.Damaged
 
-    -- it was put
-    pub put_next : {T : Type 0} (x : T)
-        → PutsIfSound (digest_of digests e.0) e.1 (object_text e) mid after (Ok x)
-        → IsTrue before.tells → after.given ≡ before.given ++ objects_text (take (n + 1) es)
-    put_next x done told = objects_more es n e is before.given mid.given after.given (first told)
-        (done.puts (there told) (λ is. absurd (cc))).all
+    -- it was gathered
+    pub gathered_next : (k : ℕ)
+        → GathersIfSound (is_spoilt digests e) held (object_text e) mid now buffer (Ok k)
+        → IsTrue before.tells
+        → Gathers [] (objects_text (take (n + 1) es)) before.given now.given (take k buffer)
+    gathered_next k done told =
+        subst (λ (s : List ℕ). Gathers [] s before.given now.given (take k buffer))
+        (sym (text_more es n e is))
+        (gathers_then [] (objects_text (take n es)) before.given mid.given held (first told) (object_text e)
+        now.given (take k buffer) (done.gathers (there told)))
 
-  -- none is left
-  pub put_all : {T : Type 0} (x : T) → length es ≤ n → PutsSound digests es before mid (Ok x)
-  put_all x end = record {
-    puts = λ told other. record {
-      all = objects_all es n before.given mid.given end
-          (first told);
-      front = tt;
-    };
-    stops = λ told is. absurd (cc);
-    damaged = λ is. absurd (cc);
-    sound = subst (AreSound digests) (take_all n es end) sound;
+  -- none is left, and what was held was put, or a front of it
+  pub put_all : {T : Type 0} (now : SinkState) (result : Result T DumpFault)
+      → ((result ≡ Err faults.Damaged) → ⊥) → length es ≤ n
+      → (IsTrue mid.tells → Puts mid.given now.given held result)
+      → PutsSound digests es before now result
+  put_all {T} now result other end last = record {
+    puts = λ told isnt. rw all_is at (gathers_end [] (objects_text (take n es)) before.given mid.given held
+        (first told) now.given result (last (there told)));
+    stops = λ told is. absurd (other is);
+    damaged = λ is. absurd (other is);
+    sound = all_sound result;
   }
+    where
+      all_is : take n es ≡ es
+      all_is = take_all n es end
+
+      all_sound : (end : Result T DumpFault) → OnOk end (AreSound digests es)
+      all_sound (Ok x) = subst (AreSound digests) all_is sound
+      all_sound (Err why) = tt
 
 -- ---- one object
 

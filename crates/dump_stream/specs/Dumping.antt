@@ -1,5 +1,5 @@
 -- What is put of a table's objects, and what a fault leaves.
-use Rattle.std.specs.Prelude.{◌≡◌, ◌≢◌, ◌<◌, ◌≤◌, ◌^◌, ◌==◌, ℕ, false, true, Bool, if◌then◌else◌, List, [], ◌∷◌, ◌++◌, map, Option, Some, None, Result, Err, OnOk, IsTrue}
+use Rattle.std.specs.Prelude.{◌≡◌, ◌≢◌, ◌<◌, ◌≤◌, ◌^◌, ◌==◌, ℕ, false, true, Bool, if◌then◌else◌, List, [], ◌∷◌, ◌++◌, length, map, take, Option, Some, None, Result, Err, IfOk, OnErr, OnOk, IsTrue}
 use Rattle.std.specs.FinMap as fin
 use Rattle.std.specs.List.{AllByRecursion}
 use Rattle.disk_face.specs.Frames.{Unchanged}
@@ -75,6 +75,29 @@ pub record PutsIfSound {T : Type 0} (digest : Option (List ℕ)) (object text : 
   pub nothing : result ≡ Err why.Damaged → now.given ≡ before.given
   pub damaged : result ≡ Err why.Damaged → differs digest (Some object) ≡ true
   pub sound : OnOk result (differs digest (Some object) ≡ false)
+
+-- a front of a text was put
+abbrev pub Front : List ℕ → List ℕ → List ℕ → Type 0
+Front before now text = (n : ℕ) × (n ≤ length text) × (now ≡ before ++ take n text)
+
+-- Of what was held and a text behind it a front was put, and the rest is held.
+pub record Gathers (held text before now left : List ℕ) : Type 0 where
+  pub moved : List ℕ
+  pub put : now ≡ before ++ moved
+  pub rest : moved ++ left ≡ held ++ text
+
+-- The text of an object was gathered behind what was held, so that the first bytes of a buffer, as many as
+-- the result tells, are held now. Where a device failed a front of both was put, and of an object that is
+-- spoilt what was held and nothing of its text.
+pub record GathersIfSound (spoilt : Bool) (held text : List ℕ) (before now : SinkState) (buffer : List ℕ)
+    (result : Result ℕ DumpFault) : Type 0 where
+  pub gathers : IsTrue before.tells
+      → IfOk result (λ n. Gathers held text before.given now.given (take n buffer))
+  pub front : IsTrue before.tells → result ≢ Err why.Damaged
+      → OnErr result (Front before.given now.given (held ++ text))
+  pub stops : IsTrue before.tells → result ≡ Err why.Damaged → now.given ≡ before.given ++ held
+  pub damaged : result ≡ Err why.Damaged → spoilt ≡ true
+  pub sound : OnOk result (spoilt ≡ false)
 
 -- Objects were put one after another, or a front of them where a device failed. Where one is spoilt, those in
 -- front of the first such were.

@@ -1,6 +1,7 @@
 //! Dumps: the map of a file as a stream of bytes, and a file that is laid out at once from one.
 #![tactic(auto)]
 
+mod gathering;
 mod head;
 mod laws;
 mod putting;

@@ -1,30 +1,18 @@
 //! Putting the dump of a table.
-ghost use Rattle.std.specs.Prelude.{◌≡◌, ◌≢◌, ◌==◌, ◌∷◌, [], List, ℕ, ◌+◌, ◌^◌, ◌<◌, ◌≤◌, ◌++◌, Err, Ok, Some, None, OnOk, IsTrue, bytes_eq, codes, false, true, length};
-ghost use Rattle.std.specs.FinMap as fin;
-ghost use Rattle.std.specs.Fmt.{decimal};
-ghost use Rattle.byte_ranges.specs.Ranges.{bytes_at};
+ghost use Rattle.std.specs.Prelude.{◌≡◌, ◌≢◌, ◌==◌, ◌^◌, ◌<◌, ◌≤◌, Err, IsTrue, false, length};
 ghost use Rattle.disk_face.specs.Frames.{Unchanged};
-ghost use Rattle.disk_face.specs.Streams.{Puts};
 ghost use Rattle.slot_codec.specs.Spelling.{head_len};
-ghost use Rattle.slot_pair.specs.Finding.{HasDiskCause};
-ghost use Rattle.size_class.specs.Rows.{cells_of};
-ghost use Rattle.segment_layout.specs.Books.{differs, volumes_of_sizes};
-ghost use Rattle.extent_table.specs.Extents.{IsInRange, IsTable, digests_seen};
-ghost use Rattle.placement_model.specs.Reads.{EndWithin, object_at, read_at};
+ghost use Rattle.extent_table.specs.Extents.{IsTable, digests_seen};
+ghost use Rattle.placement_model.specs.Reads.{EndWithin, read_at};
 ghost use Rattle.reopen.specs.Loads.{IsLoadedFrom, KeepsLoaded, unboxed};
-ghost use Rattle.data_area.specs.Causes.{HasSinkCause};
-ghost use Rattle.dump_stream.specs.Dumps.{object_text};
-ghost use Rattle.dump_stream.specs.Dumping.{AreSizes, CanClass, DumpsLoaded, HasCauses, PutsDump, PutsIfSound, PutsSound, digest_of, read_entries, read_entry, sizes_at};
-ghost use Rattle.dump_stream.specs.Heads.{IsHead, volumes_of_head};
+ghost use Rattle.dump_stream.specs.Dumping.{AreSizes, CanClass, DumpsLoaded, HasCauses, PutsDump, PutsSound, digest_of, read_entries, sizes_at};
 
-use crate::head::{DumpHead, push, push_number, write_head};
+use crate::gathering::{gather_object, put_whole};
+use crate::head::{DumpHead, write_head};
 use crate::sums::head_of;
-use arrayvec::ArrayVec;
-use data_area::{PutFault, digest_at, put_bytes};
-use disk_face::{Disk, Sink, read};
-use extent_table::{Spot, Table};
+use disk_face::{Disk, Sink};
+use extent_table::Table;
 use reopen::{BoxedLoaded, Loaded};
-use sha2::{Digest, Sha256};
 use size_class::SIZE_MAX;
 use slot_codec::{Name, head_len};
 use thiserror::Error;
@@ -127,8 +115,9 @@ fn dump_table<D: Disk, O: Sink, const C: usize>(
     put_objects(disk, head_len(names), version, table, output, buf)
 }
 
-/// Puts the objects of a table, by rising name, each as a put. The data part begins at `base`. At the
-/// first whose bytes haven't the digest that the table has for it, it stops.
+/// Puts the objects of a table, by rising name, each as a put, as many at once as the buffer has room for.
+/// The data part begins at `base`. At the first whose bytes haven't the digest that the table has for it,
+/// it stops.
 pub(crate) fn put_objects<D: Disk, O: Sink>(
     disk: &mut D,
     base: u64,
@@ -153,12 +142,14 @@ pub(crate) fn put_objects<D: Disk, O: Sink>(
     ensures frame { Unchanged (D.state disk.old) (D.state disk.new) }
     ensures room { length buf.new ≡ length buf.old }
 {
+    let mut held = 0;
     'names: for n in 0..table.count() {
         let (_, name, spot) = table.in_order(n);
         let digest = digest_for(version, table, &name);
-        put_object(disk, base, &name, spot, digest, output, buf)?;
+        held = gather_object(disk, base, &name, spot, digest, output, buf, held)?;
     }
-    Ok(())
+    let texts = &buf[..held];
+    put_whole(output, texts)
 }
 
 /// The digest that a table has for a name: in version 1 none.
@@ -170,212 +161,4 @@ fn digest_for(version: u8, table: &Table, name: &Name) -> Option<[u8; 32]>
     } else {
         None
     }
-}
-
-/// Puts an object as a put, if its bytes have this digest. Its text is put at once where the buffer has
-/// room for it, and the object is read once then; else in pieces.
-fn put_object<D: Disk, O: Sink>(
-    disk: &mut D,
-    base: u64,
-    name: &Name,
-    spot: Spot,
-    digest: Option<[u8; 32]>,
-    output: &mut O,
-    buf: &mut [u8],
-) -> Result<(), DumpFault>
-    requires ready { IsTrue (D.state disk.old).is_ready }
-    requires some { 0 < length buf.old }
-    requires base { base < 2 ^ 63 }
-    requires range { IsInRange spot }
-    requires within { IsTrue (D.state disk.old).tells
-        → base + spot.place + spot.size ≤ length (D.state disk.old).file }
-    ensures puts { IsTrue (D.state disk.old).tells → PutsIfSound digest
-        (object_at base (D.state disk.old).file spot)
-        (object_text (read_entry base (D.state disk.old).file (name.now, spot))) (O.state output.old)
-        (O.state output.new) result }
-    ensures plain { digest ≡ None → result ≢ Err DumpFault.Damaged }
-    ensures causes { HasCauses (D.state disk.old) (D.state disk.new) (O.state output.old)
-        (O.state output.new) result }
-    ensures frame { Unchanged (D.state disk.old) (D.state disk.new) }
-    ensures room { length buf.new ≡ length buf.old }
-{
-    let at = base + spot.place;
-    let line = put_line(name, spot.size);
-    let line = line.as_slice();
-    if line.len() as u64 + spot.size < buf.len() as u64 {
-        put_small(disk, at, spot.size as usize, line, digest, output, buf)
-    } else {
-        put_large(disk, at, spot.size, line, digest, output, buf)
-    }
-}
-
-/// Puts a line, `size` bytes of the file from position `at` on, and a newline, at once, if the bytes have
-/// this digest.
-fn put_small<D: Disk, O: Sink>(
-    disk: &mut D,
-    at: u64,
-    size: usize,
-    line: &[u8],
-    digest: Option<[u8; 32]>,
-    output: &mut O,
-    buf: &mut [u8],
-) -> Result<(), DumpFault>
-    requires ready { IsTrue (D.state disk.old).is_ready }
-    requires long { length line.now + size < length buf.old }
-    requires within { IsTrue (D.state disk.old).tells → at + size ≤ length (D.state disk.old).file }
-    ensures puts { IsTrue (D.state disk.old).tells → PutsIfSound digest
-        (bytes_at (D.state disk.old).file at size)
-        (line.now ++ (bytes_at (D.state disk.old).file at size ++ codes "\n")) (O.state output.old)
-        (O.state output.new) result }
-    ensures plain { digest ≡ None → result ≢ Err DumpFault.Damaged }
-    ensures causes { HasCauses (D.state disk.old) (D.state disk.new) (O.state output.old)
-        (O.state output.new) result }
-    ensures frame { Unchanged (D.state disk.old) (D.state disk.new) }
-    ensures room { length buf.new ≡ length buf.old }
-{
-    let start = line.len();
-    let end = start + size;
-    buf[..start].copy_from_slice(line);
-    let Ok(()) = read(disk, at, &mut buf[start..end]) else {
-        return Err(DumpFault::Disk);
-    };
-    if is_spoilt(digest, &buf[start..end]) {
-        return Err(DumpFault::Damaged);
-    }
-    buf[end] = b'\n';
-    put_whole(output, &buf[..end + 1])
-}
-
-/// Puts a line, `size` bytes of the file from position `at` on in pieces, and a newline, if the bytes have
-/// this digest, for which they are read a first time.
-fn put_large<D: Disk, O: Sink>(
-    disk: &mut D,
-    at: u64,
-    size: u64,
-    line: &[u8],
-    digest: Option<[u8; 32]>,
-    output: &mut O,
-    buf: &mut [u8],
-) -> Result<(), DumpFault>
-    requires ready { IsTrue (D.state disk.old).is_ready }
-    requires some { 0 < length buf.old }
-    requires range { at + size < 2 ^ 64 }
-    requires within { IsTrue (D.state disk.old).tells → at + size ≤ length (D.state disk.old).file }
-    ensures puts { IsTrue (D.state disk.old).tells → PutsIfSound digest
-        (bytes_at (D.state disk.old).file at size)
-        (line.now ++ (bytes_at (D.state disk.old).file at size ++ codes "\n")) (O.state output.old)
-        (O.state output.new) result }
-    ensures plain { digest ≡ None → result ≢ Err DumpFault.Damaged }
-    ensures causes { HasCauses (D.state disk.old) (D.state disk.new) (O.state output.old)
-        (O.state output.new) result }
-    ensures frame { Unchanged (D.state disk.old) (D.state disk.new) }
-    ensures room { length buf.new ≡ length buf.old }
-{
-    check_digest(disk, at, size, digest, buf)?;
-    put_whole(output, line)?;
-    put_object_bytes(disk, at, size, buf, output)?;
-    put_whole(output, b"\n")
-}
-
-/// Whether an object has another digest than this, where there is one.
-fn is_spoilt(digest: Option<[u8; 32]>, object: &[u8]) -> bool
-    ensures { result ≡ differs digest (Some object.now) }
-{
-    match digest {
-        None => false,
-        Some(digest) => !are_same(&digest, &Sha256::digest(object)),
-    }
-}
-
-/// Whether the bytes at a place of the file have a digest, where there is one: else they aren't read.
-fn check_digest<D: Disk>(
-    disk: &mut D,
-    at: u64,
-    size: u64,
-    digest: Option<[u8; 32]>,
-    buf: &mut [u8],
-) -> Result<(), DumpFault>
-    requires ready { IsTrue (D.state disk.old).is_ready }
-    requires some { 0 < length buf.old }
-    requires range { at + size < 2 ^ 64 }
-    requires within { IsTrue (D.state disk.old).tells → at + size ≤ length (D.state disk.old).file }
-    ensures damaged { IsTrue (D.state disk.old).tells → result ≡ Err DumpFault.Damaged
-        → differs digest (Some (bytes_at (D.state disk.old).file at size)) ≡ true }
-    ensures sound { IsTrue (D.state disk.old).tells
-        → OnOk result (differs digest (Some (bytes_at (D.state disk.old).file at size)) ≡ false) }
-    ensures plain { digest ≡ None → result ≡ Ok tt }
-    ensures only { result ≢ Err DumpFault.Sink }
-    ensures cause { HasDiskCause DumpFault.Disk (D.state disk.old).faults (D.state disk.new).faults result }
-    ensures frame { Unchanged (D.state disk.old) (D.state disk.new) }
-    ensures room { length buf.new ≡ length buf.old }
-{
-    let Some(digest) = digest else {
-        return Ok(());
-    };
-    let found = digest_at(disk, at, size, buf).map_err(|_| DumpFault::Disk)?;
-    if are_same(&digest, &found) {
-        Ok(())
-    } else {
-        Err(DumpFault::Damaged)
-    }
-}
-
-/// Whether two digests are the same.
-fn are_same(digest: &[u8; 32], other: &[u8; 32]) -> bool
-    ensures { result ≡ bytes_eq digest.now other.now }
-{
-    digest.as_slice() == other.as_slice()
-}
-
-/// Puts `size` bytes of the file from position `at` on, in pieces of the buffer. Where a device fails, a
-/// front of them was put.
-fn put_object_bytes<D: Disk, O: Sink>(
-    disk: &mut D,
-    at: u64,
-    size: u64,
-    buf: &mut [u8],
-    output: &mut O,
-) -> Result<(), DumpFault>
-    requires ready { IsTrue (D.state disk.old).is_ready }
-    requires some { 0 < length buf.old }
-    requires range { at + size < 2 ^ 64 }
-    requires within { IsTrue (D.state disk.old).tells → at + size ≤ length (D.state disk.old).file }
-    ensures put { IsTrue (D.state disk.old).tells → IsTrue (O.state output.old).tells
-        → Puts (O.state output.old).given (O.state output.new).given
-        (bytes_at (D.state disk.old).file at size) result }
-    ensures only { result ≢ Err DumpFault.Damaged }
-    ensures causes { HasCauses (D.state disk.old) (D.state disk.new) (O.state output.old)
-        (O.state output.new) result }
-    ensures frame { Unchanged (D.state disk.old) (D.state disk.new) }
-    ensures room { length buf.new ≡ length buf.old }
-{
-    match put_bytes(disk, at, size, buf, output) {
-        Ok(()) => Ok(()),
-        Err(PutFault::Disk) => Err(DumpFault::Disk),
-        Err(PutFault::Sink) => Err(DumpFault::Sink),
-    }
-}
-
-/// Puts bytes at once.
-fn put_whole<O: Sink>(sink: &mut O, bytes: &[u8]) -> Result<(), DumpFault>
-    ensures put { IsTrue (O.state sink.old).tells
-        → Puts (O.state sink.old).given (O.state sink.new).given bytes.now result }
-    ensures cause { HasSinkCause DumpFault.Sink (O.state sink.old) (O.state sink.new) result }
-    ensures only { (result ≢ Err DumpFault.Damaged) × (result ≢ Err DumpFault.Disk) }
-{
-    sink.put(bytes).map_err(|_| DumpFault::Sink)
-}
-
-/// The line of a put with its newline.
-fn put_line(name: &Name, size: u64) -> ArrayVec<u8, 512>
-    requires small { size < 2 ^ 48 }
-    ensures { result.items ≡ codes "put " ++ name.now ++ codes " " ++ decimal size ++ codes "\n" }
-{
-    let mut line = ArrayVec::new();
-    push(&mut line, b"put ");
-    push(&mut line, name.as_bytes());
-    push(&mut line, b" ");
-    push_number(&mut line, size);
-    push(&mut line, b"\n");
-    line
 }

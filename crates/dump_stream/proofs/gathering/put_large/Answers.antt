@@ -3,7 +3,7 @@ use Rattle.std.specs.Prelude.{codes}
 use Rattle.byte_ranges.specs.Ranges.{bytes_at}
 use Rattle.dump_stream.proofs.PutLaws.{object_put, stops_in_bytes, stops_in_line}
 use Rattle.dump_stream.proofs.SoundLaws.{put_sound}
-use Rattle.dump_stream.proofs.putting.put_large.Goals as goal
+use Rattle.dump_stream.proofs.gathering.put_large.Goals as goal
 
 pub returns-in_err-put_whole-clause-puts : goal.returns-in_err-put_whole-clause-puts
 returns-in_err-put_whole-clause-puts g c = λ told.

@@ -3,7 +3,7 @@ use Rattle.std.specs.Prelude.{codes}
 use Rattle.std.specs.Fmt.{decimal}
 use Rattle.std.proofs.lemmas.Fmt.{length-decimal-le}
 use Rattle.dump_stream.proofs.PutLaws.{name_short}
-use Rattle.dump_stream.proofs.putting.put_line.Goals as goal
+use Rattle.dump_stream.proofs.gathering.put_line.Goals as goal
 
 pub push_number-requires : goal.push_number-requires
 push_number-requires c = omega (
