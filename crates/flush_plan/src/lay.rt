@@ -108,6 +108,25 @@ impl<const C: usize> Laying<C> {
         self.numbers
     }
 
+    /// The same once more.
+    pub fn copied(&self) -> Laying<C>
+        ensures { result ≡ self.now }
+    {
+        Laying {
+            k: self.k,
+            caps: self.caps,
+            numbers: self.numbers,
+            pending: self.pending,
+            volumes: self.volumes,
+            places: self.places,
+            class: self.class,
+            to: self.to,
+            ahead: self.ahead,
+            near: self.near,
+            far: self.far,
+        }
+    }
+
     /// Hands on what was laid. The bytes of each class are known since the phase began.
     pub fn into_settled<S: Shelf>(self, _shelf: &S) -> Settled<C>
         ensures course { result.course ≡ self.entry.course }

@@ -125,6 +125,22 @@ impl<const C: usize> Lifting<C> {
         self.numbers
     }
 
+    /// The same once more.
+    pub fn copied(&self) -> Lifting<C>
+        ensures { result ≡ self.now }
+    {
+        Lifting {
+            k: self.k,
+            caps: self.caps,
+            starts: self.starts,
+            numbers: self.numbers,
+            pending: self.pending,
+            from: self.from,
+            to: self.to,
+            rank: self.rank,
+        }
+    }
+
     /// Goes on with Pack, at the phase's end. Nothing is looked up yet.
     pub fn into_packing<S: Shelf>(self, _shelf: &S) -> Packing<C>
         ensures course { result.course ≡ self.entry.course }

@@ -103,6 +103,20 @@ impl<const C: usize> Packing<C> {
         last_before(shelf, self.numbers.start, self.top, self.rank).is_none()
     }
 
+    /// The same once more.
+    pub fn copied(&self) -> Packing<C>
+        ensures { result ≡ self.now }
+    {
+        Packing {
+            k: self.k,
+            caps: self.caps,
+            numbers: self.numbers,
+            pending: self.pending,
+            top: self.top,
+            rank: self.rank,
+        }
+    }
+
     /// Goes on with Lay.
     pub fn into_laying<S: Shelf>(self, shelf: &S) -> Laying<C>
         requires end { (items : List AnyItem) × Packs C self items (S.items shelf.now)

@@ -1,5 +1,5 @@
 -- A step of a flush: the phases that have no move left hand over, and one move is made, or the flush ends.
-use Rattle.std.specs.Prelude.{◌≡◌, ℕ, ◌+◌, ◌-◌, ◌*◌, ◌<◌, ◌≤◌, Bool, false, IsTrue, refl}
+use Rattle.std.specs.Prelude.{◌≡◌, ℕ, ◌+◌, ◌-◌, ◌*◌, ◌<◌, ◌≤◌, Bool, true, false, Option, Some, None, Ok, IsTrue, refl}
 use Rattle.std.proofs.Common.{arith, sym, ◌∙◌, ap, subst}
 use Rattle.disk_face.specs.States.{State}
 use Rattle.slot_codec.specs.Choice as choice
@@ -10,17 +10,44 @@ use Rattle.flush_run.specs.FlushFrames.{FlushFrame, LeavesOldOrNew}
 use Rattle.flush_run.specs.HandsOn.{GoesNext}
 use Rattle.flush_run.specs.Loops.{CanSave}
 use Rattle.flush_run.specs.Parts.{HandsValue}
-use Rattle.flush_run.specs.Phases.{CanAdvance, KeepsIn, PaidIn, course_in, items_in, moved_in, phase_in, rank_of}
+use Rattle.flush_run.specs.Phases.{AtEnd, CanAdvance, GoesOn, KeepsIn, PaidIn, course_in, items_in, moved_in, phase_in, rank_of}
 use Rattle.flush_model.specs.Plans.{class_total}
 use Rattle.flush_run.specs.Shelved.{items_now, phase_now}
-use Rattle.flush_run.specs.Steps.{HandsOver, HasMovedOne, InStep}
+use Rattle.flush_run.specs.Settling.{FlushEnds}
+use Rattle.flush_run.specs.Steps.{GoesThen, HandsOver, HasMovedOne, InStep, KeepsThen, MakesThen, PaidThen, stepped_of}
 use Rattle.flush_run.specs.Sums.{Mark, SumsSoFar}
+use Rattle.flush_run.specs.declared.one_step.Stepped.{Stepped}
+use Rattle.flush_run.specs.declared.one_step.Stepped.TheVariants as stepped
 use Rattle.flush_run.specs.declared.phase.Phase.{Phase}
+use Rattle.flush_run.specs.declared.phase.Phase.TheVariants as phases
+use Rattle.flush_plan.specs.Lays.{End}
 use Rattle.flush_run.proofs.BeginLaws.{goes_in}
 use Rattle.flush_run.proofs.HandLaws.{hand_goes, hand_pays, paid_more}
-use Rattle.flush_run.proofs.RunLaws.{at_false, rank_few}
 use Rattle.flush_run.proofs.ShelvedLaws.{phase_same}
 use Rattle.flush_run.proofs.SumLaws.{grows_on, steps_fall, steps_stay}
+
+pub rank_few : {C : ℕ} (s : Phase C) → rank_of s ≤ 2
+rank_few (phases.Lift v) = omega arith
+rank_few (phases.Pack v) = omega arith
+rank_few (phases.Lay v) = omega arith
+
+-- ---- what a phase answered
+
+pub at_false : {C : ℕ} {s0 s : Phase C} {x0 x : HandsValue} (first now : State) {moved : Bool} → moved ≡ false
+    → HasStepped moved s0 s x0 x first now → FindsEnd s0 s x0 x
+at_false {s0 = s0} {s} {x0} {x} first now is made =
+    subst (λ b. HasStepped b s0 s x0 x first now) is made
+
+module _ {C : ℕ} {s0 s : Phase C} {x0 x : HandsValue} {first now : State} where
+  pub at_true : {moved : Bool} → moved ≡ true → HasStepped moved s0 s x0 x first now
+      → HasAdvanced s0 s x0 x first now
+  at_true is made = subst (λ b. HasStepped b s0 s x0 x first now) is made
+
+pub found_end : {C : ℕ} {s0 s : Phase C} {x0 x : HandsValue} → FindsEnd s0 s x0 x
+    → AtEnd s (phase_in s x.table)
+found_end {s0 = s0} {s} {x0} {x} e =
+    subst (λ y. AtEnd s (phase_in s y.table)) (sym e.parts)
+    (subst (λ t. AtEnd t (phase_in t x0.table)) (sym e.phase) e.end)
 
 pub one_begins : {C : ℕ} (s : Phase C) (x : HandsValue) (d : State) → KeepsIn s (items_in s x.table)
     → InStep x x s s d
@@ -70,6 +97,9 @@ module _ {C : ℕ} {X : Type 0} (state : X → State) {d0 d : X} (same : d ≡ d
         → LeavesOldOrNew f n (state d0) b
     one_left {f} {n} {b} left = subst (λ y. LeavesOldOrNew f n (state y) b) same left
 
+    pub one_faults : (P : ℕ → Type 0) → P (state d).faults → P (state d0).faults
+    one_faults P p = subst (λ y. P (state y).faults) same p
+
     -- the next phase
     pub one_hand : {f : FlushFrame} {s2 : Phase C} → CanAdvance f s0 x0 (state d0) → GoesNext s s2 x.table
         → InStep x0 x s0 s2 (state d)
@@ -113,6 +143,7 @@ module _ {C : ℕ} {X : Type 0} (state : X → State) {d0 d : X} (same : d ≡ d
           fewer = omega (arith, steps_fall a i.keeps, i.over.falls);
         }))
 
+    -- what was laid is settled, or the disk failed meanwhile
     pub one_ended : {x2 : HandsValue} {b : State} → HasEnded x x2 (state d) b → HasEnded x0 x2 (state d0) b
     one_ended {x2} {b} e = subst (λ y. HasEnded x0 x2 (state y) b) same
         (subst (λ y. HasEnded y x2 (state d) b) i.parts e)
@@ -143,3 +174,62 @@ sums_over {s = s} {x = x} over so = record {
   rises = λ c. omega (arith, so.rises c, over.grows c);
   calls = so.calls;
 }
+
+-- ---- what a step answered
+
+-- What is known where it moved an object, and where it settled what stands.
+pub record StepMoved {C : ℕ} (v v2 : Phase C) (x1 x2 : HandsValue) (a d : State) : Type 0 where
+  pub made : HasMovedOne v v2 x1 x2 a d
+  pub on : (f : FlushFrame) → CanAdvance f v x1 a → GoesOn f v2 x2 d
+  pub keeps : KeepsIn v2 (items_in v2 x2.table)
+  pub paid : (q : ℕ) → PaidIn q v x1 → PaidIn q v2 x2
+
+pub record StepSettled {C : ℕ} (v : Phase C) (x1 x2 : HandsValue) (a d : State) : Type 0 where
+  pub ended : HasEnded x1 x2 a d
+  pub ends : (f : FlushFrame) → CanAdvance f v x1 a → FlushEnds C f x2 d
+
+module _ {C : ℕ} (E : Type 0) (v : Phase C) (x1 x2 : HandsValue) (a d : State) (r : Stepped C) where
+  pub step_moved : (v2 : Phase C) → r ≡ stepped.Moved v2 → MakesThen {E = E} v (Ok r) x1 x2 a d
+      → ((f : FlushFrame) → CanAdvance f v x1 a → GoesThen {E = E} f (Ok r) x2 d)
+      → KeepsThen {E = E} (Ok r) x2 → ((q : ℕ) → PaidIn q v x1 → PaidThen {E = E} q (Ok r) x2)
+      → StepMoved v v2 x1 x2 a d
+  step_moved v2 is made goes keeps paid = record {
+    made = subst (λ q. MakesThen {E = E} v (Ok q) x1 x2 a d) is made;
+    on = λ f can. subst (λ q. GoesThen {E = E} f (Ok q) x2 d) is (goes f can);
+    keeps = subst (λ q. KeepsThen {E = E} (Ok q) x2) is keeps;
+    paid = λ n p. subst (λ q. PaidThen {E = E} n (Ok q) x2) is (paid n p);
+  }
+
+  pub step_settled : (e : End) → r ≡ stepped.Settled e → MakesThen {E = E} v (Ok r) x1 x2 a d
+      → ((f : FlushFrame) → CanAdvance f v x1 a → GoesThen {E = E} f (Ok r) x2 d)
+      → StepSettled v x1 x2 a d
+  step_settled e is made goes = record {
+    ended = subst (λ q. MakesThen {E = E} v (Ok q) x1 x2 a d) is made;
+    ends = λ f can. subst (λ q. GoesThen {E = E} f (Ok q) x2 d) is (goes f can);
+  }
+
+-- of a step in place
+module _ {C : ℕ} (E : Type 0) (v v2 : Phase C) (x1 x2 : HandsValue) (a d : State) (r : Option End) where
+  pub went_on : r ≡ None → MakesThen {E = E} v (stepped_of v2 (Ok r)) x1 x2 a d
+      → ((f : FlushFrame) → CanAdvance f v x1 a → GoesThen {E = E} f (stepped_of v2 (Ok r)) x2 d)
+      → KeepsThen {E = E} (stepped_of v2 (Ok r)) x2
+      → ((q : ℕ) → PaidIn q v x1 → PaidThen {E = E} q (stepped_of v2 (Ok r)) x2)
+      → StepMoved v v2 x1 x2 a d
+  went_on is made goes keeps paid = record {
+    made = subst (λ q. MakesThen {E = E} v (stepped_of v2 (Ok q)) x1 x2 a d) is made;
+    on = λ f can. subst (λ q. GoesThen {E = E} f (stepped_of v2 (Ok q)) x2 d) is (goes f can);
+    keeps = subst (λ q. KeepsThen {E = E} (stepped_of v2 (Ok q)) x2) is keeps;
+    paid = λ n p. subst (λ q. PaidThen {E = E} n (stepped_of v2 (Ok q)) x2) is (paid n p);
+  }
+
+  pub came_to_end : (e : End) → r ≡ Some e → MakesThen {E = E} v (stepped_of v2 (Ok r)) x1 x2 a d
+      → ((f : FlushFrame) → CanAdvance f v x1 a → GoesThen {E = E} f (stepped_of v2 (Ok r)) x2 d)
+      → StepSettled v x1 x2 a d
+  came_to_end e is made goes = record {
+    ended = subst (λ q. MakesThen {E = E} v (stepped_of v2 (Ok q)) x1 x2 a d) is made;
+    ends = λ f can. subst (λ q. GoesThen {E = E} f (stepped_of v2 (Ok q)) x2 d) is (goes f can);
+  }
+
+pub paid_at_end : {C : ℕ} (E : Type 0) (v : Phase C) (x : HandsValue) (r : Option End) (e : End) → r ≡ Some e
+    → (q : ℕ) → PaidThen {E = E} q (stepped_of v (Ok r)) x → x.in_use.sequence ≤ q + 2 * x.in_use.block.k
+paid_at_end E v x r e is n p = subst (λ r2. PaidThen {E = E} n (stepped_of v (Ok r2)) x) is p

@@ -24,7 +24,7 @@ use Rattle.flush_run.specs.Advances.{HasAdvanced, HasEnded, HasStopped}
 use Rattle.flush_run.specs.Calls.{CallsSoFar, piece_calls}
 use Rattle.flush_run.specs.Hands.{spot_item, suffix_items}
 use Rattle.flush_run.specs.Parts.{HandsValue, size_in}
-use Rattle.flush_run.specs.Shelved.{items_now, phase_now}
+use Rattle.flush_run.specs.Shelved.{phase_now}
 use Rattle.flush_run.specs.Phases.{KeepsIn, StepIn, course_in, items_in, moved_in, phase_in, rank_of, steps_left, steps_of}
 use Rattle.flush_run.specs.MadeMoves.{calls_of_save}
 use Rattle.flush_run.specs.Sums.{Mark, SumsSoFar, SumsUp, mark_of}
@@ -241,28 +241,6 @@ sums_wider {m} {b} {x} {d} u = record {
   calls = calls_wider m.turn d.turn d.turn m.moved x.moved 2 (piece_calls + 2)
       (x.in_use.sequence - m.sequence + 0) (x.in_use.sequence - m.sequence + 1) (fin.len m.spots) u.calls
       (omega arith) (omega arith);
-}
-
--- ---- where a phase hands over
-
-pub sums_hand : {C : ℕ} (s0 s : Phase C) {m : Mark} {x : HandsValue} {d : State} → course_in s ≡ course_in s0
-    → rank_of s ≡ rank_of s0 + 1 → SumsSoFar m s0 x d → SumsSoFar m s x d
-sums_hand s0 s {x = x} course next so = record {
-  totals = λ c. ap (λ (v : PlanFrame). class_total (items_now v x.table) c) course ∙ so.totals c;
-  sizes = so.sizes;
-  later = so.later;
-  lower = λ c low. so.lower c (omega (
-    arith,
-    low,
-    ap (λ (v : PlanFrame). v.numbers.boundary) course,
-  ));
-  rises = λ c. omega (
-    arith,
-    so.rises c,
-    grows_on s0 s (phase_in s0 x.table) next c,
-    ap (λ (v : PlanFrame). moved_in s (phase_now v x.table) c) course,
-  );
-  calls = so.calls;
 }
 
 -- ---- how many steps there may be

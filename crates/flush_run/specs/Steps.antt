@@ -1,7 +1,8 @@
 -- What one step of a flush makes, for whoever does other work between two of them.
-use Rattle.std.specs.Prelude.{◌≡◌, ℕ, ◌+◌, ◌*◌, ◌≤◌, Result, Ok, Err}
+use Rattle.std.specs.Prelude.{◌≡◌, ℕ, ◌+◌, ◌*◌, ◌≤◌, Option, Some, None, Result, Ok, Err}
 use Rattle.disk_face.specs.States.{State}
 use Rattle.extent_table.specs.Extents.{Extents}
+use Rattle.flush_plan.specs.Lays.{End}
 use Rattle.flush_run.specs.Advances.{HasAdvanced, HasEnded, HasStopped}
 use Rattle.flush_run.specs.FlushFrames.{FlushFrame}
 use Rattle.flush_run.specs.Parts.{HandsValue}
@@ -27,6 +28,12 @@ pub record HasMovedOne {C : ℕ} (s0 s : Phase C) (x0 x : HandsValue) (first now
   pub fewer : steps_left s x.table + 1 ≤ steps_left s0 x0.table
 
 module _ {C : ℕ} {E : Type 0} where
+  -- what a step answered that was made in place: it moved an object, or settled what stands
+  abbrev pub stepped_of : Phase C → Result (Option End) E → Result (Stepped C) E
+  stepped_of s (Ok None) = Ok (stepped.Moved s)
+  stepped_of s (Ok (Some e)) = Ok (stepped.Settled e)
+  stepped_of s (Err e) = Err e
+
   -- what a step made, by its answer
   abbrev pub MakesThen : Phase C → Result (Stepped C) E → HandsValue → HandsValue → State → State → Type 0
   MakesThen s0 (Ok (stepped.Moved s)) x0 x first now = HasMovedOne s0 s x0 x first now

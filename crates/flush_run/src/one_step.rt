@@ -5,14 +5,14 @@ ghost use Rattle.flush_run.specs.FlushFrames.{FlushFrame, LeavesOldOrNew};
 ghost use Rattle.flush_run.specs.Parts.{parts_of};
 ghost use Rattle.flush_run.specs.Phases.{CanAdvance, KeepsIn, PaidIn, items_in};
 ghost use Rattle.flush_run.specs.Runs.{AreLent};
-ghost use Rattle.flush_run.specs.Steps.{GoesThen, KeepsThen, MakesThen, PaidThen};
+ghost use Rattle.flush_run.specs.Steps.{GoesThen, KeepsThen, MakesThen, PaidThen, stepped_of};
 
 use crate::Hands;
 use crate::advance::advance;
 use crate::phase::{Onward, Phase};
 use crate::settle::settle;
 use crate::whole::Halted;
-use disk_face::Disk;
+use disk_face::{Disk, DiskFault};
 use flush_plan::Settled;
 
 /// What a step of a flush did: it moved an object, or it settled what stands now.
@@ -47,19 +47,51 @@ pub fn step<D: Disk, const C: usize>(
     ensures cause { HasCause (D.state disk.old).faults (D.state disk.new).faults result }
 {
     let mut at = phase;
+    match step_on(disk, &mut at, hands) {
+        Ok(ended) => match ended {
+            None => Ok(Stepped::Moved(at)),
+            Some(settled) => Ok(Stepped::Settled(settled)),
+        },
+        Err(fault) => Err(Halted(fault)),
+    }
+}
+
+/// Makes the step in place, so that a flush that is run hands no phase on by value. Answers what was settled
+/// where no move was left.
+pub(crate) fn step_on<D: Disk, const C: usize>(
+    disk: &mut D,
+    at: &mut Phase<C>,
+    hands: &mut Hands<C>,
+) -> Result<Option<Settled<C>>, DiskFault>
+    requires ready { IsTrue (D.state disk.old).is_ready }
+    requires lent { AreLent C (parts_of hands.old) }
+    requires start { (f : FlushFrame) × CanAdvance f at.old (parts_of hands.old) (D.state disk.old) }
+    requires keeps { KeepsIn at.old (items_in at.old hands.old.table) }
+    ensures goes { (f : FlushFrame) → CanAdvance f at.old (parts_of hands.old) (D.state disk.old)
+        → GoesThen f (stepped_of at.new result) (parts_of hands.new) (D.state disk.new) }
+    ensures left { (f : FlushFrame) → CanAdvance f at.old (parts_of hands.old) (D.state disk.old)
+        → IsTrue (D.state disk.old).tells
+        → LeavesOldOrNew f (hands.new.slots.sequence + 1) (D.state disk.old) (D.state disk.new) }
+    ensures keeps { KeepsThen (stepped_of at.new result) (parts_of hands.new) }
+    ensures paid { (q : ℕ) → PaidIn q at.old (parts_of hands.old)
+        → PaidThen q (stepped_of at.new result) (parts_of hands.new) }
+    ensures made { MakesThen at.old (stepped_of at.new result) (parts_of hands.old) (parts_of hands.new)
+        (D.state disk.old) (D.state disk.new) }
+    ensures cause { HasCause (D.state disk.old).faults (D.state disk.new).faults result }
+{
     'phases: loop {
-        let moved = match advance(disk, &mut at, hands) {
+        let moved = match advance(disk, at, hands) {
             Ok(moved) => moved,
-            Err(fault) => return Err(Halted(fault)),
+            Err(fault) => return Err(fault),
         };
         if moved {
-            return Ok(Stepped::Moved(at));
+            return Ok(None);
         }
         match at.onward(&hands.table) {
-            Onward::Next(next) => at = next,
+            Onward::Next(next) => *at = next,
             Onward::End(settled) => match settle(disk, &settled, hands) {
-                Ok(()) => return Ok(Stepped::Settled(settled)),
-                Err(fault) => return Err(Halted(fault)),
+                Ok(()) => return Ok(Some(settled)),
+                Err(fault) => return Err(fault),
             },
         }
     }

@@ -57,15 +57,16 @@ impl<const C: usize> Phase<C> {
     }
 
     /// Goes on behind the phase, at its end.
-    pub(crate) fn onward(self, table: &Table) -> Onward<C>
-        requires over { IsOver self (items_in self table.now) (shelf_of table.now) }
-        requires end { AtEnd self (phase_in self table.now) }
-        ensures { HandsOn self.entry result table.now }
+    pub(crate) fn onward(&self, table: &Table) -> Onward<C>
+        requires over { IsOver self.now (items_in self.now table.now) (shelf_of table.now) }
+        requires end { AtEnd self.now (phase_in self.now table.now) }
+        ensures { HandsOn self.now result table.now }
     {
+        let shelf = TableShelf(table);
         match self {
-            Phase::Lift(lifts) => Onward::Next(Phase::Pack(lifts.into_packing(&TableShelf(table)))),
-            Phase::Pack(packs) => Onward::Next(Phase::Lay(packs.into_laying(&TableShelf(table)))),
-            Phase::Lay(lays) => Onward::End(lays.into_settled(&TableShelf(table))),
+            Phase::Lift(lifts) => Onward::Next(Phase::Pack(lifts.copied().into_packing(&shelf))),
+            Phase::Pack(packs) => Onward::Next(Phase::Lay(packs.copied().into_laying(&shelf))),
+            Phase::Lay(lays) => Onward::End(lays.copied().into_settled(&shelf)),
         }
     }
 }

@@ -361,18 +361,13 @@ module _ {C : ℕ} (s : Inside C) (c : Change) (hands1 : Hands C) (p : PlanState
 module _ {C : ℕ} (s : Inside C) (c : Change) (hands1 : Hands C) (p : PlanState) (place : ℕ) (bytes : List ℕ)
     (hands2 : Hands C) (a d : disk.State) (w : IsFlown s c hands1 p place bytes hands2 a d) (t : StoreValue)
     (is : kept_of s ≡ t) where
+  abbrev stopped : StoreValue
+  stopped = kept_of (record s { hands = hands2; kept_layout = hands2.layout; broken = true })
+
   pub failed_seen : {E : Type 0} (why : Refusal) (fault : E)
-      → HasCause {T = Unit {0}} a.faults d.faults (Err fault)
-      → IsFlush C c t (kept_of (record s {
-        hands = hands2;
-        kept_layout = hands2.layout;
-        broken = true;
-      })) a d (Err why)
-  failed_seen why fault cause = subst (λ (x : StoreValue). IsFlush C c x (kept_of (record s {
-    hands = hands2;
-    kept_layout = hands2.layout;
-    broken = true;
-  })) a d (Err why)) is (failed_flush s c hands1 p place bytes hands2 a d w why fault cause)
+      → HasCause {T = Unit {0}} a.faults d.faults (Err fault) → IsFlush C c t stopped a d (Err why)
+  failed_seen why fault cause = subst (λ (x : StoreValue). IsFlush C c x stopped a d (Err why)) is
+      (failed_flush s c hands1 p place bytes hands2 a d w why fault cause)
 
   module _ (ends : (x : HandsValue) (e : Change) (g : BeforeChange)
       → CanMakeFlush C x e g (parts_of hands1) (lift_start p place) bytes a
@@ -394,8 +389,7 @@ module _ {C : ℕ} (s : Inside C) (c : Change) (hands1 : Hands C) (p : PlanState
           → is_quiet (charges_of t c) ≡ false
           → Step (limits_of t) (state_of t a.file) (ask.change c) ask.kept (state_of after d.file)
       step_seen told calm needs_flush = subst (λ (x : StoreValue). Step (limits_of x) (state_of x a.file)
-          (ask.change c)
-          ask.kept (state_of after d.file)) is
+          (ask.change c) ask.kept (state_of after d.file)) is
           (done_step s c hands1 p place bytes hands2 a d w ends low high told
           (subst (λ (x : StoreValue). refusal (limits_of x) (facts_at x (ask.change c)) (ask.change c) ≡ None)
           (sym is) calm) (subst (λ (x : StoreValue). is_quiet (charges_of x c) ≡ false) (sym is) needs_flush))

@@ -24,18 +24,13 @@ use Rattle.flush_plan.specs.Shelves.{PlanFrame}
 use Rattle.flush_run.specs.declared.hands.Hands.{Hands}
 use Rattle.flush_run.specs.declared.phase.Phase.{Phase}
 use Rattle.flush_run.specs.declared.phase.Phase.TheVariants as phases
-use Rattle.flush_run.specs.Advances.{HasEnded}
 use Rattle.flush_run.specs.Calls.{CallsSoFar}
 use Rattle.flush_run.specs.FlushFrames.{FlushFrame, LeavesOldOrNew, MidFlush}
 use Rattle.flush_run.specs.MadeMoves.{calls_of_save}
 use Rattle.flush_run.specs.Loops.{phase_header}
 use Rattle.flush_run.specs.Parts.{HandsValue, KeepsSettling, parts_of, saved_digests}
 use Rattle.flush_run.specs.Phases.{CanAdvance, GoesOn, KeepsIn, PaidIn, course_in, items_in, phase_in, steps_left}
-use Rattle.flush_run.specs.Settling.{FlushEnds}
-use Rattle.flush_plan.specs.Lays.{End}
-use Rattle.flush_run.specs.Steps.{GoesThen, HasMovedOne, KeepsThen, MakesThen, PaidThen}
-use Rattle.flush_run.specs.declared.one_step.Stepped.{Stepped}
-use Rattle.flush_run.specs.declared.one_step.Stepped.TheVariants as stepped
+use Rattle.flush_run.specs.Steps.{HasMovedOne}
 use Rattle.flush_run.specs.Sums.{SumsUp}
 use Rattle.flush_run.proofs.HandLaws.{paid_more}
 use Rattle.flush_run.proofs.LaidPlaceLaws.{new_cap}
@@ -104,39 +99,6 @@ pub steps_some : {C : ℕ} (v : Phase C) (e : Extents) → 1 ≤ steps_left v e
 steps_some (phases.Lift v) e = omega arith
 steps_some (phases.Pack v) e = omega arith
 steps_some (phases.Lay v) e = omega arith
-
--- ---- what a step answered
-
--- What is known where it moved an object, and where it settled what stands.
-pub record StepMoved {C : ℕ} (v v2 : Phase C) (x1 x2 : HandsValue) (a d : disk.State) : Type 0 where
-  pub made : HasMovedOne v v2 x1 x2 a d
-  pub on : (f : FlushFrame) → CanAdvance f v x1 a → GoesOn f v2 x2 d
-  pub keeps : KeepsIn v2 (items_in v2 x2.table)
-  pub paid : (q : ℕ) → PaidIn q v x1 → PaidIn q v2 x2
-
-pub record StepSettled {C : ℕ} (v : Phase C) (x1 x2 : HandsValue) (a d : disk.State) : Type 0 where
-  pub ended : HasEnded x1 x2 a d
-  pub ends : (f : FlushFrame) → CanAdvance f v x1 a → FlushEnds C f x2 d
-
-module _ {C : ℕ} (E : Type 0) (v : Phase C) (x1 x2 : HandsValue) (a d : disk.State) (r : Stepped C) where
-  pub step_moved : (v2 : Phase C) → r ≡ stepped.Moved v2 → MakesThen {E = E} v (Ok r) x1 x2 a d
-      → ((f : FlushFrame) → CanAdvance f v x1 a → GoesThen {E = E} f (Ok r) x2 d)
-      → KeepsThen {E = E} (Ok r) x2 → ((q : ℕ) → PaidIn q v x1 → PaidThen {E = E} q (Ok r) x2)
-      → StepMoved v v2 x1 x2 a d
-  step_moved v2 is made goes keeps paid = record {
-    made = subst (λ q. MakesThen {E = E} v (Ok q) x1 x2 a d) is made;
-    on = λ f can. subst (λ q. GoesThen {E = E} f (Ok q) x2 d) is (goes f can);
-    keeps = subst (λ q. KeepsThen {E = E} (Ok q) x2) is keeps;
-    paid = λ n p. subst (λ q. PaidThen {E = E} n (Ok q) x2) is (paid n p);
-  }
-
-  pub step_settled : (e : End) → r ≡ stepped.Settled e → MakesThen {E = E} v (Ok r) x1 x2 a d
-      → ((f : FlushFrame) → CanAdvance f v x1 a → GoesThen {E = E} f (Ok r) x2 d)
-      → StepSettled v x1 x2 a d
-  step_settled e is made goes = record {
-    ended = subst (λ q. MakesThen {E = E} v (Ok q) x1 x2 a d) is made;
-    ends = λ f can. subst (λ q. GoesThen {E = E} f (Ok q) x2 d) is (goes f can);
-  }
 
 -- ---- a step
 
@@ -341,6 +303,7 @@ module _ {C : ℕ} (began : Began C) (s : Inside C) (v : Phase C) (g : IsGoing b
           left = steps_left v2 hands2.table;
           in_hand = ap (λ (h : FlushInHand). Some h) hand_moved;
           fewer = made.fewer;
+          some = steps_some v2 hands2.table;
           rest = λ i. record seen_next { asked = made.move.keeps.asked i };
         }
 

@@ -1,4 +1,7 @@
 //! What a store answers.
+ghost use Rattle.std.specs.Prelude.{◌≡◌};
+
+use disk_face::{DiskFault, SinkFault};
 use thiserror::Error;
 
 /// Why a request isn't served. Where several would apply, the first in this order comes.
@@ -34,6 +37,20 @@ pub enum Refusal {
     /// The sink failed.
     #[error("the sink failed")]
     Sink,
+}
+
+/// Why a request isn't served whose disk failed.
+pub(crate) fn disk_failed(_: DiskFault) -> Refusal
+    ensures { result ≡ Refusal.Disk }
+{
+    Refusal::Disk
+}
+
+/// Why a request isn't served whose sink failed.
+pub(crate) fn sink_failed(_: SinkFault) -> Refusal
+    ensures { result ≡ Refusal.Sink }
+{
+    Refusal::Sink
 }
 
 /// Which of its two maps a store reads.

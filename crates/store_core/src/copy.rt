@@ -7,6 +7,7 @@ ghost use Rattle.slot_pair.specs.Finding.{HasDiskCause};
 ghost use Rattle.store_core.specs.Reads.{HasSinkCause, PutsJudged};
 
 use crate::Refusal;
+use crate::answers::{disk_failed, sink_failed};
 use crate::judge::{judge, judge_at};
 use disk_face::{Disk, Sink, read};
 
@@ -71,7 +72,7 @@ fn put_short<D: Disk, O: Sink>(
         (D.state disk.new).faults result }
     ensures sink_cause { HasSinkCause Refusal.Sink (O.state sink.old) (O.state sink.new) result }
 {
-    read(disk, at, piece).map_err(|_| Refusal::Disk)?;
+    read(disk, at, piece).map_err(disk_failed)?;
     judge(digest, piece)?;
     put_both(sink, head, piece)
 }
@@ -132,7 +133,7 @@ fn put_first<D: Disk, O: Sink>(
         (D.state disk.new).faults result }
     ensures sink_cause { HasSinkCause Refusal.Sink (O.state sink.old) (O.state sink.new) result }
 {
-    read(disk, at, piece).map_err(|_| Refusal::Disk)?;
+    read(disk, at, piece).map_err(disk_failed)?;
     put_both(sink, head, piece)
 }
 
@@ -187,35 +188,10 @@ fn put_bytes<D: Disk, O: Sink>(
     let mut done = 0;
     'pieces: while done < size {
         let n = (size - done).min(buf.len() as u64);
-        put_piece(disk, at + done, &mut buf[..n as usize], sink)?;
+        put_first(disk, at + done, &mut buf[..n as usize], b"", sink)?;
         done += n;
     }
     Ok(())
-}
-
-/// Puts as many bytes as the piece has.
-fn put_piece<D: Disk, O: Sink>(
-    disk: &mut D,
-    at: u64,
-    piece: &mut [u8],
-    sink: &mut O,
-) -> Result<(), Refusal>
-    requires ready { IsTrue (D.state disk.old).is_ready }
-    requires within { IsTrue (D.state disk.old).tells
-        → at + length piece.old ≤ length (D.state disk.old).file }
-    ensures put { IsTrue (D.state disk.old).tells → IsTrue (O.state sink.old).tells
-        → Puts (O.state sink.old).given (O.state sink.new).given
-        (bytes_at (D.state disk.old).file at (length piece.old)) result }
-    ensures number { IsTrue (O.state sink.old).tells
-        → OnOk result (length (O.state sink.new).given ≡ length (O.state sink.old).given + length piece.old) }
-    ensures only { OnErr result ((result ≡ Err Refusal.Disk) ⊎ (result ≡ Err Refusal.Sink)) }
-    ensures frame { Unchanged (D.state disk.old) (D.state disk.new) }
-    ensures disk_cause { HasDiskCause Refusal.Disk (D.state disk.old).faults
-        (D.state disk.new).faults result }
-    ensures sink_cause { HasSinkCause Refusal.Sink (O.state sink.old) (O.state sink.new) result }
-{
-    read(disk, at, piece).map_err(|_| Refusal::Disk)?;
-    put_whole(sink, piece)
 }
 
 /// Puts bytes at once.
@@ -225,5 +201,5 @@ pub(crate) fn put_whole<O: Sink>(sink: &mut O, bytes: &[u8]) -> Result<(), Refus
     ensures only { OnErr result (result ≡ Err Refusal.Sink) }
     ensures cause { HasSinkCause Refusal.Sink (O.state sink.old) (O.state sink.new) result }
 {
-    sink.put(bytes).map_err(|_| Refusal::Sink)
+    sink.put(bytes).map_err(sink_failed)
 }

@@ -13,6 +13,7 @@ ghost use Rattle.store_model.specs.Connection.{IsConnected, base_of, state_of};
 ghost use Rattle.store_model.specs.States.{object_in};
 ghost use Rattle.store_model.specs.Stores.{IsStanding};
 
+use crate::answers::disk_failed;
 use crate::judge::judge;
 use crate::{Moment, Refusal, Store};
 use disk_face::{Disk, read};
@@ -72,7 +73,7 @@ impl<const C: usize> Store<C> {
     {
         let at = self.hands.base + spot.place;
         let piece = &mut out[..spot.size as usize];
-        read(disk, at, piece).map_err(|_| Refusal::Disk)?;
+        read(disk, at, piece).map_err(disk_failed)?;
         judge(digest, piece)?;
         Ok(spot.size)
     }

@@ -6,6 +6,7 @@ ghost use Rattle.slot_pair.specs.Finding.{HasDiskCause};
 ghost use Rattle.store_core.specs.Reads.{IsJudged};
 
 use crate::Refusal;
+use crate::answers::disk_failed;
 use data_area::digest_at;
 use disk_face::Disk;
 use sha2::{Digest, Sha256};
@@ -42,7 +43,7 @@ pub(crate) fn judge_at<D: Disk>(
 {
     match digest {
         Some(digest) => {
-            let found = digest_at(disk, at, size, buf).map_err(|_| Refusal::Disk)?;
+            let found = digest_at(disk, at, size, buf).map_err(disk_failed)?;
             compare(digest, &found)
         }
         None => Ok(()),

@@ -7,6 +7,7 @@ ghost use Rattle.extent_table.specs.Extents.{IsTable};
 ghost use Rattle.placement_model.specs.Reads.{EndWithin, read_at};
 
 use crate::Refusal;
+use crate::answers::disk_failed;
 use data_area::digest_at;
 use disk_face::Disk;
 use extent_table::Table;
@@ -37,7 +38,7 @@ pub(crate) fn renew_all<D: Disk>(
 {
     'names: for n in 0..table.count() {
         let (_, name, spot) = table.in_order(n);
-        let digest = digest_at(disk, base + spot.place, spot.size, buf).map_err(|_| Refusal::Disk)?;
+        let digest = digest_at(disk, base + spot.place, spot.size, buf).map_err(disk_failed)?;
         table.renew(&name, digest);
     }
     Ok(())

@@ -1,192 +1,98 @@
-use Rattle.std.proofs.Common.{arith}
-use Rattle.flush_run.proofs.AdvanceLaws.{over_in}
-use Rattle.flush_run.proofs.LeftLaws.{left_then, left_wider, still_told}
-use Rattle.flush_run.proofs.RunLaws.{at_false, at_true, found_end, hand_falls, move_falls, one_of, paid_end, run_begins, run_done, run_ends, run_hand, run_next, run_same, run_settles, run_stops, saves_end}
+use Rattle.std.proofs.Common.{◌∙◌, ap, arith, subst}
+use Rattle.disk_face.specs.Counts.{Rose}
+use Rattle.slot_codec.specs.Choice.{InUse}
+use Rattle.disk_face.specs.declared.DiskFault.{DiskFault}
+use Rattle.flush_run.proofs.LeftLaws.{left_then, still_told}
+use Rattle.flush_run.proofs.OneStepLaws.{went_on, came_to_end}
+use Rattle.flush_run.proofs.RunLaws.{one_of, paid_end, run_begins, run_done, run_ends, run_next, run_stops, saves_end}
 use Rattle.flush_run.proofs.whole.go_on.Goals as goal
 
 pub steps-init : goal.steps-init
 steps-init g c = run_begins {C = g.row.C} _ _ _ c.requires.ready c.requires.keeps
 
-pub advance-requires : goal.advance-requires
-advance-requires g c =
+pub step_on-requires : goal.step_on-requires
+step_on-requires g c =
     let i = c.steps.invariant in
     let can = (i.all c.requires.start.0 c.requires.start.1).can in (
       omega arith,
       (
         omega arith,
         (
-          i.keeps.disk.stays.ready,
+          omega arith,
           (
-            omega (arith, i.keeps.buffer, c.requires.lent.buffer),
-            (c.requires.lent.few, ((c.requires.start.0, one_of can), i.keeps_in)),
-          ),
-        ),
-      ),
-    )
-
--- ---- a call of a step failed
-
-pub returns-in_err-advance-clause-left : goal.returns-in_err-advance-clause-left
-returns-in_err-advance-clause-left g c f can told =
-    let i = c.steps.invariant in
-    let s = i.all f can in
-    left_then (omega (arith, c.in_err-advance.ensures.stopped.later)) (s.left told)
-    (c.advance.ensures.left f (one_of s.can) (still_told i.keeps told))
-
-pub returns-in_err-advance-clause-few : goal.returns-in_err-advance-clause-few
-returns-in_err-advance-clause-few g c =
-    saves_end c.steps.invariant _ c.in_err-advance.ensures.stopped.one
-
-pub returns-in_err-advance-clause-paid : goal.returns-in_err-advance-clause-paid
-returns-in_err-advance-clause-paid g c q paid =
-    paid_end c.steps.invariant c.requires.start.1 _ c.in_err-advance.ensures.stopped.one q paid
-
-pub returns-in_err-advance-clause-made : goal.returns-in_err-advance-clause-made
-returns-in_err-advance-clause-made g c = run_stops c.steps.invariant c.in_err-advance.ensures.stopped
-
--- ---- a move was made
-
-pub steps-preserved-then-branch : goal.steps-preserved-then-branch
-steps-preserved-then-branch g c =
-    let ok = c.in_ok-advance.ensures in
-    run_next c.steps.invariant (at_true c.if-branch.true ok.made) ok.keeps ok.paid ok.goes
-    c.advance.ensures.left
-
-pub steps-smaller-then-branch : goal.steps-smaller-then-branch
-steps-smaller-then-branch g c =
-    move_falls (at_true c.if-branch.true c.in_ok-advance.ensures.made) c.steps.invariant.keeps_in
-
--- ---- a phase ended
-
-pub onward-requires : goal.onward-requires
-onward-requires g c =
-    let ok = c.in_ok-advance.ensures in
-    let i = run_same g.D.Disk.state c.if-branch.false ok.made ok.none c.steps.invariant in
-    let can = (i.all c.requires.start.0 c.requires.start.1).can in
-    let end = found_end (at_false _ _ c.if-branch.false ok.made) in
-    (omega arith, (omega arith, (over_in c.advance.new.phase can.on.goes i.keeps_in, end)))
-
-pub steps-preserved : goal.steps-preserved
-steps-preserved g c =
-    let ok = c.in_ok-advance.ensures in
-    let i = run_same g.D.Disk.state c.if-branch.false ok.made ok.none c.steps.invariant in
-    run_hand i c.requires.start.1 c.in-Next.ensures
-
-pub steps-smaller : goal.steps-smaller
-steps-smaller g c =
-    let ok = c.in_ok-advance.ensures in
-    let i = run_same g.D.Disk.state c.if-branch.false ok.made ok.none c.steps.invariant in
-    hand_falls i (at_false _ _ c.if-branch.false ok.made) c.in-Next.next c.in-Next.ensures
-
--- ---- the end
-
-pub settle-requires : goal.settle-requires
-settle-requires g c =
-    let ok = c.in_ok-advance.ensures in
-    let i = run_same g.D.Disk.state c.if-branch.false ok.made ok.none c.steps.invariant in (
-      omega arith,
-      (
-        omega arith,
-        (
-          i.keeps.disk.stays.ready,
-          (
-            omega (arith, i.keeps.buffer, c.requires.lent.buffer),
+            i.keeps.disk.stays.ready,
             (
-              c.requires.lent.few,
-              (
-                (c.requires.start.0, run_settles i c.requires.start.1 c.in-End.ensures.course),
-                c.in-End.ensures.settled,
-              ),
+              record {
+                buffer = omega (arith, i.keeps.buffer, c.requires.lent.buffer);
+                few = c.requires.lent.few;
+              },
+              ((c.requires.start.0, one_of can), i.keeps_in),
             ),
           ),
         ),
       ),
     )
 
-pub returns-in_err-settle-in-End-clause-left : goal.returns-in_err-settle-in-End-clause-left
-returns-in_err-settle-in-End-clause-left g c f can told =
-    let ok = c.in_ok-advance.ensures in
-    let i = run_same g.D.Disk.state c.if-branch.false ok.made ok.none c.steps.invariant in
-    let s = c.settle.ensures in
-    left_then (omega (arith, s.later)) ((i.all f can).left told)
-    (left_wider (omega (arith, s.later)) (s.left f (run_settles i can c.in-End.ensures.course)
-    (still_told i.keeps told)))
+-- ---- an object was moved
 
-pub returns-in_err-settle-in-End-clause-few : goal.returns-in_err-settle-in-End-clause-few
-returns-in_err-settle-in-End-clause-few g c =
-    let ok = c.in_ok-advance.ensures in
-    let i = run_same g.D.Disk.state c.if-branch.false ok.made ok.none c.steps.invariant in
-    saves_end i _ c.settle.ensures.one
+pub steps-preserved : goal.steps-preserved
+steps-preserved g c =
+    let e = c.in-Ok.ensures in
+    run_next c.steps.invariant (went_on DiskFault c.steps.at _ _ _ _ _ c.in-Ok.ended c.in-None.is
+    e.made e.goes e.keeps e.paid) c.step_on.ensures.left
 
-pub returns-in_err-settle-in-End-clause-paid : goal.returns-in_err-settle-in-End-clause-paid
-returns-in_err-settle-in-End-clause-paid g c q paid =
-    let ok = c.in_ok-advance.ensures in
-    let i = run_same g.D.Disk.state c.if-branch.false ok.made ok.none c.steps.invariant in
-    paid_end i c.requires.start.1 _ c.settle.ensures.one q paid
+pub steps-smaller : goal.steps-smaller
+steps-smaller g c =
+    let e = c.in-Ok.ensures in
+    let m = went_on DiskFault c.steps.at _ _ _ _ _ c.in-Ok.ended c.in-None.is e.made e.goes e.keeps
+    e.paid in
+    omega (arith, m.made.fewer)
 
-pub returns-in_err-settle-in-End-clause-made : goal.returns-in_err-settle-in-End-clause-made
-returns-in_err-settle-in-End-clause-made g c =
-    let ok = c.in_ok-advance.ensures in
-    let i = run_same g.D.Disk.state c.if-branch.false ok.made ok.none c.steps.invariant in
-    let s = c.settle.ensures in
-    run_stops i (record {
-      spots = s.spots;
-      later = s.later;
-      one = s.one;
-      row = s.moved;
-      keeps = s.keeps;
-      turns = omega (arith, s.calls.most);
-    })
+-- ---- a call of a step failed
 
-pub returns-in-End-clause-ends : goal.returns-in-End-clause-ends
-returns-in-End-clause-ends g c f can =
-    let ok = c.in_ok-advance.ensures in
-    let i = run_same g.D.Disk.state c.if-branch.false ok.made ok.none c.steps.invariant in
-    c.in_ok-settle-in-End.ensures.ends f (run_settles i can c.in-End.ensures.course)
+pub returns-in-Err : goal.returns-in-Err
+returns-in-Err g c =
+    let i = c.steps.invariant in
+    let e = c.in-Err.ensures in
+    record {
+      ends = λ f can. tt;
+      left = λ f can told.
+          let s = i.all f can in
+          left_then (omega (arith, e.made.later)) (s.left told) (c.step_on.ensures.left f (one_of s.can)
+          (still_told i.keeps told));
+      few = saves_end i _ e.made.one;
+      paid = λ q paid. paid_end i c.requires.start.1 _ e.made.one q paid;
+      done = tt;
+      made = run_stops i e.made;
+      cause = record {
+        later = omega (arith, e.cause.later, i.calm);
+        rose = subst (λ n. Rose n (g.D.Disk.state c.step_on.new.disk).faults) i.calm e.cause.rose;
+        calm = tt;
+      };
+    }
 
-pub returns-in-End-clause-left : goal.returns-in-End-clause-left
-returns-in-End-clause-left g c f can told =
-    let ok = c.in_ok-advance.ensures in
-    let i = run_same g.D.Disk.state c.if-branch.false ok.made ok.none c.steps.invariant in
-    let s = c.settle.ensures in
-    left_then (omega (arith, s.later)) ((i.all f can).left told)
-    (left_wider (omega (arith, s.later)) (s.left f (run_settles i can c.in-End.ensures.course)
-    (still_told i.keeps told)))
+-- ---- the end
 
-pub returns-in-End-clause-few : goal.returns-in-End-clause-few
-returns-in-End-clause-few g c =
-    let ok = c.in_ok-advance.ensures in
-    let i = run_same g.D.Disk.state c.if-branch.false ok.made ok.none c.steps.invariant in
-    saves_end i _ c.settle.ensures.one
-
-pub returns-in-End-clause-paid : goal.returns-in-End-clause-paid
-returns-in-End-clause-paid g c q paid =
-    let ok = c.in_ok-advance.ensures in
-    let i = run_same g.D.Disk.state c.if-branch.false ok.made ok.none c.steps.invariant in
-    paid_end i c.requires.start.1 _ c.settle.ensures.one q paid
-
-pub returns-in-End-clause-done : goal.returns-in-End-clause-done
-returns-in-End-clause-done g c =
-    let ok = c.in_ok-advance.ensures in
-    let i = run_same g.D.Disk.state c.if-branch.false ok.made ok.none c.steps.invariant in
-    let s = c.settle.ensures in
-    run_done i (record {
-      pair = c.in_ok-settle-in-End.ensures.pair;
-      spots = s.spots;
-      row = s.moved;
-      keeps = s.keeps;
-      turns = c.in_ok-settle-in-End.ensures.calls.all;
-    })
-
-pub returns-in-End-clause-made : goal.returns-in-End-clause-made
-returns-in-End-clause-made g c =
-    let ok = c.in_ok-advance.ensures in
-    let i = run_same g.D.Disk.state c.if-branch.false ok.made ok.none c.steps.invariant in
-    let s = c.settle.ensures in
-    run_ends i (record {
-      pair = c.in_ok-settle-in-End.ensures.pair;
-      spots = s.spots;
-      row = s.moved;
-      keeps = s.keeps;
-      turns = c.in_ok-settle-in-End.ensures.calls.all;
-    })
+pub returns-in-Some : goal.returns-in-Some
+returns-in-Some g c =
+    let i = c.steps.invariant in
+    let e = c.in-Ok.ensures in
+    let s = came_to_end DiskFault c.steps.at _ _ _ _ _ c.in-Ok.ended c.in-Some.settled c.in-Some.is
+    e.made e.goes in
+    let pair = ap (λ (u : InUse). u.sequence) s.ended.pair in
+    record {
+      ends = λ f can. s.ends f (one_of (i.all f can).can);
+      left = λ f can told.
+          let x = i.all f can in
+          left_then (omega (arith, pair)) (x.left told) (c.step_on.ensures.left f (one_of x.can)
+          (still_told i.keeps told));
+      few = saves_end i _ (omega (arith, pair));
+      paid = λ q paid. paid_end i c.requires.start.1 _ (omega (arith, pair)) q paid;
+      done = run_done i s.ended;
+      made = run_ends i s.ended;
+      cause = record {
+        later = omega (arith, e.cause.later, i.calm);
+        rose = tt;
+        calm = e.cause.calm ∙ i.calm;
+      };
+    }

@@ -23,19 +23,14 @@ go_on-requires g c = (
   ),
 )
 
-pub returns-in-Ok-clause-ends : goal.returns-in-Ok-clause-ends
-returns-in-Ok-clause-ends g c f can = c.in-Ok.ensures.ends f (run_finishes {C = g.row.C} c.args.phase can)
-
-pub returns-in-Ok-clause-left : goal.returns-in-Ok-clause-left
-returns-in-Ok-clause-left g c f can told =
-    c.go_on.ensures.left f (run_finishes {C = g.row.C} c.args.phase can) told
-
-pub returns-in-Err-clause-left : goal.returns-in-Err-clause-left
-returns-in-Err-clause-left g c f can told =
-    c.go_on.ensures.left f (run_finishes {C = g.row.C} c.args.phase can) told
-
-pub returns-in-Ok-clause-saves : goal.returns-in-Ok-clause-saves
-returns-in-Ok-clause-saves g c = c.go_on.ensures.paid c.args.hands.now.slots.sequence refl
-
-pub returns-in-Err-clause-saves : goal.returns-in-Err-clause-saves
-returns-in-Err-clause-saves g c = c.go_on.ensures.paid c.args.hands.now.slots.sequence refl
+pub returns : goal.returns
+returns g c =
+    let e = c.go_on.ensures in
+    record {
+      ends = λ f can. e.ends f (run_finishes {C = g.row.C} c.args.phase can);
+      left = λ f can told. e.left f (run_finishes {C = g.row.C} c.args.phase can) told;
+      saves = e.paid c.args.hands.now.slots.sequence refl;
+      done = e.done;
+      made = e.made;
+      cause = e.cause;
+    }

@@ -10,6 +10,7 @@ use Rattle.slot_codec.specs.Spelling.{cap, head_len}
 use Rattle.slot_codec.specs.declared.codec.Header.{Header}
 use Rattle.store_model.specs.Connection.{opened_store}
 use Rattle.store_model.specs.Opened.{IsOpening}
+use Rattle.store_model.proofs.OpeningLaws.{no_memory}
 use Rattle.store_model.proofs.StillStoreLaws.{still_laid}
 use Rattle.store_model.proofs.StillLaws.{still_done, still_failed}
 use Rattle.store_core.proofs.open.open_still.Goals as goal
@@ -93,3 +94,6 @@ returns-in-Err g c =
     still_failed x r.loads r.still r.fits r.wide _ is a d r.from c.in-Err.ensures.short
     c.cut_to.ensures.frame
     c.in-Err.field-0 c.in-Err.ensures.cut c.in-Err.ensures.cause
+
+pub returns-in_default : goal.returns-in_default
+returns-in_default g c = no_memory g.row.C (g.D.Disk.state c.args.disk.now) c.requires.ready

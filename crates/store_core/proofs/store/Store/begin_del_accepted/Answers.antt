@@ -34,3 +34,6 @@ returns-in-Some g c =
           (over_beside t (g.D.Disk.state c.args.disk.now).file _ _ _ refl
           (c.requires.over.over served.whole told));
     }) (ap (λ (x : StoreValue). x.is_broken) c.leave.ensures ∙ served.whole)
+
+pub returns-in-None : goal.returns-in-None
+returns-in-None g c = c.begin_flush.ensures

@@ -1,64 +1,26 @@
-use Rattle.std.specs.Prelude.{◌≡◌, None, false, length}
-use Rattle.std.proofs.Common.{◌∙◌, ap, lit<, subst, sym, refl}
-use Rattle.segment_layout.specs.Books.{is_quiet}
-use Rattle.map_model.specs.Requests as ask
-use Rattle.store_core.specs.Answers.{refused_by}
-use Rattle.store_model.specs.Charges.{ChargesStore, change_of}
-use Rattle.store_model.specs.Connection.{StoreValue}
-use Rattle.store_model.specs.Quiet.{charges_of}
+use Rattle.std.proofs.Common.{lit<, refl}
+use Rattle.store_model.specs.Charges.{change_of}
 use Rattle.store_core.proofs.BegunServeLaws.{begin_done, begin_failed, begin_going}
-use Rattle.store_core.proofs.CopyChargesLaws.{bytes_of_change, can_put, change_loud, charges_parts}
-use Rattle.store_core.proofs.FlushChangeLaws.{flush_can_run, is_served}
-use Rattle.store_core.proofs.FlushLaws.{may_begin}
-use Rattle.store_core.specs.Inside.{IsWhole, kept_of}
-use Rattle.store_core.proofs.InsideLaws.{lent, lent_is, rest_of}
+use Rattle.store_core.proofs.CopyChargesLaws.{bytes_of_change}
+use Rattle.store_core.proofs.FlushChangeLaws.{flush_can_run}
+use Rattle.store_core.proofs.LentLaws.{lent_rest}
+use Rattle.store_core.proofs.StartedLaws.{can_start}
 use Rattle.store_core.proofs.store.Store.begin_flush.Goals as goal
 
 pub start_change-begun-requires : goal.start_change-begun-requires
 start_change-begun-requires g c =
-    let rest = rest_of c.self.inside c.args.self.now c.self.view_is c.self.invariant c.requires.over.idle in
-    let is_lent = lent_is c.self.inside c.deref_mut-hands.ensures.value refl in
-    let inside = lent c.self.inside c.deref_mut-hands.result.now c.self.inside.kept_layout.value in
-    let view_is = ap kept_of is_lent ∙ rest.view in
-    let invariant = subst IsWhole (sym is_lent) rest.whole in
-    let s = inside in
-    let inv = invariant in
-    let name = c.args.name.now in
-    let bytes = c.args.bytes.now in
-    let comes = c.args.comes in
-    let change = change_of name bytes comes in
-    let unbroken : s.broken ≡ false = ap (λ (x : StoreValue). x.is_broken) view_is
-    ∙ (is_served c.args.self.now change c.requires.served).whole in (
+    let r = lent_rest c.self.inside c.args.self.now c.deref_mut-hands.result.now c.self.view_is
+    c.self.invariant c.requires.over.idle c.deref_mut-hands.ensures.value in
+    let s = can_start r c.args.name.now c.args.bytes.now c.args.comes c.requires.nothing c.requires.served
+    c.requires.charged c.requires.needs_flush in (
       lit< tt,
       (
         lit< tt,
         (
           lit< tt,
           (
-            inv.classes,
-            (
-              inv.wide,
-              (
-                c.requires.nothing,
-                (
-                  can_put s inv unbroken name bytes comes c.requires.nothing
-                      (subst (λ (x : StoreValue). refused_by x (ask.change change) ≡ None)
-                      (sym view_is) c.requires.served),
-                  (
-                    (_, may_begin s inv unbroken),
-                    (
-                      charges_parts s inv unbroken name bytes
-                          (subst (λ (x : StoreValue). ChargesStore x name (length bytes)
-                          c.args.charged.now.layout c.args.charged.now.outcome) (sym view_is)
-                          c.requires.charged),
-                      change_loud s inv unbroken name bytes comes c.requires.nothing
-                          (subst (λ (x : StoreValue). is_quiet (charges_of x change) ≡ false)
-                          (sym view_is) c.requires.needs_flush),
-                    ),
-                  ),
-                ),
-              ),
-            ),
+            r.whole.classes,
+            (r.whole.wide, (c.requires.nothing, (s.can, (s.before, (s.charged, s.loud))))),
           ),
         ),
       ),
@@ -66,18 +28,15 @@ start_change-begun-requires g c =
 
 pub launch-requires : goal.launch-requires
 launch-requires g c =
-    let rest = rest_of c.self.inside c.args.self.now c.self.view_is c.self.invariant c.requires.over.idle in
-    let is_lent = lent_is c.self.inside c.deref_mut-hands.ensures.value refl in
-    let inside = lent c.self.inside c.deref_mut-hands.result.now c.self.inside.kept_layout.value in
-    let view_is = ap kept_of is_lent ∙ rest.view in
-    let invariant = subst IsWhole (sym is_lent) rest.whole in
+    let r = lent_rest c.self.inside c.args.self.now c.deref_mut-hands.result.now c.self.view_is
+    c.self.invariant c.requires.over.idle c.deref_mut-hands.ensures.value in
     let begun = c.start_change-begun.ensures.begun in (
       lit< tt,
       (
         lit< tt,
         (
           c.requires.ready,
-          flush_can_run inside c.args.self.now view_is invariant _
+          flush_can_run _ c.args.self.now r.view r.whole _
               c.requires.served (g.D.Disk.state c.args.disk.now) c.requires.over
               c.start_change-begun.new.hands _ _
               c.args.bytes.now begun
@@ -88,52 +47,43 @@ launch-requires g c =
 
 pub invariant_of-self : goal.invariant_of-self
 invariant_of-self g c =
-    let rest = rest_of c.self.inside c.args.self.now c.self.view_is c.self.invariant c.requires.over.idle in
-    let is_lent = lent_is c.self.inside c.deref_mut-hands.ensures.value refl in
-    let inside = lent c.self.inside c.deref_mut-hands.result.now c.self.inside.kept_layout.value in
-    let view_is = ap kept_of is_lent ∙ rest.view in
-    let invariant = subst IsWhole (sym is_lent) rest.whole in
-    begin_going inside c.args.self.now view_is invariant
+    let r = lent_rest c.self.inside c.args.self.now c.deref_mut-hands.result.now c.self.view_is
+    c.self.invariant c.requires.over.idle c.deref_mut-hands.ensures.value in
+    begin_going _ c.args.self.now r.view r.whole
     (change_of c.args.name.now c.args.bytes.now c.args.comes) c.requires.served
     (g.D.Disk.state c.args.disk.now) c.requires.over c.start_change-begun.new.hands
     c.start_change-begun.result.phase c.start_change-begun.result.place c.args.bytes.now
     c.start_change-begun.ensures.begun
     (bytes_of_change c.args.name.now c.args.bytes.now c.args.comes c.requires.nothing)
-    (record { sequence = c.sequence-sequence.result; moved = inside.hands.ledger.moved })
+    (record { sequence = c.sequence-sequence.result; moved = c.deref_mut-hands.result.now.ledger.moved })
     c.sequence-sequence.ensures refl c.requires.needs_flush (g.D.Disk.state c.launch.new.disk)
     c.launch.ensures.left c.launch.ensures.most c.launch.ensures.frame c.start_change-begun.ensures.keeps
 
 pub returns-in-Ok : goal.returns-in-Ok
 returns-in-Ok g c =
-    let rest = rest_of c.self.inside c.args.self.now c.self.view_is c.self.invariant c.requires.over.idle in
-    let is_lent = lent_is c.self.inside c.deref_mut-hands.ensures.value refl in
-    let inside = lent c.self.inside c.deref_mut-hands.result.now c.self.inside.kept_layout.value in
-    let view_is = ap kept_of is_lent ∙ rest.view in
-    let invariant = subst IsWhole (sym is_lent) rest.whole in
-    begin_done inside c.args.self.now view_is invariant
+    let r = lent_rest c.self.inside c.args.self.now c.deref_mut-hands.result.now c.self.view_is
+    c.self.invariant c.requires.over.idle c.deref_mut-hands.ensures.value in
+    begin_done _ c.args.self.now r.view r.whole
     (change_of c.args.name.now c.args.bytes.now c.args.comes) c.requires.served
     (g.D.Disk.state c.args.disk.now) c.requires.over c.start_change-begun.new.hands
     c.start_change-begun.result.phase c.start_change-begun.result.place c.args.bytes.now
     c.start_change-begun.ensures.begun
     (bytes_of_change c.args.name.now c.args.bytes.now c.args.comes c.requires.nothing)
-    (record { sequence = c.sequence-sequence.result; moved = inside.hands.ledger.moved })
+    (record { sequence = c.sequence-sequence.result; moved = c.deref_mut-hands.result.now.ledger.moved })
     c.sequence-sequence.ensures refl c.requires.needs_flush (g.D.Disk.state c.launch.new.disk)
     c.launch.ensures.left c.launch.ensures.most c.launch.ensures.frame
     c.in-Ok.ensures.flies c.in-Ok.ensures.cause
 
 pub returns-in-Err : goal.returns-in-Err
 returns-in-Err g c =
-    let rest = rest_of c.self.inside c.args.self.now c.self.view_is c.self.invariant c.requires.over.idle in
-    let is_lent = lent_is c.self.inside c.deref_mut-hands.ensures.value refl in
-    let inside = lent c.self.inside c.deref_mut-hands.result.now c.self.inside.kept_layout.value in
-    let view_is = ap kept_of is_lent ∙ rest.view in
-    let invariant = subst IsWhole (sym is_lent) rest.whole in
-    rw rest.none (begin_failed inside c.args.self.now view_is invariant
+    let r = lent_rest c.self.inside c.args.self.now c.deref_mut-hands.result.now c.self.view_is
+    c.self.invariant c.requires.over.idle c.deref_mut-hands.ensures.value in
+    rw r.none (begin_failed _ c.args.self.now r.view r.whole
     (change_of c.args.name.now c.args.bytes.now c.args.comes) c.requires.served
     (g.D.Disk.state c.args.disk.now) c.requires.over c.start_change-begun.new.hands
     c.start_change-begun.result.phase c.start_change-begun.result.place c.args.bytes.now
     c.start_change-begun.ensures.begun
     (bytes_of_change c.args.name.now c.args.bytes.now c.args.comes c.requires.nothing)
-    (record { sequence = c.sequence-sequence.result; moved = inside.hands.ledger.moved })
+    (record { sequence = c.sequence-sequence.result; moved = c.deref_mut-hands.result.now.ledger.moved })
     c.sequence-sequence.ensures refl c.requires.needs_flush (g.D.Disk.state c.launch.new.disk)
     c.launch.ensures.left c.launch.ensures.most c.launch.ensures.frame _ c.in-Err.ensures.cause)

@@ -12,3 +12,6 @@ pub returns-in-Err : goal.returns-in-Err
 returns-in-Err g c = begins_stopped
     (charged_quiet c.charge-charged.ensures.charges c.in-Some.place (sym c.place.ensures ∙ c.in-Some.is))
     c.in-Err.ensures.answer c.in-Err.ensures.quiet c.put_planned.ensures.over c.in-Err.ensures.broken
+
+pub returns-in-None : goal.returns-in-None
+returns-in-None g c = c.begin_flush.ensures

@@ -7,3 +7,6 @@ returns-then-is_broken g c = grind (arith, common_steps)
 
 pub returns-then-is_worn : goal.returns-then-is_worn
 returns-then-is_worn g c = grind (arith, common_steps)
+
+pub returns : goal.returns
+returns g c = grind (arith, common_steps)

@@ -1,0 +1,18 @@
+use Rattle.std.proofs.Common.{arith}
+use Rattle.std.proofs.lemmas.Grind.{common_steps}
+use Rattle.store_core.proofs.store.Store.upgrade.Goals as goal
+
+pub returns-then-is_broken : goal.returns-then-is_broken
+returns-then-is_broken g c = grind (arith, common_steps)
+
+pub returns-then-deref-eq-DIGESTED : goal.returns-then-deref-eq-DIGESTED
+returns-then-deref-eq-DIGESTED g c = grind (arith, common_steps)
+
+pub returns-then-count-cap : goal.returns-then-count-cap
+returns-then-count-cap g c = grind (arith, common_steps)
+
+pub returns-then-is_worn : goal.returns-then-is_worn
+returns-then-is_worn g c = grind (arith, common_steps)
+
+pub returns : goal.returns
+returns g c = grind (arith, common_steps)
