@@ -14,6 +14,14 @@ between_cut bytes from to n within =
     ap (λ (m : ℕ). take m (drop from bytes)) split ∙ take-add n (to - (from + n)) (drop from bytes)
     ∙ ap (λ (xs : List ℕ). take n (drop from bytes) ++ take (to - (from + n)) xs) (drop-drop n from bytes)
 
+pub between_later : (bytes : List ℕ) (from to n : ℕ) → from + n ≤ to → to ≤ length bytes
+    → between bytes (from + n) to ≡ drop n (between bytes from to)
+between_later bytes from to n within room =
+    let long : n ≤ length (drop from bytes) = omega (arith, length-drop from bytes, within, room) in
+    sym (ap (drop n) (between_cut bytes from to n within)
+    ∙ drop_at (take n (drop from bytes)) (between bytes (from + n) to) n (length-take-le n
+    (drop from bytes) long))
+
 -- the first bytes were copied into the front of a slice
 pub given_front : (bytes front out : List ℕ) (from to n : ℕ) → from + n ≤ to → to ≤ length bytes
     → front ≡ take n (drop from bytes)

@@ -1,5 +1,5 @@
 -- What is read of an input: bytes that were read ahead, and then what the source has left.
-use Rattle.std.specs.Prelude.{◌≡◌, ℕ, Bool, true, false, List, [], ◌∷◌, ◌++◌, Option, Some, None, Result, Ok, IfOk, OnErr}
+use Rattle.std.specs.Prelude.{◌≡◌, ℕ, ◌<◌, ◌≤◌, Bool, true, false, List, [], ◌∷◌, ◌++◌, drop, length, Option, Some, None, Result, Ok, IfOk, OnErr}
 use Rattle.std.specs.List.{AllByRecursion}
 
 -- the bytes of one byte, or of none
@@ -12,6 +12,12 @@ pub record TakesByte {E : Type 0} (before now : List ℕ) (result : Result (Opti
   pub first : IfOk result (λ b. before ≡ byte_of b ++ now)
   pub ended : result ≡ Ok None → before ≡ []
   pub none : OnErr result (now ≡ before)
+
+-- So many bytes were dropped, and at least one where there may be one and one was left.
+pub record Drops {E : Type 0} (most : ℕ) (before now : List ℕ) (result : Result ℕ E) : Type 0 where
+  pub within : IfOk result (λ n. n ≤ length before)
+  pub rest : IfOk result (λ n. now ≡ drop n before)
+  pub ended : IfOk result (λ n. 0 < most → n ≡ 0 → before ≡ [])
 
 -- a newline, where one was found
 abbrev pub newline_if : Bool → List ℕ

@@ -1,8 +1,8 @@
 //! Bytes that were read from a source and not yet used.
-ghost use Rattle.std.specs.Prelude.{◌≡◌, ◌≤◌, ◌++◌, [], length, take, min, None, IfOk, IsTrue, OnOk};
+ghost use Rattle.std.specs.Prelude.{◌≡◌, ◌≤◌, ◌++◌, [], length, take, drop, min, None, IfOk, IsTrue, OnOk};
 ghost use Rattle.disk_face.specs.Counts.{HasCause};
 ghost use Rattle.disk_face.specs.Streams.{Takes};
-ghost use Rattle.ask_lines.specs.Lines.{TakesByte, byte_of};
+ghost use Rattle.ask_lines.specs.Lines.{Drops, TakesByte, byte_of};
 
 use disk_face::{Source, SourceFault};
 use std::marker::Model;
@@ -66,6 +66,18 @@ impl Ahead {
         Ok(self.first())
     }
 
+    /// Drops bytes, `most` at most, and answers how many.
+    pub fn pass<I: Source>(&mut self, input: &mut I, most: u64) -> Result<u64, SourceFault>
+        ensures bound { IfOk result (λ n. n ≤ most) }
+        ensures dropped { IsTrue (I.state input.old).tells → Drops most (self.old ++ (I.state input.old).left)
+            (self.new ++ (I.state input.new).left) result }
+        ensures told { (I.state input.new).tells ≡ (I.state input.old).tells }
+        ensures cause { HasCause (I.state input.old).faults (I.state input.new).faults result }
+    {
+        self.fill(input)?;
+        Ok(self.forget(most))
+    }
+
     /// Reads bytes ahead, where there are none.
     fn fill<I: Source>(&mut self, input: &mut I) -> Result<(), SourceFault>
         ensures same { IsTrue (I.state input.old).tells → self.new ++ (I.state input.new).left
@@ -106,5 +118,15 @@ impl Ahead {
         let byte = self.bytes[self.from];
         self.from += 1;
         Some(byte)
+    }
+
+    /// Drops the first bytes, `most` at most, and answers how many.
+    fn forget(&mut self, most: u64) -> u64
+        ensures count { result ≡ min most (length self.old) }
+        ensures rest { self.new ≡ drop result self.old }
+    {
+        let n = most.min((self.to - self.from) as u64);
+        self.from += n as usize;
+        n
     }
 }

@@ -7,4 +7,4 @@ mod piece;
 
 pub use ahead::Ahead;
 pub use line::{next_ask, read_line};
-pub use piece::fill;
+pub use piece::{fill, skip};

@@ -1,13 +1,15 @@
 -- Lists of requests, replies and states that grow at their end.
-use Rattle.std.specs.Prelude.{◌≡◌, ℕ, ◌+◌, Bool, true, false, ◌&&◌, if◌then◌else◌, List, [], ◌∷◌, ◌++◌, length, refl}
+use Rattle.std.specs.Prelude.{◌≡◌, ℕ, ◌+◌, ◌*◌, ◌^◌, ◌≤◌, Bool, true, false, ◌&&◌, if◌then◌else◌, List, [], ◌∷◌, ◌++◌, length, refl}
 use Rattle.std.specs.List.{AllByRecursion}
 use Rattle.std.proofs.Common.{arith, ap, ◌∙◌, inl, inr}
+use Rattle.std.proofs.Math.Nat.{le-max_right}
 use Rattle.disk_face.specs.Counts.{counted}
 use Rattle.map_model.specs.Requests.{Reply, Request}
-use Rattle.store_model.specs.States.{Chain, Limits, State, Step}
+use Rattle.store_model.specs.States.{Chain, Limits, State, Step, served}
 use Rattle.ask_text.specs.Inputs.{HasText}
-use Rattle.ask_session.specs.Serving.{acknowledges, calls_of}
-use Rattle.ask_session.specs.Runs.{SomeStep, calls_since, last_kept, last_state}
+use Rattle.ask_serve.specs.Serving.{acknowledges, calls_of}
+use Rattle.ask_serve.proofs.MakesLaws.{saves_few}
+use Rattle.ask_session.specs.Runs.{SomeStep, calls_since, last_kept, last_state, most_sequence}
 
 -- ---- lists that grow at their end
 
@@ -82,3 +84,14 @@ chain_long limits s [] [] (z ∷ states) chain = absurd (chain)
 chain_long limits s [] (y ∷ replies) states chain = absurd (chain)
 chain_long limits s (x ∷ rs) [] states chain = absurd (chain)
 chain_long limits s (x ∷ rs) (y ∷ replies) [] chain = absurd (chain)
+
+-- a request leaves the bound of those before it
+pub saves_within : (limits : Limits) (s : State) (r : Request) (k found : ℕ) → limits.k ≡ k
+    → s.sequence ≤ most_sequence k found
+    → s.sequence + (served limits s r).saves.most ≤ most_sequence k found
+saves_within limits s r k found same low =
+    elim (saves_few limits s r)
+    as (λ _. s.sequence + (served limits s r).saves.most ≤ most_sequence k found) [
+      | inl none ↦ omega (arith, none, low)
+      | inr some ↦ omega (arith, some.0, some.1, same, le-max_right found (2 ^ 61 + 2 * k))
+    ]

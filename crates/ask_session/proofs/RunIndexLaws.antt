@@ -3,9 +3,9 @@ use Rattle.std.specs.Prelude.{◌≡◌, ℕ, zero, suc, ◌<◌, Bool, true, fa
 use Rattle.std.proofs.Common.{arith, ap, sym, ◌∙◌, subst, inl, inr}
 use Rattle.map_model.specs.Requests.{Reply, Request}
 use Rattle.store_model.specs.States.{Chain, Limits, State, Step}
-use Rattle.ask_session.specs.Serving.{acknowledges}
+use Rattle.ask_serve.specs.Serving.{acknowledges}
 use Rattle.ask_session.specs.Runs.{SomeStep, last_state}
-use Rattle.ask_session.proofs.MakesLaws.{makes}
+use Rattle.ask_serve.proofs.MakesLaws.{makes}
 
 -- ---- steps by their number
 

@@ -1,9 +1,4 @@
-pub mod Inputs
-pub mod Serving
 pub mod Ready
-pub mod Outside
-pub mod ReplyLines
-pub mod Putting
 pub mod Sittings
 pub mod Inside
 pub mod Turns

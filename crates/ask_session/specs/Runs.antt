@@ -14,14 +14,15 @@ use Rattle.store_model.specs.Stores.{IsStore}
 use Rattle.store_model.specs.States.{Chain, Limits, State}
 use Rattle.ask_text.specs.Inputs.{HasText, request_text}
 use Rattle.ask_text.specs.Replies.{reply_text}
-use Rattle.ask_session.specs.declared.ends.End.{End}
-use Rattle.ask_session.specs.declared.ends.End.TheVariants as ends
-use Rattle.ask_session.specs.declared.ends.Turn.TheVariants as turn
-use Rattle.ask_session.specs.Outside.{Held, Outside, Seen, outside_of}
-use Rattle.ask_session.specs.Serving.{acknowledges, calls_of}
+use Rattle.ask_text.specs.declared.ends.End.{End}
+use Rattle.ask_text.specs.declared.ends.End.TheVariants as ends
+use Rattle.ask_text.specs.declared.ends.Turn.TheVariants as turn
+use Rattle.ask_serve.specs.Outside.{Held, Outside, Seen, outside_of}
+use Rattle.ask_serve.specs.Serving.{acknowledges, calls_of}
 use Rattle.ask_session.specs.Sittings.{Sitting, unread}
-use Rattle.ask_session.specs.Turns.{IsTurn, is_unserved}
-use Rattle.ask_session.specs.Inputs.{HasSourceCause}
+use Rattle.ask_text.specs.Ends.{is_budget, is_unserved}
+use Rattle.ask_session.specs.Turns.{IsTurn}
+use Rattle.ask_serve.specs.Inputs.{HasSourceCause}
 
 -- how many requests one run answers at most
 abbrev pub budget : ℕ
@@ -128,14 +129,6 @@ pub record HasRun (classes : ℕ) (old new : Sitting) (before now : Outside) (n 
   pub sink_told : now.sink.tells ≡ before.sink.tells
   pub sink_calm : now.sink.faults ≡ before.sink.faults
   pub disk_later : before.disk.faults ≤ now.disk.faults
-
-abbrev pub is_budget : End → Bool
-is_budget ends.Budget = true
-is_budget ends.End = false
-is_budget ends.Line = false
-is_budget ends.Disk = false
-is_budget ends.Source = false
-is_budget ends.Sink = false
 
 -- the last turn of a run, by its end
 abbrev pub IsLastTurn : ℕ → ℕ → Sitting → Sitting → Outside → Outside → End → Type 0

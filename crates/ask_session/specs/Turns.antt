@@ -1,34 +1,15 @@
 -- What one turn of a session does.
-use Rattle.std.specs.Prelude.{◌≡◌, ℕ, Bool, true, false, if◌then◌else◌, [], ◌++◌, Result, Ok, Err, IsTrue}
+use Rattle.std.specs.Prelude.{◌≡◌, ℕ, Bool, if◌then◌else◌, [], ◌++◌, Result, Ok, Err, IsTrue}
 use Rattle.disk_face.specs.Counts.{counted}
 use Rattle.map_model.specs.Requests.{Request}
 use Rattle.ask_text.specs.Inputs.{BeginsNone, HasText, request_text}
-use Rattle.ask_session.specs.declared.ends.End.{End}
-use Rattle.ask_session.specs.declared.ends.End.TheVariants as ends
-use Rattle.ask_session.specs.declared.ends.Turn.{Turn}
-use Rattle.ask_session.specs.declared.ends.Turn.TheVariants as turn
-use Rattle.ask_session.specs.Outside.{Outside, served_devices}
-use Rattle.ask_session.specs.Serving.{Replies}
+use Rattle.ask_text.specs.declared.ends.End.{End}
+use Rattle.ask_text.specs.declared.ends.End.TheVariants as ends
+use Rattle.ask_text.specs.declared.ends.Turn.{Turn}
+use Rattle.ask_text.specs.declared.ends.Turn.TheVariants as turn
+use Rattle.ask_serve.specs.Outside.{Outside, served_devices}
+use Rattle.ask_serve.specs.Serving.{Replies}
 use Rattle.ask_session.specs.Sittings.{Sitting, unread}
-
-abbrev pub is_ended : Turn → Bool
-is_ended turn.Answered = false
-is_ended (turn.Ended end) = true
-
--- an end, as an error
-abbrev pub result_of : Turn → Result (Unit {0}) End
-result_of turn.Answered = Ok tt
-result_of (turn.Ended end) = Err end
-
--- the session ended before a request was served
-abbrev pub is_unserved : Turn → Bool
-is_unserved turn.Answered = false
-is_unserved (turn.Ended ends.End) = true
-is_unserved (turn.Ended ends.Line) = true
-is_unserved (turn.Ended ends.Source) = true
-is_unserved (turn.Ended ends.Disk) = false
-is_unserved (turn.Ended ends.Sink) = false
-is_unserved (turn.Ended ends.Budget) = true
 
 -- the counts stay
 pub record SameCounts (old new : Sitting) : Type 0 where

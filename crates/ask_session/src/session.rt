@@ -2,16 +2,16 @@
 ghost use Rattle.std.specs.Prelude.{◌≡◌, false, true, if◌then◌else◌, IfOk, IfErr, None};
 ghost use Rattle.disk_face.specs.Counts.{counted};
 ghost use Rattle.store_model.specs.Stores.{IsStore};
-ghost use Rattle.ask_session.specs.Inputs.{HasSourceCause};
-ghost use Rattle.ask_session.specs.Outside.{outside};
+ghost use Rattle.ask_serve.specs.Inputs.{HasSourceCause};
+ghost use Rattle.ask_serve.specs.Outside.{outside};
 ghost use Rattle.ask_session.specs.Ready.{MayGoOn};
 ghost use Rattle.ask_session.specs.Sittings.{new_sitting};
-ghost use Rattle.ask_session.specs.Turns.{IsTurn, is_ended, is_unserved, result_of};
+ghost use Rattle.ask_text.specs.Ends.{is_ended, is_unserved, result_of};
+ghost use Rattle.ask_session.specs.Turns.{IsTurn};
 
-use crate::ahead::Ahead;
-use crate::request::read_request;
-use crate::serve::serve;
-use crate::{End, Turn};
+use ask_lines::Ahead;
+use ask_serve::{read_request, serve};
+use ask_text::{End, Turn};
 use disk_face::{Disk, Sink, Source};
 use size_class::SIZE_MAX;
 use slot_codec::NoMemory;
@@ -59,15 +59,12 @@ impl<const C: usize> Session<C> {
         ensures ok { IfOk result (λ session. session ≡ new_sitting store.entry turn) }
         ensures refused { IfErr result (λ back. back.0 ≡ store.entry) }
     {
-        let Ok(ahead) = Ahead::new(alloc) else {
-            return Err((store, NoMemory));
-        };
         let Ok(body) = Vec::with_capacity(alloc, SIZE_MAX as usize) else {
             return Err((store, NoMemory));
         };
         Ok(Session {
             store,
-            ahead,
+            ahead: Ahead::new(),
             body,
             ended: false,
             done: 0,

@@ -4,13 +4,13 @@ use Rattle.std.proofs.Common.{arith, ap, ◌∙◌, subst, inl, inr}
 use Rattle.disk_face.specs.Counts.{Rose}
 use Rattle.size_class.specs.declared.TheConstants.{CLASSES}
 use Rattle.store_model.specs.Connection.{StoreValue}
-use Rattle.ask_session.specs.Outside.{Held, Outside, Seen, outside_of}
+use Rattle.ask_serve.specs.Outside.{Held, Outside, Seen, outside_of}
 use Rattle.ask_session.specs.Sittings.{Sitting, new_sitting}
 use Rattle.ask_session.specs.Runs.{EndsRun}
-use Rattle.ask_session.specs.Inputs.{is_source}
+use Rattle.ask_serve.specs.Inputs.{is_source}
 use Rattle.ask_session.specs.Turns.{IsStopped}
-use Rattle.ask_session.specs.declared.ends.End.{End}
-use Rattle.ask_session.specs.declared.ends.End.TheVariants as ends
+use Rattle.ask_text.specs.declared.ends.End.{End}
+use Rattle.ask_text.specs.declared.ends.End.TheVariants as ends
 use Rattle.command_face.specs.declared.status.TheConstants.{DISK_FAILED, DONE, FAULTY_REQUEST, NO_FILE, NO_MEMORY, NO_STORE, SINK_FAILED, SOURCE_FAILED, TOO_MANY_REQUESTS}
 use Rattle.command_face.specs.Outcomes.{status_at}
 use Rattle.run_command.specs.Sessions.{IsUnserved, end_of}

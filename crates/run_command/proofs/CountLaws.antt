@@ -7,13 +7,13 @@ use Rattle.size_class.specs.declared.TheConstants.{CLASSES}
 use Rattle.map_model.specs.Requests.{Reply, Request}
 use Rattle.store_model.specs.Connection.{StoreValue, limits_of, state_of}
 use Rattle.store_model.specs.States.{Chain, Limits, State}
-use Rattle.ask_session.specs.Serving.{acknowledges}
-use Rattle.ask_session.specs.Outside.{Held, Seen, held}
+use Rattle.ask_serve.specs.Serving.{acknowledges}
+use Rattle.ask_serve.specs.Outside.{Held, Seen, held}
 use Rattle.ask_session.specs.Sittings.{Sitting, new_sitting}
 use Rattle.ask_session.specs.Runs.{EndsRun, budget, last_kept}
 use Rattle.ask_session.specs.Turns.{SameCounts}
-use Rattle.ask_session.specs.declared.ends.End.{End}
-use Rattle.ask_session.specs.declared.ends.End.TheVariants as ends
+use Rattle.ask_text.specs.declared.ends.End.{End}
+use Rattle.ask_text.specs.declared.ends.End.TheVariants as ends
 use Rattle.command_face.specs.declared.status.TheConstants.{TOO_MANY_REQUESTS}
 use Rattle.command_face.specs.Refusing.{stop_of}
 use Rattle.run_command.specs.Headline.{HasMounted}

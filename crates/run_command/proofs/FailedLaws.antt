@@ -25,15 +25,15 @@ use Rattle.store_model.specs.States.{Limits, Served, Step, served}
 use Rattle.store_model.specs.Opened.{IsFoundImage, LeavesRoom, RestsOnFound}
 use Rattle.ask_text.specs.Inputs.{Asks}
 use Rattle.ask_text.specs.Replies.{reply_text}
-use Rattle.ask_session.specs.Serving.{IsFront, IsServingImage, is_changing, is_disk, reply_at, served_at}
-use Rattle.ask_session.specs.Outside.{outside}
+use Rattle.ask_serve.specs.Serving.{IsFront, IsServingImage, is_changing, is_disk, reply_at, served_at}
+use Rattle.ask_serve.specs.Outside.{outside}
 use Rattle.ask_session.specs.Sittings.{Sitting, new_sitting, unread}
 use Rattle.ask_session.specs.Turns.{IsStopped}
 use Rattle.ask_session.specs.Runs as run
 use Rattle.ask_session.specs.Runs.{HasRun, IsRunImage, IsStepImage, budget, calls_since, last_kept, last_state, most_sequence}
-use Rattle.ask_session.specs.declared.ends.End.{End}
-use Rattle.ask_session.specs.declared.ends.End.TheVariants as ends
-use Rattle.ask_session.proofs.MakesLaws.{saves_within}
+use Rattle.ask_text.specs.declared.ends.End.{End}
+use Rattle.ask_text.specs.declared.ends.End.TheVariants as ends
+use Rattle.ask_session.proofs.GrowingLaws.{saves_within}
 use Rattle.served_file.specs.Served.{OpensTo, OpensToBeing, OpensToKept, OpensToNext, Ran, Starts, has_failed, limits_with, most_left, state_after, found_with}
 use Rattle.run_command.specs.Headline.{HasReplied, IsPartial, NumbersLine, RunHolds, next_is_changing}
 use Rattle.command_face.specs.declared.status.TheConstants.{DISK_FAILED}

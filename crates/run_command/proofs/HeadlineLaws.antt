@@ -25,13 +25,14 @@ use Rattle.store_model.proofs.OpeningLaws.{found_image}
 use Rattle.reopen.specs.declared.fault.OpenFault.{OpenFault}
 use Rattle.reopen.specs.declared.fault.OpenFault.TheVariants as opening
 use Rattle.ask_text.specs.Inputs.{Asks}
-use Rattle.ask_session.specs.Outside.{Held, Seen, held}
+use Rattle.ask_serve.specs.Outside.{Held, Seen, held}
 use Rattle.ask_session.specs.Sittings.{Sitting, new_sitting}
-use Rattle.ask_session.specs.Turns.{IsUnserved, is_unserved}
-use Rattle.ask_session.specs.declared.ends.Turn.TheVariants as turn
+use Rattle.ask_text.specs.Ends.{is_unserved}
+use Rattle.ask_session.specs.Turns.{IsUnserved}
+use Rattle.ask_text.specs.declared.ends.Turn.TheVariants as turn
 use Rattle.ask_session.specs.Runs.{EndsRun, budget}
-use Rattle.ask_session.specs.declared.ends.End.{End}
-use Rattle.ask_session.specs.declared.ends.End.TheVariants as ends
+use Rattle.ask_text.specs.declared.ends.End.{End}
+use Rattle.ask_text.specs.declared.ends.End.TheVariants as ends
 use Rattle.command_face.specs.declared.status.TheConstants.{DISK_FAILED, DONE, FAULTY_REQUEST, NO_FILE, NO_MEMORY, SOURCE_FAILED, TOO_MANY_REQUESTS}
 use Rattle.command_face.specs.Refusing.{stop_of}
 use Rattle.served_file.specs.Served.{found_with}

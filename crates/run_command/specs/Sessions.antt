@@ -10,11 +10,11 @@ use Rattle.store_model.specs.Connection.{StoreValue}
 use Rattle.store_model.specs.Opened.{IsOpening}
 use Rattle.store_model.specs.Stores.{IsStore}
 use Rattle.reopen.specs.declared.fault.OpenFault.{OpenFault}
-use Rattle.ask_session.specs.Outside.{Held, Seen, held}
+use Rattle.ask_serve.specs.Outside.{Held, Seen, held}
 use Rattle.ask_session.specs.Sittings.{Sitting, new_sitting}
 use Rattle.ask_session.specs.Runs.{EndsRun, budget}
-use Rattle.ask_session.specs.declared.ends.End.{End}
-use Rattle.ask_session.specs.declared.ends.End.TheVariants as ends
+use Rattle.ask_text.specs.declared.ends.End.{End}
+use Rattle.ask_text.specs.declared.ends.End.TheVariants as ends
 use Rattle.disk_face.specs.Devices.{Devices}
 use Rattle.command_face.specs.Mounting.{IsNotThere, mounted}
 use Rattle.command_face.specs.Outcomes.{PutsLine, status_at}

@@ -4,7 +4,7 @@ ghost use Rattle.size_class.specs.declared.TheConstants.{CLASSES};
 ghost use Rattle.store_model.specs.Connection.{IsConnected};
 ghost use Rattle.store_model.specs.Opened.{IsOpening};
 ghost use Rattle.store_model.specs.Stores.{IsStore};
-ghost use Rattle.ask_session.specs.Outside.{held, seen_by};
+ghost use Rattle.ask_serve.specs.Outside.{held, seen_by};
 ghost use Rattle.command_face.specs.Mounting.{IsMounted};
 ghost use Rattle.command_face.specs.Refusing.{IsRefused};
 ghost use Rattle.served_file.specs.Unserved.{NeverServed};

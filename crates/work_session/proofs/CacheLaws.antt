@@ -25,10 +25,10 @@ use Rattle.read_cache.specs.declared.got.Got.{Got}
 use Rattle.read_cache.specs.Lists.{Listing, after, after_get, after_hit, listed, without}
 use Rattle.ask_text.specs.declared.reply.Reply as text
 use Rattle.ask_text.specs.declared.reply.Reply.TheVariants as head
-use Rattle.ask_session.specs.declared.ends.End.{End}
-use Rattle.ask_session.specs.Ready.{CanServe}
-use Rattle.ask_session.specs.ReplyLines.{answer_change, answer_of}
-use Rattle.ask_session.specs.Serving.{reply_at}
+use Rattle.ask_text.specs.declared.ends.End.{End}
+use Rattle.ask_serve.specs.Ready.{CanServe}
+use Rattle.ask_serve.specs.ReplyLines.{answer_change, answer_of}
+use Rattle.ask_serve.specs.Serving.{reply_at}
 use Rattle.work_session.specs.Jobs.{Does}
 use Rattle.work_session.specs.Servers.{BecomesCached, IsSaid, ServesJob}
 use Rattle.work_session.proofs.DoesLaws.{change_does, get_gives, get_stops, keep_does}

@@ -38,14 +38,14 @@ use Rattle.ask_text.specs.Replies.{reply_line_of, told_for}
 use Rattle.ask_text.specs.declared.reply.Reply as text
 use Rattle.ask_text.specs.declared.reply.Reply.TheVariants as head
 use Rattle.ask_text.specs.declared.reply.RefusedWord.TheVariants as word
-use Rattle.ask_session.specs.declared.ends.End.{End}
-use Rattle.ask_session.specs.declared.ends.End.TheVariants as ends
-use Rattle.ask_session.specs.ReplyLines.{Answers, answer_change, answer_of}
-use Rattle.ask_session.specs.Serving.{Serves, reply_at, served_at}
-use Rattle.ask_session.proofs.AnswerLaws.{change_answers, keep_answers, refused_head}
-use Rattle.ask_session.proofs.ReadReplyLaws.{answer_is, found_damaged, found_fine, get_long, get_served, refused_with}
-use Rattle.ask_session.specs.Ready.{CanServe}
-use Rattle.ask_session.proofs.ServingLaws.{refused_stays, serves_same}
+use Rattle.ask_text.specs.declared.ends.End.{End}
+use Rattle.ask_text.specs.declared.ends.End.TheVariants as ends
+use Rattle.ask_serve.specs.ReplyLines.{Answers, answer_change, answer_of}
+use Rattle.ask_serve.specs.Serving.{Serves, reply_at, served_at}
+use Rattle.ask_serve.proofs.AnswerLaws.{change_answers, keep_answers, refused_head}
+use Rattle.ask_serve.proofs.ReadReplyLaws.{answer_is, can_read, found_damaged, found_fine, get_long, get_served, refused_with}
+use Rattle.ask_serve.specs.Ready.{CanServe}
+use Rattle.ask_serve.proofs.ServingLaws.{refused_stays, serves_same}
 use Rattle.work_session.specs.Counts.{asked_by, calls_by}
 use Rattle.work_session.specs.Jobs.{Charges, Does, most_read}
 use Rattle.work_session.proofs.DoneLaws.{IsShortChange, change_charges, nothing_charged, refused_asks, small_change, sound_if}
@@ -224,7 +224,7 @@ module _ {classes : ℕ} (s : StoreValue) (a d : disk.State) (name : List ℕ) (
   -- what is replied, once it is known whether the object is damaged
   replied_as : (b : Bool) → refused_by s r ≡ None → IsTrue a.tells → damaged ≡ b
       → served_at s a.file r ≡ unchanged (state_of s a.file) (read_reply b (ask.found object))
-  replied_as b served told is = get_served s a name h served told
+  replied_as b served told is = get_served s a name (can_read h) served
       ∙ ap (λ (c : Bool). unchanged (state_of s a.file) (read_reply c (ask.found object))) is
 
   abbrev n : ℕ
@@ -241,7 +241,7 @@ module _ {classes : ℕ} (s : StoreValue) (a d : disk.State) (name : List ℕ) (
       let number = number_of (refused_by s r) n size answer in
       let served = number_served (refused_by s r) n size number in
       let is : IsTrue a.tells → served_at s a.file r ≡ unchanged (state_of s a.file) (ask.found object) =
-      λ told. replied_as false served.0 told (found_fine s a moment.Now name h served.0 told t object
+      λ told. replied_as false served.0 told (found_fine s a moment.Now name (can_read h) served.0 t object
       (step told)) in
       record {
         serves = serves_same s r a d (Ok (head.Data size)) h same (λ told. record {
@@ -250,7 +250,7 @@ module _ {classes : ℕ} (s : StoreValue) (a d : disk.State) (name : List ℕ) (
           none = refl;
         }) refl;
         sound = h.sound;
-        replied = λ told. ap head.Data (sym (get_long s a name size h number told))
+        replied = λ told. ap head.Data (sym (get_long s a name size (can_read h) number told))
             ∙ sym (ap (λ (y : Served). reply_line_of y.reply) (is told));
         small = omega (
           arith,
@@ -287,7 +287,7 @@ module _ {classes : ℕ} (s : StoreValue) (a d : disk.State) (name : List ℕ) (
   get_damaged served calm step =
       let is : IsTrue a.tells
       → served_at s a.file r ≡ unchanged (state_of s a.file) (ask.refused ask.damaged) =
-      λ told. replied_as true served told (found_damaged s a moment.Now name h served told t (step told)) in
+      λ told. replied_as true served told (found_damaged s a moment.Now name (can_read h) served t (step told)) in
       record {
         serves = serves_same s r a d (Ok (head.Refused word.Damaged)) h same (λ told. record {
           reply = ask.refused ask.damaged;
@@ -319,7 +319,7 @@ module _ {classes : ℕ} (s : StoreValue) (a d : disk.State) (name : List ℕ) (
           (Err ends.Disk)
       by None is = serves_same s r a d (Err ends.Disk) h same (λ told. record {
         reply = read_reply damaged (ask.found object);
-        is = get_served s a name h is told;
+        is = get_served s a name (can_read h) is;
         none = refl;
       }) refl
       by (Some x) is =

@@ -41,11 +41,11 @@ use Rattle.store_costs.proofs.ChangeLaws.{change_has_paid, nothing_has_paid}
 use Rattle.store_costs.proofs.MadeLaws.{flush_next, quiet_next}
 use Rattle.store_costs.proofs.WeighedLaws.{in_zeros, sized_now, zeros}
 use Rattle.ask_text.specs.declared.reply.Reply as text
-use Rattle.ask_session.specs.declared.ends.End.{End}
-use Rattle.ask_session.specs.ReplyLines.{answer_change, answer_of, done_reply_line}
-use Rattle.ask_session.specs.Serving.{is_changing, is_disk_fault, reply_at}
+use Rattle.ask_text.specs.declared.ends.End.{End}
+use Rattle.ask_serve.specs.ReplyLines.{answer_change, answer_of, done_reply_line}
+use Rattle.ask_serve.specs.Serving.{is_changing, is_disk_fault, reply_at}
 use Rattle.ask_session.proofs.GrowingLaws.{and_none}
-use Rattle.ask_session.specs.Ready.{CanServe}
+use Rattle.ask_serve.specs.Ready.{CanServe}
 use Rattle.work_session.specs.Counts.{asked_by, calls_by}
 use Rattle.work_session.specs.Jobs.{Charges, most_read, most_rise, read_head}
 use Rattle.work_session.proofs.RowLaws.{all_added_few, class_few}

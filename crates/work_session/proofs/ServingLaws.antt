@@ -7,8 +7,8 @@ use Rattle.store_core.proofs.StepLaws.{always}
 use Rattle.store_model.specs.Connection.{IsConnected, StoreValue}
 use Rattle.store_model.specs.Opened.{IsFresh}
 use Rattle.ask_text.specs.declared.reply.Reply as text
-use Rattle.ask_session.specs.declared.ends.End.{End}
-use Rattle.ask_session.specs.Serving.{reply_at}
+use Rattle.ask_text.specs.declared.ends.End.{End}
+use Rattle.ask_serve.specs.Serving.{reply_at}
 use Rattle.work_session.specs.Jobs.{Does, HasTally, no_tally, tally_with}
 use Rattle.work_session.specs.Servers.{BecameAll, HasServed, IsServing, ServesJob}
 use Rattle.work_session.specs.Works.{EndsAt, HasStopped, LinesOf}

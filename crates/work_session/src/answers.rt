@@ -1,9 +1,8 @@
 //! What the answers of a store are counted as.
 ghost use Rattle.std.specs.Prelude.{◌≡◌};
-ghost use Rattle.ask_session.specs.ReplyLines.{answer_change, answer_of};
+ghost use Rattle.ask_serve.specs.ReplyLines.{answer_change, answer_of};
 
-use ask_session::End;
-use ask_text::{RefusedWord, Reply};
+use ask_text::{End, RefusedWord, Reply};
 use store_core::{Done, Refusal};
 
 /// The reply to a change or a keep, or that the disk failed.

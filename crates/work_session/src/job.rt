@@ -8,8 +8,7 @@ ghost use Rattle.work_session.specs.Jobs.{IsPattern, IsShort};
 ghost use Rattle.work_session.specs.Servers.{ServesJob};
 
 use crate::Server;
-use ask_session::End;
-use ask_text::Reply;
+use ask_text::{End, Reply};
 use disk_face::Disk;
 use work_maker::Job;
 

@@ -11,8 +11,7 @@ ghost use Rattle.store_model.specs.Quiet.{del_of, put_of};
 ghost use Rattle.store_model.specs.Stores.{IsStore};
 ghost use Rattle.work_session.specs.Servers.{ServesJob};
 
-use ask_session::End;
-use ask_text::Reply;
+use ask_text::{End, Reply};
 use data_area::Ledger;
 use disk_face::Disk;
 

@@ -4,7 +4,7 @@ use Rattle.store_model.specs.Quiet.{put_of}
 use Rattle.map_model.specs.Requests as ask
 use Rattle.read_cache.specs.Coherence.{IsCoherent}
 use Rattle.ask_text.specs.declared.reply.Reply.{Reply}
-use Rattle.ask_session.specs.declared.ends.End.{End}
+use Rattle.ask_text.specs.declared.ends.End.{End}
 use Rattle.work_session.specs.Servers.{BecomesCached, ServesJob}
 use Rattle.work_session.proofs.CacheLaws.{change_serves}
 use Rattle.work_session.proofs.DoesLaws.{can_serve}

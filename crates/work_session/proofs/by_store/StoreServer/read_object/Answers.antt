@@ -4,7 +4,7 @@ use Rattle.map_model.specs.Requests as ask
 use Rattle.store_model.specs.Connection.{StoreValue, state_of}
 use Rattle.ask_text.specs.declared.reply.Reply.{Reply}
 use Rattle.ask_text.specs.declared.reply.Reply.TheVariants as head
-use Rattle.ask_session.specs.declared.ends.End.{End}
+use Rattle.ask_text.specs.declared.ends.End.{End}
 use Rattle.work_session.specs.Jobs.{Does}
 use Rattle.work_session.proofs.DoesLaws.{can_serve, get_gives, get_stops}
 use Rattle.work_session.proofs.ServingLaws.{store_serves}

@@ -3,7 +3,7 @@ use Rattle.std.specs.Prelude.{Result}
 use Rattle.store_model.specs.Quiet.{del_of}
 use Rattle.map_model.specs.Requests as ask
 use Rattle.ask_text.specs.declared.reply.Reply.{Reply}
-use Rattle.ask_session.specs.declared.ends.End.{End}
+use Rattle.ask_text.specs.declared.ends.End.{End}
 use Rattle.work_session.specs.Jobs.{Does}
 use Rattle.work_session.proofs.DoesLaws.{can_serve, change_does}
 use Rattle.work_session.proofs.DoneLaws.{del_short}

@@ -1,0 +1,11 @@
+pub mod AnswerLaws
+pub mod BodyLemmas
+pub mod KindLaws
+pub mod PutLaws
+pub mod ReplyLaws
+pub mod ReadReplyLaws
+pub mod RequestLemmas
+pub mod MakesLaws
+pub mod ServingLaws
+pub mod TooLongLaws
+pub mod StopLaws
