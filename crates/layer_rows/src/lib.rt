@@ -51,3 +51,5 @@ mod spans;
 mod table_words;
 #[cfg(test)]
 mod tables;
+#[cfg(test)]
+mod waiting;

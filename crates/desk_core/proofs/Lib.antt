@@ -1,0 +1,12 @@
+pub mod EventLaws
+pub mod SaidLaws
+pub mod HearLaws
+pub mod StepLaws
+pub mod ReadLaws
+pub mod TakeLaws
+pub mod BegunLaws
+pub mod SettleLaws
+pub mod StepOnceLaws
+pub mod ServeLaws
+pub mod OneLaws
+pub mod PlayedLaws

@@ -1,0 +1,15 @@
+use Rattle.std.proofs.Common.{◌-◌, ◌≤◌}
+use Rattle.ask_serve.specs.Outside.{outside}
+use Rattle.desk_core.specs.Runs.{HasPlayed}
+use Rattle.desk_core.proofs.desk.Desk.run.Given as goal
+
+abbrev pub invariant-turns : goal.invariant-turns
+invariant-turns g l = record {
+  few : l.n ≤ 4294967296;
+  played : HasPlayed g.row.C l.fn.self l.self
+      (outside (g.D.Disk.state l.fn.disk) (g.I.Source.state l.fn.input) (g.O.Sink.state l.fn.output))
+      (outside (g.D.Disk.state l.disk) (g.I.Source.state l.input) (g.O.Sink.state l.output)) l.n;
+}
+
+abbrev pub decreases-turns : goal.decreases-turns
+decreases-turns g l = 4294967296 - l.n

@@ -1,0 +1,26 @@
+use Rattle.std.proofs.Common.{Ok, Err}
+use Rattle.map_model.specs.Requests as ask
+use Rattle.desk_core.proofs.ReadLaws.{cut_take, gives_take, reading_list}
+use Rattle.desk_core.proofs.taking.take_list.Goals as goal
+
+pub returns-in-Ok-serve_list : goal.returns-in-Ok-serve_list
+returns-in-Ok-serve_list g c =
+    gives_take c.args.session (ask.list) (reading_list) c.args.served.now.store c.args.served.now.session
+    (g.D.Disk.state c.args.disk.now) c.requires.over c.requires.whole
+    (g.D.Disk.state c.serve_list.new.disk) (g.O.Sink.state c.args.output.now)
+    (g.O.Sink.state c.put_for.new.output) (g.O.Sink.state c.serve_list.new.output)
+    c.serve_list.new.store (Ok c.in-Ok-serve_list.field-0) c.in-Ok.ensures c.in-Ok-serve_list.ensures
+
+pub returns-in-Err-serve_list : goal.returns-in-Err-serve_list
+returns-in-Err-serve_list g c =
+    gives_take c.args.session (ask.list) (reading_list) c.args.served.now.store c.args.served.now.session
+    (g.D.Disk.state c.args.disk.now) c.requires.over c.requires.whole
+    (g.D.Disk.state c.serve_list.new.disk) (g.O.Sink.state c.args.output.now)
+    (g.O.Sink.state c.put_for.new.output) (g.O.Sink.state c.serve_list.new.output)
+    c.serve_list.new.store (Err c.in-Err-serve_list.end) c.in-Ok.ensures c.in-Err-serve_list.ensures
+
+pub returns-in-Err : goal.returns-in-Err
+returns-in-Err g c =
+    cut_take c.args.session (ask.list) (reading_list) c.args.served.now.store c.args.served.now.session
+    (g.D.Disk.state c.args.disk.now) c.requires.over c.requires.whole (g.O.Sink.state c.args.output.now)
+    (g.O.Sink.state c.put_for.new.output) c.in-Err.end c.in-Err.ensures c.requires.ready

@@ -1,0 +1,10 @@
+pub mod Lines
+pub mod Benches
+pub mod Shows
+pub mod Playing
+pub mod Hearing
+pub mod Telling
+pub mod Inside
+pub mod Ready
+pub mod Turns
+pub mod Runs

@@ -1,0 +1,5 @@
+pub mod Events
+pub mod Answers
+pub mod Desks
+pub mod Orders
+pub mod Worked

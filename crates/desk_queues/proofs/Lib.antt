@@ -1,0 +1,6 @@
+mod RingLaws
+mod HoldLaws
+mod LineLaws
+mod TextLaws
+mod QueueLaws
+mod KnownLaws
