@@ -1,9 +1,9 @@
 -- What is built is the image that is asked for.
 use Rattle.std.specs.Prelude.{None, option_map, slice_get}
 use Rattle.std.proofs.Common.{◌≡◌, ℕ, List, take, drop, sym, ◌∙◌, ap}
-use Rattle.disk_mem.specs.Changes.{content_after}
+use Rattle.disk_history.specs.Changes.{content_after}
 use Rattle.disk_mem.specs.Entries.{stamp_of, newest_first}
-use Rattle.disk_mem.specs.Histories.{History}
+use Rattle.disk_history.specs.Histories.{History}
 use Rattle.disk_mem.specs.Tearing.{up_to_sync, since_sync, finished}
 use Rattle.disk_mem.proofs.TearingLaws.{finished_is}
 use Rattle.disk_mem.specs.Turns.{at_turn, ended_by, next_after, image_at}

@@ -6,11 +6,11 @@ use Rattle.disk_face.specs.Images.{IsImage}
 use Rattle.disk_face.specs.Moments.{Elapses, NoMore, Only}
 use Rattle.disk_mem.specs.declared.disk.MemDisk.TheInside.{Inside}
 use Rattle.disk_mem.specs.declared.record.Entry.{Entry}
-use Rattle.disk_mem.specs.Changes.{RecordedCall, during}
-use Rattle.disk_mem.specs.Changes.RecordedCall.{Synced}
+use Rattle.disk_history.specs.Changes.{RecordedCall, during}
+use Rattle.disk_history.specs.Changes.RecordedCall.{Synced}
 use Rattle.disk_mem.specs.Entries.{newest_first}
-use Rattle.disk_mem.specs.Histories.{History, EndedBy, MayLeave, done, file_of, undone, unsynced_of, history_state}
-use Rattle.disk_mem.proofs.HistoryLaws.{Elapses_done, Elapses_undone, NoMore_sync, Only_sync}
+use Rattle.disk_history.specs.Histories.{History, EndedBy, MayLeave, done, file_of, undone, unsynced_of, history_state}
+use Rattle.disk_history.proofs.HistoryLaws.{Elapses_done, Elapses_undone, NoMore_sync, Only_sync}
 
 -- the history of a disk with another record and turn
 abbrev pub held : Inside → List Entry → ℕ → History

@@ -4,10 +4,10 @@ use Rattle.std.specs.Prelude.{if◌then◌else◌}
 use Rattle.std.proofs.lemmas.Bool.{le-leb}
 use Rattle.byte_ranges.specs.Ranges.{overwritten}
 use Rattle.disk_face.specs.Counts.{last, counted}
-use Rattle.disk_mem.specs.Changes.{RecordedCall, Stamped, changed, content_after}
-use Rattle.disk_mem.specs.Changes.RecordedCall.{Wrote}
-use Rattle.disk_mem.specs.Histories.{EndedBy}
-use Rattle.disk_mem.proofs.HistoryLaws.{EndedBy_later}
+use Rattle.disk_history.specs.Changes.{RecordedCall, Stamped, changed, content_after}
+use Rattle.disk_history.specs.Changes.RecordedCall.{Wrote}
+use Rattle.disk_history.specs.Histories.{EndedBy}
+use Rattle.disk_history.proofs.HistoryLaws.{EndedBy_later}
 
 -- a call that found no memory left the record as it was
 pub holds_undone : (base : List ℕ) {file : List ℕ} {calls now : List Stamped} {turn next : ℕ}

@@ -10,10 +10,10 @@ use Rattle.byte_ranges.specs.Ranges.{SameOutside, resized}
 use Rattle.byte_ranges.proofs.RangeLaws.{SameOutside-refl, length-resized, resized-index}
 use Rattle.disk_face.specs.Images.{Unsynced, is_unsynced, in_range, after_sync, with_range, with_length}
 use Rattle.disk_face.proofs.ImageLaws.{inside_range, loose_past}
-use Rattle.disk_mem.specs.Changes.{RecordedCall, Stamped, changed, content_after, unsynced_after}
-use Rattle.disk_mem.specs.Changes.RecordedCall.{Wrote, Sized, Synced}
-use Rattle.disk_mem.specs.Histories.{History}
-use Rattle.disk_mem.specs.Lawful.{present_is_image, changed_outside}
+use Rattle.disk_history.specs.Changes.{RecordedCall, Stamped, changed, content_after, unsynced_after}
+use Rattle.disk_history.specs.Changes.RecordedCall.{Wrote, Sized, Synced}
+use Rattle.disk_history.specs.Histories.{History}
+use Rattle.disk_history.specs.Lawful.{present_is_image, changed_outside}
 use Rattle.disk_mem.specs.Turns.{torn, within_write, within_next_write, next_after, ended_by, newest_at, image_at}
 use Rattle.disk_mem.specs.declared.image.Choice.{Choice}
 use Rattle.disk_mem.specs.declared.image.Choice.TheVariants.{Durable, Newest, Torn}

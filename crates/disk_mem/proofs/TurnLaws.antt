@@ -5,11 +5,11 @@ use Rattle.byte_ranges.proofs.ListLaws.{length-map_below, map_below-index}
 use Rattle.disk_face.specs.Counts.{counted}
 use Rattle.disk_face.specs.Images.{Unsynced, IsImage, is_unsynced}
 use Rattle.disk_face.proofs.ImageLaws.{image_with_range, image_with_length, synced_image}
-use Rattle.disk_mem.specs.Changes.{RecordedCall, Stamped, during, left_by, content_after, unsynced_after}
-use Rattle.disk_mem.specs.Changes.RecordedCall.{Wrote, Sized, Synced}
-use Rattle.disk_mem.specs.Histories.{History, LeftBefore, LeftSince, EndedBy}
-use Rattle.disk_mem.proofs.HistoryLaws.{image_during}
-use Rattle.disk_mem.specs.Lawful.{present_is_image}
+use Rattle.disk_history.specs.Changes.{RecordedCall, Stamped, during, left_by, content_after, unsynced_after}
+use Rattle.disk_history.specs.Changes.RecordedCall.{Wrote, Sized, Synced}
+use Rattle.disk_history.specs.Histories.{History, LeftBefore, LeftSince, EndedBy}
+use Rattle.disk_history.proofs.HistoryLaws.{image_during}
+use Rattle.disk_history.specs.Lawful.{present_is_image}
 use Rattle.disk_mem.specs.Turns.{at_turn, ended_by, next_after, within_next, within_next_write, within_write, LeftAt, durable_at, newest_at, torn, torn_at, image_at}
 use Rattle.disk_mem.specs.declared.image.Choice.{Choice}
 use Rattle.disk_mem.specs.declared.image.Choice.TheVariants.{Durable, Newest, Torn}

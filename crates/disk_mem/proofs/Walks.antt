@@ -5,7 +5,7 @@ use Rattle.std.proofs.lemmas.Bool.{le-leb}
 use Rattle.std.proofs.lemmas.List.{take_more, take_all, drop_all, length-take, drop-append-le}
 use Rattle.std.proofs.lemmas.Option.{slice_get-get_or, slice_get_past}
 use Rattle.disk_face.specs.Counts.{counted}
-use Rattle.disk_mem.specs.Changes.{Stamped, changed, content_after}
+use Rattle.disk_history.specs.Changes.{Stamped, changed, content_after}
 use Rattle.disk_mem.specs.Entries.{change_of, stamp_of, newest_first}
 use Rattle.disk_mem.specs.Tearing.{is_sync, smeared, smeared_after, up_to_sync, since_sync}
 use Rattle.disk_mem.specs.Turns.{at_turn}

@@ -1,7 +1,7 @@
 -- The record that a disk in memory keeps, as calls.
 use Rattle.std.specs.Prelude.{List, map, reverse}
-use Rattle.disk_mem.specs.Changes.{RecordedCall, Stamped}
-use Rattle.disk_mem.specs.Changes.RecordedCall.{Wrote, Sized, Synced}
+use Rattle.disk_history.specs.Changes.{RecordedCall, Stamped}
+use Rattle.disk_history.specs.Changes.RecordedCall.{Wrote, Sized, Synced}
 use Rattle.disk_mem.specs.declared.record.Call.{Call}
 use Rattle.disk_mem.specs.declared.record.Call.TheVariants.{Write, Resize, Sync}
 use Rattle.disk_mem.specs.declared.record.Entry.{Entry}

@@ -1,9 +1,7 @@
 pub mod Bays
 pub mod Calls
-pub mod Changes
 pub mod Entries
 pub mod Fuses
-pub mod Histories
 pub mod LastMounts
 pub mod Lawful
 pub mod Lists

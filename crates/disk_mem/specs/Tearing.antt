@@ -2,8 +2,8 @@
 use Rattle.std.specs.Prelude.{ℕ, ◌-◌, nat_eq, Bool, true, false, cond, if◌then◌else◌, List, [], ◌∷◌, ◌++◌, length, take, replicate, map, slice_index, Option, Some, None}
 use Rattle.byte_ranges.specs.Lists.{below}
 use Rattle.disk_face.specs.Images.{in_range}
-use Rattle.disk_mem.specs.Changes.{RecordedCall, Stamped, content_after}
-use Rattle.disk_mem.specs.Changes.RecordedCall.{Wrote, Sized, Synced}
+use Rattle.disk_history.specs.Changes.{RecordedCall, Stamped, content_after}
+use Rattle.disk_history.specs.Changes.RecordedCall.{Wrote, Sized, Synced}
 use Rattle.disk_mem.specs.declared.image.Choice.{Choice}
 use Rattle.disk_mem.specs.declared.image.Choice.TheVariants.{Durable, Newest, Torn}
 

@@ -3,9 +3,9 @@ use Rattle.std.specs.Prelude.{ℕ, nat_le, nat_eq, if◌then◌else◌, cond, Li
 use Rattle.byte_ranges.specs.Lists.{below}
 use Rattle.disk_face.specs.Counts.{counted}
 use Rattle.disk_face.specs.Images.{Unsynced, IsImage, is_unsynced, with_range}
-use Rattle.disk_mem.specs.Changes.{RecordedCall, Stamped, content_after, unsynced_after, during}
-use Rattle.disk_mem.specs.Changes.RecordedCall.{Wrote, Sized, Synced}
-use Rattle.disk_mem.specs.Histories.{History}
+use Rattle.disk_history.specs.Changes.{RecordedCall, Stamped, content_after, unsynced_after, during}
+use Rattle.disk_history.specs.Changes.RecordedCall.{Wrote, Sized, Synced}
+use Rattle.disk_history.specs.Histories.{History}
 use Rattle.disk_mem.specs.declared.image.Choice.{Choice}
 use Rattle.disk_mem.specs.declared.image.Choice.TheVariants.{Durable, Newest, Torn}
 

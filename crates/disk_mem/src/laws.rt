@@ -1,15 +1,9 @@
-//! What reads give is an image.
+//! What a turn leaves, and how it is built.
 ghost use Rattle.std.specs.Prelude.{◌≡◌, List, ℕ, ◌≤◌};
-ghost use Rattle.disk_face.specs.Images.{IsImage};
-ghost use Rattle.disk_mem.specs.Histories.{History, file_of, unsynced_of, EndedBy, LeftSince};
+ghost use Rattle.disk_history.specs.Histories.{History, EndedBy, LeftSince};
 ghost use Rattle.disk_mem.specs.Turns.{LeftAt, torn};
-ghost use Rattle.disk_mem.specs.Changes.{Stamped, content_after, unsynced_after};
+ghost use Rattle.disk_history.specs.Changes.{Stamped, content_after, unsynced_after};
 ghost use Rattle.disk_mem.specs.Tearing.{smeared_after, up_to_sync, since_sync};
-
-/// What reads give is among the images.
-pub fn what_reads_give_is_an_image()
-    ensures { (h : History) → IsImage (unsynced_of h) (file_of h) }
-{}
 
 /// What was left at a moment of a turn was left since that turn.
 pub fn what_is_left_at_a_turn_is_left_since()

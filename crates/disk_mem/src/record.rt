@@ -1,6 +1,6 @@
 //! The record of the changing calls on a disk in memory.
 ghost use Rattle.std.specs.Prelude.{◌≡◌, ◌≤◌, ◌∷◌, vec_capacity, OnOk, OnErr};
-ghost use Rattle.disk_mem.specs.Changes.RecordedCall.{Wrote, Sized};
+ghost use Rattle.disk_history.specs.Changes.RecordedCall.{Wrote, Sized};
 ghost use Rattle.disk_mem.specs.Entries.{change_of, newest_first};
 
 use crate::replay::make_room;

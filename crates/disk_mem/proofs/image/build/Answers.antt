@@ -1,7 +1,7 @@
 use Rattle.std.specs.Prelude.{option_map, slice_get}
 use Rattle.std.proofs.Common.{◌≡◌, ◌-◌, ◌∙◌, List, ℕ, length, length-drop, ap, sym, refl, arith, take, drop}
 use Rattle.std.proofs.lemmas.List.{take_all}
-use Rattle.disk_mem.specs.Changes.{content_after}
+use Rattle.disk_history.specs.Changes.{content_after}
 use Rattle.disk_mem.specs.Entries.{stamp_of, newest_first}
 use Rattle.disk_mem.specs.Tearing.{finished}
 use Rattle.disk_mem.specs.declared.record.Entry.{Entry}

@@ -1,5 +1,5 @@
 use Rattle.std.proofs.Common.{sym, ◌∙◌, ap}
-use Rattle.disk_mem.specs.Changes.{content_after}
+use Rattle.disk_history.specs.Changes.{content_after}
 use Rattle.disk_mem.proofs.Records.{newest_first_none}
 use Rattle.disk_mem.proofs.Walks.{content_more}
 use Rattle.disk_mem.proofs.image.replay.Goals as goal

@@ -1,5 +1,5 @@
 use Rattle.std.proofs.Common.{◌≡◌, take}
-use Rattle.disk_mem.specs.Changes.{content_after}
+use Rattle.disk_history.specs.Changes.{content_after}
 use Rattle.disk_mem.specs.Entries.{newest_first}
 use Rattle.disk_mem.proofs.image.replay.Given as goal
 

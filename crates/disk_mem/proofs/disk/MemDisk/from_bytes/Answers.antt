@@ -3,7 +3,7 @@ use Rattle.std.proofs.lemmas.Grind.{common_steps}
 use Rattle.disk_face.proofs.ImageLaws.{image_synced}
 use Rattle.disk_face.specs.Moments.{Only}
 use Rattle.disk_mem.specs.Entries.{newest_first}
-use Rattle.disk_mem.specs.Histories.{History, MayLeave, fresh}
+use Rattle.disk_history.specs.Histories.{History, MayLeave, fresh}
 use Rattle.disk_mem.proofs.Records.{newest_first_none}
 use Rattle.disk_mem.proofs.disk.MemDisk.from_bytes.Goals as goal
 

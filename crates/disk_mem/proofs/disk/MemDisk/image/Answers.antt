@@ -1,5 +1,5 @@
 use Rattle.std.proofs.Common.{◌≡◌, List, ℕ, sym, subst, rules}
-use Rattle.disk_mem.specs.Histories.{History, EndedBy}
+use Rattle.disk_history.specs.Histories.{History, EndedBy}
 use Rattle.disk_mem.specs.Turns.{LeftAt, image_at}
 use Rattle.disk_mem.proofs.TurnLaws.{image_at_is_left, left_at_is_since}
 use Rattle.disk_mem.proofs.disk.MemDisk.image.Goals as goal

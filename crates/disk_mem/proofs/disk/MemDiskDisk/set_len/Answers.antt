@@ -1,9 +1,9 @@
 use Rattle.std.proofs.Common.{◌≡◌, ◌∙◌, sym, subst, arith, rules}
 use Rattle.disk_face.specs.Moments.{Follows, ResizedImage}
-use Rattle.disk_mem.specs.Changes.RecordedCall.{Sized}
-use Rattle.disk_mem.specs.Histories.{History, MayLeave, done}
+use Rattle.disk_history.specs.Changes.RecordedCall.{Sized}
+use Rattle.disk_history.specs.Histories.{History, MayLeave, done}
 use Rattle.disk_mem.proofs.CallLaws.{elapsed_done, elapsed_undone, failed, held}
-use Rattle.disk_mem.proofs.HistoryLaws.{Follows_length}
+use Rattle.disk_history.proofs.HistoryLaws.{Follows_length}
 use Rattle.disk_mem.proofs.Steps.{holds_done, holds_undone}
 use Rattle.disk_mem.proofs.disk.MemDiskDisk.set_len.Goals as goal
 

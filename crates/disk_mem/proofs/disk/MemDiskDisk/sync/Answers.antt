@@ -1,6 +1,6 @@
 use Rattle.std.proofs.Common.{refl, arith, rules}
-use Rattle.disk_mem.specs.Changes.RecordedCall.{Synced}
-use Rattle.disk_mem.specs.Histories.{MayLeave}
+use Rattle.disk_history.specs.Changes.RecordedCall.{Synced}
+use Rattle.disk_history.specs.Histories.{MayLeave}
 use Rattle.disk_mem.proofs.CallLaws.{elapsed_done, elapsed_undone, failed, held, no_more_synced, only_synced}
 use Rattle.disk_mem.proofs.Steps.{holds_done, holds_undone}
 use Rattle.disk_mem.proofs.disk.MemDiskDisk.sync.Goals as goal

@@ -8,10 +8,10 @@ use Rattle.disk_face.specs.Counts.{last, counted}
 use Rattle.disk_face.specs.Images.{Unsynced, IsImage}
 use Rattle.disk_face.proofs.ImageLaws.{image_with_range, image_with_length, image_synced, image_after_range, image_after_length}
 use Rattle.disk_face.specs.Moments.{Elapses, Follows, NoMore, Only, ResizedImage}
-use Rattle.disk_mem.specs.Changes.{RecordedCall, Stamped, during, left_by}
-use Rattle.disk_mem.specs.Changes.RecordedCall.{Wrote, Sized, Synced}
-use Rattle.disk_mem.specs.Lawful.{present_is_image}
-use Rattle.disk_mem.specs.Histories.{History, file_of, unsynced_of, MayLeave, done, undone, LeftBefore, LeftSince, EndedBy, history_state}
+use Rattle.disk_history.specs.Changes.{RecordedCall, Stamped, during, left_by}
+use Rattle.disk_history.specs.Changes.RecordedCall.{Wrote, Sized, Synced}
+use Rattle.disk_history.specs.Lawful.{present_is_image}
+use Rattle.disk_history.specs.Histories.{History, file_of, unsynced_of, MayLeave, done, undone, LeftBefore, LeftSince, EndedBy, history_state}
 
 -- an image before a call is one within it
 pub image_during : (change : RecordedCall) (u : Unsynced) (image : List ℕ) → IsImage u image
@@ -35,7 +35,7 @@ EndedBy_later turn later (call ∷ earlier) h (ended, others) =
     (omega (arith, ended, h), EndedBy_later turn later earlier h others)
 
 -- what was left before or within calls that have ended was left before this turn
-before_turn : (base : List ℕ) (t turn : ℕ) (calls : List Stamped) (image : List ℕ) → EndedBy turn calls
+pub before_turn : (base : List ℕ) (t turn : ℕ) (calls : List Stamped) (image : List ℕ) → EndedBy turn calls
     → LeftBefore base t calls image → (t < turn) ⊎ (last ≤ turn)
 before_turn base t turn [] image e left = absurd left
 before_turn base t turn (call ∷ earlier) image (ended, others) (inr left) =

@@ -3,7 +3,7 @@ use Rattle.std.specs.Prelude.{◌⊎◌, ℕ, ◌<◌, ◌≤◌, List, [], ◌�
 use Rattle.disk_face.specs.Counts.{last, counted}
 use Rattle.disk_face.specs.Images.{Unsynced, IsImage}
 use Rattle.disk_face.specs.States.{State}
-use Rattle.disk_mem.specs.Changes.{RecordedCall, Stamped, content_after, unsynced_after, during}
+use Rattle.disk_history.specs.Changes.{RecordedCall, Stamped, content_after, unsynced_after, during}
 
 -- the recorded calls stand with the newest first; a call that found no memory for its record has raised turn
 -- and faults alone

@@ -1,0 +1,124 @@
+//! Handles: making one, feeding it a file, opening and closing its store.
+ghost use Rattle.std.specs.Prelude.{◌≡◌};
+ghost use Rattle.costore_c.specs.Openings.{FeedsFed, IsOpenOf, OpensFed};
+ghost use Rattle.store_handle.specs.declared.Stage.TheVariants as Stage;
+
+use crate::codes::{BAD_NUMBER, CLOSED, DONE, NO_MEMORY, NOT_FED, SHORT, of_opening};
+use disk_image::{Log, Room};
+use erased::Erased;
+use image_store::ImageStore;
+use std::alloc::Global;
+use std::mem;
+use store_handle::{Handle, Held, Stage};
+
+/// Makes a handle with memory for a file of at most `room` bytes and for a log of `log` bytes, and writes its
+/// pointer. The file is empty until it is fed.
+#[unsafe(no_mangle)]
+pub extern "C" fn costore_new(alloc: Global, room: u64, log: u64, out: &mut *mut u8) -> i32 {
+    let Ok(room) = Room::with_room(alloc, room as usize) else {
+        return NO_MEMORY;
+    };
+    let Ok(log) = Log::with_room(alloc, log as usize) else {
+        return NO_MEMORY;
+    };
+    let stage = Stage::Fed(room, log);
+    match Box::new(alloc, Held { stage }) {
+        Ok(held) => {
+            *out = Handle::of(Erased::of(held)).into_ptr();
+            DONE
+        }
+        Err(_) => NO_MEMORY,
+    }
+}
+
+/// Takes in the next bytes of the file, as they are on the device.
+#[unsafe(no_mangle)]
+pub extern "C" fn costore_feed(store: &mut Handle, bytes: &[u8]) -> i32
+    ensures { FeedsFed bytes.now store.old.value.stage store.new.value.stage result }
+{
+    match &mut store.held().stage {
+        Stage::Fed(room, _) => match room.feed(bytes) {
+            Ok(()) => DONE,
+            Err(_) => SHORT,
+        },
+        _ => NOT_FED,
+    }
+}
+
+/// Opens the store in the file that was fed, which is at rest on its device. Where it answers no store the
+/// handle is closed.
+#[unsafe(no_mangle)]
+pub extern "C" fn costore_open(alloc: Global, store: &mut Handle) -> i32
+    ensures { OpensFed store.old.value.stage store.new.value.stage result }
+{
+    let held = store.held();
+    match mem::replace(&mut held.stage, Stage::Closed) {
+        Stage::Fed(room, log) => open_fed(alloc, room, log, &mut held.stage),
+        stage => {
+            held.stage = stage;
+            NOT_FED
+        }
+    }
+}
+
+/// Opens the store in a file that was fed.
+fn open_fed(alloc: Global, room: Room, log: Log, stage: &mut Stage) -> i32
+    ensures { IsOpenOf room log stage.new result }
+{
+    match ImageStore::open(alloc, room, log) {
+        Ok(open) => {
+            *stage = Stage::Open(open);
+            DONE
+        }
+        Err(fault) => {
+            *stage = Stage::Closed;
+            of_opening(&fault)
+        }
+    }
+}
+
+/// Makes a store with no names of an empty file, and opens it.
+#[unsafe(no_mangle)]
+pub extern "C" fn costore_format(alloc: Global, store: &mut Handle, k: u64, names: u64) -> i32 {
+    if !(2 <= k && k <= 64 && 16 <= names && names <= 65536) {
+        return BAD_NUMBER;
+    }
+    let held = store.held();
+    match mem::replace(&mut held.stage, Stage::Closed) {
+        Stage::Fed(room, log) => {
+            if room.end() != 0 {
+                held.stage = Stage::Fed(room, log);
+                return NOT_FED;
+            }
+            match ImageStore::format(alloc, room, log, k, names) {
+                Ok(open) => {
+                    held.stage = Stage::Open(open);
+                    DONE
+                }
+                Err(fault) => of_opening(&fault),
+            }
+        }
+        stage => {
+            held.stage = stage;
+            NOT_FED
+        }
+    }
+}
+
+/// Closes the store, and gives the memory of its file and of its log back.
+#[unsafe(no_mangle)]
+pub extern "C" fn costore_close(store: &mut Handle) -> i32
+    ensures { store.new.value.stage ≡ Stage.Closed }
+{
+    let held = store.held();
+    match mem::replace(&mut held.stage, Stage::Closed) {
+        Stage::Closed => CLOSED,
+        _ => DONE,
+    }
+}
+
+/// Gives the handle back.
+#[unsafe(no_mangle)]
+pub extern "C" fn costore_free(store: Handle) {
+    let _ = store.into_erased().into_box();
+}

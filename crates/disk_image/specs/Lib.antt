@@ -1,0 +1,6 @@
+pub mod Calls
+pub mod Disks
+pub mod Notings
+pub mod Stops
+pub mod Trails
+pub mod Words

@@ -1,0 +1,15 @@
+//! A file in memory as a disk. It makes no call of a system: it changes the bytes and
+//! notes each changing call, so that the caller can make them.
+#![tactic(auto)]
+
+mod bytes;
+mod course;
+mod disk;
+pub mod laws;
+mod log;
+mod room;
+mod trail;
+
+pub use disk::ImageDisk;
+pub use log::Log;
+pub use room::{Room, TooLong};

@@ -1,0 +1,78 @@
+-- A store belongs to its file over a read, and once its log is emptied.
+use Rattle.std.proofs.Common.{◌≡◌, ◌∙◌, rules, sym, subst, inl, inr, ℕ}
+use Rattle.std.specs.Prelude.{Option, None, IsSome}
+use Rattle.disk_face.specs.Frames.{Unchanged}
+use Rattle.disk_face.specs.States as disk
+use Rattle.size_class.specs.declared.TheConstants.{CLASSES}
+use Rattle.disk_image.specs.Disks.{image_state}
+use Rattle.disk_image.specs.Notings.{Noting, emptied}
+use Rattle.store_core.specs.declared.answers.Progress.{Progress}
+use Rattle.store_core.specs.declared.answers.Refusal.{Refusal}
+use Rattle.std.specs.Prelude.{Result, Some}
+use Rattle.store_core.specs.Answers.{AnswersFetch, AnswersRead}
+use Rattle.store_core.specs.Steps.{StepsHalf}
+use Rattle.store_model.specs.Connection.{FlushInHand, IsConnected, IsOver, StoreValue}
+use Rattle.store_model.specs.Halves.{HalfAgrees, IsHalfway, IsReadable, Origin}
+use Rattle.store_model.proofs.HalfLaws.{halfway_read}
+use Rattle.image_store.specs.Embedded.{Embedded, disk_before}
+
+connected_read : {classes : ℕ} {s : StoreValue} {a d : disk.State} → Unchanged a d → IsConnected classes s a
+    → IsConnected classes s d
+connected_read {classes} {s} {a} {d} same c = record {
+  idle = c.idle;
+  over = λ whole told.
+      let was = sym same.stays.told ∙ told in
+      subst (IsOver classes s) (sym (same.same_file was)) (c.over whole was);
+}
+
+pub readable_read : {classes : ℕ} {s new : StoreValue} {a d : disk.State} → new ≡ s → Unchanged a d
+    → IsReadable classes s a → IsReadable classes new d
+readable_read {classes} {s} {new} {a} {d} e same is =
+    subst (λ x. IsReadable classes x d) (sym e) (by_kind is)
+  where
+    by_kind : IsReadable classes s a → IsReadable classes s d
+    by_kind (inl c) = inl (connected_read same c)
+    by_kind (inr h) = inr (halfway_read same h)
+
+no_some : {A P : Type 0} (o : Option A) → IsSome o → o ≡ None → P
+no_some None some none = absurd (search rules)
+no_some (Some x) some none = absurd (search rules)
+
+-- a flush is in hand
+pub halfway_emptied : {s : StoreValue} (n : Noting) {new : Noting} → new ≡ emptied n → IsReadable CLASSES s (image_state n)
+    → IsSome s.in_hand → IsHalfway CLASSES s (image_state new)
+halfway_emptied {s} n {new} e is some =
+    subst (λ (x : Noting). IsHalfway CLASSES s (image_state x)) (sym e) (by_kind is)
+  where
+    by_kind : IsReadable CLASSES s (image_state n) → IsHalfway CLASSES s (image_state (emptied n))
+    by_kind (inl c) = no_some s.in_hand some c.idle
+    by_kind (inr h) = record {
+      hand = h.hand;
+      is = h.is;
+      digests = h.digests;
+      half = λ told. ((h.half told).0, record { flies = (h.half told).1.flies; loose = (h.half told).1.loose });
+    }
+
+-- what a step leaves of a disk that half agreed, by what was seen
+pub steps_seen : {e seen : Embedded} {before : Noting} {new : StoreValue} {now : disk.State}
+    {result : Result Progress Refusal} → seen ≡ e → before ≡ emptied seen.noting
+    → ((h : FlushInHand) (o : Origin) → seen.store.in_hand ≡ Some h
+    → HalfAgrees CLASSES seen.store h o (image_state before)
+    → StepsHalf CLASSES o seen.store new (image_state before) now result)
+    → (h : FlushInHand) (o : Origin) → e.store.in_hand ≡ Some h → HalfAgrees CLASSES e.store h o (disk_before e)
+    → StepsHalf CLASSES o e.store new (disk_before e) now result
+steps_seen {e} {seen} {before} {new} {now} {result} is began half =
+    subst (λ (x : Embedded). (h : FlushInHand) (o : Origin) → x.store.in_hand ≡ Some h
+    → HalfAgrees CLASSES x.store h o (disk_before x)
+    → StepsHalf CLASSES o x.store new (disk_before x) now result) is
+    (subst (λ (n : Noting). (h : FlushInHand) (o : Origin) → seen.store.in_hand ≡ Some h
+    → HalfAgrees CLASSES seen.store h o (image_state n)
+    → StepsHalf CLASSES o seen.store new (image_state n) now result) began half)
+
+-- a fetch answers as a read does
+pub fetch_reads : (refused : Option Refusal) (n : ℕ) (result : Result ℕ Refusal)
+    → AnswersFetch refused n result → AnswersRead refused n result
+fetch_reads None n result (inl ok) = inl ok
+fetch_reads None n result (inr (inl disk)) = inr (inl disk)
+fetch_reads None n result (inr (inr damaged)) = inr (inr (inr damaged))
+fetch_reads (Some why) n result is = is

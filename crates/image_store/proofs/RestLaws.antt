@@ -1,0 +1,100 @@
+-- A store over a file in memory rests on its last checkpoint.
+use Rattle.std.proofs.Common.{ap, rules, ◌≡◌, ◌∙◌, refl, subst, sym, inl, inr, Bool, true, false, ℕ, List}
+use Rattle.std.specs.Prelude.{◌||◌, Option, Some, None, IsSome, IsNone, IsTrue, Ok, Err, OnOk, Result}
+use Rattle.std.proofs.lemmas.Bool.{false≢true}
+use Rattle.disk_face.specs.States as disk
+use Rattle.disk_face.proofs.ImageLaws.{image_synced}
+use Rattle.slot_codec.specs.Choice as choice
+use Rattle.size_class.specs.declared.TheConstants.{CLASSES}
+use Rattle.disk_image.specs.Disks.{image_state}
+use Rattle.disk_image.specs.Notings.{lent}
+use Rattle.map_model.specs.Requests as ask
+use Rattle.map_model.specs.Requests.{Change}
+use Rattle.segment_layout.specs.Books.{is_quiet}
+use Rattle.store_core.specs.declared.answers.Done.{Done}
+use Rattle.store_core.specs.declared.answers.Refusal.{Refusal}
+use Rattle.store_core.specs.Answers.{AnswersChange, is_disk_fault, refused_by}
+use Rattle.store_core.specs.Changes.{NothingChanged}
+use Rattle.store_core.specs.Changing.{IsChange}
+use Rattle.store_core.specs.Keeps.{KeepsNow}
+use Rattle.store_model.specs.Connection.{RestsOnTable, SameOnTable, StoreValue, base_of}
+use Rattle.store_model.specs.Opened.{IsOpening, RestsOnFound, SameOnFound}
+use Rattle.store_model.specs.Quiet.{charges_of}
+use Rattle.image_store.specs.Embedded.{Embedded, disk_before, disk_of}
+use Rattle.image_store.specs.Noted.{RestsOnKept}
+
+by_cases : {A P : Type 0} (o : Option A) → (IsSome o → P) → (IsNone o → P) → P
+by_cases None f g = g (search rules)
+by_cases (Some x) f g = f (search rules)
+
+by_bool : {P : Type 0} (b : Bool) → (b ≡ true → P) → (b ≡ false → P) → P
+by_bool true f g = f refl
+by_bool false f g = g refl
+
+found_itself : (t : choice.SlotTable) (file : List ℕ) → SameOnFound t file file
+found_itself t file = record { same_length = refl; below = λ i low. refl; objects = λ i low j above below. refl }
+
+pub opened_rests : (file : List ℕ) (room log_room : ℕ) (s : Embedded)
+    → IsOpening CLASSES (image_state (lent file room log_room)) (disk_of s) (Ok s.store) → RestsOnKept s
+opened_rests file room log_room s is =
+    let o = is.opened refl in
+    (is.found refl o.table o.m o.b o.found).rests (λ image may.
+    subst (SameOnFound o.table file) (sym (image_synced file image may)) (found_itself o.table file))
+
+none_of : {A : Type 0} (o : Option A) → IsNone o → o ≡ None
+none_of None h = refl
+none_of (Some x) h = absurd (search rules)
+
+or_right : (a b : Bool) → (a || b) ≡ false → b ≡ false
+or_right true b e = absurd (false≢true (sym e))
+or_right false b e = e
+
+-- an answer of a change that is served is Ok, where the disk didn't fail
+served_ok : {P : Type 0} (quiet : Bool) (result : Result Done Refusal) → AnswersChange quiet None result
+    → is_disk_fault result ≡ false → OnOk result P → P
+served_ok quiet (Ok done) answer calm p = p
+served_ok quiet (Err refused) (inl e) calm p = absurd (search rules)
+served_ok quiet (Err refused) (inr e) calm p = absurd (false≢true (sym calm ∙ ap is_disk_fault e))
+
+module _ {old new : StoreValue} {a d : disk.State} (told : IsTrue a.tells) where
+  refused_rests : NothingChanged old new a d → RestsOnTable (base_of old) old.kept a
+      → RestsOnTable (base_of new) new.kept d
+  refused_rests same rests =
+      subst (λ (s : StoreValue). RestsOnTable (base_of s) s.kept d) (sym same.same_store)
+      (λ image may. subst (λ file. SameOnTable (base_of old) old.kept file image)
+      (sym (same.same_disk.same_file told)) (rests image (same.same_disk.images image may)))
+
+  pub change_rests : (c : Change) (result : Result Done Refusal) → IsChange CLASSES c old new a d result
+      → new.is_broken ≡ false → RestsOnTable (base_of old) old.kept a → RestsOnTable (base_of new) new.kept d
+  change_rests c result is whole rests = by_cases (refused_by old (ask.change c))
+      (λ h. refused_rests (is.refused h) rests)
+      (λ h. by_bool (is_quiet (charges_of old c)) (λ q. quiet_rests h q) (λ q. flush_rests h q))
+    where
+      calm : is_disk_fault result ≡ false
+      calm = or_right old.is_broken (is_disk_fault result) (sym is.broken ∙ whole)
+
+      answers : IsNone (refused_by old (ask.change c)) → AnswersChange (is_quiet (charges_of old c)) None result
+      answers h = subst (λ o. AnswersChange (is_quiet (charges_of old c)) o result) (none_of (refused_by old (ask.change c)) h) is.answer
+
+      quiet_rests : IsNone (refused_by old (ask.change c)) → is_quiet (charges_of old c) ≡ true
+          → RestsOnTable (base_of new) new.kept d
+      quiet_rests h q =
+          let value = served_ok (is_quiet (charges_of old c)) result (answers h) calm (is.quiet h q).value in
+          subst (λ (s : StoreValue). RestsOnTable (base_of s) s.kept d) (sym value.rest)
+          ((is.quiet h q).rests told rests)
+
+      flush_rests : IsNone (refused_by old (ask.change c)) → is_quiet (charges_of old c) ≡ false
+          → RestsOnTable (base_of new) new.kept d
+      flush_rests h q = served_ok (is_quiet (charges_of old c)) result (answers h) calm
+          ((is.flush h q).on_table told)
+
+  pub keep_rests : (result : Result Done Refusal)
+      → (IsSome (refused_by old ask.keep) → NothingChanged old new a d)
+      → (IsNone (refused_by old ask.keep) → KeepsNow CLASSES old new a d result)
+      → new.is_broken ≡ false → RestsOnTable (base_of old) old.kept a → RestsOnTable (base_of new) new.kept d
+  keep_rests result refused kept whole rests = by_cases (refused_by old ask.keep)
+      (λ h. refused_rests (refused h) rests) (λ h. by_result result (kept h))
+    where
+      by_result : (r : Result Done Refusal) → KeepsNow CLASSES old new a d r → RestsOnTable (base_of new) new.kept d
+      by_result (Ok done) k = k.on_table told
+      by_result (Err why) k = absurd (false≢true (sym whole ∙ ap (λ (s : StoreValue). s.is_broken) k.failed))

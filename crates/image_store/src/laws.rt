@@ -1,0 +1,55 @@
+//! What follows of the calls that a store over a file in memory has noted.
+ghost use Rattle.std.specs.Prelude.{◌≡◌, ◌<◌, ◌-◌, ◌^◌, ℕ, List, false, Ok, Result, IsSome, IsNone};
+ghost use Rattle.disk_image.specs.Disks.{image_state};
+ghost use Rattle.disk_image.specs.Notings.{lent};
+ghost use Rattle.size_class.specs.declared.TheConstants.{CLASSES};
+ghost use Rattle.map_model.specs.Requests as ask;
+ghost use Rattle.map_model.specs.Requests.{Change};
+ghost use Rattle.store_core.specs.declared.answers.Done.{Done};
+ghost use Rattle.store_core.specs.declared.answers.Refusal.{Refusal};
+ghost use Rattle.store_core.specs.Answers.{refused_by};
+ghost use Rattle.store_core.specs.Changes.{NothingChanged};
+ghost use Rattle.store_core.specs.Changing.{IsChange};
+ghost use Rattle.store_core.specs.Keeps.{KeepsNow, OpensToKeptOrNow};
+ghost use Rattle.store_model.specs.Opened.{IsOpening};
+ghost use Rattle.image_store.specs.Embedded.{Embedded, disk_before, disk_of, file_in};
+ghost use Rattle.image_store.specs.Noted.{IsChangeImage, IsNoted, RestsOnKept, StopsAt};
+
+/// Where the calls that a put or a removal noted are made in order on its file and that stops, before, within
+/// or after one of them, a crash leaves what it might have left before the call, or what opens to the last
+/// checkpoint or to what stands after.
+pub fn a_stopped_change_opens()
+    ensures { (c : Change) (old new : Embedded) (result : Result Done Refusal)
+        → IsChange CLASSES c old.store new.store (disk_before old) (disk_of new) result → IsNoted old new
+        → RestsOnKept old → old.noting.history.turn < 2 ^ 64 - 1 → StopsAt old new (IsChangeImage c old) }
+{}
+
+/// The same of a keep.
+pub fn a_stopped_keep_opens()
+    ensures { (old new : Embedded) (result : Result Done Refusal)
+        → (IsSome (refused_by old.store ask.keep)
+        → NothingChanged old.store new.store (disk_before old) (disk_of new))
+        → (IsNone (refused_by old.store ask.keep)
+        → KeepsNow CLASSES old.store new.store (disk_before old) (disk_of new) result) → IsNoted old new
+        → RestsOnKept old → old.noting.history.turn < 2 ^ 64 - 1
+        → StopsAt old new (OpensToKeptOrNow CLASSES old.store (file_in old)) }
+{}
+
+/// A store that was opened of a file at rest rests on its checkpoint.
+pub fn an_opened_store_rests()
+    ensures { (file : List ℕ) (room log_room : ℕ) (s : Embedded)
+        → IsOpening CLASSES (image_state (lent file room log_room)) (disk_of s) (Ok s.store) → RestsOnKept s }
+{}
+
+/// It rests on it after each put, removal and keep by which it isn't broken.
+pub fn a_store_goes_on_to_rest()
+    ensures change { (c : Change) (old new : Embedded) (result : Result Done Refusal)
+        → IsChange CLASSES c old.store new.store (disk_before old) (disk_of new) result
+        → new.store.is_broken ≡ false → RestsOnKept old → RestsOnKept new }
+    ensures keep { (old new : Embedded) (result : Result Done Refusal)
+        → (IsSome (refused_by old.store ask.keep)
+        → NothingChanged old.store new.store (disk_before old) (disk_of new))
+        → (IsNone (refused_by old.store ask.keep)
+        → KeepsNow CLASSES old.store new.store (disk_before old) (disk_of new) result)
+        → new.store.is_broken ≡ false → RestsOnKept old → RestsOnKept new }
+{}

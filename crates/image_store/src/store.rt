@@ -1,0 +1,106 @@
+//! A store and its file.
+ghost use Rattle.std.specs.Prelude.{◌≡◌, ◌↔◌, [], length, IfErr, IfOk, IsSome, IsTrue, Ok};
+ghost use Rattle.size_class.specs.declared.TheConstants.{CLASSES};
+ghost use Rattle.disk_image.specs.Disks.{image_state};
+ghost use Rattle.disk_image.specs.Notings.{lent};
+ghost use Rattle.reopen.specs.Refusals.{RefusesToOpen};
+ghost use Rattle.slot_codec.specs.Readable.{IsSuperBlock};
+ghost use Rattle.slot_pair.specs.Formats.{block_for};
+ghost use Rattle.store_model.specs.Opened.{IsOpening};
+
+use disk_image::{ImageDisk, Log, Room};
+use reopen::OpenFault;
+use size_class::CLASSES;
+use slot_pair::{SlotFault, SlotPair};
+use std::alloc::Global;
+use std::marker::Model;
+use store_core::Store;
+
+/// A store over the file at the front of a room, whose calls are noted in a log.
+#[derive(Drop)]
+pub struct ImageStore {
+    pub(crate) store: Store<CLASSES>,
+    pub(crate) disk: ImageDisk,
+}
+
+impl Model for ImageStore {
+    ghost use Rattle.image_store.specs.Codes.{embedded_code};
+    ghost use Rattle.image_store.specs.Embedded.{Embedded, IsEmbedded};
+
+    ghost Value = { Embedded };
+
+    ghost coded = { embedded_code };
+
+    ghost view = { λ s. record { store = s.store; noting = s.disk } };
+
+    ghost invariant = { λ s. IsEmbedded (record { store = s.store; noting = s.disk }) };
+}
+
+impl ImageStore {
+    ghost use Rattle.image_store.specs.Embedded.{disk_of, file_in};
+
+    /// Opens the store in a file that was fed whole and is at rest on its device. The log has the calls of
+    /// the opening, if it cut the file or went on with a flush.
+    pub fn open(alloc: Global, room: Room, log: Log) -> Result<ImageStore, OpenFault>
+        ensures opened { IfOk result (λ s. IsOpening CLASSES
+            (image_state (lent room.bytes.items room.most (length log.text.items))) (disk_of s) (Ok s.store)) }
+        ensures refused { IfErr result (RefusesToOpen CLASSES room.bytes.items) }
+    {
+        let mut disk = ImageDisk::new(room, log);
+        let opened: Result<Store<CLASSES>, OpenFault> = Store::open(alloc, &mut disk);
+        match opened {
+            Ok(store) => Ok(ImageStore { store, disk }),
+            Err(fault) => Err(fault),
+        }
+    }
+
+    /// Makes a store with no names of a file of length 0, and opens it. The log has the calls of both.
+    pub fn format(
+        alloc: Global,
+        room: Room,
+        log: Log,
+        k: u64,
+        names: u64,
+    ) -> Result<ImageStore, OpenFault>
+        requires ranges { IsSuperBlock (block_for k names) }
+        requires empty { room.bytes.items ≡ [] }
+    {
+        let mut disk = ImageDisk::new(room, log);
+        if SlotPair::format(&mut disk, k, names).is_err() {
+            return Err(OpenFault::Slot(SlotFault::Disk));
+        }
+        let opened: Result<Store<CLASSES>, OpenFault> = Store::open(alloc, &mut disk);
+        match opened {
+            Ok(store) => Ok(ImageStore { store, disk }),
+            Err(fault) => Err(fault),
+        }
+    }
+
+    /// Whether a flush is in hand.
+    pub fn in_hand(&self) -> bool
+        ensures { IsTrue result ↔ IsSome self.now.store.in_hand }
+    {
+        self.store.in_hand()
+    }
+
+    /// The number of bytes in the file.
+    pub fn end(&self) -> u64
+        ensures { result ≡ length (file_in self.now) }
+    {
+        self.disk.end() as u64
+    }
+
+    /// What the log spells.
+    pub fn text(&self) -> &[u8]
+        ensures { result.now ≡ self.now.noting.text }
+    {
+        self.disk.text()
+    }
+
+    /// The bytes of the file.
+    pub fn bytes(&self) -> &[u8]
+        ensures { result.now ≡ file_in self.now }
+    {
+        self.disk.bytes()
+    }
+}

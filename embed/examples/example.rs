@@ -1,0 +1,39 @@
+//! A Rust program that links the library: it makes a store in memory, puts an object and reads it again. What it would
+//! make on its file stands in the log.
+use std::os::raw::c_void;
+
+#[repr(C)]
+struct Store {
+    at: *mut c_void,
+}
+
+#[link(name = "costore", kind = "static")]
+extern "C" {
+    fn costore_new(room: u64, log: u64, at: *mut *mut c_void) -> i32;
+    fn costore_format(store: *mut Store, k: u64, names: u64) -> i32;
+    fn costore_put(store: *mut Store, name: *const u8, n: usize, object: *const u8, m: usize) -> i32;
+    fn costore_keep(store: *mut Store) -> i32;
+    fn costore_get(store: *mut Store, name: *const u8, n: usize, out: *mut u8, m: usize, size: *mut u64) -> i32;
+    fn costore_lengths(store: *mut Store, log: *mut u64, file: *mut u64) -> i32;
+    fn costore_free(store: Store);
+}
+
+fn main() {
+    let mut store = Store { at: std::ptr::null_mut() };
+    let name = b"hello";
+    let object = b"world";
+    let mut out = [0u8; 64];
+    let (mut size, mut log, mut file) = (0u64, 0u64, 0u64);
+    // The pointers are those of slices and locals, with their lengths; the handle is used by one call at a time.
+    unsafe {
+        println!("new {}", costore_new(1 << 22, 1 << 20, &mut store.at));
+        println!("format {}", costore_format(&mut store, 9, 1024));
+        costore_put(&mut store, name.as_ptr(), name.len(), object.as_ptr(), object.len());
+        println!("keep {}", costore_keep(&mut store));
+        costore_lengths(&mut store, &mut log, &mut file);
+        println!("the log has {log} bytes");
+        let code = costore_get(&mut store, name.as_ptr(), name.len(), out.as_mut_ptr(), out.len(), &mut size);
+        println!("get {code} {}", String::from_utf8_lossy(&out[..size as usize]));
+        costore_free(store);
+    }
+}

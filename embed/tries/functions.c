@@ -1,0 +1,161 @@
+/* Calls each function of the library once and more, and compares what it answers: functions FILE. */
+#define _GNU_SOURCE
+#include "costore_file.h"
+
+#include <stdio.h>
+#include <stdlib.h>
+#include <string.h>
+#include <unistd.h>
+
+#define TEXT(text) (const uint8_t *)(text), strlen(text)
+
+static int passed, failed;
+
+static void is(const char *what, int64_t found, int64_t wanted) {
+    if (found == wanted) {
+        passed++;
+    } else {
+        failed++;
+        printf("functions: failed: %s: %lld, not %lld\n", what, (long long)found, (long long)wanted);
+    }
+}
+
+static void changes(costore_file_t *f) {
+    uint8_t out[4096], object[3000];
+    uint64_t size = 0, log = 0, length = 0;
+    costore_counts counts;
+    memset(object, 'x', sizeof object);
+    is("put", costore_file_put(f, TEXT("a"), TEXT("one")) >= 0, 1);
+    is("keep", costore_file_keep(f), COSTORE_KEPT);
+    is("size", costore_size(&f->store, TEXT("a"), &size), COSTORE_DONE);
+    is("size of a", (int64_t)size, 3);
+    is("get", costore_get(&f->store, TEXT("a"), out, sizeof out, &size), COSTORE_DONE);
+    is("bytes of a", memcmp(out, "one", 3), 0);
+    is("get, too short", costore_get(&f->store, TEXT("a"), out, 2, &size), COSTORE_SHORT);
+    is("get, missing", costore_get(&f->store, TEXT("b"), out, sizeof out, &size), COSTORE_MISSING);
+    is("get, no name", costore_get(&f->store, TEXT("a b"), out, sizeof out, &size), COSTORE_BAD_NAME);
+    is("del", costore_file_del(f, TEXT("a")) >= 0, 1);
+    is("del, missing", costore_file_del(f, TEXT("a")), COSTORE_MISSING);
+    is("back", costore_back(&f->store), COSTORE_DONE);
+    is("old", costore_old(&f->store, TEXT("a"), out, sizeof out, &size) == COSTORE_DONE
+                  || size == 3, 1);
+    is("stat", costore_stat(&f->store, &counts), COSTORE_DONE);
+    is("names", (int64_t)counts.names, (int64_t)counts.kept_names);
+    is("begin", costore_file_begin_put(f, TEXT("big"), object, sizeof object), COSTORE_IN_HAND);
+    is("in hand", costore_in_hand(&f->store), 1);
+    is("put, busy", costore_put(&f->store, TEXT("c"), TEXT("d")), COSTORE_BUSY);
+    is("get, in hand", costore_get(&f->store, TEXT("big"), out, sizeof out, &size), COSTORE_DONE);
+    is("bytes of big", memcmp(out, object, sizeof object), 0);
+    for (int step = 0; costore_in_hand(&f->store); step++)
+        is("step", costore_file_step(f) >= COSTORE_KEPT, 1);
+    is("step, idle", costore_step(&f->store), COSTORE_IDLE);
+    is("begin to remove", costore_file_begin_del(f, TEXT("big")) >= 0, 1);
+    while (costore_in_hand(&f->store))
+        is("step", costore_file_step(f) >= COSTORE_KEPT, 1);
+    is("list", costore_list(&f->store, out, sizeof out, &size), COSTORE_DONE);
+    is("list, too short", costore_list(&f->store, out, 1, &size) != COSTORE_BROKEN, 1);
+    is("lengths", costore_lengths(&f->store, &log, &length), COSTORE_DONE);
+    is("log, too long", costore_log(&f->store, log, out, 1), COSTORE_SHORT);
+    is("file", costore_file(&f->store, 0, out, 8), COSTORE_DONE);
+}
+
+/* The texts of the log, the list and the file, and the numbers of what there is. */
+static void texts(costore_file_t *f) {
+    uint8_t out[256], byte;
+    uint64_t size = 0, log = 0, length = 0;
+    costore_counts counts;
+    is("put of a", costore_file_put(f, TEXT("a"), TEXT("one")) >= COSTORE_DONE, 1);
+    is("put of b", costore_file_put(f, TEXT("b"), TEXT("four")) >= COSTORE_DONE, 1);
+    is("list", costore_list(&f->store, out, sizeof out, &size), COSTORE_DONE);
+    is("size of the list", (int64_t)size, 8);
+    is("text of the list", memcmp(out, "a 3\nb 4\n", 8), 0);
+    is("keep", costore_file_keep(f), COSTORE_KEPT);
+    is("stat", costore_stat(&f->store, &counts), COSTORE_DONE);
+    is("names", (int64_t)counts.names, 2);
+    is("bytes", (int64_t)counts.bytes, 7);
+    is("kept names", (int64_t)counts.kept_names, 2);
+    is("kept bytes", (int64_t)counts.kept_bytes, 7);
+    is("old", costore_old(&f->store, TEXT("b"), out, sizeof out, &size), COSTORE_DONE);
+    is("size of old", (int64_t)size, 4);
+    is("bytes of old", memcmp(out, "four", 4), 0);
+    is("old, too short", costore_old(&f->store, TEXT("b"), out, 3, &size), COSTORE_SHORT);
+    is("lengths", costore_lengths(&f->store, &log, &length), COSTORE_DONE);
+    is("last entry", costore_log(&f->store, log - COSTORE_ENTRY_HEAD, out, COSTORE_ENTRY_HEAD), COSTORE_DONE);
+    is("its kind", out[0], 3);
+    is("file", costore_file(&f->store, 0, out, 8), COSTORE_DONE);
+    is("first bytes", memcmp(out, "COSTORE1", 8), 0);
+    is("byte of the file", pread(f->fd, &byte, 1, (off_t)length - 1), 1);
+    is("last byte", costore_file(&f->store, length - 1, out, 1), COSTORE_DONE);
+    is("is that of the file", out[0], byte);
+    is("file, too long", costore_file(&f->store, length, out, 1), COSTORE_SHORT);
+}
+
+/* A change that is done and not kept is no more after a way back. */
+static void back(costore_file_t *f) {
+    uint8_t out[64], name[16];
+    uint64_t size;
+    costore_counts counts;
+    size_t n = 0;
+    int32_t code = COSTORE_KEPT;
+    for (int i = 0; i < 50 && code == COSTORE_KEPT; i++) {
+        n = (size_t)sprintf((char *)name, "q%d", i);
+        code = costore_file_put(f, name, n, (const uint8_t *)"", 0);
+    }
+    is("quiet put", code, COSTORE_DONE);
+    is("stat", costore_stat(&f->store, &counts), COSTORE_DONE);
+    is("one more name", (int64_t)counts.names, (int64_t)counts.kept_names + 1);
+    is("old", costore_old(&f->store, name, n, out, sizeof out, &size), COSTORE_MISSING);
+    is("size", costore_size(&f->store, name, n, &size), COSTORE_DONE);
+    is("back", costore_back(&f->store), COSTORE_DONE);
+    is("size, gone", costore_size(&f->store, name, n, &size), COSTORE_MISSING);
+}
+
+/* A log that is too small: nothing is made on the file, the store is broken, and the file opens as it was. */
+static void small(const char *path) {
+    costore_file_t f;
+    uint8_t object[2000] = {0}, out[16];
+    uint64_t size;
+    is("open, small log", costore_file_open(&f, path, 1 << 22, 1000), COSTORE_DONE);
+    is("put, log too small", costore_file_put(&f, TEXT("z"), object, sizeof object), COSTORE_DISK);
+    is("put, broken", costore_file_put(&f, TEXT("z"), TEXT("z")), COSTORE_BROKEN);
+    is("get, broken", costore_get(&f.store, TEXT("a"), out, sizeof out, &size), COSTORE_BROKEN);
+    is("close", costore_close(&f.store), COSTORE_DONE);
+    is("close, closed", costore_close(&f.store), COSTORE_CLOSED);
+    is("put, closed", costore_put(&f.store, TEXT("z"), TEXT("z")), COSTORE_CLOSED);
+    is("feed, closed", costore_feed(&f.store, out, 1), COSTORE_NOT_FED);
+    is("open, closed", costore_open(&f.store), COSTORE_NOT_FED);
+    costore_file_close(&f);
+}
+
+int main(int argc, char **argv) {
+    costore_file_t f, other;
+    costore bare = {0};
+    uint64_t room, log;
+    if (argc != 2)
+        return 2;
+    is("need", costore_need(9, 64, 1000, 100, &room, &log), COSTORE_DONE);
+    is("need of log", (int64_t)log, 100 + 17 + 8490 + 80 * 64 + 17 * 9);
+    is("need, bad number", costore_need(1, 64, 1000, 100, &room, &log), COSTORE_BAD_NUMBER);
+    is("new", costore_new(8, 8, &bare.at), COSTORE_DONE);
+    is("format, bad number", costore_format(&bare, 1, 1024), COSTORE_BAD_NUMBER);
+    is("feed, too long", costore_feed(&bare, TEXT("123456789")), COSTORE_SHORT);
+    is("feed", costore_feed(&bare, TEXT("12345678")), COSTORE_DONE);
+    is("format, not empty", costore_format(&bare, 9, 1024), COSTORE_NOT_FED);
+    is("open, no store", costore_open(&bare), COSTORE_NO_STORE);
+    costore_free(bare);
+    is("format", costore_file_format(&f, argv[1], 9, 64, 1 << 22, 1 << 20), COSTORE_DONE);
+    texts(&f);
+    back(&f);
+    costore_file_close(&f);
+    is("unlink", unlink(argv[1]), 0);
+    is("format another", costore_file_format(&f, argv[1], 9, 64, 1 << 22, 1 << 20), COSTORE_DONE);
+    is("locked", costore_file_open(&other, argv[1], 1 << 22, 1 << 20), COSTORE_LOCKED);
+    changes(&f);
+    costore_file_close(&f);
+    is("format again", costore_file_format(&f, argv[1], 9, 64, 1 << 22, 1 << 20), COSTORE_NOT_FED);
+    small(argv[1]);
+    is("open again", costore_file_open(&f, argv[1], 1 << 22, 1 << 20), COSTORE_DONE);
+    costore_file_close(&f);
+    printf("%d passed, %d failed\n", passed, failed);
+    return failed != 0;
+}

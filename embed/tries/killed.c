@@ -1,0 +1,189 @@
+/* Runs drawn sessions that are killed within a replay, and opens each file again: killed FOLDER RUNS. What it then
+   has is the last checkpoint that was acknowledged, or what stood after the request that was under way. */
+#define _GNU_SOURCE
+#include "costore_file.h"
+
+#include <signal.h>
+#include <stdio.h>
+#include <stdlib.h>
+#include <string.h>
+#include <sys/wait.h>
+#include <unistd.h>
+
+enum { NAMES = 40, MOST = 3000, REQUESTS = 400 };
+
+/* In half of the runs each change is made by steps, in a room and with a log of just what these need. */
+static uint64_t room, log_room;
+
+static int by_steps(unsigned run) {
+    return run % 2;
+}
+
+static void measure(unsigned run) {
+    costore_need(9, 64, NAMES * MOST, MOST, &room, &log_room);
+    if (!by_steps(run))
+        log_room = 1 << 22;
+}
+
+/* A map: of each name the size and the seed of its bytes, or -1. */
+typedef struct map_t {
+    int size[NAMES];
+    unsigned seed[NAMES];
+} map_t;
+
+static unsigned drawn(unsigned *state) {
+    *state = *state * 1664525u + 1013904223u;
+    return *state >> 8;
+}
+
+static size_t name_of(int which, uint8_t *name) {
+    return (size_t)sprintf((char *)name, "name%d", which);
+}
+
+static void bytes_of(unsigned seed, int size, uint8_t *out) {
+    for (int i = 0; i < size; i++)
+        out[i] = (uint8_t)(drawn(&seed) & 0xff);
+}
+
+/* The request of a number: which name, and the object, or -1 to remove it, or -2 to keep. */
+static void request(unsigned run, int number, int *which, int *size, unsigned *seed) {
+    unsigned state = run * 7919u + (unsigned)number * 104729u + 1;
+    drawn(&state);
+    *which = (int)(drawn(&state) % NAMES);
+    *seed = drawn(&state);
+    unsigned kind = drawn(&state) % 12;
+    *size = kind == 0 ? -2 : kind < 4 ? -1 : (int)(drawn(&state) % MOST);
+}
+
+static int moments, last_moment;
+
+static void tick(void *with) {
+    (void)with;
+    if (++moments >= last_moment)
+        kill(getpid(), SIGKILL);
+}
+
+/* One request, by steps or as one call; the answer is that of its last call. */
+static int32_t serve(costore_file_t *f, unsigned run, int number) {
+    uint8_t name[64], object[MOST];
+    int which, size;
+    unsigned seed;
+    int32_t code;
+    request(run, number, &which, &size, &seed);
+    size_t n = name_of(which, name);
+    if (size == -2)
+        return costore_file_keep(f);
+    if (size >= 0)
+        bytes_of(seed, size, object);
+    if (!by_steps(run) && number % 2 == 0)
+        return size < 0 ? costore_file_del(f, name, n) : costore_file_put(f, name, n, object, (size_t)size);
+    code = size < 0 ? costore_file_begin_del(f, name, n)
+                    : costore_file_begin_put(f, name, n, object, (size_t)size);
+    while (code == COSTORE_IN_HAND || code == COSTORE_MOVED)
+        code = costore_file_step(f);
+    return code;
+}
+
+static void change(map_t *m, unsigned run, int number) {
+    int which, size;
+    unsigned seed;
+    request(run, number, &which, &size, &seed);
+    if (size == -2)
+        return;
+    m->size[which] = size;
+    m->seed[which] = seed;
+}
+
+static int same(costore *store, const map_t *m) {
+    uint8_t name[64], object[MOST], out[MOST];
+    uint64_t size;
+    for (int i = 0; i < NAMES; i++) {
+        size_t n = name_of(i, name);
+        int32_t code = costore_get(store, name, n, out, sizeof out, &size);
+        if (m->size[i] < 0) {
+            if (code != COSTORE_MISSING)
+                return 0;
+            continue;
+        }
+        bytes_of(m->seed[i], m->size[i], object);
+        if (code != COSTORE_DONE || size != (uint64_t)m->size[i] || memcmp(out, object, size))
+            return 0;
+    }
+    return 1;
+}
+
+/* One run: a child serves requests, says which it has served, and is killed. */
+static const char *try(const char *path, unsigned run) {
+    costore_file_t f;
+    int ends[2];
+    struct { int number; int32_t code; } said;
+    map_t now, kept, next;
+    unsigned state = run + 77;
+    measure(run);
+    unlink(path);
+    if (costore_file_format(&f, path, 9, 64, room, log_room) != COSTORE_DONE)
+        return "format";
+    costore_file_close(&f);
+    last_moment = 1 + (int)(drawn(&state) % 3000);
+    if (pipe(ends))
+        return "pipe";
+    pid_t child = fork();
+    if (child == 0) {
+        if (costore_file_open(&f, path, room, log_room) != COSTORE_DONE)
+            _exit(1);
+        f.before = tick;
+        for (int i = 0; i < REQUESTS; i++) {
+            said.number = i;
+            said.code = serve(&f, run, i);
+            if (write(ends[1], &said, sizeof said) != sizeof said)
+                _exit(1);
+        }
+        _exit(0);
+    }
+    close(ends[1]);
+    for (int i = 0; i < NAMES; i++)
+        now.size[i] = -1;
+    kept = now;
+    int done = 0;
+    while (read(ends[0], &said, sizeof said) == sizeof said) {
+        if (said.code >= COSTORE_DONE)
+            change(&now, run, said.number);
+        else if (said.code != COSTORE_MISSING)
+            return "a request was refused";
+        if (said.code == COSTORE_KEPT)
+            kept = now;
+        done = said.number + 1;
+    }
+    close(ends[0]);
+    int status;
+    waitpid(child, &status, 0);
+    next = now;
+    if (done < REQUESTS)
+        change(&next, run, done);
+    if (costore_file_open(&f, path, room, log_room) != COSTORE_DONE)
+        return "the file doesn't open";
+    const char *wrong = same(&f.store, &kept) || (done < REQUESTS && same(&f.store, &next)) ? NULL : "another map";
+    if (!wrong && costore_file_keep(&f) != COSTORE_KEPT)
+        wrong = "it can't go on";
+    costore_file_close(&f);
+    return wrong;
+}
+
+int main(int argc, char **argv) {
+    int passed = 0, failed = 0;
+    char path[4096];
+    if (argc != 3)
+        return 2;
+    snprintf(path, sizeof path, "%s/killed", argv[1]);
+    for (int run = 0; run < atoi(argv[2]); run++) {
+        const char *wrong = try(path, (unsigned)run);
+        if (!wrong) {
+            passed++;
+        } else {
+            failed++;
+            printf("killed: failed: run %d: %s\n", run, wrong);
+        }
+    }
+    printf("%d passed, %d failed\n", passed, failed);
+    return failed != 0;
+}
