@@ -1,8 +1,9 @@
 -- Puts and removals that a desk takes, and the flush that one begins.
-use Rattle.std.specs.Prelude.{◌≡◌, ℕ, ◌+◌, ◌*◌, nat_lt, Bool, true, false, ◌||◌, codes, Option, Some, None, Result, Ok, Err, IfOk, IfSome, IsTrue, refl, ◌≤◌, if◌then◌else◌, List, [], length, IsSome}
+use Rattle.std.specs.Prelude.{◌≡◌, ◌⊎◌, ℕ, ◌+◌, ◌*◌, nat_lt, Bool, true, false, ◌||◌, codes, Option, Some, None, Result, Ok, Err, IfOk, IfSome, IsTrue, refl, ◌≤◌, if◌then◌else◌, List, [], length, IsSome}
 use Rattle.std.proofs.Common.{arith, ap, sym, ◌∙◌, subst, inr, inl}
 use Rattle.std.specs.FinMap as fin
 use Rattle.disk_face.specs.Devices.{devices}
+use Rattle.disk_face.proofs.MomentLaws.{Leaves-weaken}
 use Rattle.disk_face.specs.States as disk
 use Rattle.disk_face.specs.Streams.{SinkState}
 use Rattle.slot_codec.specs.Choice.{InUse}
@@ -14,8 +15,8 @@ use Rattle.store_core.specs.declared.answers.Begun.{Begun}
 use Rattle.store_core.specs.declared.answers.Begun.TheVariants as begun
 use Rattle.store_core.specs.declared.answers.Refusal.{Refusal}
 use Rattle.store_core.specs.Answers.{refused_by}
-use Rattle.store_core.specs.Begins.{BeginsChange, BeginsFlush, HoldsFlush, begun_reply}
-use Rattle.store_core.specs.Flushes.{map_after, names_after}
+use Rattle.store_core.specs.Begins.{BeginsChange, BeginsFlush, HoldsFlush, begun_reply, origin_of}
+use Rattle.store_core.specs.Flushes.{IsFlushImage, map_after, names_after}
 use Rattle.store_core.proofs.CauseLaws.{calm_disk}
 use Rattle.store_core.proofs.MadeFlushLaws.{len_after}
 use Rattle.store_core.proofs.QuietLaws.{quiet_by_book}
@@ -40,10 +41,12 @@ use Rattle.desk_model.specs.Answers as answer
 use Rattle.desk_model.specs.Answers.{Answer}
 use Rattle.desk_model.specs.Desks.{Desk, Flush, TakesIf, begins, flush_by, with_queue}
 use Rattle.desk_model.specs.Events.{line_for}
+use Rattle.desk_core.specs.Images.{BeganAt, Checkpoint, LeavesFrom, OpensTo, RestsFrom, kept_of, settled_of}
 use Rattle.desk_core.specs.Playing.{TakesRequest, CallsOnce}
-use Rattle.desk_core.specs.Shows.{ShowsFlush}
+use Rattle.desk_core.specs.Shows.{ShowsFlush, ShowsStore}
 use Rattle.desk_core.specs.Telling.{PutsAll, PutsReply, TellsBegun}
-use Rattle.desk_core.proofs.StepLaws.{no_hand, same_hand}
+use Rattle.desk_core.proofs.HandLaws.{no_hand, same_hand}
+use Rattle.desk_core.proofs.ImageLaws.{opens_with, settled_idle}
 use Rattle.desk_core.proofs.TakeLaws.{answer_takes, line_plain, plain_begins, refused_plain}
 
 -- ---- a change that isn't quiet
@@ -187,6 +190,42 @@ module _ {C : ℕ} (session : ℕ) (c : Change) (s new : StoreValue) (of : ℕ) 
               ∙ sym (book_is c s a over can.sound can.whole new hand held told);
         })
 
+    -- what is left meanwhile opens to the last checkpoint, or to what stands after the change
+    begins_image : IsTrue a.tells → (image : List ℕ) → IsFlushImage C s c a.file image
+        → OpensTo C (kept_of (state_of s a.file)) image
+        ⊎ OpensTo C (kept_of (served (limits_of s) (state_of s a.file) r).state) image
+    begins_image told image is = elim is.opens as (λ _. OpensTo C (kept_of (state_of s a.file)) image
+        ⊎ OpensTo C (kept_of (served (limits_of s) (state_of s a.file) r).state) image) [
+          | inl kept ↦ inl kept
+          | inr now ↦ let l = flushed told in
+              inr (opens_with image (l.kept ∙ l.map) (l.kept_book ∙ l.book) now)
+        ]
+
+    begins_leaves : IsTrue a.tells → (desk : Desk) → ShowsStore s of a.file desk → (k : Checkpoint)
+        → RestsFrom C s a k
+        → LeavesFrom C new a d (settled_of k desk)
+        (kept_of (served (limits_of s) desk.state r).state) result
+    begins_leaves told desk shown k rests =
+        subst (λ (y : Checkpoint). LeavesFrom C new a d y (kept_of (served (limits_of s) desk.state r).state)
+        result) (sym (settled_idle s of a.file desk shown k can.idle))
+        (subst (λ (t : State). LeavesFrom C new a d (kept_of (state_of s a.file))
+        (kept_of (served (limits_of s) t r).state) result) (sym (shown.idle can.idle).1) (record {
+          left = Leaves-weaken (λ image. OpensTo C (kept_of (state_of s a.file)) image
+              ⊎ OpensTo C (kept_of (served (limits_of s) (state_of s a.file) r).state) image)
+              (begins_image told) (f.left told (rests.idle can.idle));
+          rests = λ calm. record {
+            idle = λ none. absurd (no_hand held.is none);
+            held = λ g is. subst (λ (y : FlushInHand). BeganAt C new y d (kept_of (state_of s a.file)))
+                (same_hand held.is is) (record {
+                  origin = origin_of s c a.file true;
+                  at_rest = refl;
+                  half = f.half told true (λ yes. rests.idle can.idle) hand held.is;
+                  map = refl;
+                  book = refl;
+                });
+          };
+        }))
+
     pub in_hand_takes : (now_of : ℕ) → now_of ≡ session
         → PutsAll (line_for (codes "begun") session) out after result
         → TakesRequest C session r s new of now_of (devices a out) (devices d after) result
@@ -217,6 +256,7 @@ module _ {C : ℕ} (session : ℕ) (c : Change) (s new : StoreValue) (of : ℕ) 
             };
             puts = p.put;
           };
+      images = λ told desk shown free k rests. begins_leaves told desk shown k rests;
       goes = record {
         readable = inr x.over;
         broken = λ bad. absurd (let e : false ≡ true = sym

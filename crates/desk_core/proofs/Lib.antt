@@ -1,6 +1,9 @@
 pub mod EventLaws
 pub mod SaidLaws
 pub mod HearLaws
+pub mod HandLaws
+pub mod ImageLaws
+pub mod StepImageLaws
 pub mod StepLaws
 pub mod ReadLaws
 pub mod TakeLaws
@@ -9,4 +12,6 @@ pub mod SettleLaws
 pub mod StepOnceLaws
 pub mod ServeLaws
 pub mod OneLaws
+pub mod RunImageLaws
+pub mod MadeLaws
 pub mod PlayedLaws

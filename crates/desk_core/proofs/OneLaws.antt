@@ -28,16 +28,18 @@ use Rattle.desk_model.specs.Events.{BeginsNoEvent, Event, IsEvent, event_text, s
 use Rattle.desk_queues.specs.Queues.{Holds, Queued}
 use Rattle.desk_core.specs.declared.event.EventLine.TheVariants as line
 use Rattle.desk_core.specs.Benches.{Bench, unread}
+use Rattle.desk_core.specs.Images.{LeavesEnd, LeavesStep}
 use Rattle.desk_core.specs.Hearing.{HearsOne, HoldsBeside, IsHeard}
 use Rattle.desk_core.specs.Lines.{words_of}
 use Rattle.desk_core.specs.Playing.{Finishes, FinishesStore, KeepsGoing, PlaysOne, CallsOnce}
 use Rattle.desk_core.specs.Shows.{Shows, ShowsFlush, ShowsParts, ShowsStore}
 use Rattle.desk_core.specs.Turns.{FinishesDesk, IsDeskTurn, KeepsBench, PlaysEvent, counted_bench, end_of, turn_of}
 use Rattle.desk_core.specs.Ready.{IsNewBench}
-use Rattle.desk_core.proofs.StepLaws.{no_hand}
+use Rattle.desk_core.proofs.HandLaws.{no_hand}
+use Rattle.desk_core.proofs.ImageLaws.{step_same}
 use Rattle.desk_core.proofs.EventLaws.{no_request, text_begins}
 
-module _ (old b : Bench) (before now : Outside) where
+module _ (C : ℕ) (old b : Bench) (before now : Outside) where
   -- ---- what was said
 
   module _ (session : ℕ) (low : session < sessions) (mid : List ℕ)
@@ -68,7 +70,7 @@ module _ (old b : Bench) (before now : Outside) where
       heard : (result : Result (Unit {0}) End)
           → HearsOne (IsTrue before.source.tells) session old.queued b.queued mid (unread b now.source)
           before.sink now.sink result
-          → PlaysEvent old b before now result
+          → PlaysEvent C old b before now result
       heard result h = record {
         event = event.say session h.request;
         is_event = (low, h.has_text);
@@ -85,22 +87,25 @@ module _ (old b : Bench) (before now : Outside) where
               shown = λ calm. shown_beside d x.desk shown.store (x.shown calm);
               puts = x.puts;
             };
+        images = λ told d shown. step_same (EventStep (limits_of old.store) d (event.say session h.request))
+            old.store b.store old.flush_of before.disk now.disk d result shown.store store still;
       }
 
       pub say_turn : (result : Result (Unit {0}) End)
           → IsHeard (IsTrue before.source.tells) session old.queued b.queued mid (unread b now.source)
           before.sink now.sink result
-          → IsDeskTurn old (counted_bench b result) before now (turn_of result)
+          → IsDeskTurn C old (counted_bench b result) before now (turn_of result)
       say_turn (Ok x) h = counts (heard (Ok tt) h)
         where
-          counts : PlaysEvent old b before now (Ok tt)
-              → PlaysEvent old (counted_bench b (Ok tt)) before now (Ok tt)
+          counts : PlaysEvent C old b before now (Ok tt)
+              → PlaysEvent C old (counted_bench b (Ok tt)) before now (Ok tt)
           counts e = record {
             event = e.event;
             is_event = e.is_event;
             whole = e.whole;
             calls = e.calls;
             plays = e.plays;
+            images = e.images;
           }
       say_turn (Err ends.Sink) h =
           let e = heard (Err ends.Sink) h in
@@ -110,6 +115,7 @@ module _ (old b : Bench) (before now : Outside) where
             whole = e.whole;
             calls = e.calls;
             plays = e.plays;
+            images = e.images;
           })
       say_turn (Err ends.Line) h = (
         record { store = store; queued = h.0; flush_of = flush_of },
@@ -133,17 +139,19 @@ module _ (old b : Bench) (before now : Outside) where
       before.disk.file d
       → PlaysOne (EventStep (limits_of old.store) d e)
       (ShowsParts b.queued b.store b.flush_of now.disk.file) before.sink now.sink result)
-      → IsDeskTurn old (counted_bench b result) before now (turn_of result)
-  event_turn e is whole once (Ok x) only plays =
-      record { event = e; is_event = is; whole = whole; calls = once; plays = plays }
-  event_turn e is whole once (Err ends.Disk) only plays =
-      inl (record { event = e; is_event = is; whole = whole; calls = once; plays = plays })
-  event_turn e is whole once (Err ends.Sink) only plays =
-      inl (record { event = e; is_event = is; whole = whole; calls = once; plays = plays })
-  event_turn e is whole once (Err ends.Line) only plays = absurd only
-  event_turn e is whole once (Err ends.Source) only plays = absurd only
-  event_turn e is whole once (Err ends.End) only plays = absurd only
-  event_turn e is whole once (Err ends.Budget) only plays = absurd only
+      → (IsTrue before.disk.tells → (d : Desk) → Shows old before.disk.file d
+      → LeavesStep C (EventStep (limits_of old.store) d e) old.store b.store before.disk now.disk d result)
+      → IsDeskTurn C old (counted_bench b result) before now (turn_of result)
+  event_turn e is whole once (Ok x) only plays images =
+      record { event = e; is_event = is; whole = whole; calls = once; plays = plays; images = images }
+  event_turn e is whole once (Err ends.Disk) only plays images =
+      inl (record { event = e; is_event = is; whole = whole; calls = once; plays = plays; images = images })
+  event_turn e is whole once (Err ends.Sink) only plays images =
+      inl (record { event = e; is_event = is; whole = whole; calls = once; plays = plays; images = images })
+  event_turn e is whole once (Err ends.Line) only plays images = absurd only
+  event_turn e is whole once (Err ends.Source) only plays images = absurd only
+  event_turn e is whole once (Err ends.End) only plays images = absurd only
+  event_turn e is whole once (Err ends.Budget) only plays images = absurd only
 
   -- ---- the end
 
@@ -158,8 +166,10 @@ module _ (old b : Bench) (before now : Outside) where
         → (IsTrue before.disk.tells → (d : Desk) → count ≡ waiting d.queues
         → ShowsStore old.store old.flush_of before.disk.file d
         → FinishesStore d b.store b.flush_of now.disk.file before.sink now.sink result)
-        → FinishesDesk old (record b { ended = true }) before now result
-    finishes result plays = record {
+        → (IsTrue before.disk.tells → (d : Desk) → ShowsStore old.store old.flush_of before.disk.file d
+        → LeavesEnd C old.store b.store before.disk now.disk d result)
+        → FinishesDesk C old (record b { ended = true }) before now result
+    finishes result plays images = record {
       ended = none;
       plays = λ told d shown.
           let x = plays told d (counted d shown.queues) shown.store in
@@ -174,20 +184,23 @@ module _ (old b : Bench) (before now : Outside) where
             };
             puts = x.puts;
           };
+      images = λ told d shown. images told d shown.store;
     }
 
     pub finish_turn : (result : Result (Unit {0}) End) → IfErr result IsServingFault
         → (IsTrue before.disk.tells → (d : Desk) → count ≡ waiting d.queues
         → ShowsStore old.store old.flush_of before.disk.file d
         → FinishesStore d b.store b.flush_of now.disk.file before.sink now.sink result)
-        → IsDeskTurn old (record b { ended = true }) before now (turn.Ended (end_of result))
-    finish_turn (Ok x) only plays = finishes (Ok tt) plays
-    finish_turn (Err ends.Disk) only plays = inr (finishes (Err ends.Disk) plays)
-    finish_turn (Err ends.Sink) only plays = inr (finishes (Err ends.Sink) plays)
-    finish_turn (Err ends.Line) only plays = absurd only
-    finish_turn (Err ends.Source) only plays = absurd only
-    finish_turn (Err ends.End) only plays = absurd only
-    finish_turn (Err ends.Budget) only plays = absurd only
+        → (IsTrue before.disk.tells → (d : Desk) → ShowsStore old.store old.flush_of before.disk.file d
+        → LeavesEnd C old.store b.store before.disk now.disk d result)
+        → IsDeskTurn C old (record b { ended = true }) before now (turn.Ended (end_of result))
+    finish_turn (Ok x) only plays images = finishes (Ok tt) plays images
+    finish_turn (Err ends.Disk) only plays images = inr (finishes (Err ends.Disk) plays images)
+    finish_turn (Err ends.Sink) only plays images = inr (finishes (Err ends.Sink) plays images)
+    finish_turn (Err ends.Line) only plays images = absurd only
+    finish_turn (Err ends.Source) only plays images = absurd only
+    finish_turn (Err ends.End) only plays images = absurd only
+    finish_turn (Err ends.Budget) only plays images = absurd only
 
 -- ---- what waits stays in a step
 
@@ -370,20 +383,20 @@ module _ {C : ℕ} (old b : Bench) (before now : Outside) (over : IsReadable C o
       no_disk end is same = subst IsInputFault same is
 
 -- the turn where no event was read
-pub unread_turn : (old b : Bench) (before now : Outside) (end : End) → IsInputFault end
+pub unread_turn : (C : ℕ) (old b : Bench) (before now : Outside) (end : End) → IsInputFault end
     → (end ≡ ends.End → ⊥)
     → b.store ≡ old.store → b.queued ≡ old.queued → b.flush_of ≡ old.flush_of
     → (IsTrue before.source.tells → end ≡ ends.Line → (unread old before.source ≡ [] → ⊥)
     × BeginsNoEvent (unread old before.source))
-    → IsDeskTurn old (record b { ended = true }) before now (turn.Ended end)
-unread_turn old b before now ends.Line only other store queued flush_of none =
+    → IsDeskTurn C old (record b { ended = true }) before now (turn.Ended end)
+unread_turn C old b before now ends.Line only other store queued flush_of none =
     (record { store = store; queued = queued; flush_of = flush_of }, λ told. none told refl)
-unread_turn old b before now ends.Source only other store queued flush_of none =
+unread_turn C old b before now ends.Source only other store queued flush_of none =
     record { store = store; queued = queued; flush_of = flush_of }
-unread_turn old b before now ends.End only other store queued flush_of none = absurd (other refl)
-unread_turn old b before now ends.Disk only other store queued flush_of none = absurd only
-unread_turn old b before now ends.Sink only other store queued flush_of none = absurd only
-unread_turn old b before now ends.Budget only other store queued flush_of none = absurd only
+unread_turn C old b before now ends.End only other store queued flush_of none = absurd (other refl)
+unread_turn C old b before now ends.Disk only other store queued flush_of none = absurd only
+unread_turn C old b before now ends.Sink only other store queued flush_of none = absurd only
+unread_turn C old b before now ends.Budget only other store queued flush_of none = absurd only
 
 -- ---- a new desk
 

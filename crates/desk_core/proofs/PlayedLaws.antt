@@ -6,6 +6,7 @@ use Rattle.std.proofs.lemmas.Grind.{flat_map-append}
 use Rattle.std.proofs.lemmas.Bool.{cases_Bool}
 use Rattle.disk_face.specs.Counts.{counted, last}
 use Rattle.disk_face.proofs.FrameLaws.{Stays-trans}
+use Rattle.disk_face.proofs.MomentLaws.{Leaves-none, Leaves-trans, Leaves-weaken}
 use Rattle.size_class.specs.declared.TheConstants.{SIZE_MAX}
 use Rattle.slot_codec.specs.declared.codec.SuperBlock.{SuperBlock}
 use Rattle.store_core.proofs.ChangingLaws.{unchanged_itself}
@@ -19,10 +20,12 @@ use Rattle.desk_model.specs.Answers.{Answer, answer_text}
 use Rattle.desk_model.specs.Desks.{Desk, EventStep, Plays, last_desk}
 use Rattle.desk_model.specs.Events.{Event, IsEvent, event_text}
 use Rattle.desk_core.specs.Benches.{Bench, unread}
+use Rattle.desk_core.specs.Images.{Checkpoint, IsDeskImage, RestsFrom, settled_before}
 use Rattle.desk_core.specs.Ready.{MayGoOn}
 use Rattle.desk_core.specs.Runs.{EndsIn, HasPlayed}
 use Rattle.desk_core.specs.Shows.{Shows}
 use Rattle.desk_core.specs.Turns.{IsDeskTurn, KeepsBench, PlaysEvent}
+use Rattle.desk_core.proofs.RunImageLaws.{image_last, images_more, settled_more}
 
 -- ---- lists that grow at their end
 
@@ -59,7 +62,7 @@ texts_more f xs x front rest =
 
 pub played_none : {C : ℕ} (b : Bench) (o : Outside) → MayGoOn C b o.disk → b.events ≤ last
     → HasPlayed C b b o o 0
-played_none b o may low = record {
+played_none {C} b o may low = record {
   events = [];
   count = refl;
   each = tt;
@@ -70,6 +73,8 @@ played_none b o may low = record {
     plays = tt;
     shown = shown;
     puts = λ sink. sym (append-nil o.sink.given);
+    left = λ k rests. Leaves-none o.disk (IsDeskImage C k d []);
+    rests = λ k rests. rests;
   };
   answered = omega (arith, low);
   fresh = may.fresh;
@@ -85,7 +90,7 @@ played_none b o may low = record {
 }
 
 pub played_more : {C : ℕ} (old b new : Bench) (before mid now : Outside) (n : ℕ)
-    → HasPlayed C old b before mid n → PlaysEvent b new mid now (Ok tt)
+    → HasPlayed C old b before mid n → PlaysEvent C b new mid now (Ok tt)
     → KeepsBench C b new mid now turn.Answered → new.events ≡ counted b.events 1 → new.ended ≡ false
     → HasPlayed C old new before now (n + 1)
 played_more {C} old b new before mid now n ran x keeps counts fresh = record {
@@ -100,6 +105,9 @@ played_more {C} old b new before mid now n ran x keeps counts fresh = record {
   plays = λ told d shown.
       let p = ran.plays told d shown in
       let y = x.plays (subst IsTrue (sym ran.frame.stays.told) told) (last_desk d p.desks) p.shown in
+      let one = λ (k : Checkpoint) (rests : RestsFrom C old.store before.disk k). x.images
+      (subst IsTrue (sym ran.frame.stays.told) told) (last_desk d p.desks) p.shown
+      (settled_before k d p.desks) (p.rests k rests) y.answer y.desk y.step in
       record {
         answers = p.answers ++ y.answer ∷ [];
         desks = p.desks ++ y.desk ∷ [];
@@ -118,6 +126,13 @@ played_more {C} old b new before mid now n ran x keeps counts fresh = record {
             ∙ texts_more answer_text p.answers y.answer before.sink.given []
             ∙ ap (λ (xs : List ℕ). before.sink.given ++ xs)
             (append-nil (flat_map answer_text (p.answers ++ y.answer ∷ [])));
+        left = λ k rests. Leaves-trans
+            (Leaves-weaken (IsDeskImage C k d (p.desks ++ y.desk ∷ []))
+            (images_more C k d p.desks y.desk) (p.left k rests))
+            (Leaves-weaken (IsDeskImage C k d (p.desks ++ y.desk ∷ [])) (image_last C k d p.desks y.desk)
+            (one k rests).left);
+        rests = λ k rests. subst (λ (c : Checkpoint). RestsFrom C new.store now.disk c)
+            (sym (settled_more k d p.desks y.desk)) ((one k rests).rests refl);
       };
   answered = omega (arith, counts, ran.answered);
   fresh = fresh;
@@ -144,7 +159,7 @@ played_more {C} old b new before mid now n ran x keeps counts fresh = record {
 -- ---- the end
 
 pub ends_in : (C n : ℕ) (b new : Bench) (before now : Outside) (end : End)
-    → IsDeskTurn b new before now (turn.Ended end) → KeepsBench C b new before now (turn.Ended end)
+    → IsDeskTurn C b new before now (turn.Ended end) → KeepsBench C b new before now (turn.Ended end)
     → new.events ≡ b.events → EndsIn C n b new before now end
 ends_in C n b new before now ends.End t k e = record { turns = t; keeps = k; events = e }
 ends_in C n b new before now ends.Line t k e = record { turns = t; keeps = k; events = e }

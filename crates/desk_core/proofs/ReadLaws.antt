@@ -5,6 +5,7 @@ use Rattle.std.specs.FinMap as fin
 use Rattle.disk_face.specs.Devices.{devices}
 use Rattle.disk_face.specs.Frames.{Unchanged}
 use Rattle.disk_face.specs.States as disk
+use Rattle.disk_face.specs.States.{IsLawful}
 use Rattle.disk_face.specs.Streams.{SinkState}
 use Rattle.slot_pair.specs.Finding.{HasDiskCause}
 use Rattle.map_model.specs.Maps.{Map}
@@ -27,9 +28,11 @@ use Rattle.ask_serve.proofs.PutLaws.{puts_as, puts_cut, puts_then}
 use Rattle.desk_model.specs.Answers as answer
 use Rattle.desk_model.specs.Desks.{Desk, Flush, TakesIf, begins, is_read, waits, with_queue}
 use Rattle.desk_model.specs.Events.{line_for}
+use Rattle.desk_core.specs.Images.{kept_of}
 use Rattle.desk_core.specs.Playing.{KeepsGoing, TakesRequest}
 use Rattle.desk_core.specs.Shows.{ShowsStore}
 use Rattle.desk_core.specs.Telling.{PutsAll}
+use Rattle.desk_core.proofs.ImageLaws.{leaves_same, leaves_unchanged}
 
 -- ---- what a read leaves
 
@@ -262,11 +265,11 @@ module _ {C : ℕ} (session : ℕ) (r : Request) (reading : IsReading r) (s : St
     }
 
     -- the line of the session was put, and the reply behind it, or a front of that where a device failed
-    pub gives_take : (after : SinkState) (new : StoreValue) (y : Result Bool End)
+    pub gives_take : (after : SinkState) (new : StoreValue) (y : Result Bool End) → IsLawful a
         → PutsAll (line_for (codes "to") session) out mid (Ok tt)
         → GivesReply r s new (devices a mid) (devices d after) y
         → TakesRequest C session r s new of of (devices a out) (devices d after) (unit_of y)
-    gives_take after new y first g =
+    gives_take after new y lawful first g =
         subst (λ (x : StoreValue). TakesRequest C session r s x of of (devices a out) (devices d after)
         (unit_of y)) (sym g.store) (record {
           plays = λ told desk rest shown free. record {
@@ -284,6 +287,9 @@ module _ {C : ℕ} (session : ℕ) (r : Request) (reading : IsReading r) (s : St
                 (ap reply_text (sym (same_reply desk shown free)))
                 (g.puts told (subst IsTrue (sym first.cause.told) sink))));
           };
+          images = λ told desk shown free k rests. leaves_unchanged s of a d desk
+              (kept_of (served (limits_of s) desk.state r).state) (unit_of y) lawful g.still told shown k
+              rests;
           goes = goes_on after (unit_of y) g.still (only_unit y g.only)
               (disk_unit a.faults d.faults y g.disk_cause)
               (sink_cause_after (first.cause.calm (λ is. absurd (cc))) first.cause.told
@@ -306,6 +312,8 @@ module _ {C : ℕ} (session : ℕ) (r : Request) (reading : IsReading r) (s : St
           (reply_text (served (limits_of s) desk.state r).reply) out.given mid.given end first.only
           (first.put sink);
     };
+    images = λ told desk shown free k rests. leaves_same s s of a a desk
+        (kept_of (served (limits_of s) desk.state r).state) (Err end) shown refl refl k rests;
     goes = goes_on a out mid mid (Err end) (unchanged_itself a ready)
         (subst IsServingFault (sym first.only) tt)
         (calm_disk (λ is. absurd (let e : end ≡ ends.Disk = (cc) in let f : ends.Sink ≡ ends.Disk =

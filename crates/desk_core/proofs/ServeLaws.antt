@@ -8,7 +8,7 @@ use Rattle.map_model.specs.Requests as ask
 use Rattle.map_model.specs.Requests.{Change, Request}
 use Rattle.store_model.specs.Connection.{FlushInHand, IsConnected, StoreValue, limits_of}
 use Rattle.store_model.specs.Halves.{IsReadable}
-use Rattle.store_model.specs.States.{Limits}
+use Rattle.store_model.specs.States.{Limits, served}
 use Rattle.ask_text.specs.Asks.{ask_of, change_ask}
 use Rattle.ask_text.specs.Inputs.{request_text}
 use Rattle.ask_text.specs.declared.ask.Ask.{Ask}
@@ -19,9 +19,11 @@ use Rattle.desk_model.specs.Answers.{Answer}
 use Rattle.desk_model.specs.Desks.{Desk, Flush, ServesFirst, ServesIf, TakesIf, begins, is_read, queue_of, ring, texts_of, waits}
 use Rattle.desk_model.specs.Events.{line_for, sessions}
 use Rattle.desk_queues.specs.Queues.{Holds, Queued, StandsIn, requests_at}
+use Rattle.desk_core.specs.Images.{Checkpoint, LeavesFrom, LeavesStep, kept_of, settled_of}
 use Rattle.desk_core.specs.Playing.{KeepsGoing, PlaysOne, TakesRequest, CallsOnce}
 use Rattle.desk_core.specs.Shows.{ShowsParts, ShowsStore}
 use Rattle.desk_core.specs.Telling.{PutsAll, is_read_ask}
+use Rattle.desk_core.proofs.ImageLaws.{takes_kept}
 use Rattle.desk_core.proofs.SaidLaws.{long_text}
 
 pub either_low : (n of session : ℕ) → (n ≡ of) ⊎ (n ≡ session) → of < sessions → session < sessions
@@ -188,6 +190,26 @@ module _ (session : ℕ) (q0 q1 : Queued) (s t : StoreValue) (of now_of : ℕ) (
                 };
                 puts = x.puts;
               }
+
+      -- what a crash may leave meanwhile
+      pub take_images : (is_some s.in_hand && ((of == session) || not reads)) ≡ false → IsTrue a.tells
+          → (desk : Desk) → Holds q0 desk.queues → ShowsStore s of a.file desk
+          → LeavesStep C (ServesFirst (queue_of desk session) (limits_of s) session desk) s t a d desk result
+      take_images free told desk holds shown k rests said next step =
+          by (requests_at desk.queues session) refl step
+        where
+          by : (q : List Request) → requests_at desk.queues session ≡ q
+              → ServesFirst q (limits_of s) session desk said next
+              → LeavesFrom C t a d (settled_of k desk) (kept_of next.state) result
+          by [] e is = absurd (some desk.queues holds e)
+          by (r ∷ rest) e is =
+              let calm = waits_as desk holds shown r rest e ∙ free in
+              let takes : TakesIf (begins (limits_of s) desk.state r) (limits_of s) session r rest desk said
+              next = subst (λ (b : Bool). ServesIf b (limits_of s) session r rest desk said next) calm is in
+              subst (λ (y : Checkpoint). LeavesFrom C t a d (settled_of k desk) y result)
+              (sym (takes_kept (begins (limits_of s) desk.state r) (limits_of s) session r rest desk said next
+              takes))
+              ((takes_of desk.queues r rest holds e).images told desk shown calm k rests)
 
       pub take_goes : (qs : List (List Request)) → Holds q0 qs
           → KeepsGoing C s t (devices a out) (devices d after) result

@@ -23,16 +23,8 @@ use Rattle.slot_pair.specs.Saves.{save_calls}
 use Rattle.flush_run.specs.MadeMoves.{calls_of_save}
 use Rattle.desk_core.specs.Playing.{StepsFlush, left_of}
 use Rattle.desk_core.specs.Shows.{ShowsFlush, ShowsStore}
-
--- one hand is another
-pub same_hand : {a b : FlushInHand} {o : Option FlushInHand} → o ≡ Some a → o ≡ Some b → a ≡ b
-same_hand one two = let all : Some _ ≡ Some _ = sym one ∙ two in (cc)
-
-pub no_hand : {a : FlushInHand} {o : Option FlushInHand} → o ≡ Some a → o ≡ None → ⊥
-no_hand one none = let all : Some _ ≡ None = sym one ∙ none in (cc)
-
-same_flush : {a b : Flush} {o : Option Flush} → o ≡ Some a → o ≡ Some b → a ≡ b
-same_flush one two = let all : Some _ ≡ Some _ = sym one ∙ two in (cc)
+use Rattle.desk_core.proofs.HandLaws.{no_hand, same_flush, same_hand}
+use Rattle.desk_core.proofs.StepImageLaws.{failed_leaves, moved_leaves, settled_leaves}
 
 -- a save or none makes at most the calls of a save
 save_most : (saved : Bool) (n : ℕ) → calls_of_save saved n ≤ save_calls n
@@ -106,6 +98,7 @@ module _ {C : ℕ} (session : ℕ) (s t : StoreValue) (a d : disk.State) (half :
             (m.left, m.some, omega (arith, m.fewer, x.left), refl),
             moved_shows told desk f x,
           );
+      images = λ told desk shown. moved_leaves session s t a d half told desk shown st;
       over = st.over;
       fewer = λ is. omega (
         arith,
@@ -185,6 +178,7 @@ module _ {C : ℕ} (session : ℕ) (s t : StoreValue) (a d : disk.State) (half :
               held = λ k some. absurd (no_hand some (ap (λ (y : StoreValue). y.in_hand) n.rest));
             },
           );
+      images = λ told desk shown. settled_leaves session s t a d half told desk shown st;
       over = st.over;
       fewer = λ is. absurd (cc);
       calls = inr (inl (omega (arith, n.turns)));
@@ -213,6 +207,7 @@ module _ {C : ℕ} (session : ℕ) (s t : StoreValue) (a d : disk.State) (half :
     pub step_failed : StepsFlush C session s t a d (Err ends.Disk)
     step_failed = record {
       steps = λ told desk f is shown. refl;
+      images = λ told desk shown. failed_leaves session s t a d half told desk shown fault st;
       over = st.over;
       fewer = λ is. absurd (cc);
       calls = inr (inl (omega (arith, (st.makes h half.is).turns)));

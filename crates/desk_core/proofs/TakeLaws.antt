@@ -28,9 +28,11 @@ use Rattle.desk_model.specs.Answers as answer
 use Rattle.desk_model.specs.Answers.{Answer}
 use Rattle.desk_model.specs.Desks.{Desk, TakesIf, begins, flush_by, with_queue}
 use Rattle.desk_model.specs.Events.{line_for}
+use Rattle.desk_core.specs.Images.{kept_of, settled_of}
 use Rattle.desk_core.specs.Playing.{CallsOnce, TakesRequest}
 use Rattle.desk_core.specs.Telling.{PutsAll, PutsReply}
-use Rattle.desk_core.proofs.StepLaws.{no_hand}
+use Rattle.desk_core.proofs.HandLaws.{no_hand}
+use Rattle.desk_core.proofs.ImageLaws.{leaves_as, serves_leaves}
 
 -- ---- whether a request begins a flush
 
@@ -181,6 +183,9 @@ module _ {C : ℕ} (session : ℕ) (r : Request) (s new : StoreValue) (of : ℕ)
               (line_text x (reply_at s a.file r) (h.replied told) (h.line told)
               ∙ ap (λ (u : State). reply_text (served limits u r).reply) (sym e.1))) (p.put sink);
         };
+    images = λ told desk shown free k rests. leaves_as new a d (settled_of k desk)
+        (kept_of (served (limits_of s) desk.state r).state) (Ok x) result (λ is. refl)
+        (serves_leaves r s new of a d (Ok x) can.idle h.serves told desk shown k rests);
     goes = record {
       readable = inl h.serves.over;
       broken = λ bad. absurd (let e : false ≡ true = sym (h.serves.broken ∙ and-false (is_changing r)) ∙ bad
@@ -215,6 +220,9 @@ module _ {C : ℕ} (session : ℕ) (r : Request) (s new : StoreValue) (of : ℕ)
               puts = λ sink. puts_none (answer.answer_text m.answer) out.given after.given ends.Disk
                   (ap (λ (o : SinkState). o.given) same);
             };
+        images = λ told desk shown free k rests. leaves_as new a d (settled_of k desk)
+            (kept_of (served (limits_of s) desk.state r).state) (Err ends.Disk) (Err ends.Disk) (λ is. is)
+            (serves_leaves r s new of a d (Err ends.Disk) can.idle h'.serves told desk shown k rests);
         goes = record {
           readable = inl h'.serves.over;
           broken = λ bad. refl;

@@ -1,6 +1,7 @@
 pub mod Lines
 pub mod Benches
 pub mod Shows
+pub mod Images
 pub mod Playing
 pub mod Hearing
 pub mod Telling

@@ -15,12 +15,14 @@ use Rattle.store_core.specs.declared.answers.Progress.TheVariants as progress
 use Rattle.store_model.specs.Connection.{FlushInHand, IsConnected, StoreValue, limits_of}
 use Rattle.flush_run.specs.Calls.{piece_calls}
 use Rattle.store_model.specs.Quiet.{added}
+use Rattle.store_model.specs.States.{served}
 use Rattle.store_model.specs.Halves.{IsHalfway, IsReadable}
 use Rattle.ask_text.specs.declared.ends.End.{End}
 use Rattle.ask_text.specs.declared.ends.End.TheVariants as ends
 use Rattle.ask_serve.specs.Serving.{IsServingFault, PutsText, is_disk_fault}
 use Rattle.desk_model.specs.Answers.{Answer, answer_text}
 use Rattle.desk_model.specs.Desks.{Desk, Flush, TakesIf, begins, end_lines, waits}
+use Rattle.desk_core.specs.Images.{Checkpoint, LeavesEnd, LeavesFrom, RestsFrom, kept_of, settled_of}
 use Rattle.desk_core.specs.Shows.{ShowsStore}
 
 -- An event was answered: by the desk's definition, and the desk is shown after it, but where the disk failed;
@@ -55,12 +57,18 @@ CallsOnce old new before now = (now.turn ≤ before.turn + 2)
     × (now.turn ≤ before.turn + save_calls (fin.len old.now) + pieces 65536 size))
 
 -- A request of a session was taken, which didn't have to wait: it began a flush, or was served and replied.
+-- What a crash may leave meanwhile opens to the checkpoint that was settled before, or to that of the state
+-- after it.
 pub record TakesRequest (classes : ℕ) (session : ℕ) (r : Request) (old new : StoreValue) (of now_of : ℕ)
     (before now : Devices) (result : Result (Unit {0}) End) : Type 0 where
   pub plays : IsTrue before.disk.tells → (d : Desk) (rest : List Request)
       → ShowsStore old of before.disk.file d → waits d.hand session r ≡ false
       → PlaysOne (TakesIf (begins (limits_of old) d.state r) (limits_of old) session r rest d)
       (ShowsStore new now_of now.disk.file) before.sink now.sink result
+  pub images : IsTrue before.disk.tells → (d : Desk) → ShowsStore old of before.disk.file d
+      → waits d.hand session r ≡ false → (k : Checkpoint) → RestsFrom classes old before.disk k
+      → LeavesFrom classes new before.disk now.disk (settled_of k d)
+      (kept_of (served (limits_of old) d.state r).state) result
   pub goes : KeepsGoing classes old new before now result
   pub of_is : (now_of ≡ of) ⊎ (now_of ≡ session)
   pub calls : CallsOnce old new before.disk now.disk
@@ -100,6 +108,8 @@ pub record StepsFlush (classes : ℕ) (session : ℕ) (old new : StoreValue) (be
     (result : Result Progress End) : Type 0 where
   pub steps : IsTrue before.tells → (d : Desk) (f : Flush) → d.hand ≡ Some f
       → ShowsStore old session before.file d → StepsTo result new session now.file f d
+  pub images : IsTrue before.tells → (d : Desk) → ShowsStore old session before.file d
+      → LeavesEnd classes old new before now d result
   pub over : OverAfter classes new now result
   pub fewer : result ≡ Ok progress.Moved → left_of new.in_hand < left_of old.in_hand
   pub calls : CallsOnce old new before now
@@ -120,6 +130,8 @@ pub record SettlesFlush (classes : ℕ) (session : ℕ) (old new : StoreValue) (
   pub settles : IsTrue before.tells → (d : Desk) (f : Flush) → d.hand ≡ Some f
       → ShowsStore old session before.file d
       → (d' : Desk) × SettlesTo f d d' × (is_disk_fault result ≡ false → ShowsStore new session now.file d')
+  pub images : IsTrue before.tells → (d : Desk) → ShowsStore old session before.file d
+      → LeavesEnd classes old new before now d result
   pub readable : IsReadable classes new now
   pub broken : new.is_broken ≡ is_disk_fault result
   pub block : is_disk_fault result ≡ false → new.in_use.block ≡ old.in_use.block

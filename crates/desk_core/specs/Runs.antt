@@ -2,6 +2,7 @@
 use Rattle.std.specs.Prelude.{◌≡◌, ℕ, ◌<◌, ◌≤◌, true, false, List, ◌++◌, flat_map, length, IsTrue}
 use Rattle.std.specs.List.{AllByRecursion}
 use Rattle.disk_face.specs.Counts.{counted}
+use Rattle.disk_face.specs.Moments.{Leaves}
 use Rattle.disk_face.specs.Writes.{KeepsDisk}
 use Rattle.store_model.specs.Connection.{limits_of}
 use Rattle.store_model.specs.Halves.{IsReadable}
@@ -14,6 +15,7 @@ use Rattle.desk_model.specs.Answers.{Answer, answer_text}
 use Rattle.desk_model.specs.Desks.{Desk, Plays, last_desk}
 use Rattle.desk_model.specs.Events.{Event, IsEvent, event_text}
 use Rattle.desk_core.specs.Benches.{Bench, unread}
+use Rattle.desk_core.specs.Images.{Checkpoint, IsDeskImage, OpensNow, RestsFrom, settled_before}
 use Rattle.desk_core.specs.Shows.{Shows}
 use Rattle.desk_core.specs.Turns.{IsDeskTurn, KeepsBench, is_unread}
 
@@ -22,13 +24,19 @@ abbrev pub budget : ℕ
 budget = 4294967296
 
 -- Events were answered, by the desk's definition, and the desk is shown after them; the texts of all answers
--- were put.
-pub record PlaysAll (d : Desk) (es : List Event) (old new : Bench) (before now : Outside) : Type 0 where
+-- were put. What a crash may leave meanwhile opens to the checkpoint that was settled at first, or to that of
+-- the desk after one of them.
+pub record PlaysAll (classes : ℕ) (d : Desk) (es : List Event) (old new : Bench)
+    (before now : Outside) : Type 0 where
   pub answers : List Answer
   pub desks : List Desk
   pub plays : Plays (limits_of old.store) d es answers desks
   pub shown : Shows new now.disk.file (last_desk d desks)
   pub puts : IsTrue before.sink.tells → now.sink.given ≡ before.sink.given ++ flat_map answer_text answers
+  pub left : (k : Checkpoint) → RestsFrom classes old.store before.disk k
+      → Leaves before.disk now.disk (IsDeskImage classes k d desks)
+  pub rests : (k : Checkpoint) → RestsFrom classes old.store before.disk k
+      → RestsFrom classes new.store now.disk (settled_before k d desks)
 
 -- So many events were answered one after another. Their texts stood in front of the unread input. The store's
 -- objects may still be read, and no call of a device failed.
@@ -39,7 +47,7 @@ pub record HasPlayed (classes : ℕ) (old new : Bench) (before now : Outside) (n
   pub whole : IsTrue before.source.tells
       → unread old before.source ≡ flat_map event_text events ++ unread new now.source
   pub plays : IsTrue before.disk.tells → (d : Desk) → Shows old before.disk.file d
-      → PlaysAll d events old new before now
+      → PlaysAll classes d events old new before now
   pub answered : new.events ≡ counted old.events n
   pub fresh : new.ended ≡ false
   pub unbroken : new.store.is_broken ≡ false
@@ -54,7 +62,7 @@ pub record HasPlayed (classes : ℕ) (old new : Bench) (before now : Outside) (n
 
 -- the last event of a run, by its end
 pub record IsLastTurn (classes : ℕ) (b new : Bench) (before now : Outside) (end : End) : Type 0 where
-  pub turns : IsDeskTurn b new before now (turn.Ended end)
+  pub turns : IsDeskTurn classes b new before now (turn.Ended end)
   pub keeps : KeepsBench classes b new before now (turn.Ended end)
   pub events : new.events ≡ b.events
 
@@ -79,5 +87,7 @@ pub record EndsDesk {D I O : Type 0} (seen : Seen D I O) (classes : ℕ) (old ne
   pub fewer : is_budget end ≡ false → n < budget
   pub last_turn : EndsIn classes n bench new (outside_of seen mid) (outside_of seen now) end
   pub ended : is_budget end ≡ false → new.ended ≡ true
+  pub opens : new.store.is_broken ≡ false
+      → OpensNow classes new.store new.flush_of (seen.disk now.disk)
   pub same_disk : is_unread (turn.Ended end) ≡ true → now.disk ≡ mid.disk
   pub same_sink : is_unread (turn.Ended end) ≡ true → now.sink ≡ mid.sink

@@ -17,11 +17,14 @@ use Rattle.ask_serve.specs.Serving.{PutsText, is_disk_fault}
 use Rattle.desk_model.specs.Desks.{Desk, EventStep, end_lines}
 use Rattle.desk_model.specs.Events.{BeginsNoEvent, Event, IsEvent, event_text}
 use Rattle.desk_core.specs.Benches.{Bench, unread}
+use Rattle.desk_core.specs.Images.{LeavesEnd, LeavesStep}
 use Rattle.desk_core.specs.Playing.{Finishes, PlaysOne, CallsOnce}
 use Rattle.desk_core.specs.Shows.{Shows}
 
--- The text of an event stood in front of the unread input, and the event was answered.
-pub record PlaysEvent (old new : Bench) (before now : Outside) (result : Result (Unit {0}) End) : Type 0 where
+-- The text of an event stood in front of the unread input, and the event was answered. What a crash may leave
+-- meanwhile opens to the checkpoint that was settled before, or to that of the desk after it.
+pub record PlaysEvent (classes : ℕ) (old new : Bench) (before now : Outside)
+    (result : Result (Unit {0}) End) : Type 0 where
   pub event : Event
   pub is_event : IsEvent event
   pub whole : IsTrue before.source.tells
@@ -30,6 +33,9 @@ pub record PlaysEvent (old new : Bench) (before now : Outside) (result : Result 
   pub plays : IsTrue before.disk.tells → (d : Desk) → Shows old before.disk.file d
       → PlaysOne (EventStep (limits_of old.store) d event) (Shows new now.disk.file) before.sink now.sink
       result
+  pub images : IsTrue before.disk.tells → (d : Desk) → Shows old before.disk.file d
+      → LeavesStep classes (EventStep (limits_of old.store) d event) old.store new.store before.disk now.disk
+      d result
 
 -- The desk has finished: a flush in hand has settled, and the last lines were put, or a front of them where a
 -- device failed.
@@ -40,12 +46,16 @@ pub record FinishesOne (d : Desk) (new : Bench) (before now : Outside) (result :
   pub shown : is_disk_fault result ≡ false → Shows new now.disk.file desk
   pub puts : IsTrue before.sink.tells → PutsText (end_lines d) before.sink.given now.sink.given result
 
--- nothing was left of the input, and the desk has finished
-pub record FinishesDesk (old new : Bench) (before now : Outside) (result : Result (Unit {0}) End) : Type 0
+-- Nothing was left of the input, and the desk has finished. What a crash may leave meanwhile opens to the
+-- checkpoint that was settled before, or to that of the desk.
+pub record FinishesDesk (classes : ℕ) (old new : Bench) (before now : Outside)
+    (result : Result (Unit {0}) End) : Type 0
   where
     pub ended : IsTrue before.source.tells → unread old before.source ≡ []
     pub plays : IsTrue before.disk.tells → (d : Desk) → Shows old before.disk.file d
         → FinishesOne d new before now result
+    pub images : IsTrue before.disk.tells → (d : Desk) → Shows old before.disk.file d
+        → LeavesEnd classes old.store new.store before.disk now.disk d result
 
 -- nothing was done
 pub record SameBench (old new : Bench) : Type 0 where
@@ -54,18 +64,20 @@ pub record SameBench (old new : Bench) : Type 0 where
   pub flush_of : new.flush_of ≡ old.flush_of
 
 -- what an event did, by the answer
-abbrev pub IsDeskTurn : Bench → Bench → Outside → Outside → Turn → Type 0
-IsDeskTurn old new before now turn.Answered = PlaysEvent old new before now (Ok tt)
-IsDeskTurn old new before now (turn.Ended ends.Disk) =
-    PlaysEvent old new before now (Err ends.Disk) ⊎ FinishesDesk old new before now (Err ends.Disk)
-IsDeskTurn old new before now (turn.Ended ends.Sink) =
-    PlaysEvent old new before now (Err ends.Sink) ⊎ FinishesDesk old new before now (Err ends.Sink)
-IsDeskTurn old new before now (turn.Ended ends.End) = FinishesDesk old new before now (Ok tt)
-IsDeskTurn old new before now (turn.Ended ends.Line) =
+abbrev pub IsDeskTurn : ℕ → Bench → Bench → Outside → Outside → Turn → Type 0
+IsDeskTurn classes old new before now turn.Answered = PlaysEvent classes old new before now (Ok tt)
+IsDeskTurn classes old new before now (turn.Ended ends.Disk) =
+    PlaysEvent classes old new before now (Err ends.Disk)
+    ⊎ FinishesDesk classes old new before now (Err ends.Disk)
+IsDeskTurn classes old new before now (turn.Ended ends.Sink) =
+    PlaysEvent classes old new before now (Err ends.Sink)
+    ⊎ FinishesDesk classes old new before now (Err ends.Sink)
+IsDeskTurn classes old new before now (turn.Ended ends.End) = FinishesDesk classes old new before now (Ok tt)
+IsDeskTurn classes old new before now (turn.Ended ends.Line) =
     SameBench old new × (IsTrue before.source.tells → (unread old before.source ≡ [] → ⊥)
     × BeginsNoEvent (unread old before.source))
-IsDeskTurn old new before now (turn.Ended ends.Source) = SameBench old new
-IsDeskTurn old new before now (turn.Ended ends.Budget) = ⊥
+IsDeskTurn classes old new before now (turn.Ended ends.Source) = SameBench old new
+IsDeskTurn classes old new before now (turn.Ended ends.Budget) = ⊥
 
 -- no event was read, and the input isn't at its end
 abbrev pub is_unread : Turn → Bool

@@ -1,6 +1,7 @@
 //! A desk, and one event at it.
-ghost use Rattle.std.specs.Prelude.{◌≡◌, true, if◌then◌else◌, IfOk, IfErr, None};
+ghost use Rattle.std.specs.Prelude.{◌≡◌, true, false, if◌then◌else◌, IfOk, IfErr, None};
 ghost use Rattle.disk_face.specs.Counts.{counted};
+ghost use Rattle.store_model.specs.Stores.{IsStore};
 ghost use Rattle.ask_text.specs.Ends.{is_ended};
 ghost use Rattle.ask_serve.specs.Outside.{outside};
 ghost use Rattle.desk_core.specs.Ready.{IsNewBench, MayGoOn};
@@ -79,7 +80,7 @@ impl<const C: usize> Desk<C> {
         output: &mut O,
     ) -> Turn
         requires { MayGoOn C self.old (D.state disk.old) }
-        ensures turn { IsDeskTurn self.old self.new
+        ensures turn { IsDeskTurn C self.old self.new
             (outside (D.state disk.old) (I.state input.old) (O.state output.old))
             (outside (D.state disk.new) (I.state input.new) (O.state output.new)) result }
         ensures keeps { KeepsBench C self.old self.new
@@ -152,6 +153,14 @@ impl<const C: usize> Desk<C> {
     {
         self.ended = true;
         Turn::Ended(end)
+    }
+
+    /// What holds of its store.
+    pub(crate) fn sound(&self)
+        ensures { self.now.store.is_broken ≡ false → self.now.store.in_hand ≡ None
+            → IsStore C self.now.store }
+    {
+        self.served.store.is_broken();
     }
 
     /// Whether the desk ended.

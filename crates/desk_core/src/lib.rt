@@ -5,6 +5,7 @@
 mod desk;
 mod event;
 mod hearing;
+pub mod laws;
 mod lines;
 mod run;
 mod said;

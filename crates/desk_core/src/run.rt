@@ -29,10 +29,14 @@ impl<const C: usize> Desk<C> {
         'turns: while n < BUDGET {
             match self.one(disk, input, output) {
                 Turn::Answered => {}
-                Turn::Ended(end) => return end,
+                Turn::Ended(end) => {
+                    self.sound();
+                    return end;
+                }
             }
             n += 1;
         }
+        self.sound();
         End::Budget
     }
 

@@ -6,6 +6,7 @@ ghost use Rattle.store_model.specs.Halves.{IsReadable};
 ghost use Rattle.desk_model.specs.Desks.{Desk, ServesFirst, queue_of, ring};
 ghost use Rattle.desk_model.specs.Events.{sessions};
 ghost use Rattle.desk_queues.specs.Queues.{Holds};
+ghost use Rattle.desk_core.specs.Images.{LeavesStep};
 ghost use Rattle.desk_core.specs.Playing.{KeepsGoing, PlaysOne, CallsOnce};
 ghost use Rattle.desk_core.specs.Shows.{ShowsParts, ShowsStore};
 
@@ -37,6 +38,10 @@ pub(crate) fn serve_first<const C: usize, D: Disk, O: Sink>(
         → PlaysOne (ServesFirst (queue_of d session) (limits_of served.old.store) session d)
         (ShowsParts queues.new served.new.store served.new.session (D.state disk.new).file)
         (O.state output.old) (O.state output.new) result }
+    ensures images { IsTrue (D.state disk.old).tells → (d : Desk) → Holds queues.old d.queues
+        → ShowsStore served.old.store served.old.session (D.state disk.old).file d
+        → LeavesStep C (ServesFirst (queue_of d session) (limits_of served.old.store) session d)
+        served.old.store served.new.store (D.state disk.old) (D.state disk.new) d result }
     ensures goes { KeepsGoing C served.old.store served.new.store
         (devices (D.state disk.old) (O.state output.old)) (devices (D.state disk.new) (O.state output.new))
         result }

@@ -4,6 +4,7 @@ ghost use Rattle.disk_face.specs.Devices.{devices};
 ghost use Rattle.store_model.specs.Halves.{IsHalfway, IsReadable};
 ghost use Rattle.desk_model.specs.Desks.{Desk, StepsOn, waiting};
 ghost use Rattle.desk_model.specs.Events.{sessions};
+ghost use Rattle.desk_core.specs.Images.{LeavesEnd, LeavesStep};
 ghost use Rattle.desk_core.specs.Playing.{FinishesStore, KeepsGoing, PlaysOne, SettlesFlush, StepsFlush, CallsOnce};
 ghost use Rattle.desk_core.specs.Shows.{ShowsStore};
 
@@ -27,6 +28,10 @@ pub(crate) fn step_once<const C: usize, D: Disk, O: Sink>(
         → ShowsStore served.old.store served.old.session (D.state disk.old).file d
         → PlaysOne (StepsOn d.hand d) (ShowsStore served.new.store served.new.session (D.state disk.new).file)
         (O.state output.old) (O.state output.new) result }
+    ensures images { IsTrue (D.state disk.old).tells → (d : Desk)
+        → ShowsStore served.old.store served.old.session (D.state disk.old).file d
+        → LeavesStep C (StepsOn d.hand d) served.old.store served.new.store (D.state disk.old)
+        (D.state disk.new) d result }
     ensures goes { KeepsGoing C served.old.store served.new.store
         (devices (D.state disk.old) (O.state output.old)) (devices (D.state disk.new) (O.state output.new))
         result }
@@ -59,6 +64,9 @@ pub(crate) fn finish<const C: usize, D: Disk, O: Sink>(
         → ShowsStore served.old.store served.old.session (D.state disk.old).file d
         → FinishesStore d served.new.store served.new.session (D.state disk.new).file
         (O.state output.old) (O.state output.new) result }
+    ensures images { IsTrue (D.state disk.old).tells → (d : Desk)
+        → ShowsStore served.old.store served.old.session (D.state disk.old).file d
+        → LeavesEnd C served.old.store served.new.store (D.state disk.old) (D.state disk.new) d result }
     ensures goes { KeepsGoing C served.old.store served.new.store
         (devices (D.state disk.old) (O.state output.old)) (devices (D.state disk.new) (O.state output.new))
         result }

@@ -1,6 +1,8 @@
-use Rattle.std.proofs.Common.{arith, ap, refl, subst, Err}
+use Rattle.std.proofs.Common.{arith, ap, refl, subst, Ok, Err}
 use Rattle.ask_text.specs.declared.ends.End.{End}
 use Rattle.desk_core.specs.Playing.{SettlesFlush}
+use Rattle.desk_core.specs.Images.{kept_of}
+use Rattle.desk_core.proofs.ImageLaws.{end_leaves, leaves_same}
 use Rattle.desk_core.proofs.StepOnceLaws.{cut_finishes, failed_finishes, finishes_at, hand_none, hand_some, idle_finishes, is_half, settled_finishes}
 use Rattle.desk_core.proofs.stepping.finish.Goals as goal
 
@@ -82,3 +84,29 @@ returns-in-Err-clause-plays g c told desk count shown =
     (ap (λ (e : End). Err e) only) refl
     (subst (λ (e : End). SettlesFlush g.row.C n s t a d (Err e)) only c.in-Err.ensures.settles)
     told desk count shown)
+
+pub returns-then-not-in_hand-clause-images : goal.returns-then-not-in_hand-clause-images
+returns-then-not-in_hand-clause-images g c told desk shown k rests =
+    let s = c.args.served.now.store in
+    let a = g.D.Disk.state c.args.disk.now in
+    leaves_same s s c.args.served.now.session a a desk (kept_of desk.state) c.put_left.result shown refl refl
+    k rests
+
+pub returns-in-Ok-put_kept-clause-images : goal.returns-in-Ok-put_kept-clause-images
+returns-in-Ok-put_kept-clause-images g c told desk shown = end_leaves c.args.served.now.store
+    c.settle.new.served.store (g.D.Disk.state c.args.disk.now) (g.D.Disk.state c.settle.new.disk) desk
+    (Ok c.in-Ok.field-0) c.put_left-in-Ok-put_kept.result (λ is. refl)
+    (c.in-Ok.ensures.settles.images told desk shown)
+
+pub returns-in-Err-put_kept-clause-images : goal.returns-in-Err-put_kept-clause-images
+returns-in-Err-put_kept-clause-images g c told desk shown = end_leaves {T = Unit {0}} {S = Unit {0}}
+    c.args.served.now.store
+    c.settle.new.served.store (g.D.Disk.state c.args.disk.now) (g.D.Disk.state c.settle.new.disk) desk
+    (Ok c.in-Ok.field-0) (Err c.in-Err-put_kept.end) (λ is. refl)
+    (c.in-Ok.ensures.settles.images told desk shown)
+
+pub returns-in-Err-clause-images : goal.returns-in-Err-clause-images
+returns-in-Err-clause-images g c told desk shown = end_leaves {T = Unit {0}} {S = Unit {0}}
+    c.args.served.now.store
+    c.settle.new.served.store (g.D.Disk.state c.args.disk.now) (g.D.Disk.state c.settle.new.disk) desk
+    (Err c.in-Err.end) (Err c.in-Err.end) (λ is. is) (c.in-Err.ensures.settles.images told desk shown)

@@ -4,6 +4,7 @@ use Rattle.store_core.specs.declared.answers.Progress.TheVariants as progress
 use Rattle.ask_text.specs.declared.ends.End.{End}
 use Rattle.desk_model.specs.Desks.{StepsOn}
 use Rattle.desk_core.specs.Playing.{StepsFlush}
+use Rattle.desk_core.proofs.ImageLaws.{step_leaves, step_same}
 use Rattle.desk_core.proofs.StepOnceLaws.{failed_steps, hand_none, hand_some, idle_steps, is_half, moved_steps, settled_steps, shows_at}
 use Rattle.desk_core.proofs.stepping.step_once.Goals as goal
 
@@ -94,3 +95,28 @@ returns-in-Ok-Settled-clause-calls g c = c.in-Ok-Settled.ensures.steps.calls
 
 pub returns-in-Err-clause-calls : goal.returns-in-Err-clause-calls
 returns-in-Err-clause-calls g c = c.in-Err.ensures.steps.calls
+
+pub returns-then-not-in_hand-clause-images : goal.returns-then-not-in_hand-clause-images
+returns-then-not-in_hand-clause-images g c told desk shown =
+    let s = c.args.served.now.store in
+    let a = g.D.Disk.state c.args.disk.now in
+    step_same (StepsOn desk.hand desk) s s c.args.served.now.session a a desk c.put_idle.result shown refl
+    refl
+
+pub returns-in-Ok-Moved-clause-images : goal.returns-in-Ok-Moved-clause-images
+returns-in-Ok-Moved-clause-images g c told desk shown = step_leaves c.args.served.now.store
+    c.go_on.new.served.store (g.D.Disk.state c.args.disk.now) (g.D.Disk.state c.go_on.new.disk) desk
+    (Ok c.in-Ok-Moved.field-0) c.put_moved.result (λ is. refl)
+    (c.in-Ok-Moved.ensures.steps.images told desk shown)
+
+pub returns-in-Ok-Settled-clause-images : goal.returns-in-Ok-Settled-clause-images
+returns-in-Ok-Settled-clause-images g c told desk shown = step_leaves c.args.served.now.store
+    c.go_on.new.served.store (g.D.Disk.state c.args.disk.now) (g.D.Disk.state c.go_on.new.disk) desk
+    (Ok c.in-Ok-Settled.field-0) c.put_kept.result (λ is. refl)
+    (c.in-Ok-Settled.ensures.steps.images told desk shown)
+
+pub returns-in-Err-clause-images : goal.returns-in-Err-clause-images
+returns-in-Err-clause-images g c told desk shown = step_leaves {T = Progress} {S = Unit {0}}
+    c.args.served.now.store
+    c.go_on.new.served.store (g.D.Disk.state c.args.disk.now) (g.D.Disk.state c.go_on.new.disk) desk
+    (Err c.in-Err.end) (Err c.in-Err.end) (λ is. is) (c.in-Err.ensures.steps.images told desk shown)

@@ -10,7 +10,8 @@ returns-in-Ok-serve_get g c =
     (g.D.Disk.state c.args.disk.now) c.requires.over c.requires.whole
     (g.D.Disk.state c.serve_get.new.disk) (g.O.Sink.state c.args.output.now)
     (g.O.Sink.state c.put_for.new.output) (g.O.Sink.state c.serve_get.new.output)
-    c.serve_get.new.store (Ok c.in-Ok-serve_get.field-0) c.in-Ok.ensures c.in-Ok-serve_get.ensures
+    c.serve_get.new.store (Ok c.in-Ok-serve_get.field-0)
+    (g.met.D.Disk.lawful c.args.disk.now) c.in-Ok.ensures c.in-Ok-serve_get.ensures
 
 pub returns-in-Err-serve_get : goal.returns-in-Err-serve_get
 returns-in-Err-serve_get g c =
@@ -19,7 +20,8 @@ returns-in-Err-serve_get g c =
     (g.D.Disk.state c.args.disk.now) c.requires.over c.requires.whole
     (g.D.Disk.state c.serve_get.new.disk) (g.O.Sink.state c.args.output.now)
     (g.O.Sink.state c.put_for.new.output) (g.O.Sink.state c.serve_get.new.output)
-    c.serve_get.new.store (Err c.in-Err-serve_get.end) c.in-Ok.ensures c.in-Err-serve_get.ensures
+    c.serve_get.new.store (Err c.in-Err-serve_get.end)
+    (g.met.D.Disk.lawful c.args.disk.now) c.in-Ok.ensures c.in-Err-serve_get.ensures
 
 pub returns-in-Err : goal.returns-in-Err
 returns-in-Err g c =

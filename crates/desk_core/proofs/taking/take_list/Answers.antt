@@ -9,7 +9,8 @@ returns-in-Ok-serve_list g c =
     (g.D.Disk.state c.args.disk.now) c.requires.over c.requires.whole
     (g.D.Disk.state c.serve_list.new.disk) (g.O.Sink.state c.args.output.now)
     (g.O.Sink.state c.put_for.new.output) (g.O.Sink.state c.serve_list.new.output)
-    c.serve_list.new.store (Ok c.in-Ok-serve_list.field-0) c.in-Ok.ensures c.in-Ok-serve_list.ensures
+    c.serve_list.new.store (Ok c.in-Ok-serve_list.field-0)
+    (g.met.D.Disk.lawful c.args.disk.now) c.in-Ok.ensures c.in-Ok-serve_list.ensures
 
 pub returns-in-Err-serve_list : goal.returns-in-Err-serve_list
 returns-in-Err-serve_list g c =
@@ -17,7 +18,8 @@ returns-in-Err-serve_list g c =
     (g.D.Disk.state c.args.disk.now) c.requires.over c.requires.whole
     (g.D.Disk.state c.serve_list.new.disk) (g.O.Sink.state c.args.output.now)
     (g.O.Sink.state c.put_for.new.output) (g.O.Sink.state c.serve_list.new.output)
-    c.serve_list.new.store (Err c.in-Err-serve_list.end) c.in-Ok.ensures c.in-Err-serve_list.ensures
+    c.serve_list.new.store (Err c.in-Err-serve_list.end)
+    (g.met.D.Disk.lawful c.args.disk.now) c.in-Ok.ensures c.in-Err-serve_list.ensures
 
 pub returns-in-Err : goal.returns-in-Err
 returns-in-Err g c =

@@ -10,7 +10,8 @@ returns-in-Ok-serve_old g c =
     (g.D.Disk.state c.args.disk.now) c.requires.over c.requires.whole
     (g.D.Disk.state c.serve_old.new.disk) (g.O.Sink.state c.args.output.now)
     (g.O.Sink.state c.put_for.new.output) (g.O.Sink.state c.serve_old.new.output)
-    c.serve_old.new.store (Ok c.in-Ok-serve_old.field-0) c.in-Ok.ensures c.in-Ok-serve_old.ensures
+    c.serve_old.new.store (Ok c.in-Ok-serve_old.field-0)
+    (g.met.D.Disk.lawful c.args.disk.now) c.in-Ok.ensures c.in-Ok-serve_old.ensures
 
 pub returns-in-Err-serve_old : goal.returns-in-Err-serve_old
 returns-in-Err-serve_old g c =
@@ -19,7 +20,8 @@ returns-in-Err-serve_old g c =
     (g.D.Disk.state c.args.disk.now) c.requires.over c.requires.whole
     (g.D.Disk.state c.serve_old.new.disk) (g.O.Sink.state c.args.output.now)
     (g.O.Sink.state c.put_for.new.output) (g.O.Sink.state c.serve_old.new.output)
-    c.serve_old.new.store (Err c.in-Err-serve_old.end) c.in-Ok.ensures c.in-Err-serve_old.ensures
+    c.serve_old.new.store (Err c.in-Err-serve_old.end)
+    (g.met.D.Disk.lawful c.args.disk.now) c.in-Ok.ensures c.in-Err-serve_old.ensures
 
 pub returns-in-Err : goal.returns-in-Err
 returns-in-Err g c =

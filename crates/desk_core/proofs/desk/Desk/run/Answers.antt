@@ -1,5 +1,6 @@
 use Rattle.std.proofs.Common.{◌≡◌, arith, refl, false, true}
 use Rattle.ask_serve.specs.Outside.{held, outside}
+use Rattle.desk_core.proofs.ImageLaws.{opens_now}
 use Rattle.desk_core.proofs.PlayedLaws.{ends_in, played_more, played_none}
 use Rattle.desk_core.proofs.desk.Desk.run.Goals as goal
 
@@ -40,6 +41,9 @@ returns-in-Ended g c =
       last_turn = ends_in g.row.C c.turns.n c.turns.self c.one.new.self before now c.in-Ended.end
           c.in-Ended.ensures.turn c.in-Ended.ensures.keeps c.in-Ended.ensures.events;
       ended = λ is. c.in-Ended.ensures.ended;
+      opens = λ whole told d shown. opens_now c.one.new.self.store c.one.new.self.flush_of
+          (g.D.Disk.state c.one.new.disk) d (c.sound.ensures whole) whole
+          c.in-Ended.ensures.keeps.readable told shown;
       same_disk = c.in-Ended.ensures.same_disk;
       same_sink = c.in-Ended.ensures.same_sink;
     }
@@ -54,6 +58,9 @@ returns g c = record {
   fewer = λ is. absurd (let e : true ≡ false = is in cc);
   last_turn = (omega arith, refl);
   ended = λ is. absurd (let e : true ≡ false = is in cc);
+  opens = λ whole told d shown. opens_now c.turns.self.store c.turns.self.flush_of
+      (g.D.Disk.state c.turns.disk) d (c.sound-2.ensures whole) whole
+      c.turns.invariant.played.readable told shown;
   same_disk = λ is. refl;
   same_sink = λ is. refl;
 }
