@@ -24,10 +24,10 @@ use Rattle.store_core.specs.declared.answers.Refusal.{Refusal}
 use Rattle.store_core.specs.declared.answers.Refusal.TheVariants as why
 use Rattle.store_core.specs.Answers.{AnswersChange, is_disk_fault, refused_by}
 use Rattle.store_core.specs.Begins.{AnswersBegin, BeginsChange, BeginsFlush, HoldsFlush}
-use Rattle.store_core.specs.Changes.{IsQuietChange}
 use Rattle.store_core.specs.Changing.{IsChange}
 use Rattle.store_core.specs.Flushes.{IsFlush, book_after, map_after, names_after}
 use Rattle.store_core.specs.Steps.{AfterStep, AnswersStep}
+use Rattle.store_core.proofs.BegunServeLaws.{quiet_done, quiet_failed}
 use Rattle.store_core.proofs.FlushChangeLaws.{IsServed, is_served}
 use Rattle.store_core.proofs.FlushLaws.{flush_step}
 use Rattle.store_core.proofs.QuietLaws.{quiet_by_book}
@@ -77,43 +77,6 @@ failed_means quiet None w (inl e) = absurd (cc)
 failed_means quiet None w (inr e) = inr (let same : w ≡ why.Disk = (cc) in ap (λ (r : Refusal). Err r) same)
 failed_means quiet (Some refused) w e = let same : w ≡ refused = (cc) in ap (λ (r : Refusal). Err r) same
 
--- a quiet change is the same, whatever its answer is called
-quiet_done : {classes : ℕ} {c : Change} {old new : StoreValue} {a d : disk.State} (done : Done)
-    → IsQuietChange classes c old new a d (Ok begun.Done)
-    → IsQuietChange classes c old new a d (Ok done)
-quiet_done done q = record {
-  value = q.value;
-  content = q.content;
-  length = q.length;
-  sequence = q.sequence;
-  rests = q.rests;
-  left = q.left;
-  calls = record {
-    all = q.calls.all;
-    most = q.calls.most;
-    cause = record { later = q.calls.cause.later; rose = tt; calm = q.calls.cause.calm };
-  };
-  frame = q.frame;
-}
-
-quiet_failed : {classes : ℕ} {c : Change} {old new : StoreValue} {a d : disk.State} {w : Refusal}
-    → IsQuietChange {T = Begun} classes c old new a d (Err w)
-    → IsQuietChange {T = Done} classes c old new a d (Err w)
-quiet_failed q = record {
-  value = tt;
-  content = q.content;
-  length = q.length;
-  sequence = q.sequence;
-  rests = q.rests;
-  left = q.left;
-  calls = record {
-    all = tt;
-    most = q.calls.most;
-    cause = record { later = q.calls.cause.later; rose = q.calls.cause.rose; calm = tt };
-  };
-  frame = q.frame;
-}
-
 -- ---- a flush that a fault stopped before its first step
 
 module _ {C : ℕ} (c : Change) (a t : StoreValue) (d0 d : disk.State) (w : Refusal)
@@ -149,7 +112,7 @@ begun_done c a t d0 d x =
           (sym means.0)
           (subst (λ b. AnswersChange b None (Ok (record { kept = false }))) (sym means.1) (inl refl));
       refused = x.refused;
-      quiet = λ served quiet. quiet_done (record { kept = false }) (x.quiet served quiet);
+      quiet = λ served quiet. quiet_done {other = record { kept = false }} (x.quiet served quiet);
       flush = λ served loud. absurd (let e : true ≡ false = sym means.1 ∙ loud in cc);
       over = x.over;
       broken = x.broken;

@@ -36,9 +36,9 @@ use Rattle.store_core.proofs.FlushChangeLaws.{IsServed, is_served}
 use Rattle.store_core.proofs.HoldLaws.{begun_can, begun_content, begun_going, begun_half, begun_holds, begun_left, begun_whole, held}
 
 -- a quiet change is the same, whatever its answer is called
-quiet_done : {classes : ℕ} {c : Change} {old new : StoreValue} {a d : disk.State} {done : Done}
-    → IsQuietChange classes c old new a d (Ok done)
-    → IsQuietChange classes c old new a d (Ok begun.Done)
+pub quiet_done : {T U : Type 0} {classes : ℕ} {c : Change} {old new : StoreValue} {a d : disk.State}
+    {one : T} {other : U} → IsQuietChange classes c old new a d (Ok one)
+    → IsQuietChange classes c old new a d (Ok other)
 quiet_done q = record {
   value = q.value;
   content = q.content;
@@ -54,9 +54,9 @@ quiet_done q = record {
   frame = q.frame;
 }
 
-quiet_failed : {classes : ℕ} {c : Change} {old new : StoreValue} {a d : disk.State} {refused : Refusal}
-    → IsQuietChange {T = Done} classes c old new a d (Err refused)
-    → IsQuietChange {T = Begun} classes c old new a d (Err refused)
+pub quiet_failed : {T U : Type 0} {classes : ℕ} {c : Change} {old new : StoreValue} {a d : disk.State}
+    {refused : Refusal} → IsQuietChange {T = T} classes c old new a d (Err refused)
+    → IsQuietChange {T = U} classes c old new a d (Err refused)
 quiet_failed q = record {
   value = tt;
   content = q.content;

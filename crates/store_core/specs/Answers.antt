@@ -120,3 +120,8 @@ done_reply d = if d.kept then ask.kept else ask.done
 abbrev pub size_at : Option Spot → ℕ
 size_at None = 0
 size_at (Some s) = s.size
+
+-- the place of a spot, or 0
+abbrev pub place_at : Option Spot → ℕ
+place_at None = 0
+place_at (Some s) = s.place

@@ -1,5 +1,5 @@
 -- What a read of an object does, of now or of the last checkpoint.
-use Rattle.std.specs.Prelude.{◌≡◌, ℕ, Bool, true, false, List, [], ◌++◌, length, Option, None, Result, IfSome, IsTrue}
+use Rattle.std.specs.Prelude.{◌≡◌, ℕ, Bool, true, false, List, [], ◌+◌, ◌++◌, length, Option, None, Result, IfSome, IsTrue}
 use Rattle.std.specs.FinMap as fin
 use Rattle.disk_face.specs.Devices.{Devices}
 use Rattle.disk_face.specs.Frames.{Unchanged}
@@ -12,9 +12,9 @@ use Rattle.store_core.specs.declared.answers.Refusal.{Refusal}
 use Rattle.store_core.specs.declared.answers.Refusal.TheVariants as why
 use Rattle.store_core.specs.declared.answers.Moment.{Moment}
 use Rattle.store_core.specs.declared.answers.Moment.TheVariants as moment
-use Rattle.store_core.specs.Answers.{AnswersRead, refused_by, reply_of, size_at}
+use Rattle.store_core.specs.Answers.{AnswersRead, place_at, refused_by, reply_of, size_at}
 use Rattle.store_model.specs.Digested.{digest_of}
-use Rattle.store_model.specs.Connection.{StoreValue, limits_of, state_of}
+use Rattle.store_model.specs.Connection.{StoreValue, base_of, limits_of, state_of}
 use Rattle.store_core.specs.Reads.{GivesObject, HasSinkCause}
 use Rattle.store_model.specs.States.{State, Step, object_in}
 
@@ -28,6 +28,10 @@ abbrev pub spot_read : StoreValue → Request → Option Spot
 spot_read s (ask.get name) = fin.get s.now name
 spot_read s (ask.old name) = fin.get s.kept name
 spot_read s _ = None
+
+-- the position in the file at which it begins, if there is one
+abbrev pub position_of : StoreValue → Request → ℕ
+position_of s r = base_of s + place_at (spot_read s r)
 
 -- and its bytes
 abbrev pub object_read : State → Request → List ℕ

@@ -113,7 +113,8 @@ pub record SumsOfStep (old new : StoreValue) (h : FlushInHand) (before now : dis
 -- ---- how the disk goes on
 
 -- it half agrees still, or it agrees, with the map after as its checkpoint
-abbrev pub GoesOnHalf : ℕ → Origin → FlushInHand → StoreValue → disk.State → Result Progress Refusal → Type 0
+abbrev pub GoesOnHalf : ℕ → Origin → FlushInHand → StoreValue → disk.State → Result Progress Refusal
+    → Type 0
 GoesOnHalf classes o h new now (Ok progress.Moved) =
     (left : ℕ) → new.in_hand ≡ Some (record h { left = left })
     → HalfAgrees classes new (record h { left = left }) o now

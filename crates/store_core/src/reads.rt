@@ -12,7 +12,7 @@ ghost use Rattle.store_core.specs.Answers.{AnswersName, AnswersNumber, AnswersRe
 ghost use Rattle.store_model.specs.Connection.{IsConnected, base_of};
 ghost use Rattle.store_model.specs.Halves.{IsReadable};
 ghost use Rattle.store_model.specs.Stores.{IsStanding, IsStore};
-ghost use Rattle.store_core.specs.Readings.{IsRead, asks_for, digest_read, spot_read};
+ghost use Rattle.store_core.specs.Readings.{IsRead, asks_for, digest_read, position_of, spot_read};
 ghost use Rattle.store_core.specs.Reads.{GivesObject, HasSinkCause, PutsJudged};
 
 use crate::copy::put_judged;
@@ -45,6 +45,25 @@ impl<const C: usize> Store<C> {
             (size_at (spot_read self.now (asks_for moment name.now))) result }
     {
         Ok(self.find(moment, name)?.size)
+    }
+
+    /// Where an object of now or of the last checkpoint begins in the file: a position in bytes, the header's
+    /// included. Its bytes stand there until the next call that changes.
+    pub fn position(&self, moment: Moment, name: &[u8]) -> Result<u64, Refusal>
+        ensures { AnswersNumber (refused_by self.now (asks_for moment name.now))
+            (position_of self.now (asks_for moment name.now)) result }
+    {
+        let spot = self.find(moment, name)?;
+        Ok(self.position_at(spot))
+    }
+
+    /// The position in the file of a spot.
+    fn position_at(&self, spot: Spot) -> u64
+        requires standing { IsStanding self.now }
+        requires range { IsInRange spot }
+        ensures { result ≡ base_of self.now + spot.place }
+    {
+        self.hands.base + spot.place
     }
 
     /// Puts the bytes of an object, also while a flush is in hand. At Ok all of them were put, and the answer
