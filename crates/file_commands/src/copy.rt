@@ -18,7 +18,14 @@ pub fn take_piece(alloc: Global, size: u64) -> Result<Vec<u8>, StopReason>
     ensures long { IfOk result (λ piece. vec_len piece ≡ min size PIECE) }
     ensures refused { IfErr result (λ why. why ≡ StopReason.NoMemory) }
 {
-    let length = size.min(PIECE) as usize;
+    take_bytes(alloc, size.min(PIECE) as usize)
+}
+
+/// Memory for so many bytes.
+pub fn take_bytes(alloc: Global, length: usize) -> Result<Vec<u8>, StopReason>
+    ensures long { IfOk result (λ bytes. vec_len bytes ≡ length) }
+    ensures refused { IfErr result (λ why. why ≡ StopReason.NoMemory) }
+{
     vec![in alloc; 0; length].map_err(|_| StopReason::NoMemory)
 }
 

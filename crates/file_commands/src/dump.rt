@@ -5,7 +5,7 @@ ghost use Rattle.reopen.specs.Loads.{IsLoadedFrom, KeepsLoaded, unboxed};
 ghost use Rattle.command_face.specs.Layers.{HasCausesAt, IsCommandReason};
 ghost use Rattle.file_commands.specs.Dumped.{Dumps, PutsNoDump};
 
-use crate::copy::{PIECE, take_piece};
+use crate::copy::take_bytes;
 use crate::load::load;
 use command_face::StopReason;
 use disk_face::{Disk, Sink};
@@ -13,6 +13,10 @@ use dump_stream::{DumpFault, dump_boxed};
 use reopen::BoxedLoaded;
 use size_class::CLASSES;
 use std::alloc::Global;
+
+/// How many bytes of texts are gathered before they are put, and of a longer object read: half as many as a
+/// pipe of Linux has room for, so that its reader takes one half while the other is filled.
+const GATHERED: usize = 32_768;
 
 /// Puts the dump of the map that the file opens to. The disk stays as it is, and where a flush was
 /// interrupted, it stays so. At the first object that is damaged it stops before its text.
@@ -28,7 +32,7 @@ pub fn dump<D: Disk, O: Sink>(alloc: Global, disk: &mut D, output: &mut O) -> Re
     ensures frame { Unchanged (D.state disk.old) (D.state disk.new) }
 {
     let loaded = load(alloc, disk)?;
-    let mut piece = take_piece(alloc, PIECE)?;
+    let mut piece = take_bytes(alloc, GATHERED)?;
     put_dump(disk, &loaded, &mut piece, output)
 }
 
