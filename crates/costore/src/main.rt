@@ -33,7 +33,7 @@ const SINK_FAULT: u8 = 9;
 const NO_MEMORY: u8 = 10;
 
 /// The commands that read their input to its end, however long it is.
-const READERS: &[&str] = &["run", "load", "batch"];
+const READERS: &[&str] = &["run", "load", "batch", "desk"];
 
 /// The commands that put all objects of a file.
 const PUTTERS: &[&str] = &["dump"];

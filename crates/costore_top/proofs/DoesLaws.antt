@@ -1,18 +1,17 @@
 -- What the program promises of its words, from what the one command that they mean does.
-use Rattle.std.specs.Prelude.{◌≡◌, ◌⊎◌, ◌↔◌, ℕ, true, List, IsTrue, IsFalse}
+use Rattle.std.specs.Prelude.{◌≡◌, ◌↔◌, ℕ, List, IsTrue, IsFalse}
 use Rattle.std.proofs.Common.{ap, refl, sym, subst}
 use Rattle.disk_face.specs.Streams.{SourceState}
 use Rattle.disk_face.specs.Devices.{Devices}
-use Rattle.command_face.specs.declared.status.TheConstants.{DISK_FAILED, FAULTY_WORDS, NO_FILE, NO_STORE}
+use Rattle.command_face.specs.declared.status.TheConstants.{DISK_FAILED, FAULTY_WORDS, NO_FILE}
 use Rattle.command_face.specs.Mounting.{IsMounted}
 use Rattle.command_face.specs.Outcomes.{Ends}
 use Rattle.command_face.specs.declared.outcome.Outcome.{Outcome}
-use Rattle.run_command.specs.Headline.{RunPromise, is_session}
-use Rattle.run_command.specs.Sessions.{RunAlways}
+use Rattle.run_command.specs.Headline.{RunPromise}
 use Rattle.costore_top.specs.Answering.{IsAnswer, WritesNoObject}
-use Rattle.costore_top.specs.Commands.{Command, batch, cached, dump, file_of, format, gives_answer, is_run, load, makes, mounts, reads, run, serves, upgrade, work}
+use Rattle.costore_top.specs.Commands.{Command, batch, cached, desk, dump, file_of, format, gives_answer, is_run, load, makes, mounts, reads, run, serves, upgrade, work}
 use Rattle.costore_top.specs.Does.{Does, Promised}
-use Rattle.costore_top.specs.Promises.{AnswersByItsFile, ChangesAsOne, DoesJobs, FormatsSafely, KeepsItsFile, MountsItsFile, ReadsInput}
+use Rattle.costore_top.specs.Promises.{AnswersByItsFile, ChangesAsOne, DoesJobs, FormatsSafely, KeepsItsFile, MountsItsFile, ReadsInput, ServesInput}
 use Rattle.costore_top.specs.Words.{Means, MeansNone}
 use Rattle.costore_top.proofs.WordLists.{means_one}
 
@@ -70,6 +69,7 @@ module _ (words : List (List ℕ)) (c : Command) (means : Means words c) (o : Ou
   pub reads_it : ReadsInput words o same_input
   reads_it = record {
     unread = λ none. d.unread (none c means);
+    few = λ none. d.few (none c means);
     numbers = λ none. d.numbers (not_run c (λ file is. none file (subst (Means words) is means)));
   }
 
@@ -77,9 +77,11 @@ module _ (words : List (List ℕ)) (c : Command) (means : Means words c) (o : Ou
       → RunPromise o old new from rest
   headline_of file m = (promised (run file) m).headline
 
-  pub session_of : (file : List ℕ) → Means words (run file)
-      → ((is_session o.status ≡ true) ⊎ (o.status ≡ NO_STORE)) × RunAlways o old new from rest same_input
-  session_of file m = ((promised (run file) m).known, (promised (run file) m).always)
+  pub serves_it : ServesInput words o old new from rest same_input
+  serves_it = record {
+    session = λ file m. ((promised (run file) m).known, (promised (run file) m).always);
+    desk = λ file m. promised (desk file) m;
+  }
 
   pub jobs_of : DoesJobs words o.status old new
   jobs_of = record {

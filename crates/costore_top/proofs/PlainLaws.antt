@@ -17,7 +17,7 @@ use Rattle.command_face.specs.declared.stop.StopReason.TheVariants as stop
 use Rattle.file_commands.specs.Dumped.{Dumps, PutsNoDump}
 use Rattle.file_commands.specs.Formatting.{Formats, IsDone}
 use Rattle.costore_top.specs.Answering.{IsAnswer}
-use Rattle.costore_top.specs.Commands.{Command, batch, cached, dump, file_of, format, gives_answer, is_run, load, makes, mounts, reads, run, serves, upgrade, work, writes}
+use Rattle.costore_top.specs.Commands.{Command, batch, cached, desk, dump, file_of, format, gives_answer, is_run, load, makes, mounts, reads, run, serves, upgrade, work, writes}
 use Rattle.costore_top.specs.Does.{Does, Promised}
 use Rattle.costore_top.specs.Promises.{DumpsItsFile}
 use Rattle.command_face.proofs.EndedLaws.{causes_by, ended, line_after_none, line_unless}
@@ -72,6 +72,7 @@ plain_promise (run file) o old new from rest same_input none dumps = not_both no
 plain_promise (work file number count) o old new from rest same_input none dumps = not_both none
 plain_promise (upgrade file) o old new from rest same_input none dumps = not_both none
 plain_promise (load file k names) o old new from rest same_input none dumps = not_both none
+plain_promise (desk file) o old new from rest same_input none dumps = not_both none
 plain_promise (batch file) o old new from rest same_input none dumps = not_both none
 plain_promise (cached file number count entries) o old new from rest same_input none dumps = not_both none
 plain_promise _ o old new from rest same_input none dumps = tt
@@ -150,8 +151,8 @@ module _ {O : Type 0} (sink_of : O → SinkState) (c : Command) (none : IsFalse 
         line_after_none (sink_of out) (sink_of put) after end (ap sink_of (layer.silent made disk)) disk tells
         line;
     unread = λ _. (input, no_session.0, no_session.1);
+    few = λ _. no_session.2;
     numbers = λ _. (
-      no_session.2,
       ap (λ (x : Outcome). x.done) is,
       ap (λ (x : Outcome). x.kept_done) is,
       ap (λ (x : Outcome). x.kept_turn) is,

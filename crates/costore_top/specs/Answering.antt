@@ -1,6 +1,6 @@
 -- What words ask for, and what each command is to answer.
 use Rattle.std.specs.Prelude.{◌≡◌, ℕ, List, Result, Ok, IsFalse, IsTrue}
-use Rattle.costore_top.specs.Commands.{Command, batch, cached, check, dump, format, get, gives_answer, help, load, map_of, mounts, reads_input, run, serves, upgrade, version, work, writes}
+use Rattle.costore_top.specs.Commands.{Command, batch, cached, check, desk, dump, format, get, gives_answer, has_budget, help, load, map_of, mounts, reads_input, run, serves, upgrade, version, work, writes}
 use Rattle.costore_top.specs.Words.{Means}
 use Rattle.file_commands.specs.Getting.{IsObject}
 use Rattle.file_commands.specs.Texts.{IsChecked, IsMapped}
@@ -24,6 +24,10 @@ AsksForAnswer words = (c : Command) → Means words c → IsTrue (gives_answer c
 abbrev pub IsNotRun : List (List ℕ) → Type 0
 IsNotRun words = (file : List ℕ) → Means words (run file) → ⊥
 
+-- the words don't ask for requests or events of the input, as many as one call may serve
+abbrev pub HasNoBudget : List (List ℕ) → Type 0
+HasNoBudget words = (c : Command) → Means words c → IsFalse (has_budget c)
+
 -- the words don't ask for what the input has
 abbrev pub AsksForNoInput : List (List ℕ) → Type 0
 AsksForNoInput words = (c : Command) → Means words c → IsFalse (reads_input c)
@@ -41,5 +45,6 @@ IsAnswer (upgrade name) file answer = ⊥
 IsAnswer (load name k names) file answer = ⊥
 IsAnswer (batch name) file answer = ⊥
 IsAnswer (cached name number count entries) file answer = ⊥
+IsAnswer (desk name) file answer = ⊥
 IsAnswer help file answer = answer ≡ Ok HELP.now
 IsAnswer version file answer = answer ≡ Ok VERSION.now

@@ -7,13 +7,13 @@ use Rattle.command_face.specs.Layers.{Keeps}
 use Rattle.command_face.specs.Mounting.{IsMounted}
 use Rattle.command_face.specs.Outcomes.{Ends, PutsLine}
 use Rattle.command_face.specs.declared.outcome.Outcome.{Outcome}
-use Rattle.command_face.specs.declared.status.TheConstants.{DISK_FAILED, DONE, FAULTY_WORDS, NO_FILE, NO_MEMORY, SINK_FAILED}
+use Rattle.command_face.specs.declared.status.TheConstants.{DISK_FAILED, DONE, FAULTY_WORDS, NO_FILE, NO_MEMORY, SINK_FAILED, TOO_MANY_REQUESTS}
 use Rattle.file_commands.specs.Formatting.{Formats}
 use Rattle.command_face.specs.Refusing.{IsRefused}
 use Rattle.served_file.specs.Unserved.{NeverServed}
 use Rattle.costore_top.specs.Answering.{IsAnswer}
-use Rattle.costore_top.specs.Commands.{Command, batch, cached, dump, file_of, format, gives_answer, is_run, load, makes, mounts, reads, reads_input, run, serves, upgrade, work, writes}
-use Rattle.costore_top.specs.Promises.{Batches, CountsNone, DumpsItsFile, KeepsInput, Loads, PutsLineAlone, Runs, Upgrades, Works, WorksCached}
+use Rattle.costore_top.specs.Commands.{Command, batch, cached, desk, dump, file_of, format, gives_answer, has_budget, is_run, load, makes, mounts, reads, reads_input, run, serves, upgrade, work, writes}
+use Rattle.costore_top.specs.Promises.{Batches, CountsNone, Desks, DumpsItsFile, KeepsInput, Loads, PutsLineAlone, Runs, Upgrades, Works, WorksCached}
 
 -- what a command promises beside what all do
 abbrev pub Promised : Command → Outcome → Devices → Devices → SourceState → SourceState → Type 0 → Type 0
@@ -25,6 +25,7 @@ Promised (upgrade file) o old new from rest same_input = Upgrades o.status old n
 Promised (load file k names) o old new from rest same_input =
     Loads k names o.status old new from rest same_input
 Promised (batch file) o old new from rest same_input = Batches o.status old new from rest same_input
+Promised (desk file) o old new from rest same_input = Desks o.status old new from rest same_input
 Promised (dump file) o old new from rest same_input = DumpsItsFile o.status old new
 Promised _ o old new from rest same_input = Unit {0}
 
@@ -50,5 +51,6 @@ pub record Does (c : Command) (o : Outcome) (old new : Devices) (from rest : Sou
   pub silent : IsTrue (makes c) → IsTrue old.sink.tells → o.status ≡ DISK_FAILED
       → PutsLine DISK_FAILED old.sink new.sink
   pub unread : IsFalse (reads_input c) → KeepsInput o same_input
+  pub few : IsFalse (has_budget c) → o.status ≢ TOO_MANY_REQUESTS
   pub numbers : IsFalse (is_run c) → CountsNone o
   pub promise : Promised c o old new from rest same_input

@@ -17,14 +17,16 @@ use Rattle.file_commands.specs.Formatting.{Formats}
 use Rattle.command_face.specs.Refusing.{IsRefused}
 use Rattle.batch_command.specs.Batching.{BatchAlways, BatchReads}
 use Rattle.batch_command.specs.Promise.{BatchPromise}
+use Rattle.desk_command.specs.Desking.{DeskAlways, DeskReads}
+use Rattle.desk_command.specs.Promise.{DeskPromise}
 use Rattle.load_command.specs.Loading.{LoadAlways, LoadPromise, LoadReads}
 use Rattle.run_command.specs.Headline.{RunPromise, is_session}
 use Rattle.run_command.specs.Sessions.{RunAlways}
 use Rattle.upgrade_command.specs.Upgrading.{UpgradeAlways, UpgradePromise}
 use Rattle.work_command.specs.Working.{CachedAlways, CachedPromise, WorkAlways, WorkPromise}
 use Rattle.served_file.specs.Unserved.{NeverServed}
-use Rattle.costore_top.specs.Answering.{AsksForAnswer, AsksForNoInput, IsAnswer, IsNotRun, NamesNoFile}
-use Rattle.costore_top.specs.Commands.{Command, batch, cached, dump, file_of, format, gives_answer, load, makes, mounts, reads, serves, upgrade, work}
+use Rattle.costore_top.specs.Answering.{AsksForAnswer, AsksForNoInput, HasNoBudget, IsAnswer, IsNotRun, NamesNoFile}
+use Rattle.costore_top.specs.Commands.{Command, batch, cached, desk, dump, file_of, format, gives_answer, load, makes, mounts, reads, run, serves, upgrade, work}
 use Rattle.costore_top.specs.Words.{Means}
 
 -- Words that ask for no file leave the bay as it was. Else the mount of their file decides, unless the disk
@@ -96,13 +98,15 @@ pub record FormatsSafely (words : List (List ℕ)) (status : ℕ) (old new : Dev
 abbrev pub KeepsInput : Outcome → Type 0 → Type 0
 KeepsInput o same_input = same_input × (o.status ≢ FAULTY_REQUEST) × (o.status ≢ SOURCE_FAILED)
 
--- no request of a session was served: the three numbers are 0, and there were not too many
+-- no request of a session was counted: the three numbers are 0
 abbrev pub CountsNone : Outcome → Type 0
-CountsNone o = (o.status ≢ TOO_MANY_REQUESTS) × (o.done ≡ 0) × (o.kept_done ≡ 0) × (o.kept_turn ≡ 0)
+CountsNone o = (o.done ≡ 0) × (o.kept_done ≡ 0) × (o.kept_turn ≡ 0)
 
--- Only `run`, `load` and `batch` read the input, and the three numbers are of the requests of `run`.
+-- Only `run`, `load`, `batch` and `desk` read the input, only `run` and `desk` may find too much in it, and
+-- the three numbers are of the requests of `run`.
 pub record ReadsInput (words : List (List ℕ)) (o : Outcome) (same_input : Type 0) : Type 0 where
   pub unread : AsksForNoInput words → KeepsInput o same_input
+  pub few : HasNoBudget words → o.status ≢ TOO_MANY_REQUESTS
   pub numbers : IsNotRun words → CountsNone o
 
 -- ---- what single commands promise
@@ -141,6 +145,20 @@ abbrev pub Batches : ℕ → Devices → Devices → SourceState → SourceState
 Batches status old new from rest same_input =
     (IsTrue old.disk.tells → IsTrue from.tells → BatchPromise from.left status old new)
     × BatchAlways status old new × BatchReads status from rest same_input
+
+-- `desk`: of a file that opens, and a disk and an input that tell, what is answered to the events of its
+-- script; the rest holds whatever they tell
+abbrev pub Desks : ℕ → Devices → Devices → SourceState → SourceState → Type 0 → Type 0
+Desks status old new from rest same_input =
+    (IsTrue old.disk.tells → IsTrue from.tells → DeskPromise from.left status old new)
+    × DeskAlways status old new × DeskReads status from rest same_input
+
+-- `run` and `desk` serve what their input asks for. Of `run` this holds whatever its file and its devices tell.
+pub record ServesInput (words : List (List ℕ)) (o : Outcome) (old new : Devices) (from rest : SourceState)
+    (same_input : Type 0) : Type 0 where
+  pub session : (file : List ℕ) → Means words (run file)
+      → ((is_session o.status ≡ true) ⊎ (o.status ≡ NO_STORE)) × RunAlways o old new from rest same_input
+  pub desk : (file : List ℕ) → Means words (desk file) → Desks o.status old new from rest same_input
 
 -- `work` and `cached` serve the jobs of a number, and put a summary of them.
 pub record DoesJobs (words : List (List ℕ)) (status : ℕ) (old new : Devices) : Type 0 where

@@ -8,6 +8,7 @@ use crate::help::{HELP, VERSION};
 use crate::words::Command;
 use batch_command::batch_file;
 use command_face::{Outcome, finish, put_whole};
+use desk_command::desk_file;
 use disk_face::{Bay, Sink, Source};
 use file_commands::{check_from, dump_from, format_in, get_from, map_from};
 use load_command::load_file;
@@ -46,6 +47,7 @@ pub fn do_command<B: Bay, I: Source, O: Sink>(
         Command::Upgrade(file) => upgrade_file(alloc, bay, file, output),
         Command::Load(file, k, names) => { load_file(alloc, bay, file, *k, *names, input, output) }
         Command::Batch(file) => batch_file(alloc, bay, file, input, output),
+        Command::Desk(file) => desk_file(alloc, bay, file, input, output),
         Command::Help => finish(put_whole(output, HELP.as_bytes()), output),
         Command::Version => finish(put_whole(output, VERSION.as_bytes()), output),
     }

@@ -21,10 +21,12 @@ ghost use Rattle.costore_top.specs.Answering.{IsAnswer};
 ghost use Rattle.file_commands.specs.Texts.{check_text, map_text};
 ghost use Rattle.upgrade_command.specs.Upgrading.{UpgradePromise};
 ghost use Rattle.batch_command.specs.Promise.{BatchPromise};
+ghost use Rattle.desk_model.specs.Events.{Event, IsScript};
+ghost use Rattle.desk_command.specs.Promise.{DeskPromise};
 ghost use Rattle.work_command.specs.Asked.{NumberedJobs};
 ghost use Rattle.work_command.specs.Working.{JobsPromise};
 
-use command_face::{DISK_FAILED, NO_FILE, NO_MEMORY, Outcome, SINK_FAILED, StopReason};
+use command_face::{DISK_FAILED, DONE, NO_FILE, NO_MEMORY, Outcome, SINK_FAILED, StopReason};
 use disk_face::{Bay, Sink, Source};
 use size_class::{CLASSES, SIZE_MAX};
 
@@ -54,9 +56,9 @@ pub fn ends_by_the_answer()
 
 /// What a crash leaves at any moment of `run`, `batch`, `upgrade`, `work` or `cached` may be the start of
 /// another call: it opens, by a table whose sequence leaves room for the saves of an opening, and a disk
-/// that has it and is left alone rests on that table. So is the file where no call of the disk failed. The
-/// sequence is below the limit that requests keep, or an opening raised it by fewer than 2^18. So a call may
-/// follow each crash while the sequence found leaves room twice.
+/// that has it and is left alone rests on that table. So is the file where no call of the disk failed, and of
+/// `desk` where it is done. The sequence is below the limit that requests keep, or an opening raised it by
+/// fewer than 2^18. So a call may follow each crash while the sequence found leaves room twice.
 pub fn a_crash_may_be_followed_by_a_call<B: Bay, I: Source, O: Sink>()
     ensures run { (t : choice.SlotTable) (m : Map) (b : Book) (requests : List Request) (end : List ℕ)
         (o : Outcome) (old new : B) (from rest : I) (out after : O)
@@ -105,6 +107,13 @@ pub fn a_crash_may_be_followed_by_a_call<B: Bay, I: Source, O: Sink>()
     ensures calm_batch { (t : choice.SlotTable) (m : Map) (b : Book) (text : List ℕ) (status : ℕ)
         (old new : B) (out after : O) → OpensBy CLASSES SIZE_MAX t (B.state old).file m b
         → BatchPromise text status (devices (B.state old) (O.state out))
+        (devices (B.state new) (O.state after))
+        → LeavesRoomTwice t → IsCalm (B.state old).faults (B.state new).faults
+        → MayBegin (most_left t.chosen.block.k t) (B.state new).file }
+    ensures calm_desk { (t : choice.SlotTable) (m : Map) (b : Book) (text : List ℕ) (events : List Event)
+        (end : List ℕ) (old new : B) (out after : O) → OpensBy CLASSES SIZE_MAX t (B.state old).file m b
+        → IsScript text events end
+        → DeskPromise text DONE (devices (B.state old) (O.state out))
         (devices (B.state new) (O.state after))
         → LeavesRoomTwice t → IsCalm (B.state old).faults (B.state new).faults
         → MayBegin (most_left t.chosen.block.k t) (B.state new).file }

@@ -1,23 +1,22 @@
 //! The top call: what the program does with its words, its disk and its streams.
-ghost use Rattle.std.specs.Prelude.{◌≡◌, ◌⊎◌, ◌↔◌, ℕ, List, None, Err, IsTrue, true};
+ghost use Rattle.std.specs.Prelude.{◌≡◌, ◌↔◌, ℕ, List, None, Err, IsTrue};
 ghost use Rattle.disk_face.specs.Devices.{devices};
-ghost use Rattle.run_command.specs.Headline.{RunPromise, is_session};
-ghost use Rattle.run_command.specs.Sessions.{RunAlways};
+ghost use Rattle.run_command.specs.Headline.{RunPromise};
 ghost use Rattle.costore_top.specs.Answering.{WritesNoObject};
 ghost use Rattle.costore_top.specs.Commands.{run};
-ghost use Rattle.costore_top.specs.Promises.{AnswersByItsFile, ChangesAsOne, DoesJobs, FormatsSafely, KeepsItsFile, MountsItsFile, ReadsInput};
+ghost use Rattle.costore_top.specs.Promises.{AnswersByItsFile, ChangesAsOne, DoesJobs, FormatsSafely, KeepsItsFile, MountsItsFile, ReadsInput, ServesInput};
 ghost use Rattle.costore_top.specs.Words.{Means, MeansNone, texts};
 
 use crate::command::do_command;
 use crate::words::read_command;
-use command_face::{FAULTY_WORDS, NO_STORE, Outcome, StopReason, finish};
+use command_face::{FAULTY_WORDS, Outcome, StopReason, finish};
 use disk_face::{Bay, Sink, Source};
 use std::alloc::Global;
 
 /// The whole program: does what the words of the command line ask, without the program's name, with
 /// the files of a bay that has mounted none. It takes memory for the table of a file, for the bytes of which
-/// `work` makes objects and of which `cached` lists some, and for the text of a batch. At each status but 0
-/// and 9 one line is put last that tells why.
+/// `work` makes objects and of which `cached` lists some, for the text of a batch, and for what waits at a
+/// desk. At each status but 0 and 9 one line is put last that tells why.
 pub fn costore<B: Bay, I: Source, O: Sink>(
     alloc: Global,
     words: &[&str],
@@ -44,8 +43,8 @@ pub fn costore<B: Bay, I: Source, O: Sink>(
     ensures formats { FormatsSafely (texts words.now) result.status
         (devices (B.state bay.old) (O.state output.old)) (devices (B.state bay.new) (O.state output.new)) }
 
-    // No call but `run`, `load` and `batch` reads the input, and the three numbers are of the requests of
-    // `run`.
+    // No call but `run`, `load`, `batch` and `desk` reads the input, and the three numbers are of the requests
+    // of `run`.
     ensures unread { ReadsInput (texts words.now) result (input.new ≡ input.old) }
 
     // `run` serves the requests of the input. Of a file that opens, and a disk and an input that tell, this
@@ -54,9 +53,10 @@ pub fn costore<B: Bay, I: Source, O: Sink>(
         → IsTrue (B.state bay.old).tells → IsTrue (I.state input.old).tells
         → RunPromise result (devices (B.state bay.old) (O.state output.old))
         (devices (B.state bay.new) (O.state output.new)) (I.state input.old) (I.state input.new) }
-    ensures session { (file : List ℕ) → Means (texts words.now) (run file)
-        → ((is_session result.status ≡ true) ⊎ (result.status ≡ NO_STORE))
-        × RunAlways result (devices (B.state bay.old) (O.state output.old))
+
+    // So it is of `run`; and `desk` does the events of its script at a desk of eight sessions, where a flush
+    // goes one move at a time.
+    ensures serves { ServesInput (texts words.now) result (devices (B.state bay.old) (O.state output.old))
         (devices (B.state bay.new) (O.state output.new)) (I.state input.old) (I.state input.new)
         (input.new ≡ input.old) }
 

@@ -26,6 +26,7 @@ pub enum Command<'a> {
     /// The file, the number of the jobs, how many jobs (1 to 1,000,000), and how many objects the cache lists
     /// (1 to 4,096).
     Cached(&'a str, u64, u64, u64),
+    Desk(&'a str),
     Help,
     Version,
 }
@@ -38,7 +39,7 @@ impl Command<'_> {
         match self {
             Command::Format(_, _, _) | Command::Run(_) | Command::Work(_, _, _) => true,
             Command::Load(_, _, _) | Command::Batch(_) | Command::Cached(_, _, _, _) => true,
-            Command::Upgrade(_) => true,
+            Command::Upgrade(_) | Command::Desk(_) => true,
             _ => false,
         }
     }
@@ -92,6 +93,8 @@ fn two_words<'a>(command: &str, file: &'a str) -> Option<Command<'a>>
         Some(Command::Upgrade(file))
     } else if says(command, "batch") {
         Some(Command::Batch(file))
+    } else if says(command, "desk") {
+        Some(Command::Desk(file))
     } else {
         None
     }

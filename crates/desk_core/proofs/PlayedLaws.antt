@@ -12,6 +12,7 @@ use Rattle.slot_codec.specs.declared.codec.SuperBlock.{SuperBlock}
 use Rattle.store_core.proofs.ChangingLaws.{unchanged_itself}
 use Rattle.store_model.specs.Connection.{limits_of}
 use Rattle.store_model.specs.States.{Limits}
+use Rattle.ask_text.specs.Ends.{is_budget}
 use Rattle.ask_text.specs.declared.ends.End.{End}
 use Rattle.ask_text.specs.declared.ends.End.TheVariants as ends
 use Rattle.ask_text.specs.declared.ends.Turn.TheVariants as turn
@@ -167,3 +168,13 @@ ends_in C n b new before now ends.Disk t k e = record { turns = t; keeps = k; ev
 ends_in C n b new before now ends.Source t k e = record { turns = t; keeps = k; events = e }
 ends_in C n b new before now ends.Sink t k e = record { turns = t; keeps = k; events = e }
 ends_in C n b new before now ends.Budget t k e = absurd t
+
+-- a turn doesn't end a desk for its budget
+pub no_budget : {A : Type 0} (C : ℕ) (b new : Bench) (before now : Outside) (end : End)
+    → IsDeskTurn C b new before now (turn.Ended end) → is_budget end ≡ true → A
+no_budget C b new before now ends.End t is = absurd (let e : false ≡ true = is in cc)
+no_budget C b new before now ends.Line t is = absurd (let e : false ≡ true = is in cc)
+no_budget C b new before now ends.Disk t is = absurd (let e : false ≡ true = is in cc)
+no_budget C b new before now ends.Source t is = absurd (let e : false ≡ true = is in cc)
+no_budget C b new before now ends.Sink t is = absurd (let e : false ≡ true = is in cc)
+no_budget C b new before now ends.Budget t is = absurd t

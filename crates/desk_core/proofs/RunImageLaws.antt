@@ -30,7 +30,7 @@ settled_either C k d image is = by d.hand refl
     by (Some f) e = inl (subst (λ (x : Checkpoint). OpensTo C x image) (settled_some k d f e) is)
 
 -- so it is one of the run
-settled_in : (C : ℕ) (k : Checkpoint) (d : Desk) (ds : List Desk) (image : List ℕ)
+pub settled_in : (C : ℕ) (k : Checkpoint) (d : Desk) (ds : List Desk) (image : List ℕ)
     → OpensTo C (settled_of (settled_before k d ds) (last_desk d ds)) image → IsDeskImage C k d ds image
 settled_in C k d [] image is = inl is
 settled_in C k d (u ∷ ds) image is = elim (settled_in C (settled_of k d) u ds image is)

@@ -76,7 +76,7 @@ EndsIn classes n b new before now ends.Sink = IsLastTurn classes b new before no
 
 -- A run and its end: after the last event that was answered one more turn ended the desk, or as many were
 -- answered as may be. `mid` are the devices before that turn, of which disk and sink are those after it where
--- no event was read.
+-- no event was read, and the source too where there was no such turn.
 pub record EndsDesk {D I O : Type 0} (seen : Seen D I O) (classes : ℕ) (old new : Bench)
     (before now : Held D I O) (end : End) : Type 0 where
   pub bench : Bench
@@ -91,3 +91,4 @@ pub record EndsDesk {D I O : Type 0} (seen : Seen D I O) (classes : ℕ) (old ne
       → OpensNow classes new.store new.flush_of (seen.disk now.disk)
   pub same_disk : is_unread (turn.Ended end) ≡ true → now.disk ≡ mid.disk
   pub same_sink : is_unread (turn.Ended end) ≡ true → now.sink ≡ mid.sink
+  pub same_source : is_budget end ≡ true → now.source ≡ mid.source

@@ -1,4 +1,4 @@
-mod TextLaws
+pub mod TextLaws
 pub mod ServedLaws
 pub mod RunLaws
 pub mod PlayLaws

@@ -1,13 +1,10 @@
 //! Scripts, and what a desk puts for them.
 ghost use Rattle.std.specs.Prelude.{◌<◌};
 
-use desk_core::{Desk, End};
-use disk_mem::{MemDisk, MemSink, MemSource};
-use size_class::CLASSES;
-use slot_pair::SlotPair;
+use crate::plays::{formatted, joined, play, try_played};
+use desk_core::End;
 use std::alloc::Global;
 use std::process::Abort;
-use store_core::Store;
 
 /// A script of a desk whose store is empty, how it ends, and what is put.
 #[derive(Clone, Copy, Debug)]
@@ -63,26 +60,13 @@ const SCRIPTS: &[Script] = &[
     },
 ];
 
-/// Plays a script in pieces of so many bytes, over a file with room for 16 names.
+/// Plays a script in pieces of so many bytes, on a new store.
 fn try_script(rt: &impl Abort, alloc: Global, script: &Script, piece: usize)
     requires { 0 < piece }
 {
-    let mut disk = MemDisk::new(alloc);
-    SlotPair::format(&mut disk, 9, 16).expect(rt, "a format");
-    let Ok(store) = Store::<CLASSES>::open(alloc, &mut disk) else {
-        panic!(rt; "a store")
-    };
-    let Ok(desk) = Desk::new(alloc, store) else {
-        panic!(rt; "a desk")
-    };
-    let mut desk = desk;
-    let mut bytes = Vec::new(alloc);
-    bytes.extend_from_slice(script.events).expect(rt, "memory");
-    let mut input = MemSource::new(bytes, piece, Vec::new(alloc));
-    let mut output = MemSink::with_room(alloc, 1 << 16, Vec::new(alloc)).expect(rt, "memory");
-    let end = desk.run(&mut disk, &mut input, &mut output);
-    assert!(rt; end == script.end, "{script:?}");
-    assert!(rt; output.bytes() == script.put, "{script:?}");
+    let events = joined(rt, alloc, script.events, b"");
+    let played = play(rt, alloc, formatted(rt, alloc), events, piece);
+    try_played(rt, &played, script.end, script.put, script);
 }
 
 #[test]

@@ -21,6 +21,7 @@ impl Display for Unread<'_> {
                 "request {number} is no put or del of a name above the one before, or the input ends within it or \
                 is too long"
             ),
+            ("desk", _) => write!(f, "event {number} is none, or the input ends within it"),
             _ => {
                 let begins = Begins(begun);
                 write!(

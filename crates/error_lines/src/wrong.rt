@@ -51,6 +51,10 @@ const FORMS: &[Form] = &[
         words: &["FILE"],
     },
     Form {
+        command: "desk",
+        words: &["FILE"],
+    },
+    Form {
         command: "cached",
         words: &["FILE", "NUMBER", "COUNT", "ENTRIES"],
     },

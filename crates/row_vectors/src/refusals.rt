@@ -46,6 +46,7 @@ const COMMANDS: &[&[&str]] = &[
     &["work", "f", "1", "1"],
     &["cached", "f", "1", "1", "1"],
     &["batch", "f"],
+    &["desk", "f"],
     &["upgrade", "f"],
 ];
 

@@ -49,6 +49,10 @@ const COMMANDS: &[Told] = &told! {
     ["batch", "g"] => 3 "fault no file\n";
     ["batch", ""] => 1 "fault words\n";
     ["batch", "f", "a"] => 1 "fault words\n";
+    ["desk", "f"] => 0 "left 0\n";
+    ["desk", "g"] => 3 "fault no file\n";
+    ["desk", ""] => 1 "fault words\n";
+    ["desk", "f", "a"] => 1 "fault words\n";
     ["format", "f", "9", "16"] => 5 "fault taken 19608\n";
     ["load", "f", "9", "16"] => 5 "fault taken 19608\n";
     ["load", "f", "1", "16"] => 1 "fault words\n";
@@ -89,6 +93,7 @@ const PAGE: &[&str] = &[
     "  costore upgrade FILE              gives each object a digest, by which damage is found",
     "  costore load FILE K NAMES         makes a store of FILE of a stream that dump has put",
     "  costore batch FILE                does the puts and dels of standard input, all or none",
+    "  costore desk FILE                 serves eight sessions by a script of standard input",
     "  costore cached FILE NUMBER COUNT ENTRIES",
     "                                    does what work does, behind a cache of ENTRIES objects",
     "  costore --help                    puts this page",
@@ -109,6 +114,10 @@ const PAGE: &[&str] = &[
     "at the end; moved (bytes); and linear, flat and seek, what the bytes moved and those asked for cost. cached",
     "puts three lines more: hits, misses and drops, how many reads the cache served and how many it didn't.",
     "",
+    "desk reads events: say S, with a request on the lines behind it, which waits behind those of its session;",
+    "serve S, which serves the first that waits; and step, which makes one move of a flush that is in hand. S is 0",
+    "to 7. It puts queued S or full S; to S and the reply, begun S, wait S or empty S; and moved or idle.",
+    "",
     "status: 0 done, 1 faulty words, 2 a faulty request, 3 no such file, 4 no store, 5 the file isn't empty,",
     "6 no such object, 7 the disk failed, 8 the input failed, 9 the output failed, 10 out of memory,",
     "11 too many requests, 13 the object was damaged, 14 too many names, 15 the file has saved too often,",
@@ -123,6 +132,7 @@ const PAGE: &[&str] = &[
     "          costore map blocks",
     "          costore dump blocks | costore load copy 9 1024",
     "          printf 'put b 5\\nworld\\n' | costore batch blocks",
+    "          printf 'say 0\\nget a\\nserve 0\\n' | costore desk blocks",
     "          costore work blocks 1 1000",
 ];
 

@@ -12,6 +12,8 @@ mod cases;
 #[cfg(test)]
 mod copied;
 #[cfg(test)]
+mod desked;
+#[cfg(test)]
 mod digested;
 #[cfg(test)]
 mod eleven;

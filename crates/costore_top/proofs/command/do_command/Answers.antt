@@ -4,11 +4,11 @@ use Rattle.disk_face.specs.Devices.{devices}
 use Rattle.file_commands.specs.Getting.{IsObject}
 use Rattle.file_commands.specs.Texts.{IsChecked, IsMapped}
 use Rattle.costore_top.specs.Answering.{IsAnswer}
-use Rattle.costore_top.specs.Commands.{batch, cached, check, dump, format, get, help, load, map_of, run, upgrade, version, work}
+use Rattle.costore_top.specs.Commands.{batch, cached, check, desk, dump, format, get, help, load, map_of, run, upgrade, version, work}
 use Rattle.costore_top.specs.Words.{IsCommand, command_of}
 use Rattle.costore_top.specs.declared.help.TheConstants.{HELP, VERSION}
 use Rattle.costore_top.proofs.CommandLaws.{check_answer, dumping, formatting, get_answer, help_answer, map_answer, reading, telling, version_answer, writing}
-use Rattle.costore_top.proofs.OtherLaws.{batching_known, loading_known, loading_silent, session_not_one, upgrading_not_one, upgrading_plain, working_not_one, working_plain}
+use Rattle.costore_top.proofs.OtherLaws.{batching_known, desking_not_one, loading_known, loading_silent, session_not_one, upgrading_not_one, upgrading_plain, working_not_one, working_plain}
 use Rattle.costore_top.proofs.PlainLaws.{does_as, plain_does}
 use Rattle.costore_top.proofs.command.do_command.Goals as goal
 
@@ -172,7 +172,7 @@ returns-in-Run g c =
     does_as (ap command_of c.in-Run.is)
     (writing (run c.in-Run.file.now) refl refl refl refl c.run_file.result old new from rest bay input
     (session_not_one c.run_file.result.status e.known) e.mounted (λ _. e.refused) (λ is. absurd (cc))
-    (λ is. absurd (cc)) (λ is. absurd (cc))
+    (λ is. absurd (cc)) (λ is. absurd (cc)) (λ is. absurd (cc))
     (record { headline = e.headline; known = e.known; always = e.serves }))
 
 pub returns-in-Work : goal.returns-in-Work
@@ -189,7 +189,7 @@ returns-in-Work g c =
     c.work_file.result old new from from bay input
     (working_not_one c.work_file.result.status e.keeps.known) e.mounted (λ _. e.refused) (λ is. absurd (cc))
     (λ _. (refl, none.0, none.1))
-    (λ _. (none.2, e.numbers.0, e.numbers.1, e.numbers.2)) (e.works, e.keeps))
+    (λ _. none.2) (λ _. e.numbers) (e.works, e.keeps))
 
 pub work_file-requires-clause-least : goal.work_file-requires-clause-least
 work_file-requires-clause-least g c =
@@ -215,7 +215,7 @@ returns-in-Cached g c =
     refl refl c.cached_file.result old new from from bay input
     (working_not_one c.cached_file.result.status e.keeps.known) e.mounted (λ _. e.refused)
     (λ is. absurd (cc)) (λ _. (refl, none.0, none.1))
-    (λ _. (none.2, e.numbers.0, e.numbers.1, e.numbers.2)) (e.works, e.keeps))
+    (λ _. none.2) (λ _. e.numbers) (e.works, e.keeps))
 
 pub cached_file-requires-clause-least : goal.cached_file-requires-clause-least
 cached_file-requires-clause-least g c =
@@ -250,7 +250,7 @@ returns-in-Upgrade g c =
     (writing (upgrade c.in-Upgrade.file.now) refl refl refl refl c.upgrade_file.result old new from from bay
     input (upgrading_not_one c.upgrade_file.result.status e.keeps.known) e.mounted (λ _. e.refused)
     (λ is. absurd (cc)) (λ _. (refl, none.0, none.1))
-    (λ _. (none.2, e.numbers.0, e.numbers.1, e.numbers.2)) (e.upgrades, e.keeps))
+    (λ _. none.2) (λ _. e.numbers) (e.upgrades, e.keeps))
 
 pub returns-in-Batch : goal.returns-in-Batch
 returns-in-Batch g c =
@@ -265,8 +265,23 @@ returns-in-Batch g c =
     does_as (ap command_of c.in-Batch.is)
     (writing (batch c.in-Batch.file.now) refl refl refl refl c.batch_file.result old new from rest bay input
     none.0 e.mounted (λ _. e.refused) (λ is. absurd (cc)) (λ is. absurd (cc))
-    (λ _. (none.1, e.numbers.0, e.numbers.1, e.numbers.2))
+    (λ _. none.1) (λ _. e.numbers)
     (e.batches, e.keeps, e.reads))
+
+pub returns-in-Desk : goal.returns-in-Desk
+returns-in-Desk g c =
+    let e = c.desk_file.ensures in
+    let old = devices (g.B.Disk.state c.args.bay.now) (g.O.Sink.state c.args.output.now) in
+    let new = devices (g.B.Disk.state c.desk_file.new.bay) (g.O.Sink.state c.desk_file.new.output) in
+    let from = g.I.Source.state c.args.input.now in
+    let rest = g.I.Source.state c.desk_file.new.input in
+    let bay = c.desk_file.new.bay ≡ c.args.bay.now in
+    let input = c.desk_file.new.input ≡ c.args.input.now in
+    does_as (ap command_of c.in-Desk.is)
+    (writing (desk c.in-Desk.file.now) refl refl refl refl c.desk_file.result old new from rest bay input
+    (desking_not_one c.desk_file.result.status e.keeps.known) e.mounted (λ _. e.refused) (λ is. absurd (cc))
+    (λ is. absurd (cc)) (λ is. absurd (cc)) (λ _. e.numbers)
+    (e.desks, e.keeps, e.reads))
 
 pub returns-in-Load : goal.returns-in-Load
 returns-in-Load g c =
@@ -283,7 +298,7 @@ returns-in-Load g c =
     (writing (load c.in-Load.file.now c.in-Load.k c.in-Load.names) refl refl refl refl c.load_file.result old
     new from rest bay input none.0 e.mounted (λ is. absurd (cc))
     (λ _ told seven. loading_silent status old new e.keeps told seven) (λ is. absurd (cc))
-    (λ _. (none.1, e.numbers.0, e.numbers.1, e.numbers.2)) (e.loads, e.keeps, e.reads))
+    (λ _. none.1) (λ _. e.numbers) (e.loads, e.keeps, e.reads))
 
 pub load_file-requires-clause-sizes : goal.load_file-requires-clause-sizes
 load_file-requires-clause-sizes g c =

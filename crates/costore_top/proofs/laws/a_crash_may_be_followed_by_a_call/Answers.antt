@@ -1,4 +1,4 @@
-use Rattle.costore_top.proofs.FollowingLaws.{batch_followed, below_the_limit, block_high, calm_begins, rests_alone, run_followed, upgrade_followed, work_followed}
+use Rattle.costore_top.proofs.FollowingLaws.{batch_followed, below_the_limit, block_high, calm_begins, desk_begins, rests_alone, run_followed, upgrade_followed, work_followed}
 use Rattle.costore_top.proofs.laws.a_crash_may_be_followed_by_a_call.Goals as goal
 
 pub returns-clause-run : goal.returns-clause-run
@@ -36,6 +36,11 @@ pub returns-clause-calm_batch : goal.returns-clause-calm_batch
 returns-clause-calm_batch g c t m b text status old new out after opens batches twice calm =
     let left = (batches t m b opens).next_start calm in
     calm_begins (block_high (g.B.Disk.state old).file t opens.read) twice left.next left.low
+
+pub returns-clause-calm_desk : goal.returns-clause-calm_desk
+returns-clause-calm_desk g c t m b text events end old new out after opens script desks twice calm =
+    desk_begins (block_high (g.B.Disk.state old).file t opens.read) twice
+    (desks t m b events end opens script) calm
 
 pub returns-clause-low : goal.returns-clause-low
 returns-clause-low g c = below_the_limit

@@ -1,8 +1,8 @@
 -- What the one command does that was read, or that there is none.
 use Rattle.std.proofs.Common.{◌≡◌, refl}
-use Rattle.costore_top.proofs.DoesLaws.{answers_by_it, changes_of, formats_safely, headline_of, jobs_of, keeps_it, mounts_it, reads_it, session_of, words_known}
+use Rattle.costore_top.proofs.DoesLaws.{answers_by_it, changes_of, formats_safely, headline_of, jobs_of, keeps_it, mounts_it, reads_it, serves_it, words_known}
 use Rattle.costore_top.proofs.FaultyLaws.{answers_nothing, changes_nothing, does_no_job, formats_nothing, keeps_all, mounts_nothing, reads_nothing, words_faulty}
-use Rattle.costore_top.specs.Commands.{run}
+use Rattle.costore_top.specs.Commands.{desk, run}
 use Rattle.costore_top.specs.Words.{command_of, texts}
 use Rattle.disk_face.specs.Devices.{devices}
 use Rattle.costore_top.proofs.top.costore.Goals as goal
@@ -26,7 +26,7 @@ returns-in-Some g c =
       formats = formats_safely words command means o old new from rest _ _ does;
       unread = reads_it words command means o old new from rest _ _ does;
       headline = headline_of words command means o old new from rest _ _ does;
-      session = session_of words command means o old new from rest _ _ does;
+      serves = serves_it words command means o old new from rest _ _ does;
       jobs = jobs_of words command means o old new from rest _ _ does;
       changes = changes_of words command means o old new from rest _ _ does;
     }
@@ -49,7 +49,10 @@ returns-in-None g c =
       formats = formats_nothing words none o disk out after is;
       unread = reads_nothing words none o disk out after is refl;
       headline = λ file means. absurd (none (run file) means);
-      session = λ file means. absurd (none (run file) means);
+      serves = record {
+        session = λ file means. absurd (none (run file) means);
+        desk = λ file means. absurd (none (desk file) means);
+      };
       jobs = does_no_job words none o disk out after is;
       changes = changes_nothing words none o disk out after is (g.I.Source.state c.args.input.now)
           (g.I.Source.state c.args.input.now) (c.args.input.now ≡ c.args.input.now);

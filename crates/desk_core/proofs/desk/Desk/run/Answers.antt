@@ -1,7 +1,7 @@
 use Rattle.std.proofs.Common.{◌≡◌, arith, refl, false, true}
 use Rattle.ask_serve.specs.Outside.{held, outside}
 use Rattle.desk_core.proofs.ImageLaws.{opens_now}
-use Rattle.desk_core.proofs.PlayedLaws.{ends_in, played_more, played_none}
+use Rattle.desk_core.proofs.PlayedLaws.{ends_in, no_budget, played_more, played_none}
 use Rattle.desk_core.proofs.desk.Desk.run.Goals as goal
 
 pub turns-init : goal.turns-init
@@ -46,6 +46,8 @@ returns-in-Ended g c =
           c.in-Ended.ensures.keeps.readable told shown;
       same_disk = c.in-Ended.ensures.same_disk;
       same_sink = c.in-Ended.ensures.same_sink;
+      same_source = no_budget g.row.C c.turns.self c.one.new.self before now c.in-Ended.end
+          c.in-Ended.ensures.turn;
     }
 
 pub returns : goal.returns
@@ -63,4 +65,5 @@ returns g c = record {
       c.turns.invariant.played.readable told shown;
   same_disk = λ is. refl;
   same_sink = λ is. refl;
+  same_source = λ is. refl;
 }

@@ -1,0 +1,4 @@
+pub mod Acts
+pub mod Doing
+pub mod Desking
+pub mod Promise
