@@ -39,7 +39,12 @@ enum {
     COSTORE_IDLE = -14,      /* no flush is in hand */
     COSTORE_NO_STORE = -15,  /* the file is no store */
     COSTORE_BAD_NUMBER = -16,/* a number is out of its range */
-    COSTORE_NOT_FED = -17    /* the handle isn't being fed, or its file isn't empty */
+    COSTORE_NOT_FED = -17,   /* the handle isn't being fed, or its file isn't empty */
+    COSTORE_LINE = -18,      /* the text is no batch, or no dump */
+    COSTORE_UNFIT = -19,     /* the batch removes a name that isn't there, or leaves no room for its own name */
+    COSTORE_NO_BATCH = -20,  /* what the file keeps as a batch is none */
+    COSTORE_PENDING = -21,   /* the file keeps a batch, which is to be finished first */
+    COSTORE_MORE_NAMES = -22 /* the dump has more objects than the store is to have names */
 };
 
 /* How many names and bytes there are, now and at the last checkpoint. */
@@ -57,8 +62,12 @@ int32_t costore_new(uint64_t room, uint64_t log, void **at);
 int32_t costore_feed(costore *store, const uint8_t *bytes, size_t n);
 /* Opens what was fed, which is at rest on the device: all of it was synced. */
 int32_t costore_open(costore *store);
-/* Makes a store of a file of length 0, and opens it: buffers of a k-th (2 to 64), 16 to 65536 names. */
+/* Makes a store of a file of length 0, and opens it: buffers of a k-th (2 to 64), 16 to 65536 names. After
+   COSTORE_NO_MEMORY and COSTORE_DISK, as after an open that failed, the handle is closed; else it stays. */
 int32_t costore_format(costore *store, uint64_t k, uint64_t names);
+/* Makes a store of a file of length 0 that has the objects of a dump, and opens it. COSTORE_LINE writes the number of
+   the object at which the text stops being a dump, or 0 for its first line; COSTORE_MORE_NAMES how many there are. */
+int32_t costore_load(costore *store, const uint8_t *text, size_t n, uint64_t k, uint64_t names, uint64_t *number);
 /* Gives the file and the log back. */
 int32_t costore_close(costore *store);
 /* Gives the handle back. It is used no more. */
@@ -68,8 +77,17 @@ void costore_free(costore store);
 int32_t costore_put(costore *store, const uint8_t *name, size_t n, const uint8_t *object, size_t m);
 int32_t costore_del(costore *store, const uint8_t *name, size_t n);
 int32_t costore_keep(costore *store);
-/* Goes back to the last checkpoint. It notes nothing. */
+/* Goes back to the last checkpoint. It notes nothing: the log is that of the call before. */
 int32_t costore_back(costore *store);
+
+/* Does the puts and removals of a text as one: `put NAME SIZE`, a newline, the object, a newline; or `del NAME` and a
+   newline; by rising name. It answers COSTORE_KEPT, or COSTORE_DONE for an empty text. COSTORE_LINE and COSTORE_UNFIT
+   write the number of the request that is at fault, from 1. Where the making of its log stops, the file may keep the
+   text as the object COSTORE_BATCH: costore_batch then answers COSTORE_PENDING until costore_finish has done the rest.
+   `room` takes the text of that object; COSTORE_SHORT where it doesn't fit. COSTORE_DONE where none is kept. */
+#define COSTORE_BATCH "!batch"
+int32_t costore_batch(costore *store, const uint8_t *text, size_t n, uint64_t *number);
+int32_t costore_finish(costore *store, uint8_t *room, size_t m, uint64_t *number);
 
 /* As put and del, but a flush is in hand after COSTORE_IN_HAND. Each step notes one move; the last answers
    COSTORE_KEPT. Meanwhile get, size and list answer what stands after the request; others answer COSTORE_BUSY. */
@@ -78,17 +96,26 @@ int32_t costore_begin_del(costore *store, const uint8_t *name, size_t n);
 int32_t costore_step(costore *store);
 bool costore_in_hand(costore *store);
 
+/* These change nothing. Where they refuse they write nothing, but as said. */
 int32_t costore_size(costore *store, const uint8_t *name, size_t n, uint64_t *size);
-/* COSTORE_SHORT where `out` is too short; what stands in it then is no object. */
+/* Where in the file the object stands until the next call that changes, and how many bytes it has: for an engine that
+   maps the file, once the log was made. The bytes aren't compared with a digest. */
+int32_t costore_position(costore *store, const uint8_t *name, size_t n, uint64_t *at, uint64_t *size);
+/* COSTORE_SHORT exactly where `out` is too short for the object. After COSTORE_DAMAGED `out` may have bytes of it. */
 int32_t costore_get(costore *store, const uint8_t *name, size_t n, uint8_t *out, size_t m, uint64_t *size);
 int32_t costore_old(costore *store, const uint8_t *name, size_t n, uint8_t *out, size_t m, uint64_t *size);
-/* A line for each name: the name, a blank, the size of its object. At most 85 bytes a name. */
+/* A line for each name: the name, a blank, the size of its object. At most 85 bytes a name. COSTORE_SHORT exactly where
+   the lines don't fit; what stands in `out` then is no list. */
 int32_t costore_list(costore *store, uint8_t *out, size_t m, uint64_t *size);
 int32_t costore_stat(costore *store, costore_counts *counts);
 
+/* The dump of the last checkpoint: 512 bytes, those of all its objects and 78 for each name suffice. It takes memory
+   for the table of the file and as much as `out` has, and gives it back. */
+int32_t costore_dump(costore *store, uint8_t *out, size_t m, uint64_t *size);
+
 /* How many bytes the log of the last changing call has, and the file. */
 int32_t costore_lengths(costore *store, uint64_t *log, uint64_t *file);
-/* Copies m bytes of the log, or of the file, from a position on. */
+/* Copies m bytes of the log, or of the file, from a position on; COSTORE_SHORT where it has fewer. */
 int32_t costore_log(costore *store, uint64_t at, uint8_t *out, size_t m);
 int32_t costore_file(costore *store, uint64_t at, uint8_t *out, size_t m);
 

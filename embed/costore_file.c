@@ -149,8 +149,15 @@ int32_t costore_file_open(costore_file_t *f, const char *path, uint64_t room, ui
     return ended(f, replay(f, code));
 }
 
-int32_t costore_file_format(costore_file_t *f, const char *path, uint64_t k, uint64_t names, uint64_t room,
-                            uint64_t log) {
+/* A dump of which a store is made, or none for one of no names. */
+typedef struct dump_t {
+    const uint8_t *text;
+    size_t n;
+    uint64_t *number;
+} dump_t;
+
+static int32_t make(costore_file_t *f, const char *path, const dump_t *dump, uint64_t k, uint64_t names,
+                    uint64_t room, uint64_t log) {
     int32_t code;
     memset(f, 0, sizeof *f);
     f->fd = open(path, O_RDWR | O_CREAT | O_CLOEXEC, 0666);
@@ -158,10 +165,23 @@ int32_t costore_file_format(costore_file_t *f, const char *path, uint64_t k, uin
         return COSTORE_SYSTEM;
     code = feed(f, room, log);
     if (code == COSTORE_DONE)
-        code = replay(f, costore_format(&f->store, k, names));
+        code = dump ? costore_load(&f->store, dump->text, dump->n, k, names, dump->number)
+                    : costore_format(&f->store, k, names);
+    code = replay(f, code);
     if (code == COSTORE_DONE && sync_folder(path))
         code = COSTORE_SYSTEM;
     return ended(f, code);
+}
+
+int32_t costore_file_format(costore_file_t *f, const char *path, uint64_t k, uint64_t names, uint64_t room,
+                            uint64_t log) {
+    return make(f, path, NULL, k, names, room, log);
+}
+
+int32_t costore_file_load(costore_file_t *f, const char *path, const uint8_t *text, size_t n, uint64_t k,
+                          uint64_t names, uint64_t room, uint64_t log, uint64_t *number) {
+    dump_t dump = {text, n, number};
+    return make(f, path, &dump, k, names, room, log);
 }
 
 void costore_file_close(costore_file_t *f) {
@@ -196,4 +216,30 @@ int32_t costore_file_begin_del(costore_file_t *f, const uint8_t *name, size_t n)
 
 int32_t costore_file_step(costore_file_t *f) {
     return f->failed ? COSTORE_BROKEN : replay(f, costore_step(&f->store));
+}
+
+int32_t costore_file_finish(costore_file_t *f, uint64_t *number) {
+    uint64_t size = 0;
+    uint8_t *text;
+    int32_t code = f->failed ? COSTORE_BROKEN
+                             : costore_size(&f->store, (const uint8_t *)COSTORE_BATCH, sizeof COSTORE_BATCH - 1, &size);
+    if (code < COSTORE_DONE)
+        return code == COSTORE_MISSING ? COSTORE_DONE : code;
+    text = malloc(size + 1);
+    if (!text)
+        return COSTORE_NO_MEMORY;
+    code = replay(f, costore_finish(&f->store, text, size, number));
+    free(text);
+    return code;
+}
+
+int32_t costore_file_batch(costore_file_t *f, const uint8_t *text, size_t n, uint64_t *number) {
+    int32_t code = f->failed ? COSTORE_BROKEN : costore_batch(&f->store, text, n, number);
+    if (code == COSTORE_PENDING) {
+        code = costore_file_finish(f, number);
+        if (code < COSTORE_DONE)
+            return code;
+        code = costore_batch(&f->store, text, n, number);
+    }
+    return replay(f, code);
 }

@@ -22,7 +22,7 @@ static void is(const char *what, int64_t found, int64_t wanted) {
 
 static void changes(costore_file_t *f) {
     uint8_t out[4096], object[3000];
-    uint64_t size = 0, log = 0, length = 0;
+    uint64_t size = 0, log = 0, length = 0, at = 0;
     costore_counts counts;
     memset(object, 'x', sizeof object);
     is("put", costore_file_put(f, TEXT("a"), TEXT("one")) >= 0, 1);
@@ -46,6 +46,13 @@ static void changes(costore_file_t *f) {
     is("put, busy", costore_put(&f->store, TEXT("c"), TEXT("d")), COSTORE_BUSY);
     is("get, in hand", costore_get(&f->store, TEXT("big"), out, sizeof out, &size), COSTORE_DONE);
     is("bytes of big", memcmp(out, object, sizeof object), 0);
+    is("position, in hand", costore_position(&f->store, TEXT("big"), &at, &size), COSTORE_DONE);
+    is("size, in hand", (int64_t)size, sizeof object);
+    is("file, in hand", costore_file(&f->store, at, out, sizeof object), COSTORE_DONE);
+    is("is big", memcmp(out, object, sizeof object), 0);
+    is("old, busy", costore_old(&f->store, TEXT("a"), out, sizeof out, &size), COSTORE_BUSY);
+    is("stat, busy", costore_stat(&f->store, &counts), COSTORE_BUSY);
+    is("back, busy", costore_back(&f->store), COSTORE_BUSY);
     for (int step = 0; costore_in_hand(&f->store); step++)
         is("step", costore_file_step(f) >= COSTORE_KEPT, 1);
     is("step, idle", costore_step(&f->store), COSTORE_IDLE);
@@ -53,7 +60,7 @@ static void changes(costore_file_t *f) {
     while (costore_in_hand(&f->store))
         is("step", costore_file_step(f) >= COSTORE_KEPT, 1);
     is("list", costore_list(&f->store, out, sizeof out, &size), COSTORE_DONE);
-    is("list, too short", costore_list(&f->store, out, 1, &size) != COSTORE_BROKEN, 1);
+    is("list, just fits", costore_list(&f->store, out, size, &size), COSTORE_DONE);
     is("lengths", costore_lengths(&f->store, &log, &length), COSTORE_DONE);
     is("log, too long", costore_log(&f->store, log, out, 1), COSTORE_SHORT);
     is("file", costore_file(&f->store, 0, out, 8), COSTORE_DONE);
@@ -69,6 +76,9 @@ static void texts(costore_file_t *f) {
     is("list", costore_list(&f->store, out, sizeof out, &size), COSTORE_DONE);
     is("size of the list", (int64_t)size, 8);
     is("text of the list", memcmp(out, "a 3\nb 4\n", 8), 0);
+    is("list, just fits", costore_list(&f->store, out, 8, &size), COSTORE_DONE);
+    is("list, too short", costore_list(&f->store, out, 7, &size), COSTORE_SHORT);
+    is("get, just fits", costore_get(&f->store, TEXT("b"), out, 4, &size), COSTORE_DONE);
     is("keep", costore_file_keep(f), COSTORE_KEPT);
     is("stat", costore_stat(&f->store, &counts), COSTORE_DONE);
     is("names", (int64_t)counts.names, 2);
@@ -88,6 +98,25 @@ static void texts(costore_file_t *f) {
     is("last byte", costore_file(&f->store, length - 1, out, 1), COSTORE_DONE);
     is("is that of the file", out[0], byte);
     is("file, too long", costore_file(&f->store, length, out, 1), COSTORE_SHORT);
+}
+
+/* An object stands in the file, and in the one on the device, where its position says. */
+static void position(costore_file_t *f, const char *name, const char *object) {
+    uint8_t out[64];
+    uint64_t at = 7, size = 7, log = 0, length = 0;
+    size_t n = strlen(object);
+    is("position", costore_position(&f->store, TEXT(name), &at, &size), COSTORE_DONE);
+    is("its size", (int64_t)size, (int64_t)n);
+    is("lengths", costore_lengths(&f->store, &log, &length), COSTORE_DONE);
+    is("within the file", at + size <= length, 1);
+    is("file there", costore_file(&f->store, at, out, n), COSTORE_DONE);
+    is("is the object", memcmp(out, object, n), 0);
+    is("device there", pread(f->fd, out, n, (off_t)at), (int64_t)n);
+    is("is the object", memcmp(out, object, n), 0);
+    at = size = 7;
+    is("position, missing", costore_position(&f->store, TEXT("none"), &at, &size), COSTORE_MISSING);
+    is("position, no name", costore_position(&f->store, TEXT("a b"), &at, &size), COSTORE_BAD_NAME);
+    is("nothing is written", at == 7 && size == 7, 1);
 }
 
 /* A change that is done and not kept is no more after a way back. */
@@ -110,17 +139,95 @@ static void back(costore_file_t *f) {
     is("size, gone", costore_size(&f->store, name, n, &size), COSTORE_MISSING);
 }
 
+/* Batches, and why one isn't done. */
+static void batches(costore_file_t *f) {
+    uint8_t out[256], room[64];
+    uint64_t size = 0, number = 77;
+    costore *store = &f->store;
+    is("batch", costore_file_batch(f, TEXT("put ba 3\none\nput bb 0\n\n"), &number), COSTORE_KEPT);
+    is("number, as it was", (int64_t)number, 77);
+    is("get of ba", costore_get(store, TEXT("ba"), out, sizeof out, &size), COSTORE_DONE);
+    is("bytes of ba", memcmp(out, "one", 3), 0);
+    is("batch is gone", costore_size(store, TEXT(COSTORE_BATCH), &size), COSTORE_MISSING);
+    is("batch that removes", costore_file_batch(f, TEXT("del ba\nput bb 1\nx\n"), &number), COSTORE_KEPT);
+    is("get, removed", costore_get(store, TEXT("ba"), out, sizeof out, &size), COSTORE_MISSING);
+    is("batch, empty", costore_file_batch(f, TEXT(""), &number), COSTORE_DONE);
+    is("batch, not rising", costore_batch(store, TEXT("del bb\ndel ba\n"), &number), COSTORE_LINE);
+    is("second request", (int64_t)number, 2);
+    is("batch, no requests", costore_batch(store, TEXT("get bb\n"), &number), COSTORE_LINE);
+    is("first request", (int64_t)number, 1);
+    is("batch, unfit", costore_batch(store, TEXT("del bb\ndel bc\n"), &number), COSTORE_UNFIT);
+    is("unfit request", (int64_t)number, 2);
+    is("get of bb", costore_get(store, TEXT("bb"), out, sizeof out, &size), COSTORE_DONE);
+    is("finish, none", costore_finish(store, room, 0, &number), COSTORE_DONE);
+    is("put of a batch", costore_file_put(f, TEXT(COSTORE_BATCH), TEXT("del bb\n")) >= COSTORE_DONE, 1);
+    is("batch, pending", costore_batch(store, TEXT(""), &number), COSTORE_PENDING);
+    is("finish, short", costore_finish(store, room, 6, &number), COSTORE_SHORT);
+    is("finish", costore_file_finish(f, &number), COSTORE_KEPT);
+    is("get, finished", costore_get(store, TEXT("bb"), out, sizeof out, &size), COSTORE_MISSING);
+    is("put of no batch", costore_file_put(f, TEXT(COSTORE_BATCH), TEXT("xyz")) >= COSTORE_DONE, 1);
+    is("batch, no batch", costore_file_batch(f, TEXT(""), &number), COSTORE_NO_BATCH);
+    is("del of no batch", costore_file_del(f, TEXT(COSTORE_BATCH)) >= COSTORE_DONE, 1);
+    is("keep", costore_file_keep(f), COSTORE_KEPT);
+}
+
+/* A dump, and stores that are made of it or aren't. */
+static void streams(const char *path) {
+    costore_file_t f;
+    costore bare = {0};
+    uint8_t out[512], other[512];
+    uint64_t size = 0, again = 0, number = 77;
+    static const char wanted[] = "put a 3\none\nput b 0\n\n";
+    size_t rest = strlen(wanted);
+    is("format for a dump", costore_file_format(&f, path, 9, 64, 1 << 22, 1 << 20), COSTORE_DONE);
+    is("put", costore_file_batch(&f, TEXT(wanted), &number), COSTORE_KEPT);
+    is("dump", costore_dump(&f.store, out, sizeof out, &size), COSTORE_DONE);
+    is("its first line", memcmp(out, "dump 2 0 3 0 ", 13), 0);
+    is("its objects", memcmp(out + size - rest, wanted, rest), 0);
+    is("dump, too short", costore_dump(&f.store, other, size - 1, &again), COSTORE_SHORT);
+    costore_file_close(&f);
+    is("unlink", unlink(path), 0);
+    is("load", costore_file_load(&f, path, out, size, 5, 16, 1 << 22, 1 << 20, &number), COSTORE_DONE);
+    is("dump again", costore_dump(&f.store, other, sizeof other, &again), COSTORE_DONE);
+    is("its size", (int64_t)again, (int64_t)size);
+    is("the same", memcmp(out, other, size), 0);
+    costore_file_close(&f);
+    is("load, not empty", costore_file_load(&f, path, out, size, 5, 16, 1 << 22, 1 << 20, &number), COSTORE_NOT_FED);
+    is("unlink", unlink(path), 0);
+    is("new", costore_new(1 << 20, 1 << 16, &bare.at), COSTORE_DONE);
+    is("load, bad number", costore_load(&bare, out, size, 5, 15, &number), COSTORE_BAD_NUMBER);
+    is("load, cut", costore_load(&bare, out, size - 1, 5, 16, &number), COSTORE_LINE);
+    is("second object", (int64_t)number, 2);
+    is("load, closed", costore_load(&bare, out, size, 5, 16, &number), COSTORE_NOT_FED);
+    is("dump, closed", costore_dump(&bare, out, size, &again), COSTORE_CLOSED);
+    is("batch, closed", costore_batch(&bare, out, 0, &number), COSTORE_CLOSED);
+    costore_free(bare);
+    is("new", costore_new(1 << 20, 1 << 16, &bare.at), COSTORE_DONE);
+    memcpy(other, "dump 17", 7);
+    memcpy(other + 7, out + 6, size - 6);
+    is("load, more names", costore_load(&bare, other, size + 1, 5, 16, &number), COSTORE_MORE_NAMES);
+    is("how many", (int64_t)number, 17);
+    costore_free(bare);
+    is("new", costore_new(1 << 20, 1000, &bare.at), COSTORE_DONE);
+    is("load, log too small", costore_load(&bare, out, size, 5, 16, &number), COSTORE_DISK);
+    costore_free(bare);
+}
+
 /* A log that is too small: nothing is made on the file, the store is broken, and the file opens as it was. */
 static void small(const char *path) {
     costore_file_t f;
     uint8_t object[2000] = {0}, out[16];
-    uint64_t size;
+    uint64_t size, at;
     is("open, small log", costore_file_open(&f, path, 1 << 22, 1000), COSTORE_DONE);
     is("put, log too small", costore_file_put(&f, TEXT("z"), object, sizeof object), COSTORE_DISK);
     is("put, broken", costore_file_put(&f, TEXT("z"), TEXT("z")), COSTORE_BROKEN);
     is("get, broken", costore_get(&f.store, TEXT("a"), out, sizeof out, &size), COSTORE_BROKEN);
+    is("back, broken", costore_back(&f.store), COSTORE_BROKEN);
+    is("position, broken", costore_position(&f.store, TEXT("a"), &at, &size), COSTORE_BROKEN);
     is("close", costore_close(&f.store), COSTORE_DONE);
     is("close, closed", costore_close(&f.store), COSTORE_CLOSED);
+    is("position, closed", costore_position(&f.store, TEXT("a"), &at, &size), COSTORE_CLOSED);
+    is("in hand, closed", costore_in_hand(&f.store), 0);
     is("put, closed", costore_put(&f.store, TEXT("z"), TEXT("z")), COSTORE_CLOSED);
     is("feed, closed", costore_feed(&f.store, out, 1), COSTORE_NOT_FED);
     is("open, closed", costore_open(&f.store), COSTORE_NOT_FED);
@@ -138,6 +245,10 @@ int main(int argc, char **argv) {
     is("need, bad number", costore_need(1, 64, 1000, 100, &room, &log), COSTORE_BAD_NUMBER);
     is("new", costore_new(8, 8, &bare.at), COSTORE_DONE);
     is("format, bad number", costore_format(&bare, 1, 1024), COSTORE_BAD_NUMBER);
+    is("format, small room", costore_format(&bare, 9, 1024), COSTORE_DISK);
+    is("feed, closed", costore_feed(&bare, TEXT("1")), COSTORE_NOT_FED);
+    costore_free(bare);
+    is("new", costore_new(8, 8, &bare.at), COSTORE_DONE);
     is("feed, too long", costore_feed(&bare, TEXT("123456789")), COSTORE_SHORT);
     is("feed", costore_feed(&bare, TEXT("12345678")), COSTORE_DONE);
     is("format, not empty", costore_format(&bare, 9, 1024), COSTORE_NOT_FED);
@@ -145,9 +256,13 @@ int main(int argc, char **argv) {
     costore_free(bare);
     is("format", costore_file_format(&f, argv[1], 9, 64, 1 << 22, 1 << 20), COSTORE_DONE);
     texts(&f);
+    position(&f, "a", "one");
+    position(&f, "b", "four");
     back(&f);
+    batches(&f);
     costore_file_close(&f);
     is("unlink", unlink(argv[1]), 0);
+    streams(argv[1]);
     is("format another", costore_file_format(&f, argv[1], 9, 64, 1 << 22, 1 << 20), COSTORE_DONE);
     is("locked", costore_file_open(&other, argv[1], 1 << 22, 1 << 20), COSTORE_LOCKED);
     changes(&f);

@@ -6,7 +6,7 @@
 
 #include <pthread.h>
 
-enum { STACK = 128 << 10, MARK = 0xa5, NAMES = 1024, CHANGES = 6000 };
+enum { STACK = 192 << 10, MARK = 0xa5, NAMES = 1024, CHANGES = 6000 };
 
 static char *arguments[3];
 

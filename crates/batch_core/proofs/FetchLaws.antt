@@ -97,7 +97,8 @@ module _ {classes : ℕ} (x : StoreOn) (go : CanGo classes x) where
       (size_at (fin.get x.store.now batch_name)) r) (refused_get ∙ ap (λ (b : Bool). option_map refusal_for
       (if not b then Some ask.missing else None)) gone) answer
 
-  module _ (d : disk.State) (text : List ℕ) (room : SIZE_MAX ≤ length text) where
+  module _ (d : disk.State) (text : List ℕ)
+      (room : size_at (fin.get x.store.now batch_name) ≤ length text) where
     kept_text_is : (n : ℕ) → n ≡ size_at (fin.get x.store.now batch_name)
         → fin.contains_key x.store.now batch_name ≡ true
         → (IsTrue x.disk.tells → take n text ≡ object_in (state_on x).map batch_name)
@@ -106,11 +107,11 @@ module _ {classes : ℕ} (x : StoreOn) (go : CanGo classes x) where
         → FetchedAs x text (Ok (Some n))
     kept_text_is n is live same fine =
         let low : n ≤ SIZE_MAX = omega (arith, is, fetch_small) in (
-          omega (arith, low, room),
+          omega (arith, is, room),
           low,
           record {
             pending = live;
-            long = sym is ∙ sym (length-take-le n text (omega (arith, low, room)));
+            long = sym is ∙ sym (length-take-le n text (omega (arith, is, room)));
             same = same;
             sound = λ told. damaged_is x.store.book (state_on x).map batch_name
                 (object_in (state_on x).map batch_name)

@@ -1,5 +1,5 @@
 -- What the calls of a batcher answer, and what they leave.
-use Rattle.std.specs.Prelude.{◌≡◌, ◌≢◌, ◌⊎◌, ℕ, ◌+◌, ◌<◌, ◌^◌, ◌≤◌, Bool, true, false, ◌||◌, List, [], ◌∷◌, ◌++◌, length, take, Option, Some, None, Result, Ok, Err, IfOk, IsTrue}
+use Rattle.std.specs.Prelude.{◌≡◌, ◌≢◌, ◌⊎◌, ℕ, ◌+◌, ◌<◌, ◌^◌, ◌≤◌, Bool, true, false, ◌||◌, if◌then◌else◌, List, [], ◌∷◌, ◌++◌, length, take, Option, Some, None, Result, Ok, Err, IfOk, IsTrue}
 use Rattle.std.specs.FinMap as fin
 use Rattle.disk_face.specs.States as disk
 use Rattle.disk_face.specs.Frames.{Unchanged}
@@ -161,6 +161,10 @@ kept_text x = object_in (state_on x).map batch_name
 -- A store that isn't broken keeps an object under the batch's name.
 abbrev pub IsPending : StoreValue → Type 0
 IsPending s = (s.is_broken ≡ false) × IsTrue (fin.contains_key s.now batch_name)
+
+-- how many bytes that object has
+abbrev pub kept_size : StoreValue → ℕ
+kept_size s = if s.is_broken then 0 else size_at (fin.get s.now batch_name)
 
 -- and what it keeps has the digest that it is to have
 abbrev pub IsSound : StoreOn → Type 0

@@ -5,6 +5,7 @@ ghost use Rattle.disk_face.specs.Writes.{KeepsDisk};
 ghost use Rattle.map_model.specs.Requests.{Change};
 ghost use Rattle.slot_pair.specs.Finding.{HasDiskCause};
 ghost use Rattle.size_class.specs.declared.TheConstants.{SIZE_MAX};
+ghost use Rattle.store_core.specs.Answers.{size_at};
 ghost use Rattle.store_model.specs.Connection.{IsConnected};
 ghost use Rattle.store_model.specs.Stores.{IsStore};
 ghost use Rattle.batch_model.specs.Batches.{IsBatch, batch_name};
@@ -108,18 +109,33 @@ impl<const C: usize> Batcher<C> {
         if self.store.is_broken() {
             return Err(BatchFault::Broken);
         }
-        finish_store(&mut self.store, disk, &mut self.text)
+        finish_long(&mut self.store, disk, &mut self.text)
     }
 }
 
-/// Does the batch that a store keeps, with room for its text.
-fn finish_store<const C: usize, D: Disk>(
+/// Does the batch that a store keeps, with room for the longest text.
+fn finish_long<const C: usize, D: Disk>(
     store: &mut Store<C>,
     disk: &mut D,
     text: &mut [u8],
 ) -> Result<bool, BatchFault>
     requires go { CanGo C (store_on store.old (D.state disk.old)) }
     requires room { SIZE_MAX ≤ length text.old }
+    ensures long { length text.new ≡ length text.old }
+    ensures finishes { Finishes C (store_on store.old (D.state disk.old))
+        (store_on store.new (D.state disk.new)) result }
+{
+    finish_store(store, disk, text)
+}
+
+/// Does the batch that a store keeps, with room for its text.
+pub(crate) fn finish_store<const C: usize, D: Disk>(
+    store: &mut Store<C>,
+    disk: &mut D,
+    text: &mut [u8],
+) -> Result<bool, BatchFault>
+    requires go { CanGo C (store_on store.old (D.state disk.old)) }
+    requires room { size_at (fin.get store.old.now batch_name) ≤ length text.old }
     ensures long { length text.new ≡ length text.old }
     ensures finishes { Finishes C (store_on store.old (D.state disk.old))
         (store_on store.new (D.state disk.new)) result }
@@ -138,7 +154,7 @@ fn fetch_batch<const C: usize, D: Disk>(
     text: &mut [u8],
 ) -> Result<Option<u64>, BatchFault>
     requires go { CanGo C (store_on store.now (D.state disk.old)) }
-    requires room { SIZE_MAX ≤ length text.old }
+    requires room { size_at (fin.get store.now.now batch_name) ≤ length text.old }
     ensures long { length text.new ≡ length text.old }
     ensures fetched { IsFetched (store_on store.now (D.state disk.old)) (D.state disk.new) text.new result }
 {
@@ -194,7 +210,7 @@ fn finish_judged<const C: usize, D: Disk>(
 }
 
 /// Applies a text that was judged.
-fn apply_judged<const C: usize, D: Disk>(
+pub(crate) fn apply_judged<const C: usize, D: Disk>(
     store: &mut Store<C>,
     disk: &mut D,
     text: &[u8],

@@ -1,5 +1,8 @@
 -- Answers as numbers.
 use Rattle.std.specs.Prelude.{ℤ, ℕ, pos, negsuc, Result, Ok, Err}
+use Rattle.slot_pair.specs.declared.find.SlotFault.TheVariants as slot
+use Rattle.reopen.specs.declared.fault.OpenFault.{OpenFault}
+use Rattle.reopen.specs.declared.fault.OpenFault.TheVariants as fault
 use Rattle.store_core.specs.declared.answers.Begun.{Begun}
 use Rattle.store_core.specs.declared.answers.Begun.TheVariants as begun
 use Rattle.store_core.specs.declared.answers.Done.{Done}
@@ -18,6 +21,16 @@ busy_code = negsuc 12
 
 abbrev pub idle_code : ℤ
 idle_code = negsuc 13
+
+-- bytes don't fit; a number is out of its range; a handle isn't being fed, or has bytes already
+abbrev pub short_code : ℤ
+short_code = negsuc 8
+
+abbrev pub bad_number_code : ℤ
+bad_number_code = negsuc 15
+
+abbrev pub not_fed_code : ℤ
+not_fed_code = negsuc 16
 
 abbrev pub refusal_code : Refusal → ℤ
 refusal_code why.Broken = negsuc 1
@@ -52,3 +65,9 @@ step_code (Err refused) = refusal_code refused
 abbrev pub number_code : Result ℕ Refusal → ℤ
 number_code (Ok n) = pos 0
 number_code (Err refused) = refusal_code refused
+
+-- an opening gave no store
+abbrev pub opening_code : OpenFault → ℤ
+opening_code fault.NoMemory = negsuc 9
+opening_code (fault.Slot slot.Disk) = negsuc 7
+opening_code _ = negsuc 14

@@ -1,6 +1,5 @@
 -- What a call through a handle does to what it holds.
-use Rattle.std.specs.Prelude.{◌≡◌, ℤ, ℕ, List, take, false, Option, Some, None, IfOk, IsNone, IsSome, Result}
-use Rattle.std.specs.FinMap as fin
+use Rattle.std.specs.Prelude.{◌≡◌, ℤ, pos, true, false, Option, Some, None, IsNone, IsSome, Result}
 use Rattle.size_class.specs.declared.TheConstants.{CLASSES}
 use Rattle.map_model.specs.Requests as ask
 use Rattle.map_model.specs.Requests.{Change}
@@ -8,19 +7,20 @@ use Rattle.store_core.specs.declared.answers.Begun.{Begun}
 use Rattle.store_core.specs.declared.answers.Done.{Done}
 use Rattle.store_core.specs.declared.answers.Progress.{Progress}
 use Rattle.store_core.specs.declared.answers.Refusal.{Refusal}
-use Rattle.store_core.specs.Answers.{AnswersRead, refused_by, size_at}
+use Rattle.store_core.specs.declared.answers.Refusal.TheVariants as why
+use Rattle.store_core.specs.Answers.{refused_by}
 use Rattle.store_core.specs.Begins.{BeginsChange}
 use Rattle.store_core.specs.Changes.{NothingChanged}
 use Rattle.store_core.specs.Changing.{IsChange}
 use Rattle.store_core.specs.Keeps.{AnswersKeep, KeepsNow}
 use Rattle.store_core.specs.Steps.{AnswersStep, MakesOne}
-use Rattle.store_model.specs.Connection.{FlushInHand, state_of}
-use Rattle.store_model.specs.States.{object_in}
+use Rattle.store_model.specs.Connection.{FlushInHand, limits_of, state_of}
+use Rattle.store_model.specs.States.{Step}
 use Rattle.image_store.specs.Embedded.{Embedded, disk_before, disk_of, file_in}
 use Rattle.image_store.specs.Noted.{IsNoted}
 use Rattle.store_handle.specs.declared.Stage.{Stage}
 use Rattle.store_handle.specs.declared.Stage.TheVariants as stage
-use Rattle.costore_c.specs.Answers.{begin_code, busy_code, change_code, closed_code, idle_code, number_code, step_code}
+use Rattle.costore_c.specs.Answers.{begin_code, busy_code, change_code, closed_code, idle_code, refusal_code, step_code}
 
 -- a put or a removal was made or refused, as the store does it, and the log has its calls
 pub record Changes (c : Change) (old new : Embedded) (code : ℤ) : Type 0 where
@@ -56,15 +56,15 @@ pub record Steps (old new : Embedded) (code : ℤ) : Type 0 where
       → MakesOne old.store new.store h (disk_before old) (disk_of new) answer
   pub noted : IsNoted old new
 
--- an object was read, or the read was refused; the store stays
-pub record Reads (name : List ℕ) (old new : Embedded) (out : List ℕ) (size : ℕ) (code : ℤ) : Type 0 where
-  pub answer : Result ℕ Refusal
-  pub told : code ≡ number_code answer
-  pub answers : AnswersRead (refused_by old.store (ask.get name)) (size_at (fin.get old.store.now name)) answer
-  pub size_told : IfOk answer (λ n. size ≡ n)
-  pub object : old.store.is_broken ≡ false → old.store.in_hand ≡ None
-      → IfOk answer (λ n. take n out ≡ object_in (state_of old.store (file_in old)).map name)
-  pub store : new.store ≡ old.store
+-- The map of the last checkpoint stands again, and nothing was noted: the file and the log are as they were.
+-- A broken store stays.
+pub record GoesBack (old new : Embedded) (code : ℤ) : Type 0 where
+  pub broken : old.store.is_broken ≡ true → (code ≡ refusal_code why.Broken) × (new ≡ old)
+  pub done : old.store.is_broken ≡ false → (code ≡ pos 0)
+      × (new.store ≡ record old.store { now = old.store.kept; book = old.store.kept_book })
+  pub step : old.store.is_broken ≡ false → Step (limits_of old.store) (state_of old.store (file_in old))
+      ask.back ask.done (state_of new.store (file_in new))
+  pub noting : new.noting ≡ old.noting
 
 -- nothing was done, with an answer that says why
 abbrev pub Stays : Embedded → Embedded → ℤ → ℤ → Type 0
@@ -78,6 +78,11 @@ IfIdle (Some h) idle busy = busy
 -- it does so where none is in hand, and else waits
 abbrev pub WhenIdle : (Embedded → Embedded → ℤ → Type 0) → Embedded → Embedded → ℤ → Type 0
 WhenIdle does old new code = IfIdle old.store.in_hand (does old new code) (Stays old new code busy_code)
+
+-- it does so where none is in hand, and else waits, and memory of its caller stays
+abbrev pub WhenIdleElse : Type 0 → (Embedded → Embedded → ℤ → Type 0) → Embedded → Embedded → ℤ → Type 0
+WhenIdleElse stays does old new code =
+    IfIdle old.store.in_hand (does old new code) (Stays old new code busy_code × stays)
 
 -- it does so where one is in hand
 abbrev pub WhenInHand : (Embedded → Embedded → ℤ → Type 0) → Embedded → Embedded → ℤ → Type 0
@@ -94,3 +99,10 @@ abbrev pub OnOpen : (Embedded → Embedded → ℤ → Type 0) → Stage → Sta
 OnOpen does (stage.Open old) now code = IsOpenThen now (λ new. does old new code)
 OnOpen does stage.Closed now code = (now ≡ stage.Closed) × (code ≡ closed_code)
 OnOpen does (stage.Fed room log) now code = (now ≡ stage.Fed room log) × (code ≡ closed_code)
+
+-- the same of one that writes to memory of its caller, which stays where it does nothing
+abbrev pub OnOpenElse : Type 0 → (Embedded → Embedded → ℤ → Type 0) → Stage → Stage → ℤ → Type 0
+OnOpenElse stays does (stage.Open old) now code = IsOpenThen now (λ new. does old new code)
+OnOpenElse stays does stage.Closed now code = (now ≡ stage.Closed) × (code ≡ closed_code) × stays
+OnOpenElse stays does (stage.Fed room log) now code =
+    (now ≡ stage.Fed room log) × (code ≡ closed_code) × stays

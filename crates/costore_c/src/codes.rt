@@ -1,6 +1,7 @@
 //! Answers as numbers.
-ghost use Rattle.std.specs.Prelude.{◌≡◌, ◌≢◌, IfOk, pos};
-ghost use Rattle.costore_c.specs.Answers.{begin_code, change_code, number_code, refusal_code, step_code};
+ghost use Rattle.std.specs.Prelude.{◌≡◌};
+ghost use Rattle.costore_c.specs.Answers.{begin_code, change_code, number_code, opening_code, refusal_code, step_code};
+ghost use Rattle.costore_c.specs.Reads.{told_or};
 
 use reopen::OpenFault;
 use slot_pair::SlotFault;
@@ -69,6 +70,21 @@ pub const BAD_NUMBER: i32 = -16;
 /// The handle isn't being fed, or has bytes already.
 pub const NOT_FED: i32 = -17;
 
+/// The text is no batch, or no dump.
+pub const LINE: i32 = -18;
+
+/// The batch removes a name that isn't there, or leaves no room for its own name.
+pub const UNFIT: i32 = -19;
+
+/// What the file keeps as a batch is none.
+pub const NO_BATCH: i32 = -20;
+
+/// The file keeps a batch that is to be finished first.
+pub const PENDING: i32 = -21;
+
+/// The dump has more objects than the store is to have names.
+pub const MORE_NAMES: i32 = -22;
+
 /// The code of a refusal.
 pub fn of_refusal(refusal: Refusal) -> i32
     ensures { result ≡ refusal_code refusal }
@@ -122,7 +138,7 @@ pub fn of_step(answer: Result<Progress, Refusal>) -> i32
 
 /// The code of an opening that gave no store.
 pub fn of_opening(fault: &OpenFault) -> i32
-    ensures { result ≢ pos 0 }
+    ensures { result ≡ opening_code fault.now }
 {
     match fault {
         OpenFault::NoMemory => NO_MEMORY,
@@ -131,10 +147,10 @@ pub fn of_opening(fault: &OpenFault) -> i32
     }
 }
 
-/// The code of an answer with a number, which it writes.
+/// The code of an answer with a number, which it writes; at a refusal it writes nothing.
 pub fn of_number(answer: Result<u64, Refusal>, out: &mut u64) -> i32
     ensures code { result ≡ number_code answer }
-    ensures number { IfOk answer (λ n. out.new ≡ n) }
+    ensures number { out.new ≡ told_or out.old answer }
 {
     match answer {
         Ok(n) => {

@@ -1,6 +1,7 @@
 //! Handles: making one, feeding it a file, opening and closing its store.
-ghost use Rattle.std.specs.Prelude.{◌≡◌};
-ghost use Rattle.costore_c.specs.Openings.{FeedsFed, IsOpenOf, OpensFed};
+ghost use Rattle.slot_codec.specs.Readable.{IsSuperBlock};
+ghost use Rattle.slot_pair.specs.Formats.{block_for};
+ghost use Rattle.costore_c.specs.Openings.{Closes, FeedsFed, Formats, IsOpenOf, MakesFed, OpensFed};
 ghost use Rattle.store_handle.specs.declared.Stage.TheVariants as Stage;
 
 use crate::codes::{BAD_NUMBER, CLOSED, DONE, NO_MEMORY, NOT_FED, SHORT, of_opening};
@@ -77,27 +78,18 @@ fn open_fed(alloc: Global, room: Room, log: Log, stage: &mut Stage) -> i32
     }
 }
 
-/// Makes a store with no names of an empty file, and opens it.
+/// Makes a store with no names of an empty file, and opens it. Where it answers that there is no memory, or
+/// that the room or the log is too small, the handle is closed; at any other refusal it stays.
 #[unsafe(no_mangle)]
-pub extern "C" fn costore_format(alloc: Global, store: &mut Handle, k: u64, names: u64) -> i32 {
+pub extern "C" fn costore_format(alloc: Global, store: &mut Handle, k: u64, names: u64) -> i32
+    ensures { Formats k names store.old.value.stage store.new.value.stage result }
+{
     if !(2 <= k && k <= 64 && 16 <= names && names <= 65536) {
         return BAD_NUMBER;
     }
     let held = store.held();
     match mem::replace(&mut held.stage, Stage::Closed) {
-        Stage::Fed(room, log) => {
-            if room.end() != 0 {
-                held.stage = Stage::Fed(room, log);
-                return NOT_FED;
-            }
-            match ImageStore::format(alloc, room, log, k, names) {
-                Ok(open) => {
-                    held.stage = Stage::Open(open);
-                    DONE
-                }
-                Err(fault) => of_opening(&fault),
-            }
-        }
+        Stage::Fed(room, log) => make_fed(alloc, room, log, k, names, &mut held.stage),
         stage => {
             held.stage = stage;
             NOT_FED
@@ -105,10 +97,31 @@ pub extern "C" fn costore_format(alloc: Global, store: &mut Handle, k: u64, name
     }
 }
 
+/// Makes a store of a file that was fed, which is to have no bytes.
+fn make_fed(alloc: Global, room: Room, log: Log, k: u64, names: u64, stage: &mut Stage) -> i32
+    requires ranges { IsSuperBlock (block_for k names) }
+    ensures { MakesFed k names (Stage.Fed room log) stage.new result }
+{
+    if room.end() != 0 {
+        *stage = Stage::Fed(room, log);
+        return NOT_FED;
+    }
+    match ImageStore::format(alloc, room, log, k, names) {
+        Ok(open) => {
+            *stage = Stage::Open(open);
+            DONE
+        }
+        Err(fault) => {
+            *stage = Stage::Closed;
+            of_opening(&fault)
+        }
+    }
+}
+
 /// Closes the store, and gives the memory of its file and of its log back.
 #[unsafe(no_mangle)]
 pub extern "C" fn costore_close(store: &mut Handle) -> i32
-    ensures { store.new.value.stage ≡ Stage.Closed }
+    ensures { Closes store.old.value.stage store.new.value.stage result }
 {
     let held = store.held();
     match mem::replace(&mut held.stage, Stage::Closed) {

@@ -1,6 +1,7 @@
 //! Changes whose flush is made one move at a time.
 ghost use Rattle.store_model.specs.Quiet.{del_of, put_of};
 ghost use Rattle.costore_c.specs.Calls.{Begins, OnOpen, Steps, WhenIdle, WhenInHand};
+ghost use Rattle.costore_c.specs.Reads.{TellsInHand};
 
 use crate::codes::{BUSY, CLOSED, IDLE, of_begin, of_step};
 use image_store::ImageStore;
@@ -44,7 +45,9 @@ pub extern "C" fn costore_step(store: &mut Handle) -> i32
 
 /// Whether a flush is in hand.
 #[unsafe(no_mangle)]
-pub extern "C" fn costore_in_hand(store: &mut Handle) -> bool {
+pub extern "C" fn costore_in_hand(store: &mut Handle) -> bool
+    ensures { TellsInHand store.old.value.stage store.new.value.stage result }
+{
     match &store.held().stage {
         Stage::Open(open) => open.in_hand(),
         _ => false,

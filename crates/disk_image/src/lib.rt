@@ -9,7 +9,9 @@ pub mod laws;
 mod log;
 mod room;
 mod trail;
+mod view;
 
 pub use disk::ImageDisk;
 pub use log::Log;
 pub use room::{Room, TooLong};
+pub use view::FileView;

@@ -1,5 +1,13 @@
+pub mod BackLaws
+pub mod BatchLaws
+pub mod CopyLaws
+pub mod FirstLaws
+pub mod ListLaws
+pub mod MadeLaws
 pub mod MountLaws
 pub mod NotedLaws
 pub mod ReadableLaws
 pub mod RestLaws
 pub mod StopLaws
+pub mod StreamLaws
+pub mod ViewLaws

@@ -34,13 +34,13 @@ readable_read {classes} {s} {new} {a} {d} e same is =
     by_kind (inl c) = inl (connected_read same c)
     by_kind (inr h) = inr (halfway_read same h)
 
-no_some : {A P : Type 0} (o : Option A) → IsSome o → o ≡ None → P
+pub no_some : {A P : Type 0} (o : Option A) → IsSome o → o ≡ None → P
 no_some None some none = absurd (search rules)
 no_some (Some x) some none = absurd (search rules)
 
 -- a flush is in hand
-pub halfway_emptied : {s : StoreValue} (n : Noting) {new : Noting} → new ≡ emptied n → IsReadable CLASSES s (image_state n)
-    → IsSome s.in_hand → IsHalfway CLASSES s (image_state new)
+pub halfway_emptied : {s : StoreValue} (n : Noting) {new : Noting} → new ≡ emptied n
+    → IsReadable CLASSES s (image_state n) → IsSome s.in_hand → IsHalfway CLASSES s (image_state new)
 halfway_emptied {s} n {new} e is some =
     subst (λ (x : Noting). IsHalfway CLASSES s (image_state x)) (sym e) (by_kind is)
   where
@@ -50,7 +50,10 @@ halfway_emptied {s} n {new} e is some =
       hand = h.hand;
       is = h.is;
       digests = h.digests;
-      half = λ told. ((h.half told).0, record { flies = (h.half told).1.flies; loose = (h.half told).1.loose });
+      half = λ told. (
+        (h.half told).0,
+        record { flies = (h.half told).1.flies; loose = (h.half told).1.loose },
+      );
     }
 
 -- what a step leaves of a disk that half agreed, by what was seen
@@ -59,7 +62,8 @@ pub steps_seen : {e seen : Embedded} {before : Noting} {new : StoreValue} {now :
     → ((h : FlushInHand) (o : Origin) → seen.store.in_hand ≡ Some h
     → HalfAgrees CLASSES seen.store h o (image_state before)
     → StepsHalf CLASSES o seen.store new (image_state before) now result)
-    → (h : FlushInHand) (o : Origin) → e.store.in_hand ≡ Some h → HalfAgrees CLASSES e.store h o (disk_before e)
+    → (h : FlushInHand) (o : Origin) → e.store.in_hand ≡ Some h
+    → HalfAgrees CLASSES e.store h o (disk_before e)
     → StepsHalf CLASSES o e.store new (disk_before e) now result
 steps_seen {e} {seen} {before} {new} {now} {result} is began half =
     subst (λ (x : Embedded). (h : FlushInHand) (o : Origin) → x.store.in_hand ≡ Some h

@@ -18,9 +18,9 @@ use Rattle.store_core.specs.Changes.{NothingChanged}
 use Rattle.store_core.specs.Changing.{IsChange}
 use Rattle.store_core.specs.Keeps.{KeepsNow}
 use Rattle.store_model.specs.Connection.{RestsOnTable, SameOnTable, StoreValue, base_of}
-use Rattle.store_model.specs.Opened.{IsOpening, RestsOnFound, SameOnFound}
+use Rattle.store_model.specs.Opened.{IsOpening, SameOnFound}
 use Rattle.store_model.specs.Quiet.{charges_of}
-use Rattle.image_store.specs.Embedded.{Embedded, disk_before, disk_of}
+use Rattle.image_store.specs.Embedded.{Embedded, disk_of}
 use Rattle.image_store.specs.Noted.{RestsOnKept}
 
 by_cases : {A P : Type 0} (o : Option A) → (IsSome o → P) → (IsNone o → P) → P
@@ -31,8 +31,12 @@ by_bool : {P : Type 0} (b : Bool) → (b ≡ true → P) → (b ≡ false → P)
 by_bool true f g = f refl
 by_bool false f g = g refl
 
-found_itself : (t : choice.SlotTable) (file : List ℕ) → SameOnFound t file file
-found_itself t file = record { same_length = refl; below = λ i low. refl; objects = λ i low j above below. refl }
+pub found_itself : (t : choice.SlotTable) (file : List ℕ) → SameOnFound t file file
+found_itself t file = record {
+  same_length = refl;
+  below = λ i low. refl;
+  objects = λ i low j above below. refl;
+}
 
 pub opened_rests : (file : List ℕ) (room log_room : ℕ) (s : Embedded)
     → IsOpening CLASSES (image_state (lent file room log_room)) (disk_of s) (Ok s.store) → RestsOnKept s
@@ -73,8 +77,10 @@ module _ {old new : StoreValue} {a d : disk.State} (told : IsTrue a.tells) where
       calm : is_disk_fault result ≡ false
       calm = or_right old.is_broken (is_disk_fault result) (sym is.broken ∙ whole)
 
-      answers : IsNone (refused_by old (ask.change c)) → AnswersChange (is_quiet (charges_of old c)) None result
-      answers h = subst (λ o. AnswersChange (is_quiet (charges_of old c)) o result) (none_of (refused_by old (ask.change c)) h) is.answer
+      answers : IsNone (refused_by old (ask.change c))
+          → AnswersChange (is_quiet (charges_of old c)) None result
+      answers h = subst (λ o. AnswersChange (is_quiet (charges_of old c)) o result)
+          (none_of (refused_by old (ask.change c)) h) is.answer
 
       quiet_rests : IsNone (refused_by old (ask.change c)) → is_quiet (charges_of old c) ≡ true
           → RestsOnTable (base_of new) new.kept d
@@ -95,6 +101,7 @@ module _ {old new : StoreValue} {a d : disk.State} (told : IsTrue a.tells) where
   keep_rests result refused kept whole rests = by_cases (refused_by old ask.keep)
       (λ h. refused_rests (refused h) rests) (λ h. by_result result (kept h))
     where
-      by_result : (r : Result Done Refusal) → KeepsNow CLASSES old new a d r → RestsOnTable (base_of new) new.kept d
+      by_result : (r : Result Done Refusal) → KeepsNow CLASSES old new a d r
+          → RestsOnTable (base_of new) new.kept d
       by_result (Ok done) k = k.on_table told
       by_result (Err why) k = absurd (false≢true (sym whole ∙ ap (λ (s : StoreValue). s.is_broken) k.failed))

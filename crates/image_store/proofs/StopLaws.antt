@@ -1,10 +1,9 @@
 -- What a stopped replay leaves of a file whose calls a store has noted.
-use Rattle.std.proofs.Common.{arith, rules, ◌≡◌, refl, subst, sym, inl, inr, Bool, true, false, ℕ, List}
+use Rattle.std.proofs.Common.{arith, rules, ◌≡◌, refl, inl, inr, Bool, true, false, ℕ, List}
 use Rattle.std.specs.Prelude.{◌⊎◌, ◌<◌, ◌-◌, ◌^◌, Option, Some, None, IsSome, IsNone, Result}
 use Rattle.disk_face.specs.Moments.{Leaves}
-use Rattle.disk_face.specs.States as disk
 use Rattle.size_class.specs.declared.TheConstants.{CLASSES}
-use Rattle.disk_history.specs.Histories.{LeftSince, MayLeave}
+use Rattle.disk_history.specs.Histories.{MayLeave}
 use Rattle.disk_history.specs.Lawful.{only_now_law}
 use Rattle.disk_image.proofs.StopLaws.{spelled_stop}
 use Rattle.map_model.specs.Requests as ask
@@ -30,12 +29,13 @@ by_bool false f g = g refl
 
 -- by what the call left since it began
 module _ (old new : Embedded) (noted : IsNoted old new) (low : old.noting.history.turn < 2 ^ 64 - 1) where
-  stops : (P Q : List ℕ → Type 0) → ((image : List ℕ) → P image → MayLeave old.noting.history image ⊎ Q image)
+  pub stops : (P Q : List ℕ → Type 0)
+      → ((image : List ℕ) → P image → MayLeave old.noting.history image ⊎ Q image)
       → Leaves (disk_before old) (disk_of new) P → StopsAt old new Q
   stops P Q weaker left calls image spells fits is =
       elim (left.each old.noting.history.turn image (omega (arith, low))
-      (spelled_stop old.noting.history new.noting.history new.noting.text calls image noted.log noted.ended spells
-      fits is)) as (λ _. MayLeave old.noting.history image ⊎ Q image) [
+      (spelled_stop old.noting.history new.noting.history new.noting.text calls image noted.log noted.ended
+      spells fits is)) as (λ _. MayLeave old.noting.history image ⊎ Q image) [
         | inl past ↦ inl (only_now_law old.noting.history image low past)
         | inr now ↦ weaker image now
       ]

@@ -3,7 +3,7 @@
 use Rattle.std.specs.Prelude.{◌⊎◌, ◌≡◌, ℕ, List}
 use Rattle.size_class.specs.declared.TheConstants.{CLASSES}
 use Rattle.disk_history.specs.Changes.{RecordedCall}
-use Rattle.disk_history.specs.Histories.{EndedBy, MayLeave}
+use Rattle.disk_history.specs.Histories.{EndedBy, MayLeave, fresh}
 use Rattle.disk_image.specs.Calls.{FitEntries, text_of}
 use Rattle.disk_image.specs.Notings.{IsLog}
 use Rattle.disk_image.specs.Stops.{IsStopped}
@@ -16,6 +16,11 @@ use Rattle.image_store.specs.Embedded.{Embedded, disk_of, file_in}
 pub record IsNoted (old new : Embedded) : Type 0 where
   pub log : IsLog old.noting.history new.noting.history new.noting.text
   pub ended : EndedBy new.noting.history.turn new.noting.history.calls
+
+-- the log of a store that was opened or made spells the calls that made its file of one that was at rest
+pub record IsNotedOf (file : List ℕ) (s : Embedded) : Type 0 where
+  pub log : IsLog (fresh file) s.noting.history s.noting.text
+  pub ended : EndedBy s.noting.history.turn s.noting.history.calls
 
 -- the disk rests on the table of the last checkpoint
 abbrev pub RestsOnKept : Embedded → Type 0
@@ -30,4 +35,5 @@ IsChangeImage c e image =
 -- which calls the text is spelled.
 abbrev pub StopsAt : Embedded → Embedded → (List ℕ → Type 0) → Type 0
 StopsAt old new P = (calls : List RecordedCall) (image : List ℕ) → new.noting.text ≡ text_of calls
-    → FitEntries calls → IsStopped old.noting.history calls image → MayLeave old.noting.history image ⊎ P image
+    → FitEntries calls → IsStopped old.noting.history calls image
+    → MayLeave old.noting.history image ⊎ P image

@@ -1,12 +1,18 @@
 //! A store over a file in memory, as one value, for a program that makes the calls of the system itself.
 #![tactic(auto)]
 
+mod batch;
+pub mod batch_laws;
 mod change;
+mod dumped;
 pub mod laws;
+mod lent;
 mod reads;
 mod sliced;
 mod store;
+mod stream;
 mod taken;
 
 pub use store::ImageStore;
+pub use stream::DumpStop;
 pub use taken::Taken;

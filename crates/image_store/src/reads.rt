@@ -1,17 +1,23 @@
 //! Reading objects of a store, and what there is in it.
-ghost use Rattle.std.specs.Prelude.{◌≡◌, false, length, take, IfOk, None};
+ghost use Rattle.std.specs.Prelude.{◌≡◌, ◌⊎◌, ◌+◌, ◌≤◌, ◌↔◌, ℕ, List, true, length, take, Err, IfErr, IfOk, IsErr, IsOk, None, OnErr, OnOk};
 ghost use Rattle.std.specs.FinMap as fin;
+ghost use Rattle.extent_table.specs.Extents.{volume_of};
 ghost use Rattle.map_model.specs.Requests as ask;
-ghost use Rattle.store_core.specs.Answers.{AnswersNumber, AnswersRead, refused_by, size_at};
+ghost use Rattle.segment_layout.specs.Books.{book_end};
+ghost use Rattle.store_core.specs.Answers.{AnswersList, AnswersNumber, refused_by, size_at};
+ghost use Rattle.store_core.specs.Readings.{asks_for, object_read, position_of, spot_read};
+ghost use Rattle.store_model.specs.Lines.{lines_of, listing_of};
+ghost use Rattle.image_store.specs.Readings.{CanCopy, IsIdle, ReadsInto, StandsAt, object_answer, read_answer};
 
 use crate::ImageStore;
 use crate::taken::Taken;
-use store_core::{Gauge, Refusal, Stat};
+use disk_image::FileView;
+use store_core::{Gauge, Moment, Refusal, Stat};
 
 impl ImageStore {
     ghost use Rattle.image_store.specs.Embedded.{file_in};
-    ghost use Rattle.store_model.specs.Connection.{state_of};
-    ghost use Rattle.store_model.specs.States.{object_in};
+    ghost use Rattle.store_model.specs.Connection.{limits_of, state_of};
+    ghost use Rattle.store_model.specs.States.{Step};
 
     /// The size of an object.
     pub fn size(&self, name: &[u8]) -> Result<u64, Refusal>
@@ -30,59 +36,105 @@ impl ImageStore {
         self.store.old_size(name)
     }
 
-    /// Copies an object to the front of `out`, also while a flush is in hand, and answers how many bytes it
-    /// has. Where they don't fit the sink failed.
-    pub fn get(&mut self, name: &[u8], out: &mut [u8]) -> Result<u64, Refusal>
-        ensures answer { AnswersRead (refused_by self.old.store (ask.get name.now))
-            (size_at (fin.get self.old.store.now name.now)) result }
-        ensures object { self.old.store.is_broken ≡ false → self.old.store.in_hand ≡ None
-            → IfOk result (λ n. take n out.new
-            ≡ object_in (state_of self.old.store (file_in self.old)).map name.now) }
-        ensures store { self.new.store ≡ self.old.store }
-        ensures same_length { length out.new ≡ length out.old }
+    /// Where an object begins in the file: a position in bytes, the header's included. Its bytes stand there
+    /// until the next call that changes. They aren't compared with a digest.
+    pub fn position(&self, name: &[u8]) -> Result<u64, Refusal>
+        ensures answer { AnswersNumber (refused_by self.now.store (ask.get name.now))
+            (position_of self.now.store (ask.get name.now)) result }
+        ensures object { IfOk result (StandsAt self.now name.now) }
     {
-        match self.store.size(name) {
-            Ok(size) => {
-                if size > out.len() as u64 {
-                    return Err(Refusal::Sink);
-                }
+        if self.store.is_broken() {
+            return Err(Refusal::Broken);
+        }
+        self.store.position(Moment::Now, name)
+    }
+
+    /// Copies an object to the front of `out`, also while a flush is in hand, and answers how many bytes it
+    /// has. The sink failed where they don't fit.
+    pub fn get(&mut self, name: &[u8], out: &mut [u8]) -> Result<u64, Refusal>
+        ensures read { ReadsInto (ask.get name.now) (IsIdle self.old) self.old out.old out.new result }
+        ensures same { self.new ≡ self.old }
+    {
+        match self.fits(Moment::Now, name, out.len()) {
+            Ok(()) => {
                 if self.store.in_hand() {
-                    return self.get_in_hand(name, out);
+                    return self.copy(Moment::Now, name, out);
                 }
-                self.store.fetch(&mut self.disk, name, out)
+                self.fetch(name, out)
             }
             Err(refusal) => Err(refusal),
         }
     }
 
-    /// The same while a flush is in hand.
-    fn get_in_hand(&mut self, name: &[u8], out: &mut [u8]) -> Result<u64, Refusal>
-        ensures answer { AnswersRead (refused_by self.old.store (ask.get name.now))
-            (size_at (fin.get self.old.store.now name.now)) result }
-        ensures store { self.new.store ≡ self.old.store }
-        ensures same_length { length out.new ≡ length out.old }
+    /// Copies an object of the last checkpoint to the front of `out`, as `get` does one of now.
+    pub fn old(&mut self, name: &[u8], out: &mut [u8]) -> Result<u64, Refusal>
+        ensures read { ReadsInto (ask.old name.now) ⊥ self.old out.old out.new result }
+        ensures same { self.new ≡ self.old }
     {
-        let mut taken = Taken::new(out);
-        self.store.get(&mut self.disk, name, &mut taken)
+        match self.fits(Moment::Kept, name, out.len()) {
+            Ok(()) => self.copy(Moment::Kept, name, out),
+            Err(refusal) => Err(refusal),
+        }
     }
 
-    /// Copies an object of the last checkpoint to the front of `out`.
-    pub fn old(&mut self, name: &[u8], out: &mut [u8]) -> Result<u64, Refusal>
-        requires idle { self.old.store.in_hand ≡ None }
-        ensures answer { AnswersRead (refused_by self.old.store (ask.old name.now))
-            (size_at (fin.get self.old.store.kept name.now)) result }
-        ensures store { self.new.store ≡ self.old.store }
+    /// Whether an object of now or of the last checkpoint may be read into so many bytes.
+    fn fits(&self, moment: Moment, name: &[u8], room: usize) -> Result<(), Refusal>
+        ensures fits { OnOk result (CanCopy self.now (asks_for moment name.now) room) }
+        ensures refused { IfErr result (λ why. read_answer self.now (asks_for moment name.now) room
+            ≡ Err why) }
+    {
+        if self.store.is_broken() {
+            return Err(Refusal::Broken);
+        }
+        match self.store.size_of(moment, name) {
+            Ok(size) => {
+                if size > room as u64 {
+                    return Err(Refusal::Sink);
+                }
+                Ok(())
+            }
+            Err(refusal) => Err(refusal),
+        }
+    }
+
+    /// Copies one that fits, in pieces.
+    fn copy(&mut self, moment: Moment, name: &[u8], out: &mut [u8]) -> Result<u64, Refusal>
+        requires fits { CanCopy self.old (asks_for moment name.now) (length out.old) }
+        ensures answer { (result ≡ object_answer self.old (asks_for moment name.now))
+            ⊎ (result ≡ Err Refusal.Sink) }
+        ensures same { self.new ≡ self.old }
         ensures same_length { length out.new ≡ length out.old }
     {
+        let mut view = FileView::of(self.disk.bytes());
         let mut taken = Taken::new(out);
-        self.store.old(&mut self.disk, name, &mut taken)
+        self.store.read(moment, &mut view, name, &mut taken)
+    }
+
+    /// The same with no flush in hand, at once.
+    fn fetch(&mut self, name: &[u8], out: &mut [u8]) -> Result<u64, Refusal>
+        requires idle { self.old.store.in_hand ≡ None }
+        requires fits { CanCopy self.old (ask.get name.now) (length out.old) }
+        ensures answer { result ≡ object_answer self.old (ask.get name.now) }
+        ensures object { IfOk result (λ n. take n out.new
+            ≡ object_read (state_of self.old.store (file_in self.old)) (ask.get name.now)) }
+        ensures same { self.new ≡ self.old }
+        ensures same_length { length out.new ≡ length out.old }
+    {
+        let mut view = FileView::of(self.disk.bytes());
+        self.store.fetch(&mut view, name, out)
     }
 
     /// Copies a line for each name to the front of `out`, the name and the size of its object, by rising
-    /// name, and answers how many bytes they have. Where they don't fit the sink failed.
+    /// name, and answers how many bytes they have. The sink failed where they don't fit.
     pub fn list(&self, out: &mut [u8]) -> Result<u64, Refusal>
-        ensures { length out.new ≡ length out.old }
+        ensures answer { AnswersList (refused_by self.now.store ask.list) result }
+        ensures number { IfOk result (λ n. n ≡ length (lines_of (listing_of self.now.store.now))) }
+        ensures broken { self.now.store.is_broken ≡ true → out.new ≡ out.old }
+        ensures same_length { length out.new ≡ length out.old }
     {
+        if self.store.is_broken() {
+            return Err(Refusal::Broken);
+        }
         let mut taken = Taken::new(out);
         match self.store.list(&mut taken) {
             Ok(()) => Ok(taken.put_so_far()),
@@ -93,21 +145,43 @@ impl ImageStore {
     /// How many names and bytes there are, now and at the last checkpoint.
     pub fn stat(&self) -> Result<Stat, Refusal>
         requires idle { self.now.store.in_hand ≡ None }
+        ensures broken { IsErr result ↔ (self.now.store.is_broken ≡ true) }
+        ensures refused { OnErr result (result ≡ Err Refusal.Broken) }
         ensures names { IfOk result (λ s. s.names ≡ fin.len self.now.store.now) }
+        ensures bytes { IfOk result (λ s. s.bytes ≡ volume_of self.now.store.now) }
         ensures kept_names { IfOk result (λ s. s.kept_names ≡ fin.len self.now.store.kept) }
+        ensures kept_bytes { IfOk result (λ s. s.kept_bytes ≡ volume_of self.now.store.kept) }
+        ensures step { IfOk result (λ s. Step (limits_of self.now.store)
+            (state_of self.now.store (file_in self.now)) ask.stat
+            (ask.counts s.names s.bytes s.kept_names s.kept_bytes)
+            (state_of self.now.store (file_in self.now))) }
     {
         self.store.stat()
     }
 
-    /// Goes back to the last checkpoint. The log is as it was.
+    /// Goes back to the last checkpoint. It makes no call, so the log is as it was.
     pub fn back(&mut self) -> Result<(), Refusal>
         requires idle { self.old.store.in_hand ≡ None }
+        ensures answer { IsErr result ↔ (self.old.store.is_broken ≡ true) }
+        ensures refused { OnErr result (result ≡ Err Refusal.Broken) }
+        ensures unchanged { OnErr result (self.new ≡ self.old) }
+        ensures back { OnOk result (self.new.store ≡ record self.old.store {
+          now = self.old.store.kept;
+          book = self.old.store.kept_book;
+        }) }
+        ensures noting { self.new.noting ≡ self.old.noting }
+        ensures step { OnOk result (Step (limits_of self.old.store)
+            (state_of self.old.store (file_in self.old)) ask.back ask.done
+            (state_of self.new.store (file_in self.new))) }
     {
         self.store.back()
     }
 
     /// How long the data part is, and the sequence of the last checkpoint.
-    pub fn gauge(&self) -> Gauge {
+    pub fn gauge(&self) -> Gauge
+        ensures length { result.length ≡ book_end self.now.store.in_use.block.k self.now.store.book }
+        ensures sequence { result.sequence ≡ self.now.store.in_use.sequence }
+    {
         self.store.gauge()
     }
 

@@ -7,6 +7,8 @@ ghost use Rattle.reopen.specs.Refusals.{RefusesToOpen};
 ghost use Rattle.slot_codec.specs.Readable.{IsSuperBlock};
 ghost use Rattle.slot_pair.specs.Formats.{block_for};
 ghost use Rattle.store_model.specs.Opened.{IsOpening};
+ghost use Rattle.image_store.specs.Made.{IsMade, NotMade};
+ghost use Rattle.image_store.specs.Noted.{IsNotedOf};
 
 use disk_image::{ImageDisk, Log, Room};
 use reopen::OpenFault;
@@ -43,18 +45,23 @@ impl ImageStore {
     /// the opening, if it cut the file or went on with a flush.
     pub fn open(alloc: Global, room: Room, log: Log) -> Result<ImageStore, OpenFault>
         ensures opened { IfOk result (λ s. IsOpening CLASSES
-            (image_state (lent room.bytes.items room.most (length log.text.items))) (disk_of s) (Ok s.store)) }
+            (image_state (lent room.bytes.items room.most (length log.text.items))) (disk_of s)
+            (Ok s.store)) }
         ensures refused { IfErr result (RefusesToOpen CLASSES room.bytes.items) }
+        ensures noted { IfOk result (IsNotedOf room.bytes.items) }
     {
         let mut disk = ImageDisk::new(room, log);
         let opened: Result<Store<CLASSES>, OpenFault> = Store::open(alloc, &mut disk);
+        disk.is_noted();
         match opened {
             Ok(store) => Ok(ImageStore { store, disk }),
             Err(fault) => Err(fault),
         }
     }
 
-    /// Makes a store with no names of a file of length 0, and opens it. The log has the calls of both.
+    /// Makes a store with no names of a file of length 0, and opens it: room for `names` names, 16 to 65,536,
+    /// and buffers that are a k-th of their payload segments, `k` from 2 to 64. The log has the calls of
+    /// both. The disk fails where the room or the log is too small.
     pub fn format(
         alloc: Global,
         room: Room,
@@ -64,12 +71,15 @@ impl ImageStore {
     ) -> Result<ImageStore, OpenFault>
         requires ranges { IsSuperBlock (block_for k names) }
         requires empty { room.bytes.items ≡ [] }
+        ensures made { IfOk result (IsMade k names) }
+        ensures refused { IfErr result NotMade }
     {
         let mut disk = ImageDisk::new(room, log);
         if SlotPair::format(&mut disk, k, names).is_err() {
             return Err(OpenFault::Slot(SlotFault::Disk));
         }
         let opened: Result<Store<CLASSES>, OpenFault> = Store::open(alloc, &mut disk);
+        disk.is_noted();
         match opened {
             Ok(store) => Ok(ImageStore { store, disk }),
             Err(fault) => Err(fault),

@@ -3,7 +3,7 @@ use Rattle.std.proofs.Common.{arith, sym, subst}
 use Rattle.batch_core.specs.Answers.{IsFetched}
 use Rattle.batch_core.specs.StoresOn.{store_on}
 use Rattle.batch_core.specs.declared.fault.BatchFault.{BatchFault}
-use Rattle.batch_core.proofs.FetchLaws.{fetch_is, fetch_small}
+use Rattle.batch_core.proofs.FetchLaws.{fetch_is}
 use Rattle.batch_core.proofs.batcher.fetch_batch.Goals as goal
 
 pub fetch-answer-requires : goal.fetch-answer-requires
@@ -13,12 +13,7 @@ fetch-answer-requires g c = (
     c.requires.go.ready,
     (
       c.requires.go.over,
-      omega (
-        arith,
-        c.requires.room,
-        fetch_small (store_on c.args.store.now (g.D.Disk.state c.args.disk.now))
-            c.requires.go,
-      ),
+      c.requires.room,
     ),
   ),
 )

@@ -1,0 +1,61 @@
+-- What a batch leaves of a file whose calls it has noted.
+use Rattle.std.proofs.Common.{◌≡◌, ◌∙◌, refl, subst, sym, inl, inr, Bool, true, false, ℕ, List}
+use Rattle.std.specs.Prelude.{◌||◌, ◌<◌, ◌-◌, ◌^◌, Result, Ok, Err}
+use Rattle.std.proofs.lemmas.Bool.{false≢true}
+use Rattle.disk_history.specs.Histories.{MayLeave}
+use Rattle.size_class.specs.declared.TheConstants.{CLASSES}
+use Rattle.map_model.specs.Requests.{Change}
+use Rattle.store_core.specs.Changes.{NothingChanged}
+use Rattle.store_model.specs.Connection.{RestsOnTable, SameOnTable, StoreValue, base_of}
+use Rattle.batch_core.specs.Answers.{Applies, Finishes, is_begun, is_disk_fault, kept_text}
+use Rattle.batch_core.specs.declared.fault.BatchFault.{BatchFault}
+use Rattle.batch_model.specs.Batches.{IsBatch}
+use Rattle.image_store.specs.Batched.{IsBatchImage, batch_for, batch_kept, begun_on, ended_on}
+use Rattle.image_store.specs.Embedded.{Embedded, disk_before, disk_of}
+use Rattle.image_store.specs.Noted.{IsNoted, RestsOnKept, StopsAt}
+use Rattle.image_store.proofs.StopLaws.{stops}
+
+by_bool : {P : Type 0} (b : Bool) → (b ≡ true → P) → (b ≡ false → P) → P
+by_bool true f g = f refl
+by_bool false f g = g refl
+
+module _ (old new : Embedded) (noted : IsNoted old new) (low : old.noting.history.turn < 2 ^ 64 - 1) where
+  pub stopped_apply : (text : List ℕ) (changes : List Change) (result : Result Bool BatchFault)
+      → Applies CLASSES text (begun_on old) (ended_on new) result → IsBatch text changes → RestsOnKept old
+      → StopsAt old new (IsBatchImage (batch_for old text changes) old)
+  stopped_apply text changes result is batch rests = by_bool (is_begun result)
+      (λ begun. stops old new noted low _ (IsBatchImage (batch_for old text changes) old) (λ image p. inr p)
+      ((is.begun begun refl changes batch).left rests))
+      (λ none. stops old new noted low (MayLeave old.noting.history)
+      (IsBatchImage (batch_for old text changes) old) (λ image p. inl p) (is.same none).same_disk.since)
+
+  pub stopped_finish : (changes : List Change) (result : Result Bool BatchFault)
+      → Finishes CLASSES (begun_on old) (ended_on new) result → IsBatch (kept_text (begun_on old)) changes
+      → RestsOnKept old → StopsAt old new (IsBatchImage (batch_kept old changes) old)
+  stopped_finish changes result is batch rests = by_bool (is_begun result)
+      (λ begun. stops old new noted low _ (IsBatchImage (batch_kept old changes) old) (λ image p. inr p)
+      ((is.begun begun refl changes batch).left rests))
+      (λ none. stops old new noted low (MayLeave old.noting.history)
+      (IsBatchImage (batch_kept old changes) old) (λ image p. inl p) (is.same none).same_disk.since)
+
+-- nothing changed
+same_rests : (old new : Embedded) → NothingChanged old.store new.store (disk_before old) (disk_of new)
+    → RestsOnKept old → RestsOnKept new
+same_rests old new same rests =
+    subst (λ (s : StoreValue). RestsOnTable (base_of s) s.kept (disk_of new)) (sym same.same_store)
+    (λ image may. subst (λ file. SameOnTable (base_of old.store) old.store.kept file image)
+    (sym (same.same_disk.same_file refl)) (rests image (same.same_disk.images image may)))
+
+or_right : (a b : Bool) → (a || b) ≡ false → b ≡ false
+or_right true b e = absurd (false≢true (sym e))
+or_right false b e = e
+
+pub apply_rests : (text : List ℕ) (old new : Embedded) (result : Result Bool BatchFault)
+    → Applies CLASSES text (begun_on old) (ended_on new) result → new.store.is_broken ≡ false
+    → RestsOnKept old → RestsOnKept new
+apply_rests text old new (Ok true) is whole rests =
+    let fit = is.answer.0.2 in ((is.begun refl refl fit.changes fit.batch).done refl).rests rests
+apply_rests text old new (Ok false) is whole rests = same_rests old new (is.same refl) rests
+apply_rests text old new (Err why) is whole rests =
+    same_rests old new (is.same (or_right old.store.is_broken (is_disk_fault {T = Bool} (Err why))
+    (sym is.broken ∙ whole))) rests

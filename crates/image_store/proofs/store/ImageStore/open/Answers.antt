@@ -1,0 +1,13 @@
+use Rattle.std.proofs.Common.{length, ◌∙◌, ap}
+use Rattle.disk_image.specs.Disks.{image_state}
+use Rattle.disk_image.specs.Notings.{Noting}
+use Rattle.image_store.proofs.MadeLaws.{opening_noted}
+use Rattle.image_store.proofs.store.ImageStore.open.Goals as goal
+
+pub returns-in-Ok-clause-noted : goal.returns-in-Ok-clause-noted
+returns-in-Ok-clause-noted c =
+    opening_noted c.args.room.bytes.items c.args.room.most (length c.args.log.text.items) c.in-Ok.store
+    c.open-opened.new.disk
+    (c.open-opened.ensures.frame.stays.same_mount
+    ∙ ap (λ (n : Noting). (image_state n).last_mount) c.new-disk.ensures) c.is_noted.ensures.log
+    c.is_noted.ensures.ended
