@@ -48,16 +48,15 @@ pub fn step<D: Disk, const C: usize>(
 {
     let mut at = phase;
     match step_on(disk, &mut at, hands) {
-        Ok(ended) => match ended {
-            None => Ok(Stepped::Moved(at)),
-            Some(settled) => Ok(Stepped::Settled(settled)),
-        },
+        Ok(None) => Ok(Stepped::Moved(at)),
+        Ok(Some(settled)) => Ok(Stepped::Settled(settled)),
         Err(fault) => Err(Halted(fault)),
     }
 }
 
 /// Makes the step in place, so that a flush that is run hands no phase on by value. Answers what was settled
-/// where no move was left.
+/// where no move was left. It is compiled into its callers, so that no answer of none is copied.
+#[inline(always)]
 pub(crate) fn step_on<D: Disk, const C: usize>(
     disk: &mut D,
     at: &mut Phase<C>,

@@ -37,14 +37,14 @@ step_on-requires g c =
 
 pub steps-preserved : goal.steps-preserved
 steps-preserved g c =
-    let e = c.in-Ok.ensures in
-    run_next c.steps.invariant (went_on DiskFault c.steps.at _ _ _ _ _ c.in-Ok.ended c.in-None.is
+    let e = c.in-Ok-None.ensures in
+    run_next c.steps.invariant (went_on DiskFault c.steps.at _ _ _ _ _ c.in-Ok-None.field-0 c.in-Ok-None.field-0-is
     e.made e.goes e.keeps e.paid) c.step_on.ensures.left
 
 pub steps-smaller : goal.steps-smaller
 steps-smaller g c =
-    let e = c.in-Ok.ensures in
-    let m = went_on DiskFault c.steps.at _ _ _ _ _ c.in-Ok.ended c.in-None.is e.made e.goes e.keeps
+    let e = c.in-Ok-None.ensures in
+    let m = went_on DiskFault c.steps.at _ _ _ _ _ c.in-Ok-None.field-0 c.in-Ok-None.field-0-is e.made e.goes e.keeps
     e.paid in
     omega (arith, m.made.fewer)
 
@@ -73,11 +73,11 @@ returns-in-Err g c =
 
 -- ---- the end
 
-pub returns-in-Some : goal.returns-in-Some
-returns-in-Some g c =
+pub returns-in-Ok-Some : goal.returns-in-Ok-Some
+returns-in-Ok-Some g c =
     let i = c.steps.invariant in
-    let e = c.in-Ok.ensures in
-    let s = came_to_end DiskFault c.steps.at _ _ _ _ _ c.in-Ok.ended c.in-Some.settled c.in-Some.is
+    let e = c.in-Ok-Some.ensures in
+    let s = came_to_end DiskFault c.steps.at _ _ _ _ _ c.in-Ok-Some.field-0 c.in-Ok-Some.settled c.in-Ok-Some.field-0-is
     e.made e.goes in
     let pair = ap (λ (u : InUse). u.sequence) s.ended.pair in
     record {
