@@ -27,7 +27,7 @@ use Rattle.store_core.specs.Keeps.{AnswersKeep, KeepsNow}
 use Rattle.store_model.specs.Quiet.{charges_of, quiet_calls}
 use Rattle.store_model.specs.States.{Served, Step, accepted, facts_of, refusal, served_change}
 use Rattle.store_core.proofs.AnsweredLaws.{refusal_at, refused_is}
-use Rattle.store_core.proofs.CauseLaws.{calm_disk}
+use Rattle.data_area.proofs.CauseLaws.{calm_disk}
 use Rattle.store_core.proofs.QuietLaws.{quiet_by_book}
 use Rattle.store_core.proofs.StepLaws.{served_by}
 use Rattle.ask_text.specs.Replies.{reply_line_of, rest_of, told_for}

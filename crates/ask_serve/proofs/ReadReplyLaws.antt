@@ -18,11 +18,11 @@ use Rattle.store_core.specs.Answers.{AnswersNumber, facts_at, refusal_for, refus
 use Rattle.slot_codec.specs.Names.{is_name}
 use Rattle.store_model.specs.Connection.{StoreValue, base_of, limits_of, state_of}
 use Rattle.store_core.specs.Readings.{asks_for, is_damaged_read, object_read, spot_read}
-use Rattle.store_core.specs.Reads.{HasSinkCause}
+use Rattle.data_area.specs.Causes.{HasSinkCause}
 use Rattle.store_model.specs.States.{Facts, Limits, Served, State, Step, accepted, facts_of, object_in, refusal, unchanged}
 use Rattle.store_model.proofs.HalfLaws.{readable_kept, readable_now, standing_of}
 use Rattle.store_model.proofs.StateLaws.{listing-read_at}
-use Rattle.store_core.proofs.CauseLaws.{calm_disk, sink_cause_after, sink_cause_as}
+use Rattle.data_area.proofs.CauseLaws.{calm_disk, sink_cause_after, sink_cause_as}
 use Rattle.store_core.proofs.ChangingLaws.{unchanged_itself}
 use Rattle.store_core.proofs.AnsweredLaws.{live_if, number_served, object_size, refused_is, served_is}
 use Rattle.store_core.proofs.StepLaws.{facts_same, read_reply, served_by}

@@ -11,9 +11,9 @@ use Rattle.map_model.specs.Requests.{Reply, Request}
 use Rattle.store_core.specs.declared.answers.Refusal.{Refusal}
 use Rattle.store_core.specs.declared.answers.Refusal.TheVariants as why
 use Rattle.store_core.specs.Answers.{AnswersList, AnswersRead}
-use Rattle.store_core.specs.Reads.{HasSinkCause}
+use Rattle.data_area.specs.Causes.{HasSinkCause}
 use Rattle.store_model.specs.Connection.{StoreValue}
-use Rattle.store_core.proofs.CauseLaws.{calm_sink, disk_cause_as, sink_cause_as}
+use Rattle.data_area.proofs.CauseLaws.{calm_sink, disk_cause_as, sink_cause_as}
 use Rattle.ask_text.specs.Replies.{first_line, reply_line_of, reply_text}
 use Rattle.ask_text.specs.declared.reply.Reply as text
 use Rattle.ask_text.specs.declared.reply.Reply.TheVariants as head

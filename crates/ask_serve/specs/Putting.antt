@@ -1,7 +1,7 @@
 -- What is put of an answer.
 use Rattle.std.specs.Prelude.{◌≡◌, ◌≢◌, Bool, Result, Ok, Err, IfErr, IfOk, IsTrue, OnErr}
 use Rattle.disk_face.specs.Streams.{SinkState}
-use Rattle.store_core.specs.Reads.{HasSinkCause}
+use Rattle.data_area.specs.Causes.{HasSinkCause}
 use Rattle.ask_text.specs.Replies.{first_line}
 use Rattle.ask_text.specs.declared.reply.Reply.{Reply}
 use Rattle.ask_text.specs.declared.reply.Reply.TheVariants as head

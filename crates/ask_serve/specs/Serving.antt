@@ -16,7 +16,7 @@ use Rattle.table_rules.specs.Opening.{Opens}
 use Rattle.table_rules.specs.Sequences.{HasSequenceUpTo}
 use Rattle.store_model.specs.Connection.{IsConnected, StoreValue, RestsOnTable, base_of, kept_map, limits_of, state_of}
 use Rattle.store_model.specs.Quiet.{quiet_calls}
-use Rattle.store_core.specs.Reads.{HasSinkCause}
+use Rattle.data_area.specs.Causes.{HasSinkCause}
 use Rattle.store_model.specs.States.{Limits, Served, State, Step, facts_of, refusal, served}
 use Rattle.ask_text.specs.Replies.{reply_text}
 use Rattle.ask_text.specs.declared.ends.End.{End}

@@ -1,6 +1,6 @@
 //! The first lines of replies.
 ghost use Rattle.std.specs.Prelude.{◌≡◌, false, codes, IfErr, IfOk, IsTrue};
-ghost use Rattle.store_core.specs.Reads.{HasSinkCause};
+ghost use Rattle.data_area.specs.Causes.{HasSinkCause};
 ghost use Rattle.ask_text.specs.Replies.{first_line};
 ghost use Rattle.ask_serve.specs.Putting.{PutsAnswer};
 ghost use Rattle.ask_serve.specs.ReplyLines.{answer_of, done_reply_line, fault_of, is_kept};

@@ -9,7 +9,7 @@ ghost use Rattle.store_model.specs.Connection.{state_of};
 ghost use Rattle.store_model.specs.Halves.{IsReadable};
 ghost use Rattle.store_model.specs.Lines.{lines_of, listing_of};
 ghost use Rattle.store_core.specs.Readings.{asks_for, is_damaged_read, object_read};
-ghost use Rattle.store_core.specs.Reads.{HasSinkCause};
+ghost use Rattle.data_area.specs.Causes.{HasSinkCause};
 ghost use Rattle.ask_serve.specs.Putting.{PutsStop};
 ghost use Rattle.ask_serve.specs.ReplyLines.{object_text};
 ghost use Rattle.ask_serve.specs.Ready.{CanRead};

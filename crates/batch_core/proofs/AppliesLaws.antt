@@ -7,7 +7,7 @@ use Rattle.disk_face.specs.States as disk
 use Rattle.disk_face.proofs.MomentLaws.{Leaves-none}
 use Rattle.map_model.specs.Maps.{Map}
 use Rattle.map_model.specs.Requests.{Change}
-use Rattle.store_core.proofs.CauseLaws.{calm_disk}
+use Rattle.data_area.proofs.CauseLaws.{calm_disk}
 use Rattle.store_model.specs.Connection.{IsConnected}
 use Rattle.store_model.specs.Stores.{IsStore}
 use Rattle.batch_model.specs.Batches.{IsBatch, batch_name}

@@ -15,7 +15,7 @@ use Rattle.extent_table.specs.declared.spot.Spot.{Spot}
 use Rattle.store_core.specs.declared.answers.Refusal.{Refusal}
 use Rattle.store_core.specs.declared.answers.Refusal.TheVariants as why
 use Rattle.store_core.specs.Answers.{AnswersFetch, refusal_for, refused_by, size_at}
-use Rattle.store_core.proofs.CauseLaws.{calm_disk, disk_cause_as}
+use Rattle.data_area.proofs.CauseLaws.{calm_disk, disk_cause_as}
 use Rattle.store_core.specs.Readings.{digest_read}
 use Rattle.store_core.specs.Reads as reads
 use Rattle.store_model.specs.Connection.{IsOver, StoreValue, base_of, state_of}

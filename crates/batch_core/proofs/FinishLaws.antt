@@ -14,7 +14,7 @@ use Rattle.map_model.proofs.MapLaws.{name_order, same_name-is}
 use Rattle.extent_table.specs.declared.spot.Spot.{Spot}
 use Rattle.change_charges.specs.Sized.{IsSizedBy}
 use Rattle.store_core.specs.Answers.{size_at}
-use Rattle.store_core.proofs.CauseLaws.{calm_disk}
+use Rattle.data_area.proofs.CauseLaws.{calm_disk}
 use Rattle.store_model.specs.Connection.{IsOver, SameOnTable, StoreValue, base_of, live_cap, state_of}
 use Rattle.store_model.specs.States.{State, object_in}
 use Rattle.store_model.proofs.OverLaws.{kept_image}

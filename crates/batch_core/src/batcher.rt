@@ -22,7 +22,7 @@ use size_class::SIZE_MAX;
 use slot_codec::NoMemory;
 use std::alloc::Global;
 use std::marker::Model;
-use store_core::{Refusal, Store};
+use store_core::{Moment, Refusal, Store};
 
 /// A store, and room for the text of a batch. Contracts see it as the store.
 #[derive(Drop)]
@@ -158,7 +158,7 @@ fn fetch_batch<const C: usize, D: Disk>(
     ensures long { length text.new ≡ length text.old }
     ensures fetched { IsFetched (store_on store.now (D.state disk.old)) (D.state disk.new) text.new result }
 {
-    let answer = store.fetch(disk, BATCH, text);
+    let answer = store.fetch(Moment::Now, disk, BATCH, text);
     fetched(answer)
 }
 

@@ -17,7 +17,7 @@ use Rattle.store_core.specs.declared.answers.Refusal.{Refusal}
 use Rattle.store_core.specs.Answers.{refused_by}
 use Rattle.store_core.specs.Begins.{BeginsChange, BeginsFlush, HoldsFlush, begun_reply, origin_of}
 use Rattle.store_core.specs.Flushes.{IsFlushImage, map_after, names_after}
-use Rattle.store_core.proofs.CauseLaws.{calm_disk}
+use Rattle.data_area.proofs.CauseLaws.{calm_disk}
 use Rattle.store_core.proofs.MadeFlushLaws.{len_after}
 use Rattle.store_core.proofs.QuietLaws.{quiet_by_book}
 use Rattle.store_core.proofs.AnsweredLaws.{refusal_at, served_is}

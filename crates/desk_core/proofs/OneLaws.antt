@@ -6,8 +6,8 @@ use Rattle.disk_face.specs.Frames.{Stays}
 use Rattle.disk_face.specs.States as disk
 use Rattle.disk_face.specs.Streams.{SinkState}
 use Rattle.map_model.specs.Requests.{Request}
-use Rattle.store_core.proofs.CauseLaws.{calm_disk, calm_sink}
-use Rattle.store_core.specs.Reads.{HasSinkCause}
+use Rattle.data_area.proofs.CauseLaws.{calm_disk, calm_sink}
+use Rattle.data_area.specs.Causes.{HasSinkCause}
 use Rattle.store_core.proofs.ChangingLaws.{unchanged_itself}
 use Rattle.store_model.specs.Connection.{StoreValue, limits_of, state_of}
 use Rattle.store_model.specs.Halves.{IsReadable}

@@ -12,10 +12,10 @@ use Rattle.map_model.specs.Maps.{Map}
 use Rattle.map_model.specs.Requests as ask
 use Rattle.map_model.specs.Requests.{Refused, Reply, Request}
 use Rattle.segment_layout.specs.Books.{Book, is_damaged}
-use Rattle.store_core.proofs.CauseLaws.{calm_disk, disk_cause_as, sink_cause_after, sink_cause_as}
+use Rattle.data_area.proofs.CauseLaws.{calm_disk, disk_cause_as, sink_cause_after, sink_cause_as}
 use Rattle.store_core.proofs.ChangingLaws.{unchanged_itself}
 use Rattle.store_core.proofs.StepLaws.{served_by}
-use Rattle.store_core.specs.Reads.{HasSinkCause}
+use Rattle.data_area.specs.Causes.{HasSinkCause}
 use Rattle.store_model.specs.Connection.{IsOver, StoreValue, limits_of, state_of}
 use Rattle.store_model.specs.Halves.{IsReadable}
 use Rattle.store_model.specs.States.{Limits, Served, State, Step, accepted, facts_of, first_refusal, name_test, refusal, served, unchanged}

@@ -9,7 +9,7 @@ use Rattle.disk_face.specs.Writes.{KeepsDisk}
 use Rattle.slot_pair.specs.Finding.{HasDiskCause}
 use Rattle.map_model.specs.Requests as ask
 use Rattle.store_core.specs.declared.answers.Progress.TheVariants as progress
-use Rattle.store_core.proofs.CauseLaws.{calm_disk, calm_sink}
+use Rattle.data_area.proofs.CauseLaws.{calm_disk, calm_sink}
 use Rattle.store_core.proofs.ChangingLaws.{unchanged_itself}
 use Rattle.store_model.specs.Connection.{FlushInHand, StoreValue}
 use Rattle.store_model.specs.Halves.{IsHalfway, IsReadable}

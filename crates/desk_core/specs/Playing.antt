@@ -9,7 +9,7 @@ use Rattle.data_area.specs.Pieces.{pieces}
 use Rattle.slot_pair.specs.Finding.{HasDiskCause}
 use Rattle.slot_pair.specs.Saves.{save_calls}
 use Rattle.map_model.specs.Requests.{Request}
-use Rattle.store_core.specs.Reads.{HasSinkCause}
+use Rattle.data_area.specs.Causes.{HasSinkCause}
 use Rattle.store_core.specs.declared.answers.Progress.{Progress}
 use Rattle.store_core.specs.declared.answers.Progress.TheVariants as progress
 use Rattle.store_model.specs.Connection.{FlushInHand, IsConnected, StoreValue, limits_of}

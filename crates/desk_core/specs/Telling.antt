@@ -1,7 +1,7 @@
 -- What is put of an answer, with the session that it is for.
 use Rattle.std.specs.Prelude.{◌≡◌, ℕ, Bool, true, false, List, ◌++◌, codes, Result, Ok, Err, IfErr, IsTrue}
 use Rattle.disk_face.specs.Streams.{SinkState}
-use Rattle.store_core.specs.Reads.{HasSinkCause}
+use Rattle.data_area.specs.Causes.{HasSinkCause}
 use Rattle.store_core.specs.declared.answers.Begun.{Begun}
 use Rattle.store_core.specs.declared.answers.Begun.TheVariants as begun
 use Rattle.store_core.specs.declared.answers.Refusal.{Refusal}

@@ -3,7 +3,7 @@ use Rattle.std.specs.Prelude.{◌≡◌, ◌⊎◌, ℕ, Bool, true, false, [], 
 use Rattle.disk_face.specs.Counts.{counted}
 use Rattle.disk_face.specs.Writes.{KeepsDisk}
 use Rattle.slot_pair.specs.Finding.{HasDiskCause}
-use Rattle.store_core.specs.Reads.{HasSinkCause}
+use Rattle.data_area.specs.Causes.{HasSinkCause}
 use Rattle.store_model.specs.Connection.{limits_of}
 use Rattle.store_model.specs.Halves.{IsReadable}
 use Rattle.ask_text.specs.Ends.{result_of}

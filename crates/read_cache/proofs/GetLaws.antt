@@ -25,9 +25,10 @@ use Rattle.store_core.specs.declared.answers.Refusal.{Refusal}
 use Rattle.store_core.specs.declared.answers.Refusal.TheVariants as why
 use Rattle.store_core.specs.Answers.{AnswersFetch, AnswersNumber, AnswersRead, AnswersSpot, facts_at, refusal_for, refused_by, size_at}
 use Rattle.store_core.specs.Readings.{IsRead, digest_read, spot_read}
-use Rattle.store_core.specs.Reads.{GivesObject, HasSinkCause, IsJudged}
+use Rattle.data_area.specs.Causes.{HasSinkCause}
+use Rattle.store_core.specs.Reads.{GivesObject, IsJudged}
 use Rattle.store_core.proofs.AnsweredLaws.{live_if, number_refused, object_size, refusal_at, served_is, some_there}
-use Rattle.store_core.proofs.CauseLaws.{calm_disk, calm_sink, sink_cause_as}
+use Rattle.data_area.proofs.CauseLaws.{calm_disk, calm_sink, sink_cause_as}
 use Rattle.store_core.proofs.ReadLaws.{found_damaged, found_object, read_found, read_refused}
 use Rattle.store_core.proofs.ReadingLaws.{IsFound, whole_if_served}
 use Rattle.store_core.proofs.StepLaws.{read_reply}

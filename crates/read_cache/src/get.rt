@@ -6,7 +6,7 @@ ghost use Rattle.disk_face.specs.Streams.{Puts};
 ghost use Rattle.map_model.specs.Requests as ask;
 ghost use Rattle.store_core.specs.Answers.{refused_by, size_at};
 ghost use Rattle.store_core.specs.Readings.{IsRead};
-ghost use Rattle.store_core.specs.Reads.{HasSinkCause};
+ghost use Rattle.data_area.specs.Causes.{HasSinkCause};
 ghost use Rattle.store_model.specs.Connection.{IsConnected, state_of};
 ghost use Rattle.store_model.specs.States.{object_in};
 ghost use Rattle.store_model.specs.Stores.{IsStore};
@@ -19,7 +19,7 @@ use crate::held::LONGEST;
 use crate::recent::Recent;
 use disk_face::{Disk, Sink};
 use slot_codec::Name;
-use store_core::{Refusal, Store};
+use store_core::{Moment, Refusal, Store};
 
 /// Puts the bytes of an object that is there: from the list, or from the disk, and then it is listed
 /// where it is small and there is memory for it.
@@ -130,7 +130,7 @@ fn take_in<const C: usize, D: Disk, O: Sink>(
         result }
 {
     let mut room = [0; LONGEST as usize];
-    match store.fetch(disk, name.as_bytes(), &mut room) {
+    match store.fetch(Moment::Now, disk, name.as_bytes(), &mut room) {
         Ok(size) => put_and_enter(recent, name, &room[..size as usize], sink),
         Err(refusal) => Err(refusal),
     }

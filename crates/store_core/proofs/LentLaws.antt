@@ -1,22 +1,15 @@
--- A store with no flush in hand, whose hands are lent.
-use Rattle.std.specs.Prelude.{◌≡◌, ℕ, None, Option, refl}
+-- A store with no flush in hand, whose hands are lent: contracts see what its parts are.
+use Rattle.std.specs.Prelude.{◌≡◌, ℕ, None, refl}
 use Rattle.std.proofs.Common.{ap, sym, ◌∙◌, subst}
 use Rattle.flush_run.specs.declared.hands.Hands.{Hands}
-use Rattle.flush_run.specs.declared.phase.Phase.{Phase}
-use Rattle.store_core.specs.Inside.{Inside, IsWhole, IsWholeIn, kept_in, kept_of}
+use Rattle.store_core.specs.Inside.{IsWhole, IsWholeIn, kept_in, kept_of}
 use Rattle.store_core.specs.declared.store.Store.TheInside as store
 use Rattle.store_model.specs.Connection.{StoreValue}
-use Rattle.store_core.proofs.InsideLaws.{lent, lent_is, rest_of}
-
--- What is known of it: contracts see what its parts are.
-pub record LentAtRest {C : ℕ} (flush : Option (Phase C)) (s : Inside C) (t : StoreValue) : Type 0 where
-  pub none : flush ≡ None
-  pub view : kept_of s ≡ t
-  pub whole : IsWhole s
+use Rattle.store_core.proofs.InsideLaws.{AtRest, lent, lent_is, rest_of}
 
 pub lent_rest : {C : ℕ} (i : store.Inside C) (t : StoreValue) (hands : Hands C) → kept_in i ≡ t → IsWholeIn i
     → t.in_hand ≡ None → hands ≡ i.hands.value
-    → LentAtRest i.flush (lent i hands i.kept_layout.value) t
+    → AtRest i.flush (lent i hands i.kept_layout.value) t
 lent_rest i t hands view holds idle same =
     let rest = rest_of i t view holds idle in
     let is_lent = lent_is i same refl in

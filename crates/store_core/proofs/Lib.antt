@@ -1,4 +1,3 @@
-pub mod CauseLaws
 pub mod StepLaws
 pub mod ReadingLaws
 pub mod PlanLaws

@@ -21,10 +21,11 @@ use Rattle.store_core.specs.declared.answers.Refusal.TheVariants as why
 use Rattle.store_core.specs.Answers.{AnswersRead, AnswersSpot, facts_at, refusal_for, refused_by, size_at}
 use Rattle.store_model.specs.Connection.{StoreValue, base_of, limits_of, state_of}
 use Rattle.store_core.specs.Readings.{IsRead, asks_for, digest_read, is_damaged_read, object_read, spot_read}
-use Rattle.store_core.specs.Reads.{GivesObject, HasSinkCause, IsJudged}
+use Rattle.data_area.specs.Causes.{HasSinkCause}
+use Rattle.store_core.specs.Reads.{GivesObject, IsJudged}
 use Rattle.store_model.specs.States.{Limits, State, accepted, refusal, unchanged}
 use Rattle.store_model.specs.Stores.{IsStanding, IsStore}
-use Rattle.store_core.proofs.CauseLaws.{calm_disk, calm_sink}
+use Rattle.data_area.proofs.CauseLaws.{calm_disk, calm_sink}
 use Rattle.store_core.proofs.ChangingLaws.{unchanged_itself}
 use Rattle.store_core.proofs.ReadingLaws.{IsFound, answers_read, damaged_there, digest_seen, gives_object, object_there, refused_read}
 use Rattle.store_core.proofs.RefusedLaws.{not_none}

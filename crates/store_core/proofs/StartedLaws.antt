@@ -16,7 +16,7 @@ use Rattle.store_model.specs.Quiet.{charges_of}
 use Rattle.store_core.proofs.CopyChargesLaws.{can_put, change_loud, charges_parts}
 use Rattle.store_core.proofs.FlushChangeLaws.{is_served}
 use Rattle.store_core.proofs.FlushLaws.{may_begin}
-use Rattle.store_core.proofs.LentLaws.{LentAtRest}
+use Rattle.store_core.proofs.InsideLaws.{AtRest}
 
 -- What it needs to be made in the table and the layout.
 pub record CanStart {C : ℕ} (s : Inside C) (name bytes : List ℕ) (comes : Bool) (layout : Layout C)
@@ -27,7 +27,7 @@ pub record CanStart {C : ℕ} (s : Inside C) (name bytes : List ℕ) (comes : Bo
   pub loud : NeedsFlushAt (parts_of s.hands) name (length bytes)
 
 pub can_start : {C : ℕ} {flush : Option (Phase C)} {s : Inside C} {t : StoreValue} {layout : Layout C}
-    {outcome : ChargeResult} (r : LentAtRest flush s t) (name bytes : List ℕ) (comes : Bool)
+    {outcome : ChargeResult} (r : AtRest flush s t) (name bytes : List ℕ) (comes : Bool)
     → (comes ≡ false → bytes ≡ []) → refused_by t (ask.change (change_of name bytes comes)) ≡ None
     → ChargesStore t name (length bytes) layout outcome
     → is_quiet (charges_of t (change_of name bytes comes)) ≡ false

@@ -36,7 +36,7 @@ use Rattle.store_core.specs.Keeps.{KeepsNow, kept_now}
 use Rattle.store_core.specs.Upgrades.{Upgrades, digests_now, upgraded}
 use Rattle.store_core.proofs.InsideLaws.{IsOpened, opened}
 use Rattle.store_core.proofs.KeepLaws.{length-records_of}
-use Rattle.store_core.proofs.LentLaws.{LentAtRest}
+use Rattle.store_core.proofs.InsideLaws.{AtRest}
 use Rattle.store_core.proofs.UpgradeLaws.{if_read, if_unread, no_fault, renewed_inside, renewed_view, renewed_whole, save_done, save_failed, save_over, upgrade_failed, upgrade_saved, upgrade_unread, upgraded_inside, upgraded_view, upgraded_whole}
 
 -- A store at rest that isn't refused, over its file.
@@ -50,7 +50,7 @@ pub record Upgradable {C : ℕ} (s : Inside C) (t : StoreValue) (a : disk.State)
   pub fresh : t.in_use.sequence < 2 ^ 61
 
 pub upgradable : {C : ℕ} {flush : Option (Phase C)} {s : Inside C} {t : StoreValue} {a : disk.State}
-    → LentAtRest flush s t → IsConnected C t a → t.is_broken ≡ false → (version_of t.book == 2) ≡ false
+    → AtRest flush s t → IsConnected C t a → t.is_broken ≡ false → (version_of t.book == 2) ≡ false
     → fin.len t.now ≤ cap_of t.in_use.block.names 2 → t.in_use.sequence < 2 ^ 61 → Upgradable s t a
 upgradable r over unbroken plain few fresh = record {
   view = r.view;

@@ -1,5 +1,5 @@
 -- What a store answers: which refusal comes, and the reply that an answer stands for.
-use Rattle.std.specs.Prelude.{◌≡◌, ℕ, ◌⊎◌, Bool, true, false, not, if◌then◌else◌, Option, Some, None, option_map, List, Result, Ok, Err, IsOk, IfOk}
+use Rattle.std.specs.Prelude.{◌≡◌, ℕ, ◌⊎◌, Bool, true, false, not, nat_lt, if◌then◌else◌, Option, Some, None, option_map, List, Result, Ok, Err, IsOk, IfOk}
 use Rattle.std.specs.FinMap as fin
 use Rattle.slot_codec.specs.Names.{is_name}
 use Rattle.map_model.specs.Requests as ask
@@ -69,6 +69,15 @@ AnswersFetch (Some refused) n result = result ≡ Err refused
 abbrev pub AnswersList : {T : Type 0} → Option Refusal → Result T Refusal → Type 0
 AnswersList None result = IsOk result ⊎ (result ≡ Err why.Sink)
 AnswersList (Some refused) result = result ≡ Err refused
+
+-- what lines of that many bytes answer that are copied into so much room
+abbrev pub fitted : ℕ → ℕ → Result ℕ Refusal
+fitted n room = if nat_lt room n then Err why.Sink else Ok n
+
+-- and a list into memory: its refusal, if there is one, or the above
+abbrev pub listed_into : Option Refusal → ℕ → ℕ → Result ℕ Refusal
+listed_into None n room = fitted n room
+listed_into (Some refused) n room = Err refused
 
 -- the answer is the refusal; where there is none, the change was done, with a checkpoint where it isn't
 -- quiet, or the disk failed

@@ -15,7 +15,8 @@ use Rattle.store_core.specs.declared.answers.Moment.TheVariants as moment
 use Rattle.store_core.specs.Answers.{AnswersRead, place_at, refused_by, reply_of, size_at}
 use Rattle.store_model.specs.Digested.{digest_of}
 use Rattle.store_model.specs.Connection.{StoreValue, base_of, limits_of, state_of}
-use Rattle.store_core.specs.Reads.{GivesObject, HasSinkCause}
+use Rattle.data_area.specs.Causes.{HasSinkCause}
+use Rattle.store_core.specs.Reads.{GivesObject}
 use Rattle.store_model.specs.States.{State, Step, object_in}
 
 -- the request for the object of a name

@@ -1,6 +1,5 @@
 -- What a read of an object leaves.
-use Rattle.std.specs.Prelude.{◌≡◌, ◌≢◌, ◌⊎◌, ◌+◌, ◌≤◌, ℕ, Bool, true, false, List, length, Option, Some, Result, Err, IfErr, IfOk, IsNone, IsSome, IsTrue, OnOk}
-use Rattle.disk_face.specs.Counts.{Rose}
+use Rattle.std.specs.Prelude.{◌≡◌, ◌⊎◌, ◌+◌, ℕ, Bool, true, false, List, length, Option, Some, Result, Err, IfErr, IfOk, IsNone, IsSome, IsTrue, OnOk}
 use Rattle.disk_face.specs.Streams.{Puts, SinkState}
 use Rattle.segment_layout.specs.Books.{differs}
 use Rattle.store_core.specs.declared.answers.Refusal.{Refusal}
@@ -15,15 +14,6 @@ pub record GivesObject (refused : Option Refusal) (tells : Bool) (bytes before n
   pub damaged : result ≡ Err why.Damaged → now ≡ before
   pub front : IsNone refused → IsTrue tells → Puts before now bytes result
   pub number : IfOk result (λ n. length now ≡ length before + of_head + n)
-
--- A sink's count of faults never falls, and what it tells stays told. The answer that the sink failed comes
--- only where the count rose, and with every other answer no call of it failed.
-pub record HasSinkCause {T E : Type 0} (sink : E) (before now : SinkState) (result : Result T E)
-    : Type 0 where
-  pub later : before.faults ≤ now.faults
-  pub rose : result ≡ Err sink → Rose before.faults now.faults
-  pub calm : result ≢ Err sink → now.faults ≡ before.faults
-  pub told : now.tells ≡ before.tells
 
 -- Bytes were judged by the digest that they are to have: at Ok they don't differ from it, and where they are
 -- damaged they do.

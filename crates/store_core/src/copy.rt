@@ -4,11 +4,13 @@ ghost use Rattle.byte_ranges.specs.Ranges.{bytes_at};
 ghost use Rattle.disk_face.specs.Frames.{Unchanged};
 ghost use Rattle.disk_face.specs.Streams.{Puts};
 ghost use Rattle.slot_pair.specs.Finding.{HasDiskCause};
-ghost use Rattle.store_core.specs.Reads.{HasSinkCause, PutsJudged};
+ghost use Rattle.data_area.specs.Causes.{HasSinkCause};
+ghost use Rattle.store_core.specs.Reads.{PutsJudged};
 
 use crate::Refusal;
 use crate::answers::{disk_failed, sink_failed};
 use crate::judge::{judge, judge_at};
+use data_area::PutFault;
 use disk_face::{Disk, Sink, read};
 
 /// Puts a head and behind it `size` bytes of the file from position `at` on, as `put_behind` does, or nothing
@@ -185,13 +187,11 @@ fn put_bytes<D: Disk, O: Sink>(
         (D.state disk.new).faults result }
     ensures sink_cause { HasSinkCause Refusal.Sink (O.state sink.old) (O.state sink.new) result }
 {
-    let mut done = 0;
-    'pieces: while done < size {
-        let n = (size - done).min(buf.len() as u64);
-        put_first(disk, at + done, &mut buf[..n as usize], b"", sink)?;
-        done += n;
+    match data_area::put_bytes(disk, at, size, buf, sink) {
+        Ok(()) => Ok(()),
+        Err(PutFault::Disk) => Err(Refusal::Disk),
+        Err(PutFault::Sink) => Err(Refusal::Sink),
     }
-    Ok(())
 }
 
 /// Puts bytes at once.

@@ -1,16 +1,14 @@
 //! Reading an object into memory.
 ghost use Rattle.std.specs.Prelude.{◌≡◌, ◌+◌, ◌≤◌, false, IfOk, IsTrue, None, length, take};
-ghost use Rattle.std.specs.FinMap as fin;
 ghost use Rattle.disk_face.specs.Frames.{Unchanged};
 ghost use Rattle.slot_pair.specs.Finding.{HasDiskCause};
 ghost use Rattle.extent_table.specs.Extents.{IsInRange};
 ghost use Rattle.placement_model.specs.Reads.{object_at};
-ghost use Rattle.map_model.specs.Requests as ask;
-ghost use Rattle.store_core.specs.Readings.{digest_read};
+ghost use Rattle.store_core.specs.Readings.{asks_for, digest_read, object_read, spot_read};
 ghost use Rattle.store_core.specs.Reads.{IsJudged};
 ghost use Rattle.store_core.specs.Answers.{AnswersFetch, refused_by, size_at};
-ghost use Rattle.store_model.specs.Connection.{IsConnected, base_of, state_of};
-ghost use Rattle.store_model.specs.States.{object_in};
+ghost use Rattle.store_model.specs.Connection.{base_of, state_of};
+ghost use Rattle.store_model.specs.Halves.{IsReadable};
 ghost use Rattle.store_model.specs.Stores.{IsStanding};
 
 use crate::answers::disk_failed;
@@ -20,28 +18,35 @@ use disk_face::{Disk, read};
 use extent_table::Spot;
 
 impl<const C: usize> Store<C> {
-    /// Reads an object into the front of `out`, where `get` would put it. The answer is how many bytes
-    /// it has; they have to fit. It is refused as a `get` is, so also as damaged, and the disk may fail.
-    pub fn fetch<D: Disk>(&self, disk: &mut D, name: &[u8], out: &mut [u8]) -> Result<u64, Refusal>
+    /// Reads an object of now or of the last checkpoint into the front of `out`, where `get` or `old` would put
+    /// it, also while a flush is in hand. The answer is how many bytes it has; they have to fit. It is refused
+    /// as those are, so also as damaged, and the disk may fail.
+    pub fn fetch<D: Disk>(
+        &self,
+        moment: Moment,
+        disk: &mut D,
+        name: &[u8],
+        out: &mut [u8],
+    ) -> Result<u64, Refusal>
         requires ready { IsTrue (D.state disk.old).is_ready }
-        requires over { IsConnected C self.now (D.state disk.old) }
-        requires room { size_at (fin.get self.now.now name.now) ≤ length out.old }
-        ensures answer { AnswersFetch (refused_by self.now (ask.get name.now))
-            (size_at (fin.get self.now.now name.now)) result }
+        requires over { IsReadable C self.now (D.state disk.old) }
+        requires room { size_at (spot_read self.now (asks_for moment name.now)) ≤ length out.old }
+        ensures answer { AnswersFetch (refused_by self.now (asks_for moment name.now))
+            (size_at (spot_read self.now (asks_for moment name.now))) result }
         ensures fetched { self.now.is_broken ≡ false → IsTrue (D.state disk.old).tells
             → IfOk result (λ n. take n out.new
-            ≡ object_in (state_of self.now (D.state disk.old).file).map name.now) }
+            ≡ object_read (state_of self.now (D.state disk.old).file) (asks_for moment name.now)) }
         ensures judged { self.now.is_broken ≡ false → IsTrue (D.state disk.old).tells
-            → refused_by self.now (ask.get name.now) ≡ None
-            → IsJudged (digest_read self.now (ask.get name.now))
-            (object_in (state_of self.now (D.state disk.old).file).map name.now) result }
+            → refused_by self.now (asks_for moment name.now) ≡ None
+            → IsJudged (digest_read self.now (asks_for moment name.now))
+            (object_read (state_of self.now (D.state disk.old).file) (asks_for moment name.now)) result }
         ensures frame { Unchanged (D.state disk.old) (D.state disk.new) }
         ensures disk_cause { HasDiskCause Refusal.Disk (D.state disk.old).faults
             (D.state disk.new).faults result }
     {
-        match self.find(Moment::Now, name) {
+        match self.find(moment, name) {
             Ok(spot) => {
-                let digest = self.digest_of_object(Moment::Now, name);
+                let digest = self.digest_of_object(moment, name);
                 self.fetch_spot(disk, spot, &digest, out)
             }
             Err(refusal) => Err(refusal),

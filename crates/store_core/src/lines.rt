@@ -1,11 +1,12 @@
 //! The lines of a list, gathered into pieces for the sink.
-ghost use Rattle.std.specs.Prelude.{◌≡◌, ◌+◌, ◌^◌, ◌<◌, ◌≤◌, ℕ, ◌++◌, [], Err, IsTrue, OnOk, OnErr, codes, decimal, length, take};
+ghost use Rattle.std.specs.Prelude.{◌≡◌, ◌+◌, ◌^◌, ◌<◌, ◌≤◌, ℕ, ◌++◌, [], Err, IfOk, IsTrue, OnOk, OnErr, codes, decimal, length, take};
 ghost use Rattle.arrayvec.specs.ArrayVec.{array_vec_len};
 ghost use Rattle.disk_face.specs.Streams.{Puts};
 ghost use Rattle.extent_table.specs.Extents.{IsTable};
 ghost use Rattle.slot_codec.specs.Names.{IsName};
 ghost use Rattle.store_model.specs.Lines.{IsMoved, line_of, lines_of, listing_of};
-ghost use Rattle.store_core.specs.Reads.{HasSinkCause};
+ghost use Rattle.store_core.specs.Answers.{fitted};
+ghost use Rattle.data_area.specs.Causes.{HasSinkCause};
 
 use crate::Refusal;
 use crate::copy::put_whole;
@@ -37,6 +38,29 @@ pub(crate) fn put_lines<O: Sink>(table: &Table, sink: &mut O) -> Result<(), Refu
         push_line(&mut piece, &name, spot.size);
     }
     put_rest(&piece, sink)
+}
+
+/// Copies the same lines to the front of `out`, one after another, where they fit.
+pub(crate) fn copy_lines(table: &Table, out: &mut [u8]) -> Result<u64, Refusal>
+    requires { IsTable table.now }
+    ensures answer { result ≡ fitted (length (lines_of (listing_of table.now.now))) (length out.old) }
+    ensures lines { IfOk result (λ n. take n out.new ≡ lines_of (listing_of table.now.now)) }
+    ensures same_length { length out.new ≡ length out.old }
+{
+    let mut line: ArrayVec<u8, 4096> = ArrayVec::new();
+    let mut end = 0;
+    'names: for n in 0..table.count() {
+        let (_, name, spot) = table.in_order(n);
+        line.clear();
+        push_line(&mut line, &name, spot.size);
+        let begin = end;
+        if line.len() > out.len() - begin {
+            return Err(Refusal::Sink);
+        }
+        end = begin + line.len();
+        out[begin..end].copy_from_slice(line.as_slice());
+    }
+    Ok(end as u64)
 }
 
 /// Puts what was gathered, where it leaves no room for another line.

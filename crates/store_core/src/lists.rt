@@ -1,16 +1,16 @@
 //! What there is in a store: its names, and how many bytes they have.
-ghost use Rattle.std.specs.Prelude.{◌≡◌, ℕ, List, false, true, ◌↔◌, None, IsErr, IsNone, IsSome, IsTrue, OnErr, OnOk, IfOk, Err};
+ghost use Rattle.std.specs.Prelude.{◌≡◌, ℕ, List, false, true, ◌↔◌, None, IsErr, IsNone, IsSome, IsTrue, OnErr, OnOk, IfOk, Err, length, take};
 ghost use Rattle.std.specs.FinMap as fin;
 ghost use Rattle.disk_face.specs.Streams.{Puts};
 ghost use Rattle.extent_table.specs.Extents.{volume_of};
 ghost use Rattle.map_model.specs.Requests as ask;
-ghost use Rattle.store_core.specs.Answers.{AnswersList, refused_by};
+ghost use Rattle.store_core.specs.Answers.{AnswersList, listed_into, refused_by};
 ghost use Rattle.store_model.specs.Connection.{IsOver, limits_of, state_of};
 ghost use Rattle.store_model.specs.Lines.{lines_of, listing_of};
-ghost use Rattle.store_core.specs.Reads.{HasSinkCause};
+ghost use Rattle.data_area.specs.Causes.{HasSinkCause};
 ghost use Rattle.store_model.specs.States.{Step};
 
-use crate::lines::put_lines;
+use crate::lines::{copy_lines, put_lines};
 use crate::{Refusal, Stat, Store};
 use disk_face::Sink;
 
@@ -33,6 +33,21 @@ impl<const C: usize> Store<C> {
             return Err(Refusal::Broken);
         }
         put_lines(&self.hands.table, sink)
+    }
+
+    /// Copies the lines of a list to the front of `out`, and answers how many bytes they have, also while a
+    /// flush is in hand. The sink failed where they don't fit.
+    pub fn list_into(&self, out: &mut [u8]) -> Result<u64, Refusal>
+        ensures answer { result ≡ listed_into (refused_by self.now ask.list)
+            (length (lines_of (listing_of self.now.now))) (length out.old) }
+        ensures lines { IfOk result (λ n. take n out.new ≡ lines_of (listing_of self.now.now)) }
+        ensures refused { IsSome (refused_by self.now ask.list) → out.new ≡ out.old }
+        ensures same_length { length out.new ≡ length out.old }
+    {
+        if self.is_broken() {
+            return Err(Refusal::Broken);
+        }
+        copy_lines(&self.hands.table, out)
     }
 
     /// How many names and bytes there are, now and at the last checkpoint.

@@ -13,7 +13,8 @@ ghost use Rattle.store_model.specs.Connection.{IsConnected, base_of};
 ghost use Rattle.store_model.specs.Halves.{IsReadable};
 ghost use Rattle.store_model.specs.Stores.{IsStanding, IsStore};
 ghost use Rattle.store_core.specs.Readings.{IsRead, asks_for, digest_read, position_of, spot_read};
-ghost use Rattle.store_core.specs.Reads.{GivesObject, HasSinkCause, PutsJudged};
+ghost use Rattle.data_area.specs.Causes.{HasSinkCause};
+ghost use Rattle.store_core.specs.Reads.{GivesObject, PutsJudged};
 
 use crate::copy::put_judged;
 use crate::{Moment, Refusal, Store};

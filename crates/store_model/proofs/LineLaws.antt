@@ -1,9 +1,11 @@
 -- Lines that are gathered one after another, and put in pieces.
-use Rattle.std.specs.Prelude.{◌≡◌, ℕ, ◌+◌, ◌-◌, ◌<◌, ◌≤◌, List, [], ◌∷◌, ◌++◌, length, take, drop, flat_map, slice_get, slice_index_or, Some, option_map, Result, Ok, Err, OnOk, OnErr}
+use Rattle.std.specs.Prelude.{◌≡◌, ℕ, ◌+◌, ◌-◌, ◌<◌, ◌≤◌, List, [], ◌∷◌, ◌++◌, length, take, drop, flat_map, slice_get, slice_index_or, Some, option_map, Result, Ok, Err, OnOk, OnErr, refl}
 use Rattle.std.proofs.Common.{arith, ap, sym, ◌∙◌, append_assoc, length-append}
 use Rattle.std.proofs.Math.Seq.{take-append-add}
 use Rattle.std.proofs.lemmas.Grind.{flat_map-append}
-use Rattle.std.proofs.lemmas.List.{append-nil, length-map, take-append-drop, take-append-le, take_all, take_more}
+use Rattle.std.proofs.lemmas.Slice.{take-put_mid}
+use borrow.Rule.Slice.PartMut.{put_mid, same_len_mid}
+use Rattle.std.proofs.lemmas.List.{append-nil, length-drop, length-map, length-take, length-take-le, take-append-drop, take-append-le, take_all, take_more}
 use Rattle.std.proofs.lemmas.Option.{get_or_from_slice_get, slice_get-map, slice_get_within}
 use Rattle.std.specs.FinMap as fin
 use Rattle.disk_face.specs.Streams.{Puts}
@@ -84,7 +86,7 @@ gathered_front {before} {mid} {piece} {after} {spots} {n} so_far (k, low, is) =
     )
 
 -- the rest is put
-whole_listing : (spots : Spots) (n : ℕ) → n ≡ fin.len spots → take n (listing_of spots) ≡ listing_of spots
+pub whole_listing : (spots : Spots) (n : ℕ) → n ≡ fin.len spots → take n (listing_of spots) ≡ listing_of spots
 whole_listing spots n end = take_all n (listing_of spots) (omega (arith, end, length-listing spots))
 
 module _ {A E : Type 0} {before mid piece : List ℕ} {spots : Spots} {n : ℕ}
@@ -104,3 +106,71 @@ module _ {A E : Type 0} {before mid piece : List ℕ} {spots : Spots} {n : ℕ}
   pub gathered_all : (r : Result A E) → Puts mid after piece r
       → Puts before after (lines_of (listing_of spots)) r
   gathered_all r puts = record { all = all_put r puts.all; front = front_put r puts.front }
+
+-- ---- copied one after another
+
+-- some of the lines have no more bytes than all
+lines_few : (spots : Spots) (n : ℕ)
+    → length (lines_of (take n (listing_of spots))) ≤ length (lines_of (listing_of spots))
+lines_few spots n =
+    let es = listing_of spots in
+    let whole : lines_of es ≡ lines_of (take n es) ++ lines_of (drop n es) =
+    ap lines_of (sym (take-append-drop n es)) ∙ flat_map-append line_of (take n es) (drop n es) in
+    omega (arith, ap length whole, length-append (lines_of (take n es)) (lines_of (drop n es)))
+
+-- What stands in front of a memory is that many lines.
+pub record IsCopied (out : List ℕ) (room end : ℕ) (spots : Spots) (n : ℕ) : Type 0 where
+  pub bytes : take end out ≡ lines_of (take n (listing_of spots))
+  pub inside : end ≤ length out
+  pub same : length out ≡ room
+
+-- at first there are none
+pub copied_none : (out : List ℕ) (spots : Spots) → IsCopied out (length out) 0 spots 0
+copied_none out spots = record { bytes = refl; inside = omega arith; same = refl }
+
+-- so many bytes they have
+copied_length : {out : List ℕ} {room end : ℕ} {spots : Spots} {n : ℕ} → IsCopied out room end spots n
+    → end ≡ length (lines_of (take n (listing_of spots)))
+copied_length {out} {room} {end} i = omega (arith, ap length i.bytes, length-take end out, i.inside)
+
+module _ {out : List ℕ} {room end : ℕ} {spots : Spots} {n : ℕ} (so_far : IsCopied out room end spots n)
+    (name : List ℕ) (x : Spot) (there : slice_get (fin.entries spots) n ≡ Some (name, x)) where
+  next_length : length (lines_of (take (n + 1) (listing_of spots))) ≡ end + length (line_of (name, x.size))
+  next_length = omega (
+    arith,
+    ap length (lines_more spots n name x there),
+    length-append (lines_of (take n (listing_of spots))) (line_of (name, x.size)),
+    copied_length so_far,
+  )
+
+  -- one more that doesn't fit
+  pub copied_short : room - end < length (line_of (name, x.size)) → room < length (lines_of (listing_of spots))
+  copied_short more = omega (arith, more, next_length, lines_few spots (n + 1), so_far.inside, so_far.same)
+
+  -- one more that fits, as it is put into the memory
+  pub copied_more : (part : List ℕ) (n2 : ℕ) → part ≡ line_of (name, x.size) → n2 ≡ length part
+      → end + n2 ≤ length out → IsCopied (put_mid end (end + n2 - end) out part) room (end + n2) spots (n + 1)
+  copied_more part n2 is long fits =
+      let k = end + n2 - end in
+      let same : length (put_mid end k out part) ≡ length out =
+      same_len_mid end k out part (omega (
+        arith,
+        long,
+        length-take-le k (drop end out) (omega (arith, length-drop end out, fits)),
+      )) in
+      record {
+        bytes = take-put_mid end k out part (end + n2) (omega (arith, long)) so_far.inside
+            ∙ ap (λ (xs : List ℕ). take end out ++ xs) is
+            ∙ ap (λ (xs : List ℕ). xs ++ line_of (name, x.size)) so_far.bytes
+            ∙ sym (lines_more spots n name x there);
+        inside = omega (arith, same, fits);
+        same = same ∙ so_far.same;
+      }
+
+-- all of them
+pub copied_all : {out : List ℕ} {room end : ℕ} {spots : Spots} {n : ℕ} → IsCopied out room end spots n
+    → n ≡ fin.len spots
+    → (take end out ≡ lines_of (listing_of spots)) × (end ≡ length (lines_of (listing_of spots)))
+copied_all {spots = spots} {n} i is_last =
+    let last = whole_listing spots n is_last in
+    (i.bytes ∙ ap lines_of last, copied_length i ∙ ap (λ (es : List (List ℕ × ℕ)). length (lines_of es)) last)

@@ -27,7 +27,7 @@ use Rattle.store_model.specs.Quiet.{charges_of}
 use Rattle.store_model.specs.States.{Served, State, Step, object_in, unchanged}
 use Rattle.store_model.specs.Stores.{IsStore}
 use Rattle.store_core.proofs.AnsweredLaws.{number_served}
-use Rattle.store_core.proofs.CauseLaws.{calm_disk, disk_cause_as}
+use Rattle.data_area.proofs.CauseLaws.{calm_disk, disk_cause_as}
 use Rattle.store_core.proofs.StepLaws.{always, read_reply}
 use Rattle.store_model.proofs.StoreLaws.{small_if_there}
 use Rattle.segment_layout.specs.Books.{is_quiet}

@@ -1,5 +1,5 @@
 use Rattle.std.proofs.Common.{ap, Err}
-use Rattle.store_core.proofs.CauseLaws.{sink_cause_as}
+use Rattle.data_area.proofs.CauseLaws.{sink_cause_as}
 use Rattle.ask_text.specs.declared.ends.End.{End}
 use Rattle.ask_serve.proofs.heads.put_head.Goals as goal
 

@@ -3,7 +3,7 @@ use Rattle.map_model.specs.Requests as ask
 use Rattle.store_core.proofs.AnsweredLaws.{refused_is}
 use Rattle.ask_serve.proofs.AnswerLaws.{none_is}
 use Rattle.store_core.specs.declared.answers.Refusal.{Refusal}
-use Rattle.store_core.proofs.CauseLaws.{sink_cause_as}
+use Rattle.data_area.proofs.CauseLaws.{sink_cause_as}
 use Rattle.ask_serve.proofs.PutLaws.{puts_sink}
 use Rattle.ask_serve.proofs.ReplyLaws.{list_fault}
 use Rattle.ask_serve.proofs.reads.put_list.Goals as goal

@@ -1,5 +1,5 @@
 use Rattle.std.specs.Prelude.{Result, Option, ℕ}
-use Rattle.std.proofs.Common.{arith, sym, subst}
+use Rattle.std.proofs.Common.{arith, inl, sym, subst}
 use Rattle.batch_core.specs.Answers.{IsFetched}
 use Rattle.batch_core.specs.StoresOn.{store_on}
 use Rattle.batch_core.specs.declared.fault.BatchFault.{BatchFault}
@@ -12,7 +12,7 @@ fetch-answer-requires g c = (
   (
     c.requires.go.ready,
     (
-      c.requires.go.over,
+      inl c.requires.go.over,
       c.requires.room,
     ),
   ),

@@ -1,5 +1,5 @@
 use Rattle.std.proofs.Common.{◌∙◌, rules, arith, IsTrue}
-use Rattle.store_core.proofs.CauseLaws.{sink_cause_after, sink_cause_as}
+use Rattle.data_area.proofs.CauseLaws.{sink_cause_after, sink_cause_as}
 use Rattle.store_model.proofs.LineLaws.{gathered_all, gathered_front, gathered_more}
 use Rattle.store_core.proofs.lines.put_lines.Goals as goal
 

@@ -8,11 +8,10 @@ use Rattle.map_model.specs.Requests as ask
 use Rattle.store_core.specs.declared.answers.Refusal.{Refusal}
 use Rattle.store_core.specs.declared.answers.Refusal.TheVariants as why
 use Rattle.store_core.specs.Answers.{refused_by}
-use Rattle.store_core.specs.Inside.{kept_of}
 use Rattle.store_core.specs.Plans.{AcceptsName}
 use Rattle.store_model.specs.Connection.{StoreValue}
 use Rattle.store_model.specs.Quiet.{del_of}
-use Rattle.store_core.proofs.InsideLaws.{lent_is, rest_of}
+use Rattle.store_core.proofs.LentLaws.{lent_rest}
 use Rattle.store_core.proofs.store.Store.accept_del.Goals as goal
 
 pub returns-in_err-name : goal.returns-in_err-name
@@ -40,15 +39,14 @@ accepts s name result whole named live worn fresh =
 
 pub returns-clause-answer : goal.returns-clause-answer
 returns-clause-answer g c =
-    let rest = rest_of c.self.inside c.args.self.now c.self.view_is c.self.invariant c.requires.idle in
-    let is_lent = lent_is c.self.inside c.deref.ensures refl in
-    let view_is = ap kept_of is_lent ∙ rest.view in
+    let rest = lent_rest c.self.inside c.args.self.now _ c.self.view_is
+    c.self.invariant c.requires.idle c.deref.ensures in
     let t = c.args.self.now in
     let name = c.args.name.now in
     let said = answered t.is_broken (is_name name) c.in_ok-name.name name c.in_ok-name.ensures.answer in
     let live : is_some c.get.result ≡ fin.contains_key t.now name =
     ap is_some c.get.ensures
-    ∙ (λ i. fin.contains_key ((ap (λ (x : StoreValue). x.now) view_is) i) (said.2 i)) in
+    ∙ (λ i. fin.contains_key ((ap (λ (x : StoreValue). x.now) rest.view) i) (said.2 i)) in
     let there : is_some c.get.result ≡ true = search rules in
     let has : fin.contains_key t.now name ≡ true = cc in
     accepts t name c.unworn.result said.0 said.1 has c.unworn.ensures.worn

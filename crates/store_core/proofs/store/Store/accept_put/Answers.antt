@@ -1,4 +1,4 @@
-use Rattle.std.proofs.Common.{◌≡◌, ◌<◌, ◌≤◌, ℕ, List, Bool, true, false, not, IsTrue, Ok, Err, Result, length, is_some, inl, inr, refl, ap, sym, arith, rules, ◌∙◌, subst}
+use Rattle.std.proofs.Common.{◌≡◌, ◌<◌, ◌≤◌, ℕ, List, Bool, true, false, not, IsTrue, Ok, Err, Result, length, is_some, inl, inr, refl, ap, sym, arith, rules, ◌∙◌}
 use Rattle.std.specs.Prelude.{◌&&◌, ◌^◌, nat_le, nat_lt, if◌then◌else◌}
 use Rattle.std.proofs.lemmas.Bool.{cases_lt, le-leb, le-ltb, lt-leb}
 use Rattle.std.proofs.lemmas.Grind.{common_steps}
@@ -13,8 +13,8 @@ use Rattle.extent_table.specs.Extents.{Spots}
 use Rattle.store_model.specs.Connection.{StoreValue, live_cap}
 use Rattle.store_core.specs.Plans.{AcceptsName}
 use Rattle.store_model.specs.Quiet.{put_of}
-use Rattle.store_core.specs.Inside.{IsWhole, kept_of}
-use Rattle.store_core.proofs.InsideLaws.{lent, lent_is, opened, rest_of}
+use Rattle.store_core.proofs.InsideLaws.{lent, opened}
+use Rattle.store_core.proofs.LentLaws.{lent_rest}
 use Rattle.store_core.proofs.store.Store.accept_put.Goals as goal
 use Rattle.store_core.proofs.store.Store.accept_put.Goals.{else-is_none-via-then-is_none+else-not-room, else-is_none-via-else-is_none}
 
@@ -52,18 +52,16 @@ accepts s name object result whole named small room worn fresh =
 
 pub returns-clause-answer : goal.returns-clause-answer
 returns-clause-answer g c =
-    let rest = rest_of c.self.inside c.args.self.now c.self.view_is c.self.invariant c.requires.idle in
-    let is_lent = lent_is c.self.inside c.deref-hands.ensures refl in
-    let view_is = ap kept_of is_lent ∙ rest.view in
-    let invariant = subst IsWhole (sym is_lent) rest.whole in
+    let rest = lent_rest c.self.inside c.args.self.now _ c.self.view_is
+    c.self.invariant c.requires.idle c.deref-hands.ensures in
     let t = c.args.self.now in
     let name = c.args.name.now in
     let said = answered t.is_broken (is_name name) c.in_ok-name.name name c.in_ok-name.ensures.answer in
-    let o = opened (lent c.self.inside c.deref-hands.result.now c.self.inside.kept_layout.value) t view_is
-    invariant said.0 in
+    let o = opened (lent c.self.inside c.deref-hands.result.now c.self.inside.kept_layout.value) t rest.view
+    rest.whole said.0 in
     let live : is_some c.get.result ≡ fin.contains_key t.now name =
     ap is_some c.get.ensures
-    ∙ (λ i. fin.contains_key ((ap (λ (x : StoreValue). x.now) view_is) i) (said.2 i)) in
+    ∙ (λ i. fin.contains_key ((ap (λ (x : StoreValue). x.now) rest.view) i) (said.2 i)) in
     let room : (not (fin.contains_key t.now name) && nat_le (live_cap t) (fin.len t.now)) ≡ false =
     elim c.else-is_none.branch [
       | else-is_none-via-then-is_none+else-not-room w ↦
@@ -94,18 +92,16 @@ refuses s name object whole named small new full =
 
 pub returns-then-not-room-clause-answer : goal.returns-then-not-room-clause-answer
 returns-then-not-room-clause-answer g c =
-    let rest = rest_of c.self.inside c.args.self.now c.self.view_is c.self.invariant c.requires.idle in
-    let is_lent = lent_is c.self.inside c.deref-hands.ensures refl in
-    let view_is = ap kept_of is_lent ∙ rest.view in
-    let invariant = subst IsWhole (sym is_lent) rest.whole in
+    let rest = lent_rest c.self.inside c.args.self.now _ c.self.view_is
+    c.self.invariant c.requires.idle c.deref-hands.ensures in
     let t = c.args.self.now in
     let name = c.args.name.now in
     let said = answered t.is_broken (is_name name) c.in_ok-name.name name c.in_ok-name.ensures.answer in
-    let o = opened (lent c.self.inside c.deref-hands.result.now c.self.inside.kept_layout.value) t view_is
-    invariant said.0 in
+    let o = opened (lent c.self.inside c.deref-hands.result.now c.self.inside.kept_layout.value) t rest.view
+    rest.whole said.0 in
     let live : is_some c.get.result ≡ fin.contains_key t.now name =
     ap is_some c.get.ensures
-    ∙ (λ i. fin.contains_key ((ap (λ (x : StoreValue). x.now) view_is) i) (said.2 i)) in
+    ∙ (λ i. fin.contains_key ((ap (λ (x : StoreValue). x.now) rest.view) i) (said.2 i)) in
     let none : is_some c.get.result ≡ false = search rules in
     let full : c.room.result ≡ false = search rules in
     let many : live_cap t ≤ fin.len t.now = elim (cases_lt (fin.len t.now) (live_cap t)) [

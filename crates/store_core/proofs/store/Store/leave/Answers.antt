@@ -1,5 +1,5 @@
 use Rattle.std.specs.Prelude.{Option, ◌≤◌, ◌≡◌}
-use Rattle.std.proofs.Common.{◌∙◌, ap, lit<, rules, subst, sym, refl}
+use Rattle.std.proofs.Common.{◌∙◌, ap, lit<, rules, subst, sym}
 use Rattle.std.specs.FinMap as fin
 use Rattle.size_class.specs.Rows.{cells_of}
 use Rattle.segment_layout.specs.Layouts.{grid_of}
@@ -15,38 +15,34 @@ use Rattle.store_model.specs.Quiet.{del_of}
 use Rattle.store_model.specs.Stores.{AreInRange}
 use Rattle.store_model.proofs.DigestLaws.{few_gone, seen_gone, version_after}
 use Rattle.store_model.proofs.ChangeLaws.{can_free, store_gone}
-use Rattle.store_core.proofs.InsideLaws.{changed_view, changed_whole, lent, lent_is, opened, rest_of}
+use Rattle.store_core.proofs.InsideLaws.{changed_view, changed_whole, lent, opened}
 use Rattle.store_model.proofs.StoreLaws.{small_if_there}
-use Rattle.store_core.specs.Inside.{IsWhole, kept_of}
+use Rattle.store_core.proofs.LentLaws.{lent_rest}
 use Rattle.store_core.proofs.store.Store.leave.Goals as goal
 
 pub free_spot-requires : goal.free_spot-requires
 free_spot-requires g c x now_is kept_is =
-    let rest = rest_of c.self.inside c.args.self.now c.self.view_is c.self.invariant c.requires.idle in
-    let is_lent = lent_is c.self.inside c.deref_mut-hands.ensures.value refl in
+    let rest = lent_rest c.self.inside c.args.self.now c.deref_mut-hands.result.now c.self.view_is
+    c.self.invariant c.requires.idle c.deref_mut-hands.ensures.value in
     let inside = lent c.self.inside c.deref_mut-hands.result.now c.self.inside.kept_layout.value in
-    let view_is = ap kept_of is_lent ∙ rest.view in
-    let invariant = subst IsWhole (sym is_lent) rest.whole in
     let t = c.args.self.now in
-    let o = opened inside t view_is invariant c.requires.whole in
+    let o = opened inside t rest.view rest.whole c.requires.whole in
     can_free t o.store c.args.name.now inside.hands.guard o.guard_room o.freed x
     (ap (λ (m : Spots). fin.get m c.args.name.now) (sym o.now) ∙ sym c.get-now.ensures ∙ now_is)
     (ap (λ (m : Spots). fin.get m c.args.name.now) (sym o.kept) ∙ sym c.old.ensures ∙ kept_is)
 
 pub add_gone-requires : goal.add_gone-requires
 add_gone-requires g c =
-    let rest = rest_of c.self.inside c.args.self.now c.self.view_is c.self.invariant c.requires.idle in
-    let is_lent = lent_is c.self.inside c.deref_mut-hands.ensures.value refl in
+    let rest = lent_rest c.self.inside c.args.self.now c.deref_mut-hands.result.now c.self.view_is
+    c.self.invariant c.requires.idle c.deref_mut-hands.ensures.value in
     let inside = lent c.self.inside c.deref_mut-hands.result.now c.self.inside.kept_layout.value in
-    let view_is = ap kept_of is_lent ∙ rest.view in
-    let invariant = subst IsWhole (sym is_lent) rest.whole in
     let t = c.args.self.now in
-    let o = opened inside t view_is invariant c.requires.whole in (
+    let o = opened inside t rest.view rest.whole c.requires.whole in (
       lit< tt,
       (
-        invariant.classes,
+        rest.whole.classes,
         (
-          invariant.wide,
+          rest.whole.wide,
           small_if_there t o.store c.args.name.now c.get-now.result
               (c.get-now.ensures ∙ ap (λ (m : Spots). fin.get m c.args.name.now) o.now),
         ),
@@ -55,21 +51,19 @@ add_gone-requires g c =
 
 pub invariant_of-self : goal.invariant_of-self
 invariant_of-self g c =
-    let rest = rest_of c.self.inside c.args.self.now c.self.view_is c.self.invariant c.requires.idle in
-    let is_lent = lent_is c.self.inside c.deref_mut-hands.ensures.value refl in
+    let rest = lent_rest c.self.inside c.args.self.now c.deref_mut-hands.result.now c.self.view_is
+    c.self.invariant c.requires.idle c.deref_mut-hands.ensures.value in
     let inside = lent c.self.inside c.deref_mut-hands.result.now c.self.inside.kept_layout.value in
-    let view_is = ap kept_of is_lent ∙ rest.view in
-    let invariant = subst IsWhole (sym is_lent) rest.whole in
     let t = c.args.self.now in
     let name = c.args.name.now in
-    let o = opened inside t view_is invariant c.requires.whole in
+    let o = opened inside t rest.view rest.whole c.requires.whole in
     let after = c.remove.ensures.now ∙ ap (λ (m : Spots). fin.remove m name) o.now in
     let digests = digests_after (del_of name) t.book.digests in
     let same : digests_seen inside.hands.version c.remove.new.self.digests ≡ digests =
     ap (λ (d : Digests). digests_seen inside.hands.version d) c.remove.ensures.digests
     ∙ seen_gone inside.hands.version inside.hands.table.digests name
     ∙ ap (λ (d : Option Map). digests_after (del_of name) d) o.digests in
-    rw rest.none (changed_whole inside t view_is invariant c.remove.new.self c.free_spot.new.guard
+    rw rest.none (changed_whole inside t rest.view rest.whole c.remove.new.self c.free_spot.new.guard
     c.add_gone.new.ledger c.args.layout (fin.remove t.now name) after c.remove.ensures.kept c.requires.caps
     c.add_gone.ensures.moved digests same c.remove.ensures.rest.kept_digests
     c.remove.ensures.table c.remove.ensures.names c.remove.ensures.rest.cap
@@ -89,21 +83,19 @@ invariant_of-self g c =
 
 pub returns : goal.returns
 returns g c =
-    let rest = rest_of c.self.inside c.args.self.now c.self.view_is c.self.invariant c.requires.idle in
-    let is_lent = lent_is c.self.inside c.deref_mut-hands.ensures.value refl in
+    let rest = lent_rest c.self.inside c.args.self.now c.deref_mut-hands.result.now c.self.view_is
+    c.self.invariant c.requires.idle c.deref_mut-hands.ensures.value in
     let inside = lent c.self.inside c.deref_mut-hands.result.now c.self.inside.kept_layout.value in
-    let view_is = ap kept_of is_lent ∙ rest.view in
-    let invariant = subst IsWhole (sym is_lent) rest.whole in
     let t = c.args.self.now in
     let name = c.args.name.now in
-    let o = opened inside t view_is invariant c.requires.whole in
+    let o = opened inside t rest.view rest.whole c.requires.whole in
     let after = c.remove.ensures.now ∙ ap (λ (m : Spots). fin.remove m name) o.now in
     let digests = digests_after (del_of name) t.book.digests in
     let same : digests_seen inside.hands.version c.remove.new.self.digests ≡ digests =
     ap (λ (d : Digests). digests_seen inside.hands.version d) c.remove.ensures.digests
     ∙ seen_gone inside.hands.version inside.hands.table.digests name
     ∙ ap (λ (d : Option Map). digests_after (del_of name) d) o.digests in
-    let view = changed_view inside t view_is invariant c.remove.new.self c.free_spot.new.guard
+    let view = changed_view inside t rest.view rest.whole c.remove.new.self c.free_spot.new.guard
     c.add_gone.new.ledger c.args.layout (fin.remove t.now name) after c.remove.ensures.kept c.requires.caps
     c.add_gone.ensures.moved digests same c.remove.ensures.rest.kept_digests in
     search rules

@@ -5,7 +5,7 @@ use Rattle.std.proofs.lemmas.Grind.{common_steps}
 use Rattle.store_core.specs.Inside.{HoldsAt, seen}
 use Rattle.store_core.proofs.InsideLaws.{holds_with, lent, lent_is, parts_at}
 use Rattle.store_core.proofs.ReadingLaws.{read_stops}
-use Rattle.store_core.proofs.CauseLaws.{disk_cause_as, sink_cause_as}
+use Rattle.data_area.proofs.CauseLaws.{disk_cause_as, sink_cause_as}
 use Rattle.store_core.proofs.store.Store.put_object.Goals as goal
 
 pub returns-clause-answer : goal.returns-clause-answer

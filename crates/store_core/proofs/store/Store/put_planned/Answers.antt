@@ -6,40 +6,36 @@ use Rattle.store_model.specs.Connection.{StoreValue}
 use Rattle.store_model.specs.Quiet.{IsCharged, put_of}
 use Rattle.store_model.proofs.ChangeLaws.{apart_kept, place_ends}
 use Rattle.store_core.proofs.EffectLaws.{calls_err, calls_ok, position_fits, quiet_effects}
-use Rattle.store_core.proofs.InsideLaws.{lent, lent_is, opened, rest_of}
+use Rattle.store_core.proofs.InsideLaws.{lent, opened, rest_of}
 use Rattle.store_core.proofs.PlanLaws.{put_served}
 use Rattle.store_core.proofs.QuietLaws.{put_entered, put_over, put_step, put_value}
-use Rattle.store_core.specs.Inside.{IsWhole, kept_of}
+use Rattle.store_core.proofs.LentLaws.{lent_rest}
 use Rattle.store_core.proofs.store.Store.put_planned.Goals as goal
 
 pub write_new-requires-clause-fits : goal.write_new-requires-clause-fits
 write_new-requires-clause-fits g c =
-    let rest = rest_of c.self.inside c.args.self.now c.self.view_is c.self.invariant c.requires.over.idle in
-    let is_lent = lent_is c.self.inside c.deref.ensures refl in
+    let rest = lent_rest c.self.inside c.args.self.now c.deref.result.now c.self.view_is
+    c.self.invariant c.requires.over.idle c.deref.ensures in
     let inside = lent c.self.inside c.deref.result.now c.self.inside.kept_layout.value in
-    let view_is = ap kept_of is_lent ∙ rest.view in
-    let invariant = subst IsWhole (sym is_lent) rest.whole in
     let t = c.args.self.now in
     let plan = c.args.plan in
     let size = length c.args.bytes.now in
     let served = put_served t c.args.name.now c.args.bytes.now c.requires.plan.served in
-    let o = opened inside t view_is invariant served.whole in
+    let o = opened inside t rest.view rest.whole served.whole in
     position_fits t inside.hands.base plan.spot.place size c.requires.sound o.base
     (place_ends t c.requires.sound c.args.name.now size plan.spot.place (grid_of plan.layout)
     c.requires.plan.charged)
 
 pub write_new-requires-clause-within : goal.write_new-requires-clause-within
 write_new-requires-clause-within g c told =
-    let rest = rest_of c.self.inside c.args.self.now c.self.view_is c.self.invariant c.requires.over.idle in
-    let is_lent = lent_is c.self.inside c.deref.ensures refl in
+    let rest = lent_rest c.self.inside c.args.self.now c.deref.result.now c.self.view_is
+    c.self.invariant c.requires.over.idle c.deref.ensures in
     let inside = lent c.self.inside c.deref.result.now c.self.inside.kept_layout.value in
-    let view_is = ap kept_of is_lent ∙ rest.view in
-    let invariant = subst IsWhole (sym is_lent) rest.whole in
     let t = c.args.self.now in
     let plan = c.args.plan in
     let size = length c.args.bytes.now in
     let served = put_served t c.args.name.now c.args.bytes.now c.requires.plan.served in
-    let o = opened inside t view_is invariant served.whole in
+    let o = opened inside t rest.view rest.whole served.whole in
     let over = c.requires.over.over served.whole told in
     omega (
       arith,
@@ -87,16 +83,14 @@ enter-requires g c =
 
 pub returns-in-Ok-clause-quiet : goal.returns-in-Ok-clause-quiet
 returns-in-Ok-clause-quiet g c =
-    let rest = rest_of c.self.inside c.args.self.now c.self.view_is c.self.invariant c.requires.over.idle in
-    let is_lent = lent_is c.self.inside c.deref.ensures refl in
+    let rest = lent_rest c.self.inside c.args.self.now c.deref.result.now c.self.view_is
+    c.self.invariant c.requires.over.idle c.deref.ensures in
     let inside = lent c.self.inside c.deref.result.now c.self.inside.kept_layout.value in
-    let view_is = ap kept_of is_lent ∙ rest.view in
-    let invariant = subst IsWhole (sym is_lent) rest.whole in
     let t = c.args.self.now in
     let plan = c.args.plan in
     let size = length c.args.bytes.now in
     let served = put_served t c.args.name.now c.args.bytes.now c.requires.plan.served in
-    let o = opened inside t view_is invariant served.whole in
+    let o = opened inside t rest.view rest.whole served.whole in
     quiet_effects (put_of c.args.name.now c.args.bytes.now) t c.enter.new.self
     (g.D.Disk.state c.args.disk.now)
     (g.D.Disk.state c.write_new.new.disk) _ inside.hands.base plan.spot.place size c.requires.sound
@@ -112,16 +106,14 @@ returns-in-Ok-clause-quiet g c =
 
 pub returns-in-Err-clause-quiet : goal.returns-in-Err-clause-quiet
 returns-in-Err-clause-quiet g c =
-    let rest = rest_of c.self.inside c.args.self.now c.self.view_is c.self.invariant c.requires.over.idle in
-    let is_lent = lent_is c.self.inside c.deref.ensures refl in
+    let rest = lent_rest c.self.inside c.args.self.now c.deref.result.now c.self.view_is
+    c.self.invariant c.requires.over.idle c.deref.ensures in
     let inside = lent c.self.inside c.deref.result.now c.self.inside.kept_layout.value in
-    let view_is = ap kept_of is_lent ∙ rest.view in
-    let invariant = subst IsWhole (sym is_lent) rest.whole in
     let t = c.args.self.now in
     let plan = c.args.plan in
     let size = length c.args.bytes.now in
     let served = put_served t c.args.name.now c.args.bytes.now c.requires.plan.served in
-    let o = opened inside t view_is invariant served.whole in
+    let o = opened inside t rest.view rest.whole served.whole in
     quiet_effects (put_of c.args.name.now c.args.bytes.now) t _ (g.D.Disk.state c.args.disk.now)
     (g.D.Disk.state c.write_new.new.disk) _ inside.hands.base plan.spot.place size c.requires.sound
     o.base
@@ -131,16 +123,14 @@ returns-in-Err-clause-quiet g c =
 
 pub returns-in-Ok-clause-step : goal.returns-in-Ok-clause-step
 returns-in-Ok-clause-step g c told =
-    let rest = rest_of c.self.inside c.args.self.now c.self.view_is c.self.invariant c.requires.over.idle in
-    let is_lent = lent_is c.self.inside c.deref.ensures refl in
+    let rest = lent_rest c.self.inside c.args.self.now c.deref.result.now c.self.view_is
+    c.self.invariant c.requires.over.idle c.deref.ensures in
     let inside = lent c.self.inside c.deref.result.now c.self.inside.kept_layout.value in
-    let view_is = ap kept_of is_lent ∙ rest.view in
-    let invariant = subst IsWhole (sym is_lent) rest.whole in
     let t = c.args.self.now in
     let plan = c.args.plan in
     let file = (g.D.Disk.state c.args.disk.now).file in
     let served = put_served t c.args.name.now c.args.bytes.now c.requires.plan.served in
-    let o = opened inside t view_is invariant served.whole in
+    let o = opened inside t rest.view rest.whole served.whole in
     put_step t c.requires.sound c.args.name.now c.args.bytes.now (divisor_of plan.layout)
     (caps_of plan.layout)
     (grid_of plan.layout) plan.spot c.requires.plan file (g.D.Disk.state c.write_new.new.disk).file
@@ -154,16 +144,14 @@ returns-in-Ok-clause-step g c told =
 
 pub returns-in-Ok-clause-over : goal.returns-in-Ok-clause-over
 returns-in-Ok-clause-over g c =
-    let rest = rest_of c.self.inside c.args.self.now c.self.view_is c.self.invariant c.requires.over.idle in
-    let is_lent = lent_is c.self.inside c.deref.ensures refl in
+    let rest = lent_rest c.self.inside c.args.self.now c.deref.result.now c.self.view_is
+    c.self.invariant c.requires.over.idle c.deref.ensures in
     let inside = lent c.self.inside c.deref.result.now c.self.inside.kept_layout.value in
-    let view_is = ap kept_of is_lent ∙ rest.view in
-    let invariant = subst IsWhole (sym is_lent) rest.whole in
     let t = c.args.self.now in
     let plan = c.args.plan in
     let file = (g.D.Disk.state c.args.disk.now).file in
     let served = put_served t c.args.name.now c.args.bytes.now c.requires.plan.served in
-    let o = opened inside t view_is invariant served.whole in
+    let o = opened inside t rest.view rest.whole served.whole in
     record {
       idle = ap (λ (x : StoreValue). x.in_hand) c.enter.ensures ∙ c.requires.over.idle;
       over = λ whole told.

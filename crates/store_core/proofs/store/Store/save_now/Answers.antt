@@ -10,51 +10,48 @@ use Rattle.extent_table.specs.Extents.{digests_seen}
 use Rattle.extent_table.proofs.SaveLaws.{rolled_in_range}
 use Rattle.flush_run.proofs.RolledLaws.{rolled_count}
 use Rattle.store_model.specs.Digested.{digested_book}
-use Rattle.store_core.specs.Inside.{kept_of, IsWhole}
+use Rattle.store_core.specs.Inside.{kept_of}
 use Rattle.store_core.proofs.EffectLaws.{calls_err, calls_ok}
 use Rattle.store_core.proofs.KeepEffectLaws.{header_is, keep_done, keep_failed, keep_over, keep_step, kept_view, kept_whole}
 use Rattle.store_core.proofs.KeepLaws.{length-records_of}
-use Rattle.store_core.proofs.InsideLaws.{few_live, lent, lent_is, rest_of}
+use Rattle.store_core.proofs.InsideLaws.{few_live, lent, rest_of}
+use Rattle.store_core.proofs.LentLaws.{lent_rest}
 use Rattle.store_core.proofs.store.Store.save_now.Goals as goal
 
 pub save-requires-clause-save : goal.save-requires-clause-save
 save-requires-clause-save g c =
-    let rest = rest_of c.self.inside c.args.self.now c.self.view_is c.self.invariant c.requires.over.idle in
-    let is_lent = lent_is c.self.inside c.deref_mut-hands.ensures.value refl in
+    let rest = lent_rest c.self.inside c.args.self.now c.deref_mut-hands.result.now c.self.view_is
+    c.self.invariant c.requires.over.idle c.deref_mut-hands.ensures.value in
     let inside = lent c.self.inside c.deref_mut-hands.result.now c.self.inside.kept_layout.value in
-    let view_is = ap kept_of is_lent ∙ rest.view in
-    let invariant = subst IsWhole (sym is_lent) rest.whole in
     let names = inside.hands.slots.block.names in
-    let unbroken = ap (λ (x : StoreValue). x.is_broken) view_is ∙ c.requires.whole in
-    let table = invariant.table unbroken in
+    let unbroken = ap (λ (x : StoreValue). x.is_broken) rest.view ∙ c.requires.whole in
+    let table = rest.whole.table unbroken in
     record {
-      fresh = omega (arith, c.requires.fresh, ap (λ (x : StoreValue). x.in_use.sequence) view_is);
+      fresh = omega (arith, c.requires.fresh, ap (λ (x : StoreValue). x.in_use.sequence) rest.view);
       version = subst (λ v. IsTrue (is_version v))
-          (sym (ap (λ (h : Header). h.version) c.settled_header-next.ensures.header)) invariant.version;
+          (sym (ap (λ (h : Header). h.version) c.settled_header-next.ensures.header)) rest.whole.version;
       ranges = c.settled_header-next.ensures.ranges;
       records = rolled_in_range inside.hands.table table;
       count = omega (
         arith,
         rolled_count inside.hands.table.now inside.hands.table.digests,
         length-records_of inside.hands.table.now table.now_named,
-        few_live inside invariant unbroken,
-        invariant.cap,
+        few_live inside rest.whole unbroken,
+        rest.whole.cap,
         ap (λ (h : Header). cap names h.version) c.settled_header-next.ensures.header,
       );
     }
 
 pub returns-in-Err-clause-kept : goal.returns-in-Err-clause-kept
 returns-in-Err-clause-kept g c =
-    let rest = rest_of c.self.inside c.args.self.now c.self.view_is c.self.invariant c.requires.over.idle in
-    let is_lent = lent_is c.self.inside c.deref_mut-hands.ensures.value refl in
+    let rest = lent_rest c.self.inside c.args.self.now c.deref_mut-hands.result.now c.self.view_is
+    c.self.invariant c.requires.over.idle c.deref_mut-hands.ensures.value in
     let inside = lent c.self.inside c.deref_mut-hands.result.now c.self.inside.kept_layout.value in
-    let view_is = ap kept_of is_lent ∙ rest.view in
-    let invariant = subst IsWhole (sym is_lent) rest.whole in
     let same = c.in-Err.ensures.same_pair in
-    rw rest.none (keep_failed inside c.args.self.now view_is invariant c.requires.whole
+    rw rest.none (keep_failed inside c.args.self.now rest.view rest.whole c.requires.whole
     c.requires.fresh
     c.settled_header-next.result
-    (header_is inside invariant c.settled_header-next.result c.settled_header-next.ensures.header)
+    (header_is inside rest.whole c.settled_header-next.result c.settled_header-next.ensures.header)
     c.requires.over c.save.ensures.left
     c.save.ensures.frame _ _
     (λ i. record (kept_of inside) {
@@ -70,11 +67,10 @@ returns-in-Err-clause-kept g c =
 
 pub invariant_of-self : goal.invariant_of-self
 invariant_of-self g c =
-    let rest = rest_of c.self.inside c.args.self.now c.self.view_is c.self.invariant c.requires.over.idle in
-    let is_lent = lent_is c.self.inside c.deref_mut-hands.ensures.value refl in
+    let rest = lent_rest c.self.inside c.args.self.now c.deref_mut-hands.result.now c.self.view_is
+    c.self.invariant c.requires.over.idle c.deref_mut-hands.ensures.value in
     let inside = lent c.self.inside c.deref_mut-hands.result.now c.self.inside.kept_layout.value in
-    let invariant = subst IsWhole (sym is_lent) rest.whole in
-    rw rest.none (kept_whole inside invariant c.keep_spots.new.table
+    rw rest.none (kept_whole inside rest.whole c.keep_spots.new.table
     c.keep_spots.new.guard c.save.new.self _ c.in-Ok.ensures.pair.pair c.keep_spots.ensures.now
     c.keep_spots.ensures.kept c.keep_spots.ensures.digests c.keep_spots.ensures.kept_digests
     c.keep_spots.ensures.table c.keep_spots.ensures.names c.keep_spots.ensures.cap c.keep_spots.ensures.empty
@@ -83,18 +79,16 @@ invariant_of-self g c =
 
 pub returns-in-Ok-clause-kept : goal.returns-in-Ok-clause-kept
 returns-in-Ok-clause-kept g c =
-    let rest = rest_of c.self.inside c.args.self.now c.self.view_is c.self.invariant c.requires.over.idle in
-    let is_lent = lent_is c.self.inside c.deref_mut-hands.ensures.value refl in
+    let rest = lent_rest c.self.inside c.args.self.now c.deref_mut-hands.result.now c.self.view_is
+    c.self.invariant c.requires.over.idle c.deref_mut-hands.ensures.value in
     let inside = lent c.self.inside c.deref_mut-hands.result.now c.self.inside.kept_layout.value in
-    let view_is = ap kept_of is_lent ∙ rest.view in
-    let invariant = subst IsWhole (sym is_lent) rest.whole in
-    rw rest.none (keep_done inside c.args.self.now view_is invariant c.requires.whole c.requires.fresh
+    rw rest.none (keep_done inside c.args.self.now rest.view rest.whole c.requires.whole c.requires.fresh
     c.settled_header-next.result
-    (header_is inside invariant c.settled_header-next.result c.settled_header-next.ensures.header)
+    (header_is inside rest.whole c.settled_header-next.result c.settled_header-next.ensures.header)
     c.requires.over c.save.ensures.left
     c.save.ensures.frame (λ told. (c.in-Ok.ensures.done told).saved)
     (λ told. (c.in-Ok.ensures.done told).in_use) _
-    (kept_view inside invariant c.keep_spots.new.table c.keep_spots.new.guard c.save.new.self
+    (kept_view inside rest.whole c.keep_spots.new.table c.keep_spots.new.guard c.save.new.self
     (with_items inside.hands.buf c.save.new.buf) c.in-Ok.ensures.pair.pair c.keep_spots.ensures.now
     c.keep_spots.ensures.kept c.keep_spots.ensures.digests c.keep_spots.ensures.kept_digests) _
     (λ told. (c.in-Ok.ensures.done told).rests)
@@ -102,37 +96,33 @@ returns-in-Ok-clause-kept g c =
 
 pub returns-in-Ok-clause-step : goal.returns-in-Ok-clause-step
 returns-in-Ok-clause-step g c =
-    let rest = rest_of c.self.inside c.args.self.now c.self.view_is c.self.invariant c.requires.over.idle in
-    let is_lent = lent_is c.self.inside c.deref_mut-hands.ensures.value refl in
+    let rest = lent_rest c.self.inside c.args.self.now c.deref_mut-hands.result.now c.self.view_is
+    c.self.invariant c.requires.over.idle c.deref_mut-hands.ensures.value in
     let inside = lent c.self.inside c.deref_mut-hands.result.now c.self.inside.kept_layout.value in
-    let view_is = ap kept_of is_lent ∙ rest.view in
-    let invariant = subst IsWhole (sym is_lent) rest.whole in
-    keep_step inside c.args.self.now view_is invariant c.requires.whole c.requires.fresh
+    keep_step inside c.args.self.now rest.view rest.whole c.requires.whole c.requires.fresh
     c.settled_header-next.result
-    (header_is inside invariant c.settled_header-next.result c.settled_header-next.ensures.header)
+    (header_is inside rest.whole c.settled_header-next.result c.settled_header-next.ensures.header)
     c.requires.over c.save.ensures.left
     c.save.ensures.frame (λ told. (c.in-Ok.ensures.done told).saved)
     (λ told. (c.in-Ok.ensures.done told).in_use) _
-    (kept_view inside invariant c.keep_spots.new.table c.keep_spots.new.guard c.save.new.self
+    (kept_view inside rest.whole c.keep_spots.new.table c.keep_spots.new.guard c.save.new.self
     (with_items inside.hands.buf c.save.new.buf) c.in-Ok.ensures.pair.pair c.keep_spots.ensures.now
     c.keep_spots.ensures.kept c.keep_spots.ensures.digests c.keep_spots.ensures.kept_digests)
 
 pub returns-in-Ok-clause-over : goal.returns-in-Ok-clause-over
 returns-in-Ok-clause-over g c =
-    let rest = rest_of c.self.inside c.args.self.now c.self.view_is c.self.invariant c.requires.over.idle in
-    let is_lent = lent_is c.self.inside c.deref_mut-hands.ensures.value refl in
+    let rest = lent_rest c.self.inside c.args.self.now c.deref_mut-hands.result.now c.self.view_is
+    c.self.invariant c.requires.over.idle c.deref_mut-hands.ensures.value in
     let inside = lent c.self.inside c.deref_mut-hands.result.now c.self.inside.kept_layout.value in
-    let view_is = ap kept_of is_lent ∙ rest.view in
-    let invariant = subst IsWhole (sym is_lent) rest.whole in
     rw rest.none (record {
       idle = refl;
-      over = λ unbroken. keep_over inside c.args.self.now view_is invariant c.requires.whole c.requires.fresh
+      over = λ unbroken. keep_over inside c.args.self.now rest.view rest.whole c.requires.whole c.requires.fresh
           c.settled_header-next.result
-          (header_is inside invariant c.settled_header-next.result c.settled_header-next.ensures.header)
+          (header_is inside rest.whole c.settled_header-next.result c.settled_header-next.ensures.header)
           c.requires.over c.save.ensures.left
           c.save.ensures.frame (λ told. (c.in-Ok.ensures.done told).saved)
           (λ told. (c.in-Ok.ensures.done told).in_use) _
-          (kept_view inside invariant c.keep_spots.new.table c.keep_spots.new.guard c.save.new.self
+          (kept_view inside rest.whole c.keep_spots.new.table c.keep_spots.new.guard c.save.new.self
           (with_items inside.hands.buf c.save.new.buf) c.in-Ok.ensures.pair.pair c.keep_spots.ensures.now
           c.keep_spots.ensures.kept c.keep_spots.ensures.digests c.keep_spots.ensures.kept_digests);
     })
