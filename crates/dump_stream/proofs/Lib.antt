@@ -8,4 +8,5 @@ mod GatherLaws
 mod FillLaws
 mod SoundLaws
 pub mod SumLaws
+pub mod FirstLaws
 mod DumpLaws

@@ -10,7 +10,8 @@ use Rattle.disk_face.proofs.MomentLaws.{Leaves-trans, Leaves-weaken}
 use Rattle.slot_pair.proofs.FormatLaws.{short_is_none}
 use Rattle.slot_pair.specs.Formats.{HasFirstTable, IsNoStoreOrEmpty, formatted_file}
 use Rattle.file_commands.specs.Formatting.{Formats, IsEmptyStore, IsFormatted, IsNoneOrEmpty}
-use Rattle.file_commands.proofs.EmptyLaws.{first_opens, none_or_empty}
+use Rattle.dump_stream.proofs.FirstLaws.{first_opens}
+use Rattle.file_commands.proofs.EmptyLaws.{none_or_empty}
 
 -- an empty file that rests leaves no bytes, which are no store
 rests_empty : (s : State) → length s.file ≡ 0 → Rests s → Only [] s.may_leave
