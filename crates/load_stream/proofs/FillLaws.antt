@@ -12,7 +12,7 @@ use Rattle.disk_face.specs.Moments.{Leaves, Rests}
 use Rattle.disk_face.specs.Writes.{WritesWithin}
 use Rattle.disk_face.proofs.MomentLaws.{Leaves-trans, Leaves-weaken}
 use Rattle.size_class.specs.Rows.{cells_of}
-use Rattle.size_class.specs.declared.TheConstants.{CLASSES, SIZE_MAX}
+use Rattle.size_class.specs.declared.TheConstants.{SIZE_MAX}
 use Rattle.slot_codec.specs.Readable.{IsSuperBlock}
 use Rattle.slot_codec.specs.Spelling.{head_len}
 use Rattle.slot_codec.specs.declared.codec.SuperBlock.{SuperBlock}
@@ -38,15 +38,14 @@ use Rattle.load_stream.proofs.LoopLaws.{loads_count}
 use Rattle.load_stream.proofs.ImageLaws.{empty_begins, empty_for, empty_resized, empty_written, first_long}
 
 -- the file that stays the empty store opens to the empty map
-pub stays_open : (k names : ℕ) (start now : State) → 1 ≤ k → StaysEmpty k names start now → IsTrue now.tells
+pub stays_open : (k names : ℕ) (start now : State) → StaysEmpty k names start now → IsTrue now.tells
     → OpensEmpty k names now.file
-stays_open k names start now some e told =
-    empty_for k names now.file some (e.file told)
+stays_open k names start now e told = empty_for k names now.file (e.file told)
 
-pub stays_left : (k names : ℕ) (start now : State) → 1 ≤ k → StaysEmpty k names start now
+pub stays_left : (k names : ℕ) (start now : State) → StaysEmpty k names start now
     → Leaves start now (OpensEmpty k names)
-stays_left k names start now some e = Leaves-weaken (OpensEmpty k names)
-    (λ image had. empty_for k names image some had) e.since
+stays_left k names start now e = Leaves-weaken (OpensEmpty k names)
+    (λ image had. empty_for k names image had) e.since
 
 -- each image is like the content below the data part
 pub alike_below : (k names n at m : ℕ) (s0 s1 s2 : State) → Rests s0 → HasFirstTable k names s0.file
@@ -126,13 +125,15 @@ module _ (p : Plan) (now : SoFar) (x : Passed) (first state : State) (told : IsT
   }
 
   -- what opens as laid out opens to it
-  pub opens_read : (k names : ℕ) → p.base ≡ head_len names → (image : List ℕ)
+  pub opens_read : (k names : ℕ) → p.base ≡ head_len names
+      → p.base + end_of k (caps_of p.layout) ≡ length state.file → (image : List ℕ)
       → OpensLaid k names (caps_of p.layout) now.load state.file image → OpensRead k names p x image
-  opens_read k names base image opens = record {
+  opens_read k names base long image laid = record {
     objects = read_at p.base state.file now.load.now;
     read = map_read;
     opens = subst (λ (b : ℕ). OpensFor k names image (read_at b state.file now.load.now)
-        (laid_with (caps_of p.layout))) (sym base) opens;
+        (laid_with (caps_of p.layout))) (sym base) laid.opens;
+    ends = omega (arith, laid.same_length, long, base);
   }
 
 -- ---- where it stops
@@ -168,7 +169,6 @@ stops_behind p now tells input left first state o told more = record {
 
 -- A formatted file was made as long as the layout of a plan, or failed to be.
 pub record IsGrown (k names : ℕ) (p : Plan) (s0 s1 : State) : Type 0 where
-  pub some : 1 ≤ k
   pub plan : IsPlanFor k names p
   pub told : IsTrue s0.tells
   pub rests : Rests s0
@@ -193,7 +193,6 @@ pub grown_of : (b : SuperBlock) (p : Plan) (s0 s1 : State) → IsSuperBlock b �
     ⊎ (s1.file ≡ resized s0.file (p.base + end_of (divisor_of p.layout) (caps_of p.layout))))
     → IsTrue s0.tells → IsGrown b.k b.names p s0 s1
 grown_of b p s0 s1 ranges plan first rests after either told = record {
-  some = omega (arith, ranges.divisor_low);
   plan = plan;
   told = told;
   rests = rests told;
@@ -211,10 +210,10 @@ module _ (k names : ℕ) (p : Plan) (s0 s1 : State) (h : IsGrown k names p s0 s1
   told1 = subst IsTrue (sym h.after.stays.told) h.told
 
   pub grown_file : OpensEmpty k names s1.file
-  grown_file = stays_open k names s0 s1 h.some grown told1
+  grown_file = stays_open k names s0 s1 grown told1
 
   pub grown_left : Leaves s0 s1 (OpensEmpty k names)
-  grown_left = stays_left k names s0 s1 h.some grown
+  grown_left = stays_left k names s0 s1 grown
 
   -- and then written behind its head
   module _ (s2 : State)
@@ -227,10 +226,10 @@ module _ (k names : ℕ) (p : Plan) (s0 s1 : State) (h : IsGrown k names p s0 s1
     filled_told = subst IsTrue (sym w.stays.told) told1
 
     pub filled_file : OpensEmpty k names s2.file
-    filled_file = stays_open k names s0 s2 h.some filled filled_told
+    filled_file = stays_open k names s0 s2 filled filled_told
 
     pub filled_left : Leaves s0 s2 (OpensEmpty k names)
-    filled_left = stays_left k names s0 s2 h.some filled
+    filled_left = stays_left k names s0 s2 filled
 
 -- Once all objects were written: what the save asks, and what the file and its images are after it.
 module _ (k names : ℕ) (p : Plan) (s0 s1 s2 : State) (now : SoFar) (x : Passed) (e : Extents)
@@ -270,7 +269,7 @@ module _ (k names : ℕ) (p : Plan) (s0 s1 s2 : State) (now : SoFar) (x : Passed
 
   pub saved_read : (image : List ℕ) → OpensLaid k names (caps_of p.layout) e s2.file image
       → OpensRead k names p x image
-  saved_read image opens = opens_read p now x s1 s2 told_before h.all k names h.grown.plan.base image
+  saved_read image opens = opens_read p now x s1 s2 told_before h.all k names h.grown.plan.base long image
       (subst (λ (t : Extents). OpensLaid k names (caps_of p.layout) t s2.file image) h.same opens)
 
   pub saved_either : (image : List ℕ) → IsEmptyOrLaid k names p e s2.file image

@@ -1,6 +1,6 @@
 -- What is done behind the head of a file keeps the table of an empty store.
-use Rattle.std.specs.Prelude.{◌≡◌, ◌⊎◌, ℕ, ◌-◌, ◌^◌, ◌<◌, ◌≤◌, List, [], filter, length, map, refl, IsTrue, None}
-use Rattle.std.proofs.Common.{arith, ap, sym, ◌∙◌, inl, inr, subst}
+use Rattle.std.specs.Prelude.{◌≡◌, ◌⊎◌, ℕ, ◌≤◌, List, [], filter, length, map, refl, IsTrue}
+use Rattle.std.proofs.Common.{arith, ap, sym, inl, inr, subst}
 use Rattle.byte_ranges.specs.Ranges.{SameBelow, SameOutside, resized}
 use Rattle.byte_ranges.proofs.RangeLaws.{length-resized, resized-index}
 use Rattle.disk_face.specs.States.{State}
@@ -9,30 +9,19 @@ use Rattle.disk_face.specs.Moments.{ResizedImage, Rests}
 use Rattle.disk_face.specs.Writes.{WritesWithin}
 use Rattle.disk_face.proofs.MomentLaws.{Leaves-call, Leaves-none, Leaves-trans, Leaves-weaken}
 use Rattle.slot_codec.specs.Spelling.{head_len}
+use Rattle.slot_codec.specs.declared.codec.Kind.TheVariants.{Settled}
 use Rattle.slot_codec.proofs.ChoiceLaws.{in_use_long, same_chosen, same_in_use, same_table}
 use Rattle.slot_pair.specs.Formats.{HasFirstTable, first_chosen, first_header, first_in_use, first_table}
 use Rattle.load_stream.specs.Images.{StaysEmpty}
 use Rattle.load_stream.specs.Saved.{OpensEmpty}
-use Rattle.size_class.specs.declared.TheConstants.{CLASSES, SIZE_MAX}
 use Rattle.std.specs.FinMap as fin
-use Rattle.std.specs.FinSet as set
-use Rattle.size_class.specs.Classes.{width, zero_grid, zero_row}
-use Rattle.size_class.proofs.ClassLaws.{IsRow-zero, length-zero_row, zero_row-index}
+use Rattle.size_class.specs.Classes.{zero_row}
 use Rattle.slot_codec.specs.Names.{is_name}
-use Rattle.segment_layout.specs.Shapes.{end_of}
-use Rattle.segment_layout.proofs.ShapeLaws.{end_of-rest}
-use Rattle.table_rules.specs.Opening.{OpensBy}
-use Rattle.table_rules.specs.Tables.{TableInLayout, book_of}
-use Rattle.table_rules.specs.Rules.{IsValid, KeepsPlaces, KeepsRules}
 use Rattle.extent_table.specs.declared.spot.Spot.{Spot}
 use Rattle.extent_table.specs.Extents.{record_of, records_of}
-use Rattle.placement_model.specs.Laid.{numbered, settled_table}
 use Rattle.map_model.proofs.MapLaws.{entries-empty}
-use Rattle.placement_model.proofs.LaidLaws.{valid_numbered}
 use Rattle.dump_stream.specs.Loading.{filled_by}
-use Rattle.dump_stream.specs.Placing.{IsPlacing}
-use Rattle.load_stream.proofs.LaidLaws.{laid_book_is, laid_valid}
-use Rattle.load_stream.proofs.PlaceLaws.{places_none}
+use Rattle.dump_stream.proofs.FirstLaws.{first_opens}
 use Rattle.dump_stream.proofs.SumLaws.{no_volumes}
 
 -- ---- files
@@ -108,95 +97,22 @@ empty_resized k names n start old new high e w is =
 
 -- ---- an empty store opens to the empty map
 
--- the rules stand when the data part is longer
-places_long : (n : ℕ) (t : TableInLayout) → KeepsPlaces t → KeepsPlaces (record t { data_len = n })
-places_long n t p = record {
-  sizes = p.sizes;
-  empty = p.empty;
-  above = p.above;
-  rows = p.rows;
-  stands = p.stands;
-  apart = p.apart;
-  balance = λ c h. record { buffers = (p.balance c h).buffers; payload = (p.balance c h).payload };
-  full = λ c h. record { entry = (p.full c h).entry; full = (p.full c h).full };
-}
-
-rules_long : (n : ℕ) (t : TableInLayout) → t.data_len ≤ n → KeepsRules t
-    → KeepsRules (record t { data_len = n })
-rules_long n t long v = record {
-  places = places_long n t v.places;
-  within = λ i h. omega (arith, long, v.within i h);
-  front = v.front;
-}
-
 pub none_filled : filled_by [] ≡ zero_row
 none_filled = sym no_volumes
-
-empty_placing : (size_max k : ℕ) → IsPlacing size_max k zero_row [] fin.empty
-empty_placing size_max k = places_none size_max k zero_row length-zero_row
-
-empty_table : ℕ → ℕ → ℕ → ℕ → TableInLayout
-empty_table classes size_max k n = record {
-  classes = classes;
-  size_max = size_max;
-  k = k;
-  data_len = n;
-  header = first_header;
-  records = [];
-}
 
 pub no_records : records_of fin.empty ≡ []
 no_records = ap (λ es. map record_of (filter (λ (e : List ℕ × Spot). is_name e.0) es)) entries-empty
 
-same_table_empty : (classes size_max k n : ℕ) → record (numbered 1 0
-    (settled_table classes size_max k zero_row zero_grid fin.empty)) { data_len = n }
-    ≡ empty_table classes size_max k n
-unfolding empty_table first_header zero_grid zero_row
-same_table_empty classes size_max k n = λ i. record {
-  classes = classes;
-  size_max = size_max;
-  k = k;
-  data_len = n;
-  header = first_header;
-  records = no_records i;
-}
+-- its table is settled
+pub first_settled : (k names : ℕ) → (first_table k names).chosen.header.kind ≡ Settled
+unfolding first_header
+first_settled k names = refl
 
-no_end : (k : ℕ) → 1 ≤ k → end_of k zero_row ≡ 0
-no_end k some = sym (end_of-rest k zero_row 0 (λ d _. zero_row-index d))
-
-empty_valid : (classes size_max k n : ℕ) → classes ≤ width → size_max < 2 ^ classes → 1 ≤ k
-    → IsValid (empty_table classes size_max k n)
-empty_valid classes size_max k n few top some =
-    let t = settled_table classes size_max k zero_row zero_grid fin.empty in
-    let valid : IsValid (numbered 1 0 t) = valid_numbered 1 0 t (laid_valid classes size_max k zero_row []
-    fin.empty (empty_placing size_max k) few top (IsRow-zero classes) none_filled) in
-    subst IsValid (same_table_empty classes size_max k n)
-    (rules_long n (numbered 1 0 t) (omega (arith, no_end k some)) valid.0, valid.1)
-
-empty_book_is : (classes size_max k n : ℕ) → classes ≤ width → size_max < 2 ^ classes
-    → book_of (empty_table classes size_max k n)
-    ≡ (record { caps = zero_row; grid = zero_grid; buffered = set.empty; digests = None })
-empty_book_is classes size_max k n few top =
-    ap book_of (sym (same_table_empty classes size_max k n))
-    ∙ laid_book_is classes size_max k zero_row [] fin.empty (empty_placing size_max k) few top
-    (IsRow-zero classes) none_filled
-
--- a file with the table of an empty store opens by it to the empty map, however long it is
-pub empty_by : (classes size_max k names : ℕ) (file : List ℕ) → classes ≤ width → size_max < 2 ^ classes
-    → 1 ≤ k → HasFirstTable k names file → OpensBy classes size_max (first_table k names) file fin.empty
-    (record { caps = zero_row; grid = zero_grid; buffered = set.empty; digests = None })
-unfolding empty_table
-empty_by classes size_max k names file few top some first = record {
-  read = first.table;
-  valid = empty_valid classes size_max k (length file - head_len names) few top some;
-  same_map = refl;
-  same_book = sym (empty_book_is classes size_max k (length file - head_len names) few top);
-}
-
--- the same of a file that was formatted for these numbers
-pub empty_for : (k names : ℕ) (file : List ℕ) → 1 ≤ k → HasFirstTable k names file → OpensEmpty k names file
-empty_for k names file some first = record {
+-- a file that was formatted for these numbers opens by its table to the empty map, however long it is
+pub empty_for : (k names : ℕ) (file : List ℕ) → HasFirstTable k names file → OpensEmpty k names file
+empty_for k names file first = record {
   table = first_table k names;
   made_for = refl;
-  opens = empty_by CLASSES SIZE_MAX k names file (omega arith) (omega arith) some first;
+  settled = first_settled k names;
+  opens = first_opens k names file first;
 }

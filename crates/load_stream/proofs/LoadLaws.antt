@@ -1,5 +1,5 @@
 -- What a load says of the whole input and the file, by what its steps say of what follows the first line.
-use Rattle.std.specs.Prelude.{◌≡◌, ◌⊎◌, ℕ, ◌≤◌, zero, suc, Bool, List, [], ◌∷◌, ◌++◌, codes, length, Result, Ok, Err, IsTrue, OnOk, refl}
+use Rattle.std.specs.Prelude.{◌≡◌, ◌⊎◌, ℕ, ◌+◌, ◌≤◌, zero, suc, Bool, List, [], ◌∷◌, ◌++◌, codes, length, Result, Ok, Err, IsTrue, OnOk, refl}
 use Rattle.std.proofs.Common.{arith, ap, sym, ◌∙◌, inl, inr, subst, append-nil, append_assoc}
 use Rattle.std.specs.FinMap as fin
 use Rattle.disk_face.specs.Counts.{counted}
@@ -7,11 +7,13 @@ use Rattle.disk_face.specs.States.{State}
 use Rattle.disk_face.specs.Moments.{Leaves}
 use Rattle.disk_face.proofs.MomentLaws.{Leaves-trans, Leaves-weaken}
 use Rattle.size_class.specs.declared.TheConstants.{CLASSES, SIZE_MAX}
+use Rattle.slot_codec.specs.Spelling.{head_len}
 use Rattle.slot_pair.specs.Formats.{IsNoStoreOrEmpty}
 use Rattle.slot_pair.specs.Saves.{save_calls}
 use Rattle.map_model.specs.Maps.{Map, name_cmp}
 use Rattle.map_model.specs.Weights.{Entry}
 use Rattle.segment_layout.specs.Layouts.{caps_of}
+use Rattle.segment_layout.specs.Shapes.{end_of}
 use Rattle.dump_stream.specs.Dumps.{IsDumpOf, objects_text}
 use Rattle.dump_stream.specs.Heads.{IsHead, head_line, volumes_of_head}
 use Rattle.dump_stream.specs.Loading.{AllFollow, BeginsNone, ReadsTo}
@@ -27,18 +29,18 @@ use Rattle.load_stream.proofs.StopLaws.{lines_are, read_is_dump, sorted_follow, 
 
 -- ---- with the format before
 
-pub none_or_empty : (k names : ℕ) (p : Plan) (x : Passed) → 1 ≤ k → (image : List ℕ)
+pub none_or_empty : (k names : ℕ) (p : Plan) (x : Passed) (image : List ℕ)
     → IsNoStoreOrEmpty k names image → IsNoneOrRead k names p x image
-none_or_empty k names p x some image (inl none) = inl none
-none_or_empty k names p x some image (inr first) =
-    inr (inl (empty_for k names image some first))
+none_or_empty k names p x image (inl none) = inl none
+none_or_empty k names p x image (inr first) =
+    inr (inl (empty_for k names image first))
 
-pub formatted_left : (k names : ℕ) (p : Plan) (x : Passed) → 1 ≤ k → (s0 s1 s2 : State)
+pub formatted_left : (k names : ℕ) (p : Plan) (x : Passed) (s0 s1 s2 : State)
     → Leaves s0 s1 (IsNoStoreOrEmpty k names)
     → Leaves s1 s2 (λ image. OpensEmpty k names image ⊎ OpensRead k names p x image)
     → Leaves s0 s2 (IsNoneOrRead k names p x)
-formatted_left k names p x some s0 s1 s2 before after = Leaves-trans
-    (Leaves-weaken (IsNoneOrRead k names p x) (none_or_empty k names p x some) before)
+formatted_left k names p x s0 s1 s2 before after = Leaves-trans
+    (Leaves-weaken (IsNoneOrRead k names p x) (none_or_empty k names p x) before)
     (Leaves-weaken (IsNoneOrRead k names p x) (λ image is. inr is) after)
 
 pub leaves_new : (k names : ℕ) (p : Plan) (x : Passed) (file : List ℕ) (result : Result Unit LoadFault)
@@ -119,6 +121,7 @@ module _ (k names : ℕ) (p : Plan) (plan : IsPlanFor k names p)
               o.read.count o.read.filled o.objects refl;
           opens = subst (λ (vs : List ℕ). OpensFor k names image o.objects (laid_with vs))
               (sym vols) o.opens;
+          ends = o.ends ∙ ap (λ (vs : List ℕ). head_len names + end_of k vs) (sym vols);
         }
 
     pub image_loaded : (image : List ℕ) → IsNoneOrRead k names p (passed heard mid after) image

@@ -1,5 +1,5 @@
 -- What the save of a load leaves: the empty store, or the map that was loaded.
-use Rattle.std.specs.Prelude.{◌≡◌, ◌⊎◌, ℕ, ◌+◌, ◌-◌, ◌<◌, ◌≤◌, List, length, None, refl}
+use Rattle.std.specs.Prelude.{◌≡◌, ◌⊎◌, ℕ, ◌+◌, ◌-◌, ◌<◌, List, length, None, refl}
 use Rattle.std.proofs.Common.{arith, ap, sym, inl, inr, subst}
 use Rattle.std.specs.FinMap as fin
 use Rattle.byte_ranges.specs.Ranges.{SameFrom}
@@ -33,10 +33,11 @@ use Rattle.dump_stream.specs.Loading.{filled_by}
 use Rattle.dump_stream.specs.Placing.{IsPlacing}
 use Rattle.load_stream.specs.Saved.{IsEmptyLike, IsEmptyOrLaid, IsLaidBeside, OpensEmpty, OpensLaid, empty_book, laid_with}
 use Rattle.load_stream.specs.declared.plan.Plan.{Plan}
-use Rattle.load_stream.proofs.ImageLaws.{empty_by}
+use Rattle.dump_stream.proofs.FirstLaws.{first_opens}
+use Rattle.load_stream.proofs.ImageLaws.{first_settled}
 use Rattle.load_stream.proofs.LaidLaws.{laid_book_is, laid_valid}
 
-module _ (k names : ℕ) (some : 1 ≤ k) (caps : List ℕ) (e : Extents) (table : IsTable e) (file : List ℕ)
+module _ (k names : ℕ) (caps : List ℕ) (e : Extents) (table : IsTable e) (file : List ℕ)
     (long : head_len names + end_of k caps ≡ length file) (es : List Entry)
     (placing : IsPlacing SIZE_MAX k caps es e.now) (row : IsRow CLASSES caps) (filled : filled_by es ≡ caps)
     (first : HasFirstTable k names file) where
@@ -65,12 +66,16 @@ module _ (k names : ℕ) (some : 1 ≤ k) (caps : List ℕ) (e : Extents) (table
   pub saved_opens : (image : List ℕ) → IsSaved (next_chosen u h count) (rolled e.now e.digests) image
       → SameFrom (head_len names) file image → OpensLaid k names caps e file image
   saved_opens image saved same = record {
-    table = at;
-    made_for = refl;
-    opens = subst (λ (b : Book). OpensBy CLASSES SIZE_MAX at image (read_at (head_len names) file e.now) b)
-        book
-        (new_image_opens CLASSES SIZE_MAX at (rolled e.now e.digests) file image (rolled_table_is u h e table)
-        valid saved same);
+    opens = record {
+      table = at;
+      made_for = refl;
+      settled = refl;
+      opens = subst (λ (b : Book). OpensBy CLASSES SIZE_MAX at image (read_at (head_len names) file e.now) b)
+          book
+          (new_image_opens CLASSES SIZE_MAX at (rolled e.now e.digests) file image
+          (rolled_table_is u h e table) valid saved same);
+    };
+    same_length = sym same.same_length;
   }
 
   -- the old table beside the data part of a file that had it
@@ -80,9 +85,10 @@ module _ (k names : ℕ) (some : 1 ≤ k) (caps : List ℕ) (e : Extents) (table
   kept_opens before image had keeps same = record {
     table = first_table k names;
     made_for = refl;
+    settled = first_settled k names;
     opens = old_image_opens CLASSES SIZE_MAX (first_table k names) file before image fin.empty empty_book
         first.table
-        (empty_by CLASSES SIZE_MAX k names before (omega arith) (omega arith) some had) keeps same;
+        (first_opens k names before had) keeps same;
   }
 
   -- what the content has, also where the save failed
@@ -108,7 +114,7 @@ module _ (k names : ℕ) (some : 1 ≤ k) (caps : List ℕ) (e : Extents) (table
       ]
 
 -- The same of a save, whose slot and header these are.
-module _ (k names : ℕ) (some : 1 ≤ k) (p : Plan) (row : IsRow CLASSES (caps_of p.layout)) (e : Extents)
+module _ (k names : ℕ) (p : Plan) (row : IsRow CLASSES (caps_of p.layout)) (e : Extents)
     (table : IsTable e) (a b : State) (l : IsLaidBeside k names p e a.file) (v : choice.InUse) (g : Header)
     (is_u : v ≡ first_in_use k names) (is_h : g ≡ settled_header (caps_of p.layout) zero_grid) where
   fresh : 2 < worn_from Settled
@@ -121,7 +127,7 @@ module _ (k names : ℕ) (some : 1 ≤ k) (p : Plan) (row : IsRow CLASSES (caps_
         (λ i. (is_u i, is_h i)) left
 
     pub save_stopped : IsEmptyOrLaid k names p e a.file b.file
-    save_stopped = content_either k names some (caps_of p.layout) e table a.file l.long l.objects l.placing
+    save_stopped = content_either k names (caps_of p.layout) e table a.file l.long l.objects l.placing
         row
         l.filled l.first b.file leaves.data_part
         (leaves.old_or_new (first_chosen k names) l.first.chosen fresh)
@@ -129,13 +135,13 @@ module _ (k names : ℕ) (some : 1 ≤ k) (p : Plan) (row : IsRow CLASSES (caps_
     pub save_images : ((image : List ℕ) → a.may_leave image → IsEmptyLike k names a.file image)
         → Leaves a b (IsEmptyOrLaid k names p e a.file)
     save_images had = Leaves-weaken (IsEmptyOrLaid k names p e a.file)
-        (image_either k names some (caps_of p.layout) e table a.file l.long l.objects l.placing row l.filled
+        (image_either k names (caps_of p.layout) e table a.file l.long l.objects l.placing row l.filled
         l.first a.may_leave (λ image may. (had image may).first))
         (leaves.images (first_chosen k names) l.first.chosen fresh (λ image may. (had image may).alike))
 
     pub save_opens : IsSaveDone v g (rolled e.now e.digests) b
         → OpensLaid k names (caps_of p.layout) e a.file b.file
-    save_opens done = saved_opens k names some (caps_of p.layout) e table a.file l.long l.objects l.placing
+    save_opens done = saved_opens k names (caps_of p.layout) e table a.file l.long l.objects l.placing
         row
         l.filled l.first b.file
         ((subst (λ (x : choice.InUse × Header). IsSaveDone x.0 x.1 (rolled e.now e.digests) b)

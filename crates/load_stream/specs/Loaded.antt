@@ -4,9 +4,11 @@ use Rattle.std.specs.FinMap as fin
 use Rattle.disk_face.specs.Counts.{counted}
 use Rattle.disk_face.specs.States.{State}
 use Rattle.size_class.specs.declared.TheConstants.{CLASSES, SIZE_MAX}
+use Rattle.slot_codec.specs.Spelling.{head_len}
 use Rattle.slot_pair.specs.Formats.{IsNoStore}
 use Rattle.slot_pair.specs.Saves.{save_calls}
 use Rattle.map_model.specs.Maps.{Map}
+use Rattle.segment_layout.specs.Books.{book_end}
 use Rattle.dump_stream.specs.Dumps.{IsDumpOf}
 use Rattle.dump_stream.specs.Loading.{BeginsNone, BeginsWith, StopsAt}
 use Rattle.dump_stream.specs.Placing.{laid_book}
@@ -76,11 +78,12 @@ Judges (Err why.Source) = ⊥
 -- ---- the file
 
 -- An image opens to a map with its objects laid out at once and nothing in buffers, and the input is that
--- map's dump. It is made for this divisor and so many names.
+-- map's dump. It is made for this divisor and so many names, and ends with its layout.
 pub record OpensDump (k names : ℕ) (x : Passed) (image : List ℕ) : Type 0 where
   pub objects : Map
   pub dump : IsTrue x.tells → IsDumpOf CLASSES SIZE_MAX objects x.before
   pub opens : OpensFor k names image objects (laid_book objects)
+  pub ends : length image ≡ head_len names + book_end k (laid_book objects)
 
 -- an image is no store, or opens to the empty map, or to the map of which the input is the dump
 abbrev pub IsLoadImage : ℕ → ℕ → Passed → List ℕ → Type 0

@@ -8,6 +8,7 @@ use Rattle.size_class.specs.Classes.{zero_grid, zero_row}
 use Rattle.size_class.specs.declared.TheConstants.{CLASSES, SIZE_MAX}
 use Rattle.slot_codec.specs.Choice as choice
 use Rattle.slot_codec.specs.Spelling.{head_len}
+use Rattle.slot_codec.specs.declared.codec.Kind.TheVariants.{Settled}
 use Rattle.slot_pair.specs.Formats.{HasFirstTable, IsNoStore, block_for}
 use Rattle.slot_pair.specs.Saves.{IsAlikeBelow, save_calls}
 use Rattle.map_model.specs.Maps.{Map}
@@ -35,20 +36,22 @@ empty_book = record { caps = zero_row; grid = zero_grid; buffered = set.empty; d
 abbrev pub laid_with : List ℕ → Book
 laid_with caps = record { caps = caps; grid = zero_grid; buffered = set.empty; digests = None }
 
--- An image opens to this map and this book, and is made for this divisor and so many names.
+-- An image opens to this map and this book by a settled table, and is made for this divisor and so many
+-- names.
 pub record OpensFor (k names : ℕ) (image : List ℕ) (m : Map) (b : Book) : Type 0 where
   pub table : choice.SlotTable
   pub made_for : table.chosen.block ≡ block_for k names
+  pub settled : table.chosen.header.kind ≡ Settled
   pub opens : OpensBy CLASSES SIZE_MAX table image m b
 
 -- the file opens to the empty map
 abbrev pub OpensEmpty : ℕ → ℕ → List ℕ → Type 0
 OpensEmpty k names image = OpensFor k names image fin.empty empty_book
 
--- an image opens to what a file gives at the places of a table
-abbrev pub OpensLaid : ℕ → ℕ → List ℕ → Extents → List ℕ → List ℕ → Type 0
-OpensLaid k names caps e file image = OpensFor k names image (read_at (head_len names) file e.now)
-    (laid_with caps)
+-- an image opens to what a file gives at the places of a table, and is as long as the file
+pub record OpensLaid (k names : ℕ) (caps : List ℕ) (e : Extents) (file image : List ℕ) : Type 0 where
+  pub opens : OpensFor k names image (read_at (head_len names) file e.now) (laid_with caps)
+  pub same_length : length image ≡ length file
 
 -- The objects of a dump fill each class, stand where they go, and the file has the table of an empty store
 -- beside them.
@@ -80,11 +83,12 @@ pub record MapRead (p : Plan) (x : Passed) (m : Map) : Type 0 where
   pub whole : IsTrue x.tells → x.before ≡ objects_text (fin.entries m)
   pub ended : IsTrue x.tells → x.left ≡ []
 
--- an image opens to a map that was read, with nothing in buffers
+-- an image opens to a map that was read, with nothing in buffers, and ends with its layout
 pub record OpensRead (k names : ℕ) (p : Plan) (x : Passed) (image : List ℕ) : Type 0 where
   pub objects : Map
   pub read : MapRead p x objects
   pub opens : OpensFor k names image objects (laid_with (caps_of p.layout))
+  pub ends : length image ≡ head_len names + end_of k (caps_of p.layout)
 
 -- The objects of a dump stop at this number, from 1. All before it may stand there. It is due and isn't
 -- there, or none is due any more, and a volume isn't filled or a rest follows.

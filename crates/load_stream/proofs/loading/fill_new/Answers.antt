@@ -1,4 +1,4 @@
-use Rattle.std.proofs.Common.{◌++◌, IsTrue, arith, subst, sym}
+use Rattle.std.proofs.Common.{◌++◌, IsTrue, subst, sym}
 use Rattle.disk_face.proofs.MomentLaws.{Leaves-weaken}
 use Rattle.load_stream.specs.Steps.{passed}
 use Rattle.load_stream.proofs.LoadLaws.{formatted_left, leaves_new, none_or_empty, reads_new}
@@ -21,21 +21,20 @@ returns-in-Ok-clause-images g c told only =
     formatted_left b.k b.names c.args.plan.now
     (passed (i c.args.input.now).tells (c.args.ahead.now ++ (i c.args.input.now).left)
     (c.fill_formatted.new.ahead ++ (i c.fill_formatted.new.input).left))
-    (omega (arith, c.requires.ranges.divisor_low)) (s c.args.disk.now) (s c.format.new.disk)
+    (s c.args.disk.now) (s c.format.new.disk)
     (s c.fill_formatted.new.disk) (c.format.ensures.images told only)
     (c.fill_formatted.ensures.images (subst IsTrue (sym c.format.ensures.frame.stays.told) told))
 
 pub returns-in-Err-clause-file : goal.returns-in-Err-clause-file
 returns-in-Err-clause-file g c told =
     let b = c.args.block in
-    none_or_empty b.k b.names c.args.plan.now _ (omega (arith, c.requires.ranges.divisor_low))
+    none_or_empty b.k b.names c.args.plan.now _
     (g.D.Disk.state c.format.new.disk).file (c.format.ensures.stopped told)
 
 pub returns-in-Err-clause-images : goal.returns-in-Err-clause-images
 returns-in-Err-clause-images g c told only =
     let b = c.args.block in
-    Leaves-weaken _ (none_or_empty b.k b.names c.args.plan.now _
-    (omega (arith, c.requires.ranges.divisor_low)))
+    Leaves-weaken _ (none_or_empty b.k b.names c.args.plan.now _)
     (c.format.ensures.images told only)
 
 pub returns-in-Ok-clause-read : goal.returns-in-Ok-clause-read

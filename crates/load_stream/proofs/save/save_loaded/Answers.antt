@@ -32,8 +32,8 @@ save-requires-clause-save g c =
 pub returns-in_err-save-clause-stopped : goal.returns-in_err-save-clause-stopped
 returns-in_err-save-clause-stopped g c told l =
     let p = c.args.plan.now in
-    save_stopped c.args.block.k c.args.block.names (omega (arith, c.requires.ranges.divisor_low)) p
-    p.layout.caps.shape c.args.table.now c.requires.table (g.D.Disk.state c.args.disk.now)
+    save_stopped c.args.block.k c.args.block.names p p.layout.caps.shape c.args.table.now
+    c.requires.table (g.D.Disk.state c.args.disk.now)
     (g.D.Disk.state c.save.new.disk) l c.of-pair.result c.settled_header-header.result c.of-pair.ensures
     (c.settled_header-header.ensures.header
     ∙ ap (λ (x : List (List ℕ)). in_version 1 (settled_header (caps_of p.layout) x)) c.requires.grid)
@@ -42,8 +42,8 @@ returns-in_err-save-clause-stopped g c told l =
 pub returns-clause-stopped : goal.returns-clause-stopped
 returns-clause-stopped g c told l =
     let p = c.args.plan.now in
-    save_stopped c.args.block.k c.args.block.names (omega (arith, c.requires.ranges.divisor_low)) p
-    p.layout.caps.shape c.args.table.now c.requires.table (g.D.Disk.state c.args.disk.now)
+    save_stopped c.args.block.k c.args.block.names p p.layout.caps.shape c.args.table.now
+    c.requires.table (g.D.Disk.state c.args.disk.now)
     (g.D.Disk.state c.save.new.disk) l c.of-pair.result c.settled_header-header.result c.of-pair.ensures
     (c.settled_header-header.ensures.header
     ∙ ap (λ (x : List (List ℕ)). in_version 1 (settled_header (caps_of p.layout) x)) c.requires.grid)
@@ -52,8 +52,8 @@ returns-clause-stopped g c told l =
 pub returns-in_err-save-clause-images : goal.returns-in_err-save-clause-images
 returns-in_err-save-clause-images g c told l had =
     let p = c.args.plan.now in
-    save_images c.args.block.k c.args.block.names (omega (arith, c.requires.ranges.divisor_low)) p
-    p.layout.caps.shape c.args.table.now c.requires.table (g.D.Disk.state c.args.disk.now)
+    save_images c.args.block.k c.args.block.names p p.layout.caps.shape c.args.table.now
+    c.requires.table (g.D.Disk.state c.args.disk.now)
     (g.D.Disk.state c.save.new.disk) l c.of-pair.result c.settled_header-header.result c.of-pair.ensures
     (c.settled_header-header.ensures.header
     ∙ ap (λ (x : List (List ℕ)). in_version 1 (settled_header (caps_of p.layout) x)) c.requires.grid)
@@ -62,8 +62,8 @@ returns-in_err-save-clause-images g c told l had =
 pub returns-clause-images : goal.returns-clause-images
 returns-clause-images g c told l had =
     let p = c.args.plan.now in
-    save_images c.args.block.k c.args.block.names (omega (arith, c.requires.ranges.divisor_low)) p
-    p.layout.caps.shape c.args.table.now c.requires.table (g.D.Disk.state c.args.disk.now)
+    save_images c.args.block.k c.args.block.names p p.layout.caps.shape c.args.table.now
+    c.requires.table (g.D.Disk.state c.args.disk.now)
     (g.D.Disk.state c.save.new.disk) l c.of-pair.result c.settled_header-header.result c.of-pair.ensures
     (c.settled_header-header.ensures.header
     ∙ ap (λ (x : List (List ℕ)). in_version 1 (settled_header (caps_of p.layout) x)) c.requires.grid)
@@ -72,8 +72,8 @@ returns-clause-images g c told l had =
 pub returns-clause-saved : goal.returns-clause-saved
 returns-clause-saved g c told l =
     let p = c.args.plan.now in
-    save_opens c.args.block.k c.args.block.names (omega (arith, c.requires.ranges.divisor_low)) p
-    p.layout.caps.shape c.args.table.now c.requires.table (g.D.Disk.state c.args.disk.now)
+    save_opens c.args.block.k c.args.block.names p p.layout.caps.shape c.args.table.now
+    c.requires.table (g.D.Disk.state c.args.disk.now)
     (g.D.Disk.state c.save.new.disk) l c.of-pair.result c.settled_header-header.result c.of-pair.ensures
     (c.settled_header-header.ensures.header
     ∙ ap (λ (x : List (List ℕ)). in_version 1 (settled_header (caps_of p.layout) x)) c.requires.grid)
