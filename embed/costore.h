@@ -66,7 +66,9 @@ int32_t costore_open(costore *store);
    COSTORE_NO_MEMORY and COSTORE_DISK, as after an open that failed, the handle is closed; else it stays. */
 int32_t costore_format(costore *store, uint64_t k, uint64_t names);
 /* Makes a store of a file of length 0 that has the objects of a dump, and opens it. COSTORE_LINE writes the number of
-   the object at which the text stops being a dump, or 0 for its first line; COSTORE_MORE_NAMES how many there are. */
+   the object at which the text stops being a dump, or 0 for its first line; COSTORE_MORE_NAMES how many there are.
+   Where the making of its log stops, the file is no store, or one without names, or has all; of costore_format one of
+   the first two. */
 int32_t costore_load(costore *store, const uint8_t *text, size_t n, uint64_t k, uint64_t names, uint64_t *number);
 /* Gives the file and the log back. */
 int32_t costore_close(costore *store);
@@ -110,7 +112,7 @@ int32_t costore_list(costore *store, uint8_t *out, size_t m, uint64_t *size);
 int32_t costore_stat(costore *store, costore_counts *counts);
 
 /* The dump of the last checkpoint: 512 bytes, those of all its objects and 78 for each name suffice. It takes memory
-   for the table of the file and as much as `out` has, and gives it back. */
+   for the table of the file and as much as `out` has, and gives it back. Where it refuses it writes nothing. */
 int32_t costore_dump(costore *store, uint8_t *out, size_t m, uint64_t *size);
 
 /* How many bytes the log of the last changing call has, and the file. */

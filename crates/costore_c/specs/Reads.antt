@@ -32,10 +32,6 @@ abbrev pub told_or : ℕ → Result ℕ Refusal → ℕ
 told_or before (Ok n) = n
 told_or before (Err refused) = before
 
--- a read of one of the last checkpoint goes in pieces
-abbrev pub NoneWhole : Embedded → Type 0
-NoneWhole e = ⊥
-
 -- the size of an object was told, or the request refused
 pub record Sizes (name : List ℕ) (before now : ℕ) (old new : Embedded) (code : ℤ) : Type 0 where
   pub answer : Result ℕ Refusal
@@ -66,12 +62,11 @@ pub record Finds (name : List ℕ) (before now : Place) (old new : Embedded) (co
       ≡ object_in (state_of old.store (file_in old)).map name)
   pub same : new ≡ old
 
--- an object was copied and its size told, or the read was refused; it was whole where this holds
-pub record Reads (r : Request) (whole : Embedded → Type 0) (before now : Memory) (old new : Embedded)
-    (code : ℤ) : Type 0 where
+-- an object was copied and its size told, or the read was refused
+pub record Reads (r : Request) (before now : Memory) (old new : Embedded) (code : ℤ) : Type 0 where
   pub answer : Result ℕ Refusal
   pub told : code ≡ number_code answer
-  pub into : ReadsInto r (whole old) old before.out now.out answer
+  pub into : ReadsInto r old before.out now.out answer
   pub number : now.number ≡ told_or before.number answer
   pub same : new ≡ old
 

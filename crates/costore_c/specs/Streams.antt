@@ -1,8 +1,6 @@
 -- What a dump and a load through a handle do to what it holds.
-use Rattle.std.specs.Prelude.{◌≡◌, ◌≢◌, ℤ, ℕ, pos, negsuc, List, [], Result, Ok, Err, IfOk}
+use Rattle.std.specs.Prelude.{◌≡◌, ◌≢◌, ℤ, ℕ, pos, negsuc, List, [], Result, Ok, Err, IfOk, OnErr}
 use Rattle.size_class.specs.declared.TheConstants.{CLASSES}
-use Rattle.disk_history.specs.Histories.{fresh}
-use Rattle.disk_image.specs.Notings.{IsLog}
 use Rattle.slot_codec.specs.Readable.{IsSuperBlock}
 use Rattle.slot_pair.specs.Formats.{block_for}
 use Rattle.store_model.specs.Opened.{IsFresh}
@@ -10,10 +8,12 @@ use Rattle.load_stream.specs.declared.fault.LoadFault.{LoadFault}
 use Rattle.load_stream.specs.declared.fault.LoadFault.TheVariants as why
 use Rattle.image_store.specs.declared.stream.DumpStop.{DumpStop}
 use Rattle.image_store.specs.declared.stream.DumpStop.TheVariants as stop
-use Rattle.image_store.specs.Embedded.{Embedded, file_in}
+use Rattle.image_store.specs.Embedded.{Embedded}
+use Rattle.image_store.specs.Noted.{IsNotedOf}
 use Rattle.image_store.specs.Streams.{AnswersDump, HasLoaded, RefusesLoad}
 use Rattle.store_handle.specs.declared.Stage.{Stage}
 use Rattle.store_handle.specs.declared.Stage.TheVariants as stage
+use Rattle.costore_c.specs.Reads.{Memory}
 
 -- ---- answers as numbers
 
@@ -48,21 +48,21 @@ load_number why.Source before = before
 
 -- ---- calls
 
--- a dump was copied, or it was refused; the store and its file stay
-pub record Dumps (old new : Embedded) (out : List ℕ) (size : ℕ) (code : ℤ) : Type 0 where
+-- A dump was copied, or it was refused, and then nothing was written. Nothing is changed.
+pub record Dumps (before now : Memory) (old new : Embedded) (code : ℤ) : Type 0 where
   pub answer : Result ℕ DumpStop
   pub told : code ≡ dump_code answer
-  pub answers : AnswersDump old out answer
-  pub size_told : IfOk answer (λ n. size ≡ n)
-  pub store : new.store ≡ old.store
-  pub file : file_in new ≡ file_in old
+  pub answers : AnswersDump old now.out answer
+  pub size : IfOk answer (λ n. now.number ≡ n)
+  pub refused : OnErr answer (now ≡ before)
+  pub same : new ≡ old
 
 -- A store was opened that was made of a dump: it has its map, isn't broken, and its log spells the calls that
 -- make its file of an empty one.
 pub record IsLoaded (k names : ℕ) (text : List ℕ) (new : Embedded) : Type 0 where
   pub loaded : HasLoaded k names text new
   pub opened : IsFresh CLASSES new.store
-  pub log : IsLog (fresh []) new.noting.history new.noting.text
+  pub noted : IsNotedOf [] new
 
 -- it wasn't made of a text, for a reason that the code and the number tell
 pub record IsNotLoaded (names : ℕ) (text : List ℕ) (before number : ℕ) (code : ℤ) : Type 0 where

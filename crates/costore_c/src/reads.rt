@@ -2,9 +2,8 @@
 ghost use Rattle.std.specs.Prelude.{◌≡◌};
 ghost use Rattle.map_model.specs.Requests as ask;
 ghost use Rattle.image_store.specs.Embedded.{file_in};
-ghost use Rattle.image_store.specs.Readings.{IsIdle};
 ghost use Rattle.costore_c.specs.Calls.{OnOpenElse, WhenIdleElse};
-ghost use Rattle.costore_c.specs.Reads.{Copies, CopiesOf, Counted, Finds, Lists, Measures, NoneWhole, Reads, Sizes, log_in, memory, place};
+ghost use Rattle.costore_c.specs.Reads.{Copies, CopiesOf, Counted, Finds, Lists, Measures, Reads, Sizes, log_in, memory, place};
 
 use crate::codes::{BUSY, CLOSED, DONE, SHORT, of_number, of_refusal};
 use image_store::ImageStore;
@@ -74,10 +73,10 @@ pub extern "C" fn costore_get(
     size: &mut u64,
 ) -> i32
     ensures { OnOpenElse (memory out.new size.new ≡ memory out.old size.old)
-        (Reads (ask.get name.now) IsIdle (memory out.old size.old) (memory out.new size.new))
+        (Reads (ask.get name.now) (memory out.old size.old) (memory out.new size.new))
         store.old.value.stage store.new.value.stage result }
 {
-    match &mut store.held().stage {
+    match &store.held().stage {
         Stage::Open(open) => of_number(open.get(name, out), size),
         _ => CLOSED,
     }
@@ -94,20 +93,20 @@ pub extern "C" fn costore_old(
 ) -> i32
     ensures { OnOpenElse (memory out.new size.new ≡ memory out.old size.old)
         (WhenIdleElse (memory out.new size.new ≡ memory out.old size.old)
-        (Reads (ask.old name.now) NoneWhole (memory out.old size.old) (memory out.new size.new)))
+        (Reads (ask.old name.now) (memory out.old size.old) (memory out.new size.new)))
         store.old.value.stage store.new.value.stage result }
 {
-    match &mut store.held().stage {
+    match &store.held().stage {
         Stage::Open(open) => old(open, name, out, size),
         _ => CLOSED,
     }
 }
 
 /// The same of what is open.
-fn old(open: &mut ImageStore, name: &[u8], out: &mut [u8], size: &mut u64) -> i32
+fn old(open: &ImageStore, name: &[u8], out: &mut [u8], size: &mut u64) -> i32
     ensures { WhenIdleElse (memory out.new size.new ≡ memory out.old size.old)
-        (Reads (ask.old name.now) NoneWhole (memory out.old size.old) (memory out.new size.new)) open.old
-        open.new result }
+        (Reads (ask.old name.now) (memory out.old size.old) (memory out.new size.new)) open.now
+        open.now result }
 {
     if open.in_hand() {
         return BUSY;

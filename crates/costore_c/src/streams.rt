@@ -1,6 +1,7 @@
 //! The dump of an open store, and a store that is made of a dump.
-ghost use Rattle.std.specs.Prelude.{◌≡◌, IfOk};
-ghost use Rattle.costore_c.specs.Calls.{OnOpen, WhenIdle};
+ghost use Rattle.std.specs.Prelude.{◌≡◌, IfOk, OnErr};
+ghost use Rattle.costore_c.specs.Calls.{OnOpenElse, WhenIdleElse};
+ghost use Rattle.costore_c.specs.Reads.{memory};
 ghost use Rattle.costore_c.specs.Streams.{Dumps, LoadsFed, dump_code, load_code, load_number};
 
 use crate::codes::{
@@ -13,7 +14,8 @@ use std::alloc::Global;
 use std::mem;
 use store_handle::{Handle, Stage};
 
-/// Copies the dump of the last checkpoint to the front of `out`, and writes how many bytes it has.
+/// Copies the dump of the last checkpoint to the front of `out`, and writes how many bytes it has. At a
+/// refusal nothing is written.
 #[unsafe(no_mangle)]
 pub extern "C" fn costore_dump(
     alloc: Global,
@@ -21,10 +23,12 @@ pub extern "C" fn costore_dump(
     out: &mut [u8],
     size: &mut u64,
 ) -> i32
-    ensures { OnOpen (WhenIdle (λ old new. Dumps old new out.new size.new)) store.old.value.stage
+    ensures { OnOpenElse (memory out.new size.new ≡ memory out.old size.old)
+        (WhenIdleElse (memory out.new size.new ≡ memory out.old size.old)
+        (Dumps (memory out.old size.old) (memory out.new size.new))) store.old.value.stage
         store.new.value.stage result }
 {
-    match &mut store.held().stage {
+    match &store.held().stage {
         Stage::Open(open) => dump(alloc, open, out, size),
         _ => CLOSED,
     }
@@ -71,8 +75,9 @@ pub extern "C" fn costore_load(
 }
 
 /// The dump of what is open.
-fn dump(alloc: Global, open: &mut ImageStore, out: &mut [u8], size: &mut u64) -> i32
-    ensures { WhenIdle (λ old new. Dumps old new out.new size.new) open.old open.new result }
+fn dump(alloc: Global, open: &ImageStore, out: &mut [u8], size: &mut u64) -> i32
+    ensures { WhenIdleElse (memory out.new size.new ≡ memory out.old size.old)
+        (Dumps (memory out.old size.old) (memory out.new size.new)) open.now open.now result }
 {
     if open.in_hand() {
         return BUSY;
@@ -84,6 +89,7 @@ fn dump(alloc: Global, open: &mut ImageStore, out: &mut [u8], size: &mut u64) ->
 fn of_dump(answer: Result<u64, DumpStop>, size: &mut u64) -> i32
     ensures code { result ≡ dump_code answer }
     ensures size { IfOk answer (λ n. size.new ≡ n) }
+    ensures refused { OnErr answer (size.new ≡ size.old) }
 {
     match answer {
         Ok(n) => {

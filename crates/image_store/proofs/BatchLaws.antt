@@ -2,12 +2,13 @@
 use Rattle.std.proofs.Common.{◌≡◌, ◌∙◌, refl, subst, sym, inl, inr, Bool, true, false, ℕ, List}
 use Rattle.std.specs.Prelude.{◌||◌, ◌<◌, ◌-◌, ◌^◌, Result, Ok, Err}
 use Rattle.std.proofs.lemmas.Bool.{false≢true}
+use Rattle.disk_face.specs.Frames.{Unchanged}
 use Rattle.disk_history.specs.Histories.{MayLeave}
 use Rattle.size_class.specs.declared.TheConstants.{CLASSES}
 use Rattle.map_model.specs.Requests.{Change}
 use Rattle.store_core.specs.Changes.{NothingChanged}
 use Rattle.store_model.specs.Connection.{RestsOnTable, SameOnTable, StoreValue, base_of}
-use Rattle.batch_core.specs.Answers.{Applies, Finishes, is_begun, is_disk_fault, kept_text}
+use Rattle.batch_core.specs.Answers.{Applies, Finishes, is_begun, is_disk, is_disk_fault, kept_text}
 use Rattle.batch_core.specs.declared.fault.BatchFault.{BatchFault}
 use Rattle.batch_model.specs.Batches.{IsBatch}
 use Rattle.image_store.specs.Batched.{IsBatchImage, batch_for, batch_kept, begun_on, ended_on}
@@ -39,12 +40,16 @@ module _ (old new : Embedded) (noted : IsNoted old new) (low : old.noting.histor
       (IsBatchImage (batch_kept old changes) old) (λ image p. inl p) (is.same none).same_disk.since)
 
 -- nothing changed
+unchanged_rests : (old new : Embedded) → new.store ≡ old.store → Unchanged (disk_before old) (disk_of new)
+    → RestsOnKept old → RestsOnKept new
+unchanged_rests old new same_store same_disk rests =
+    subst (λ (s : StoreValue). RestsOnTable (base_of s) s.kept (disk_of new)) (sym same_store)
+    (λ image may. subst (λ file. SameOnTable (base_of old.store) old.store.kept file image)
+    (sym (same_disk.same_file refl)) (rests image (same_disk.images image may)))
+
 same_rests : (old new : Embedded) → NothingChanged old.store new.store (disk_before old) (disk_of new)
     → RestsOnKept old → RestsOnKept new
-same_rests old new same rests =
-    subst (λ (s : StoreValue). RestsOnTable (base_of s) s.kept (disk_of new)) (sym same.same_store)
-    (λ image may. subst (λ file. SameOnTable (base_of old.store) old.store.kept file image)
-    (sym (same.same_disk.same_file refl)) (rests image (same.same_disk.images image may)))
+same_rests old new same rests = unchanged_rests old new same.same_store same.same_disk rests
 
 or_right : (a b : Bool) → (a || b) ≡ false → b ≡ false
 or_right true b e = absurd (false≢true (sym e))
@@ -59,3 +64,16 @@ apply_rests text old new (Ok false) is whole rests = same_rests old new (is.same
 apply_rests text old new (Err why) is whole rests =
     same_rests old new (is.same (or_right old.store.is_broken (is_disk_fault {T = Bool} (Err why))
     (sym is.broken ∙ whole))) rests
+
+pub finish_rests : (old new : Embedded) (result : Result Bool BatchFault)
+    → Finishes CLASSES (begun_on old) (ended_on new) result → new.store.is_broken ≡ false
+    → RestsOnKept old → RestsOnKept new
+finish_rests old new (Ok true) is whole rests =
+    let fit = (is.judged refl).1 in ((is.begun refl refl fit.changes fit.batch).done refl).rests rests
+finish_rests old new (Ok false) is whole rests = same_rests old new (is.same refl) rests
+finish_rests old new (Err why) is whole rests = by_bool (is_disk why)
+    (λ failed. elim (is.broken.failed failed) as (λ _. RestsOnKept new) [
+      | inl broken ↦ absurd (false≢true (sym whole ∙ broken))
+      | inr same ↦ unchanged_rests old new same.0 same.1 rests
+    ])
+    (λ calm. same_rests old new (is.same calm) rests)

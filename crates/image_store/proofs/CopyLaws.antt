@@ -1,13 +1,11 @@
 -- What a read of a view of a file answers, and what it copies.
-use Rattle.std.proofs.Common.{◌≡◌, ◌∙◌, ap, arith, inl, inr, refl, subst, sym, ℕ, List, [], Bool, true, false, length, take}
-use Rattle.std.specs.Prelude.{◌⊎◌, ◌≤◌, ◌+◌, if◌then◌else◌, Option, Some, None, Result, Ok, Err, IfOk, IfSome, IsSome, IsTrue, nat_lt, option_map}
+use Rattle.std.proofs.Common.{◌≡◌, ◌∙◌, ap, arith, inl, inr, refl, subst, sym, ℕ, List, Bool, true, false, length, take}
+use Rattle.std.specs.Prelude.{◌≤◌, ◌+◌, if◌then◌else◌, Option, Some, None, Result, Ok, Err, IfOk, IsSome, IsTrue, nat_lt, option_map}
 use Rattle.std.proofs.lemmas.Bool.{cond-false, cond-true, le-ltb}
 use Rattle.std.specs.FinMap as fin
 use Rattle.byte_ranges.specs.Ranges.{bytes_at}
 use Rattle.size_class.specs.declared.TheConstants.{CLASSES}
-use Rattle.disk_face.specs.Devices.{devices}
 use Rattle.disk_face.specs.Frames.{Unchanged}
-use Rattle.disk_face.specs.Streams.{SinkState}
 use Rattle.disk_face.specs.States as disk
 use Rattle.disk_image.specs.Views.{view_state}
 use Rattle.slot_codec.specs.Names.{is_name}
@@ -20,16 +18,15 @@ use Rattle.store_core.specs.declared.answers.Moment.{Moment}
 use Rattle.store_core.specs.declared.answers.Moment.TheVariants as moment
 use Rattle.store_core.specs.declared.answers.Refusal.{Refusal}
 use Rattle.store_core.specs.declared.answers.Refusal.TheVariants as why
-use Rattle.store_core.specs.Answers.{AnswersFetch, AnswersNumber, AnswersRead, facts_at, place_at, refusal_for, refused_by, reply_of, size_at}
-use Rattle.store_core.specs.Readings.{IsRead, asks_for, digest_read, is_damaged_read, object_read, position_of, spot_read}
+use Rattle.store_core.specs.Answers.{AnswersFetch, AnswersNumber, facts_at, place_at, refusal_for, refused_by, size_at}
+use Rattle.store_core.specs.Readings.{asks_for, digest_read, is_damaged_read, object_read, position_of, spot_read}
 use Rattle.store_core.specs.Reads.{IsJudged}
 use Rattle.store_core.proofs.AnsweredLaws.{live_if, number_served, served_is, some_there}
 use Rattle.store_core.proofs.ReadLaws.{found_damaged, found_object, found_within}
 use Rattle.store_core.proofs.ReadingLaws.{IsFound, whole_if_served}
-use Rattle.store_core.proofs.StepLaws.{facts_same, read_reply, served_by}
 use Rattle.store_model.specs.Connection.{StoreValue, base_of, limits_of, state_of}
 use Rattle.store_model.specs.Halves.{IsReadable}
-use Rattle.store_model.specs.States.{Facts, Served, State, Step, accepted, facts_of, object_in, refusal}
+use Rattle.store_model.specs.States.{object_in, refusal}
 use Rattle.store_model.specs.Stores.{IsStanding, IsStore}
 use Rattle.image_store.specs.Embedded.{Embedded, file_in}
 use Rattle.image_store.specs.Readings.{CanCopy, ReadsInto, answer_or, object_answer, read_answer}
@@ -71,62 +68,31 @@ fitting_answer e r room served fits = ap (λ (o : Option Refusal). answer_or o (
     (size_at (spot_read e.store r)) then Err why.Sink else object_answer e r)) served
     ∙ cond-false _ _ _ (le-ltb room (size_at (spot_read e.store r)) fits)
 
--- what is read of an object that fits, at once
-pub read_into : (e : Embedded) (r : Request) (whole : Type 0) (before out : List ℕ)
-    (result : Result ℕ Refusal) → CanCopy e r (length before) → result ≡ object_answer e r
+-- what is read of an object that fits
+pub read_into : (e : Embedded) (r : Request) (before out : List ℕ) (result : Result ℕ Refusal)
+    → CanCopy e r (length before) → result ≡ object_answer e r
     → IfOk result (λ n. take n out ≡ object_read (state_of e.store (file_in e)) r)
-    → length out ≡ length before → ReadsInto r whole e before out result
-read_into e r whole before out result can is object same =
-    let exact = is ∙ sym (fitting_answer e r (length before) can.served can.fits) in
-    record {
-      answer = inl exact;
-      exact = λ _. exact;
-      object = λ _. object;
-      refused = λ some. absurd (let h = subst IsSome can.served some in cc);
-      short = λ less. absurd (omega (arith, less, can.fits));
-      same_length = same;
-    }
-
--- and in pieces
-pub pieces_into : (e : Embedded) (r : Request) (whole : Type 0) (before out : List ℕ)
-    (result : Result ℕ Refusal) → CanCopy e r (length before) → (whole → ⊥)
-    → (result ≡ object_answer e r) ⊎ (result ≡ Err why.Sink) → length out ≡ length before
-    → ReadsInto r whole e before out result
-pieces_into e r whole before out result can not is same = record {
-  answer = by is;
-  exact = λ w. absurd (not w);
-  object = λ w. absurd (not w);
+    → length out ≡ length before → ReadsInto r e before out result
+read_into e r before out result can is object same = record {
+  answer = is ∙ sym (fitting_answer e r (length before) can.served can.fits);
+  object = object;
   refused = λ some. absurd (let h = subst IsSome can.served some in cc);
   short = λ less. absurd (omega (arith, less, can.fits));
   same_length = same;
 }
-  where
-    by : (result ≡ object_answer e r) ⊎ (result ≡ Err why.Sink)
-        → (result ≡ read_answer e r (length before)) ⊎ (result ≡ Err why.Sink)
-    by (inl h) = inl (h ∙ sym (fitting_answer e r (length before) can.served can.fits))
-    by (inr h) = inr h
 
 -- what isn't read leaves the memory
-pub not_into : (e : Embedded) (r : Request) (whole : Type 0) (before : List ℕ) (refused : Refusal)
-    → read_answer e r (length before) ≡ Err refused → ReadsInto r whole e before before (Err refused)
-not_into e r whole before refused is = record {
-  answer = inl (sym is);
-  exact = λ _. sym is;
-  object = λ _. tt;
+pub not_into : (e : Embedded) (r : Request) (before : List ℕ) (refused : Refusal)
+    → read_answer e r (length before) ≡ Err refused → ReadsInto r e before before (Err refused)
+not_into e r before refused is = record {
+  answer = sym is;
+  object = tt;
   refused = λ some. refl;
   short = λ less. refl;
   same_length = refl;
 }
 
 -- ---- an object that is found
-
-fine_by : (b : Bool) (x y : List ℕ) → ask.found x ≡ read_reply b (ask.found y) → b ≡ false
-fine_by true x y e = absurd (cc)
-fine_by false x y e = refl
-
-damaged_by : (b : Bool) (y : List ℕ) → ask.refused ask.damaged ≡ read_reply b (ask.found y) → b ≡ true
-damaged_by true y e = refl
-damaged_by false y e = absurd (cc)
 
 module _ (s : StoreValue) (file : List ℕ) (m : Moment) (name : List ℕ) (x : Spot)
     (f : IsFound s (asks_for m name) x) where
@@ -144,21 +110,6 @@ module _ (s : StoreValue) (file : List ℕ) (m : Moment) (name : List ℕ) (x : 
 
   abbrev answer : Result ℕ Refusal
   answer = if damaged then Err why.Damaged else Ok size
-
-  serves : (n : Moment) → (accepted (limits_of s) (state_of s file) (asks_for n name)).reply
-      ≡ read_reply (is_damaged_read (state_of s file) (asks_for n name))
-      (ask.found (object_read (state_of s file) (asks_for n name)))
-  serves moment.Now = refl
-  serves moment.Kept = refl
-
-  replied : (reply : Reply) (t : State) → Step (limits_of s) (state_of s file) r reply t
-      → reply ≡ read_reply damaged (ask.found object)
-  replied reply t step =
-      let facts : refusal (limits_of s) (facts_of (state_of s file) r) r ≡ None =
-      ap (λ (g : Facts). refusal (limits_of s) g r)
-      (facts_same s file r f.stands.now_named f.stands.kept_named) ∙ served_is s r f.whole f.served in
-      step.replied ∙ ap (λ (y : Served). y.reply) (served_by (limits_of s) (state_of s file) r None facts)
-      ∙ serves m
 
   -- by the two answers that are left
   sound_answer : (result : Result ℕ Refusal) → result ≡ Ok size → damaged ≡ false → result ≡ answer
@@ -191,53 +142,19 @@ module _ (s : StoreValue) (file : List ℕ) (m : Moment) (name : List ℕ) (x : 
         by (inr (inl bad)) = absurd (no_fault bad)
         by (inr (inr bad)) = damaged_answer result bad (differs_is ∙ judged.damaged bad)
 
-  -- ---- put into a sink
-
-  module _ (new : StoreValue) (now : List ℕ) (before refused : ℕ) (none : before ≡ 0) (out after : SinkState)
-      (result : Result ℕ Refusal)
-      (is : IsRead r [] s new (devices (view_state file before) out) (devices (view_state now refused) after)
-      result) where
-    pub copied_answer : (result ≡ answer) ⊎ (result ≡ Err why.Sink)
-    copied_answer = by (subst (λ (o : Option Refusal). AnswersRead o size result) f.served is.answer)
-      where
-        at_reply : (z : Result ℕ Refusal) → result ≡ z → IfSome (reply_of (λ n. ask.found object) z)
-            (λ reply. Step (limits_of s) (state_of s file) r reply (state_of new now))
-        at_reply z e = subst (λ (y : Result ℕ Refusal). IfSome (reply_of (λ n. ask.found object) y)
-            (λ reply. Step (limits_of s) (state_of s file) r reply (state_of new now))) e
-            (is.step f.whole refl)
-
-        by : AnswersRead None size result → (result ≡ answer) ⊎ (result ≡ Err why.Sink)
-        by (inl ok) = inl (sound_answer result ok (fine_by damaged object object
-            (replied (ask.found object) (state_of new now) (at_reply (Ok size) ok))))
-        by (inr (inl bad)) = absurd (no_fault now before refused none result is.frame is.disk_cause bad)
-        by (inr (inr (inl bad))) = inr bad
-        by (inr (inr (inr bad))) = inl (damaged_answer result bad (damaged_by damaged object
-            (replied (ask.refused ask.damaged) (state_of new now) (at_reply (Err why.Damaged) bad))))
-
--- a read in pieces
-pub copied : (s : StoreValue) (file : List ℕ) (m : Moment) (name : List ℕ)
-    → refused_by s (asks_for m name) ≡ None → IsStanding s → (new : StoreValue) (now : List ℕ)
-    (first refused : ℕ) → first ≡ 0 → (out after : SinkState) (result : Result ℕ Refusal)
-    → IsRead (asks_for m name) [] s new (devices (view_state file first) out)
-    (devices (view_state now refused) after) result
-    → (result ≡ (if is_damaged_read (state_of s file) (asks_for m name) then Err why.Damaged
-    else Ok (size_at (spot_read s (asks_for m name))))) ⊎ (result ≡ Err why.Sink)
-copied s file m name served stands new now first refused none out after result is =
+-- by moment
+pub fetched : (s : StoreValue) (file : List ℕ) (m : Moment) (name : List ℕ)
+    → refused_by s (asks_for m name) ≡ None → IsStanding s → (now : List ℕ) (first refused : ℕ) → first ≡ 0
+    → (result : Result ℕ Refusal) → Unchanged (view_state file first) (view_state now refused)
+    → HasDiskCause why.Disk first refused result
+    → AnswersFetch (refused_by s (asks_for m name)) (size_at (spot_read s (asks_for m name))) result
+    → (s.is_broken ≡ false → IsTrue true → refused_by s (asks_for m name) ≡ None
+    → IsJudged (digest_read s (asks_for m name)) (object_read (state_of s file) (asks_for m name)) result)
+    → result ≡ (if is_damaged_read (state_of s file) (asks_for m name) then Err why.Damaged
+    else Ok (size_at (spot_read s (asks_for m name))))
+fetched s file m name served stands now first refused none result same cause answer judged =
     let found = found_at s m name served stands in
-    copied_answer s file m name found.0 found.1 new now first refused none out after result is
-
--- a fetch
-pub fetched : (s : StoreValue) (file : List ℕ) (name : List ℕ) → refused_by s (ask.get name) ≡ None
-    → IsStanding s → (now : List ℕ) (first refused : ℕ) → first ≡ 0 → (result : Result ℕ Refusal)
-    → Unchanged (view_state file first) (view_state now refused) → HasDiskCause why.Disk first refused result
-    → AnswersFetch (refused_by s (ask.get name)) (size_at (fin.get s.now name)) result
-    → (s.is_broken ≡ false → IsTrue true → refused_by s (ask.get name) ≡ None
-    → IsJudged (digest_read s (ask.get name)) (object_in (state_of s file).map name) result)
-    → result ≡ (if is_damaged_read (state_of s file) (ask.get name) then Err why.Damaged
-    else Ok (size_at (fin.get s.now name)))
-fetched s file name served stands now first refused none result same cause answer judged =
-    let found = found_at s moment.Now name served stands in
-    fetched_answer s file moment.Now name found.0 found.1 now first refused none result same cause answer
+    fetched_answer s file m name found.0 found.1 now first refused none result same cause answer
     (judged found.1.whole refl served)
 
 -- ---- where it stands

@@ -1,8 +1,8 @@
 pub mod BackLaws
 pub mod BatchLaws
 pub mod CopyLaws
+pub mod DumpLaws
 pub mod FirstLaws
-pub mod ListLaws
 pub mod MadeLaws
 pub mod MountLaws
 pub mod NotedLaws

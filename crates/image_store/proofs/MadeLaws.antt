@@ -3,15 +3,17 @@ use Rattle.std.proofs.Common.{◌≡◌, ◌∙◌, ap, arith, inl, inr, refl, s
 use Rattle.std.specs.Prelude.{IsErr, IsTrue, OnOk, Ok, Err, Result, length}
 use Rattle.std.specs.FinMap as fin
 use Rattle.disk_face.specs.declared.DiskFault.{DiskFault}
-use Rattle.disk_face.specs.Moments.{Rests}
+use Rattle.disk_face.specs.Frames.{Unchanged}
+use Rattle.disk_face.specs.Moments.{Leaves, Rests}
 use Rattle.disk_face.specs.States as disk
+use Rattle.disk_face.proofs.MomentLaws.{Leaves-trans, Leaves-weaken}
 use Rattle.disk_history.specs.Histories.{EndedBy}
 use Rattle.disk_image.specs.Disks.{image_state}
 use Rattle.disk_image.specs.Notings.{IsLog, Noting, lent}
 use Rattle.slot_codec.specs.Choice as choice
 use Rattle.slot_codec.specs.Spelling.{head_len}
 use Rattle.slot_codec.specs.declared.codec.Kind.TheVariants.{Settled}
-use Rattle.slot_pair.specs.Formats.{HasFirstTable, first_header, first_in_use, first_table, formatted_file}
+use Rattle.slot_pair.specs.Formats.{HasFirstTable, IsNoStoreOrEmpty, first_header, first_in_use, first_table, formatted_file}
 use Rattle.slot_pair.specs.declared.find.SlotFault.TheVariants as slot
 use Rattle.slot_pair.proofs.FormatLaws.{length-formatted}
 use Rattle.size_class.specs.declared.TheConstants.{CLASSES, SIZE_MAX}
@@ -26,8 +28,9 @@ use Rattle.reopen.specs.declared.fault.OpenFault.{OpenFault}
 use Rattle.reopen.specs.declared.fault.OpenFault.TheVariants as fault
 use Rattle.store_model.specs.Connection.{StoreValue}
 use Rattle.store_model.specs.Opened.{IsOpening, SameOnFound, state_at}
-use Rattle.image_store.specs.Made.{IsMade, NotMade}
-use Rattle.image_store.specs.Noted.{IsNotedOf}
+use Rattle.load_stream.specs.Saved.{OpensEmpty}
+use Rattle.image_store.specs.Made.{IsFormatImage, IsMade, NotMade}
+use Rattle.image_store.specs.Noted.{IsNotedOf, StopsFrom}
 use Rattle.image_store.proofs.FirstLaws.{first_opens}
 use Rattle.image_store.proofs.NotedLaws.{noted_since}
 use Rattle.image_store.proofs.RestLaws.{found_itself}
@@ -83,17 +86,49 @@ settled : (k names : ℕ) → (first_table k names).chosen.header.kind ≡ Settl
 unfolding first_header
 settled k names = refl
 
+-- a file that has the first table opens to the empty map, however long it is
+empty_for : (k names : ℕ) (file : List ℕ) → HasFirstTable k names file → OpensEmpty k names file
+empty_for k names file first = record {
+  table = first_table k names;
+  made_for = refl;
+  settled = settled k names;
+  opens = opens k names file first;
+}
+
+-- an opening of such a file leaves it alone, and what a crash leaves of both is no store, or an empty one
+module _ (k names : ℕ) (before : disk.State) (s : StoreValue) (n : Noting)
+    (is : before.file ≡ formatted_file k names) (first : HasFirstTable k names before.file)
+    (told : IsTrue before.tells) (opening : IsOpening CLASSES before (image_state n) (Ok s)) where
+  left_alone : Unchanged before (image_state n)
+  left_alone = (opening.found told (first_table k names) fin.empty empty_book
+      (opens k names before.file first)).alone (settled k names)
+      (omega (arith, length-formatted k names, ap length is))
+
+  pub made_left : (start : disk.State) → Rests before
+      → Leaves start before (IsNoStoreOrEmpty k names) → Leaves start (image_state n) (IsFormatImage k names)
+  made_left start rests left = Leaves-trans
+      (Leaves-weaken (IsFormatImage k names) format_image left)
+      (Leaves-weaken (IsFormatImage k names)
+      (λ image may. inr (empty_for k names image (subst (HasFirstTable k names) (sym (rests image may))
+      first)))
+      left_alone.since)
+    where
+      format_image : (image : List ℕ) → IsNoStoreOrEmpty k names image → IsFormatImage k names image
+      format_image image (inl none) = inl none
+      format_image image (inr is_first) = inr (empty_for k names image is_first)
+
 -- a store that was opened of such a file
 pub made : (k names : ℕ) (before : disk.State) (s : StoreValue) (n : Noting)
     → before.file ≡ formatted_file k names → HasFirstTable k names before.file → Rests before
     → IsTrue before.tells → IsOpening CLASSES before (image_state n) (Ok s)
-    → IsNotedOf [] (record { store = s; noting = n }) → IsMade k names (record { store = s; noting = n })
-made k names before s n is first rests told opening noted =
+    → IsNotedOf [] (record { store = s; noting = n })
+    → StopsFrom [] (IsFormatImage k names) (record { store = s; noting = n })
+    → IsMade k names (record { store = s; noting = n })
+made k names before s n is first rests told opening noted stops =
     let t = first_table k names in
     let file = before.file in
     let found = opening.found told t fin.empty empty_book (opens k names file first) in
-    let same = (found.alone (settled k names)
-    (omega (arith, length-formatted k names, ap length is))).same_file told in
+    let same = (left_alone k names before s n is first told opening).same_file told in
     let o = opening.opened told in
     let over = opening.over told in
     let slot : choice.slot_in_use (image_state n).file ≡ Ok (first_in_use k names) =
@@ -113,6 +148,7 @@ made k names before s n is first rests told opening noted =
       rests = found.rests (λ image may. subst (SameOnFound t file) (sym (rests image may))
           (found_itself t file));
       noted = noted;
+      stops = stops;
     }
 
 -- what is answered where the file was formatted first

@@ -1,17 +1,17 @@
 -- A store belongs to its file over a read, and once its log is emptied.
-use Rattle.std.proofs.Common.{◌≡◌, ◌∙◌, rules, sym, subst, inl, inr, ℕ}
-use Rattle.std.specs.Prelude.{Option, None, IsSome}
+use Rattle.std.proofs.Common.{◌≡◌, ◌∙◌, refl, rules, sym, subst, inl, inr, ℕ}
+use Rattle.std.specs.Prelude.{Option, None, IsSome, Ok}
 use Rattle.disk_face.specs.Frames.{Unchanged}
 use Rattle.disk_face.specs.States as disk
 use Rattle.size_class.specs.declared.TheConstants.{CLASSES}
 use Rattle.disk_image.specs.Disks.{image_state}
 use Rattle.disk_image.specs.Notings.{Noting, emptied}
 use Rattle.store_core.specs.declared.answers.Progress.{Progress}
+use Rattle.store_core.specs.declared.answers.Progress.TheVariants as progress
 use Rattle.store_core.specs.declared.answers.Refusal.{Refusal}
 use Rattle.std.specs.Prelude.{Result, Some}
-use Rattle.store_core.specs.Answers.{AnswersFetch, AnswersRead}
-use Rattle.store_core.specs.Steps.{StepsHalf}
-use Rattle.store_model.specs.Connection.{FlushInHand, IsConnected, IsOver, StoreValue}
+use Rattle.store_core.specs.Steps.{GoesOnHalf, StepsHalf}
+use Rattle.store_model.specs.Connection.{FlushInHand, IsConnected, IsOver, RestsOnTable, StoreValue, base_of}
 use Rattle.store_model.specs.Halves.{HalfAgrees, IsHalfway, IsReadable, Origin}
 use Rattle.store_model.proofs.HalfLaws.{halfway_read}
 use Rattle.image_store.specs.Embedded.{Embedded, disk_before}
@@ -73,10 +73,15 @@ steps_seen {e} {seen} {before} {new} {now} {result} is began half =
     → HalfAgrees CLASSES seen.store h o (image_state n)
     → StepsHalf CLASSES o seen.store new (image_state n) now result) began half)
 
--- a fetch answers as a read does
-pub fetch_reads : (refused : Option Refusal) (n : ℕ) (result : Result ℕ Refusal)
-    → AnswersFetch refused n result → AnswersRead refused n result
-fetch_reads None n result (inl ok) = inl ok
-fetch_reads None n result (inr (inl disk)) = inr (inl disk)
-fetch_reads None n result (inr (inr damaged)) = inr (inr (inr damaged))
-fetch_reads (Some why) n result is = is
+-- once a step has settled a flush
+pub settled_rests : {s new : StoreValue} (n : Noting) {before : Noting} {now : disk.State}
+    {result : Result Progress Refusal} → before ≡ emptied n → IsReadable CLASSES s (image_state n)
+    → IsSome s.in_hand
+    → ((h : FlushInHand) (o : Origin) → s.in_hand ≡ Some h → HalfAgrees CLASSES s h o (image_state before)
+    → StepsHalf CLASSES o s new (image_state before) now result) → result ≡ Ok progress.Settled
+    → RestsOnTable (base_of new) new.kept now
+settled_rests {s} {new} n {before} {now} {result} began is some half done =
+    let w = halfway_emptied n began is some in
+    let at = w.half refl in
+    let steps = half w.hand at.0 w.is at.1 in
+    (subst (λ (r : Result Progress Refusal). GoesOnHalf CLASSES at.0 steps.hand new now r) done steps.on).2

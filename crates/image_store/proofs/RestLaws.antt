@@ -11,9 +11,11 @@ use Rattle.disk_image.specs.Notings.{lent}
 use Rattle.map_model.specs.Requests as ask
 use Rattle.map_model.specs.Requests.{Change}
 use Rattle.segment_layout.specs.Books.{is_quiet}
+use Rattle.store_core.specs.declared.answers.Begun.{Begun}
 use Rattle.store_core.specs.declared.answers.Done.{Done}
 use Rattle.store_core.specs.declared.answers.Refusal.{Refusal}
 use Rattle.store_core.specs.Answers.{AnswersChange, is_disk_fault, refused_by}
+use Rattle.store_core.specs.Begins.{AnswersBegin, BeginsChange}
 use Rattle.store_core.specs.Changes.{NothingChanged}
 use Rattle.store_core.specs.Changing.{IsChange}
 use Rattle.store_core.specs.Keeps.{KeepsNow}
@@ -60,6 +62,13 @@ served_ok quiet (Ok done) answer calm p = p
 served_ok quiet (Err refused) (inl e) calm p = absurd (search rules)
 served_ok quiet (Err refused) (inr e) calm p = absurd (false≢true (sym calm ∙ ap is_disk_fault e))
 
+-- and so is one of a begin
+begun_ok : {P : Type 0} (quiet : Bool) (result : Result Begun Refusal) → AnswersBegin quiet None result
+    → is_disk_fault result ≡ false → OnOk result P → P
+begun_ok quiet (Ok begun) answer calm p = p
+begun_ok quiet (Err refused) (inl e) calm p = absurd (search rules)
+begun_ok quiet (Err refused) (inr e) calm p = absurd (false≢true (sym calm ∙ ap is_disk_fault e))
+
 module _ {old new : StoreValue} {a d : disk.State} (told : IsTrue a.tells) where
   refused_rests : NothingChanged old new a d → RestsOnTable (base_of old) old.kept a
       → RestsOnTable (base_of new) new.kept d
@@ -105,3 +114,32 @@ module _ {old new : StoreValue} {a d : disk.State} (told : IsTrue a.tells) where
           → RestsOnTable (base_of new) new.kept d
       by_result (Ok done) k = k.on_table told
       by_result (Err why) k = absurd (false≢true (sym whole ∙ ap (λ (s : StoreValue). s.is_broken) k.failed))
+
+  -- a begin that leaves no flush in hand
+  pub begin_rests : (c : Change) (result : Result Begun Refusal) → BeginsChange CLASSES c old new a d result
+      → new.is_broken ≡ false → new.in_hand ≡ None → RestsOnTable (base_of old) old.kept a
+      → RestsOnTable (base_of new) new.kept d
+  begin_rests c result is whole idle rests = by_cases (refused_by old (ask.change c))
+      (λ h. refused_rests (is.refused h) rests)
+      (λ h. by_bool (is_quiet (charges_of old c)) (λ q. quiet_rests h q) (λ q. no_flush h q))
+    where
+      calm : is_disk_fault result ≡ false
+      calm = or_right old.is_broken (is_disk_fault result) (sym is.broken ∙ whole)
+
+      answers : IsNone (refused_by old (ask.change c))
+          → AnswersBegin (is_quiet (charges_of old c)) None result
+      answers h = subst (λ o. AnswersBegin (is_quiet (charges_of old c)) o result)
+          (none_of (refused_by old (ask.change c)) h) is.answer
+
+      quiet_rests : IsNone (refused_by old (ask.change c)) → is_quiet (charges_of old c) ≡ true
+          → RestsOnTable (base_of new) new.kept d
+      quiet_rests h q =
+          let value = begun_ok (is_quiet (charges_of old c)) result (answers h) calm (is.quiet h q).value in
+          subst (λ (s : StoreValue). RestsOnTable (base_of s) s.kept d) (sym value.rest)
+          ((is.quiet h q).rests told rests)
+
+      no_flush : IsNone (refused_by old (ask.change c)) → is_quiet (charges_of old c) ≡ false
+          → RestsOnTable (base_of new) new.kept d
+      no_flush h q =
+          let held = begun_ok (is_quiet (charges_of old c)) result (answers h) calm (is.flush h q).holds in
+          absurd (let bad : None ≡ Some held.0 = sym idle ∙ held.1.is in cc)

@@ -37,3 +37,9 @@ abbrev pub StopsAt : Embedded → Embedded → (List ℕ → Type 0) → Type 0
 StopsAt old new P = (calls : List RecordedCall) (image : List ℕ) → new.noting.text ≡ text_of calls
     → FitEntries calls → IsStopped old.noting.history calls image
     → MayLeave old.noting.history image ⊎ P image
+
+-- Wherever the making of the calls of a store that was opened or made stops, on a file of these bytes that
+-- was at rest, an image has P.
+abbrev pub StopsFrom : List ℕ → (List ℕ → Type 0) → Embedded → Type 0
+StopsFrom file P s = (calls : List RecordedCall) (image : List ℕ) → s.noting.text ≡ text_of calls
+    → FitEntries calls → IsStopped (fresh file) calls image → P image

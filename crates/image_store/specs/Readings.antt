@@ -1,5 +1,5 @@
 -- What a store over a file in memory answers where it copies to memory of its caller.
-use Rattle.std.specs.Prelude.{◌≡◌, ◌⊎◌, ◌<◌, ◌≤◌, ◌+◌, ℕ, nat_lt, if◌then◌else◌, true, List, length, take, Option, Some, None, Result, Ok, Err, IfOk, IsSome}
+use Rattle.std.specs.Prelude.{◌≡◌, ◌<◌, ◌≤◌, ◌+◌, ℕ, nat_lt, if◌then◌else◌, List, length, take, Option, Some, None, Result, Ok, Err, IfOk, IsSome}
 use Rattle.std.specs.FinMap as fin
 use Rattle.byte_ranges.specs.Ranges.{bytes_at}
 use Rattle.size_class.specs.declared.TheConstants.{CLASSES}
@@ -7,7 +7,7 @@ use Rattle.map_model.specs.Requests as ask
 use Rattle.map_model.specs.Requests.{Request}
 use Rattle.store_core.specs.declared.answers.Refusal.{Refusal}
 use Rattle.store_core.specs.declared.answers.Refusal.TheVariants as why
-use Rattle.store_core.specs.Answers.{AnswersList, refused_by, size_at}
+use Rattle.store_core.specs.Answers.{listed_into, refused_by, size_at}
 use Rattle.store_core.specs.Readings.{is_damaged_read, object_read, spot_read}
 use Rattle.store_model.specs.Connection.{state_of}
 use Rattle.store_model.specs.Lines.{lines_of, listing_of}
@@ -38,21 +38,15 @@ pub record CanCopy (e : Embedded) (r : Request) (room : ℕ) : Type 0 where
   pub standing : IsStanding e.store
   pub sound : e.store.in_hand ≡ None → IsStore CLASSES e.store
 
--- An object was read into memory, or that was refused. Where it is whole, as with no flush in hand, the
--- answer is exact, and at Ok the bytes of the object stand in front; a read in pieces may also say that they
--- don't fit. Memory that is too short, and that of a request that is refused, stays.
-pub record ReadsInto (r : Request) (whole : Type 0) (e : Embedded) (before out : List ℕ)
-    (result : Result ℕ Refusal) : Type 0 where
-  pub answer : (result ≡ read_answer e r (length before)) ⊎ (result ≡ Err why.Sink)
-  pub exact : whole → result ≡ read_answer e r (length before)
-  pub object : whole → IfOk result (λ n. take n out ≡ object_read (state_of e.store (file_in e)) r)
-  pub refused : IsSome (refused_by e.store r) → out ≡ before
-  pub short : length before < size_at (spot_read e.store r) → out ≡ before
-  pub same_length : length out ≡ length before
-
--- no flush is in hand
-abbrev pub IsIdle : Embedded → Type 0
-IsIdle e = e.store.in_hand ≡ None
+-- An object was read into memory, or that was refused: at Ok its bytes stand in front. Memory that is too
+-- short, and that of a request that is refused, stays.
+pub record ReadsInto (r : Request) (e : Embedded) (before out : List ℕ) (result : Result ℕ Refusal) : Type 0
+  where
+    pub answer : result ≡ read_answer e r (length before)
+    pub object : IfOk result (λ n. take n out ≡ object_read (state_of e.store (file_in e)) r)
+    pub refused : IsSome (refused_by e.store r) → out ≡ before
+    pub short : length before < size_at (spot_read e.store r) → out ≡ before
+    pub same_length : length out ≡ length before
 
 -- the bytes of an object stand in the file from a position on
 abbrev pub StandsAt : Embedded → List ℕ → ℕ → Type 0
@@ -63,7 +57,8 @@ StandsAt e name at = (at + size_at (fin.get e.store.now name) ≤ length (file_i
 -- The lines of a list were copied to memory, and the answer is how many bytes they have; or they didn't fit.
 -- A broken store answers so, and the memory stays.
 pub record ListsInto (e : Embedded) (before out : List ℕ) (result : Result ℕ Refusal) : Type 0 where
-  pub answer : AnswersList (refused_by e.store ask.list) result
-  pub number : IfOk result (λ n. n ≡ length (lines_of (listing_of e.store.now)))
-  pub broken : e.store.is_broken ≡ true → out ≡ before
+  pub answer : result ≡ listed_into (refused_by e.store ask.list)
+      (length (lines_of (listing_of e.store.now))) (length before)
+  pub lines : IfOk result (λ n. take n out ≡ lines_of (listing_of e.store.now))
+  pub refused : IsSome (refused_by e.store ask.list) → out ≡ before
   pub same_length : length out ≡ length before

@@ -25,9 +25,13 @@ pub fn a_stopped_batch_opens()
         → StopsAt old new (IsBatchImage (batch_kept old changes) old) }
 {}
 
-/// A store that rests on its checkpoint rests on it after each batch by which it isn't broken.
+/// A store that rests on its checkpoint rests on it after each batch, and each finish of one, by which it
+/// isn't broken.
 pub fn a_store_rests_after_a_batch()
-    ensures { (text : List ℕ) (old new : Embedded) (result : Result Bool BatchFault)
+    ensures apply { (text : List ℕ) (old new : Embedded) (result : Result Bool BatchFault)
         → Applies CLASSES text (begun_on old) (ended_on new) result → new.store.is_broken ≡ false
+        → RestsOnKept old → RestsOnKept new }
+    ensures finish { (old new : Embedded) (result : Result Bool BatchFault)
+        → Finishes CLASSES (begun_on old) (ended_on new) result → new.store.is_broken ≡ false
         → RestsOnKept old → RestsOnKept new }
 {}

@@ -1,16 +1,14 @@
 //! Reading objects of a store, and what there is in it.
-ghost use Rattle.std.specs.Prelude.{◌≡◌, ◌⊎◌, ◌+◌, ◌≤◌, ◌↔◌, ℕ, List, true, length, take, Err, IfErr, IfOk, IsErr, IsOk, None, OnErr, OnOk};
+ghost use Rattle.std.specs.Prelude.{◌≡◌, ◌↔◌, true, length, take, Err, IfErr, IfOk, IsErr, None, OnErr, OnOk};
 ghost use Rattle.std.specs.FinMap as fin;
 ghost use Rattle.extent_table.specs.Extents.{volume_of};
 ghost use Rattle.map_model.specs.Requests as ask;
 ghost use Rattle.segment_layout.specs.Books.{book_end};
-ghost use Rattle.store_core.specs.Answers.{AnswersList, AnswersNumber, refused_by, size_at};
+ghost use Rattle.store_core.specs.Answers.{AnswersNumber, refused_by, size_at};
 ghost use Rattle.store_core.specs.Readings.{asks_for, object_read, position_of, spot_read};
-ghost use Rattle.store_model.specs.Lines.{lines_of, listing_of};
-ghost use Rattle.image_store.specs.Readings.{CanCopy, IsIdle, ReadsInto, StandsAt, object_answer, read_answer};
+ghost use Rattle.image_store.specs.Readings.{CanCopy, ListsInto, ReadsInto, StandsAt, object_answer, read_answer};
 
 use crate::ImageStore;
-use crate::taken::Taken;
 use disk_image::FileView;
 use store_core::{Gauge, Moment, Refusal, Stat};
 
@@ -51,28 +49,25 @@ impl ImageStore {
 
     /// Copies an object to the front of `out`, also while a flush is in hand, and answers how many bytes it
     /// has. The sink failed where they don't fit.
-    pub fn get(&mut self, name: &[u8], out: &mut [u8]) -> Result<u64, Refusal>
-        ensures read { ReadsInto (ask.get name.now) (IsIdle self.old) self.old out.old out.new result }
-        ensures same { self.new ≡ self.old }
+    pub fn get(&self, name: &[u8], out: &mut [u8]) -> Result<u64, Refusal>
+        ensures { ReadsInto (ask.get name.now) self.now out.old out.new result }
     {
-        match self.fits(Moment::Now, name, out.len()) {
-            Ok(()) => {
-                if self.store.in_hand() {
-                    return self.copy(Moment::Now, name, out);
-                }
-                self.fetch(name, out)
-            }
-            Err(refusal) => Err(refusal),
-        }
+        self.read(Moment::Now, name, out)
     }
 
     /// Copies an object of the last checkpoint to the front of `out`, as `get` does one of now.
-    pub fn old(&mut self, name: &[u8], out: &mut [u8]) -> Result<u64, Refusal>
-        ensures read { ReadsInto (ask.old name.now) ⊥ self.old out.old out.new result }
-        ensures same { self.new ≡ self.old }
+    pub fn old(&self, name: &[u8], out: &mut [u8]) -> Result<u64, Refusal>
+        ensures { ReadsInto (ask.old name.now) self.now out.old out.new result }
     {
-        match self.fits(Moment::Kept, name, out.len()) {
-            Ok(()) => self.copy(Moment::Kept, name, out),
+        self.read(Moment::Kept, name, out)
+    }
+
+    /// Copies an object of now or of the last checkpoint.
+    fn read(&self, moment: Moment, name: &[u8], out: &mut [u8]) -> Result<u64, Refusal>
+        ensures { ReadsInto (asks_for moment name.now) self.now out.old out.new result }
+    {
+        match self.fits(moment, name, out.len()) {
+            Ok(()) => self.fetch(moment, name, out),
             Err(refusal) => Err(refusal),
         }
     }
@@ -97,49 +92,24 @@ impl ImageStore {
         }
     }
 
-    /// Copies one that fits, in pieces.
-    fn copy(&mut self, moment: Moment, name: &[u8], out: &mut [u8]) -> Result<u64, Refusal>
-        requires fits { CanCopy self.old (asks_for moment name.now) (length out.old) }
-        ensures answer { (result ≡ object_answer self.old (asks_for moment name.now))
-            ⊎ (result ≡ Err Refusal.Sink) }
-        ensures same { self.new ≡ self.old }
-        ensures same_length { length out.new ≡ length out.old }
-    {
-        let mut view = FileView::of(self.disk.bytes());
-        let mut taken = Taken::new(out);
-        self.store.read(moment, &mut view, name, &mut taken)
-    }
-
-    /// The same with no flush in hand, at once.
-    fn fetch(&mut self, name: &[u8], out: &mut [u8]) -> Result<u64, Refusal>
-        requires idle { self.old.store.in_hand ≡ None }
-        requires fits { CanCopy self.old (ask.get name.now) (length out.old) }
-        ensures answer { result ≡ object_answer self.old (ask.get name.now) }
+    /// Copies one that fits.
+    fn fetch(&self, moment: Moment, name: &[u8], out: &mut [u8]) -> Result<u64, Refusal>
+        requires fits { CanCopy self.now (asks_for moment name.now) (length out.old) }
+        ensures answer { result ≡ object_answer self.now (asks_for moment name.now) }
         ensures object { IfOk result (λ n. take n out.new
-            ≡ object_read (state_of self.old.store (file_in self.old)) (ask.get name.now)) }
-        ensures same { self.new ≡ self.old }
+            ≡ object_read (state_of self.now.store (file_in self.now)) (asks_for moment name.now)) }
         ensures same_length { length out.new ≡ length out.old }
     {
         let mut view = FileView::of(self.disk.bytes());
-        self.store.fetch(&mut view, name, out)
+        self.store.fetch(moment, &mut view, name, out)
     }
 
     /// Copies a line for each name to the front of `out`, the name and the size of its object, by rising
     /// name, and answers how many bytes they have. The sink failed where they don't fit.
     pub fn list(&self, out: &mut [u8]) -> Result<u64, Refusal>
-        ensures answer { AnswersList (refused_by self.now.store ask.list) result }
-        ensures number { IfOk result (λ n. n ≡ length (lines_of (listing_of self.now.store.now))) }
-        ensures broken { self.now.store.is_broken ≡ true → out.new ≡ out.old }
-        ensures same_length { length out.new ≡ length out.old }
+        ensures { ListsInto self.now out.old out.new result }
     {
-        if self.store.is_broken() {
-            return Err(Refusal::Broken);
-        }
-        let mut taken = Taken::new(out);
-        match self.store.list(&mut taken) {
-            Ok(()) => Ok(taken.put_so_far()),
-            Err(refusal) => Err(refusal),
-        }
+        self.store.list_into(out)
     }
 
     /// How many names and bytes there are, now and at the last checkpoint.

@@ -1,5 +1,5 @@
 //! A flush of a store one move at a time.
-ghost use Rattle.std.specs.Prelude.{◌≡◌, IsSome, None, Some};
+ghost use Rattle.std.specs.Prelude.{◌≡◌, IsSome, None, Ok, Some};
 ghost use Rattle.disk_face.specs.Writes.{KeepsDisk};
 ghost use Rattle.size_class.specs.declared.TheConstants.{CLASSES};
 ghost use Rattle.store_core.specs.Answers.{is_disk_fault};
@@ -14,7 +14,7 @@ use store_core::{Begun, Progress, Refusal};
 
 impl ImageStore {
     ghost use Rattle.image_store.specs.Embedded.{disk_before, disk_of};
-    ghost use Rattle.image_store.specs.Noted.{IsNoted};
+    ghost use Rattle.image_store.specs.Noted.{IsNoted, RestsOnKept};
 
     /// Begins to put an object under a name: a quiet change is done, and of any other the flush is in hand.
     pub fn begin_put(&mut self, name: &[u8], object: &[u8]) -> Result<Begun, Refusal>
@@ -42,7 +42,7 @@ impl ImageStore {
         answer
     }
 
-    /// Makes the next move of the flush in hand, or settles it.
+    /// Makes the next move of the flush in hand, or settles it: then the store rests on its checkpoint.
     pub fn step(&mut self) -> Result<Progress, Refusal>
         requires half { IsSome self.old.store.in_hand }
         ensures answer { AnswersStep result }
@@ -52,6 +52,7 @@ impl ImageStore {
             → HalfAgrees CLASSES self.old.store h o (disk_before self.old) → StepsHalf CLASSES o self.old.store
             self.new.store (disk_before self.old) (disk_of self.new) result }
         ensures broken { self.new.store.is_broken ≡ is_disk_fault result }
+        ensures rests { result ≡ Ok Progress.Settled → RestsOnKept self.new }
         ensures noted { IsNoted self.old self.new }
     {
         self.disk.empty_log();

@@ -1,21 +1,21 @@
 //! The map of a store's last checkpoint as one stream, and a store that is made of one.
-ghost use Rattle.std.specs.Prelude.{◌≡◌, ◌⊎◌, ◌≤◌, ◌<◌, [], length, take, None, Ok, IfErr, IfOk};
-ghost use Rattle.disk_face.specs.Frames.{Unchanged};
-ghost use Rattle.disk_history.specs.Histories.{fresh};
+ghost use Rattle.std.specs.Prelude.{◌≡◌, ◌⊎◌, ◌≤◌, ◌<◌, [], length, take, None, Ok, IfErr, IfOk, OnErr};
+ghost use Rattle.disk_history.specs.Histories.{EndedBy};
 ghost use Rattle.disk_image.specs.Disks.{image_state};
-ghost use Rattle.disk_image.specs.Notings.{IsLog, content};
+ghost use Rattle.disk_image.specs.Notings.{IsLog};
 ghost use Rattle.reopen.specs.Loads.{IsLoadedFrom, KeepsLoaded, unboxed};
 ghost use Rattle.size_class.specs.declared.TheConstants.{CLASSES};
 ghost use Rattle.slot_codec.specs.Readable.{IsSuperBlock};
 ghost use Rattle.slot_pair.specs.Formats.{block_for};
 ghost use Rattle.store_model.specs.Opened.{IsFresh, IsOpening};
 ghost use Rattle.image_store.specs.Embedded.{disk_of};
+ghost use Rattle.image_store.specs.Noted.{IsNotedOf};
 ghost use Rattle.image_store.specs.Streams.{CopiesDump};
 
 use crate::ImageStore;
 use crate::dumped::Dumped;
 use crate::lent::Lent;
-use disk_image::{ImageDisk, Log, Room};
+use disk_image::{FileView, ImageDisk, Log, Room};
 use dump_stream::{DumpFault, dump_boxed};
 use load_stream::LoadFault;
 use reopen::{BoxedLoaded, OpenFault, load_state};
@@ -35,33 +35,32 @@ pub enum DumpStop {
     NoMemory,
     /// An object has another digest than the one that it was put with.
     Damaged,
-    /// The file couldn't be read.
+    /// The file couldn't be read. A file in memory always can be.
     Disk,
     /// The dump doesn't fit where it is to go.
     Short,
 }
 
 impl ImageStore {
-    ghost use Rattle.image_store.specs.Embedded.{file_in};
     ghost use Rattle.image_store.specs.Streams.{AnswersDump, HasLoaded, RefusesLoad};
 
     /// Copies the dump of the last checkpoint to the front of `out`, and answers how many bytes it has.
     /// Memory is taken and given back: for the table of the file, which is read anew, and as much as `out`
-    /// has. Nothing is changed.
-    pub fn dump(&mut self, alloc: Global, out: &mut [u8]) -> Result<u64, DumpStop>
-        requires idle { self.old.store.in_hand ≡ None }
-        ensures answer { AnswersDump self.old out.new result }
-        ensures store { self.new.store ≡ self.old.store }
-        ensures file { file_in self.new ≡ file_in self.old }
+    /// has. It never answers that the file couldn't be read.
+    pub fn dump(&self, alloc: Global, out: &mut [u8]) -> Result<u64, DumpStop>
+        requires idle { self.now.store.in_hand ≡ None }
+        ensures answer { AnswersDump self.now out.new result }
+        ensures refused { OnErr result (out.new ≡ out.old) }
         ensures same_length { length out.new ≡ length out.old }
     {
         if self.store.is_broken() {
             return Err(DumpStop::Broken);
         }
-        match load_state(alloc, &mut self.disk) {
-            Ok(loaded) => put_dump(alloc, &mut self.disk, &loaded, out),
-            Err(OpenFault::NoMemory) => Err(DumpStop::NoMemory),
-            Err(_) => Err(DumpStop::Disk),
+        let file = self.disk.bytes();
+        let mut view = FileView::of(file);
+        match load_state(alloc, &mut view) {
+            Ok(loaded) => put_dump(alloc, file, &loaded, out),
+            Err(fault) => Err(stop_for(fault)),
         }
     }
 
@@ -79,7 +78,7 @@ impl ImageStore {
         requires empty { room.bytes.items ≡ [] }
         ensures loaded { IfOk result (HasLoaded k names text.now) }
         ensures fresh { IfOk result (λ s. IsFresh CLASSES s.store) }
-        ensures noted { IfOk result (λ s. IsLog (fresh []) s.noting.history s.noting.text) }
+        ensures noted { IfOk result (IsNotedOf []) }
         ensures refused { IfErr result (RefusesLoad names text.now) }
     {
         let mut disk = ImageDisk::new(room, log);
@@ -91,28 +90,42 @@ impl ImageStore {
     }
 }
 
+/// Why a dump stops whose table couldn't be read.
+fn stop_for(fault: OpenFault) -> DumpStop
+    ensures { fault ≡ OpenFault.NoMemory → result ≡ DumpStop.NoMemory }
+{
+    match fault {
+        OpenFault::NoMemory => DumpStop::NoMemory,
+        OpenFault::Slot(_) | OpenFault::Table(_) => DumpStop::Disk,
+    }
+}
+
 /// Copies the dump of a file that was read to the front of `out`, out of memory of its own.
 fn put_dump(
     alloc: Global,
-    disk: &mut ImageDisk,
+    file: &[u8],
     loaded: &BoxedLoaded<CLASSES>,
     out: &mut [u8],
 ) -> Result<u64, DumpStop>
     requires loaded { KeepsLoaded (unboxed loaded.now) }
-    requires from { IsLoadedFrom (content disk.old) (unboxed loaded.now) }
-    ensures dumps { CopiesDump (unboxed loaded.now) (content disk.old) out.new result }
-    ensures frame { Unchanged (image_state disk.old) (image_state disk.new) }
+    requires from { IsLoadedFrom file.now (unboxed loaded.now) }
+    ensures dumps { CopiesDump (unboxed loaded.now) file.now out.new result }
+    ensures refused { OnErr result (out.new ≡ out.old) }
     ensures same_length { length out.new ≡ length out.old }
 {
-    let Ok(mut dumped) = Dumped::with_room(alloc, out.len().saturating_add(1)) else {
+    let Some(room) = out.len().checked_add(1) else {
         return Err(DumpStop::NoMemory);
     };
+    let Ok(mut dumped) = Dumped::with_room(alloc, room) else {
+        return Err(DumpStop::NoMemory);
+    };
+    let mut view = FileView::of(file);
     let mut piece = [0u8; PIECE];
-    match dump_boxed(disk, loaded, &mut dumped, &mut piece) {
+    match dump_boxed(&mut view, loaded, &mut dumped, &mut piece) {
         Ok(()) => copy_whole(dumped.text(), out),
         Err(DumpFault::Damaged) => Err(DumpStop::Damaged),
         Err(DumpFault::Disk) => Err(DumpStop::Disk),
-        Err(DumpFault::Sink) => Err(stop_for(dumped.text(), out.len())),
+        Err(DumpFault::Sink) => Err(DumpStop::Short),
     }
 }
 
@@ -120,6 +133,7 @@ fn put_dump(
 fn copy_whole(text: &[u8], out: &mut [u8]) -> Result<u64, DumpStop>
     ensures copied { IfOk result (λ n. (n ≤ length out.new) × (take n out.new ≡ text.now)) }
     ensures short { IfErr result (λ why. (why ≡ DumpStop.Short) × (length out.new < length text.now)) }
+    ensures refused { OnErr result (out.new ≡ out.old) }
     ensures same_length { length out.new ≡ length out.old }
 {
     let n = text.len();
@@ -130,21 +144,11 @@ fn copy_whole(text: &[u8], out: &mut [u8]) -> Result<u64, DumpStop>
     Ok(n as u64)
 }
 
-/// Why a dump stops of which a front is this text.
-fn stop_for(text: &[u8], room: usize) -> DumpStop
-    ensures { (result ≡ DumpStop.Disk) ⊎ ((result ≡ DumpStop.Short) × (room < length text.now)) }
-{
-    if text.len() > room {
-        DumpStop::Short
-    } else {
-        DumpStop::Disk
-    }
-}
-
 /// Opens the store in a file that was loaded.
 fn open_loaded(alloc: Global, mut disk: ImageDisk) -> Result<ImageStore, LoadFault>
     ensures opened { IfOk result (λ s. IsOpening CLASSES (image_state disk) (disk_of s) (Ok s.store)) }
     ensures noted { IfOk result (λ s. IsLog disk.start s.noting.history s.noting.text) }
+    ensures ended { IfOk result (λ s. EndedBy s.noting.history.turn s.noting.history.calls) }
     ensures refused { IfErr result (λ fault. (fault ≡ LoadFault.NoMemory) ⊎ (fault ≡ LoadFault.Disk)) }
 {
     let opened: Result<Store<CLASSES>, OpenFault> = Store::open(alloc, &mut disk);
