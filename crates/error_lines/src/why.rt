@@ -63,7 +63,8 @@ impl Display for Why<'_> {
                 write!(f, "{file}: {fault}")
             }
             5 => {
-                let taken = Taken(self.said("fault taken ").unwrap_or("some"));
+                let number = self.said("fault taken ").unwrap_or("some");
+                let taken = Taken(command_of(self.words), number);
                 write!(f, "{file}: taken: {taken}")
             }
             7 => Failed(self.file, self.disk).fmt(f),
@@ -79,10 +80,8 @@ impl Display for Why<'_> {
                 } else {
                     "the object"
                 };
-                write!(
-                    f,
-                    "{file}: damaged: the bytes of {object} don't have the digest that it was put with"
-                )
+                write!(f, "{file}: damaged: the bytes of {object} don't have ")?;
+                f.write_str("the digest that it was put with")
             }
             14 => {
                 let number = self.said("fault too many ").unwrap_or("some");
@@ -96,10 +95,8 @@ impl Display for Why<'_> {
             ),
             17 => {
                 let number = self.said("fault unfit ").unwrap_or("?");
-                write!(
-                    f,
-                    "{file}: unfit: request {number} of the batch removes a name that isn't there, or leaves no room"
-                )
+                write!(f, "{file}: unfit: request {number} of the batch ")?;
+                f.write_str("removes a name that isn't there, or leaves no room")
             }
             _ => f.write_str("io: it failed"),
         }
@@ -128,17 +125,19 @@ impl Display for TooMany<'_> {
     }
 }
 
-/// Why a file of so many bytes isn't formatted.
+/// Why no store is made of a file of so many bytes, by the command that was to make one.
 #[derive(Clone, Copy)]
-struct Taken<'a>(&'a str);
+struct Taken<'a>(&'a str, &'a str);
 
 impl Display for Taken<'_> {
     fn fmt<W: fmt::Write>(&self, f: &mut Formatter<W>) -> fmt::Result {
-        let number = self.0;
-        write!(
-            f,
-            "it has {number} bytes, and only an empty file is formatted"
-        )?;
+        let number = self.1;
+        write!(f, "it has {number} bytes, and ")?;
+        f.write_str(if self.0 == "load" {
+            "a dump is loaded into an empty file alone"
+        } else {
+            "only an empty file is formatted"
+        })?;
         if number == "64" {
             return f.write_str("; a format that was stopped leaves as many: it may be removed");
         }
