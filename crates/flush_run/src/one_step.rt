@@ -55,8 +55,7 @@ pub fn step<D: Disk, const C: usize>(
 }
 
 /// Makes the step in place, so that a flush that is run hands no phase on by value. Answers what was settled
-/// where no move was left. It is compiled into its callers, so that no answer of none is copied.
-#[inline(always)]
+/// where no move was left.
 pub(crate) fn step_on<D: Disk, const C: usize>(
     disk: &mut D,
     at: &mut Phase<C>,

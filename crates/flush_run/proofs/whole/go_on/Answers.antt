@@ -1,54 +1,32 @@
-use Rattle.std.proofs.Common.{◌∙◌, ap, arith, subst}
+use Rattle.std.proofs.Common.{◌∙◌, arith, subst}
 use Rattle.disk_face.specs.Counts.{Rose}
-use Rattle.slot_codec.specs.Choice.{InUse}
-use Rattle.disk_face.specs.declared.DiskFault.{DiskFault}
-use Rattle.flush_run.proofs.LeftLaws.{left_then, still_told}
-use Rattle.flush_run.proofs.OneStepLaws.{went_on, came_to_end}
-use Rattle.flush_run.proofs.RunLaws.{one_of, paid_end, run_begins, run_done, run_ends, run_next, run_stops, saves_end}
+use Rattle.flush_run.proofs.AdvanceLaws.{over_in}
+use Rattle.flush_run.proofs.LeftLaws.{left_then, left_wider, still_told}
+use Rattle.flush_run.proofs.OneStepLaws.{at_false, at_true, found_end}
+use Rattle.flush_run.proofs.RunLaws.{hand_falls, move_falls, one_of, paid_end, run_begins, run_done, run_ends, run_hand, run_moved, run_next, run_same, run_settles, run_stops, saves_end}
 use Rattle.flush_run.proofs.whole.go_on.Goals as goal
 
 pub steps-init : goal.steps-init
 steps-init g c = run_begins {C = g.row.C} _ _ _ c.requires.ready c.requires.keeps
 
-pub step_on-requires : goal.step_on-requires
-step_on-requires g c =
+pub advance-requires : goal.advance-requires
+advance-requires g c =
     let i = c.steps.invariant in
     let can = (i.all c.requires.start.0 c.requires.start.1).can in (
       omega arith,
       (
         omega arith,
         (
-          omega arith,
+          i.keeps.disk.stays.ready,
           (
-            i.keeps.disk.stays.ready,
-            (
-              record {
-                buffer = omega (arith, i.keeps.buffer, c.requires.lent.buffer);
-                few = c.requires.lent.few;
-              },
-              ((c.requires.start.0, one_of can), i.keeps_in),
-            ),
+            omega (arith, i.keeps.buffer, c.requires.lent.buffer),
+            (c.requires.lent.few, ((c.requires.start.0, one_of can), i.keeps_in)),
           ),
         ),
       ),
     )
 
--- ---- an object was moved
-
-pub steps-preserved : goal.steps-preserved
-steps-preserved g c =
-    let e = c.in-Ok-None.ensures in
-    run_next c.steps.invariant (went_on DiskFault c.steps.at _ _ _ _ _ c.in-Ok-None.field-0 c.in-Ok-None.field-0-is
-    e.made e.goes e.keeps e.paid) c.step_on.ensures.left
-
-pub steps-smaller : goal.steps-smaller
-steps-smaller g c =
-    let e = c.in-Ok-None.ensures in
-    let m = went_on DiskFault c.steps.at _ _ _ _ _ c.in-Ok-None.field-0 c.in-Ok-None.field-0-is e.made e.goes e.keeps
-    e.paid in
-    omega (arith, m.made.fewer)
-
--- ---- a call of a step failed
+-- ---- a call of the move failed
 
 pub returns-in-Err : goal.returns-in-Err
 returns-in-Err g c =
@@ -58,41 +36,133 @@ returns-in-Err g c =
       ends = λ f can. tt;
       left = λ f can told.
           let s = i.all f can in
-          left_then (omega (arith, e.made.later)) (s.left told) (c.step_on.ensures.left f (one_of s.can)
+          left_then (omega (arith, e.stopped.later)) (s.left told) (c.advance.ensures.left f (one_of s.can)
           (still_told i.keeps told));
-      few = saves_end i _ e.made.one;
-      paid = λ q paid. paid_end i c.requires.start.1 _ e.made.one q paid;
+      few = saves_end i _ e.stopped.one;
+      paid = λ q paid. paid_end i c.requires.start.1 _ e.stopped.one q paid;
       done = tt;
-      made = run_stops i e.made;
+      made = run_stops i e.stopped;
       cause = record {
         later = omega (arith, e.cause.later, i.calm);
-        rose = subst (λ n. Rose n (g.D.Disk.state c.step_on.new.disk).faults) i.calm e.cause.rose;
+        rose = subst (λ n. Rose n (g.D.Disk.state c.advance.new.disk).faults) i.calm e.cause.rose;
         calm = tt;
       };
     }
 
+-- ---- it was made
+
+pub steps-preserved-then-moved : goal.steps-preserved-then-moved
+steps-preserved-then-moved g c =
+    let ok = c.in-Ok.ensures in
+    run_next c.steps.invariant
+    (run_moved g.D.Disk.state c.steps.invariant (at_true c.if-moved.true ok.made) ok.keeps ok.paid ok.goes) c.advance.ensures.left
+
+pub steps-smaller-then-moved : goal.steps-smaller-then-moved
+steps-smaller-then-moved g c =
+    move_falls (at_true c.if-moved.true c.in-Ok.ensures.made) c.steps.invariant.keeps_in
+
+-- ---- a phase ended
+
+pub onward-requires : goal.onward-requires
+onward-requires g c =
+    let ok = c.in-Ok.ensures in
+    let i = run_same g.D.Disk.state c.if-moved.false ok.made ok.none c.steps.invariant in
+    let goes = (i.all c.requires.start.0 c.requires.start.1).can.on.goes in
+    let end = found_end (at_false _ _ c.if-moved.false ok.made) in
+    (omega arith, (omega arith, (over_in c.advance.new.phase goes i.keeps_in, end)))
+
+pub steps-preserved : goal.steps-preserved
+steps-preserved g c =
+    let ok = c.in-Ok.ensures in
+    run_hand g.D.Disk.state (run_same g.D.Disk.state c.if-moved.false ok.made ok.none c.steps.invariant) c.requires.start.1
+    c.in-Next.ensures
+
+pub steps-smaller : goal.steps-smaller
+steps-smaller g c =
+    hand_falls (at_false _ _ c.if-moved.false c.in-Ok.ensures.made) c.in-Next.ensures
+
 -- ---- the end
 
-pub returns-in-Ok-Some : goal.returns-in-Ok-Some
-returns-in-Ok-Some g c =
-    let i = c.steps.invariant in
-    let e = c.in-Ok-Some.ensures in
-    let s = came_to_end DiskFault c.steps.at _ _ _ _ _ c.in-Ok-Some.field-0 c.in-Ok-Some.settled c.in-Ok-Some.field-0-is
-    e.made e.goes in
-    let pair = ap (λ (u : InUse). u.sequence) s.ended.pair in
+pub settle-requires : goal.settle-requires
+settle-requires g c =
+    let ok = c.in-Ok.ensures in
+    let i = run_same g.D.Disk.state c.if-moved.false ok.made ok.none c.steps.invariant in (
+      omega arith,
+      (
+        omega arith,
+        (
+          i.keeps.disk.stays.ready,
+          (
+            omega (arith, i.keeps.buffer, c.requires.lent.buffer),
+            (
+              c.requires.lent.few,
+              (
+                (c.requires.start.0, run_settles g.D.Disk.state i c.requires.start.1 c.in-End.ensures.course),
+                c.in-End.ensures.settled,
+              ),
+            ),
+          ),
+        ),
+      ),
+    )
+
+pub returns-in-Err-settle : goal.returns-in-Err-settle
+returns-in-Err-settle g c =
+    let ok = c.in-Ok.ensures in
+    let i = run_same g.D.Disk.state c.if-moved.false ok.made ok.none c.steps.invariant in
+    let e = c.in-Err-settle.ensures in
+    let s = c.settle.ensures in
     record {
-      ends = λ f can. s.ends f (one_of (i.all f can).can);
+      ends = λ f can. tt;
       left = λ f can told.
-          let x = i.all f can in
-          left_then (omega (arith, pair)) (x.left told) (c.step_on.ensures.left f (one_of x.can)
-          (still_told i.keeps told));
-      few = saves_end i _ (omega (arith, pair));
-      paid = λ q paid. paid_end i c.requires.start.1 _ (omega (arith, pair)) q paid;
-      done = run_done i s.ended;
-      made = run_ends i s.ended;
+          left_then (omega (arith, s.later)) ((i.all f can).left told)
+          (left_wider (omega (arith, s.later)) (s.left f (run_settles g.D.Disk.state i can c.in-End.ensures.course)
+          (still_told i.keeps told)));
+      few = saves_end i _ s.one;
+      paid = λ q paid. paid_end i c.requires.start.1 _ s.one q paid;
+      done = tt;
+      made = run_stops i (record {
+        spots = s.spots;
+        later = s.later;
+        one = s.one;
+        row = s.moved;
+        keeps = s.keeps;
+        turns = omega (arith, s.calls.most);
+      });
       cause = record {
         later = omega (arith, e.cause.later, i.calm);
-        rose = tt;
-        calm = e.cause.calm ∙ i.calm;
+        rose = subst (λ n. Rose n (g.D.Disk.state c.settle.new.disk).faults) i.calm e.cause.rose;
+        calm = tt;
       };
+    }
+
+pub returns-in-Ok-settle : goal.returns-in-Ok-settle
+returns-in-Ok-settle g c =
+    let ok = c.in-Ok.ensures in
+    let i = run_same g.D.Disk.state c.if-moved.false ok.made ok.none c.steps.invariant in
+    let e = c.in-Ok-settle.ensures in
+    let s = c.settle.ensures in
+    record {
+      ends = λ f can. e.ends f (run_settles g.D.Disk.state i can c.in-End.ensures.course);
+      left = λ f can told.
+          left_then (omega (arith, s.later)) ((i.all f can).left told)
+          (left_wider (omega (arith, s.later)) (s.left f (run_settles g.D.Disk.state i can c.in-End.ensures.course)
+          (still_told i.keeps told)));
+      few = saves_end i _ s.one;
+      paid = λ q paid. paid_end i c.requires.start.1 _ s.one q paid;
+      done = run_done i (record {
+        pair = e.pair;
+        spots = s.spots;
+        row = s.moved;
+        keeps = s.keeps;
+        turns = e.calls.all;
+      });
+      made = run_ends i (record {
+        pair = e.pair;
+        spots = s.spots;
+        row = s.moved;
+        keeps = s.keeps;
+        turns = e.calls.all;
+      });
+      cause = record { later = omega (arith, e.cause.later, i.calm); rose = tt; calm = e.cause.calm ∙ i.calm };
     }

@@ -1,6 +1,7 @@
+use Rattle.std.specs.Prelude.{◌+◌, ◌-◌}
 use Rattle.flush_run.specs.Parts.{parts_of}
 use Rattle.flush_run.specs.Runs.{InRun}
-use Rattle.flush_run.specs.Phases.{steps_left}
+use Rattle.flush_run.specs.Phases.{rank_of, steps_left}
 use Rattle.flush_run.proofs.whole.go_on.Given as goal
 
 abbrev pub invariant-steps : goal.invariant-steps
@@ -10,4 +11,4 @@ invariant-steps g l =
     l.fn.phase l.at
 
 abbrev pub decreases-steps : goal.decreases-steps
-decreases-steps g l = steps_left {C = g.row.C} l.at l.hands.table
+decreases-steps g l = steps_left {C = g.row.C} l.at l.hands.table + (3 - rank_of {C = g.row.C} l.at)
