@@ -1,11 +1,11 @@
 -- How a batch ends by its answer, and what was put.
-use Rattle.std.specs.Prelude.{◌≡◌, Bool, true, false, List, [], ℕ, Result, Ok, Err, refl}
-use Rattle.std.proofs.Common.{arith, ap, sym, ◌∙◌, subst, inl, inr, append-nil}
+use Rattle.std.specs.Prelude.{◌≡◌, Bool, true, false, List, ℕ, Result, Ok, Err, refl}
+use Rattle.std.proofs.Common.{ap, sym, subst}
 use Rattle.disk_face.specs.Streams.{SinkState}
 use Rattle.command_face.specs.Layers.{Answers}
 use Rattle.command_face.specs.Outcomes.{EndsBy, status_at, status_of}
 use Rattle.command_face.specs.declared.stop.StopReason.{StopReason}
-use Rattle.command_face.specs.declared.stop.StopReason.TheVariants as stop
+use Rattle.served_file.proofs.AlwaysLaws.{early_unsaid}
 use Rattle.served_file.proofs.StartLaws.{IsEarly}
 use Rattle.batch_core.specs.declared.fault.BatchFault.{BatchFault}
 use Rattle.batch_core.specs.declared.fault.BatchFault.TheVariants as fault
@@ -13,28 +13,6 @@ use Rattle.batch_command.specs.Batching.{has_applied}
 use Rattle.batch_command.specs.Doing.{PutsReply, line_for, reason_of}
 
 module _ (answer : Result (List ℕ) StopReason → Type 0) (out put : SinkState) where
-  -- nothing was put
-  pub nothing_put : (why : StopReason) → EndsBy answer [] (Err why) → put ≡ out
-      → Answers answer out put (Err why)
-  nothing_put why ends same = record {
-    bytes = [];
-    ends = ends;
-    puts = λ told. record {
-      all = tt;
-      front = (0, omega arith, ap (λ (s : SinkState). s.given) same ∙ sym (append-nil out.given));
-    };
-  }
-
-  pub answers_early : (end : Result (Unit {0}) StopReason) → IsEarly end → put ≡ out
-      → Answers answer out put end
-  answers_early end early same = elim early as (λ _. Answers answer out put end) [
-    | inl disk ↦ subst (Answers answer out put) (sym disk) (nothing_put stop.Disk (inr refl) same)
-    | inr rest ↦ elim rest as (λ _. Answers answer out put end) [
-      | inl gone ↦ subst (Answers answer out put) (sym gone) (nothing_put stop.NoFile refl same)
-      | inr none ↦ subst (Answers answer out put) (sym none) (nothing_put stop.NoMemory refl same)
-    ]
-  ]
-
   -- the line was put, or the sink failed
   pub answers_line : (kept : Bool) (end : Result (Unit {0}) StopReason) → answer (Ok (line_for kept))
       → PutsReply kept out put end → Answers answer out put end
@@ -49,13 +27,7 @@ module _ (answer : Result (List ℕ) StopReason → Type 0) (out put : SinkState
 
 pub early_unapplied : (end : Result (Unit {0}) StopReason) → IsEarly end
     → has_applied (status_at end) ≡ false
-early_unapplied end early = elim early as (λ _. has_applied (status_at end) ≡ false) [
-  | inl disk ↦ ap (λ (e : Result (Unit {0}) StopReason). has_applied (status_at e)) disk
-  | inr rest ↦ elim rest as (λ _. has_applied (status_at end) ≡ false) [
-    | inl gone ↦ ap (λ (e : Result (Unit {0}) StopReason). has_applied (status_at e)) gone
-    | inr none ↦ ap (λ (e : Result (Unit {0}) StopReason). has_applied (status_at e)) none
-  ]
-]
+early_unapplied end early = early_unsaid has_applied refl refl refl end early
 
 pub fault_unapplied : (why : BatchFault) → has_applied (status_of (reason_of why)) ≡ false
 fault_unapplied fault.Broken = refl

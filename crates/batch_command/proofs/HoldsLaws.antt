@@ -28,7 +28,8 @@ use Rattle.batch_core.specs.StoresOn.{store_on}
 use Rattle.batch_command.specs.Batching.{has_applied}
 use Rattle.batch_command.specs.Doing.{AppliesInput, IsBatching}
 use Rattle.batch_command.specs.Promise.{BatchHolds, IsBatchEnd}
-use Rattle.batch_command.proofs.EndsLaws.{answers_early, early_unapplied, nothing_put}
+use Rattle.served_file.proofs.AlwaysLaws.{answers_early, nothing_put}
+use Rattle.batch_command.proofs.EndsLaws.{early_unapplied}
 use Rattle.batch_command.proofs.InputLaws.{input_applied, input_unread}
 use Rattle.batch_command.proofs.KnownLaws.{Known, go_first, known_same, known_start, stopped}
 use Rattle.batch_command.proofs.SourceLaws.{by_apply}

@@ -45,7 +45,8 @@ use Rattle.batch_command.specs.Doing.{EndsAs, PutsReply, reason_of}
 use Rattle.batch_command.specs.Promise.{AppliedTo, IsBatchEnd, IsBatchImage, IsFor, IsLeftBy, OpensToView, room_in}
 use Rattle.batch_command.specs.Reading.{ComesToNone, text_of}
 use Rattle.batch_command.proofs.AlikeLaws.{kept_opens, kept_viewed, same_next, same_staged, same_viewed}
-use Rattle.batch_command.proofs.EndsLaws.{answers_line, fault_unapplied, line_applied, nothing_put}
+use Rattle.served_file.proofs.AlwaysLaws.{nothing_put}
+use Rattle.batch_command.proofs.EndsLaws.{answers_line, fault_unapplied, line_applied}
 use Rattle.batch_command.proofs.FrontLaws.{front_batch, front_none, front_stops}
 use Rattle.batch_command.proofs.KnownLaws.{IsBoth, Known, known_failed, unapplied_none, viewed_image}
 use Rattle.batch_command.proofs.StageLaws.{IsStaged, Stage, most_high, view_of}

@@ -39,7 +39,8 @@ use Rattle.batch_command.specs.Batching.{has_applied}
 use Rattle.batch_command.specs.Doing.{IsIdle, reason_of}
 use Rattle.batch_command.specs.Promise.{HasBatched, IsBatchEnd, IsBatchImage, IsLeftBy, KeepsFor, LeavesNext, LeavesOnly}
 use Rattle.batch_command.specs.Reading.{ComesToNone}
-use Rattle.batch_command.proofs.EndsLaws.{fault_unapplied, nothing_put}
+use Rattle.served_file.proofs.AlwaysLaws.{nothing_put}
+use Rattle.batch_command.proofs.EndsLaws.{fault_unapplied}
 use Rattle.batch_command.proofs.StageLaws.{IsViewed, left_after, viewed_left}
 
 -- nothing was applied

@@ -17,6 +17,7 @@ use Rattle.command_face.specs.Refusing.{stop_of}
 use Rattle.batch_core.specs.Answers.{AnswersApply, AnswersFinish}
 use Rattle.batch_core.specs.declared.fault.BatchFault.{BatchFault}
 use Rattle.batch_core.specs.declared.fault.BatchFault.TheVariants as fault
+use Rattle.served_file.proofs.AlwaysLaws.{source_by}
 use Rattle.batch_command.specs.Batching.{BatchReads}
 use Rattle.batch_command.specs.Doing.{AppliesInput, EndsAs, reason_of}
 use Rattle.batch_command.specs.Reading.{ComesToNone, HasJudged, KeepsSource, most_read}
@@ -35,12 +36,6 @@ source_same from same why is other unjudged = record {
   whole = λ told judged. absurd (unjudged judged);
   unread = λ none. is;
 }
-
--- a file that isn't there is no fault of the source
-pub source_unmounted : (file : List ℕ) (old new : State) (why : StopReason)
-    → IsNotThere file old new (why ≡ stop.Disk) (why ≡ stop.NoFile) → why ≢ stop.Source
-source_unmounted file old new why (inl failed) is = let e : stop.Disk ≡ stop.Source = sym failed.0 ∙ is in cc
-source_unmounted file old new why (inr gone) is = let e : stop.NoFile ≡ stop.Source = sym gone.0 ∙ is in cc
 
 -- an end that isn't the source's fault comes of one that comes to the input
 comes : (why : BatchFault) → why ≢ fault.Damaged → why ≢ fault.NoBatch
@@ -132,25 +127,6 @@ source_read from rest same s a b end (inr x) =
     }
 
 -- by the status
-source_by : (end : Result (Unit {0}) StopReason) → status_at end ≡ SOURCE_FAILED → end ≡ Err stop.Source
-source_by (Ok done) is = absurd (omega (arith, is))
-source_by (Err stop.Words) is = absurd (omega (arith, is))
-source_by (Err stop.NoFile) is = absurd (omega (arith, is))
-source_by (Err (stop.NotStore f)) is = absurd (omega (arith, is))
-source_by (Err (stop.Taken n)) is = absurd (omega (arith, is))
-source_by (Err stop.Missing) is = absurd (omega (arith, is))
-source_by (Err stop.Damaged) is = absurd (omega (arith, is))
-source_by (Err stop.Disk) is = absurd (omega (arith, is))
-source_by (Err stop.Sink) is = absurd (omega (arith, is))
-source_by (Err stop.NoMemory) is = absurd (omega (arith, is))
-source_by (Err (stop.Line n)) is = absurd (omega (arith, is))
-source_by (Err stop.Source) is = refl
-source_by (Err stop.Budget) is = absurd (omega (arith, is))
-source_by (Err (stop.TooManyNames n)) is = absurd (omega (arith, is))
-source_by (Err stop.Worn) is = absurd (omega (arith, is))
-source_by (Err stop.NoBatch) is = absurd (omega (arith, is))
-source_by (Err (stop.Unfit n)) is = absurd (omega (arith, is))
-
 pub batch_reads : (from rest : SourceState) (same : Type 0) (end : Result (Unit {0}) StopReason) (status : ℕ)
     → status ≡ status_at end → KeepsSource from rest same end → BatchReads status from rest same
 batch_reads from rest same end status is keeps = record {

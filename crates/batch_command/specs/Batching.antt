@@ -2,12 +2,9 @@
 use Rattle.std.specs.Prelude.{◌≡◌, ◌⊎◌, ℕ, ◌≤◌, ◌==◌, ◌||◌, Bool, true, drop, IsTrue}
 use Rattle.disk_face.specs.Counts.{Rose}
 use Rattle.disk_face.specs.Devices.{Devices}
-use Rattle.disk_face.specs.Frames.{Untouched}
 use Rattle.disk_face.specs.Streams.{SourceState}
-use Rattle.command_face.specs.Layers.{HasCauses}
-use Rattle.command_face.specs.Outcomes.{PutsLine}
 use Rattle.command_face.specs.declared.status.TheConstants.{DAMAGED_OBJECT, DISK_FAILED, DONE, FAULTY_REQUEST, NO_BATCH, NO_FILE, NO_MEMORY, NO_STORE, SINK_FAILED, SOURCE_FAILED, UNFIT, WORN}
-use Rattle.served_file.specs.Unserved.{NeverServed}
+use Rattle.served_file.specs.Always.{EndsOrPutsLine, ServesAlways}
 use Rattle.batch_command.specs.Reading.{ComesToNone, HasJudged, LeavesFrom, most_read}
 
 -- ---- statuses
@@ -28,19 +25,11 @@ is_batching status = has_applied status || has_refused status || (status == NO_F
 
 -- ---- whatever is told
 
--- What `batch` does whatever the file and the devices tell. A file that isn't there or is refused stays as it
--- was, and one that opens isn't refused. But where the input was applied the fault line alone is put.
+-- What `batch` does whatever the file and the devices tell. But where the input was applied the fault line
+-- alone is put.
 pub record BatchAlways (status : ℕ) (old new : Devices) : Type 0 where
-  pub known : (is_batching status ≡ true) ⊎ (status ≡ NO_STORE)
-  pub causes : HasCauses old.disk new.disk old.sink new.sink (status ≡ DISK_FAILED) (status ≡ SINK_FAILED)
-      (status ≡ DONE)
-  pub no_turn_back : old.disk.turn ≤ new.disk.turn
-  pub told : new.disk.tells ≡ old.disk.tells
-  pub images_told : new.disk.tells_images ≡ old.disk.tells_images
-  pub untouched : (status ≡ NO_FILE) ⊎ (status ≡ NO_STORE) → Untouched old.disk new.disk
-  pub refused : IsTrue old.disk.tells → status ≡ NO_STORE → NeverServed old.disk.file
-  pub line_alone : IsTrue old.sink.tells
-      → (status ≡ DONE) ⊎ (status ≡ SINK_FAILED) ⊎ PutsLine status old.sink new.sink
+  pub serves : ServesAlways is_batching status old new
+  pub line_alone : IsTrue old.sink.tells → EndsOrPutsLine status old new
 
 -- What it does to its input: it takes a front, of one byte more than a batch has at most, and all of that
 -- where the input was judged. The input's own fault comes only where its count rose, and else no call of it

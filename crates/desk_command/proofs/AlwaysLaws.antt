@@ -5,25 +5,17 @@ use Rattle.disk_face.specs.Counts.{Rose}
 use Rattle.disk_face.specs.Devices.{devices}
 use Rattle.disk_face.specs.States.{State}
 use Rattle.disk_face.specs.Streams.{SinkState, SourceState}
-use Rattle.command_face.specs.Mounting.{IsNotThere}
 use Rattle.command_face.specs.Outcomes.{PutsLast, PutsLine, line_at, status_at}
-use Rattle.command_face.specs.declared.status.TheConstants.{DISK_FAILED, NO_FILE, NO_MEMORY, NO_STORE, SOURCE_FAILED}
+use Rattle.command_face.specs.declared.status.TheConstants.{NO_STORE}
 use Rattle.command_face.specs.declared.stop.StopReason.{StopReason}
 use Rattle.command_face.specs.declared.stop.StopReason.TheVariants as stop
-use Rattle.command_face.proofs.EndedLaws.{causes_by, line_alone}
+use Rattle.command_face.proofs.EndedLaws.{line_alone}
 use Rattle.served_file.specs.Steps.{FileSteps}
+use Rattle.served_file.proofs.AlwaysLaws.{known_stopped, serves_always, source_by}
 use Rattle.served_file.proofs.StepsLaws.{Whole, stopped_or_done, whole}
 use Rattle.desk_command.specs.Desking.{ComesToNone, DeskAlways, DeskReads, KeepsSource, is_desking}
 use Rattle.desk_command.specs.Doing.{IsDesking}
 use Rattle.desk_command.proofs.DoneLaws.{keeps_done, status_for}
-
--- the statuses of a call that stopped before its store was opened
-known_stopped : (n : ℕ) → (n ≡ DISK_FAILED) ⊎ (n ≡ NO_FILE) ⊎ (n ≡ NO_STORE) ⊎ (n ≡ NO_MEMORY)
-    → (is_desking n ≡ true) ⊎ (n ≡ NO_STORE)
-known_stopped n (inl seven) = inl (ap is_desking seven)
-known_stopped n (inr (inl three)) = inl (ap is_desking three)
-known_stopped n (inr (inr (inl four))) = inr four
-known_stopped n (inr (inr (inr ten))) = inl (ap is_desking ten)
 
 module _ {D : Type 0} (disk_of : D → State) (file : List ℕ) (from rest : SourceState) (old z : State)
     (out put after : SinkState) (end : Result (Unit {0}) StopReason)
@@ -43,7 +35,7 @@ module _ {D : Type 0} (disk_of : D → State) (file : List ℕ) (from rest : Sou
     both : Known × CameOrNot
     both = elim (stopped_or_done disk_of file (IsDesking from rest) (devices old out) (devices z put) end
         steps) as (λ _. Known × CameOrNot) [
-          | inl is ↦ (known_stopped (status_at end) is.status, inr is.nothing)
+          | inl is ↦ (known_stopped is_desking refl refl refl (status_at end) is.status, inr is.nothing)
           | inr is ↦ elim is.done as (λ _. Known × CameOrNot) [
             | inl none ↦ (
               inl (ap (λ (e : Result (Unit {0}) StopReason). is_desking (status_at e)) none.ended),
@@ -71,21 +63,14 @@ module _ {D : Type 0} (disk_of : D → State) (file : List ℕ) (from rest : Sou
           ]
 
       pub desk_always : DeskAlways status (devices old out) (devices z after)
-      desk_always =
-          let w = desk_whole in
-          record {
-            known = subst (λ n. (is_desking n ≡ true) ⊎ (n ≡ NO_STORE)) (sym is) both.0;
-            causes = causes_by old z out put after end status is w.keeps.causes later calm told;
-            no_turn_back = w.keeps.no_turn_back;
-            told = w.keeps.told;
-            images_told = w.keeps.images_told;
-            untouched = λ which. w.untouched (subst (λ n. (n ≡ NO_FILE) ⊎ (n ≡ NO_STORE)) is which);
-            refused = λ tells four. w.refused tells (sym is ∙ four);
-            line_alone = λ tells none. elim both.1 as (λ _. PutsLine status out after) [
-              | inl came ↦ absurd (came (subst ComesToNone is none))
-              | inr same ↦ alone tells none same
-            ];
-          }
+      desk_always = record {
+        serves = serves_always file old z out put after end status is line later calm told is_desking both.0
+            desk_whole;
+        line_alone = λ tells none. elim both.1 as (λ _. PutsLine status out after) [
+          | inl came ↦ absurd (came (subst ComesToNone is none))
+          | inr same ↦ alone tells none same
+        ];
+      }
 
 -- ---- the input
 
@@ -101,31 +86,6 @@ source_same from same why is other = record {
   told = refl;
   unread = λ none. is;
 }
-
--- a file that isn't there is no fault of the source
-pub source_unmounted : (file : List ℕ) (old new : State) (why : StopReason)
-    → IsNotThere file old new (why ≡ stop.Disk) (why ≡ stop.NoFile) → why ≢ stop.Source
-source_unmounted file old new why (inl failed) is = let e : stop.Disk ≡ stop.Source = sym failed.0 ∙ is in cc
-source_unmounted file old new why (inr gone) is = let e : stop.NoFile ≡ stop.Source = sym gone.0 ∙ is in cc
-
-source_by : (end : Result (Unit {0}) StopReason) → status_at end ≡ SOURCE_FAILED → end ≡ Err stop.Source
-source_by (Ok done) is = absurd (omega (arith, is))
-source_by (Err stop.Words) is = absurd (omega (arith, is))
-source_by (Err stop.NoFile) is = absurd (omega (arith, is))
-source_by (Err (stop.NotStore f)) is = absurd (omega (arith, is))
-source_by (Err (stop.Taken n)) is = absurd (omega (arith, is))
-source_by (Err stop.Missing) is = absurd (omega (arith, is))
-source_by (Err stop.Damaged) is = absurd (omega (arith, is))
-source_by (Err stop.Disk) is = absurd (omega (arith, is))
-source_by (Err stop.Sink) is = absurd (omega (arith, is))
-source_by (Err stop.NoMemory) is = absurd (omega (arith, is))
-source_by (Err (stop.Line n)) is = absurd (omega (arith, is))
-source_by (Err stop.Source) is = refl
-source_by (Err stop.Budget) is = absurd (omega (arith, is))
-source_by (Err (stop.TooManyNames n)) is = absurd (omega (arith, is))
-source_by (Err stop.Worn) is = absurd (omega (arith, is))
-source_by (Err stop.NoBatch) is = absurd (omega (arith, is))
-source_by (Err (stop.Unfit n)) is = absurd (omega (arith, is))
 
 -- the same by the status
 pub desk_reads : (from rest : SourceState) (same : Type 0) (end : Result (Unit {0}) StopReason) (status : ℕ)

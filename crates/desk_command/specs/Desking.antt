@@ -2,15 +2,13 @@
 use Rattle.std.specs.Prelude.{◌≡◌, ◌⊎◌, ℕ, ◌≤◌, ◌==◌, ◌||◌, Bool, true, Result, IsTrue}
 use Rattle.disk_face.specs.Counts.{Rose}
 use Rattle.disk_face.specs.Devices.{Devices}
-use Rattle.disk_face.specs.Frames.{Untouched}
 use Rattle.disk_face.specs.Streams.{SourceState}
 use Rattle.slot_pair.specs.Finding.{HasDiskCause}
-use Rattle.command_face.specs.Layers.{HasCauses}
 use Rattle.command_face.specs.Outcomes.{PutsLine, status_at}
 use Rattle.command_face.specs.declared.status.TheConstants.{DISK_FAILED, DONE, FAULTY_REQUEST, NO_FILE, NO_MEMORY, NO_STORE, SINK_FAILED, SOURCE_FAILED, TOO_MANY_REQUESTS}
 use Rattle.command_face.specs.declared.stop.StopReason.{StopReason}
 use Rattle.command_face.specs.declared.stop.StopReason.TheVariants as stop
-use Rattle.served_file.specs.Unserved.{NeverServed}
+use Rattle.served_file.specs.Always.{ServesAlways}
 
 -- ---- statuses
 
@@ -27,17 +25,10 @@ ComesToNone status = (status ≡ NO_FILE) ⊎ (status ≡ NO_STORE) ⊎ (status 
 
 -- ---- whatever is told
 
--- What `desk` does whatever the file and the devices tell. A file that isn't there or is refused stays as it
--- was, and one that opens isn't refused. Where no event was read the fault line alone is put.
+-- What `desk` does whatever the file and the devices tell. Where no event was read the fault line alone is
+-- put.
 pub record DeskAlways (status : ℕ) (old new : Devices) : Type 0 where
-  pub known : (is_desking status ≡ true) ⊎ (status ≡ NO_STORE)
-  pub causes : HasCauses old.disk new.disk old.sink new.sink (status ≡ DISK_FAILED) (status ≡ SINK_FAILED)
-      (status ≡ DONE)
-  pub no_turn_back : old.disk.turn ≤ new.disk.turn
-  pub told : new.disk.tells ≡ old.disk.tells
-  pub images_told : new.disk.tells_images ≡ old.disk.tells_images
-  pub untouched : (status ≡ NO_FILE) ⊎ (status ≡ NO_STORE) → Untouched old.disk new.disk
-  pub refused : IsTrue old.disk.tells → status ≡ NO_STORE → NeverServed old.disk.file
+  pub serves : ServesAlways is_desking status old new
   pub line_alone : IsTrue old.sink.tells → ComesToNone status → PutsLine status old.sink new.sink
 
 -- What it does to its input: the input's own fault comes only where its count rose, and else no call of it

@@ -5,3 +5,4 @@ pub mod ShownLaws
 pub mod FoundLaws
 pub mod StepsLaws
 pub mod StartLaws
+pub mod AlwaysLaws

@@ -1,3 +1,4 @@
+pub mod Always
 pub mod Served
 pub mod Steps
 pub mod Unserved

@@ -10,6 +10,7 @@ use Rattle.command_face.specs.Outcomes.{EndsBy, status_at}
 use Rattle.command_face.specs.declared.status.TheConstants.{NO_FILE, NO_MEMORY}
 use Rattle.command_face.specs.declared.stop.StopReason.{StopReason}
 use Rattle.command_face.specs.declared.stop.StopReason.TheVariants as stop
+use Rattle.served_file.proofs.AlwaysLaws.{early_unsaid, nothing_put}
 use Rattle.served_file.proofs.StartLaws.{IsEarly}
 use Rattle.upgrade_command.specs.Doing.{PutsUpgraded}
 use Rattle.upgrade_command.specs.Upgrading.{has_answered, upgraded_line}
@@ -20,30 +21,6 @@ abbrev pub AnswersWith : Result (List ℕ) StopReason → Result (List ℕ) Stop
 AnswersWith wanted answer = answer ≡ wanted
 
 module _ (wanted : Result (List ℕ) StopReason) (out put : SinkState) where
-  -- nothing was put
-  nothing_put : (why : StopReason) → EndsBy (AnswersWith wanted) [] (Err why) → put ≡ out
-      → Answers (AnswersWith wanted) out put (Err why)
-  nothing_put why ends same = record {
-    bytes = [];
-    ends = ends;
-    puts = λ told. record {
-      all = tt;
-      front = (0, omega arith, ap (λ (s : SinkState). s.given) same ∙ sym (append-nil out.given));
-    };
-  }
-
-  pub answers_early : (end : Result (Unit {0}) StopReason) → IsEarly end → put ≡ out
-      → Answers (AnswersWith wanted) out put end
-  answers_early end early same = elim early as (λ _. Answers (AnswersWith wanted) out put end) [
-    | inl disk ↦ subst (Answers (AnswersWith wanted) out put) (sym disk)
-        (nothing_put stop.Disk (inr refl) same)
-    | inr rest ↦ elim rest as (λ _. Answers (AnswersWith wanted) out put end) [
-      | inl gone ↦ subst (Answers (AnswersWith wanted) out put) (sym gone) (nothing_put stop.NoFile refl same)
-      | inr none ↦ subst (Answers (AnswersWith wanted) out put) (sym none)
-          (nothing_put stop.NoMemory refl same)
-    ]
-  ]
-
   pub answers_put : (end : Result (Unit {0}) StopReason) → wanted ≡ Ok upgraded_line
       → PutsUpgraded out put end → Answers (AnswersWith wanted) out put end
   answers_put (Ok done) is puts = record { bytes = upgraded_line; ends = sym is; puts = puts.puts }
@@ -59,21 +36,15 @@ module _ (wanted : Result (List ℕ) StopReason) (out put : SinkState) where
   answers_idle s already a b end from to is was = answers_put end is
       (subst (λ x. PutsUpgraded x put end) from (subst (λ y. PutsUpgraded a.sink y end) to was.ends))
   answers_idle s many a b end from to is was = subst (Answers (AnswersWith wanted) out put) (sym was.ends.0)
-      (nothing_put (stop.TooManyNames (fin.len s.now)) (sym is, refl) (sym to ∙ was.ends.1 ∙ from))
+      (nothing_put (AnswersWith wanted) out put (stop.TooManyNames (fin.len s.now)) (sym is, refl) (sym to ∙ was.ends.1 ∙ from))
   answers_idle s worn a b end from to is was = subst (Answers (AnswersWith wanted) out put) (sym was.ends.0)
-      (nothing_put stop.Worn (sym is, refl) (sym to ∙ was.ends.1 ∙ from))
+      (nothing_put (AnswersWith wanted) out put stop.Worn (sym is, refl) (sym to ∙ was.ends.1 ∙ from))
 
 -- ---- the statuses
 
 pub early_unanswered : (end : Result (Unit {0}) StopReason) → IsEarly end
     → has_answered (status_at end) ≡ false
-early_unanswered end early = elim early as (λ _. has_answered (status_at end) ≡ false) [
-  | inl disk ↦ ap (λ (e : Result (Unit {0}) StopReason). has_answered (status_at e)) disk
-  | inr rest ↦ elim rest as (λ _. has_answered (status_at end) ≡ false) [
-    | inl gone ↦ ap (λ (e : Result (Unit {0}) StopReason). has_answered (status_at e)) gone
-    | inr none ↦ ap (λ (e : Result (Unit {0}) StopReason). has_answered (status_at e)) none
-  ]
-]
+early_unanswered end early = early_unsaid has_answered refl refl refl end early
 
 pub put_answered : {out put : SinkState} (end : Result (Unit {0}) StopReason) → PutsUpgraded out put end
     → has_answered (status_at end) ≡ true

@@ -38,7 +38,8 @@ use Rattle.served_file.proofs.OverLaws.{next_over}
 use Rattle.served_file.proofs.StartLaws.{HasBegun, LeavesStart, StopsEarly, begun_or_not, leaves_opened, left_mid, start_now, start_opens, start_safe, starts_so}
 use Rattle.upgrade_command.specs.Doing.{IsUpgrade}
 use Rattle.upgrade_command.specs.Upgrading.{HasUpgraded, UpgradeHolds, calls_by, digested, end_by, has_answered, left_by, state_by, upgrade_calls, upgrade_end, upgraded}
-use Rattle.upgrade_command.proofs.EndsLaws.{AnswersWith, answers_early, answers_idle, answers_put, early_unanswered, not_three, put_answered}
+use Rattle.served_file.proofs.AlwaysLaws.{answers_early}
+use Rattle.upgrade_command.proofs.EndsLaws.{AnswersWith, answers_idle, answers_put, early_unanswered, not_three, put_answered}
 use Rattle.upgrade_command.proofs.IdleLaws.{Idle, IsIdle, IsToDo, WasFailed, WasIdle, WasSaved, either, same_count, was_done, was_idle}
 
 -- the state that is left, where both are the same or the status says which
@@ -73,7 +74,7 @@ module _ (t : choice.SlotTable) (m : Map) (b : Book) (old : State) (lawful : IsL
       record {
         start = start;
         starts = x.leaves.starts;
-        ends = ends_so (upgrade_end names start) (answers_early (upgrade_end names start) out put end x.early
+        ends = ends_so (upgrade_end names start) (answers_early (AnswersWith (upgrade_end names start)) out put end x.early
             x.nothing);
         done = λ is. no_answer (status_at end) none is;
         content = λ room. inl (x.leaves.content room);
@@ -290,7 +291,7 @@ module _ (t : choice.SlotTable) (m : Map) (b : Book) (old : State) (lawful : IsL
         let none : has_answered (status_at end) ≡ false =
         ap (λ (e : Result (Unit {0}) StopReason). has_answered (status_at e)) was.ended in
         let seven : status_at end ≡ 7 = ap (λ (e : Result (Unit {0}) StopReason). status_at e) was.ended in
-        begun todo was.upgrades (answers_early (upgrade_end u.names start) out put end (inl was.ended)
+        begun todo was.upgrades (answers_early (AnswersWith (upgrade_end u.names start)) out put end (inl was.ended)
         was.nothing)
         (λ is. no_answer (status_at end) none is)
         (λ is. omega (arith, is, seven))

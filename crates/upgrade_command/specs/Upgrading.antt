@@ -4,7 +4,6 @@ use Rattle.std.specs.Prelude.{◌≡◌, ◌⊎◌, ℕ, ◌+◌, ◌<◌, ◌�
 use Rattle.std.specs.FinMap as fin
 use Rattle.disk_face.specs.Counts.{IsCalm, counted, last}
 use Rattle.disk_face.specs.Devices.{Devices}
-use Rattle.disk_face.specs.Frames.{Untouched}
 use Rattle.disk_face.specs.Moments.{LeftOnly}
 use Rattle.size_class.specs.declared.TheConstants.{CLASSES, SIZE_MAX}
 use Rattle.slot_codec.specs.Choice as choice
@@ -17,13 +16,12 @@ use Rattle.table_rules.specs.Opening.{OpensBy}
 use Rattle.table_rules.specs.Sequences.{HasSequenceUpTo}
 use Rattle.store_model.specs.Opened.{ContinuesFrom, LeavesRoom, RestsOnFound, found_base, state_at}
 use Rattle.store_model.specs.States.{State, refused_from}
-use Rattle.command_face.specs.Layers.{HasCauses}
-use Rattle.command_face.specs.Outcomes.{Ends, PutsLine}
+use Rattle.command_face.specs.Outcomes.{Ends}
 use Rattle.command_face.specs.declared.status.TheConstants.{DISK_FAILED, DONE, NO_FILE, NO_MEMORY, NO_STORE, SINK_FAILED, TOO_MANY_NAMES, WORN}
 use Rattle.command_face.specs.declared.stop.StopReason.{StopReason}
 use Rattle.command_face.specs.declared.stop.StopReason.TheVariants as stop
 use Rattle.served_file.specs.Served.{Found, IsNextStart, OpensTo, Starts, found_by, most_left}
-use Rattle.served_file.specs.Unserved.{NeverServed}
+use Rattle.served_file.specs.Always.{EndsOrPutsLine, ServesAlways}
 
 -- ---- what there is to do
 
@@ -130,17 +128,8 @@ UpgradePromise status old new = (t : choice.SlotTable) (m : Map) (b : Book)
     → OpensBy CLASSES SIZE_MAX t old.disk.file m b
     → UpgradeHolds (found_by t m b) status old new
 
--- What an upgrade does whatever the file and the devices tell. A file that isn't there or is refused stays as
--- it was, and one that opens isn't refused. But where it is done, or the sink failed, the fault line alone is
--- put.
+-- What an upgrade does whatever the file and the devices tell. But where it is done, or the sink failed, the
+-- fault line alone is put.
 pub record UpgradeAlways (status : ℕ) (old new : Devices) : Type 0 where
-  pub known : (is_upgrading status ≡ true) ⊎ (status ≡ NO_STORE)
-  pub causes : HasCauses old.disk new.disk old.sink new.sink (status ≡ DISK_FAILED) (status ≡ SINK_FAILED)
-      (status ≡ DONE)
-  pub no_turn_back : old.disk.turn ≤ new.disk.turn
-  pub told : new.disk.tells ≡ old.disk.tells
-  pub images_told : new.disk.tells_images ≡ old.disk.tells_images
-  pub untouched : (status ≡ NO_FILE) ⊎ (status ≡ NO_STORE) → Untouched old.disk new.disk
-  pub refused : IsTrue old.disk.tells → status ≡ NO_STORE → NeverServed old.disk.file
-  pub line_alone : IsTrue old.sink.tells
-      → (status ≡ DONE) ⊎ (status ≡ SINK_FAILED) ⊎ PutsLine status old.sink new.sink
+  pub serves : ServesAlways is_upgrading status old new
+  pub line_alone : IsTrue old.sink.tells → EndsOrPutsLine status old new

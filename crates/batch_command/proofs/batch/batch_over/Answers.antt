@@ -3,7 +3,8 @@ use Rattle.std.proofs.Common.{refl}
 use Rattle.disk_face.specs.Devices.{devices}
 use Rattle.served_file.proofs.StepsLaws.{mounted_then, unmounted_so}
 use Rattle.batch_command.specs.Doing.{IsBatching}
-use Rattle.batch_command.proofs.SourceLaws.{source_same, source_unmounted, unmounted_unjudged}
+use Rattle.served_file.proofs.AlwaysLaws.{source_unmounted}
+use Rattle.batch_command.proofs.SourceLaws.{source_same, unmounted_unjudged}
 use Rattle.batch_command.proofs.batch.batch_over.Goals as goal
 
 pub returns-in-Err-clause-steps : goal.returns-in-Err-clause-steps

@@ -245,10 +245,10 @@ returns-in-Upgrade g c =
     let from = g.I.Source.state c.args.input.now in
     let bay = c.upgrade_file.new.bay ≡ c.args.bay.now in
     let input = c.args.input.now ≡ c.args.input.now in
-    let none = upgrading_plain c.upgrade_file.result.status e.keeps.known in
+    let none = upgrading_plain c.upgrade_file.result.status e.keeps.serves.known in
     does_as (ap command_of c.in-Upgrade.is)
     (writing (upgrade c.in-Upgrade.file.now) refl refl refl refl c.upgrade_file.result old new from from bay
-    input (upgrading_not_one c.upgrade_file.result.status e.keeps.known) e.mounted (λ _. e.refused)
+    input (upgrading_not_one c.upgrade_file.result.status e.keeps.serves.known) e.mounted (λ _. e.refused)
     (λ is. absurd (cc)) (λ _. (refl, none.0, none.1))
     (λ _. none.2) (λ _. e.numbers) (e.upgrades, e.keeps))
 
@@ -261,7 +261,7 @@ returns-in-Batch g c =
     let rest = g.I.Source.state c.batch_file.new.input in
     let bay = c.batch_file.new.bay ≡ c.args.bay.now in
     let input = c.batch_file.new.input ≡ c.args.input.now in
-    let none = batching_known c.batch_file.result.status e.keeps.known in
+    let none = batching_known c.batch_file.result.status e.keeps.serves.known in
     does_as (ap command_of c.in-Batch.is)
     (writing (batch c.in-Batch.file.now) refl refl refl refl c.batch_file.result old new from rest bay input
     none.0 e.mounted (λ _. e.refused) (λ is. absurd (cc)) (λ is. absurd (cc))
@@ -279,7 +279,7 @@ returns-in-Desk g c =
     let input = c.desk_file.new.input ≡ c.args.input.now in
     does_as (ap command_of c.in-Desk.is)
     (writing (desk c.in-Desk.file.now) refl refl refl refl c.desk_file.result old new from rest bay input
-    (desking_not_one c.desk_file.result.status e.keeps.known) e.mounted (λ _. e.refused) (λ is. absurd (cc))
+    (desking_not_one c.desk_file.result.status e.keeps.serves.known) e.mounted (λ _. e.refused) (λ is. absurd (cc))
     (λ is. absurd (cc)) (λ is. absurd (cc)) (λ _. e.numbers)
     (e.desks, e.keeps, e.reads))
 

@@ -3,7 +3,8 @@ use Rattle.std.proofs.Common.{refl}
 use Rattle.disk_face.specs.Devices.{devices}
 use Rattle.served_file.proofs.StepsLaws.{mounted_then, unmounted_so}
 use Rattle.desk_command.specs.Doing.{IsDesking}
-use Rattle.desk_command.proofs.AlwaysLaws.{source_same, source_unmounted}
+use Rattle.served_file.proofs.AlwaysLaws.{source_unmounted}
+use Rattle.desk_command.proofs.AlwaysLaws.{source_same}
 use Rattle.desk_command.proofs.desk.desk_over.Goals as goal
 
 pub returns-in-Err-clause-steps : goal.returns-in-Err-clause-steps
