@@ -1,11 +1,12 @@
 -- What a call through a handle does to what it holds.
-use Rattle.std.specs.Prelude.{◌≡◌, ℤ, pos, true, false, Option, Some, None, IsNone, IsSome, Result}
+use Rattle.std.specs.Prelude.{◌≡◌, ℤ, pos, true, false, Option, Some, None, IsNone, IsSome, Result, Ok}
 use Rattle.size_class.specs.declared.TheConstants.{CLASSES}
 use Rattle.map_model.specs.Requests as ask
 use Rattle.map_model.specs.Requests.{Change}
 use Rattle.store_core.specs.declared.answers.Begun.{Begun}
 use Rattle.store_core.specs.declared.answers.Done.{Done}
 use Rattle.store_core.specs.declared.answers.Progress.{Progress}
+use Rattle.store_core.specs.declared.answers.Progress.TheVariants as progress
 use Rattle.store_core.specs.declared.answers.Refusal.{Refusal}
 use Rattle.store_core.specs.declared.answers.Refusal.TheVariants as why
 use Rattle.store_core.specs.Answers.{refused_by}
@@ -13,11 +14,12 @@ use Rattle.store_core.specs.Begins.{BeginsChange}
 use Rattle.store_core.specs.Changes.{NothingChanged}
 use Rattle.store_core.specs.Changing.{IsChange}
 use Rattle.store_core.specs.Keeps.{AnswersKeep, KeepsNow}
-use Rattle.store_core.specs.Steps.{AnswersStep, MakesOne}
+use Rattle.store_core.specs.Steps.{AnswersStep, MakesOne, StepsHalf}
 use Rattle.store_model.specs.Connection.{FlushInHand, limits_of, state_of}
+use Rattle.store_model.specs.Halves.{HalfAgrees, Origin}
 use Rattle.store_model.specs.States.{Step}
 use Rattle.image_store.specs.Embedded.{Embedded, disk_before, disk_of, file_in}
-use Rattle.image_store.specs.Noted.{IsNoted}
+use Rattle.image_store.specs.Noted.{IsNoted, RestsOnKept}
 use Rattle.store_handle.specs.declared.Stage.{Stage}
 use Rattle.store_handle.specs.declared.Stage.TheVariants as stage
 use Rattle.costore_c.specs.Answers.{begin_code, busy_code, change_code, closed_code, idle_code, refusal_code, step_code}
@@ -47,13 +49,17 @@ pub record Begins (c : Change) (old new : Embedded) (code : ℤ) : Type 0 where
   pub begins : BeginsChange CLASSES c old.store new.store (disk_before old) (disk_of new) answer
   pub noted : IsNoted old new
 
--- the same of a step
+-- the same of a step, what a crash within it leaves, and where the store rests after it
 pub record Steps (old new : Embedded) (code : ℤ) : Type 0 where
   pub answer : Result Progress Refusal
   pub told : code ≡ step_code answer
   pub answers : AnswersStep answer
   pub makes : (h : FlushInHand) → old.store.in_hand ≡ Some h
       → MakesOne old.store new.store h (disk_before old) (disk_of new) answer
+  pub half : (h : FlushInHand) (o : Origin) → old.store.in_hand ≡ Some h
+      → HalfAgrees CLASSES old.store h o (disk_before old)
+      → StepsHalf CLASSES o old.store new.store (disk_before old) (disk_of new) answer
+  pub rests : answer ≡ Ok progress.Settled → RestsOnKept new
   pub noted : IsNoted old new
 
 -- The map of the last checkpoint stands again, and nothing was noted: the file and the log are as they were.
