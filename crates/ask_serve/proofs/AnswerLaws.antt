@@ -29,7 +29,7 @@ use Rattle.store_model.specs.States.{Served, Step, accepted, facts_of, refusal, 
 use Rattle.store_core.proofs.AnsweredLaws.{refusal_at, refused_is}
 use Rattle.data_area.proofs.CauseLaws.{calm_disk}
 use Rattle.store_core.proofs.QuietLaws.{quiet_by_book}
-use Rattle.store_core.proofs.StepLaws.{served_by}
+use Rattle.store_model.proofs.RequestLaws.{served_by}
 use Rattle.ask_text.specs.Replies.{reply_line_of, rest_of, told_for}
 use Rattle.ask_text.specs.declared.reply.Reply.TheVariants as head
 use Rattle.ask_serve.specs.ReplyLines.{Answers, answer_change, answer_of, done_reply_line}

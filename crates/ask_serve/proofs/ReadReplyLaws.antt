@@ -25,7 +25,8 @@ use Rattle.store_model.proofs.StateLaws.{listing-read_at}
 use Rattle.data_area.proofs.CauseLaws.{calm_disk, sink_cause_after, sink_cause_as}
 use Rattle.store_core.proofs.ChangingLaws.{unchanged_itself}
 use Rattle.store_core.proofs.AnsweredLaws.{live_if, number_served, object_size, refused_is, served_is}
-use Rattle.store_core.proofs.StepLaws.{facts_same, read_reply, served_by}
+use Rattle.store_model.proofs.RequestLaws.{served_by}
+use Rattle.store_core.proofs.StepLaws.{facts_same, read_reply}
 use Rattle.store_model.specs.Lines.{lines_of, listing_of}
 use Rattle.std.proofs.lemmas.List.{length-map}
 use Rattle.ask_text.specs.Replies.{first_line, reply_text, told_for}

@@ -15,7 +15,7 @@ use Rattle.store_model.specs.Stores.{IsStore}
 use Rattle.store_model.specs.States.{Served, Step, facts_of, refusal, unchanged}
 use Rattle.store_core.specs.Answers.{facts_at}
 use Rattle.store_core.proofs.AnsweredLaws.{refusal_at}
-use Rattle.store_core.proofs.StepLaws.{served_by}
+use Rattle.store_model.proofs.RequestLaws.{served_by}
 use Rattle.store_model.proofs.OverLaws.{kept_image}
 use Rattle.store_core.proofs.OpenedLaws.{tight_now}
 use Rattle.ask_text.specs.declared.ends.End.{End}

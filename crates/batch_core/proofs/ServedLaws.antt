@@ -13,7 +13,8 @@ use Rattle.store_model.specs.Stores.{IsStore}
 use Rattle.store_model.proofs.DigestLaws.{next_digests}
 use Rattle.store_core.specs.Answers.{facts_at, refusal_for, refused_by}
 use Rattle.store_core.specs.declared.answers.Refusal.TheVariants as why
-use Rattle.store_core.proofs.StepLaws.{facts_same, served_by}
+use Rattle.store_model.proofs.RequestLaws.{served_by}
+use Rattle.store_core.proofs.StepLaws.{facts_same}
 
 -- ---- refusals
 

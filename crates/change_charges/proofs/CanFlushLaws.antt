@@ -23,7 +23,8 @@ use Rattle.flush_model.proofs.NumbersLaws.{reach_is}
 use Rattle.flush_run.specs.Hands.{spot_item, suffix_items}
 use Rattle.change_charges.specs.Items.{is_from, item_at}
 use Rattle.change_charges.specs.Starts.{CanStart, IsWith, flush_start}
-use Rattle.change_charges.proofs.SuffixLaws.{has_item, key_other, keys_differ, pairs_of, stands_at}
+use Rattle.change_charges.proofs.ObjectLaws.{are_objects}
+use Rattle.change_charges.proofs.SuffixLaws.{has_item, key_other}
 
 module _ (classes size_max : ℕ) (caps : List ℕ) (grid kept_grid : List (List ℕ)) (b : ℕ) (u : choice.InUse)
     (e : Extents) (spans : List Span)
@@ -60,41 +61,19 @@ module _ (classes size_max : ℕ) (caps : List ℕ) (grid kept_grid : List (List
             )
       ]
 
-  each_apart : (x y : List ℕ × Spot) → fin.get e.now x.0 ≡ Some x.1 → fin.get e.now y.0 ≡ Some y.1
-      → 1 ≤ x.1.size
-      → 1 ≤ y.1.size → same_name x.0 y.0 ≡ false → ItemsApart (spot_item e.keys x) (spot_item e.keys y)
-  each_apart x y x_is y_is x_some y_some differ = record {
-    keys = keys_differ e h.table.keys x.0 y.0 x.1 y.1 x_is y_is differ;
-    bytes = elim (apart_by_name e.now h.below.named h.below.below.apart x.0 y.0 x.1 y.1 x_is y_is differ)
-        as (λ _. (x.1.place + x.1.size ≤ y.1.place) ⊎ (y.1.place + y.1.size ≤ x.1.place)) [
-          | inl none ↦ absurd (omega (arith, none, x_some))
-          | inr (inl none) ↦ absurd (omega (arith, none, y_some))
-          | inr (inr rest) ↦ rest
-        ];
-  }
-
-  some_of : (s : Spot) → is_from b s ≡ true → 1 ≤ s.size
-  some_of s is = ltb-true 0 s.size (and_parts (nat_lt 0 s.size) (nat_le b (class_of s.size)) is).0
-
   pub can_flush : CanFlush k caps b items
-  can_flush = record {
-    classes = h.below.caps_full.full;
-    apart = λ i j x y less at also. pairs_of ItemsApart (spot_item e.keys) (λ z. is_from b z.1)
-        (fin.entries e.now)
-        (fin.entries_sorted e.now) (λ v w m n v_at w_at v_in w_in differ.
-        each_apart v w (stands_at b e m v v_at) (stands_at b e n w w_at) (some_of v.1 v_in)
-        (some_of w.1 w_in) differ)
-        i j x y less at also;
-    some = λ it has. let o = has_item b e it has in
-        omega (arith, o.some, ap (λ (x : Item). x.size) o.is);
-    class = λ it has. let o = has_item b e it has in
-        subst (λ (x : Item). x.class ≡ class_of x.size) o.is refl;
-    from = λ it has. let o = has_item b e it has in
-        omega (arith, o.from, ap (λ (x : Item). x.class) o.is);
-    stands = λ it has. let o = has_item b e it has in
-        subst (λ x. IsTrue (stands_in_payload k caps x) ⊎ ((j : ℕ) × IsInBuffer k caps j x)) o.is
-        (stands_in o.name o.spot o.stands o.some);
-  }
+  can_flush =
+      let o = are_objects b e h.table h.below.below.apart in
+      record {
+        classes = h.below.caps_full.full;
+        apart = o.apart;
+        some = o.some;
+        class = o.class;
+        from = o.from;
+        stands = λ it has. let t = has_item b e it has in
+            subst (λ x. IsTrue (stands_in_payload k caps x) ⊎ ((j : ℕ) × IsInBuffer k caps j x)) t.is
+            (stands_in t.name t.spot t.stands t.some);
+      }
 
   -- A flush begins with nothing pending.
   pub begins_alone : Begins k caps (numbers_of k caps b items 0) items None

@@ -10,4 +10,5 @@ pub mod NextBookLaws
 pub mod LiftStartLaws
 pub mod LooseLaws
 pub mod AgainLaws
+pub mod ObjectLaws
 pub mod ShelfLaws

@@ -5,7 +5,7 @@ use Rattle.map_model.specs.Requests as ask
 use Rattle.map_model.specs.Requests.{Change, Refused, Request}
 use Rattle.segment_layout.specs.Books.{next_book}
 use Rattle.store_model.specs.States.{Limits, Served, State, accepted, facts_of, refusal, served, served_change}
-use Rattle.store_core.proofs.StepLaws.{served_by}
+use Rattle.store_model.proofs.RequestLaws.{served_by}
 use Rattle.ask_session.specs.Runs.{most_sequence}
 use Rattle.ask_session.proofs.GrowingLaws.{saves_within}
 use Rattle.desk_model.specs.Answers.{Answer}

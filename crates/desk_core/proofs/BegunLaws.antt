@@ -21,7 +21,7 @@ use Rattle.data_area.proofs.CauseLaws.{calm_disk}
 use Rattle.store_core.proofs.MadeFlushLaws.{len_after}
 use Rattle.store_core.proofs.QuietLaws.{quiet_by_book}
 use Rattle.store_core.proofs.AnsweredLaws.{refusal_at, served_is}
-use Rattle.store_core.proofs.StepLaws.{served_by}
+use Rattle.store_model.proofs.RequestLaws.{served_by}
 use Rattle.store_model.specs.Connection.{FlushInHand, IsConnected, StoreValue, base_of, limits_of, state_of}
 use Rattle.store_model.specs.Quiet.{charges_of, quiet_calls}
 use Rattle.store_model.specs.States.{Limits, Served, State, Step, served, served_change}

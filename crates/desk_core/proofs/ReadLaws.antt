@@ -14,7 +14,7 @@ use Rattle.map_model.specs.Requests.{Refused, Reply, Request}
 use Rattle.segment_layout.specs.Books.{Book, is_damaged}
 use Rattle.data_area.proofs.CauseLaws.{calm_disk, disk_cause_as, sink_cause_after, sink_cause_as}
 use Rattle.store_core.proofs.ChangingLaws.{unchanged_itself}
-use Rattle.store_core.proofs.StepLaws.{served_by}
+use Rattle.store_model.proofs.RequestLaws.{served_by}
 use Rattle.data_area.specs.Causes.{HasSinkCause}
 use Rattle.store_model.specs.Connection.{IsOver, StoreValue, limits_of, state_of}
 use Rattle.store_model.specs.Halves.{IsReadable}

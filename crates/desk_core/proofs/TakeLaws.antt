@@ -11,7 +11,7 @@ use Rattle.segment_layout.specs.Books.{next_book}
 use Rattle.store_core.specs.declared.answers.Refusal.{Refusal}
 use Rattle.store_core.specs.declared.answers.Refusal.TheVariants as why
 use Rattle.data_area.proofs.CauseLaws.{calm_disk, calm_sink}
-use Rattle.store_core.proofs.StepLaws.{served_by}
+use Rattle.store_model.proofs.RequestLaws.{served_by}
 use Rattle.store_model.specs.Connection.{StoreValue, limits_of, state_of}
 use Rattle.store_model.specs.States.{Limits, Served, State, Step, accepted, facts_of, refusal, served, served_change}
 use Rattle.ask_text.specs.Replies.{first_line, reply_line_of, reply_text, rest_of}

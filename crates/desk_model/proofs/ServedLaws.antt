@@ -6,20 +6,8 @@ use Rattle.map_model.specs.Requests as ask
 use Rattle.map_model.specs.Requests.{Change, Refused, Reply, Request}
 use Rattle.segment_layout.specs.Books.{next_book}
 use Rattle.store_model.specs.States.{Limits, Served, State, Step, accepted, facts_of, reads_as, refusal, served, served_change, unchanged}
+use Rattle.store_model.proofs.RequestLaws.{served_as, served_by}
 use Rattle.desk_model.specs.Desks.{begins, flush_by, is_read}
-
--- what is served, by the refusal
-abbrev pub served_as : Limits → State → Request → Option Refused → Served
-served_as limits s r None = accepted limits s r
-served_as limits s r (Some why) = unchanged s (ask.refused why)
-
-pub served_by : (limits : Limits) (s : State) (r : Request) (o : Option Refused)
-    → refusal limits (facts_of s r) r ≡ o → served limits s r ≡ served_as limits s r o
-served_by limits s r o is = elim o as (λ x. refusal limits (facts_of s r) r ≡ x
-    → served limits s r ≡ served_as limits s r x) [
-      | None ↦ λ e. rw e refl
-      | Some why ↦ λ e. rw e refl
-    ] is
 
 -- a state with another sequence
 abbrev pub at_seq : State → ℕ → State

@@ -14,7 +14,8 @@ use Rattle.map_model.specs.Requests.{Change, Reply, changed}
 use Rattle.map_model.proofs.MapLaws.{name_order}
 use Rattle.segment_layout.specs.Books.{Book, charge_all, is_quiet, item_of, next_book, old_item}
 use Rattle.store_model.specs.States.{Served, State, Step, facts_of, object_in, refusal, served}
-use Rattle.desk_model.proofs.ServedLaws.{read_at_any, read_of, served_by}
+use Rattle.store_model.proofs.RequestLaws.{served_by}
+use Rattle.desk_model.proofs.ServedLaws.{read_at_any, read_of}
 use Rattle.desk_model.specs.Desks.{Desk, Flush, Moves, Plays, SaysIf, TakesIf, begins, end_lines, flush_by, has_room, last_desk, new_desk, with_queue}
 use Rattle.desk_model.specs.Answers as answer
 use Rattle.desk_model.specs.Answers.{answer_text}

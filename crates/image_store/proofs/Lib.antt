@@ -2,7 +2,6 @@ pub mod BackLaws
 pub mod BatchLaws
 pub mod CopyLaws
 pub mod DumpLaws
-pub mod FirstLaws
 pub mod MadeLaws
 pub mod MountLaws
 pub mod NotedLaws

@@ -31,7 +31,7 @@ use Rattle.store_model.specs.Opened.{IsOpening, SameOnFound, state_at}
 use Rattle.load_stream.specs.Saved.{OpensEmpty}
 use Rattle.image_store.specs.Made.{IsFormatImage, IsMade, NotMade}
 use Rattle.image_store.specs.Noted.{IsNotedOf, StopsFrom}
-use Rattle.image_store.proofs.FirstLaws.{first_opens}
+use Rattle.dump_stream.proofs.FirstLaws.{first_opens}
 use Rattle.image_store.proofs.NotedLaws.{noted_since}
 use Rattle.image_store.proofs.RestLaws.{found_itself}
 

@@ -7,7 +7,7 @@ use Rattle.map_model.specs.Requests as ask
 use Rattle.map_model.specs.Requests.{Change, Refused, Reply, Request}
 use Rattle.segment_layout.specs.Books.{next_book}
 use Rattle.store_model.specs.States.{Chain, Limits, Served, State, Step, accepted, facts_of, refusal, served, served_change}
-use Rattle.store_core.proofs.StepLaws.{served_by}
+use Rattle.store_model.proofs.RequestLaws.{served_by}
 use Rattle.ask_text.specs.Asks.{ask_of, line_of}
 use Rattle.ask_text.specs.Inputs.{Asks, BeginsNone, HasText, body_of, request_text}
 use Rattle.ask_text.proofs.InputLaws.{text_one}

@@ -39,7 +39,7 @@ use Rattle.store_model.specs.Stores.{IsStore}
 use Rattle.change_charges.proofs.EndLaws.{shown_balanced}
 use Rattle.store_model.proofs.OverLaws.{head_is, opens_again}
 use Rattle.store_core.proofs.InsideLaws.{few_live}
-use Rattle.store_core.proofs.StepLaws.{served_by}
+use Rattle.store_model.proofs.RequestLaws.{served_by, step_to}
 use Rattle.store_model.proofs.StoreLaws.{now_lies}
 
 -- a change that isn't quiet is a step to the map and the book of after, which are kept
@@ -67,18 +67,7 @@ flush_step limits s after c none needs_flush map kept book kept_book low high =
       state = record s { map = m; kept = m; book = next.book; kept_book = next.book };
       saves = record { least = 1; most = 2 * limits.k + 1 };
     } in r) needs_flush in
-    record {
-      replied = ap (λ (x : Served). x.reply) (sym is);
-      state = (λ i. record {
-        map = map i;
-        kept = kept i;
-        book = book i;
-        kept_book = kept_book i;
-        sequence = after.sequence;
-      }) ∙ ap (λ (x : Served). record x.state { sequence = after.sequence }) (sym is);
-      low = omega (arith, low, ap (λ (x : Served). x.saves.least) is);
-      high = omega (arith, high, ap (λ (x : Served). x.saves.most) is);
-    }
+    step_to limits s after (ask.change c) _ is map kept book kept_book low high
 
 module _ {C : ℕ} (s : Inside C) (whole : IsWhole s) (unbroken : s.broken ≡ false) where
   abbrev ks : StoreValue

@@ -29,7 +29,7 @@ use Rattle.store_model.specs.States.{Limits, Served, State, Step, facts_of, refu
 use Rattle.store_model.specs.Stores.{IsStore}
 use Rattle.store_model.proofs.OverLaws.{head_is, opens_again}
 use Rattle.store_model.proofs.VersionLaws.{valid_as}
-use Rattle.store_core.proofs.StepLaws.{served_by}
+use Rattle.store_model.proofs.RequestLaws.{served_by, step_to}
 
 -- there are as many records as names
 pub length-records_of : (spots : Spots) → AreNamed spots → length (records_of spots) ≡ fin.len spots
@@ -55,18 +55,7 @@ keep_step limits s after fresh map kept book kept_book sequence =
     let calm : refusal limits (facts_of s ask.keep) ask.keep ≡ None =
     rw (lt-leb (2 ^ 61) s.sequence fresh) refl in
     let is = served_by limits s ask.keep None calm in
-    record {
-      replied = ap (λ (x : Served). x.reply) (sym is);
-      state = (λ i. record {
-        map = map i;
-        kept = kept i;
-        book = book i;
-        kept_book = kept_book i;
-        sequence = after.sequence;
-      }) ∙ ap (λ (x : Served). record x.state { sequence = after.sequence }) (sym is);
-      low = omega (arith, sequence, ap (λ (x : Served). x.saves.least) is);
-      high = omega (arith, sequence, ap (λ (x : Served). x.saves.most) is);
-    }
+    step_to limits s after ask.keep _ is map kept book kept_book (omega (arith, sequence)) (omega (arith, sequence))
 
 module _ {classes : ℕ} (s : StoreValue) (h : IsStore classes s) where
   abbrev k : ℕ

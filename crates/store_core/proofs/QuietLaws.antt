@@ -29,7 +29,8 @@ use Rattle.store_model.proofs.DigestLaws.{next_with, quiet_with, with_own}
 use Rattle.store_model.proofs.ChangeLaws.{apart_kept, apart_now, place_ends, with_now}
 use Rattle.store_model.proofs.OverLaws.{checkpoint_again, kept_map_again, same_written}
 use Rattle.store_core.proofs.PlanLaws.{DelServed, PutServed, charged_quietly, del_served, put_served}
-use Rattle.store_core.proofs.StepLaws.{facts_same, served_by}
+use Rattle.store_core.proofs.StepLaws.{facts_same}
+use Rattle.store_model.proofs.RequestLaws.{served_by, step_to}
 use Rattle.store_model.proofs.StoreLaws.{now_lies}
 
 -- ---- steps
@@ -57,18 +58,7 @@ change_step limits s after c none quiet map kept book kept_book sequence =
       state = record s { map = m; kept = m; book = next.book; kept_book = next.book };
       saves = record { least = 1; most = 2 * limits.k + 1 };
     } in r) quiet in
-    record {
-      replied = ap (λ (x : Served). x.reply) (sym is);
-      state = (λ i. record {
-        map = map i;
-        kept = kept i;
-        book = book i;
-        kept_book = kept_book i;
-        sequence = after.sequence;
-      }) ∙ ap (λ (x : Served). record x.state { sequence = after.sequence }) (sym is);
-      low = omega (arith, sequence, ap (λ (x : Served). x.saves.least) is);
-      high = omega (arith, sequence, ap (λ (x : Served). x.saves.most) is);
-    }
+    step_to limits s after (ask.change c) _ is map kept book kept_book (omega (arith, sequence)) (omega (arith, sequence))
 
 -- a store with other places, in a layout of the same capacities, is over the same file
 pub over_beside : {classes : ℕ} (s : StoreValue) (file : List ℕ) (now : Spots) (book : Book) (asked : List ℕ)

@@ -10,28 +10,13 @@ use Rattle.store_core.specs.Plans.{AcceptsName}
 use Rattle.store_model.specs.Connection.{StoreValue, limits_of, state_of}
 use Rattle.store_model.specs.States.{Facts, Limits, State, Step, facts_of, refusal}
 use Rattle.store_model.specs.Stores.{IsStore}
-use Rattle.store_core.proofs.StepLaws.{facts_same, refused_step}
+use Rattle.store_core.proofs.StepLaws.{facts_same, refused_replied}
 
 pub not_none : {A : Type 0} {P : Type 0} (o : Option A) (x : A) → o ≡ Some x → IsNone o → P
 not_none o x is none = absurd (let h = subst (λ y. IsNone y) is none in cc)
 
 pub not_some : {A : Type 0} {P : Type 0} (o : Option A) → o ≡ None → IsSome o → P
 not_some o is some = absurd (let h = subst (λ y. IsSome y) is some in cc)
-
--- each refusal of a request has its reply
-pub refused_replied : (limits : Limits) (s : State) (r : ask.Request) (w : Refused)
-    → refusal limits (facts_of s r) r ≡ Some w
-    → IfSome (refused_reply (refusal_for w)) (λ reply. Step limits s r reply s)
-refused_replied limits s r w is = each w (refused_step limits s r w is)
-  where
-    each : (x : Refused) → Step limits s r (ask.refused x) s
-        → IfSome (refused_reply (refusal_for x)) (λ reply. Step limits s r reply s)
-    each ask.bad_name step = step
-    each ask.too_long step = step
-    each ask.missing step = step
-    each ask.damaged step = step
-    each ask.full step = step
-    each ask.worn step = step
 
 -- a change that is refused is a step that leaves the state, if it has a reply
 pub refused_change_step : {classes : ℕ} (s : StoreValue) (file : List ℕ) (c : Change) (refused : Refusal)

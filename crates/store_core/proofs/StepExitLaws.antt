@@ -12,6 +12,7 @@ use Rattle.flush_run.specs.FlushFrames.{FlushFrame, LeavesOldOrNew}
 use Rattle.flush_run.specs.Parts.{HandsValue, parts_of}
 use Rattle.flush_run.specs.Phases.{CanAdvance, PaidIn}
 use Rattle.flush_run.specs.Steps.{GoesThen, KeepsThen, MakesThen, PaidThen}
+use Rattle.flush_run.proofs.SumLaws.{steps_some}
 use Rattle.flush_run.proofs.OneStepLaws.{StepMoved, StepSettled, step_moved, step_settled}
 use Rattle.flush_plan.specs.Lays.{End}
 use Rattle.store_core.specs.declared.answers.Progress.{Progress}
@@ -23,7 +24,7 @@ use Rattle.store_core.specs.Steps.{AfterStep, MakesOne, MovesOne, Settles, Steps
 use Rattle.store_model.specs.Connection.{FlushInHand, StoreValue}
 use Rattle.store_model.specs.Halves.{HalfAgrees, IsHalfway, Origin, frame_at}
 use Rattle.store_core.proofs.SettledLaws.{failed_makes, failed_steps, failed_sums, settled_makes, settled_over, settled_steps, settled_sums, settled_whole}
-use Rattle.store_core.proofs.SteppedLaws.{StepsFrom, as_seen, can_half, half_at, moved_going, moved_makes, moved_over, moved_steps, moved_sums, some_can, steps_some}
+use Rattle.store_core.proofs.SteppedLaws.{StepsFrom, as_seen, can_half, half_at, moved_going, moved_makes, moved_over, moved_steps, moved_sums, some_can}
 
 -- What is answered, whichever way it goes.
 pub record StepAnswers (C : ℕ) (t t2 : StoreValue) (a d : disk.State) (result : Result Progress Refusal)

@@ -14,23 +14,11 @@ use Rattle.store_model.specs.Connection.{IsOver, StoreValue, base_of, limits_of,
 use Rattle.store_core.specs.Answers.{AnswersRead, facts_at, refusal_for, refused_by, refused_reply, reply_of}
 use Rattle.store_core.specs.declared.answers.Refusal.{Refusal}
 use Rattle.store_core.specs.declared.answers.Refusal.TheVariants as why
+use Rattle.store_model.proofs.RequestLaws.{served_by}
 use Rattle.store_model.proofs.StateLaws.{len-read_at, listing-read_at, volume-read_at}
 use Rattle.store_model.proofs.StoreLaws.{kept_lies, now_lies}
 use Rattle.store_model.specs.Lines.{listing_of}
 use Rattle.extent_table.specs.Extents.{volume_of}
-
--- what is served, by the refusal
-abbrev pub served_as : Limits → State → Request → Option Refused → Served
-served_as limits s r None = accepted limits s r
-served_as limits s r (Some why) = unchanged s (ask.refused why)
-
-pub served_by : (limits : Limits) (s : State) (r : Request) (o : Option Refused)
-    → refusal limits (facts_of s r) r ≡ o → served limits s r ≡ served_as limits s r o
-served_by limits s r o is = elim o as (λ x. refusal limits (facts_of s r) r ≡ x
-    → served limits s r ≡ served_as limits s r x) [
-      | None ↦ λ e. rw e refl
-      | Some why ↦ λ e. rw e refl
-    ] is
 
 -- a request whose reply leaves the state and makes no checkpoint
 stays : (limits : Limits) (s : State) (r : Request) (reply : Reply) → served limits s r ≡ unchanged s reply
@@ -73,6 +61,21 @@ facts_same s file r now kept = λ i. record {
 
 -- ---- answers
 
+-- each refusal of a request has its reply
+pub refused_replied : (limits : Limits) (s : State) (r : Request) (w : Refused)
+    → refusal limits (facts_of s r) r ≡ Some w
+    → IfSome (refused_reply (refusal_for w)) (λ reply. Step limits s r reply s)
+refused_replied limits s r w is = each w (refused_step limits s r w is)
+  where
+    each : (x : Refused) → Step limits s r (ask.refused x) s
+        → IfSome (refused_reply (refusal_for x)) (λ reply. Step limits s r reply s)
+    each ask.bad_name step = step
+    each ask.too_long step = step
+    each ask.missing step = step
+    each ask.damaged step = step
+    each ask.full step = step
+    each ask.worn step = step
+
 replies_refused : (limits : Limits) (s : State) (r : Request) (reply : Reply) (n : ℕ)
     (result : Result ℕ Refusal) (why : Refused) → refusal limits (facts_of s r) r ≡ Some why
     → result ≡ Err (refusal_for why)
@@ -80,16 +83,7 @@ replies_refused : (limits : Limits) (s : State) (r : Request) (reply : Reply) (n
 replies_refused limits s r reply n result why is answer =
     subst (λ (x : Result ℕ Refusal). IfSome (reply_of (λ (m : ℕ). reply) x) (λ x. Step limits s r x s))
     (sym answer)
-    (each why (refused_step limits s r why is))
-  where
-    each : (w : Refused) → Step limits s r (ask.refused w) s
-        → IfSome (refused_reply (refusal_for w)) (λ x. Step limits s r x s)
-    each ask.bad_name step = step
-    each ask.too_long step = step
-    each ask.missing step = step
-    each ask.damaged step = step
-    each ask.full step = step
-    each ask.worn step = step
+    (refused_replied limits s r why is)
 
 -- the reply to a read, by whether the object is damaged
 abbrev pub read_reply : Bool → Reply → Reply

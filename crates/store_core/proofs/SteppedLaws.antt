@@ -36,7 +36,7 @@ use Rattle.flush_run.proofs.HandLaws.{paid_more}
 use Rattle.flush_run.proofs.LaidPlaceLaws.{new_cap}
 use Rattle.flush_run.proofs.MadeLaws.{settling_of}
 use Rattle.flush_run.proofs.OneStepLaws.{sums_over}
-use Rattle.flush_run.proofs.SumLaws.{saves_high, sums_begin, sums_next, sums_still}
+use Rattle.flush_run.proofs.SumLaws.{saves_high, sums_begin, sums_next, sums_still, steps_some}
 use Rattle.change_charges.specs.Sized.{IsSizedBy}
 use Rattle.change_charges.proofs.SizedLaws.{sized_volumes}
 use Rattle.store_core.specs.declared.answers.Progress.TheVariants as progress
@@ -95,11 +95,6 @@ module _ {C : ℕ} {began : Began C} {s : Inside C} {v : Phase C} {t : StoreValu
       )
 
 -- at least one step is left
-pub steps_some : {C : ℕ} (v : Phase C) (e : Extents) → 1 ≤ steps_left v e
-steps_some (phases.Lift v) e = omega arith
-steps_some (phases.Pack v) e = omega arith
-steps_some (phases.Lay v) e = omega arith
-
 -- ---- a step
 
 module _ {C : ℕ} (began : Began C) (s : Inside C) (v : Phase C) (g : IsGoing began s v) where

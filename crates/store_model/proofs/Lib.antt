@@ -3,6 +3,7 @@ pub mod VersionLaws
 pub mod DigestLaws
 pub mod StoreLaws
 pub mod LineLaws
+pub mod RequestLaws
 pub mod ChargeLaws
 pub mod EndLaws
 pub mod HeldLaws
