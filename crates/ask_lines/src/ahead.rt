@@ -1,7 +1,6 @@
 //! Bytes that were read from a source and not yet used.
 ghost use Rattle.std.specs.Prelude.{◌≡◌, ◌≤◌, ◌++◌, [], length, take, drop, min, None, IfOk, IsTrue, OnOk};
-ghost use Rattle.disk_face.specs.Counts.{HasCause};
-ghost use Rattle.disk_face.specs.Streams.{Takes};
+ghost use Rattle.disk_face.specs.{Counts.{HasCause}, Streams.{Takes}};
 ghost use Rattle.ask_lines.specs.Lines.{Drops, TakesByte, byte_of};
 
 use disk_face::{Source, SourceFault};

@@ -2,8 +2,7 @@
 ghost use Rattle.std.specs.Prelude.{◌≡◌, ◌⊎◌, ◌+◌, ◌≤◌, ◌++◌, [], ◌∷◌, None, length, IfOk, IfSome, IsTrue, Ok, OnOk, false};
 ghost use Rattle.arrayvec.specs.ArrayVec.{array_vec_len};
 ghost use Rattle.disk_face.specs.Counts.{HasCause};
-ghost use Rattle.ask_text.specs.Asks.{IsAsk, line_of};
-ghost use Rattle.ask_text.specs.Inputs.{BeginsNone};
+ghost use Rattle.ask_text.specs.{Asks.{IsAsk, line_of}, Inputs.{BeginsNone}};
 ghost use Rattle.ask_lines.specs.Lines.{Lacks, newline_if};
 
 use crate::Ahead;

@@ -6,8 +6,7 @@ ghost use Rattle.size_class.specs.declared.TheConstants.{SIZE_MAX};
 ghost use Rattle.slot_codec.specs.Names.{is_name};
 ghost use Rattle.map_model.specs.Requests as ask;
 ghost use Rattle.store_model.specs.Quiet.{del_of, put_of};
-ghost use Rattle.ask_serve.specs.Ready.{CanServe};
-ghost use Rattle.ask_serve.specs.ReplyLines.{Answers, answer_change};
+ghost use Rattle.ask_serve.specs.{Ready.{CanServe}, ReplyLines.{Answers, answer_change}};
 
 use crate::heads::{answer_of, done_reply_line};
 use ask_text::{End, RefusedWord, Reply};

@@ -2,9 +2,7 @@
 ghost use Rattle.std.specs.Prelude.{◌≡◌, false, codes, IfErr, IfOk, IsTrue};
 ghost use Rattle.data_area.specs.Causes.{HasSinkCause};
 ghost use Rattle.ask_text.specs.Replies.{first_line};
-ghost use Rattle.ask_serve.specs.Putting.{PutsAnswer};
-ghost use Rattle.ask_serve.specs.ReplyLines.{answer_of, done_reply_line, fault_of, is_kept};
-ghost use Rattle.ask_serve.specs.Serving.{PutsText};
+ghost use Rattle.ask_serve.specs.{Putting.{PutsAnswer}, ReplyLines.{answer_of, done_reply_line, fault_of, is_kept}, Serving.{PutsText}};
 
 use ask_text::{End, RefusedWord, Reply, write_reply};
 use disk_face::{Sink, SinkFault};

@@ -1,7 +1,6 @@
 //! Reading the line of a request.
 ghost use Rattle.std.specs.Prelude.{◌≡◌, ◌++◌, [], ◌∷◌, false, true, IfOk, IfErr, IsTrue, Err, Ok};
-ghost use Rattle.ask_text.specs.Asks.{IsAsk, line_of};
-ghost use Rattle.ask_text.specs.Inputs.{BeginsNone};
+ghost use Rattle.ask_text.specs.{Asks.{IsAsk, line_of}, Inputs.{BeginsNone}};
 ghost use Rattle.ask_serve.specs.Inputs.{HasSourceCause, IsInputFault};
 
 use arrayvec::ArrayVec;

@@ -1,19 +1,12 @@
 //! Requests whose reply is an object or a list.
 ghost use Rattle.std.specs.Prelude.{◌≡◌, false, IfErr, IfOk, IsTrue, None};
-ghost use Rattle.disk_face.specs.Devices.{devices};
-ghost use Rattle.disk_face.specs.Frames.{Unchanged};
+ghost use Rattle.disk_face.specs.{Devices.{devices}, Frames.{Unchanged}};
 ghost use Rattle.slot_pair.specs.Finding.{HasDiskCause};
 ghost use Rattle.map_model.specs.Requests as ask;
-ghost use Rattle.store_core.specs.Answers.{refused_by};
-ghost use Rattle.store_model.specs.Connection.{state_of};
-ghost use Rattle.store_model.specs.Halves.{IsReadable};
-ghost use Rattle.store_model.specs.Lines.{lines_of, listing_of};
-ghost use Rattle.store_core.specs.Readings.{asks_for, is_damaged_read, object_read};
+ghost use Rattle.store_core.specs.{Answers.{refused_by}, Readings.{asks_for, is_damaged_read, object_read}};
+ghost use Rattle.store_model.specs.{Connection.{state_of}, Halves.{IsReadable}, Lines.{lines_of, listing_of}};
 ghost use Rattle.data_area.specs.Causes.{HasSinkCause};
-ghost use Rattle.ask_serve.specs.Putting.{PutsStop};
-ghost use Rattle.ask_serve.specs.ReplyLines.{object_text};
-ghost use Rattle.ask_serve.specs.Ready.{CanRead};
-ghost use Rattle.ask_serve.specs.Serving.{GivesReply, IsServingFault, PutsText};
+ghost use Rattle.ask_serve.specs.{Putting.{PutsStop}, ReplyLines.{object_text}, Ready.{CanRead}, Serving.{GivesReply, IsServingFault, PutsText}};
 
 use crate::heads::{answer_of, fault_of, put_answer, put_end, say};
 use ask_text::{End, Reply, write_reply};

@@ -4,13 +4,9 @@ ghost use Rattle.disk_face.specs.Devices.{devices};
 ghost use Rattle.size_class.specs.declared.TheConstants.{SIZE_MAX};
 ghost use Rattle.map_model.specs.Requests as ask;
 ghost use Rattle.map_model.specs.Requests.{Request};
-ghost use Rattle.store_model.specs.Connection.{IsConnected};
-ghost use Rattle.store_model.specs.Quiet.{put_of};
+ghost use Rattle.store_model.specs.{Connection.{IsConnected}, Quiet.{put_of}};
 ghost use Rattle.ask_text.specs.Asks.{ask_of};
-ghost use Rattle.ask_serve.specs.ReplyLines.{Answers};
-ghost use Rattle.ask_serve.specs.Inputs.{HasBody, HoldsSize};
-ghost use Rattle.ask_serve.specs.Ready.{CanServe};
-ghost use Rattle.ask_serve.specs.Serving.{Replies};
+ghost use Rattle.ask_serve.specs.{ReplyLines.{Answers}, Inputs.{HasBody, HoldsSize}, Ready.{CanServe}, Serving.{Replies}};
 
 use crate::changes::{serve_back, serve_del, serve_keep, serve_long, serve_put, serve_stat};
 use crate::heads::put_answer;

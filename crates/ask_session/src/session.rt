@@ -2,12 +2,9 @@
 ghost use Rattle.std.specs.Prelude.{◌≡◌, false, true, if◌then◌else◌, IfOk, IfErr, None};
 ghost use Rattle.disk_face.specs.Counts.{counted};
 ghost use Rattle.store_model.specs.Stores.{IsStore};
-ghost use Rattle.ask_serve.specs.Inputs.{HasSourceCause};
-ghost use Rattle.ask_serve.specs.Outside.{outside};
-ghost use Rattle.ask_session.specs.Ready.{MayGoOn};
-ghost use Rattle.ask_session.specs.Sittings.{new_sitting};
+ghost use Rattle.ask_serve.specs.{Inputs.{HasSourceCause}, Outside.{outside}};
+ghost use Rattle.ask_session.specs.{Ready.{MayGoOn}, Sittings.{new_sitting}, Turns.{IsTurn}};
 ghost use Rattle.ask_text.specs.Ends.{is_ended, is_unserved, result_of};
-ghost use Rattle.ask_session.specs.Turns.{IsTurn};
 
 use ask_lines::Ahead;
 use ask_serve::{read_request, serve};

@@ -2,9 +2,7 @@
 ghost use Rattle.std.specs.Prelude.{◌≡◌, ◌<◌, ◌++◌, ℕ, MatchOption, IfErr, IfOk, Ok, codes, nat_eq};
 ghost use Rattle.std.specs.Fmt.{decimal};
 ghost use Rattle.std.specs.List.{position};
-ghost use Rattle.ask_text.specs.declared.ask.Ask.{Ask};
-ghost use Rattle.ask_text.specs.Asks.{AsksFor, AsksForNothing, IsBare};
-ghost use Rattle.ask_text.specs.Words.{IsWord};
+ghost use Rattle.ask_text.specs.{declared.ask.Ask.{Ask}, Asks.{AsksFor, AsksForNothing, IsBare}, Words.{IsWord}};
 
 use crate::{Word, number};
 use thiserror::Error;

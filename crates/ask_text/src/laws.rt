@@ -1,11 +1,7 @@
 //! Laws of the texts of requests and replies.
 ghost use Rattle.std.specs.Prelude.{◌≡◌, ◌≤◌, ◌++◌, ℕ, List, [], ◌∷◌, Some, None, codes, length, slice_index};
-ghost use Rattle.ask_text.specs.Asks.{AsksFor, IsAsk, ask_of, line_of};
-ghost use Rattle.ask_text.specs.Inputs.{Asks, HasText, request_text};
-ghost use Rattle.ask_text.specs.Replies.{IsTold, first_line, reply_text};
-ghost use Rattle.ask_text.specs.declared.ask.Ask.{Ask};
+ghost use Rattle.ask_text.specs.{Asks.{AsksFor, IsAsk, ask_of, line_of}, Inputs.{Asks, HasText, request_text}, Replies.{IsTold, first_line, reply_text}, declared.ask.Ask.{Ask}, declared.reply.Reply.{Reply}};
 ghost use Rattle.ask_text.specs.declared.ask.Ask.TheVariants as ask;
-ghost use Rattle.ask_text.specs.declared.reply.Reply.{Reply};
 ghost use Rattle.map_model.specs.Requests as request;
 ghost use Rattle.map_model.specs.Requests.{Request};
 

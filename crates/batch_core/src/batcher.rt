@@ -6,12 +6,9 @@ ghost use Rattle.map_model.specs.Requests.{Change};
 ghost use Rattle.slot_pair.specs.Finding.{HasDiskCause};
 ghost use Rattle.size_class.specs.declared.TheConstants.{SIZE_MAX};
 ghost use Rattle.store_core.specs.Answers.{size_at};
-ghost use Rattle.store_model.specs.Connection.{IsConnected};
-ghost use Rattle.store_model.specs.Stores.{IsStore};
+ghost use Rattle.store_model.specs.{Connection.{IsConnected}, Stores.{IsStore}};
 ghost use Rattle.batch_model.specs.Batches.{IsBatch, batch_name};
-ghost use Rattle.batch_core.specs.Answers.{Applies, Finishes, IsFetched, IsJudged, IsKeptText, IsReadBy, fetched_of};
-ghost use Rattle.batch_core.specs.Doing.{CanGo};
-ghost use Rattle.batch_core.specs.StoresOn.{store_on};
+ghost use Rattle.batch_core.specs.{Answers.{Applies, Finishes, IsFetched, IsJudged, IsKeptText, IsReadBy, fetched_of}, Doing.{CanGo}, StoresOn.{store_on}};
 
 use crate::BatchFault;
 use crate::judge::judge;
@@ -32,8 +29,7 @@ pub struct Batcher<const C: usize> {
 }
 
 impl<const C: usize> Model for Batcher<C> {
-    ghost use Rattle.store_model.specs.Connection.{StoreValue};
-    ghost use Rattle.store_model.specs.Codes.{kept_code};
+    ghost use Rattle.store_model.specs.{Connection.{StoreValue}, Codes.{kept_code}};
 
     ghost Value = { StoreValue };
 

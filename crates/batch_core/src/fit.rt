@@ -2,9 +2,7 @@
 ghost use Rattle.std.specs.Prelude.{◌≡◌, ◌<◌, ◌≤◌, ◌+◌, ◌-◌, ◌^◌, ℕ, List, false, IsTrue, if◌then◌else◌, is_some, nat_lt, ◌||◌, ◌&&◌};
 ghost use Rattle.std.specs.FinMap as fin;
 ghost use Rattle.map_model.specs.Requests.{Change};
-ghost use Rattle.batch_model.specs.Batches.{IsBatch};
-ghost use Rattle.batch_model.specs.Fits.{count_after};
-ghost use Rattle.batch_model.specs.Parts.{change_of};
+ghost use Rattle.batch_model.specs.{Batches.{IsBatch}, Fits.{count_after}, Parts.{change_of}};
 ghost use Rattle.batch_core.specs.Doing.{is_live, misfit_in, names_beside};
 
 use batch_model::part::{Part, read_part};

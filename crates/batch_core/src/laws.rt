@@ -2,9 +2,7 @@
 ghost use Rattle.std.specs.Prelude.{◌≡◌, ℕ, Bool, true, List, Some, None};
 ghost use Rattle.std.specs.FinMap as fin;
 ghost use Rattle.map_model.specs.Maps.{Map};
-ghost use Rattle.batch_model.specs.Batches.{IsBatch, applied, batch_name};
-ghost use Rattle.batch_model.specs.Fits.{misfit};
-ghost use Rattle.batch_model.specs.Views.{IsView, unbatched};
+ghost use Rattle.batch_model.specs.{Batches.{IsBatch, applied, batch_name}, Fits.{misfit}, Views.{IsView, unbatched}};
 ghost use Rattle.batch_core.specs.Doing.{Batch, IsBatchMap};
 
 /// Each map that a batch leaves while it is done is viewed as the map after all its changes.

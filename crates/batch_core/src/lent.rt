@@ -3,8 +3,7 @@ ghost use Rattle.std.specs.Prelude.{◌≡◌, ◌&&◌, ◌≤◌, not, false, 
 ghost use Rattle.std.specs.FinMap as fin;
 ghost use Rattle.store_model.specs.Connection.{IsConnected};
 ghost use Rattle.batch_model.specs.Batches.{batch_name};
-ghost use Rattle.batch_core.specs.Answers.{Applies, Finishes, kept_size};
-ghost use Rattle.batch_core.specs.StoresOn.{store_on};
+ghost use Rattle.batch_core.specs.{Answers.{Applies, Finishes, kept_size}, StoresOn.{store_on}};
 
 use crate::BatchFault;
 use crate::batcher::{apply_judged, finish_store};

@@ -3,12 +3,9 @@ ghost use Rattle.std.specs.Prelude.{◌≡◌, ◌⊎◌, false, IsTrue, Some, N
 ghost use Rattle.map_model.specs.Maps.{Map};
 ghost use Rattle.map_model.specs.Requests as ask;
 ghost use Rattle.batch_model.specs.Parts.{change_of};
-ghost use Rattle.batch_core.specs.Doing.{CanGo, IsKeptNow};
-ghost use Rattle.batch_core.specs.Making.{CanMake, IsDoneAs, Makes};
-ghost use Rattle.batch_core.specs.StoresOn.{StandsFor, store_on};
+ghost use Rattle.batch_core.specs.{Doing.{CanGo, IsKeptNow}, Making.{CanMake, IsDoneAs, Makes}, StoresOn.{StandsFor, store_on}};
 ghost use Rattle.store_core.specs.Answers.{refused_by};
-ghost use Rattle.store_model.specs.Stores.{IsStore};
-ghost use Rattle.store_model.specs.Quiet.{del_of, put_of};
+ghost use Rattle.store_model.specs.{Stores.{IsStore}, Quiet.{del_of, put_of}};
 
 use batch_model::part::Part;
 use disk_face::{Disk, DiskFault};

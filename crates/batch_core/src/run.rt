@@ -1,7 +1,6 @@
 //! The requests of a batch, one after another.
 ghost use Rattle.std.specs.Prelude.{◌≡◌, IsTrue, OnOk};
-ghost use Rattle.batch_core.specs.Doing.{Batch, CanApply, CanBegin, CanDo, CanEnd, GoesOrStops, IsKeptNow, all_applied, all_changes, all_done, begun, ended};
-ghost use Rattle.batch_core.specs.StoresOn.{store_on};
+ghost use Rattle.batch_core.specs.{Doing.{Batch, CanApply, CanBegin, CanDo, CanEnd, GoesOrStops, IsKeptNow, all_applied, all_changes, all_done, begun, ended}, StoresOn.{store_on}};
 
 use crate::make::{keep, make_change, put_object, remove};
 use batch_model::check::BATCH;

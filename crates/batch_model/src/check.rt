@@ -1,11 +1,8 @@
 //! Whether a text is a batch.
 ghost use Rattle.std.specs.Prelude.{◌≡◌, ◌≤◌, ◌+◌, ◌<◌, ◌^◌, ◌++◌, ◌∷◌, [], ℕ, List, codes, length, true, false, IfErr, IfOk, IsTrue};
 ghost use Rattle.std.specs.declared.cmp.Ordering.TheVariants.{Less};
-ghost use Rattle.map_model.specs.Maps.{name_cmp};
-ghost use Rattle.map_model.specs.Requests.{Change};
-ghost use Rattle.map_model.specs.Weights.{same_name};
-ghost use Rattle.batch_model.specs.Batches.{IsBatch, StopsAt, batch_name};
-ghost use Rattle.batch_model.specs.Parts.{is_behind, may_follow};
+ghost use Rattle.map_model.specs.{Maps.{name_cmp}, Requests.{Change}, Weights.{same_name}};
+ghost use Rattle.batch_model.specs.{Batches.{IsBatch, StopsAt, batch_name}, Parts.{is_behind, may_follow}};
 
 use crate::part::read_part;
 use size_class::SIZE_MAX;

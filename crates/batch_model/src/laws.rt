@@ -2,11 +2,8 @@
 ghost use Rattle.std.specs.Prelude.{◌≡◌, ◌≤◌, ◌+◌, ℕ, Bool, true, false, List, [], ◌∷◌, ◌++◌, codes, Some, None};
 ghost use Rattle.std.specs.FinMap as fin;
 ghost use Rattle.std.specs.List.{AllByRecursion};
-ghost use Rattle.map_model.specs.Maps.{Map};
-ghost use Rattle.map_model.specs.Requests.{Change, changed};
-ghost use Rattle.batch_model.specs.Batches.{IsBatch, IsPart, Rises, applied, batch_name, batch_text};
-ghost use Rattle.batch_model.specs.Fits.{counted_misfit, made, misfit};
-ghost use Rattle.batch_model.specs.Views.{IsView, unbatched};
+ghost use Rattle.map_model.specs.{Maps.{Map}, Requests.{Change, changed}};
+ghost use Rattle.batch_model.specs.{Batches.{IsBatch, IsPart, Rises, applied, batch_name, batch_text}, Fits.{counted_misfit, made, misfit}, Views.{IsView, unbatched}};
 
 /// A text is one batch at most, and a map has one view.
 pub fn a_map_has_one_view()

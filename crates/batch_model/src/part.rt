@@ -3,8 +3,7 @@ ghost use Rattle.std.specs.Prelude.{◌≡◌, ◌≤◌, ◌+◌, ◌++◌, ◌
 ghost use Rattle.std.specs.List.{position};
 ghost use Rattle.map_model.specs.Requests as ask;
 ghost use Rattle.map_model.specs.Requests.{Change};
-ghost use Rattle.ask_text.specs.Asks.{IsAsk, line_of};
-ghost use Rattle.ask_text.specs.Inputs.{BeginsNone, request_text};
+ghost use Rattle.ask_text.specs.{Asks.{IsAsk, line_of}, Inputs.{BeginsNone, request_text}};
 ghost use Rattle.batch_model.specs.Parts.{CanStand, IsNoPart, ReadsObject, change_of};
 
 use ask_text::{Ask, read_ask};

@@ -1,8 +1,6 @@
 //! The charges of a put and of a removal, each tried whether or not the other found room.
 ghost use Rattle.std.specs.Prelude.{◌≡◌, ◌<◌, ◌≤◌, ◌^◌, IfSome, IsFalse, IsNone, Some};
-ghost use Rattle.segment_layout.specs.Books.{is_quiet};
-ghost use Rattle.segment_layout.specs.Charges.{KeepsSegments};
-ghost use Rattle.segment_layout.specs.Layouts.{caps_of, divisor_of, grid_of};
+ghost use Rattle.segment_layout.specs.{Books.{is_quiet}, Charges.{KeepsSegments}, Layouts.{caps_of, divisor_of, grid_of}};
 ghost use Rattle.placement_model.specs.Tried.{between, gone_charged, size_at};
 ghost use Rattle.change_charges.specs.Charging.{IsChargedBy, PlacesNew, lesser};
 

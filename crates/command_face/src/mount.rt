@@ -1,7 +1,6 @@
 //! Mounting a file that has to be there.
 ghost use Rattle.std.specs.Prelude.{◌≡◌, false, None, Err, IfErr, IsTrue, OnOk};
-ghost use Rattle.disk_face.specs.Frames.{AfterMount};
-ghost use Rattle.disk_face.specs.declared.bay.Mounted.TheVariants.{There};
+ghost use Rattle.disk_face.specs.{Frames.{AfterMount}, declared.bay.Mounted.TheVariants.{There}};
 ghost use Rattle.slot_pair.specs.Finding.{HasDiskCause};
 ghost use Rattle.command_face.specs.Mounting.{IsMounted, IsNotThere, mounted};
 

@@ -1,7 +1,6 @@
 //! Why a file isn't opened, as a reason to stop.
 ghost use Rattle.std.specs.Prelude.{◌≡◌};
-ghost use Rattle.command_face.specs.Refusing.{stop_of};
-ghost use Rattle.command_face.specs.Layers.{IsCommandReason};
+ghost use Rattle.command_face.specs.{Refusing.{stop_of}, Layers.{IsCommandReason}};
 
 use crate::StopReason;
 use reopen::OpenFault;

@@ -1,8 +1,7 @@
 //! How a command ends: its status, and its fault line.
 ghost use Rattle.std.specs.Prelude.{◌≡◌, ◌≤◌, Ok, Err, OnOk, IsTrue};
 ghost use Rattle.disk_face.specs.Counts.{Rose};
-ghost use Rattle.command_face.specs.Outcomes.{PutsLast, line_at, status_at};
-ghost use Rattle.command_face.specs.Faults.{line_of};
+ghost use Rattle.command_face.specs.{Outcomes.{PutsLast, line_at, status_at}, Faults.{line_of}};
 
 use crate::fault::fault_line;
 use crate::status::{

@@ -1,8 +1,7 @@
 //! Bytes that are gathered in a piece of memory on the stack, and put at once.
 ghost use Rattle.std.specs.Prelude.{◌≡◌, ◌+◌, ◌≤◌, ◌++◌, Err, IsTrue, OnErr, length};
 ghost use Rattle.arrayvec.specs.ArrayVec.{array_vec_len};
-ghost use Rattle.disk_face.specs.Counts.{HasCause};
-ghost use Rattle.disk_face.specs.Streams.{Puts};
+ghost use Rattle.disk_face.specs.{Counts.{HasCause}, Streams.{Puts}};
 
 use crate::StopReason;
 use arrayvec::ArrayVec;

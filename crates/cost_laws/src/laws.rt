@@ -2,18 +2,10 @@
 ghost use Rattle.std.specs.Prelude.{◌≡◌, ◌≤◌, ◌<◌, ◌+◌, ◌*◌, ℕ, List, true};
 ghost use Rattle.std.specs.FinMap as fin;
 ghost use Rattle.size_class.specs.Classes.{width, zero_row, zero_grid, IsGrid};
-ghost use Rattle.map_model.specs.Maps.{Map};
-ghost use Rattle.map_model.specs.Requests.{Change, changed};
-ghost use Rattle.segment_layout.specs.Shapes.{boundary_of, taken_in};
-ghost use Rattle.segment_layout.specs.Books.{Book, empty_book, next_book};
-ghost use Rattle.segment_layout.specs.Balance.{IsFilled};
+ghost use Rattle.map_model.specs.{Maps.{Map}, Requests.{Change, changed}};
+ghost use Rattle.segment_layout.specs.{Shapes.{boundary_of, taken_in}, Books.{Book, empty_book, next_book}, Balance.{IsFilled}};
 ghost use Rattle.move_cost.specs.Costs.{IsCost, factor, rate, weigh, potential};
-ghost use Rattle.cost_laws.specs.Asked.{asked_row};
-ghost use Rattle.cost_laws.specs.Cells.{HasNoneFrom, NoCellFalls};
-ghost use Rattle.cost_laws.specs.Sessions.{Account, IsPaidFor, after_change, gone_back, kept, opened};
-ghost use Rattle.cost_laws.specs.Moves.{MovesNext, next_grid, rise};
-ghost use Rattle.cost_laws.specs.Buffers.{PassedOver};
-ghost use Rattle.cost_laws.specs.Paid.{IsWeighed, ArePaid, AsksNext, IsPaid};
+ghost use Rattle.cost_laws.specs.{Asked.{asked_row}, Cells.{HasNoneFrom, NoCellFalls}, Sessions.{Account, IsPaidFor, after_change, gone_back, kept, opened}, Moves.{MovesNext, next_grid, rise}, Buffers.{PassedOver}, Paid.{IsWeighed, ArePaid, AsksNext, IsPaid}};
 
 /// A byte of a higher class weighs no more.
 pub fn the_rate_falls()

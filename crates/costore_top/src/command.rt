@@ -1,8 +1,7 @@
 //! The command that the words ask for.
 ghost use Rattle.std.specs.Prelude.{◌≡◌, None};
 ghost use Rattle.disk_face.specs.Devices.{devices};
-ghost use Rattle.costore_top.specs.Does.{Does};
-ghost use Rattle.costore_top.specs.Words.{IsCommand, command_of};
+ghost use Rattle.costore_top.specs.{Does.{Does}, Words.{IsCommand, command_of}};
 
 use crate::help::{HELP, VERSION};
 use crate::words::Command;

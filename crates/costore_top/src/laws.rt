@@ -1,30 +1,22 @@
 //! What holds of the answers, as contracts of functions that do nothing.
 ghost use Rattle.std.specs.Prelude.{◌≡◌, ◌⊎◌, ◌+◌, ◌<◌, ◌^◌, List, ℕ, Ok, Result, length, max};
-ghost use Rattle.disk_face.specs.Counts.{IsCalm, last};
-ghost use Rattle.disk_face.specs.Moments.{LeftOnly, Only};
-ghost use Rattle.disk_face.specs.Streams.{SinkState};
+ghost use Rattle.disk_face.specs.{Counts.{IsCalm, last}, Moments.{LeftOnly, Only}, Streams.{SinkState}, Devices.{devices}};
 ghost use Rattle.slot_codec.specs.Choice as choice;
 ghost use Rattle.segment_layout.specs.Books.{Book};
-ghost use Rattle.map_model.specs.Maps.{Map};
-ghost use Rattle.map_model.specs.Requests.{Request};
+ghost use Rattle.map_model.specs.{Maps.{Map}, Requests.{Request}};
 ghost use Rattle.table_rules.specs.Opening.{Opens, OpensBy};
 ghost use Rattle.store_model.specs.Opened.{RestsOnFound, most_found};
 ghost use Rattle.ask_text.specs.Inputs.{Asks};
-ghost use Rattle.costore_top.specs.Commands.{Command, check, get, map_of, run, work};
-ghost use Rattle.file_commands.specs.Getting.{given};
-ghost use Rattle.costore_top.specs.Following.{LeavesRoomTwice, MayBegin};
+ghost use Rattle.costore_top.specs.{Commands.{Command, check, get, map_of, run, work}, Following.{LeavesRoomTwice, MayBegin}, Answering.{IsAnswer}};
+ghost use Rattle.file_commands.specs.{Getting.{given}, Texts.{check_text, map_text}};
 ghost use Rattle.served_file.specs.Served.{most_left};
 ghost use Rattle.run_command.specs.Headline.{RunPromise};
 ghost use Rattle.command_face.specs.Outcomes.{Ends, status_at};
-ghost use Rattle.disk_face.specs.Devices.{devices};
-ghost use Rattle.costore_top.specs.Answering.{IsAnswer};
-ghost use Rattle.file_commands.specs.Texts.{check_text, map_text};
 ghost use Rattle.upgrade_command.specs.Upgrading.{UpgradePromise};
 ghost use Rattle.batch_command.specs.Promise.{BatchPromise};
 ghost use Rattle.desk_model.specs.Events.{Event, IsScript};
 ghost use Rattle.desk_command.specs.Promise.{DeskPromise};
-ghost use Rattle.work_command.specs.Asked.{NumberedJobs};
-ghost use Rattle.work_command.specs.Working.{JobsPromise};
+ghost use Rattle.work_command.specs.{Asked.{NumberedJobs}, Working.{JobsPromise}};
 
 use command_face::{DISK_FAILED, DONE, NO_FILE, NO_MEMORY, Outcome, SINK_FAILED, StopReason};
 use disk_face::{Bay, Sink, Source};

@@ -2,10 +2,7 @@
 ghost use Rattle.std.specs.Prelude.{◌≡◌, ◌↔◌, ℕ, List, None, Err, IsTrue};
 ghost use Rattle.disk_face.specs.Devices.{devices};
 ghost use Rattle.run_command.specs.Headline.{RunPromise};
-ghost use Rattle.costore_top.specs.Answering.{WritesNoObject};
-ghost use Rattle.costore_top.specs.Commands.{run};
-ghost use Rattle.costore_top.specs.Promises.{AnswersByItsFile, ChangesAsOne, DoesJobs, FormatsSafely, KeepsItsFile, MountsItsFile, ReadsInput, ServesInput};
-ghost use Rattle.costore_top.specs.Words.{Means, MeansNone, texts};
+ghost use Rattle.costore_top.specs.{Answering.{WritesNoObject}, Commands.{run}, Promises.{AnswersByItsFile, ChangesAsOne, DoesJobs, FormatsSafely, KeepsItsFile, MountsItsFile, ReadsInput, ServesInput}, Words.{Means, MeansNone, texts}};
 
 use crate::command::do_command;
 use crate::words::read_command;

@@ -1,9 +1,7 @@
 //! Writing and reading within the data part.
 ghost use Rattle.std.specs.Prelude.{◌≡◌, ◌+◌, ◌<◌, ◌≤◌, ◌^◌, length, OnOk, IsTrue};
 ghost use Rattle.byte_ranges.specs.Ranges.{bytes_at, overwritten};
-ghost use Rattle.disk_face.specs.Counts.{HasCause, counted};
-ghost use Rattle.disk_face.specs.Frames.{Unchanged};
-ghost use Rattle.disk_face.specs.Writes.{WritesWithin};
+ghost use Rattle.disk_face.specs.{Counts.{HasCause, counted}, Frames.{Unchanged}, Writes.{WritesWithin}};
 
 use disk_face::{Disk, DiskFault, read};
 

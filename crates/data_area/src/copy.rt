@@ -1,8 +1,7 @@
 //! Copying a range of a file in pieces of a buffer.
 ghost use Rattle.std.specs.Prelude.{◌≡◌, ◌+◌, ◌≤◌, length, OnOk, IsTrue};
 ghost use Rattle.byte_ranges.specs.Ranges.{bytes_at, overwritten};
-ghost use Rattle.disk_face.specs.Counts.{HasCause, counted};
-ghost use Rattle.disk_face.specs.Writes.{WritesWithin};
+ghost use Rattle.disk_face.specs.{Counts.{HasCause, counted}, Writes.{WritesWithin}};
 ghost use Rattle.data_area.specs.Copies.{CanCopy, CopyCalls};
 
 use disk_face::{Disk, DiskFault, read};

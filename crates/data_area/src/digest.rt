@@ -1,10 +1,8 @@
 //! The digest of bytes of the file.
 ghost use Rattle.std.specs.Prelude.{◌≡◌, ◌+◌, ◌^◌, ◌<◌, ◌≤◌, ◌++◌, List, ℕ, IfOk, OnOk, IsTrue, length};
-ghost use Rattle.sha2.specs.Hashers.{Holds256};
-ghost use Rattle.sha2.specs.Sha256.{sha256};
+ghost use Rattle.sha2.specs.{Hashers.{Holds256}, Sha256.{sha256}};
 ghost use Rattle.byte_ranges.specs.Ranges.{bytes_at};
-ghost use Rattle.disk_face.specs.Counts.{HasCause};
-ghost use Rattle.disk_face.specs.Frames.{Unchanged};
+ghost use Rattle.disk_face.specs.{Counts.{HasCause}, Frames.{Unchanged}};
 
 use disk_face::{Disk, DiskFault, read};
 use sha2::{Digest, Sha256};

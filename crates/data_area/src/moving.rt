@@ -3,8 +3,7 @@ ghost use Rattle.std.specs.Prelude.{◌≡◌, ◌+◌, length, OnOk, IsTrue};
 ghost use Rattle.byte_ranges.specs.Ranges.{bytes_at, overwritten};
 ghost use Rattle.size_class.specs.Rows.{cells_of};
 ghost use Rattle.disk_face.specs.Writes.{WritesWithin};
-ghost use Rattle.data_area.specs.Copies.{CanCopy, CopyCalls};
-ghost use Rattle.data_area.specs.Moves.{CountsMove, IsMovable};
+ghost use Rattle.data_area.specs.{Copies.{CanCopy, CopyCalls}, Moves.{CountsMove, IsMovable}};
 
 use crate::Ledger;
 use crate::copy::copy;

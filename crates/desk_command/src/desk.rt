@@ -2,16 +2,10 @@
 ghost use Rattle.std.specs.Prelude.{◌≡◌, false, None, IsTrue};
 ghost use Rattle.disk_face.specs.Devices.{devices};
 ghost use Rattle.size_class.specs.declared.TheConstants.{CLASSES};
-ghost use Rattle.store_model.specs.Connection.{IsConnected};
-ghost use Rattle.store_model.specs.Stores.{IsStore};
-ghost use Rattle.command_face.specs.Mounting.{IsMounted};
-ghost use Rattle.command_face.specs.Outcomes.{Ends};
-ghost use Rattle.command_face.specs.Refusing.{IsRefused};
-ghost use Rattle.served_file.specs.Steps.{FileSteps, OpenSteps};
-ghost use Rattle.served_file.specs.Unserved.{NeverServed};
-ghost use Rattle.desk_command.specs.Desking.{DeskAlways, DeskReads, KeepsSource};
-ghost use Rattle.desk_command.specs.Doing.{IsDesking, end_of};
-ghost use Rattle.desk_command.specs.Promise.{DeskPromise};
+ghost use Rattle.store_model.specs.{Connection.{IsConnected}, Stores.{IsStore}};
+ghost use Rattle.command_face.specs.{Mounting.{IsMounted}, Outcomes.{Ends}, Refusing.{IsRefused}};
+ghost use Rattle.served_file.specs.{Steps.{FileSteps, OpenSteps}, Unserved.{NeverServed}};
+ghost use Rattle.desk_command.specs.{Desking.{DeskAlways, DeskReads, KeepsSource}, Doing.{IsDesking, end_of}, Promise.{DeskPromise}};
 
 use command_face::{DISK_FAILED, NO_FILE, Outcome, StopReason, finish, mount_there, stop_of};
 use desk_core::{Desk, End};

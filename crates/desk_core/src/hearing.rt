@@ -2,8 +2,7 @@
 ghost use Rattle.std.specs.Prelude.{◌≡◌, ◌<◌, ◌++◌, true, length, IsTrue};
 ghost use Rattle.ask_serve.specs.Inputs.{HasSourceCause};
 ghost use Rattle.data_area.specs.Causes.{HasSinkCause};
-ghost use Rattle.desk_model.specs.Desks.{ring};
-ghost use Rattle.desk_model.specs.Events.{sessions};
+ghost use Rattle.desk_model.specs.{Desks.{ring}, Events.{sessions}};
 ghost use Rattle.desk_core.specs.Hearing.{IsHeard, is_unheard};
 
 use crate::lines::put_for;

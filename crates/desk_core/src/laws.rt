@@ -1,9 +1,7 @@
 //! Laws of what a crash may leave of a desk, as contracts of functions that do nothing.
 ghost use Rattle.std.specs.Prelude.{ℕ, List};
 ghost use Rattle.store_model.specs.States.{Limits};
-ghost use Rattle.desk_model.specs.Answers.{Answer};
-ghost use Rattle.desk_model.specs.Desks.{Desk, Plays};
-ghost use Rattle.desk_model.specs.Events.{Event};
+ghost use Rattle.desk_model.specs.{Answers.{Answer}, Desks.{Desk, Plays}, Events.{Event}};
 ghost use Rattle.desk_core.specs.Images.{Checkpoint, IsDeskImage, IsMadeImage};
 
 /// What is left in a run of a desk opens to the checkpoint that was settled at first, to that of a flush that

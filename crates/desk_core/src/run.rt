@@ -2,8 +2,7 @@
 ghost use Rattle.std.specs.Prelude.{◌≤◌};
 ghost use Rattle.disk_face.specs.Counts.{last};
 ghost use Rattle.ask_serve.specs.Outside.{held, seen_by};
-ghost use Rattle.desk_core.specs.Ready.{MayGoOn};
-ghost use Rattle.desk_core.specs.Runs.{EndsDesk};
+ghost use Rattle.desk_core.specs.{Ready.{MayGoOn}, Runs.{EndsDesk}};
 
 use crate::Desk;
 use ask_text::{End, Turn};

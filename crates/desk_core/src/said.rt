@@ -2,8 +2,7 @@
 ghost use Rattle.std.specs.Prelude.{◌≡◌, ◌≤◌, ◌<◌, ◌+◌, ◌++◌, ◌∷◌, [], ℕ, List, None, Err, IfErr, IfOk, IfSome, IsTrue, OnOk, drop, length, take};
 ghost use Rattle.size_class.specs.declared.TheConstants.{SIZE_MAX};
 ghost use Rattle.ask_serve.specs.Inputs.{HasSourceCause, HoldsObject, LacksObject};
-ghost use Rattle.ask_text.specs.Asks.{IsAsk, line_of};
-ghost use Rattle.ask_text.specs.Inputs.{BeginsNone};
+ghost use Rattle.ask_text.specs.{Asks.{IsAsk, line_of}, Inputs.{BeginsNone}};
 ghost use Rattle.desk_core.specs.Hearing.{DropsObject, Hears, IsTextFault};
 
 use arrayvec::ArrayVec;

@@ -1,14 +1,10 @@
 //! Serving the first request of a session.
 ghost use Rattle.std.specs.Prelude.{◌≡◌, ◌<◌, ◌==◌, ◌&&◌, ◌||◌, false, is_some, length, not, IsTrue};
 ghost use Rattle.disk_face.specs.Devices.{devices};
-ghost use Rattle.store_model.specs.Connection.{limits_of};
-ghost use Rattle.store_model.specs.Halves.{IsReadable};
-ghost use Rattle.desk_model.specs.Desks.{Desk, ServesFirst, queue_of, ring};
-ghost use Rattle.desk_model.specs.Events.{sessions};
+ghost use Rattle.store_model.specs.{Connection.{limits_of}, Halves.{IsReadable}};
+ghost use Rattle.desk_model.specs.{Desks.{Desk, ServesFirst, queue_of, ring}, Events.{sessions}};
 ghost use Rattle.desk_queues.specs.Queues.{Holds};
-ghost use Rattle.desk_core.specs.Images.{LeavesStep};
-ghost use Rattle.desk_core.specs.Playing.{KeepsGoing, PlaysOne, CallsOnce};
-ghost use Rattle.desk_core.specs.Shows.{ShowsParts, ShowsStore};
+ghost use Rattle.desk_core.specs.{Images.{LeavesStep}, Playing.{KeepsGoing, PlaysOne, CallsOnce}, Shows.{ShowsParts, ShowsStore}};
 
 use crate::lines::put_for;
 use crate::served::Served;

@@ -2,11 +2,8 @@
 ghost use Rattle.std.specs.Prelude.{◌≡◌, ◌<◌, ◌≤◌, ◌+◌, ℕ, None, false, IsTrue};
 ghost use Rattle.disk_face.specs.Devices.{devices};
 ghost use Rattle.store_model.specs.Halves.{IsHalfway, IsReadable};
-ghost use Rattle.desk_model.specs.Desks.{Desk, StepsOn, waiting};
-ghost use Rattle.desk_model.specs.Events.{sessions};
-ghost use Rattle.desk_core.specs.Images.{LeavesEnd, LeavesStep};
-ghost use Rattle.desk_core.specs.Playing.{FinishesStore, KeepsGoing, PlaysOne, SettlesFlush, StepsFlush, CallsOnce};
-ghost use Rattle.desk_core.specs.Shows.{ShowsStore};
+ghost use Rattle.desk_model.specs.{Desks.{Desk, StepsOn, waiting}, Events.{sessions}};
+ghost use Rattle.desk_core.specs.{Images.{LeavesEnd, LeavesStep}, Playing.{FinishesStore, KeepsGoing, PlaysOne, SettlesFlush, StepsFlush, CallsOnce}, Shows.{ShowsStore}};
 
 use crate::lines::{put_idle, put_kept, put_left, put_moved};
 use crate::served::Served;

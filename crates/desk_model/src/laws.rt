@@ -3,13 +3,9 @@ ghost use Rattle.std.specs.Prelude.{◌≡◌, ◌≤◌, ◌<◌, ◌+◌, ◌+
 ghost use Rattle.std.specs.List.{AllByRecursion};
 ghost use Rattle.map_model.specs.Requests as request;
 ghost use Rattle.store_model.specs.States.{Limits};
-ghost use Rattle.desk_model.specs.Events.{Event, IsEvent, IsScript, event_text, sessions};
+ghost use Rattle.desk_model.specs.{Events.{Event, IsEvent, IsScript, event_text, sessions}, Answers.{Answer, answer_text}, Desks.{Desk, Plays, end_lines, last_desk, new_desk, queue_of}, Orders.{HasFlush, RunsAsTaken, left_of, moved_in, owed, queued_in, replies_of, requests_of, taken_in, taken_of, told_in}, Worked.{put_c, worked_answers, worked_events, worked_limits, worked_puts, worked_script, worked_state}};
 ghost use Rattle.desk_model.specs.Events as event;
 ghost use Rattle.desk_model.specs.Answers as answer;
-ghost use Rattle.desk_model.specs.Answers.{Answer, answer_text};
-ghost use Rattle.desk_model.specs.Desks.{Desk, Plays, end_lines, last_desk, new_desk, queue_of};
-ghost use Rattle.desk_model.specs.Orders.{HasFlush, RunsAsTaken, left_of, moved_in, owed, queued_in, replies_of, requests_of, taken_in, taken_of, told_in};
-ghost use Rattle.desk_model.specs.Worked.{put_c, worked_answers, worked_events, worked_limits, worked_puts, worked_script, worked_state};
 
 /// No text of an event is the front of another's, so an input is one script.
 pub fn a_text_is_one_event()

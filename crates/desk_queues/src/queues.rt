@@ -1,10 +1,8 @@
 //! The queues of all sessions.
 ghost use Rattle.std.specs.Prelude.{◌≡◌, ◌+◌, ◌<◌, ◌≤◌, ◌++◌, ◌∷◌, ◌↔◌, [], ℕ, List, IfOk, IsTrue, length, slice_set};
 ghost use Rattle.map_model.specs.Requests.{Request};
-ghost use Rattle.ask_text.specs.Asks.{ask_of};
-ghost use Rattle.ask_text.specs.Inputs.{HasText, request_text};
-ghost use Rattle.desk_model.specs.Desks.{is_read, ring};
-ghost use Rattle.desk_model.specs.Events.{sessions};
+ghost use Rattle.ask_text.specs.{Asks.{ask_of}, Inputs.{HasText, request_text}};
+ghost use Rattle.desk_model.specs.{Desks.{is_read, ring}, Events.{sessions}};
 ghost use Rattle.desk_queues.specs.Queues.{Holds, IsText, StandsIn, no_requests, requests_at, ring_of};
 
 use crate::taken::take_first;

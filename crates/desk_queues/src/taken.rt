@@ -2,10 +2,8 @@
 ghost use Rattle.std.specs.Prelude.{◌≡◌, ◌≤◌, ◌++◌, ◌∷◌, ℕ, List, length};
 ghost use Rattle.circular_buffer.specs.Buffer.{buffer};
 ghost use Rattle.map_model.specs.Requests.{Request};
-ghost use Rattle.ask_text.specs.Asks.{ask_of};
-ghost use Rattle.ask_text.specs.Inputs.{HasText, request_text};
-ghost use Rattle.desk_queues.specs.Queues.{StandsIn};
-ghost use Rattle.desk_queues.specs.Taken.{BeginsLine, BeginsText, Lacks};
+ghost use Rattle.ask_text.specs.{Asks.{ask_of}, Inputs.{HasText, request_text}};
+ghost use Rattle.desk_queues.specs.{Queues.{StandsIn}, Taken.{BeginsLine, BeginsText, Lacks}};
 
 use arrayvec::ArrayVec;
 use ask_text::{Ask, read_ask};

@@ -1,8 +1,6 @@
 //! A place that has files by name.
 ghost use Rattle.std.specs.Prelude.{◌≡◌, ◌↔◌, [], Some, None, Ok, OnErr, IfOk, IsTrue, IsFalse};
-ghost use Rattle.disk_face.specs.Counts.{HasCause};
-ghost use Rattle.disk_face.specs.Frames.{AfterMount};
-ghost use Rattle.disk_face.specs.Mounts.{Names, is_mounted};
+ghost use Rattle.disk_face.specs.{Counts.{HasCause}, Frames.{AfterMount}, Mounts.{Names, is_mounted}};
 
 use crate::{Disk, DiskFault};
 

@@ -1,8 +1,7 @@
 //! What follows of the images of a file.
 ghost use Rattle.std.specs.Prelude.{◌≡◌, ℕ, List, Contains};
 ghost use Rattle.byte_ranges.specs.Ranges.{SameOutside};
-ghost use Rattle.disk_face.specs.Moments.{ResizedImage};
-ghost use Rattle.disk_face.specs.Images.{Unsynced, IsImage, after_sync, with_length, with_range};
+ghost use Rattle.disk_face.specs.{Moments.{ResizedImage}, Images.{Unsynced, IsImage, after_sync, with_length, with_range}};
 
 /// The one image after a sync is what was synced.
 pub fn synced_is_the_one_image()

@@ -1,8 +1,7 @@
 //! The two calls of a disk that change nothing, with their frame in one clause.
 ghost use Rattle.std.specs.Prelude.{◌≡◌, ◌+◌, ◌≤◌, length, IfOk, IsTrue, OnOk};
 ghost use Rattle.byte_ranges.specs.Ranges.{bytes_at};
-ghost use Rattle.disk_face.specs.Counts.{HasCause};
-ghost use Rattle.disk_face.specs.Frames.{Unchanged};
+ghost use Rattle.disk_face.specs.{Counts.{HasCause}, Frames.{Unchanged}};
 
 use crate::{Disk, DiskFault};
 

@@ -1,7 +1,6 @@
 //! Bytes that come in, and bytes that go out.
 ghost use Rattle.std.specs.Prelude.{◌≡◌, ◌≤◌, length, IfOk, IsTrue};
-ghost use Rattle.disk_face.specs.Counts.{HasCause};
-ghost use Rattle.disk_face.specs.Streams.{Puts, SinkState, SourceState, Takes};
+ghost use Rattle.disk_face.specs.{Counts.{HasCause}, Streams.{Puts, SinkState, SourceState, Takes}};
 
 /// A call on a source failed; it took nothing.
 #[derive(Clone, Copy, Debug, PartialEq, Eq)]

@@ -1,12 +1,8 @@
 //! A bay of real files.
 ghost use Rattle.std.specs.Prelude.{◌≡◌, ◌≤◌, ◌+◌, ◌<◌, ◌⊎◌, ◌↔◌, None, Some, Ok, refl, [], length, is_ok, is_some, if◌then◌else◌, IfOk, IfSome, IsErr, IsOk, OnErr, OnOk, IsTrue, IsFalse};
 ghost use Rattle.byte_ranges.specs.Ranges.{bytes_at, overwritten, resized};
-ghost use Rattle.disk_face.specs.Counts.{HasCause, counted, last};
-ghost use Rattle.disk_face.specs.Frames.{AfterLength, AfterMount, AfterRead, AfterSync, AfterWrite};
-ghost use Rattle.disk_face.specs.Moments.{Only};
-ghost use Rattle.disk_face.specs.Mounts.{has_file, is_mounted};
-ghost use Rattle.disk_file.specs.Mounted.{CanMount, HasName, IsAtRest, IsHeld, mount_of};
-ghost use Rattle.disk_file.specs.Words.{AsksFor};
+ghost use Rattle.disk_face.specs.{Counts.{HasCause, counted, last}, Frames.{AfterLength, AfterMount, AfterRead, AfterSync, AfterWrite}, Moments.{Only}, Mounts.{has_file, is_mounted}};
+ghost use Rattle.disk_file.specs.{Mounted.{CanMount, HasName, IsAtRest, IsHeld, mount_of}, Words.{AsksFor}};
 
 use crate::calls::{resize, sync, write};
 use crate::cause::Cause;
@@ -248,8 +244,7 @@ impl<H: Host> Disk for FileBay<H> {
 }
 
 impl<H: Host> Bay for FileBay<H> {
-    ghost use Rattle.disk_file.specs.Hosts.{SameWorld, names_of};
-    ghost use Rattle.disk_file.specs.Bays.{bay_state, cause_of, has_lost, marks_of, use_of};
+    ghost use Rattle.disk_file.specs.{Hosts.{SameWorld, names_of}, Bays.{bay_state, cause_of, has_lost, marks_of, use_of}};
 
     ghost names = { λ bay. names_of (marks_of bay) };
 

@@ -1,9 +1,7 @@
 //! The changing calls of a disk, by the calls of a system.
 ghost use Rattle.std.specs.Prelude.{◌≡◌, ◌⊎◌, ◌+◌, ◌≤◌, length, OnOk, OnErr, IfErr, IsOk, IsTrue, IsFalse};
 ghost use Rattle.byte_ranges.specs.Ranges.{overwritten, resized};
-ghost use Rattle.disk_face.specs.Counts.{counted, last};
-ghost use Rattle.disk_face.specs.Frames.{AfterLength, AfterSync, AfterWrite};
-ghost use Rattle.disk_face.specs.Moments.{Only};
+ghost use Rattle.disk_face.specs.{Counts.{counted, last}, Frames.{AfterLength, AfterSync, AfterWrite}, Moments.{Only}};
 ghost use Rattle.disk_file.specs.Words.{AsksFor};
 
 use crate::cause::{Cause, of_change};

@@ -3,11 +3,8 @@ ghost use Rattle.std.specs.Prelude.{◌≡◌, ◌+◌, ◌<◌, ◌≤◌, ◌�
 ghost use Rattle.std.specs.Io.{ReadsAtMost, WritesAtMost};
 ghost use Rattle.std.specs.IoError.{error_kind};
 ghost use Rattle.byte_ranges.specs.Ranges.{bytes_at, overwritten, resized};
-ghost use Rattle.disk_face.specs.Frames.{AfterMount};
-ghost use Rattle.disk_face.specs.Moments.{Only, Rests};
-ghost use Rattle.disk_face.specs.States.{IsLawful, State};
-ghost use Rattle.disk_file.specs.Hosts.{Marks, SameHold, SameWorld, can_open, opened_by};
-ghost use Rattle.disk_file.specs.Parts.{EndsCall, ResizesPart, SyncsPart, WritesPart};
+ghost use Rattle.disk_face.specs.{Frames.{AfterMount}, Moments.{Only, Rests}, States.{IsLawful, State}};
+ghost use Rattle.disk_file.specs.{Hosts.{Marks, SameHold, SameWorld, can_open, opened_by}, Parts.{EndsCall, ResizesPart, SyncsPart, WritesPart}};
 
 use std::io::{self, ErrorKind};
 

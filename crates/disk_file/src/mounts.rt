@@ -1,10 +1,7 @@
 //! How a mount opens a file, and brings it to rest.
 ghost use Rattle.std.specs.Prelude.{◌≡◌, ◌↔◌, [], Some, None, Ok, is_some, length, IfOk, IsOk, OnOk, IsTrue, IsFalse};
-ghost use Rattle.disk_face.specs.Frames.{AfterMount};
-ghost use Rattle.disk_face.specs.Moments.{Rests};
-ghost use Rattle.disk_face.specs.Mounts.{has_file};
-ghost use Rattle.disk_file.specs.Hosts.{SameHold, SameWorld, can_open, opened_by};
-ghost use Rattle.disk_file.specs.Mounted.{CanMount, IsTaken};
+ghost use Rattle.disk_face.specs.{Frames.{AfterMount}, Moments.{Rests}, Mounts.{has_file}};
+ghost use Rattle.disk_file.specs.{Hosts.{SameHold, SameWorld, can_open, opened_by}, Mounted.{CanMount, IsTaken}};
 
 use crate::cause::Cause;
 use crate::host::{Host, How, Kind, Use};

@@ -2,8 +2,7 @@
 ghost use Rattle.std.specs.Prelude.{◌≡◌, ◌+◌, ◌≤◌, length, OnOk, IfErr, IsOk, IsTrue, IsFalse};
 ghost use Rattle.disk_face.specs.Counts.{counted, last};
 ghost use Rattle.byte_ranges.specs.Ranges.{bytes_at, overwritten};
-ghost use Rattle.disk_file.specs.Parts.{WritesPart};
-ghost use Rattle.disk_file.specs.Words.{AsksFor};
+ghost use Rattle.disk_file.specs.{Parts.{WritesPart}, Words.{AsksFor}};
 
 use crate::cause::{Cause, of_change};
 use crate::host::Host;

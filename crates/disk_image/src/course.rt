@@ -1,7 +1,6 @@
 //! The history of a file, with the counts of its calls.
 ghost use Rattle.std.specs.Prelude.{◌≡◌, ◌≤◌, ◌-◌, ◌^◌};
-ghost use Rattle.disk_history.specs.Changes.RecordedCall.{Wrote, Sized, Synced};
-ghost use Rattle.disk_history.specs.Histories.{done, fresh, undone};
+ghost use Rattle.disk_history.specs.{Changes.RecordedCall.{Wrote, Sized, Synced}, Histories.{done, fresh, undone}};
 
 use crate::trail::Trail;
 

@@ -1,13 +1,9 @@
 //! A file in memory as a disk.
 ghost use Rattle.std.specs.Prelude.{◌≡◌, ◌⊎◌, ◌≤◌, ◌<◌, ◌+◌, ◌↔◌, length, take, OnOk, OnErr, IfOk, IsOk, IsErr, IsTrue};
 ghost use Rattle.byte_ranges.specs.Ranges.{bytes_at, overwritten, resized};
-ghost use Rattle.disk_face.specs.Counts.{HasCause};
-ghost use Rattle.disk_face.specs.Frames.{AfterLength, AfterRead, AfterSync, AfterWrite};
-ghost use Rattle.disk_face.specs.Moments.{Only};
-ghost use Rattle.disk_history.specs.Changes.RecordedCall.{Wrote, Sized, Synced};
-ghost use Rattle.disk_history.specs.Histories.{EndedBy, MayLeave};
-ghost use Rattle.disk_image.specs.Calls.{entry_head};
-ghost use Rattle.disk_image.specs.Notings.{IsLog, content, emptied, lent, made, refused};
+ghost use Rattle.disk_face.specs.{Counts.{HasCause}, Frames.{AfterLength, AfterRead, AfterSync, AfterWrite}, Moments.{Only}};
+ghost use Rattle.disk_history.specs.{Changes.RecordedCall.{Wrote, Sized, Synced}, Histories.{EndedBy, MayLeave}};
+ghost use Rattle.disk_image.specs.{Calls.{entry_head}, Notings.{IsLog, content, emptied, lent, made, refused}};
 
 use crate::course::Course;
 use crate::log::Log;

@@ -1,7 +1,6 @@
 //! A bay of one file, round a disk.
 ghost use Rattle.std.specs.Prelude.{◌≡◌, ◌≤◌, ◌+◌, ◌&&◌, [], refl, length, string_bytes, Some, None, Ok, OnOk, OnErr, IfOk, IsErr, IsTrue, IsFalse};
-ghost use Rattle.disk_face.specs.Counts.{counted, HasCause};
-ghost use Rattle.disk_face.specs.Mounts.{is_mounted};
+ghost use Rattle.disk_face.specs.{Counts.{counted, HasCause}, Mounts.{is_mounted}};
 ghost use Rattle.disk_mem.specs.LastMounts.{mount_of, own_answer};
 
 use disk_face::{Bay, Disk, DiskFault, Mounted};
@@ -79,8 +78,7 @@ impl<D: Disk> MemBay<D> {
 impl<D: Disk> Disk for MemBay<D> {
     ghost use Rattle.std.specs.Prelude.{◌⊎◌};
     ghost use Rattle.byte_ranges.specs.Ranges.{bytes_at, overwritten, resized};
-    ghost use Rattle.disk_face.specs.Frames.{AfterLength, AfterRead, AfterSync, AfterWrite};
-    ghost use Rattle.disk_face.specs.Moments.{Only};
+    ghost use Rattle.disk_face.specs.{Frames.{AfterLength, AfterRead, AfterSync, AfterWrite}, Moments.{Only}};
     ghost use Rattle.disk_mem.specs.Bays.{bay_state, SameBay};
 
     ghost state = { bay_state };

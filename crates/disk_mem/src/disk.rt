@@ -1,11 +1,9 @@
 //! A disk in memory that records each changing call, and so knows all that a crash may leave.
 ghost use Rattle.std.specs.Prelude.{◌≡◌, ◌≤◌, ◌+◌, [], length, OnOk, OnErr, IfOk, IsOk};
 ghost use Rattle.byte_ranges.specs.Ranges.{bytes_at, SameOutside};
-ghost use Rattle.disk_face.specs.Counts.{HasCause};
-ghost use Rattle.disk_face.specs.Moments.{ResizedImage, Follows, Only, NoMore, Elapses};
-ghost use Rattle.disk_history.specs.Changes.RecordedCall.{Wrote, Sized, Synced};
+ghost use Rattle.disk_face.specs.{Counts.{HasCause}, Moments.{ResizedImage, Follows, Only, NoMore, Elapses}};
+ghost use Rattle.disk_history.specs.{Changes.RecordedCall.{Wrote, Sized, Synced}, Histories.{fresh, done, undone, file_of, MayLeave, LeftSince, history_state}};
 ghost use Rattle.disk_mem.specs.Turns.{LeftAt, image_at};
-ghost use Rattle.disk_history.specs.Histories.{fresh, done, undone, file_of, MayLeave, LeftSince, history_state};
 
 use crate::image::{Choice, build};
 use crate::record::{Call, Entry, keep, keep_length, keep_write};
@@ -27,9 +25,8 @@ pub struct MemDisk {
 
 impl Model for MemDisk {
     ghost use Rattle.std.specs.Prelude.{◌≡◌};
-    ghost use Rattle.disk_history.specs.Changes.{content_after};
+    ghost use Rattle.disk_history.specs.{Changes.{content_after}, Histories.{History, EndedBy}};
     ghost use Rattle.disk_mem.specs.Entries.{newest_first};
-    ghost use Rattle.disk_history.specs.Histories.{History, EndedBy};
 
     ghost Value = { History };
 

@@ -1,9 +1,7 @@
 //! A disk round another one, which fails the calls that it is told.
 ghost use Rattle.std.specs.Prelude.{◌≡◌, ◌⊎◌, ◌≤◌, ◌+◌, false, length, OnOk, OnErr, IfOk, IsTrue, IsFalse};
 ghost use Rattle.byte_ranges.specs.Ranges.{bytes_at, overwritten, resized};
-ghost use Rattle.disk_face.specs.Counts.{counted};
-ghost use Rattle.disk_face.specs.Frames.{AfterLength, AfterRead, AfterSync, AfterWrite};
-ghost use Rattle.disk_face.specs.Moments.{Only};
+ghost use Rattle.disk_face.specs.{Counts.{counted}, Frames.{AfterLength, AfterRead, AfterSync, AfterWrite}, Moments.{Only}};
 ghost use Rattle.std.proofs.Common.{arith};
 ghost use Rattle.disk_mem.specs.Calls.{ListedCalls, AfterChanges, none_made, next_change_fails, next_read_fails, after_change, after_read};
 

@@ -1,10 +1,7 @@
 //! Images of a turn, built from the record.
 ghost use Rattle.std.specs.Prelude.{◌≡◌, OnOk, IfOk, option_map, slice_get};
-ghost use Rattle.disk_history.specs.Histories.{History};
-ghost use Rattle.disk_mem.specs.Tearing.{finished};
-ghost use Rattle.disk_mem.specs.Turns.{image_at};
-ghost use Rattle.disk_history.specs.Changes.{changed, content_after};
-ghost use Rattle.disk_mem.specs.Entries.{change_of, stamp_of, newest_first};
+ghost use Rattle.disk_history.specs.{Histories.{History}, Changes.{changed, content_after}};
+ghost use Rattle.disk_mem.specs.{Tearing.{finished}, Turns.{image_at}, Entries.{change_of, stamp_of, newest_first}};
 
 use crate::record::{Call, Entry};
 use crate::replay::{cut_or_grow, make_room, put};

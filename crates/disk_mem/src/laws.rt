@@ -1,9 +1,7 @@
 //! What a turn leaves, and how it is built.
 ghost use Rattle.std.specs.Prelude.{◌≡◌, List, ℕ, ◌≤◌};
-ghost use Rattle.disk_history.specs.Histories.{History, EndedBy, LeftSince};
-ghost use Rattle.disk_mem.specs.Turns.{LeftAt, torn};
-ghost use Rattle.disk_history.specs.Changes.{Stamped, content_after, unsynced_after};
-ghost use Rattle.disk_mem.specs.Tearing.{smeared_after, up_to_sync, since_sync};
+ghost use Rattle.disk_history.specs.{Histories.{History, EndedBy, LeftSince}, Changes.{Stamped, content_after, unsynced_after}};
+ghost use Rattle.disk_mem.specs.{Turns.{LeftAt, torn}, Tearing.{smeared_after, up_to_sync, since_sync}};
 
 /// What was left at a moment of a turn was left since that turn.
 pub fn what_is_left_at_a_turn_is_left_since()

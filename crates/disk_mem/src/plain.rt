@@ -2,8 +2,7 @@
 ghost use Rattle.std.specs.Prelude.{◌≡◌, ◌<◌, ◌≤◌, ◌+◌, ◌↔◌, [], length, OnOk, OnErr, IfOk, IsOk, IsErr};
 ghost use Rattle.byte_ranges.specs.Ranges.{bytes_at, overwritten, resized};
 ghost use Rattle.disk_face.specs.Counts.{HasCause};
-ghost use Rattle.disk_mem.specs.Plain.{plain_after, plain_failed, plain_state};
-ghost use Rattle.disk_mem.specs.Lawful.{plain_lawful};
+ghost use Rattle.disk_mem.specs.{Plain.{plain_after, plain_failed, plain_state}, Lawful.{plain_lawful}};
 
 use crate::replay::{cut_or_grow, put};
 use disk_face::{Disk, DiskFault};

@@ -1,8 +1,7 @@
 //! What a crash may make of the bytes that calls wrote or grew.
 ghost use Rattle.std.specs.Prelude.{◌≡◌, ◌≤◌, ◌-◌, length, replicate, OnOk, option_map, slice_get};
 ghost use Rattle.byte_ranges.specs.Ranges.{overwritten};
-ghost use Rattle.disk_mem.specs.Entries.{change_of, stamp_of, newest_first};
-ghost use Rattle.disk_mem.specs.Tearing.{filled, smeared, smeared_after, smeared_next};
+ghost use Rattle.disk_mem.specs.{Entries.{change_of, stamp_of, newest_first}, Tearing.{filled, smeared, smeared_after, smeared_next}};
 
 use crate::record::{Call, Entry};
 use std::alloc::AllocError;

@@ -1,9 +1,7 @@
 //! A source and a sink in memory, which fail at the calls that they are told.
 ghost use Rattle.std.specs.Prelude.{◌≡◌, ◌<◌, ◌≤◌, ◌↔◌, min, [], length, OnOk, OnErr, IfOk, IsErr, IsTrue};
-ghost use Rattle.disk_face.specs.Counts.{HasCause};
-ghost use Rattle.disk_face.specs.Streams.{Takes, Puts};
-ghost use Rattle.disk_mem.specs.Lists.{next_call, is_listed};
-ghost use Rattle.disk_mem.specs.Streams.{supply_after, supply_failed, put_fails, intake_after, intake_failed, source_state, sink_state};
+ghost use Rattle.disk_face.specs.{Counts.{HasCause}, Streams.{Takes, Puts}};
+ghost use Rattle.disk_mem.specs.{Lists.{next_call, is_listed}, Streams.{supply_after, supply_failed, put_fails, intake_after, intake_failed, source_state, sink_state}};
 
 use disk_face::{Sink, SinkFault, Source, SourceFault};
 use slot_codec::NoMemory;

@@ -1,8 +1,6 @@
 //! Where in the record a turn ends, and where its last sync stands.
 ghost use Rattle.std.specs.Prelude.{◌≡◌, ◌≤◌, length, take, drop, None, option_map, slice_get};
-ghost use Rattle.disk_mem.specs.Entries.{change_of, stamp_of, newest_first};
-ghost use Rattle.disk_mem.specs.Tearing.{is_sync, up_to_sync, since_sync};
-ghost use Rattle.disk_mem.specs.Turns.{at_turn};
+ghost use Rattle.disk_mem.specs.{Entries.{change_of, stamp_of, newest_first}, Tearing.{is_sync, up_to_sync, since_sync}, Turns.{at_turn}};
 
 use crate::record::{Call, Entry};
 

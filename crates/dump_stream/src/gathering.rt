@@ -2,15 +2,13 @@
 ghost use Rattle.std.specs.Prelude.{[], ◌≡◌, ◌≢◌, ◌≤◌, ◌<◌, ◌+◌, ◌^◌, ◌++◌, Err, IfOk, IsTrue, OnErr, OnOk, Some, None, Ok, bytes_eq, codes, false, true, length, take};
 ghost use Rattle.std.specs.Fmt.{decimal};
 ghost use Rattle.byte_ranges.specs.Ranges.{bytes_at};
-ghost use Rattle.disk_face.specs.Frames.{Unchanged};
-ghost use Rattle.disk_face.specs.Streams.{Puts};
+ghost use Rattle.disk_face.specs.{Frames.{Unchanged}, Streams.{Puts}};
 ghost use Rattle.slot_pair.specs.Finding.{HasDiskCause};
 ghost use Rattle.segment_layout.specs.Books.{differs};
 ghost use Rattle.extent_table.specs.Extents.{IsInRange};
 ghost use Rattle.placement_model.specs.Reads.{object_at};
 ghost use Rattle.data_area.specs.Causes.{HasSinkCause};
-ghost use Rattle.dump_stream.specs.Dumps.{object_text};
-ghost use Rattle.dump_stream.specs.Dumping.{Front, Gathers, GathersIfSound, HasCauses, PutsIfSound, read_entry};
+ghost use Rattle.dump_stream.specs.{Dumps.{object_text}, Dumping.{Front, Gathers, GathersIfSound, HasCauses, PutsIfSound, read_entry}};
 
 use crate::head::{push, push_number};
 use crate::putting::DumpFault;

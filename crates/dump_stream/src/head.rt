@@ -3,8 +3,7 @@ ghost use Rattle.std.specs.Prelude.{◌≡◌, ◌+◌, ◌*◌, ◌^◌, ◌<�
 ghost use Rattle.std.specs.Fmt.{decimal};
 ghost use Rattle.std.specs.List.{position};
 ghost use Rattle.arrayvec.specs.ArrayVec.{array_vec_len};
-ghost use Rattle.size_class.specs.Classes.{IsRow};
-ghost use Rattle.size_class.specs.Rows.{cells_of};
+ghost use Rattle.size_class.specs.{Classes.{IsRow}, Rows.{cells_of}};
 ghost use Rattle.dump_stream.specs.Heads.{Ends, IsHead, ReadsVolumes, Splits, TellsHead, TellsNothing, head_line, number_end, volume_text, volumes_of_head};
 
 use arrayvec::ArrayVec;

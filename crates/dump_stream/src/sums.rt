@@ -4,8 +4,7 @@ ghost use Rattle.std.specs.FinMap as fin;
 ghost use Rattle.size_class.specs.Rows.{cells_of};
 ghost use Rattle.segment_layout.specs.Books.{volumes_of_sizes};
 ghost use Rattle.extent_table.specs.Extents.{IsTable};
-ghost use Rattle.dump_stream.specs.Dumping.{AreSizes, sizes_at};
-ghost use Rattle.dump_stream.specs.Heads.{IsHead, volumes_of_head};
+ghost use Rattle.dump_stream.specs.{Dumping.{AreSizes, sizes_at}, Heads.{IsHead, volumes_of_head}};
 
 use crate::head::DumpHead;
 use extent_table::Table;

@@ -1,7 +1,6 @@
 //! A source that keeps the start of the request that a session reads.
 ghost use Rattle.std.specs.Prelude.{◌≡◌, ◌≤◌, IfOk, IsTrue, OnErr, length, take};
-ghost use Rattle.disk_face.specs.Counts.{HasCause};
-ghost use Rattle.disk_face.specs.Streams.{Takes};
+ghost use Rattle.disk_face.specs.{Counts.{HasCause}, Streams.{Takes}};
 ghost use Rattle.error_lines.specs.Begins.{ReadsAll, start};
 
 use crate::backs::Backs;

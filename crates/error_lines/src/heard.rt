@@ -1,7 +1,6 @@
 //! A sink that keeps what was put last, and counts the replies of a session.
 ghost use Rattle.std.specs.Prelude.{◌≡◌, ◌≤◌, [], length, IsTrue};
-ghost use Rattle.disk_face.specs.Counts.{HasCause};
-ghost use Rattle.disk_face.specs.Streams.{Puts};
+ghost use Rattle.disk_face.specs.{Counts.{HasCause}, Streams.{Puts}};
 ghost use Rattle.error_lines.specs.Tallies.{HearsOne};
 
 use crate::backs::Backs;

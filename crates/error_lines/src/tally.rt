@@ -1,8 +1,7 @@
 //! What is counted of the replies of a session.
 ghost use Rattle.std.specs.Prelude.{◌≡◌, ◌<◌, ◌^◌, ◌++◌, ◌↔◌, ℕ, IsTrue, MatchOption, codes};
 ghost use Rattle.std.specs.Fmt.{decimal};
-ghost use Rattle.ask_text.specs.Replies.{IsTold, first_line};
-ghost use Rattle.ask_text.specs.declared.reply.Reply.{Reply};
+ghost use Rattle.ask_text.specs.{Replies.{IsTold, first_line}, declared.reply.Reply.{Reply}};
 ghost use Rattle.error_lines.specs.Tallies.{lines_in};
 
 use ask_text::number;

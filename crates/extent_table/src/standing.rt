@@ -1,9 +1,7 @@
 //! Names by key with where their objects stand now, and the two ways to take one side for the other.
 ghost use Rattle.std.specs.Prelude.{◌≡◌, ℕ, ◌<◌, ◌≤◌, Some, IsSome, IfSome, IsTrue, length, slice_index, vec_capacity};
 ghost use Rattle.slab.specs.Slab.{get, Updates};
-ghost use Rattle.extent_table.specs.declared.kept.Kept.TheVariants.{Same};
-ghost use Rattle.extent_table.specs.Kept.{kept_in, is_change, AreChanges};
-ghost use Rattle.extent_table.specs.Entries.{entry_of, standing_still, standing_at, once_kept, once_back, Goes};
+ghost use Rattle.extent_table.specs.{declared.kept.Kept.TheVariants.{Same}, Kept.{kept_in, is_change, AreChanges}, Entries.{entry_of, standing_still, standing_at, once_kept, once_back, Goes}};
 
 use crate::Spot;
 use crate::kept::{Kept, is_change, kept_as, note, read};

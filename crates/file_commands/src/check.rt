@@ -2,9 +2,8 @@
 ghost use Rattle.std.specs.Prelude.{◌≡◌, ◌≢◌, ◌≤◌, None, Ok, Err, IfOk, IfErr, IsTrue, length};
 ghost use Rattle.disk_face.specs.Frames.{Unchanged};
 ghost use Rattle.reopen.specs.Loads.{KeepsLoaded, table_seen, unboxed};
-ghost use Rattle.file_commands.specs.Getting.{StopsAs};
+ghost use Rattle.file_commands.specs.{Getting.{StopsAs}, Texts.{IsChecked, check_text, kind_text}};
 ghost use Rattle.command_face.specs.Layers.{Answers, HasCausesAt, IsCommandReason, Looks, PutsNone};
-ghost use Rattle.file_commands.specs.Texts.{IsChecked, check_text, kind_text};
 
 use crate::lines::push_three;
 use crate::load::load;

@@ -1,12 +1,8 @@
 //! Each command, but for the fault line.
 ghost use Rattle.std.specs.Prelude.{◌≡◌, ◌≢◌, ◌≤◌, false, true, None, Ok, Err, IfErr, IsTrue, length};
 ghost use Rattle.disk_face.specs.Frames.{Untouched};
-ghost use Rattle.file_commands.specs.Getting.{IsObject};
-ghost use Rattle.command_face.specs.Mounting.{IsMounted};
-ghost use Rattle.file_commands.specs.Formatting.{Formats, IsDone, format_answer};
-ghost use Rattle.command_face.specs.Layers.{Answers, IsCommandReason, KeepsAt, PutsNone};
-ghost use Rattle.file_commands.specs.Dumped.{Dumps, PutsNoDump};
-ghost use Rattle.file_commands.specs.Texts.{IsChecked, IsMapped};
+ghost use Rattle.file_commands.specs.{Getting.{IsObject}, Formatting.{Formats, IsDone, format_answer}, Dumped.{Dumps, PutsNoDump}, Texts.{IsChecked, IsMapped}};
+ghost use Rattle.command_face.specs.{Mounting.{IsMounted}, Layers.{Answers, IsCommandReason, KeepsAt, PutsNone}};
 
 use crate::check::check;
 use crate::dump::dump;

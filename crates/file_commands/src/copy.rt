@@ -1,8 +1,7 @@
 //! Copying bytes of the file to the sink.
 ghost use Rattle.std.specs.Prelude.{◌≡◌, ◌⊎◌, ◌+◌, ◌^◌, ◌<◌, ◌≤◌, Err, IfErr, IfOk, OnErr, IsTrue, length, min, vec_len};
 ghost use Rattle.byte_ranges.specs.Ranges.{bytes_at};
-ghost use Rattle.disk_face.specs.Frames.{Unchanged};
-ghost use Rattle.disk_face.specs.Streams.{Puts};
+ghost use Rattle.disk_face.specs.{Frames.{Unchanged}, Streams.{Puts}};
 ghost use Rattle.command_face.specs.Layers.{HasCausesAt};
 
 use command_face::StopReason;

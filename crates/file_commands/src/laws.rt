@@ -5,10 +5,8 @@ ghost use Rattle.slot_codec.specs.Choice as choice;
 ghost use Rattle.slot_pair.specs.Formats.{HasFirstTable, IsNoStore, first_table};
 ghost use Rattle.segment_layout.specs.Books.{Book, empty_book};
 ghost use Rattle.map_model.specs.Maps.{Map, volume};
-ghost use Rattle.table_rules.specs.Opening.{Opens, OpensBy};
-ghost use Rattle.table_rules.specs.Tables.{size_sum};
-ghost use Rattle.file_commands.specs.Texts.{check_text, map_text};
-ghost use Rattle.file_commands.specs.Worked.{hello, moved_up};
+ghost use Rattle.table_rules.specs.{Opening.{Opens, OpensBy}, Tables.{size_sum}};
+ghost use Rattle.file_commands.specs.{Texts.{check_text, map_text}, Worked.{hello, moved_up}};
 
 use size_class::{CLASSES, SIZE_MAX};
 

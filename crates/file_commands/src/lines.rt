@@ -1,8 +1,7 @@
 //! Lines of text, gathered in a piece of memory on the stack.
 ghost use Rattle.std.specs.Prelude.{◌≡◌, ◌+◌, ◌≤◌, ◌++◌, [], Err, IsTrue, OnErr, OnOk};
 ghost use Rattle.arrayvec.specs.ArrayVec.{array_vec_len};
-ghost use Rattle.disk_face.specs.Counts.{HasCause};
-ghost use Rattle.disk_face.specs.Streams.{Puts};
+ghost use Rattle.disk_face.specs.{Counts.{HasCause}, Streams.{Puts}};
 ghost use Rattle.command_face.specs.Lines.{numbered};
 ghost use Rattle.file_commands.specs.Texts.{Gathers};
 

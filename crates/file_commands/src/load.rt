@@ -1,9 +1,8 @@
 //! The table of a file that a command only reads.
 ghost use Rattle.std.specs.Prelude.{IfOk, IfErr, IsTrue};
 ghost use Rattle.reopen.specs.Loads.{IsLoadedFrom, KeepsLoaded, unboxed};
-ghost use Rattle.command_face.specs.Refusing.{IsRefused, stop_of};
+ghost use Rattle.command_face.specs.{Refusing.{IsRefused, stop_of}, Layers.{IsCommandReason, Looks}};
 ghost use Rattle.file_commands.specs.Getting.{StopsAs};
-ghost use Rattle.command_face.specs.Layers.{IsCommandReason, Looks};
 
 use command_face::{StopReason, stop_of};
 use disk_face::Disk;

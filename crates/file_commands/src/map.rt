@@ -2,12 +2,9 @@
 ghost use Rattle.std.specs.Prelude.{◌≡◌, ◌≢◌, ◌+◌, ◌^◌, ◌<◌, ◌≤◌, ◌++◌, None, Err, IfErr, IsTrue, OnErr, flat_map, sum};
 ghost use Rattle.arrayvec.specs.ArrayVec.{array_vec_len};
 ghost use Rattle.byte_ranges.specs.Lists.{below};
-ghost use Rattle.disk_face.specs.Counts.{HasCause};
-ghost use Rattle.disk_face.specs.Frames.{Unchanged};
-ghost use Rattle.disk_face.specs.Streams.{Puts};
+ghost use Rattle.disk_face.specs.{Counts.{HasCause}, Frames.{Unchanged}, Streams.{Puts}};
 ghost use Rattle.size_class.specs.Classes.{width};
-ghost use Rattle.slot_codec.specs.Names.{IsName};
-ghost use Rattle.slot_codec.specs.Reading.{all_in_range};
+ghost use Rattle.slot_codec.specs.{Names.{IsName}, Reading.{all_in_range}};
 ghost use Rattle.table_check.specs.Frames.{AreSmall};
 ghost use Rattle.extent_table.specs.Extents.{IsTable, record_of, records_of};
 ghost use Rattle.reopen.specs.Loads.{KeepsLoaded, table_seen, unboxed};

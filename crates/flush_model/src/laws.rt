@@ -1,9 +1,6 @@
 //! What the phases of a flush promise together.
 ghost use Rattle.std.specs.Prelude.{◌≡◌, ℕ};
-ghost use Rattle.flush_model.specs.Phases.{PlanState};
-ghost use Rattle.flush_model.specs.Runs.{LaysOnce, LiftsOrPacksOnce, MovesFewBytes, NextIsOne};
-ghost use Rattle.flush_model.specs.LooseReach.{ReachIsLoose};
-ghost use Rattle.flush_model.specs.Worked.{numbers_of_eleven, numbers_of_three};
+ghost use Rattle.flush_model.specs.{Phases.{PlanState}, Runs.{LaysOnce, LiftsOrPacksOnce, MovesFewBytes, NextIsOne}, LooseReach.{ReachIsLoose}, Worked.{numbers_of_eleven, numbers_of_three}};
 ghost use Rattle.flush_model.specs.declared.item.Move.{Move as AnyMove};
 
 /// Where the objects stand says which move is next.

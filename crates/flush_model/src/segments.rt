@@ -1,10 +1,8 @@
 //! Where the segments of classes begin: those of the layout, and those that are laid out anew.
 ghost use Rattle.std.specs.Prelude.{◌≡◌, ℕ, ◌+◌, ◌<◌, ◌≤◌, ◌^◌, slice_index};
-ghost use Rattle.size_class.specs.Classes.{width};
-ghost use Rattle.size_class.specs.Rows.{cells_of};
+ghost use Rattle.size_class.specs.{Classes.{width}, Rows.{cells_of}};
 ghost use Rattle.segment_layout.specs.Layouts.{divisor_of, caps_of};
-ghost use Rattle.flush_model.specs.Plans.{segments_length, stands_in_payload};
-ghost use Rattle.flush_model.specs.Segments.{ArePlaces, AreStarts};
+ghost use Rattle.flush_model.specs.{Plans.{segments_length, stands_in_payload}, Segments.{ArePlaces, AreStarts}};
 
 use crate::item::Item;
 use segment_layout::Layout;

@@ -1,11 +1,9 @@
 //! The numbers of a flush that goes on after it was interrupted.
 ghost use Rattle.std.specs.Prelude.{◌≡◌, ◌<◌, ◌≤◌, List};
-ghost use Rattle.segment_layout.specs.Shapes.{start_of};
-ghost use Rattle.segment_layout.specs.Layouts.{caps_of, divisor_of};
+ghost use Rattle.segment_layout.specs.{Shapes.{start_of}, Layouts.{caps_of, divisor_of}};
 ghost use Rattle.flush_model.specs.declared.item.Item.{Item as AnyItem};
 ghost use Rattle.flush_model.specs.Resumed.{numbers_again as again};
-ghost use Rattle.flush_plan.specs.Shelves.{IsOnShelf};
-ghost use Rattle.flush_plan.specs.Packs.{CanGoOn};
+ghost use Rattle.flush_plan.specs.{Shelves.{IsOnShelf}, Packs.{CanGoOn}};
 
 use crate::shelf::Shelf;
 use crate::volumes::volumes_from;

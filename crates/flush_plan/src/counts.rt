@@ -2,13 +2,10 @@
 ghost use Rattle.std.specs.Prelude.{◌≡◌, ℕ, ◌<◌, ◌≤◌, ◌^◌, List, slice_index};
 ghost use Rattle.size_class.specs.Classes.{class_of as class_of_lem};
 ghost use Rattle.size_class.specs.Rows.{cells_of};
-ghost use Rattle.segment_layout.specs.Shapes.{start_of};
-ghost use Rattle.segment_layout.specs.Layouts.{divisor_of, caps_of};
+ghost use Rattle.segment_layout.specs.{Shapes.{start_of}, Layouts.{divisor_of, caps_of}};
 ghost use Rattle.flush_model.specs.declared.item.Item.{Item as AnyItem};
-ghost use Rattle.flush_model.specs.Plans.{in_class, numbers_of, object_of};
-ghost use Rattle.flush_model.specs.Phases.{CanFlush};
-ghost use Rattle.flush_plan.specs.Shelves.{from_place, IsOnShelf, IsShelf};
-ghost use Rattle.flush_plan.specs.Counts.{IsCount};
+ghost use Rattle.flush_model.specs.{Plans.{in_class, numbers_of, object_of}, Phases.{CanFlush}};
+ghost use Rattle.flush_plan.specs.{Shelves.{from_place, IsOnShelf, IsShelf}, Counts.{IsCount}};
 
 use crate::ranks::rank_from;
 use crate::shelf::Shelf;

@@ -2,11 +2,8 @@
 ghost use Rattle.std.specs.Prelude.{◌≡◌, ◌≢◌, ℕ, ◌+◌, ◌<◌, ◌≤◌, ◌↔◌, List, IfSome, IsNone, IsTrue, length, slice_get, slice_index, Some};
 ghost use Rattle.size_class.specs.Rows.{cells_of};
 ghost use Rattle.flush_model.specs.declared.item.Item.{Item as AnyItem};
-ghost use Rattle.flush_model.specs.Plans.{relocated};
-ghost use Rattle.flush_model.specs.Phases.{IsLaidWhole};
-ghost use Rattle.flush_model.specs.Steps.{IsLayStep};
-ghost use Rattle.flush_plan.specs.Shelves.{IsFirstOf, phase_on};
-ghost use Rattle.flush_plan.specs.Lays.{HasSettled, IsNextClass, KeepsLaying, Lays, StandsPast};
+ghost use Rattle.flush_model.specs.{Plans.{relocated}, Phases.{IsLaidWhole}, Steps.{IsLayStep}};
+ghost use Rattle.flush_plan.specs.{Shelves.{IsFirstOf, phase_on}, Lays.{HasSettled, IsNextClass, KeepsLaying, Lays, StandsPast}};
 
 use crate::ranks::rank_from;
 use crate::settled::Settled;
@@ -36,8 +33,7 @@ impl<const C: usize> Model for Laying<C> {
     ghost use Rattle.std.specs.Prelude.{slice_index};
     ghost use Rattle.size_class.specs.Rows.{cells_of};
     ghost use Rattle.flush_model.specs.Segments.{ArePlaces};
-    ghost use Rattle.flush_plan.specs.Shelves.{course_of};
-    ghost use Rattle.flush_plan.specs.Lays.{Lay};
+    ghost use Rattle.flush_plan.specs.{Shelves.{course_of}, Lays.{Lay}};
 
     ghost Value = { Lay };
 

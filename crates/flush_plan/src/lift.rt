@@ -2,13 +2,8 @@
 ghost use Rattle.std.specs.Prelude.{◌≡◌, ℕ, ◌<◌, ◌≤◌, ◌↔◌, List, IfSome, IsNone, IsPermutation, IsTrue};
 ghost use Rattle.segment_layout.specs.Layouts.{divisor_of, caps_of};
 ghost use Rattle.flush_model.specs.declared.item.Item.{Item as AnyItem};
-ghost use Rattle.flush_model.specs.Plans.{relocated};
-ghost use Rattle.flush_model.specs.Phases.{bytes_below, IsLifted, lifted_in, PaysFor};
-ghost use Rattle.flush_model.specs.Steps.{IsLiftStep};
-ghost use Rattle.flush_model.specs.Begins.{Begins, pending_size, with_pending};
-ghost use Rattle.flush_plan.specs.Shelves.{course_of, phase_on};
-ghost use Rattle.flush_plan.specs.Lifts.{IsFirstUnlifted, KeepsLifting, Lifts};
-ghost use Rattle.flush_plan.specs.Packs.{KeepsPacking};
+ghost use Rattle.flush_model.specs.{Plans.{relocated}, Phases.{bytes_below, IsLifted, lifted_in, PaysFor}, Steps.{IsLiftStep}, Begins.{Begins, pending_size, with_pending}};
+ghost use Rattle.flush_plan.specs.{Shelves.{course_of, phase_on}, Lifts.{IsFirstUnlifted, KeepsLifting, Lifts}, Packs.{KeepsPacking}};
 
 use crate::pack::Packing;
 use crate::ranks::rank_from;
@@ -35,8 +30,7 @@ pub struct Lifting<const C: usize> {
 impl<const C: usize> Model for Lifting<C> {
     ghost use Rattle.size_class.specs.Rows.{cells_of};
     ghost use Rattle.flush_model.specs.Segments.{AreStarts};
-    ghost use Rattle.flush_plan.specs.Shelves.{course_of};
-    ghost use Rattle.flush_plan.specs.Lifts.{Lift};
+    ghost use Rattle.flush_plan.specs.{Shelves.{course_of}, Lifts.{Lift}};
 
     ghost Value = { Lift };
 

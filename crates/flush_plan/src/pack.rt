@@ -2,12 +2,8 @@
 ghost use Rattle.std.specs.Prelude.{◌≡◌, ◌≢◌, ℕ, ◌+◌, ◌<◌, ◌≤◌, ◌↔◌, List, Contains, IfSome, IsNone, IsTrue};
 ghost use Rattle.segment_layout.specs.Layouts.{caps_of, divisor_of};
 ghost use Rattle.flush_model.specs.declared.item.Item.{Item as AnyItem};
-ghost use Rattle.flush_model.specs.Plans.{relocated};
-ghost use Rattle.flush_model.specs.Phases.{IsPackedWhole};
-ghost use Rattle.flush_model.specs.Steps.{IsPackStep};
-ghost use Rattle.flush_plan.specs.Shelves.{course_of, IsLastBefore, IsOnShelf, IsShelf, phase_on};
-ghost use Rattle.flush_plan.specs.Packs.{CanGoOn, IsPackedFrom, KeepsPacking, Packs};
-ghost use Rattle.flush_plan.specs.Lays.{KeepsLaying};
+ghost use Rattle.flush_model.specs.{Plans.{relocated}, Phases.{IsPackedWhole}, Steps.{IsPackStep}};
+ghost use Rattle.flush_plan.specs.{Shelves.{course_of, IsLastBefore, IsOnShelf, IsShelf, phase_on}, Packs.{CanGoOn, IsPackedFrom, KeepsPacking, Packs}, Lays.{KeepsLaying}};
 
 use crate::lay::{Laying, next_segment};
 use crate::ranks::rank_from;
@@ -32,8 +28,7 @@ pub struct Packing<const C: usize> {
 
 impl<const C: usize> Model for Packing<C> {
     ghost use Rattle.size_class.specs.Rows.{cells_of};
-    ghost use Rattle.flush_plan.specs.Shelves.{course_of};
-    ghost use Rattle.flush_plan.specs.Packs.{Pack};
+    ghost use Rattle.flush_plan.specs.{Shelves.{course_of}, Packs.{Pack}};
 
     ghost Value = { Pack };
 

@@ -18,8 +18,7 @@ pub struct Settled<const C: usize> {
 
 impl<const C: usize> Model for Settled<C> {
     ghost use Rattle.size_class.specs.Rows.{cells_of};
-    ghost use Rattle.flush_plan.specs.Shelves.{course_of};
-    ghost use Rattle.flush_plan.specs.Lays.{End};
+    ghost use Rattle.flush_plan.specs.{Shelves.{course_of}, Lays.{End}};
 
     ghost Value = { End };
 

@@ -1,10 +1,7 @@
 //! A flush one move at a time.
 ghost use Rattle.std.specs.Prelude.{◌≡◌, ◌+◌, ◌≤◌, ℕ, vec_len, IfOk, IsFalse, IsTrue, OnErr, OnOk};
 ghost use Rattle.disk_face.specs.Counts.{HasCause};
-ghost use Rattle.flush_run.specs.Advances.{HasStepped, HasStopped};
-ghost use Rattle.flush_run.specs.FlushFrames.{FlushFrame, LeavesOldOrNew};
-ghost use Rattle.flush_run.specs.Parts.{parts_of};
-ghost use Rattle.flush_run.specs.Phases.{CanAdvance, GoesOn, KeepsIn, PaidIn, items_in};
+ghost use Rattle.flush_run.specs.{Advances.{HasStepped, HasStopped}, FlushFrames.{FlushFrame, LeavesOldOrNew}, Parts.{parts_of}, Phases.{CanAdvance, GoesOn, KeepsIn, PaidIn, items_in}};
 
 use crate::Hands;
 use crate::one_move::make_move;

@@ -2,21 +2,16 @@
 ghost use Rattle.std.specs.Prelude.{◌≡◌, ◌⊎◌, ◌+◌, ◌-◌, ◌<◌, ◌≤◌, ◌^◌, ℕ, List, All, length, vec_len, min, slice_index, slice_set, OnOk, OnErr, IfOk, IfSome, IsNone, IsTrue, IsFalse, Ok, Some};
 ghost use Rattle.std.specs.FinMap as fin;
 ghost use Rattle.disk_face.specs.Counts.{HasCause, counted};
-ghost use Rattle.slot_codec.specs.Choice.{InUse, slot_in_use};
-ghost use Rattle.slot_codec.specs.Spelling.{head_len};
+ghost use Rattle.slot_codec.specs.{Choice.{InUse, slot_in_use}, Spelling.{head_len}};
 ghost use Rattle.slot_pair.specs.Saves.{save_calls};
-ghost use Rattle.size_class.specs.Classes.{class_of};
-ghost use Rattle.size_class.specs.Rows.{cells_of};
+ghost use Rattle.size_class.specs.{Classes.{class_of}, Rows.{cells_of}};
 ghost use Rattle.span_math.specs.Spans.{IsApart};
 ghost use Rattle.segment_layout.specs.Layouts.{grid_of};
 ghost use Rattle.extent_table.specs.Extents.{IsTable, records_of};
 ghost use Rattle.data_area.specs.Pieces.{pieces};
 ghost use Rattle.placement_model.specs.Held.{IsFreed, is_at};
 ghost use Rattle.flush_model.specs.declared.item.Move.{Move as AnyMove};
-ghost use Rattle.flush_run.specs.FlushFrames.{IsMidFlush, FlushFrame, MidFlush, IsFreeSpace, LeavesOldOrNew};
-ghost use Rattle.flush_run.specs.MadeMoves.{CanSaveAs, HasHeader};
-ghost use Rattle.flush_run.specs.Moves.{CanMove, FreesTarget, HasMoved, HasMover};
-ghost use Rattle.flush_run.specs.Parts.{FitsVersion, KeepsOn, parts_of};
+ghost use Rattle.flush_run.specs.{FlushFrames.{IsMidFlush, FlushFrame, MidFlush, IsFreeSpace, LeavesOldOrNew}, MadeMoves.{CanSaveAs, HasHeader}, Moves.{CanMove, FreesTarget, HasMoved, HasMover}, Parts.{FitsVersion, KeepsOn, parts_of}};
 
 use crate::Hands;
 use crate::headers::moving_header;

@@ -2,10 +2,7 @@
 ghost use Rattle.std.specs.Prelude.{◌≡◌, ◌+◌, ◌≤◌, vec_len, IsTrue, OnErr, OnOk};
 ghost use Rattle.disk_face.specs.Counts.{HasCause};
 ghost use Rattle.flush_model.specs.Phases.{PlanState, moved_by};
-ghost use Rattle.flush_run.specs.FlushFrames.{FlushFrame, LeavesOldOrNew};
-ghost use Rattle.flush_run.specs.Loops.{BetweenMoves};
-ghost use Rattle.flush_run.specs.MadeMoves.{CanMakeMove, HasMadeMove, HasNotMoved};
-ghost use Rattle.flush_run.specs.Parts.{parts_of};
+ghost use Rattle.flush_run.specs.{FlushFrames.{FlushFrame, LeavesOldOrNew}, Loops.{BetweenMoves}, MadeMoves.{CanMakeMove, HasMadeMove, HasNotMoved}, Parts.{parts_of}};
 
 use crate::Hands;
 use crate::moves::{free_target, move_one};

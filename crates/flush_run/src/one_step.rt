@@ -1,11 +1,7 @@
 //! A flush one move at a time, for whoever does other work between two moves.
 ghost use Rattle.std.specs.Prelude.{◌≡◌, ◌+◌, ◌≤◌, ℕ, IsTrue};
 ghost use Rattle.disk_face.specs.Counts.{HasCause};
-ghost use Rattle.flush_run.specs.FlushFrames.{FlushFrame, LeavesOldOrNew};
-ghost use Rattle.flush_run.specs.Parts.{parts_of};
-ghost use Rattle.flush_run.specs.Phases.{CanAdvance, KeepsIn, PaidIn, items_in};
-ghost use Rattle.flush_run.specs.Runs.{AreLent};
-ghost use Rattle.flush_run.specs.Steps.{GoesThen, KeepsThen, MakesThen, PaidThen, stepped_of};
+ghost use Rattle.flush_run.specs.{FlushFrames.{FlushFrame, LeavesOldOrNew}, Parts.{parts_of}, Phases.{CanAdvance, KeepsIn, PaidIn, items_in}, Runs.{AreLent}, Steps.{GoesThen, KeepsThen, MakesThen, PaidThen, stepped_of}};
 
 use crate::Hands;
 use crate::advance::advance;

@@ -1,9 +1,7 @@
 //! The three phases of a flush as one value, and what comes behind each.
 ghost use Rattle.std.specs.Prelude.{◌≡◌, IfSome, IsNone};
 ghost use Rattle.flush_model.specs.Plans.{relocated};
-ghost use Rattle.flush_run.specs.HandsOn.{HandsOn};
-ghost use Rattle.flush_run.specs.Phases.{AtEnd, IsOver, KeepsIn, StepIn, course_in, items_in, phase_in, rank_of, saving_in};
-ghost use Rattle.flush_run.specs.Shelved.{shelf_of};
+ghost use Rattle.flush_run.specs.{HandsOn.{HandsOn}, Phases.{AtEnd, IsOver, KeepsIn, StepIn, course_in, items_in, phase_in, rank_of, saving_in}, Shelved.{shelf_of}};
 
 use crate::shelf::TableShelf;
 use extent_table::Table;

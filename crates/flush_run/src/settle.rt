@@ -1,21 +1,13 @@
 //! The end of a flush: the settled table is saved, and the file is cut to where its layout ends.
 ghost use Rattle.std.specs.Prelude.{◌≡◌, ◌+◌, ◌-◌, ◌<◌, ◌≤◌, ◌^◌, ℕ, List, [], length, vec_len, OnErr, OnOk, IsTrue, Ok};
 ghost use Rattle.std.specs.FinMap as fin;
-ghost use Rattle.disk_face.specs.Counts.{HasCause};
-ghost use Rattle.disk_face.specs.Frames.{Calls};
-ghost use Rattle.slot_codec.specs.Choice.{slot_in_use};
-ghost use Rattle.slot_codec.specs.Reading.{all_in_range, is_version, worn_from};
-ghost use Rattle.slot_codec.specs.Spelling.{cap, head_len};
+ghost use Rattle.disk_face.specs.{Counts.{HasCause}, Frames.{Calls}};
+ghost use Rattle.slot_codec.specs.{Choice.{slot_in_use}, Reading.{all_in_range, is_version, worn_from}, Spelling.{cap, head_len}};
 ghost use Rattle.slot_pair.specs.Saves.{next_in_use, save_calls};
 ghost use Rattle.extent_table.specs.Extents.{IsTable, records_of, with_now_kept};
-ghost use Rattle.flush_run.specs.FlushFrames.{IsMidFlush, FlushFrame, LeavesOldOrNew};
-ghost use Rattle.flush_run.specs.Saves.{IsSaveable};
+ghost use Rattle.flush_run.specs.{FlushFrames.{IsMidFlush, FlushFrame, LeavesOldOrNew}, Saves.{IsSaveable}, Loops.{CanSave}, Settling.{CanCut, FlushEnds, IsSettled}, Parts.{KeepsOn, KeepsSettling, parts_of}, Shelved.{items_now, phase_now}};
 ghost use Rattle.segment_layout.specs.Layouts.{caps_of, grid_of};
 ghost use Rattle.size_class.specs.Rows.{cells_of};
-ghost use Rattle.flush_run.specs.Loops.{CanSave};
-ghost use Rattle.flush_run.specs.Settling.{CanCut, FlushEnds, IsSettled};
-ghost use Rattle.flush_run.specs.Parts.{KeepsOn, KeepsSettling, parts_of};
-ghost use Rattle.flush_run.specs.Shelved.{items_now, phase_now};
 ghost use Rattle.flush_plan.specs.Lays.{HasSettled};
 
 use crate::Hands;

@@ -1,8 +1,7 @@
 //! The guard of held space.
 ghost use Rattle.std.specs.Prelude.{◌≡◌, ◌<◌, ◌≤◌, ◌↔◌, ◌*◌, ◌+◌, ℕ, [], All, Any, IfOk, IsFalse, IsTrue, length, slice_index_or};
 ghost use Rattle.held_guard.specs.Freed.{AreInOrder, Joins};
-ghost use Rattle.span_math.specs.Lists.{RisesWithin};
-ghost use Rattle.span_math.specs.Spans.{IsApart, SharesByte};
+ghost use Rattle.span_math.specs.{Lists.{RisesWithin}, Spans.{IsApart, SharesByte}};
 ghost use Rattle.span_math.specs.declared.span.Span.{Span as AnySpan};
 
 use crate::search::begun_before;

@@ -1,7 +1,6 @@
 //! The words that a number draws, to try a program with. The same number draws the same words everywhere.
 ghost use Rattle.std.specs.Prelude.{◌≡◌, ◌<◌, ◌+◌, ◌*◌, ◌%◌, ◌^◌};
-ghost use Rattle.rand_pcg.specs.Lcg.{started, increment_of};
-ghost use Rattle.rand_pcg.specs.Pcg.{multiplier_64, pcg32};
+ghost use Rattle.rand_pcg.specs.{Lcg.{started, increment_of}, Pcg.{multiplier_64, pcg32}};
 
 use rand_core::utils::NextWord;
 use rand_pcg::Lcg64Xsh32;

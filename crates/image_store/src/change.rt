@@ -2,20 +2,14 @@
 ghost use Rattle.std.specs.Prelude.{◌≡◌, ◌||◌, IsNone, IsSome, None};
 ghost use Rattle.size_class.specs.declared.TheConstants.{CLASSES};
 ghost use Rattle.map_model.specs.Requests as ask;
-ghost use Rattle.store_core.specs.Answers.{is_disk_fault, refused_by};
-ghost use Rattle.store_core.specs.Begins.{BeginsChange};
-ghost use Rattle.store_core.specs.Changes.{NothingChanged};
-ghost use Rattle.store_core.specs.Changing.{IsChange};
-ghost use Rattle.store_core.specs.Keeps.{AnswersKeep, KeepsNow};
-ghost use Rattle.store_core.specs.Steps.{AnswersStep};
+ghost use Rattle.store_core.specs.{Answers.{is_disk_fault, refused_by}, Begins.{BeginsChange}, Changes.{NothingChanged}, Changing.{IsChange}, Keeps.{AnswersKeep, KeepsNow}, Steps.{AnswersStep}};
 ghost use Rattle.store_model.specs.Quiet.{del_of, put_of};
 
 use crate::ImageStore;
 use store_core::{Begun, Done, Progress, Refusal};
 
 impl ImageStore {
-    ghost use Rattle.image_store.specs.Embedded.{disk_before, disk_of};
-    ghost use Rattle.image_store.specs.Noted.{IsNoted};
+    ghost use Rattle.image_store.specs.{Embedded.{disk_before, disk_of}, Noted.{IsNoted}};
 
     /// Puts an object under a name, as the store does. The log has the calls that it made.
     pub fn put(&mut self, name: &[u8], object: &[u8]) -> Result<Done, Refusal>

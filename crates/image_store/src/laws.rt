@@ -1,29 +1,15 @@
 //! What follows of the calls that a store over a file in memory has noted.
 ghost use Rattle.std.specs.Prelude.{◌≡◌, ◌⊎◌, ◌<◌, ◌-◌, ◌^◌, ℕ, List, false, length, Ok, Result, None, Some, IsSome, IsNone, IsTrue};
-ghost use Rattle.disk_image.specs.Disks.{image_state};
-ghost use Rattle.disk_image.specs.Notings.{lent};
+ghost use Rattle.disk_image.specs.{Disks.{image_state}, Notings.{lent}};
 ghost use Rattle.size_class.specs.declared.TheConstants.{CLASSES, SIZE_MAX};
 ghost use Rattle.slot_codec.specs.Choice.{SlotTable};
-ghost use Rattle.map_model.specs.Maps.{Map};
+ghost use Rattle.map_model.specs.{Maps.{Map}, Requests.{Change}};
 ghost use Rattle.map_model.specs.Requests as ask;
-ghost use Rattle.map_model.specs.Requests.{Change};
 ghost use Rattle.segment_layout.specs.Books.{Book};
 ghost use Rattle.table_rules.specs.Opening.{OpensBy};
-ghost use Rattle.store_core.specs.declared.answers.Begun.{Begun};
-ghost use Rattle.store_core.specs.declared.answers.Done.{Done};
-ghost use Rattle.store_core.specs.declared.answers.Progress.{Progress};
-ghost use Rattle.store_core.specs.declared.answers.Refusal.{Refusal};
-ghost use Rattle.store_core.specs.Answers.{refused_by};
-ghost use Rattle.store_core.specs.Begins.{BeginsChange};
-ghost use Rattle.store_core.specs.Changes.{NothingChanged};
-ghost use Rattle.store_core.specs.Changing.{IsChange};
-ghost use Rattle.store_core.specs.Keeps.{KeepsNow, OpensToKeptOrNow};
-ghost use Rattle.store_core.specs.Steps.{StepsHalf};
-ghost use Rattle.store_model.specs.Connection.{FlushInHand};
-ghost use Rattle.store_model.specs.Halves.{IsHalfImage, Origin};
-ghost use Rattle.store_model.specs.Opened.{IsFoundImage, IsOpening, LeavesRoom};
-ghost use Rattle.image_store.specs.Embedded.{Embedded, disk_before, disk_of, file_in};
-ghost use Rattle.image_store.specs.Noted.{IsChangeImage, IsNoted, IsNotedOf, RestsOnKept, StopsAt, StopsFrom};
+ghost use Rattle.store_core.specs.{declared.answers.Begun.{Begun}, declared.answers.Done.{Done}, declared.answers.Progress.{Progress}, declared.answers.Refusal.{Refusal}, Answers.{refused_by}, Begins.{BeginsChange}, Changes.{NothingChanged}, Changing.{IsChange}, Keeps.{KeepsNow, OpensToKeptOrNow}, Steps.{StepsHalf}};
+ghost use Rattle.store_model.specs.{Connection.{FlushInHand}, Halves.{IsHalfImage, Origin}, Opened.{IsFoundImage, IsOpening, LeavesRoom}};
+ghost use Rattle.image_store.specs.{Embedded.{Embedded, disk_before, disk_of, file_in}, Noted.{IsChangeImage, IsNoted, IsNotedOf, RestsOnKept, StopsAt, StopsFrom}};
 
 /// Where the calls that a put or a removal noted are made in order on its file and that stops, before, within
 /// or after one of them, a crash leaves what it might have left before the call, or what opens to the last

@@ -4,8 +4,7 @@ ghost use Rattle.std.specs.FinMap as fin;
 ghost use Rattle.extent_table.specs.Extents.{volume_of};
 ghost use Rattle.map_model.specs.Requests as ask;
 ghost use Rattle.segment_layout.specs.Books.{book_end};
-ghost use Rattle.store_core.specs.Answers.{AnswersNumber, refused_by, size_at};
-ghost use Rattle.store_core.specs.Readings.{asks_for, object_read, position_of, spot_read};
+ghost use Rattle.store_core.specs.{Answers.{AnswersNumber, refused_by, size_at}, Readings.{asks_for, object_read, position_of, spot_read}};
 ghost use Rattle.image_store.specs.Readings.{CanCopy, ListsInto, ReadsInto, StandsAt, object_answer, read_answer};
 
 use crate::ImageStore;
@@ -14,8 +13,7 @@ use store_core::{Gauge, Moment, Refusal, Stat};
 
 impl ImageStore {
     ghost use Rattle.image_store.specs.Embedded.{file_in};
-    ghost use Rattle.store_model.specs.Connection.{limits_of, state_of};
-    ghost use Rattle.store_model.specs.States.{Step};
+    ghost use Rattle.store_model.specs.{Connection.{limits_of, state_of}, States.{Step}};
 
     /// The size of an object.
     pub fn size(&self, name: &[u8]) -> Result<u64, Refusal>

@@ -2,19 +2,14 @@
 ghost use Rattle.std.specs.Prelude.{◌≡◌, IsSome, None, Ok, Some};
 ghost use Rattle.disk_face.specs.Writes.{KeepsDisk};
 ghost use Rattle.size_class.specs.declared.TheConstants.{CLASSES};
-ghost use Rattle.store_core.specs.Answers.{is_disk_fault};
-ghost use Rattle.store_core.specs.Begins.{BeginsChange};
-ghost use Rattle.store_core.specs.Steps.{AnswersStep, MakesOne, StepsHalf};
-ghost use Rattle.store_model.specs.Connection.{FlushInHand};
-ghost use Rattle.store_model.specs.Halves.{HalfAgrees, Origin};
-ghost use Rattle.store_model.specs.Quiet.{del_of, put_of};
+ghost use Rattle.store_core.specs.{Answers.{is_disk_fault}, Begins.{BeginsChange}, Steps.{AnswersStep, MakesOne, StepsHalf}};
+ghost use Rattle.store_model.specs.{Connection.{FlushInHand}, Halves.{HalfAgrees, Origin}, Quiet.{del_of, put_of}};
 
 use crate::ImageStore;
 use store_core::{Begun, Progress, Refusal};
 
 impl ImageStore {
-    ghost use Rattle.image_store.specs.Embedded.{disk_before, disk_of};
-    ghost use Rattle.image_store.specs.Noted.{IsNoted, RestsOnKept};
+    ghost use Rattle.image_store.specs.{Embedded.{disk_before, disk_of}, Noted.{IsNoted, RestsOnKept}};
 
     /// Begins to put an object under a name: a quiet change is done, and of any other the flush is in hand.
     pub fn begin_put(&mut self, name: &[u8], object: &[u8]) -> Result<Begun, Refusal>

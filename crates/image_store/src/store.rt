@@ -1,14 +1,12 @@
 //! A store and its file.
 ghost use Rattle.std.specs.Prelude.{◌≡◌, ◌↔◌, [], length, IfErr, IfOk, IsSome, IsTrue, Ok};
 ghost use Rattle.size_class.specs.declared.TheConstants.{CLASSES};
-ghost use Rattle.disk_image.specs.Disks.{image_state};
-ghost use Rattle.disk_image.specs.Notings.{lent};
+ghost use Rattle.disk_image.specs.{Disks.{image_state}, Notings.{lent}};
 ghost use Rattle.reopen.specs.Refusals.{RefusesToOpen};
 ghost use Rattle.slot_codec.specs.Readable.{IsSuperBlock};
 ghost use Rattle.slot_pair.specs.Formats.{block_for};
 ghost use Rattle.store_model.specs.Opened.{IsOpening};
-ghost use Rattle.image_store.specs.Made.{IsMade, NotMade};
-ghost use Rattle.image_store.specs.Noted.{IsNotedOf};
+ghost use Rattle.image_store.specs.{Made.{IsMade, NotMade}, Noted.{IsNotedOf}};
 
 use disk_image::{ImageDisk, Log, Room};
 use reopen::OpenFault;
@@ -26,8 +24,7 @@ pub struct ImageStore {
 }
 
 impl Model for ImageStore {
-    ghost use Rattle.image_store.specs.Codes.{embedded_code};
-    ghost use Rattle.image_store.specs.Embedded.{Embedded, IsEmbedded};
+    ghost use Rattle.image_store.specs.{Codes.{embedded_code}, Embedded.{Embedded, IsEmbedded}};
 
     ghost Value = { Embedded };
 

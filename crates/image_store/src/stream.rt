@@ -1,16 +1,13 @@
 //! The map of a store's last checkpoint as one stream, and a store that is made of one.
 ghost use Rattle.std.specs.Prelude.{◌≡◌, ◌⊎◌, ◌≤◌, ◌<◌, [], length, take, None, Ok, IfErr, IfOk, OnErr};
 ghost use Rattle.disk_history.specs.Histories.{EndedBy};
-ghost use Rattle.disk_image.specs.Disks.{image_state};
-ghost use Rattle.disk_image.specs.Notings.{IsLog};
+ghost use Rattle.disk_image.specs.{Disks.{image_state}, Notings.{IsLog}};
 ghost use Rattle.reopen.specs.Loads.{IsLoadedFrom, KeepsLoaded, unboxed};
 ghost use Rattle.size_class.specs.declared.TheConstants.{CLASSES};
 ghost use Rattle.slot_codec.specs.Readable.{IsSuperBlock};
 ghost use Rattle.slot_pair.specs.Formats.{block_for};
 ghost use Rattle.store_model.specs.Opened.{IsFresh, IsOpening};
-ghost use Rattle.image_store.specs.Embedded.{disk_of};
-ghost use Rattle.image_store.specs.Noted.{IsNotedOf};
-ghost use Rattle.image_store.specs.Streams.{CopiesDump};
+ghost use Rattle.image_store.specs.{Embedded.{disk_of}, Noted.{IsNotedOf}, Streams.{CopiesDump}};
 
 use crate::ImageStore;
 use crate::dumped::Dumped;

@@ -3,8 +3,7 @@ ghost use Rattle.std.specs.Prelude.{◌≡◌, ◌≢◌, ◌⊎◌, ℕ, ◌+�
 ghost use Rattle.size_class.specs.Classes.{class_of as class_of_lem};
 ghost use Rattle.segment_layout.specs.Layouts.{divisor_of, caps_of};
 ghost use Rattle.flush_model.specs.declared.item.Item.{Item as AnyItem};
-ghost use Rattle.flush_model.specs.Plans.{IsInBuffer, ItemsApart, stands_in_payload};
-ghost use Rattle.flush_model.specs.Phases.{CanFlush};
+ghost use Rattle.flush_model.specs.{Plans.{IsInBuffer, ItemsApart, stands_in_payload}, Phases.{CanFlush}};
 ghost use Rattle.layer_rows.specs.Listed.{LiftsList};
 
 use crate::list_shelf::ListShelf;

@@ -3,8 +3,7 @@ ghost use Rattle.std.specs.Prelude.{◌≡◌, List, IfSome, IsPermutation};
 ghost use Rattle.std.specs.List.Sorted.{IsNonDecreasingBy};
 ghost use Rattle.segment_layout.specs.Layouts.{divisor_of};
 ghost use Rattle.flush_model.specs.declared.item.Item.{Item as AnyItem};
-ghost use Rattle.flush_model.specs.Plans.{AreBelow, AreSmall};
-ghost use Rattle.flush_model.specs.Phases.{IsPacking};
+ghost use Rattle.flush_model.specs.{Plans.{AreBelow, AreSmall}, Phases.{IsPacking}};
 ghost use Rattle.flush_plan.specs.Shelves.{PlanFrame, phase_on};
 ghost use Rattle.layer_rows.specs.Listed.{LaysList, PacksList};
 

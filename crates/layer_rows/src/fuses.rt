@@ -1,8 +1,7 @@
 //! Disks that fail when they are told to, call by call.
 ghost use Rattle.std.specs.Prelude.{◌≡◌, ◌∷◌, [], length};
 ghost use Rattle.disk_history.specs.Histories.{file_of};
-ghost use Rattle.disk_mem.specs.Calls.{AfterChanges, ListedCalls, none_made};
-ghost use Rattle.disk_mem.specs.Fuses.{fuse_calls, disk_of};
+ghost use Rattle.disk_mem.specs.{Calls.{AfterChanges, ListedCalls, none_made}, Fuses.{fuse_calls, disk_of}};
 
 use disk_face::Disk;
 use disk_mem::{Fuse, MemDisk};

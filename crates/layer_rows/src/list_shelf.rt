@@ -3,8 +3,7 @@ ghost use Rattle.std.specs.Prelude.{◌<◌, ◌≤◌, Contains, IsPermutation}
 ghost use Rattle.std.specs.List.Sorted.{IsNonDecreasingBy};
 ghost use Rattle.flush_model.specs.declared.item.Item.{Item as AnyItem};
 ghost use Rattle.flush_model.specs.declared.item.Numbers.{Numbers as AnyNumbers};
-ghost use Rattle.flush_model.specs.Plans.{mover, relocated};
-ghost use Rattle.flush_model.specs.Phases.{AreItems};
+ghost use Rattle.flush_model.specs.{Plans.{mover, relocated}, Phases.{AreItems}};
 ghost use Rattle.flush_plan.specs.Shelves.{IsRank, IsShelf};
 
 use flush_plan::{Item, Move, Shelf};

@@ -1,7 +1,6 @@
 //! Requests that wait at a desk, and are taken.
 ghost use Rattle.std.specs.Prelude.{◌≡◌, ◌<◌, ◌≤◌, ◌++◌, IsTrue, codes, length};
-ghost use Rattle.desk_model.specs.Desks.{ring};
-ghost use Rattle.desk_model.specs.Events.{sessions};
+ghost use Rattle.desk_model.specs.{Desks.{ring}, Events.{sessions}};
 ghost use Rattle.desk_queues.specs.Queues.{IsText};
 
 use crate::rows::try_holds;

@@ -3,10 +3,8 @@ ghost use Rattle.std.specs.Prelude.{◌≡◌, ◌≤◌, true, None, Err, IsTru
 ghost use Rattle.disk_face.specs.Devices.{devices};
 ghost use Rattle.slot_codec.specs.Readable.{IsSuperBlock};
 ghost use Rattle.slot_pair.specs.Formats.{block_for};
-ghost use Rattle.command_face.specs.Mounting.{IsMounted};
-ghost use Rattle.command_face.specs.Outcomes.{status_at};
-ghost use Rattle.load_command.specs.Doing.{IsLoading, reason_of};
-ghost use Rattle.load_command.specs.Loading.{LoadAlways, LoadPromise, LoadReads};
+ghost use Rattle.command_face.specs.{Mounting.{IsMounted}, Outcomes.{status_at}};
+ghost use Rattle.load_command.specs.{Doing.{IsLoading, reason_of}, Loading.{LoadAlways, LoadPromise, LoadReads}};
 
 use command_face::{DISK_FAILED, NO_FILE, Outcome, StopReason, finish, put_whole};
 use disk_face::{Bay, Disk, Mounted, Sink, Source, length_of};

@@ -3,14 +3,9 @@ ghost use Rattle.std.specs.Prelude.{◌≡◌, ◌∷◌, ◌++◌, ◌≤◌, �
 ghost use Rattle.size_class.specs.declared.TheConstants.{CLASSES};
 ghost use Rattle.slot_codec.specs.Readable.{IsSuperBlock};
 ghost use Rattle.slot_pair.specs.Formats.{block_for};
-ghost use Rattle.dump_stream.specs.Heads.{IsHead, head_line, volumes_of_head};
-ghost use Rattle.dump_stream.specs.Loading.{BeginsNone};
+ghost use Rattle.dump_stream.specs.{Heads.{IsHead, head_line, volumes_of_head}, Loading.{BeginsNone}};
 ghost use Rattle.load_stream.specs.declared.fault.LoadFault.TheVariants as why;
-ghost use Rattle.load_stream.specs.Causes.{HasSourceCause};
-ghost use Rattle.load_stream.specs.Faults.{IsFirstFault};
-ghost use Rattle.load_stream.specs.Loaded.{TellsTooMany};
-ghost use Rattle.load_stream.specs.Saved.{IsPlanFor};
-ghost use Rattle.load_stream.specs.Steps.{IsStart};
+ghost use Rattle.load_stream.specs.{Causes.{HasSourceCause}, Faults.{IsFirstFault}, Loaded.{TellsTooMany}, Saved.{IsPlanFor}, Steps.{IsStart}};
 
 use crate::LoadFault;
 use crate::first::{first_line, plan_of};

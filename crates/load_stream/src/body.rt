@@ -1,12 +1,8 @@
 //! Writing the bytes of an object as they come.
 ghost use Rattle.std.specs.Prelude.{◌≡◌, ◌≢◌, ◌+◌, ◌^◌, ◌<◌, ◌≤◌, ◌++◌, Err, Ok, IsTrue, false, length, true};
-ghost use Rattle.disk_face.specs.Counts.{counted};
-ghost use Rattle.disk_face.specs.Writes.{WritesWithin};
+ghost use Rattle.disk_face.specs.{Counts.{counted}, Writes.{WritesWithin}};
 ghost use Rattle.data_area.specs.Pieces.{HasMade, pieces};
-ghost use Rattle.load_stream.specs.declared.fault.LoadFault.{LoadFault};
-ghost use Rattle.load_stream.specs.Causes.{HasCauses};
-ghost use Rattle.load_stream.specs.Faults.{IsDeviceFault};
-ghost use Rattle.load_stream.specs.Steps.{WritesObject};
+ghost use Rattle.load_stream.specs.{declared.fault.LoadFault.{LoadFault}, Causes.{HasCauses}, Faults.{IsDeviceFault}, Steps.{WritesObject}};
 
 use crate::LoadFault;
 use ask_lines::{Ahead, fill};

@@ -1,20 +1,13 @@
 //! Filling a file that was formatted with the objects of a dump.
 ghost use Rattle.std.specs.Prelude.{◌≡◌, ◌⊎◌, ◌+◌, ◌^◌, ◌<◌, ◌≤◌, ◌++◌, ℕ, Err, IfErr, IsTrue, OnOk};
 ghost use Rattle.byte_ranges.specs.Ranges.{resized};
-ghost use Rattle.disk_face.specs.Frames.{AfterLength};
-ghost use Rattle.disk_face.specs.Moments.{Leaves, Rests};
-ghost use Rattle.disk_face.specs.Writes.{KeepsDisk, WritesWithin};
+ghost use Rattle.disk_face.specs.{Frames.{AfterLength}, Moments.{Leaves, Rests}, Writes.{KeepsDisk, WritesWithin}};
 ghost use Rattle.slot_codec.specs.Readable.{IsSuperBlock};
-ghost use Rattle.slot_pair.specs.Finding.{HasDiskCause};
-ghost use Rattle.slot_pair.specs.Formats.{HasFirstTable};
-ghost use Rattle.segment_layout.specs.Layouts.{caps_of, divisor_of};
-ghost use Rattle.segment_layout.specs.Shapes.{end_of};
+ghost use Rattle.slot_pair.specs.{Finding.{HasDiskCause}, Formats.{HasFirstTable}};
+ghost use Rattle.segment_layout.specs.{Layouts.{caps_of, divisor_of}, Shapes.{end_of}};
 ghost use Rattle.dump_stream.specs.Heads.{volumes_of_head};
 ghost use Rattle.load_stream.specs.declared.fault.LoadFault.TheVariants as why;
-ghost use Rattle.load_stream.specs.Causes.{HasCauses};
-ghost use Rattle.load_stream.specs.Faults.{IsLineOrDevice};
-ghost use Rattle.load_stream.specs.Saved.{IsPlanFor, LeavesRead, OpensEmpty, OpensRead, ReadsBody, StopsBody};
-ghost use Rattle.load_stream.specs.Steps.{FitsFile, IsStart, KeepsRoom, LoadsAll, passed};
+ghost use Rattle.load_stream.specs.{Causes.{HasCauses}, Faults.{IsLineOrDevice}, Saved.{IsPlanFor, LeavesRead, OpensEmpty, OpensRead, ReadsBody, StopsBody}, Steps.{FitsFile, IsStart, KeepsRoom, LoadsAll, passed}};
 
 use crate::LoadFault;
 use crate::end::is_whole;

@@ -2,13 +2,10 @@
 ghost use Rattle.std.specs.Prelude.{◌≡◌, ◌∷◌, ◌++◌, ◌<◌, ◌≤◌, ◌^◌, [], None, Ok, IfOk, IfSome, IsTrue};
 ghost use Rattle.disk_face.specs.Counts.{HasCause};
 ghost use Rattle.size_class.specs.Classes.{zero_grid};
-ghost use Rattle.slot_codec.specs.Readable.{IsSuperBlock};
-ghost use Rattle.slot_codec.specs.Spelling.{head_len};
+ghost use Rattle.slot_codec.specs.{Readable.{IsSuperBlock}, Spelling.{head_len}};
 ghost use Rattle.slot_pair.specs.Formats.{block_for};
-ghost use Rattle.segment_layout.specs.Layouts.{caps_of, divisor_of, grid_of};
-ghost use Rattle.segment_layout.specs.Shapes.{end_of};
-ghost use Rattle.dump_stream.specs.Heads.{IsHead, head_line, volumes_of_head};
-ghost use Rattle.dump_stream.specs.Loading.{BeginsNone};
+ghost use Rattle.segment_layout.specs.{Layouts.{caps_of, divisor_of, grid_of}, Shapes.{end_of}};
+ghost use Rattle.dump_stream.specs.{Heads.{IsHead, head_line, volumes_of_head}, Loading.{BeginsNone}};
 
 use crate::plan::Plan;
 use arrayvec::ArrayVec;

@@ -2,19 +2,13 @@
 ghost use Rattle.std.specs.Prelude.{◌≡◌, ℕ, ◌<◌, ◌≤◌, ◌^◌, ◌++◌, ◌∷◌, [], List, None, Result, IsOk, length};
 ghost use Rattle.std.specs.FinMap as fin;
 ghost use Rattle.std.specs.FinSet as set;
-ghost use Rattle.size_class.specs.Classes.{IsRow, width, zero_grid};
-ghost use Rattle.size_class.specs.declared.TheConstants.{CLASSES, SIZE_MAX};
-ghost use Rattle.map_model.specs.Maps.{Map};
-ghost use Rattle.map_model.specs.Weights.{Entry};
+ghost use Rattle.size_class.specs.{Classes.{IsRow, width, zero_grid}, declared.TheConstants.{CLASSES, SIZE_MAX}};
+ghost use Rattle.map_model.specs.{Maps.{Map}, Weights.{Entry}};
 ghost use Rattle.table_rules.specs.Tables.{book_of};
 ghost use Rattle.extent_table.specs.Extents.{Spots};
-ghost use Rattle.placement_model.specs.Laid.{settled_table};
-ghost use Rattle.placement_model.specs.LaidOut.{IsLaidOut};
-ghost use Rattle.dump_stream.specs.Dumps.{IsDumpOf};
-ghost use Rattle.dump_stream.specs.Loading.{BeginsNone, MayFollow, filled_by};
-ghost use Rattle.dump_stream.specs.Placing.{IsPlacing, spot_after};
-ghost use Rattle.load_stream.specs.declared.fault.LoadFault.{LoadFault};
-ghost use Rattle.load_stream.specs.Loaded.{AnswersLoad, Judges, TellsFew, TellsTooMany};
+ghost use Rattle.placement_model.specs.{Laid.{settled_table}, LaidOut.{IsLaidOut}};
+ghost use Rattle.dump_stream.specs.{Dumps.{IsDumpOf}, Loading.{BeginsNone, MayFollow, filled_by}, Placing.{IsPlacing, spot_after}};
+ghost use Rattle.load_stream.specs.{declared.fault.LoadFault.{LoadFault}, Loaded.{AnswersLoad, Judges, TellsFew, TellsTooMany}};
 
 /// What a load says of an input is one thing: an input is a dump of which there is room for all names, or
 /// has no first line in front, or one that tells of too many objects, or stops being a dump at one object. So

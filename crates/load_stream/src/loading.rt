@@ -1,16 +1,10 @@
 //! Loading a dump into a file that is empty.
 ghost use Rattle.std.specs.Prelude.{◌≡◌, ◌++◌, ℕ, [], Err, IsTrue, OnOk, length};
-ghost use Rattle.disk_face.specs.Frames.{Unchanged};
-ghost use Rattle.disk_face.specs.Moments.{Leaves, Only, Rests};
-ghost use Rattle.disk_face.specs.Writes.{KeepsDisk};
+ghost use Rattle.disk_face.specs.{Frames.{Unchanged}, Moments.{Leaves, Only, Rests}, Writes.{KeepsDisk}};
 ghost use Rattle.slot_codec.specs.Readable.{IsSuperBlock};
 ghost use Rattle.slot_pair.specs.Formats.{block_for};
 ghost use Rattle.load_stream.specs.declared.fault.LoadFault.TheVariants as why;
-ghost use Rattle.load_stream.specs.Causes.{HasCauses};
-ghost use Rattle.load_stream.specs.Faults.{IsEarly, IsLineOrDevice};
-ghost use Rattle.load_stream.specs.Loaded.{AnswersLoad, IsLoadImage, LeavesLoaded, LoadsWhole};
-ghost use Rattle.load_stream.specs.Saved.{IsNoneOrRead, IsPlanFor, LeavesNew, ReadsBody, StopsBody};
-ghost use Rattle.load_stream.specs.Steps.{IsStart, passed};
+ghost use Rattle.load_stream.specs.{Causes.{HasCauses}, Faults.{IsEarly, IsLineOrDevice}, Loaded.{AnswersLoad, IsLoadImage, LeavesLoaded, LoadsWhole}, Saved.{IsNoneOrRead, IsPlanFor, LeavesNew, ReadsBody, StopsBody}, Steps.{IsStart, passed}};
 
 use crate::LoadFault;
 use crate::begin::{read_plan, start};

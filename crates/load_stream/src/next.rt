@@ -1,13 +1,10 @@
 //! The next object of a dump: its line, and where it goes.
 ghost use Rattle.std.specs.Prelude.{◌≡◌, ◌⊎◌, ◌∷◌, ◌++◌, ◌<◌, ◌≤◌, ◌+◌, ℕ, List, None, Ok, IfOk, IfSome, IsNone, IsTrue, option_copied};
 ghost use Rattle.disk_face.specs.Counts.{HasCause};
-ghost use Rattle.size_class.specs.Rows.{cells_of};
-ghost use Rattle.size_class.specs.declared.TheConstants.{SIZE_MAX};
-ghost use Rattle.slot_codec.specs.Choice.{rises};
-ghost use Rattle.slot_codec.specs.Names.{IsName};
+ghost use Rattle.size_class.specs.{Rows.{cells_of}, declared.TheConstants.{SIZE_MAX}};
+ghost use Rattle.slot_codec.specs.{Choice.{rises}, Names.{IsName}};
 ghost use Rattle.segment_layout.specs.Layouts.{caps_of, divisor_of};
-ghost use Rattle.ask_text.specs.Asks.{line_of};
-ghost use Rattle.ask_text.specs.declared.ask.Ask.{Ask};
+ghost use Rattle.ask_text.specs.{Asks.{line_of}, declared.ask.Ask.{Ask}};
 ghost use Rattle.ask_text.specs.declared.ask.Ask.TheVariants as line;
 ghost use Rattle.dump_stream.specs.Placing.{spot_at};
 ghost use Rattle.load_stream.specs.Steps.{HasNoObject, HasRoom, NoneStands, StandsNext};

@@ -2,14 +2,10 @@
 ghost use Rattle.std.specs.Prelude.{◌≡◌, ◌+◌, ◌<◌, ◌≤◌, ◌++◌, Err, None, IsTrue, OnOk, ℕ, vec_len};
 ghost use Rattle.std.specs.FinMap as fin;
 ghost use Rattle.disk_face.specs.Writes.{WritesWithin};
-ghost use Rattle.size_class.specs.Classes.{zero_row};
-ghost use Rattle.size_class.specs.Rows.{cells_of};
-ghost use Rattle.segment_layout.specs.Layouts.{caps_of, divisor_of};
-ghost use Rattle.segment_layout.specs.Shapes.{end_of};
+ghost use Rattle.size_class.specs.{Classes.{zero_row}, Rows.{cells_of}};
+ghost use Rattle.segment_layout.specs.{Layouts.{caps_of, divisor_of}, Shapes.{end_of}};
 ghost use Rattle.load_stream.specs.declared.fault.LoadFault.TheVariants as why;
-ghost use Rattle.load_stream.specs.Causes.{HasCauses};
-ghost use Rattle.load_stream.specs.Faults.{IsLineOrDevice};
-ghost use Rattle.load_stream.specs.Steps.{FitsFile, IsStart, KeepsRoom, LoadsTo, StopsIn, passed};
+ghost use Rattle.load_stream.specs.{Causes.{HasCauses}, Faults.{IsLineOrDevice}, Steps.{FitsFile, IsStart, KeepsRoom, LoadsTo, StopsIn, passed}};
 
 use crate::LoadFault;
 use crate::object::load_object;

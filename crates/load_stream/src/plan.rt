@@ -1,7 +1,6 @@
 //! What a load knows of a dump once its first line was read, and what it has of its objects so far.
 ghost use Rattle.std.specs.Prelude.{◌≡◌, ◌∷◌, ◌++◌, [], ◌<◌, ◌≤◌, ◌^◌, ℕ, List, Some, IfOk, Ok, length, vec_len};
-ghost use Rattle.size_class.specs.Classes.{zero_row};
-ghost use Rattle.size_class.specs.Rows.{cells_of};
+ghost use Rattle.size_class.specs.{Classes.{zero_row}, Rows.{cells_of}};
 ghost use Rattle.segment_layout.specs.Layouts.{caps_of, divisor_of};
 ghost use Rattle.extent_table.specs.Extents.{IsTable, empty_extents};
 

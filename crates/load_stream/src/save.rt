@@ -1,14 +1,10 @@
 //! The save that ends a load.
 ghost use Rattle.std.specs.Prelude.{◌≡◌, ◌≤◌, ◌+◌, ◌<◌, ◌^◌, ℕ, List, Ok, IsTrue, OnOk, length};
 ghost use Rattle.std.specs.FinMap as fin;
-ghost use Rattle.disk_face.specs.Frames.{Calls};
-ghost use Rattle.disk_face.specs.Moments.{Leaves, Rests};
-ghost use Rattle.disk_face.specs.Writes.{KeepsDisk};
+ghost use Rattle.disk_face.specs.{Frames.{Calls}, Moments.{Leaves, Rests}, Writes.{KeepsDisk}};
 ghost use Rattle.size_class.specs.Classes.{zero_grid};
-ghost use Rattle.slot_codec.specs.Choice.{slot_in_use};
-ghost use Rattle.slot_codec.specs.Readable.{IsSuperBlock};
-ghost use Rattle.slot_pair.specs.Formats.{block_for, first_in_use};
-ghost use Rattle.slot_pair.specs.Saves.{save_calls};
+ghost use Rattle.slot_codec.specs.{Choice.{slot_in_use}, Readable.{IsSuperBlock}};
+ghost use Rattle.slot_pair.specs.{Formats.{block_for, first_in_use}, Saves.{save_calls}};
 ghost use Rattle.segment_layout.specs.Layouts.{caps_of, grid_of};
 ghost use Rattle.extent_table.specs.Extents.{IsTable, rolled};
 ghost use Rattle.load_stream.specs.Saved.{IsEmptyLike, IsEmptyOrLaid, IsLaidBeside, OpensLaid};

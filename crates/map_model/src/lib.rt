@@ -3,8 +3,7 @@
 
 ghost use Rattle.std.specs.Prelude.{◌≡◌, ◌≤◌, ◌+◌, ℕ, List, length, max};
 ghost use Rattle.std.specs.FinMap as fin;
-ghost use Rattle.map_model.specs.Maps.{Map, volume, largest};
-ghost use Rattle.map_model.specs.Weights.{size_at};
+ghost use Rattle.map_model.specs.{Maps.{Map, volume, largest}, Weights.{size_at}};
 
 /// A put adds the new object's bytes to the volume and takes those of the name's old object, if it
 /// has one. A removal takes them.

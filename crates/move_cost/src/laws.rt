@@ -1,8 +1,7 @@
 //! Worked examples of factors and weights, as contracts of functions that do nothing.
 ghost use Rattle.std.specs.Prelude.{◌≡◌};
 ghost use Rattle.size_class.specs.declared.TheConstants.{CLASSES};
-ghost use Rattle.move_cost.specs.Costs.{factor, weigh, linear, flat, seek};
-ghost use Rattle.move_cost.specs.Worked.{worked_moved, worked_asked};
+ghost use Rattle.move_cost.specs.{Costs.{factor, weigh, linear, flat, seek}, Worked.{worked_moved, worked_asked}};
 
 /// The constant of the amortised cost for the least k, for 9, and for the greatest.
 pub fn worked_factors()

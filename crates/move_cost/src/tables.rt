@@ -1,6 +1,5 @@
 //! Three costs: by the bytes, the same for each object, and by the bytes with a start.
-ghost use Rattle.move_cost.specs.Costs.{linear, flat, seek};
-ghost use Rattle.move_cost.specs.Lawful.{linear_is, flat_is, seek_is};
+ghost use Rattle.move_cost.specs.{Costs.{linear, flat, seek}, Lawful.{linear_is, flat_is, seek_is}};
 
 use crate::CostTable;
 

@@ -2,22 +2,13 @@
 ghost use Rattle.std.specs.Prelude.{◌≡◌, ℕ, Bool, if◌then◌else◌, ◌/◌, ◌^◌, ◌<◌, ◌≤◌, List, length, Some, None};
 ghost use Rattle.std.specs.FinMap as fin;
 ghost use Rattle.std.specs.FinSet as set;
-ghost use Rattle.slot_codec.specs.Names.{IsName};
-ghost use Rattle.extent_table.specs.declared.spot.Spot.{Spot};
-ghost use Rattle.extent_table.specs.Extents.{Spots, record_of, records_of};
-ghost use Rattle.slot_codec.specs.declared.codec.Header.{Header};
-ghost use Rattle.slot_codec.specs.declared.codec.Record.{Record};
+ghost use Rattle.slot_codec.specs.{Names.{IsName}, declared.codec.Header.{Header}, declared.codec.Record.{Record}};
+ghost use Rattle.extent_table.specs.{declared.spot.Spot.{Spot}, Extents.{Spots, record_of, records_of}};
 ghost use Rattle.size_class.specs.Classes.{class_of, width};
-ghost use Rattle.table_rules.specs.Suffixes.{suffix_at};
-ghost use Rattle.table_rules.specs.Tables.{HasFullRows, TableInLayout, book_of, table_boundary, sizes};
-ghost use Rattle.table_rules.specs.Rules.{KeepsPlaces, IsValid};
-ghost use Rattle.placement_model.specs.Laid.{AreLaid, settled_at, laid};
-ghost use Rattle.segment_layout.specs.Shapes.{settled_caps, settled_grid};
-ghost use Rattle.segment_layout.specs.Books.{below_class, volumes, volumes_of_sizes};
-ghost use Rattle.segment_layout.specs.Books.{Names};
+ghost use Rattle.table_rules.specs.{Suffixes.{suffix_at}, Tables.{HasFullRows, TableInLayout, book_of, table_boundary, sizes}, Rules.{KeepsPlaces, IsValid}};
+ghost use Rattle.placement_model.specs.{Laid.{AreLaid, settled_at, laid}, Buffered.{AreBuffered, HasSizes, chosen_names}, Reads.{AreNamed}};
+ghost use Rattle.segment_layout.specs.{Shapes.{settled_caps, settled_grid}, Books.{below_class, volumes, volumes_of_sizes, Names}};
 ghost use Rattle.map_model.specs.Maps.{Map};
-ghost use Rattle.placement_model.specs.Buffered.{AreBuffered, HasSizes, chosen_names};
-ghost use Rattle.placement_model.specs.Reads.{AreNamed};
 
 /// A table whose suffix is laid out anew keeps the rules of a settled one.
 pub fn a_laid_table_is_settled()

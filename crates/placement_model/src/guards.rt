@@ -1,12 +1,10 @@
 //! The space that a checkpoint holds though nothing stands there now.
 ghost use Rattle.std.specs.Prelude.{◌≡◌, ℕ, false, ◌/◌, ◌<◌, ◌≤◌, List, [], length, Some, None, Contains};
 ghost use Rattle.std.specs.FinMap as fin;
-ghost use Rattle.extent_table.specs.declared.spot.Spot.{Spot};
-ghost use Rattle.extent_table.specs.Extents.{Spots};
+ghost use Rattle.extent_table.specs.{declared.spot.Spot.{Spot}, Extents.{Spots}};
 ghost use Rattle.held_guard.specs.Freed.{Joins};
 ghost use Rattle.span_math.specs.declared.span.Span.{Span};
-ghost use Rattle.placement_model.specs.Reads.{LiesApart};
-ghost use Rattle.placement_model.specs.Held.{IsFreed, IsSpanOf, is_at, is_freed};
+ghost use Rattle.placement_model.specs.{Reads.{LiesApart}, Held.{IsFreed, IsSpanOf, is_at, is_freed}};
 
 /// Each span of what was freed has the bytes of an object that was kept.
 pub fn freed_space_was_kept()

@@ -2,19 +2,12 @@
 ghost use Rattle.std.specs.Prelude.{◌≡◌, ℕ, true, Option, ◌+◌, ◌/◌, ◌<◌, ◌≤◌, List, [], ◌∷◌, ◌++◌, length, sum_by, Some, None, Ok, option_map};
 ghost use Rattle.std.specs.FinMap as fin;
 ghost use Rattle.byte_ranges.specs.Ranges.{SameOutside};
-ghost use Rattle.slot_codec.specs.Names.{IsName};
-ghost use Rattle.extent_table.specs.declared.spot.Spot.{Spot};
-ghost use Rattle.extent_table.specs.Extents.{Spots, record_of, records_of, volume_of};
+ghost use Rattle.slot_codec.specs.{Names.{IsName}, Choice.{Chosen, InUse, chosen, plain, rises, slot_in_use}, Reading.{read_header, worn_from}, declared.codec.Header.{Header}, declared.codec.Record.{Record}};
+ghost use Rattle.extent_table.specs.{declared.spot.Spot.{Spot}, Extents.{Spots, record_of, records_of, volume_of}};
 ghost use Rattle.map_model.specs.Weights.{weight_at, weights};
-ghost use Rattle.slot_codec.specs.Choice.{Chosen, InUse, chosen, plain, rises, slot_in_use};
-ghost use Rattle.slot_codec.specs.Reading.{read_header, worn_from};
-ghost use Rattle.slot_codec.specs.declared.codec.Header.{Header};
-ghost use Rattle.slot_codec.specs.declared.codec.Record.{Record};
-ghost use Rattle.table_rules.specs.Tables.{map_of, sizes};
-ghost use Rattle.placement_model.specs.Orders.{SetSoFar, spot_of};
+ghost use Rattle.table_rules.specs.{Tables.{map_of, sizes}, Objects.{HaveDistinctNames, LieWithin}};
+ghost use Rattle.placement_model.specs.{Orders.{SetSoFar, spot_of}, Reads.{AreNamed, LiesApart, object_at, read_at}};
 ghost use Rattle.segment_layout.specs.Books.{volumes, volumes_of_sizes};
-ghost use Rattle.table_rules.specs.Objects.{HaveDistinctNames, LieWithin};
-ghost use Rattle.placement_model.specs.Reads.{AreNamed, LiesApart, object_at, read_at};
 
 /// What a file gives at spots, name by name, and how it follows a put, a removal, a move and a write.
 pub fn reads_follow_the_spots()

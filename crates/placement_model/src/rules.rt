@@ -1,22 +1,13 @@
 //! The rules of the tables that a layout makes of spots, after a change of one name.
 ghost use Rattle.std.specs.Prelude.{◌≡◌, ◌⊎◌, ℕ, false, ◌+◌, ◌/◌, ◌<◌, ◌≤◌, List, length, slice_index, Some, None};
 ghost use Rattle.std.specs.FinMap as fin;
-ghost use Rattle.slot_codec.specs.Names.{IsName};
-ghost use Rattle.extent_table.specs.declared.spot.Spot.{Spot};
-ghost use Rattle.extent_table.specs.Extents.{Spots, record_of};
-ghost use Rattle.slot_codec.specs.declared.codec.Header.{Header};
+ghost use Rattle.slot_codec.specs.{Names.{IsName}, declared.codec.Header.{Header}};
+ghost use Rattle.extent_table.specs.{declared.spot.Spot.{Spot}, Extents.{Spots, record_of}};
 ghost use Rattle.size_class.specs.Classes.{cell, class_of, row};
-ghost use Rattle.segment_layout.specs.Balance.{IsFilled};
-ghost use Rattle.table_rules.specs.Suffixes.{KeepsBelow};
-ghost use Rattle.table_rules.specs.Tables.{Apart, TableInLayout, table_boundary, lies_in_payload};
-ghost use Rattle.table_rules.specs.Rules.{KeepsPlaces, RoomToResume, IsValid};
-ghost use Rattle.placement_model.specs.Laid.{laid, numbered};
-ghost use Rattle.placement_model.specs.Joins.{IsAlone, empty_spot};
+ghost use Rattle.segment_layout.specs.{Balance.{IsFilled}, Shapes.{buffer_for, buffer_of, start_of, taken_in, with_entry}};
+ghost use Rattle.table_rules.specs.{Suffixes.{KeepsBelow}, Tables.{Apart, TableInLayout, table_boundary, lies_in_payload}, Rules.{KeepsPlaces, RoomToResume, IsValid}};
+ghost use Rattle.placement_model.specs.{Laid.{laid, numbered}, Joins.{IsAlone, empty_spot}, Rises.{CellsRise}, Changes.{charged, charged_spot, AllStand}, Reads.{AreNamed}};
 ghost use Rattle.map_model.specs.Weights.{same_name};
-ghost use Rattle.placement_model.specs.Rises.{CellsRise};
-ghost use Rattle.placement_model.specs.Changes.{charged, charged_spot, AllStand};
-ghost use Rattle.segment_layout.specs.Shapes.{buffer_for, buffer_of, start_of, taken_in, with_entry};
-ghost use Rattle.placement_model.specs.Reads.{AreNamed};
 
 /// The segments of a class end before those of a later class begin.
 pub fn segments_rise()

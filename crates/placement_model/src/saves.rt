@@ -1,12 +1,9 @@
 //! How many saves a flush makes.
 ghost use Rattle.std.specs.Prelude.{◌≡◌, ℕ, ◌+◌, ◌*◌, ◌/◌, ◌<◌, ◌≤◌, List, Some, Contains};
 ghost use Rattle.std.specs.FinMap as fin;
-ghost use Rattle.extent_table.specs.declared.spot.Spot.{Spot};
-ghost use Rattle.extent_table.specs.Extents.{Spots};
-ghost use Rattle.span_math.specs.Spans.{SharesByte};
-ghost use Rattle.placement_model.specs.SaveCounts.{AreAside, LayCount, Meets, PackCount, SlackCoversSave};
-ghost use Rattle.span_math.specs.declared.span.Span.{Span};
-ghost use Rattle.placement_model.specs.Held.{IsFreed};
+ghost use Rattle.extent_table.specs.{declared.spot.Spot.{Spot}, Extents.{Spots}};
+ghost use Rattle.span_math.specs.{Spans.{SharesByte}, declared.span.Span.{Span}};
+ghost use Rattle.placement_model.specs.{SaveCounts.{AreAside, LayCount, Meets, PackCount, SlackCoversSave}, Held.{IsFreed}};
 
 /// To pack its objects a flush makes fewer than k saves.
 pub fn packing_makes_few_saves()

@@ -2,9 +2,8 @@
 ghost use Rattle.std.specs.Prelude.{◌≡◌, ◌≤◌, ◌<◌, ◌↔◌, ◌+◌, ◌^◌, ℕ, IsTrue, slice_index};
 ghost use Rattle.plain_layout.specs.Plain.{placed};
 ghost use Rattle.segment_layout.specs.Shapes.{buffer_of, taken_in};
-ghost use Rattle.table_rules.specs.Tables.{live_in_buffer};
+ghost use Rattle.table_rules.specs.{Tables.{live_in_buffer}, Rules.{Balances, BuffersFull}};
 ghost use Rattle.size_class.specs.Classes.{cell, width};
-ghost use Rattle.table_rules.specs.Rules.{Balances, BuffersFull};
 
 use crate::Table;
 

@@ -1,8 +1,7 @@
 //! The numbers of a book, and what charging does to them.
 ghost use Rattle.std.specs.Prelude.{◌≡◌, ◌≤◌, ◌<◌, ◌^◌, ◌*◌, slice_index, is_some, ◌+◌, IsTrue, IfSome};
 ghost use Rattle.plain_layout.specs.Changes.{after_one, finds_last};
-ghost use Rattle.segment_layout.specs.Books.{charge_all, is_quiet, trigger};
-ghost use Rattle.segment_layout.specs.Shapes.{buffer_for, buffer_of, end_of, has_room, taken_in};
+ghost use Rattle.segment_layout.specs.{Books.{charge_all, is_quiet, trigger}, Shapes.{buffer_for, buffer_of, end_of, has_room, taken_in}};
 ghost use Rattle.size_class.specs.Classes.{cell, class_of};
 
 use crate::class_of;

@@ -6,9 +6,7 @@ ghost use Rattle.std.specs.Option.{option_map};
 ghost use Rattle.plain_layout.specs.Changes.{IsNext, IsReshaped, enters, finds_last, is_of_lower, sized, stays_buffered};
 ghost use Rattle.segment_layout.specs.Books as books;
 ghost use Rattle.segment_layout.specs.Books.{charge_all, new_item, next_book, old_item, reshaped, volumes_of_sizes};
-ghost use Rattle.map_model.specs.Maps.{Map};
-ghost use Rattle.map_model.specs.Requests.{Change, changed};
-ghost use Rattle.map_model.specs.Weights.{same_name};
+ghost use Rattle.map_model.specs.{Maps.{Map}, Requests.{Change, changed}, Weights.{same_name}};
 
 use crate::{Book, class_of};
 use std::alloc::{AllocError, Global};

@@ -1,9 +1,7 @@
 //! The first rule that a table breaks, and where.
 ghost use Rattle.std.specs.Prelude.{◌≡◌, ◌≤◌, ◌<◌, ◌↔◌, IsTrue, IsNone, IfSome};
-ghost use Rattle.table_rules.specs.Breaks.{BreaksAt};
-ghost use Rattle.plain_layout.specs.Firsts.{named};
-ghost use Rattle.plain_layout.specs.Plain.{placed};
-ghost use Rattle.table_rules.specs.Rules.{AllHold, FirstBroken, IsValid, RuleAt, last_of, moving_places, number_of, places_of};
+ghost use Rattle.table_rules.specs.{Breaks.{BreaksAt}, Rules.{AllHold, FirstBroken, IsValid, RuleAt, last_of, moving_places, number_of, places_of}};
+ghost use Rattle.plain_layout.specs.{Firsts.{named}, Plain.{placed}};
 
 use crate::Table;
 use slot_codec::Kind;

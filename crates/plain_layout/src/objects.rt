@@ -1,7 +1,6 @@
 //! Where the objects of an opened file stand.
 ghost use Rattle.std.specs.Prelude.{◌≡◌, ℕ, List, IfSome};
-ghost use Rattle.plain_layout.specs.Plain.{placed};
-ghost use Rattle.plain_layout.specs.Objects.{cut, object_of, spot_in};
+ghost use Rattle.plain_layout.specs.{Plain.{placed}, Objects.{cut, object_of, spot_in}};
 ghost use Rattle.table_rules.specs.Rules.{IsValid};
 
 use crate::Opened;

@@ -1,16 +1,10 @@
 //! Opening a file: its table, and whether that keeps the rules.
 ghost use Rattle.std.specs.Prelude.{◌≡◌, ◌≤◌, ◌<◌, ◌^◌, [], None, Ok, Err, IfOk, IfErr, IsTrue, length};
 ghost use Rattle.disk_face.specs.Frames.{Unchanged};
-ghost use Rattle.plain_layout.specs.Plain.{placed};
-ghost use Rattle.plain_layout.specs.Opened.{IsOpenedFrom, IsReadFrom, RefusesToOpen, table_seen};
-ghost use Rattle.plain_layout.specs.Refusals.{RefusesBy, behind};
-ghost use Rattle.table_rules.specs.Opening.{placed_table};
-ghost use Rattle.slot_codec.specs.Choice.{chosen, records_of, slot_in_use, table_of};
-ghost use Rattle.slot_codec.specs.Spelling.{cap, head_len};
-ghost use Rattle.slot_codec.specs.Reading.{is_version};
-ghost use Rattle.slot_codec.specs.Readable.{IsSuperBlock};
+ghost use Rattle.plain_layout.specs.{Plain.{placed}, Opened.{IsOpenedFrom, IsReadFrom, RefusesToOpen, table_seen}, Refusals.{RefusesBy, behind}};
+ghost use Rattle.table_rules.specs.{Opening.{placed_table}, Rules.{IsValid}};
+ghost use Rattle.slot_codec.specs.{Choice.{chosen, records_of, slot_in_use, table_of}, Spelling.{cap, head_len}, Reading.{is_version}, Readable.{IsSuperBlock}};
 ghost use Rattle.slot_pair.specs.Finding.{HasDiskCause, chosen_of, in_use_of};
-ghost use Rattle.table_rules.specs.Rules.{IsValid};
 
 use crate::Table;
 use crate::record_list::add_records;

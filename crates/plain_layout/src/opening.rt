@@ -1,8 +1,7 @@
 //! The book that a table gives.
 ghost use Rattle.std.specs.Prelude.{◌≡◌, ◌≤◌, ◌<◌, ◌^◌, ◌&&◌, not};
 ghost use Rattle.plain_layout.specs.Plain.{placed};
-ghost use Rattle.segment_layout.specs.Books.{volumes_of_sizes};
-ghost use Rattle.segment_layout.specs.Shapes.{settled_caps};
+ghost use Rattle.segment_layout.specs.{Books.{volumes_of_sizes}, Shapes.{settled_caps}};
 ghost use Rattle.table_rules.specs.Tables.{book_of, table_boundary, is_lower, lies_in_payload, nth, size_sum, sizes};
 ghost use Rattle.size_class.specs.Classes.{class_of};
 

@@ -1,8 +1,6 @@
 //! The records of a table.
 ghost use Rattle.std.specs.Prelude.{◌≡◌, ◌≢◌, ◌+◌, ◌*◌, ◌≤◌, ◌<◌, ◌^◌, Ok, IfOk, IfErr, IsTrue, OnOk, length};
-ghost use Rattle.slot_codec.specs.Choice.{plain, read_records};
-ghost use Rattle.slot_codec.specs.Reading.{is_version};
-ghost use Rattle.slot_codec.specs.Spelling.{record_len};
+ghost use Rattle.slot_codec.specs.{Choice.{plain, read_records}, Reading.{is_version}, Spelling.{record_len}};
 ghost use Rattle.plain_layout.specs.Refusals.{RefusesBy, behind};
 
 use crate::Refusal;

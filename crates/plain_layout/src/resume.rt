@@ -1,10 +1,9 @@
 //! The rules of a moving table, from which a flush that stopped goes on.
 ghost use Rattle.std.specs.Prelude.{◌≡◌, ◌⊎◌, ◌≤◌, ◌<◌, ◌↔◌, ◌+◌, ◌-◌, ◌^◌, ℕ, IsTrue, length, min};
 ghost use Rattle.plain_layout.specs.Plain.{placed};
-ghost use Rattle.table_rules.specs.Tables.{end_of_record, is_below_wall, is_suffix, new_end, nth, packed_end, sizes_above, table_boundary};
+ghost use Rattle.table_rules.specs.{Tables.{end_of_record, is_below_wall, is_suffix, new_end, nth, packed_end, sizes_above, table_boundary}, Rules.{RoomToResume, PlacesToResume}};
 ghost use Rattle.segment_layout.specs.Shapes.{start_of};
 ghost use Rattle.size_class.specs.Classes.{class_of};
-ghost use Rattle.table_rules.specs.Rules.{RoomToResume, PlacesToResume};
 
 use crate::Table;
 

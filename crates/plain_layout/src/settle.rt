@@ -1,7 +1,6 @@
 //! Laying the classes from a boundary on out anew.
 ghost use Rattle.std.specs.Prelude.{◌≡◌, ◌≤◌, ◌<◌, ◌^◌, ◌↔◌, ℕ, IsTrue, slice_index, sum};
-ghost use Rattle.segment_layout.specs.Books.{volumes_of_sizes};
-ghost use Rattle.segment_layout.specs.Shapes.{boundary_of, is_boundary, settled_caps, settled_grid};
+ghost use Rattle.segment_layout.specs.{Books.{volumes_of_sizes}, Shapes.{boundary_of, is_boundary, settled_caps, settled_grid}};
 
 use crate::{Book, class_of};
 

@@ -1,7 +1,6 @@
 //! A source and a sink whose bytes are counted.
 ghost use Rattle.std.specs.Prelude.{◌≡◌, ◌+◌, ◌-◌, ◌^◌, ◌≤◌, length, min, IfOk, IsTrue, OnOk};
-ghost use Rattle.disk_face.specs.Counts.{HasCause};
-ghost use Rattle.disk_face.specs.Streams.{Puts, Takes};
+ghost use Rattle.disk_face.specs.{Counts.{HasCause}, Streams.{Puts, Takes}};
 ghost use Rattle.progress_lines.specs.Counts.{pace_of_sink, pace_of_source, passed, sink_of, source_of};
 
 use crate::pace::Pace;

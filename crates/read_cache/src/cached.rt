@@ -7,12 +7,8 @@ ghost use Rattle.map_model.specs.Requests as ask;
 ghost use Rattle.extent_table.specs.Extents.{volume_of};
 ghost use Rattle.segment_layout.specs.Books.{book_end};
 ghost use Rattle.store_core.specs.Readings.{IsRead};
-ghost use Rattle.store_model.specs.Connection.{IsConnected, state_of};
-ghost use Rattle.store_model.specs.States.{object_in};
-ghost use Rattle.store_model.specs.Stores.{IsStore};
-ghost use Rattle.read_cache.specs.Coherence.{IsCoherent};
-ghost use Rattle.read_cache.specs.Gets.{ListsGet, size_got};
-ghost use Rattle.read_cache.specs.Lists.{empty_listing, listed};
+ghost use Rattle.store_model.specs.{Connection.{IsConnected, state_of}, States.{object_in}, Stores.{IsStore}};
+ghost use Rattle.read_cache.specs.{Coherence.{IsCoherent}, Gets.{ListsGet, size_got}, Lists.{empty_listing, listed}};
 
 use crate::Got;
 use crate::get::get_there;
@@ -34,8 +30,7 @@ pub struct Cached<const C: usize> {
 }
 
 impl<const C: usize> Model for Cached<C> {
-    ghost use Rattle.read_cache.specs.CacheValues.{CacheValue};
-    ghost use Rattle.read_cache.specs.Codes.{cache_code};
+    ghost use Rattle.read_cache.specs.{CacheValues.{CacheValue}, Codes.{cache_code}};
 
     ghost Value = { CacheValue };
 

@@ -12,16 +12,9 @@ use slot_codec::Name;
 use store_core::{Done, Refusal};
 
 impl<const C: usize> Cached<C> {
-    ghost use Rattle.store_core.specs.Answers.{done_reply, is_disk_fault, refused_by, reply_of};
-    ghost use Rattle.store_core.specs.Changes.{NothingChanged};
-    ghost use Rattle.store_core.specs.Changing.{IsChange};
-    ghost use Rattle.store_core.specs.Keeps.{AnswersKeep, KeepsNow};
-    ghost use Rattle.store_model.specs.Connection.{IsConnected, IsOver, limits_of, state_of};
-    ghost use Rattle.store_model.specs.Quiet.{del_of, put_of};
-    ghost use Rattle.store_model.specs.States.{Step};
-    ghost use Rattle.store_model.specs.Stores.{IsStore};
-    ghost use Rattle.read_cache.specs.Coherence.{IsCoherent};
-    ghost use Rattle.read_cache.specs.Lists.{emptied, without};
+    ghost use Rattle.store_core.specs.{Answers.{done_reply, is_disk_fault, refused_by, reply_of}, Changes.{NothingChanged}, Changing.{IsChange}, Keeps.{AnswersKeep, KeepsNow}};
+    ghost use Rattle.store_model.specs.{Connection.{IsConnected, IsOver, limits_of, state_of}, Quiet.{del_of, put_of}, States.{Step}, Stores.{IsStore}};
+    ghost use Rattle.read_cache.specs.{Coherence.{IsCoherent}, Lists.{emptied, without}};
 
     /// Puts an object, as the store does; the pair of its name goes out of the list.
     pub fn put<D: Disk>(&mut self, disk: &mut D, name: &[u8], bytes: &[u8]) -> Result<Done, Refusal>

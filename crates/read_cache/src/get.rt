@@ -1,18 +1,12 @@
 //! Reading objects: from the list, or from the disk.
 ghost use Rattle.std.specs.Prelude.{◌≡◌, ◌≤◌, ◌<◌, [], if◌then◌else◌, false, true, IfOk, IfSome, IsSome, IsTrue, None, OnErr, length, Err};
 ghost use Rattle.std.specs.FinMap as fin;
-ghost use Rattle.disk_face.specs.Devices.{devices};
-ghost use Rattle.disk_face.specs.Streams.{Puts};
+ghost use Rattle.disk_face.specs.{Devices.{devices}, Streams.{Puts}};
 ghost use Rattle.map_model.specs.Requests as ask;
-ghost use Rattle.store_core.specs.Answers.{refused_by, size_at};
-ghost use Rattle.store_core.specs.Readings.{IsRead};
+ghost use Rattle.store_core.specs.{Answers.{refused_by, size_at}, Readings.{IsRead}};
 ghost use Rattle.data_area.specs.Causes.{HasSinkCause};
-ghost use Rattle.store_model.specs.Connection.{IsConnected, state_of};
-ghost use Rattle.store_model.specs.States.{object_in};
-ghost use Rattle.store_model.specs.Stores.{IsStore};
-ghost use Rattle.read_cache.specs.Coherence.{IsCoherent};
-ghost use Rattle.read_cache.specs.Gets.{ListsGet, size_got};
-ghost use Rattle.read_cache.specs.Lists.{after_drop, after_miss, listed};
+ghost use Rattle.store_model.specs.{Connection.{IsConnected, state_of}, States.{object_in}, Stores.{IsStore}};
+ghost use Rattle.read_cache.specs.{Coherence.{IsCoherent}, Gets.{ListsGet, size_got}, Lists.{after_drop, after_miss, listed}};
 
 use crate::Got;
 use crate::held::LONGEST;

@@ -2,8 +2,7 @@
 ghost use Rattle.std.specs.Prelude.{◌≡◌, ◌<◌, Bool, false, length, List, replicate};
 ghost use Rattle.disk_face.specs.Counts.{last};
 ghost use Rattle.map_model.specs.Requests.{Reply, Request};
-ghost use Rattle.read_cache.specs.Examples.{a_and_b, nine_listed, nine_replies, nine_requests};
-ghost use Rattle.read_cache.specs.Lists.{Listing, after_all, empty_listing};
+ghost use Rattle.read_cache.specs.{Examples.{a_and_b, nine_listed, nine_replies, nine_requests}, Lists.{Listing, after_all, empty_listing}};
 
 /// Nine requests of a cache of two objects: two gets are hits, and six are misses.
 pub fn worked_list()

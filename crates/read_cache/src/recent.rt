@@ -24,8 +24,7 @@ pub(crate) struct Recent {
 }
 
 impl Model for Recent {
-    ghost use Rattle.read_cache.specs.Lists.{Listing};
-    ghost use Rattle.read_cache.specs.Codes.{listing_code};
+    ghost use Rattle.read_cache.specs.{Lists.{Listing}, Codes.{listing_code}};
 
     ghost Value = { Listing };
 

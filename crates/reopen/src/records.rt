@@ -3,11 +3,7 @@ ghost use Rattle.std.specs.Prelude.{◌≡◌, ◌≢◌, ℕ, ◌+◌, ◌*◌,
 ghost use Rattle.std.specs.FinMap as fin;
 ghost use Rattle.byte_ranges.specs.Ranges.{bytes_at};
 ghost use Rattle.disk_face.specs.Frames.{Unchanged};
-ghost use Rattle.slot_codec.specs.Choice.{read_records, record_after};
-ghost use Rattle.slot_codec.specs.Names.{IsName};
-ghost use Rattle.slot_codec.specs.Reading.{is_version};
-ghost use Rattle.slot_codec.specs.Spelling.{record_len};
-ghost use Rattle.slot_codec.specs.declared.codec.Record.{Record};
+ghost use Rattle.slot_codec.specs.{Choice.{read_records, record_after}, Names.{IsName}, Reading.{is_version}, Spelling.{record_len}, declared.codec.Record.{Record}};
 ghost use Rattle.slot_pair.specs.Finding.{HasDiskCause, Refuses};
 ghost use Rattle.extent_table.specs.Extents.{records_of};
 ghost use Rattle.placement_model.specs.Orders.{SetSoFar};

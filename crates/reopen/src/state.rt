@@ -6,9 +6,7 @@ ghost use Rattle.slot_codec.specs.Reading.{all_in_range};
 ghost use Rattle.slot_pair.specs.Finding.{HasDiskCause};
 ghost use Rattle.table_rules.specs.Rules.{FirstBroken};
 ghost use Rattle.placement_model.specs.Laid.{laid};
-ghost use Rattle.reopen.specs.Loads.{IsLoadedFrom, IsStateOf, KeepsLoaded, KeepsState, kind_of, loaded_of, unboxed};
-ghost use Rattle.reopen.specs.Refusals.{BreaksLaid, RefusesToOpen};
-ghost use Rattle.reopen.specs.Tables.{IsCheckedLayout};
+ghost use Rattle.reopen.specs.{Loads.{IsLoadedFrom, IsStateOf, KeepsLoaded, KeepsState, kind_of, loaded_of, unboxed}, Refusals.{BreaksLaid, RefusesToOpen}, Tables.{IsCheckedLayout}};
 
 use crate::OpenFault;
 use crate::boxed::boxed;

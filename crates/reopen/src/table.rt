@@ -2,14 +2,10 @@
 ghost use Rattle.std.specs.Prelude.{◌≡◌, ◌+◌, ◌*◌, ◌≤◌, Ok, IfOk, IfErr, IfSome, OnOk, IsTrue, length, vec_capacity, vec_len};
 ghost use Rattle.std.specs.FinMap as fin;
 ghost use Rattle.disk_face.specs.Frames.{Unchanged};
-ghost use Rattle.slot_codec.specs.Choice.{chosen, records_of, slot_in_use, table_of};
-ghost use Rattle.slot_codec.specs.Readable.{IsSuperBlock};
-ghost use Rattle.slot_codec.specs.Spelling.{head_len, record_len};
+ghost use Rattle.slot_codec.specs.{Choice.{chosen, records_of, slot_in_use, table_of}, Readable.{IsSuperBlock}, Spelling.{head_len, record_len}};
 ghost use Rattle.slot_pair.specs.Finding.{HasDiskCause, Refuses, chosen_of, in_use_of};
 ghost use Rattle.extent_table.specs.Extents as extents;
-ghost use Rattle.reopen.specs.Records.{AreSet};
-ghost use Rattle.reopen.specs.Refusals.{RefusesBy};
-ghost use Rattle.reopen.specs.Tables.{IsFound, IsFoundIn, IsHeader, IsTableRead, IsReadFrom};
+ghost use Rattle.reopen.specs.{Records.{AreSet}, Refusals.{RefusesBy}, Tables.{IsFound, IsFoundIn, IsHeader, IsTableRead, IsReadFrom}};
 
 use crate::OpenFault;
 use crate::boxed::boxed;

@@ -1,18 +1,14 @@
 //! A law of a session in which no device failed.
 ghost use Rattle.std.specs.Prelude.{◌≡◌, ◌⊎◌, ◌<◌, false, [], List, ℕ, length};
-ghost use Rattle.disk_face.specs.Counts.{IsCalm};
-ghost use Rattle.disk_face.specs.declared.bay.Mounted.TheVariants.{There};
+ghost use Rattle.disk_face.specs.{Counts.{IsCalm}, declared.bay.Mounted.TheVariants.{There}, Devices.{devices}};
 ghost use Rattle.slot_codec.specs.Choice as choice;
 ghost use Rattle.segment_layout.specs.Books.{Book};
-ghost use Rattle.map_model.specs.Maps.{Map};
-ghost use Rattle.map_model.specs.Requests.{Request};
+ghost use Rattle.map_model.specs.{Maps.{Map}, Requests.{Request}};
 ghost use Rattle.table_rules.specs.Opening.{OpensBy};
 ghost use Rattle.ask_text.specs.Inputs.{Asks};
 ghost use Rattle.ask_session.specs.Runs.{budget};
 ghost use Rattle.command_face.specs.Mounting.{IsMounted, mounted};
-ghost use Rattle.disk_face.specs.Devices.{devices};
-ghost use Rattle.run_command.specs.Headline.{RunPromise};
-ghost use Rattle.run_command.specs.Sessions.{RunAlways};
+ghost use Rattle.run_command.specs.{Headline.{RunPromise}, Sessions.{RunAlways}};
 
 use command_face::{DISK_FAILED, DONE, NO_FILE, NO_MEMORY, Outcome};
 use disk_face::{Bay, Mounted, Sink, Source};

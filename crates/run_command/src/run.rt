@@ -1,17 +1,12 @@
 //! The command `run`: a session over a file.
 ghost use Rattle.std.specs.Prelude.{◌≡◌, ◌⊎◌, false, true, None, Ok, IsTrue};
 ghost use Rattle.size_class.specs.declared.TheConstants.{CLASSES};
-ghost use Rattle.store_model.specs.Connection.{IsConnected};
-ghost use Rattle.store_model.specs.Opened.{IsOpening};
-ghost use Rattle.store_model.specs.Stores.{IsStore};
+ghost use Rattle.store_model.specs.{Connection.{IsConnected}, Opened.{IsOpening}, Stores.{IsStore}};
 ghost use Rattle.ask_serve.specs.Outside.{held, seen_by};
-ghost use Rattle.command_face.specs.Mounting.{IsMounted};
-ghost use Rattle.command_face.specs.Refusing.{IsRefused};
+ghost use Rattle.command_face.specs.{Mounting.{IsMounted}, Refusing.{IsRefused}, Outcomes.{Ends}};
 ghost use Rattle.served_file.specs.Unserved.{NeverServed};
-ghost use Rattle.run_command.specs.Headline.{RunPromise, is_session};
-ghost use Rattle.command_face.specs.Outcomes.{Ends};
+ghost use Rattle.run_command.specs.{Headline.{RunPromise, is_session}, Sessions.{RunAlways, OpenRunSteps, RunSteps, end_of, ended_as, unserved}};
 ghost use Rattle.disk_face.specs.Devices.{devices};
-ghost use Rattle.run_command.specs.Sessions.{RunAlways, OpenRunSteps, RunSteps, end_of, ended_as, unserved};
 
 use ask_session::{End, Session};
 use command_face::{

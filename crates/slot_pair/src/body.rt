@@ -1,13 +1,9 @@
 //! Writing the body of a slot: a header, and the records behind it.
 ghost use Rattle.std.specs.Prelude.{◌≡◌, ◌+◌, ◌*◌, ◌/◌, ◌^◌, ◌<◌, ◌≤◌, OnOk, IsTrue, drop, flat_map, length, take};
 ghost use Rattle.byte_ranges.specs.Ranges.{bytes_at};
-ghost use Rattle.slot_codec.specs.Reading.{is_version};
-ghost use Rattle.slot_codec.specs.Spelling.{header_bytes, header_len, record_bytes, record_len};
-ghost use Rattle.disk_face.specs.Counts.{HasCause, counted};
-ghost use Rattle.disk_face.specs.Frames.{Calls};
-ghost use Rattle.disk_face.specs.Moments.{Rests};
+ghost use Rattle.slot_codec.specs.{Reading.{is_version}, Spelling.{header_bytes, header_len, record_bytes, record_len}};
+ghost use Rattle.disk_face.specs.{Counts.{HasCause, counted}, Frames.{Calls}, Moments.{Rests}, Writes.{WritesWithin}};
 ghost use Rattle.slot_pair.specs.Saves.{HasTable};
-ghost use Rattle.disk_face.specs.Writes.{WritesWithin};
 
 use disk_face::{Disk, DiskFault};
 use slot_codec::{HEADER_LEN, Header, Roll, record_len, write_header};

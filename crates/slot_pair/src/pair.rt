@@ -1,12 +1,8 @@
 //! The pair of slots of an open file.
 ghost use Rattle.std.specs.Prelude.{◌≡◌, ◌≤◌, Ok, IfOk, IfErr, IsTrue, OnErr, OnOk, length};
-ghost use Rattle.disk_face.specs.Frames.{Calls, Unchanged};
-ghost use Rattle.slot_codec.specs.Choice.{chosen, slot_in_use};
-ghost use Rattle.slot_codec.specs.Readable.{IsSuperBlock};
-ghost use Rattle.slot_codec.specs.Spelling.{head_len, slot_at};
-ghost use Rattle.slot_pair.specs.Finding.{HasDiskCause, Refuses, chosen_header, in_use_of};
-ghost use Rattle.slot_pair.specs.Saves.{CanSave, IsNextPair, IsSaveDone, SaveLeaves, save_calls};
-ghost use Rattle.disk_face.specs.Writes.{KeepsDisk};
+ghost use Rattle.disk_face.specs.{Frames.{Calls, Unchanged}, Writes.{KeepsDisk}};
+ghost use Rattle.slot_codec.specs.{Choice.{chosen, slot_in_use}, Readable.{IsSuperBlock}, Spelling.{head_len, slot_at}};
+ghost use Rattle.slot_pair.specs.{Finding.{HasDiskCause, Refuses, chosen_header, in_use_of}, Saves.{CanSave, IsNextPair, IsSaveDone, SaveLeaves, save_calls}};
 
 use crate::body::write_table;
 use crate::find::{choose, read_chosen_header};
@@ -25,8 +21,7 @@ pub struct SlotPair {
 
 impl Model for SlotPair {
     ghost use Rattle.std.specs.Prelude.{◌≤◌};
-    ghost use Rattle.slot_codec.specs.Choice.{InUse};
-    ghost use Rattle.slot_codec.specs.Readable.{IsSuperBlock};
+    ghost use Rattle.slot_codec.specs.{Choice.{InUse}, Readable.{IsSuperBlock}};
     ghost use Rattle.slot_pair.specs.Finding.{in_use_of};
 
     ghost Value = { InUse };

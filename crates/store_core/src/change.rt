@@ -9,12 +9,8 @@ use extent_table::Spot;
 use slot_codec::Name;
 
 impl<const C: usize> Store<C> {
-    ghost use Rattle.store_core.specs.Answers.{done_reply, refused_by, reply_of};
-    ghost use Rattle.store_core.specs.Changing.{IsChange};
-    ghost use Rattle.store_model.specs.Connection.{IsConnected, limits_of, state_of};
-    ghost use Rattle.store_core.specs.Flushes.{ServesChange};
-    ghost use Rattle.store_model.specs.Quiet.{del_of, put_of};
-    ghost use Rattle.store_model.specs.States.{Step};
+    ghost use Rattle.store_core.specs.{Answers.{done_reply, refused_by, reply_of}, Changing.{IsChange}, Flushes.{ServesChange}};
+    ghost use Rattle.store_model.specs.{Connection.{IsConnected, limits_of, state_of}, Quiet.{del_of, put_of}, States.{Step}};
 
     /// Puts an object under a name, in place of the one that it has. Where there is room in the buffers
     /// its bytes are written once, and no checkpoint is saved; else the classes that have none are laid

@@ -1,8 +1,7 @@
 //! Copying an object of the file to the sink.
 ghost use Rattle.std.specs.Prelude.{◌≡◌, ◌⊎◌, ◌+◌, ◌^◌, ◌<◌, ◌≤◌, ◌++◌, Err, OnOk, OnErr, IsTrue, length};
 ghost use Rattle.byte_ranges.specs.Ranges.{bytes_at};
-ghost use Rattle.disk_face.specs.Frames.{Unchanged};
-ghost use Rattle.disk_face.specs.Streams.{Puts};
+ghost use Rattle.disk_face.specs.{Frames.{Unchanged}, Streams.{Puts}};
 ghost use Rattle.slot_pair.specs.Finding.{HasDiskCause};
 ghost use Rattle.data_area.specs.Causes.{HasSinkCause};
 ghost use Rattle.store_core.specs.Reads.{PutsJudged};

@@ -4,12 +4,8 @@ ghost use Rattle.disk_face.specs.Frames.{Unchanged};
 ghost use Rattle.slot_pair.specs.Finding.{HasDiskCause};
 ghost use Rattle.extent_table.specs.Extents.{IsInRange};
 ghost use Rattle.placement_model.specs.Reads.{object_at};
-ghost use Rattle.store_core.specs.Readings.{asks_for, digest_read, object_read, spot_read};
-ghost use Rattle.store_core.specs.Reads.{IsJudged};
-ghost use Rattle.store_core.specs.Answers.{AnswersFetch, refused_by, size_at};
-ghost use Rattle.store_model.specs.Connection.{base_of, state_of};
-ghost use Rattle.store_model.specs.Halves.{IsReadable};
-ghost use Rattle.store_model.specs.Stores.{IsStanding};
+ghost use Rattle.store_core.specs.{Readings.{asks_for, digest_read, object_read, spot_read}, Reads.{IsJudged}, Answers.{AnswersFetch, refused_by, size_at}};
+ghost use Rattle.store_model.specs.{Connection.{base_of, state_of}, Halves.{IsReadable}, Stores.{IsStanding}};
 
 use crate::answers::disk_failed;
 use crate::judge::judge;

@@ -2,17 +2,12 @@
 //! flush is made.
 ghost use Rattle.std.specs.Prelude.{◌≡◌, ◌+◌, ◌-◌, ◌*◌, ◌<◌, ◌≤◌, ◌^◌, ℕ, [], false, length, IsTrue, None, OnOk, vec_len};
 ghost use Rattle.std.specs.FinMap as fin;
-ghost use Rattle.disk_face.specs.Counts.{HasCause};
+ghost use Rattle.disk_face.specs.{Counts.{HasCause}, Writes.{KeepsDisk}};
 ghost use Rattle.size_class.specs.Rows.{cells_of};
 ghost use Rattle.segment_layout.specs.Books.{is_quiet};
 ghost use Rattle.map_model.specs.Requests as ask;
 ghost use Rattle.map_model.specs.Requests.{Change};
-ghost use Rattle.flush_run.specs.Calls.{CallsSoFar};
-ghost use Rattle.disk_face.specs.Writes.{KeepsDisk};
-ghost use Rattle.flush_run.specs.FlushFrames.{IsMidFlush, LeavesOldOrNew};
-ghost use Rattle.flush_run.specs.Parts.{HandsValue, parts_of};
-ghost use Rattle.flush_run.specs.Settling.{FlushEnds};
-ghost use Rattle.flush_run.specs.Shelved.{items_now, phase_now};
+ghost use Rattle.flush_run.specs.{Calls.{CallsSoFar}, FlushFrames.{IsMidFlush, LeavesOldOrNew}, Parts.{HandsValue, parts_of}, Settling.{FlushEnds}, Shelved.{items_now, phase_now}};
 ghost use Rattle.flush_plan.specs.Lifts.{KeepsLifting};
 ghost use Rattle.store_model.specs.Flushing.{CanMakeFlush, HasMadeFlush, BeforeChange, flight_of, lift_start};
 
@@ -25,11 +20,8 @@ use flush_run::{Halted, Hands, run};
 use slot_codec::Name;
 
 impl<const C: usize> Store<C> {
-    ghost use Rattle.store_core.specs.Answers.{refused_by};
-    ghost use Rattle.store_model.specs.Charges.{ChargesStore, change_of};
-    ghost use Rattle.store_model.specs.Connection.{IsConnected};
-    ghost use Rattle.store_core.specs.Flushes.{ServesChange};
-    ghost use Rattle.store_model.specs.Quiet.{charges_of};
+    ghost use Rattle.store_core.specs.{Answers.{refused_by}, Flushes.{ServesChange}};
+    ghost use Rattle.store_model.specs.{Charges.{ChargesStore, change_of}, Connection.{IsConnected}, Quiet.{charges_of}};
 
     /// Makes a change that isn't quiet, as it was charged: puts an object, or where none comes, and there are
     /// no bytes, removes a name.

@@ -1,25 +1,15 @@
 //! What holds of stores and of requests, as contracts of functions that do nothing.
 ghost use Rattle.std.specs.Prelude.{◌≡◌, ℕ, ◌*◌, ◌<◌, ◌≤◌, ◌^◌, List, IfOk, IsTrue, Some};
 ghost use Rattle.slot_codec.specs.Choice.{SlotTable as FoundTable};
-ghost use Rattle.map_model.specs.Maps.{Map};
+ghost use Rattle.map_model.specs.{Maps.{Map}, Requests.{Change, Refused, Request}};
 ghost use Rattle.map_model.specs.Requests as ask;
-ghost use Rattle.map_model.specs.Requests.{Change, Refused, Request};
-ghost use Rattle.segment_layout.specs.Books.{Book, book_end, is_quiet, next_book};
-ghost use Rattle.segment_layout.specs.Bounds.{Tight};
-ghost use Rattle.segment_layout.specs.Layouts.{caps_of, divisor_of, grid_of};
-ghost use Rattle.slot_codec.specs.Readable.{IsSuperBlock};
+ghost use Rattle.segment_layout.specs.{Books.{Book, book_end, is_quiet, next_book}, Bounds.{Tight}, Layouts.{caps_of, divisor_of, grid_of}};
+ghost use Rattle.slot_codec.specs.{Readable.{IsSuperBlock}, Reading.{is_version}};
 ghost use Rattle.table_rules.specs.Rules.{IsValid};
-ghost use Rattle.placement_model.specs.Laid.{settled_table};
-ghost use Rattle.slot_codec.specs.Reading.{is_version};
+ghost use Rattle.placement_model.specs.{Laid.{settled_table}, Reads.{AreNamed}};
 ghost use Rattle.extent_table.specs.Extents.{IsTable, digests_seen, volume_of};
-ghost use Rattle.store_model.specs.Digested.{IsNarrowed};
-ghost use Rattle.placement_model.specs.Reads.{AreNamed};
+ghost use Rattle.store_model.specs.{Digested.{IsNarrowed}, Connection.{IsOver, StoreValue, SameOnTable, base_of, opened_store, state_of}, Opened.{IsFoundImage, IsOpened, SameOnFound, state_at}, Quiet.{charges_of}, Stores.{IsStore}, States.{Limits, State, Step, facts_of, refusal}};
 ghost use Rattle.store_core.specs.Answers.{facts_at};
-ghost use Rattle.store_model.specs.Connection.{IsOver, StoreValue, SameOnTable, base_of, opened_store, state_of};
-ghost use Rattle.store_model.specs.Opened.{IsFoundImage, IsOpened, SameOnFound, state_at};
-ghost use Rattle.store_model.specs.Quiet.{charges_of};
-ghost use Rattle.store_model.specs.Stores.{IsStore};
-ghost use Rattle.store_model.specs.States.{Limits, State, Step, facts_of, refusal};
 
 use crate::Store;
 use crate::memory::{Memory, boxed, no_bytes, store_with, take_memory};

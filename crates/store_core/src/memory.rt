@@ -1,11 +1,9 @@
 //! The memory that a store takes as it is made, and the store of hands that were settled.
 ghost use Rattle.std.specs.Prelude.{◌≡◌, ◌≤◌, [], vec_len, IfOk};
-ghost use Rattle.size_class.specs.Classes.{zero_row};
-ghost use Rattle.size_class.specs.Rows.{cells_of};
+ghost use Rattle.size_class.specs.{Classes.{zero_row}, Rows.{cells_of}};
 ghost use Rattle.segment_layout.specs.Layouts.{caps_of, grid_of};
 ghost use Rattle.extent_table.specs.Extents.{digests_seen};
-ghost use Rattle.store_model.specs.Connection.{opened_store};
-ghost use Rattle.store_model.specs.Resuming.{MakesStore};
+ghost use Rattle.store_model.specs.{Connection.{opened_store}, Resuming.{MakesStore}};
 
 use crate::Store;
 use crate::hand::Began;

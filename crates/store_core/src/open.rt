@@ -1,16 +1,12 @@
 //! Opening a file: a store over what its last checkpoint has.
 ghost use Rattle.std.specs.Prelude.{◌≡◌, ◌<◌, ◌≤◌, ◌==◌, ◌^◌, false, [], length, vec_len, IfOk, IsTrue};
-ghost use Rattle.disk_face.specs.Counts.{HasCause};
-ghost use Rattle.disk_face.specs.Frames.{Unchanged};
-ghost use Rattle.disk_face.specs.Writes.{KeepsDisk};
+ghost use Rattle.disk_face.specs.{Counts.{HasCause}, Frames.{Unchanged}, Writes.{KeepsDisk}};
 ghost use Rattle.slot_codec.specs.Readable.{IsSuperBlock};
 ghost use Rattle.slot_codec.specs.declared.codec.Kind.TheVariants as kind;
-ghost use Rattle.flush_run.specs.Parts.{parts_of};
-ghost use Rattle.flush_run.specs.Shelved.{items_now, phase_now};
+ghost use Rattle.flush_run.specs.{Parts.{parts_of}, Shelved.{items_now, phase_now}};
 ghost use Rattle.flush_plan.specs.Packs.{KeepsPacking};
 ghost use Rattle.reopen.specs.Loads.{IsLoadedFrom, KeepsLoaded, unboxed};
-ghost use Rattle.store_model.specs.Opened.{IsCut, IsOpening};
-ghost use Rattle.store_model.specs.Resuming.{PacksAgain, StartsAgain};
+ghost use Rattle.store_model.specs.{Opened.{IsCut, IsOpening}, Resuming.{PacksAgain, StartsAgain}};
 
 use crate::Store;
 use crate::laws::store_in;

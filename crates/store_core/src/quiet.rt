@@ -2,15 +2,12 @@
 ghost use Rattle.std.specs.Prelude.{◌≡◌, ◌⊎◌, ◌+◌, ◌<◌, ◌≤◌, ◌^◌, ◌||◌, ◌++◌, ◌↔◌, ℕ, List, true, false, fold, length, Some, None, Ok, Err, IfSome, IsErr, IsNone, IsSome, IsTrue, OnErr, OnOk};
 ghost use Rattle.std.specs.FinMap as fin;
 ghost use Rattle.byte_ranges.specs.Ranges.{overwritten};
-ghost use Rattle.disk_face.specs.Frames.{Calls};
-ghost use Rattle.disk_face.specs.Writes.{WritesWithin};
+ghost use Rattle.disk_face.specs.{Frames.{Calls}, Writes.{WritesWithin}};
 ghost use Rattle.slot_codec.specs.Names.{IsName};
-ghost use Rattle.segment_layout.specs.Books.{digests_after, some_size};
-ghost use Rattle.segment_layout.specs.Layouts.{caps_of, divisor_of, grid_of};
+ghost use Rattle.segment_layout.specs.{Books.{digests_after, some_size}, Layouts.{caps_of, divisor_of, grid_of}};
 ghost use Rattle.map_model.specs.Requests as ask;
 ghost use Rattle.placement_model.specs.Quiet.{QuietTo, gone_items};
-ghost use Rattle.store_model.specs.Digested.{digested_book, digests_with};
-ghost use Rattle.store_model.specs.Quiet.{IsCharged, added, del_of, put_of, sizes_at, writes_of};
+ghost use Rattle.store_model.specs.{Digested.{digested_book, digests_with}, Quiet.{IsCharged, added, del_of, put_of, sizes_at, writes_of}};
 ghost use Rattle.store_core.specs.Plans.{IsDelPlan, IsPutPlan};
 
 use crate::held::{add_gone, add_size, free_spot};
@@ -24,11 +21,8 @@ use size_class::SIZE_MAX;
 use slot_codec::Name;
 
 impl<const C: usize> Store<C> {
-    ghost use Rattle.store_core.specs.Answers.{AnswersChange, done_reply, is_disk_fault, reply_of};
-    ghost use Rattle.store_core.specs.Changes.{ChangesQuietly, IsQuietChange, NothingChanged};
-    ghost use Rattle.store_model.specs.Connection.{IsConnected, IsOver, limits_of, live_cap, state_of};
-    ghost use Rattle.store_model.specs.States.{Step};
-    ghost use Rattle.store_model.specs.Stores.{IsStore};
+    ghost use Rattle.store_core.specs.{Answers.{AnswersChange, done_reply, is_disk_fault, reply_of}, Changes.{ChangesQuietly, IsQuietChange, NothingChanged}};
+    ghost use Rattle.store_model.specs.{Connection.{IsConnected, IsOver, limits_of, live_cap, state_of}, States.{Step}, Stores.{IsStore}};
 
     /// Goes back to the last checkpoint: what stood then stands now.
     pub fn back(&mut self) -> Result<(), Refusal>

@@ -1,20 +1,15 @@
 //! Reading objects, of now and of the last checkpoint.
 ghost use Rattle.std.specs.Prelude.{◌≡◌, false, ◌+◌, ◌++◌, ◌≤◌, [], IsTrue, None, length};
 ghost use Rattle.std.specs.FinMap as fin;
-ghost use Rattle.disk_face.specs.Devices.{devices};
-ghost use Rattle.disk_face.specs.Frames.{Unchanged};
+ghost use Rattle.disk_face.specs.{Devices.{devices}, Frames.{Unchanged}};
 ghost use Rattle.slot_pair.specs.Finding.{HasDiskCause};
 ghost use Rattle.extent_table.specs.Extents.{IsInRange};
 ghost use Rattle.placement_model.specs.Reads.{object_at};
 ghost use Rattle.slot_codec.specs.Names.{is_name};
 ghost use Rattle.map_model.specs.Requests as ask;
-ghost use Rattle.store_core.specs.Answers.{AnswersName, AnswersNumber, AnswersRead, AnswersSpot, refused_by, size_at};
-ghost use Rattle.store_model.specs.Connection.{IsConnected, base_of};
-ghost use Rattle.store_model.specs.Halves.{IsReadable};
-ghost use Rattle.store_model.specs.Stores.{IsStanding, IsStore};
-ghost use Rattle.store_core.specs.Readings.{IsRead, asks_for, digest_read, position_of, spot_read};
+ghost use Rattle.store_core.specs.{Answers.{AnswersName, AnswersNumber, AnswersRead, AnswersSpot, refused_by, size_at}, Readings.{IsRead, asks_for, digest_read, position_of, spot_read}, Reads.{GivesObject, PutsJudged}};
+ghost use Rattle.store_model.specs.{Connection.{IsConnected, base_of}, Halves.{IsReadable}, Stores.{IsStanding, IsStore}};
 ghost use Rattle.data_area.specs.Causes.{HasSinkCause};
-ghost use Rattle.store_core.specs.Reads.{GivesObject, PutsJudged};
 
 use crate::copy::put_judged;
 use crate::{Moment, Refusal, Store};

@@ -1,7 +1,6 @@
 //! A flush in hand: it is begun by a put or a removal, and goes on one move at a time.
 ghost use Rattle.std.specs.Prelude.{◌≡◌, ◌≤◌, [], false, length, IfSome, IsTrue, None, Some};
-ghost use Rattle.disk_face.specs.Counts.{HasCause};
-ghost use Rattle.disk_face.specs.Writes.{KeepsDisk};
+ghost use Rattle.disk_face.specs.{Counts.{HasCause}, Writes.{KeepsDisk}};
 ghost use Rattle.map_model.specs.Requests as ask;
 
 use crate::begin::start_change;
@@ -16,14 +15,8 @@ use slot_codec::Name;
 
 impl<const C: usize> Store<C> {
     ghost use Rattle.segment_layout.specs.Books.{is_quiet};
-    ghost use Rattle.store_core.specs.Answers.{is_disk_fault, refused_by};
-    ghost use Rattle.store_core.specs.Begins.{BeginsChange, BeginsServed, begun_reply};
-    ghost use Rattle.store_core.specs.Steps.{AfterStep, AnswersStep, MakesOne, StepsHalf, SumsOfStep};
-    ghost use Rattle.store_model.specs.Connection.{FlushInHand, IsConnected, limits_of, state_of};
-    ghost use Rattle.store_model.specs.Halves.{HalfAgrees, IsHalfway, Origin};
-    ghost use Rattle.store_model.specs.Charges.{ChargesStore, change_of};
-    ghost use Rattle.store_model.specs.Quiet.{charges_of, del_of, put_of};
-    ghost use Rattle.store_model.specs.States.{Step};
+    ghost use Rattle.store_core.specs.{Answers.{is_disk_fault, refused_by}, Begins.{BeginsChange, BeginsServed, begun_reply}, Steps.{AfterStep, AnswersStep, MakesOne, StepsHalf, SumsOfStep}};
+    ghost use Rattle.store_model.specs.{Connection.{FlushInHand, IsConnected, limits_of, state_of}, Halves.{HalfAgrees, IsHalfway, Origin}, Charges.{ChargesStore, change_of}, Quiet.{charges_of, del_of, put_of}, States.{Step}};
 
     /// Begins to put an object under a name, as `put` does: a quiet change is done, and of any other the
     /// file was grown and the object written, and its flush is in hand. From then on the map has the object.

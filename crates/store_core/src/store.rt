@@ -28,8 +28,7 @@ pub struct Store<const C: usize> {
 }
 
 impl<const C: usize> Model for Store<C> {
-    ghost use Rattle.store_model.specs.Connection.{StoreValue};
-    ghost use Rattle.store_model.specs.Codes.{kept_code};
+    ghost use Rattle.store_model.specs.{Connection.{StoreValue}, Codes.{kept_code}};
 
     ghost Value = { StoreValue };
 
@@ -44,8 +43,7 @@ impl<const C: usize> Model for Store<C> {
 
 impl<const C: usize> Store<C> {
     ghost use Rattle.std.specs.FinMap as fin;
-    ghost use Rattle.store_model.specs.Connection.{live_cap};
-    ghost use Rattle.store_model.specs.Stores.{IsStanding, IsStore};
+    ghost use Rattle.store_model.specs.{Connection.{live_cap}, Stores.{IsStanding, IsStore}};
 
     /// Whether a changing call of this store failed.
     pub fn is_broken(&self) -> bool

@@ -4,19 +4,10 @@ ghost use Rattle.map_model.specs.Requests as ask;
 ghost use Rattle.map_model.specs.Requests.{Change};
 ghost use Rattle.slot_pair.specs.Formats.{HasFirstTable};
 ghost use Rattle.move_cost.specs.Costs.{IsCost, factor, potential, weigh};
-ghost use Rattle.cost_laws.specs.Cells.{NoCellFalls};
-ghost use Rattle.cost_laws.specs.Paid.{IsWeighed};
-ghost use Rattle.cost_laws.specs.Sessions.{IsPaidFor};
-ghost use Rattle.store_core.specs.declared.answers.Refusal.{Refusal};
-ghost use Rattle.store_core.specs.declared.answers.Done.{Done};
-ghost use Rattle.store_core.specs.Answers.{refused_by};
-ghost use Rattle.store_core.specs.Changing.{IsChange};
-ghost use Rattle.store_model.specs.Connection.{IsOver, StoreValue, kept_map};
-ghost use Rattle.store_core.specs.Keeps.{now_map};
-ghost use Rattle.store_model.specs.Opened.{IsFresh, IsOpened};
-ghost use Rattle.store_model.specs.Stores.{IsStore};
-ghost use Rattle.store_costs.specs.Calls.{IsCall, IsCounted, IsKeep, Session, gone_back};
-ghost use Rattle.store_costs.specs.Paid.{HasPaid, MovesNothing, StepIsPaidFor, account_of};
+ghost use Rattle.cost_laws.specs.{Cells.{NoCellFalls}, Paid.{IsWeighed}, Sessions.{IsPaidFor}};
+ghost use Rattle.store_core.specs.{declared.answers.Refusal.{Refusal}, declared.answers.Done.{Done}, Answers.{refused_by}, Changing.{IsChange}, Keeps.{now_map}};
+ghost use Rattle.store_model.specs.{Connection.{IsOver, StoreValue, kept_map}, Opened.{IsFresh, IsOpened}, Stores.{IsStore}};
+ghost use Rattle.store_costs.specs.{Calls.{IsCall, IsCounted, IsKeep, Session, gone_back}, Paid.{HasPaid, MovesNothing, StepIsPaidFor, account_of}};
 
 use disk_face::Disk;
 

@@ -1,12 +1,8 @@
 //! Records that share bytes.
 ghost use Rattle.std.specs.Prelude.{◌≡◌, ◌≤◌, ◌<◌, ◌+◌, ◌↔◌, ℕ, IsTrue, IsNone, IfSome, length, slice_index, vec_capacity};
-ghost use Rattle.extent_table.specs.Extents.{records_of};
-ghost use Rattle.table_rules.specs.Tables.{end_of_record};
-ghost use Rattle.table_rules.specs.Rules.{AllHold, ApartFromEarlier, apart_from_earlier};
-ghost use Rattle.table_rules.specs.Breaks.{BreaksAt};
-ghost use Rattle.extent_table.specs.Places.{by_place};
-ghost use Rattle.table_check.specs.Nexts.{EndBeforeNext};
-ghost use Rattle.table_check.specs.Placed.{placed, ranked};
+ghost use Rattle.extent_table.specs.{Extents.{records_of}, Places.{by_place}};
+ghost use Rattle.table_rules.specs.{Tables.{end_of_record}, Rules.{AllHold, ApartFromEarlier, apart_from_earlier}, Breaks.{BreaksAt}};
+ghost use Rattle.table_check.specs.{Nexts.{EndBeforeNext}, Placed.{placed, ranked}};
 
 use crate::frame::Frame;
 use crate::order::order_objects;

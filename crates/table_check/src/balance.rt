@@ -2,11 +2,8 @@
 ghost use Rattle.std.specs.Prelude.{◌≡◌, ◌≤◌, ◌<◌, ◌+◌, ◌^◌, ◌*◌, ◌↔◌, ℕ, IsTrue, IsNone, IfSome, [], cond, length, slice_index};
 ghost use Rattle.byte_ranges.specs.Lists.{sum_below};
 ghost use Rattle.size_class.specs.Classes.{cell, width};
-ghost use Rattle.table_rules.specs.Tables.{dead_in_buffer, live_in_buffer, table_boundary};
-ghost use Rattle.table_rules.specs.Rules.{AllHold, Balances, balances};
-ghost use Rattle.table_rules.specs.Breaks.{BreaksAt};
-ghost use Rattle.table_check.specs.Live.{IsFull, IsLive, at_spot, in_buffer, in_payload};
-ghost use Rattle.table_check.specs.Placed.{framed, placed, ranked};
+ghost use Rattle.table_rules.specs.{Tables.{dead_in_buffer, live_in_buffer, table_boundary}, Rules.{AllHold, Balances, balances}, Breaks.{BreaksAt}};
+ghost use Rattle.table_check.specs.{Live.{IsFull, IsLive, at_spot, in_buffer, in_payload}, Placed.{framed, placed, ranked}};
 
 use crate::frame::Frame;
 use crate::spots::{class_at, count, spot_at};

@@ -1,12 +1,8 @@
 //! Whether a table that was read keeps the rules of its kind, and the layout that it gives.
 ghost use Rattle.std.specs.Prelude.{◌≡◌, ◌≤◌, ◌↔◌, IsOk, IfOk, IfErr, IsNone, IfSome, length, vec_capacity};
 ghost use Rattle.slot_codec.specs.declared.codec.Kind.TheVariants.{Settled, Moving};
-ghost use Rattle.table_rules.specs.Rules.{AllHold, FirstBroken, IsValid, last_of, number_of};
-ghost use Rattle.table_check.specs.Checked.{CanCheck, IsLayoutOf, checked, of_kind};
-ghost use Rattle.table_rules.specs.Breaks.{BreaksAt};
-ghost use Rattle.table_check.specs.Firsts.{HoldBelow};
-ghost use Rattle.table_check.specs.Tried.{named};
-ghost use Rattle.table_check.specs.Placed.{placed};
+ghost use Rattle.table_rules.specs.{Rules.{AllHold, FirstBroken, IsValid, last_of, number_of}, Breaks.{BreaksAt}};
+ghost use Rattle.table_check.specs.{Checked.{CanCheck, IsLayoutOf, checked, of_kind}, Firsts.{HoldBelow}, Tried.{named}, Placed.{placed}};
 ghost use Rattle.extent_table.specs.Extents.{records_of};
 
 use crate::TableFault;

@@ -2,8 +2,7 @@
 ghost use Rattle.std.specs.Prelude.{◌≡◌, ◌≤◌, IsPermutation, length, vec_capacity};
 ghost use Rattle.extent_table.specs.Extents.{records_of};
 ghost use Rattle.table_rules.specs.Tables.{is_below_wall};
-ghost use Rattle.table_check.specs.Orders.{IsByPlace, has_bytes, passing};
-ghost use Rattle.table_check.specs.Placed.{placed, ranked};
+ghost use Rattle.table_check.specs.{Orders.{IsByPlace, has_bytes, passing}, Placed.{placed, ranked}};
 ghost use Rattle.std.specs.List.Sorted.{IsNonDecreasingBy};
 
 use crate::frame::Frame;

@@ -2,11 +2,8 @@
 ghost use Rattle.std.specs.Prelude.{◌≡◌, ◌⊎◌, ◌≤◌, ◌<◌, ◌+◌, ◌^◌, ◌↔◌, ℕ, IsTrue, IsNone, IfSome, slice_index};
 ghost use Rattle.size_class.specs.Classes.{cell, width};
 ghost use Rattle.segment_layout.specs.Shapes.{buffer_of, taken_in};
-ghost use Rattle.table_rules.specs.Tables.{StandsInBuffer, table_boundary, last_end};
-ghost use Rattle.table_rules.specs.Rules.{AllHold, BuffersFull, EmptyAtZero, EndsWithin, KindFits, LowerStands, NothingAbove, RowFits, RuleAt, SizeFits, number_of, places_of};
-ghost use Rattle.table_rules.specs.Breaks.{BreaksAt};
-ghost use Rattle.table_check.specs.PlaceRules.{named};
-ghost use Rattle.table_check.specs.Placed.{placed, ranked};
+ghost use Rattle.table_rules.specs.{Tables.{StandsInBuffer, table_boundary, last_end}, Rules.{AllHold, BuffersFull, EmptyAtZero, EndsWithin, KindFits, LowerStands, NothingAbove, RowFits, RuleAt, SizeFits, number_of, places_of}, Breaks.{BreaksAt}};
+ghost use Rattle.table_check.specs.{PlaceRules.{named}, Placed.{placed, ranked}};
 
 use crate::frame::Frame;
 use crate::spots::{class_at, count, spot_at};

@@ -2,13 +2,8 @@
 ghost use Rattle.std.specs.Prelude.{◌≡◌, ◌≤◌, ◌<◌, ◌+◌, ◌^◌, ◌⊎◌, ◌↔◌, ℕ, IsTrue, IsNone, IfSome, length, vec_capacity};
 ghost use Rattle.slot_codec.specs.declared.codec.Kind.TheVariants.{Moving};
 ghost use Rattle.extent_table.specs.Extents.{records_of};
-ghost use Rattle.table_rules.specs.Tables.{is_below_wall, table_boundary};
-ghost use Rattle.table_rules.specs.Rules.{AllHold, apart_from_earlier, places_to_resume};
-ghost use Rattle.table_rules.specs.Breaks.{BreaksAt};
-ghost use Rattle.table_check.specs.Firsts.{IsLeast};
-ghost use Rattle.table_check.specs.Orders.{IsByPlace};
-ghost use Rattle.table_check.specs.Placed.{placed, ranked};
-ghost use Rattle.table_check.specs.Suffixes.{HasWideGap, IsInOrder, StandsBesideWall};
+ghost use Rattle.table_rules.specs.{Tables.{is_below_wall, table_boundary}, Rules.{AllHold, apart_from_earlier, places_to_resume}, Breaks.{BreaksAt}};
+ghost use Rattle.table_check.specs.{Firsts.{IsLeast}, Orders.{IsByPlace}, Placed.{placed, ranked}, Suffixes.{HasWideGap, IsInOrder, StandsBesideWall}};
 
 use crate::frame::Frame;
 use crate::order::order_below_wall;

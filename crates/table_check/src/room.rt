@@ -3,9 +3,7 @@ ghost use Rattle.std.specs.Prelude.{◌≡◌, ◌≤◌, ◌<◌, ◌+◌, ◌^
 ghost use Rattle.size_class.specs.Classes.{width};
 ghost use Rattle.slot_codec.specs.declared.codec.Kind.TheVariants.{Moving};
 ghost use Rattle.extent_table.specs.Extents.{records_of};
-ghost use Rattle.table_rules.specs.Tables.{is_suffix, live, new_end, table_boundary};
-ghost use Rattle.table_rules.specs.Rules.{AllHold, RoomToResume, room_to_resume};
-ghost use Rattle.table_rules.specs.Breaks.{BreaksAt};
+ghost use Rattle.table_rules.specs.{Tables.{is_suffix, live, new_end, table_boundary}, Rules.{AllHold, RoomToResume, room_to_resume}, Breaks.{BreaksAt}};
 ghost use Rattle.table_check.specs.Placed.{placed, ranked};
 
 use crate::frame::Frame;

@@ -1,10 +1,8 @@
 //! The records of a table by rank.
 ghost use Rattle.std.specs.Prelude.{◌≡◌, ◌<◌, ◌≤◌, ◌^◌, length};
 ghost use Rattle.size_class.specs.Classes.{class_of};
-ghost use Rattle.extent_table.specs.Extents.{IsTable, records_of};
-ghost use Rattle.extent_table.specs.Places.{by_place};
-ghost use Rattle.table_check.specs.Nexts.{StandsAtRank};
-ghost use Rattle.table_check.specs.Placed.{ranked};
+ghost use Rattle.extent_table.specs.{Extents.{IsTable, records_of}, Places.{by_place}};
+ghost use Rattle.table_check.specs.{Nexts.{StandsAtRank}, Placed.{ranked}};
 
 use extent_table::{Spot, Table};
 

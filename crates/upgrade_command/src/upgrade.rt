@@ -3,13 +3,9 @@ ghost use Rattle.std.specs.Prelude.{◌≡◌, false, None, IsTrue};
 ghost use Rattle.disk_face.specs.Devices.{devices};
 ghost use Rattle.size_class.specs.declared.TheConstants.{CLASSES};
 ghost use Rattle.store_model.specs.Connection.{IsConnected};
-ghost use Rattle.command_face.specs.Mounting.{IsMounted};
-ghost use Rattle.command_face.specs.Outcomes.{Ends};
-ghost use Rattle.command_face.specs.Refusing.{IsRefused};
-ghost use Rattle.served_file.specs.Steps.{FileSteps, OpenSteps};
-ghost use Rattle.served_file.specs.Unserved.{NeverServed};
-ghost use Rattle.upgrade_command.specs.Doing.{IsUpgrade, reason_of};
-ghost use Rattle.upgrade_command.specs.Upgrading.{UpgradeAlways, UpgradePromise};
+ghost use Rattle.command_face.specs.{Mounting.{IsMounted}, Outcomes.{Ends}, Refusing.{IsRefused}};
+ghost use Rattle.served_file.specs.{Steps.{FileSteps, OpenSteps}, Unserved.{NeverServed}};
+ghost use Rattle.upgrade_command.specs.{Doing.{IsUpgrade, reason_of}, Upgrading.{UpgradeAlways, UpgradePromise}};
 
 use command_face::{
     DISK_FAILED, NO_FILE, Outcome, StopReason, finish, mount_there, put_whole, stop_of,

@@ -1,17 +1,13 @@
 //! Laws of jobs in which no device failed, and of what is put of them.
 ghost use Rattle.std.specs.Prelude.{◌≡◌, ◌⊎◌, ◌++◌, false, List, ℕ, codes};
-ghost use Rattle.disk_face.specs.Counts.{IsCalm};
-ghost use Rattle.disk_face.specs.declared.bay.Mounted.TheVariants.{There};
+ghost use Rattle.disk_face.specs.{Counts.{IsCalm}, declared.bay.Mounted.TheVariants.{There}, Devices.{devices}};
 ghost use Rattle.slot_codec.specs.Choice as choice;
 ghost use Rattle.segment_layout.specs.Books.{Book};
 ghost use Rattle.map_model.specs.Maps.{Map};
 ghost use Rattle.table_rules.specs.Opening.{OpensBy};
 ghost use Rattle.command_face.specs.Mounting.{IsMounted, mounted};
-ghost use Rattle.disk_face.specs.Devices.{devices};
 ghost use Rattle.read_cache.specs.Examples.{a_and_b};
-ghost use Rattle.work_command.specs.Asked.{NumberedJobs};
-ghost use Rattle.work_command.specs.Summaries.{cache_lines, eleven_jobs, summary_text};
-ghost use Rattle.work_command.specs.Working.{JobsAlways, JobsPromise};
+ghost use Rattle.work_command.specs.{Asked.{NumberedJobs}, Summaries.{cache_lines, eleven_jobs, summary_text}, Working.{JobsAlways, JobsPromise}};
 
 use command_face::{DISK_FAILED, DONE, NO_FILE, NO_MEMORY};
 use disk_face::{Bay, Mounted, Sink};

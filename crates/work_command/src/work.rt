@@ -1,16 +1,11 @@
 //! The commands `work` and `cached`: the jobs of a number over a file, and their summary.
 ghost use Rattle.std.specs.Prelude.{◌≡◌, ◌≤◌, false, None, Some, Ok, IfSome, IsTrue};
 ghost use Rattle.size_class.specs.declared.TheConstants.{CLASSES};
-ghost use Rattle.store_model.specs.Connection.{IsConnected};
-ghost use Rattle.store_model.specs.Opened.{IsFresh, IsOpening};
-ghost use Rattle.command_face.specs.Mounting.{IsMounted};
-ghost use Rattle.work_command.specs.Asked.{jobs_numbered};
-ghost use Rattle.work_command.specs.Steps.{OpenWorkSteps, WorkSteps};
-ghost use Rattle.command_face.specs.Refusing.{IsRefused};
+ghost use Rattle.store_model.specs.{Connection.{IsConnected}, Opened.{IsFresh, IsOpening}};
+ghost use Rattle.command_face.specs.{Mounting.{IsMounted}, Refusing.{IsRefused}, Outcomes.{Ends}};
+ghost use Rattle.work_command.specs.{Asked.{jobs_numbered}, Steps.{OpenWorkSteps, WorkSteps}, Working.{CachedAlways, CachedPromise, JobsAlways, JobsPromise, WorkAlways, WorkPromise}};
 ghost use Rattle.served_file.specs.Unserved.{NeverServed};
-ghost use Rattle.command_face.specs.Outcomes.{Ends};
 ghost use Rattle.disk_face.specs.Devices.{devices};
-ghost use Rattle.work_command.specs.Working.{CachedAlways, CachedPromise, JobsAlways, JobsPromise, WorkAlways, WorkPromise};
 
 use crate::summary::{cached_text, summary_text};
 use command_face::{

@@ -1,8 +1,7 @@
 //! One job, as three words draw it.
 ghost use Rattle.std.specs.Prelude.{◌≡◌, ◌≤◌, ◌<◌};
 ghost use Rattle.slot_codec.specs.Names.{IsName};
-ghost use Rattle.work_maker.specs.Jobs.{job_drawn, name_drawn};
-ghost use Rattle.work_maker.specs.Making.{asked_by};
+ghost use Rattle.work_maker.specs.{Jobs.{job_drawn, name_drawn}, Making.{asked_by}};
 
 use arrayvec::ArrayVec;
 use itoa::Buffer;

@@ -1,8 +1,7 @@
 //! Making the jobs one after another.
 ghost use Rattle.std.specs.Prelude.{◌≡◌, ◌≤◌, ◌<◌, ◌+◌, ◌↔◌, ◌∷◌, [], IfSome, IsNone};
 ghost use Rattle.rand_pcg.specs.Pcg.{pcg32};
-ghost use Rattle.work_maker.specs.Jobs.{jobs};
-ghost use Rattle.work_maker.specs.Making.{asked_by, jobs_left};
+ghost use Rattle.work_maker.specs.{Jobs.{jobs}, Making.{asked_by, jobs_left}};
 
 use crate::job::drawn;
 use crate::{Job, Work};

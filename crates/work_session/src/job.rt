@@ -1,11 +1,8 @@
 //! One job.
 ghost use Rattle.std.specs.Prelude.{◌≡◌, ◌≤◌, ◌^◌, ◌<◌, ℕ, List, false, None, IsTrue, length};
-ghost use Rattle.store_model.specs.Connection.{IsConnected};
-ghost use Rattle.store_model.specs.Stores.{IsStore};
-ghost use Rattle.work_maker.specs.Jobs.{counting_bytes};
-ghost use Rattle.work_maker.specs.Making.{asked_by};
-ghost use Rattle.work_session.specs.Jobs.{IsPattern, IsShort};
-ghost use Rattle.work_session.specs.Servers.{ServesJob};
+ghost use Rattle.store_model.specs.{Connection.{IsConnected}, Stores.{IsStore}};
+ghost use Rattle.work_maker.specs.{Jobs.{counting_bytes}, Making.{asked_by}};
+ghost use Rattle.work_session.specs.{Jobs.{IsPattern, IsShort}, Servers.{ServesJob}};
 
 use crate::Server;
 use ask_text::{End, Reply};

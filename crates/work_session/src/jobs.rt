@@ -1,11 +1,8 @@
 //! Jobs, done one after another.
 ghost use Rattle.std.specs.Prelude.{◌≡◌, ◌≤◌, ◌^◌, [], false, IfOk, IsTrue, OnErr, length};
-ghost use Rattle.store_model.specs.Connection.{IsConnected};
-ghost use Rattle.store_model.specs.Opened.{IsFresh};
+ghost use Rattle.store_model.specs.{Connection.{IsConnected}, Opened.{IsFresh}};
 ghost use Rattle.work_maker.specs.Making.{jobs_left};
-ghost use Rattle.work_session.specs.Jobs.{IsPattern};
-ghost use Rattle.work_session.specs.Servers.{IsServing};
-ghost use Rattle.work_session.specs.Works.{HasStopped};
+ghost use Rattle.work_session.specs.{Jobs.{IsPattern}, Servers.{IsServing}, Works.{HasStopped}};
 
 use crate::Server;
 use crate::job::do_job;

@@ -6,9 +6,7 @@ ghost use Rattle.size_class.specs.Rows.{cells_of};
 ghost use Rattle.map_model.specs.Requests as ask;
 ghost use Rattle.extent_table.specs.Extents.{volume_of};
 ghost use Rattle.segment_layout.specs.Books.{book_end};
-ghost use Rattle.store_model.specs.Connection.{IsConnected, StoreValue};
-ghost use Rattle.store_model.specs.Quiet.{del_of, put_of};
-ghost use Rattle.store_model.specs.Stores.{IsStore};
+ghost use Rattle.store_model.specs.{Connection.{IsConnected, StoreValue}, Quiet.{del_of, put_of}, Stores.{IsStore}};
 ghost use Rattle.work_session.specs.Servers.{ServesJob};
 
 use ask_text::{End, Reply};

@@ -6,8 +6,7 @@ ghost use Rattle.size_class.specs.Rows.{cells_of};
 ghost use Rattle.extent_table.specs.Extents.{volume_of};
 ghost use Rattle.segment_layout.specs.Books.{book_end};
 ghost use Rattle.store_model.specs.Stores.{IsStore};
-ghost use Rattle.work_session.specs.Jobs.{HasTally};
-ghost use Rattle.work_session.specs.Works.{EndsAt, IsLine, LinesOf};
+ghost use Rattle.work_session.specs.{Jobs.{HasTally}, Works.{EndsAt, IsLine, LinesOf}};
 
 use crate::Server;
 use crate::tally::Tally;

@@ -1,11 +1,9 @@
 //! The work of a number.
 ghost use Rattle.std.specs.Prelude.{◌≡◌, ◌≤◌, ◌+◌, Err, IfOk, IsTrue};
 ghost use Rattle.disk_face.specs.Writes.{KeepsDisk};
-ghost use Rattle.store_model.specs.Connection.{IsConnected};
-ghost use Rattle.store_model.specs.Opened.{IsFresh};
+ghost use Rattle.store_model.specs.{Connection.{IsConnected}, Opened.{IsFresh}};
 ghost use Rattle.work_maker.specs.Jobs.{jobs};
-ghost use Rattle.work_session.specs.Servers.{HasServed};
-ghost use Rattle.work_session.specs.Works.{HasStopped};
+ghost use Rattle.work_session.specs.{Servers.{HasServed}, Works.{HasStopped}};
 
 use crate::jobs::do_jobs;
 use crate::pattern::counting;

@@ -107,8 +107,7 @@ impl Faulty {
 impl Host for Faulty {
     ghost use Rattle.std.proofs.Common.{arith};
     ghost use Rattle.std.proofs.lemmas.Bool.{false≢true};
-    ghost use Rattle.disk_file.specs.Hosts.{untold_marks};
-    ghost use Rattle.disk_file.specs.Mounted.{untold};
+    ghost use Rattle.disk_file.specs.{Hosts.{untold_marks}, Mounted.{untold}};
 
     ghost state = { λ host. untold host.turns true };
 

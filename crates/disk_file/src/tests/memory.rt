@@ -75,9 +75,8 @@ impl Host for Memory {
     ghost use Rattle.std.specs.Prelude.{true, false, None, Some, refl, if◌then◌else◌};
     ghost use Rattle.std.proofs.Common.{arith};
     ghost use Rattle.std.proofs.lemmas.Bool.{false≢true};
-    ghost use Rattle.disk_file.specs.Hosts.{untold_marks};
+    ghost use Rattle.disk_file.specs.{Hosts.{untold_marks}, Mounted.{untold}};
     ghost use Rattle.disk_file.specs.declared.host.Kind.TheVariants as kind;
-    ghost use Rattle.disk_file.specs.Mounted.{untold};
 
     ghost state = { λ host. record (untold host.turns host.is_open) {
       tells = true;
