@@ -25,7 +25,8 @@ fill_more start piece part now rest done n within fits so_far is =
     let here : length (take done piece) ≡ done = length-take-le done piece within in
     let more : take (done + n) whole ≡ take done piece ++ take n part =
     take-add done n whole
-    ∙ ap (λ (xs : List ℕ). xs ++ take n (drop done whole)) (take_at (take done piece) (part ++ after) done here)
+    ∙ ap (λ (xs : List ℕ). xs ++ take n (drop done whole))
+    (take_at (take done piece) (part ++ after) done here)
     ∙ ap (λ (xs : List ℕ). take done piece ++ take n xs) (drop_at (take done piece) (part ++ after) done here)
     ∙ ap (λ (xs : List ℕ). take done piece ++ xs) (take-append-le n part after fits) in
     so_far ∙ ap (λ (xs : List ℕ). take done piece ++ xs) is

@@ -18,7 +18,8 @@ const LONGEST: usize = 271;
 pub fn next_ask<I: Source>(ahead: &mut Ahead, input: &mut I) -> Result<Option<Ask>, SourceFault>
     ensures ask { IfOk result (λ found. IfSome found IsAsk) }
     ensures line { IsTrue (I.state input.old).tells → IfOk result (λ found. IfSome found (λ ask.
-        ahead.old ++ (I.state input.old).left ≡ line_of ask ++ 10 ∷ (ahead.new ++ (I.state input.new).left))) }
+        ahead.old ++ (I.state input.old).left
+        ≡ line_of ask ++ 10 ∷ (ahead.new ++ (I.state input.new).left))) }
     ensures none { IsTrue (I.state input.old).tells → result ≡ Ok None
         → BeginsNone (ahead.old ++ (I.state input.old).left) }
     ensures told { (I.state input.new).tells ≡ (I.state input.old).tells }

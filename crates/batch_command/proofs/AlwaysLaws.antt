@@ -50,5 +50,6 @@ module _ {D : Type 0} (disk_of : D → State) (file : List ℕ) (from rest : Sou
       batch_always = record {
         serves = serves_always file old z out put after end status is line later calm told is_batching both.0
             batch_whole;
-        line_alone = λ tells. ends_or_puts file old z out put after end status is line later calm told both.1 tells;
+        line_alone = λ tells.
+            ends_or_puts file old z out put after end status is line later calm told both.1 tells;
       }

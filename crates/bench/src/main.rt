@@ -1,7 +1,7 @@
 //! Measures the parts of a store: `bench disk PIECES` a real file, `bench table NAMES` the table of names,
 //! `bench flush NAMES` flushes and checkpoints, `bench open NAMES` openings, `bench pause NAMES` how long a
-//! flush keeps its caller waiting, `bench cached NAMES` reads behind a cache. There are 16 to 65,536 names. With
-//! no word each is measured with few, and nothing is printed.
+//! flush keeps its caller waiting, `bench cached NAMES` reads behind a cache. There are 16 to 65,536 names.
+//! With no word each is measured with few, and nothing is printed.
 #![tactic(auto)]
 
 mod cached;

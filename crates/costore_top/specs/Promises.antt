@@ -153,7 +153,8 @@ Desks status old new from rest same_input =
     (IsTrue old.disk.tells → IsTrue from.tells → DeskPromise from.left status old new)
     × DeskAlways status old new × DeskReads status from rest same_input
 
--- `run` and `desk` serve what their input asks for. Of `run` this holds whatever its file and its devices tell.
+-- `run` and `desk` serve what their input asks for. Of `run` this holds whatever its file and its devices
+-- tell.
 pub record ServesInput (words : List (List ℕ)) (o : Outcome) (old new : Devices) (from rest : SourceState)
     (same_input : Type 0) : Type 0 where
   pub session : (file : List ℕ) → Means words (run file)

@@ -40,8 +40,8 @@ pub fn costore<B: Bay, I: Source, O: Sink>(
     ensures formats { FormatsSafely (texts words.now) result.status
         (devices (B.state bay.old) (O.state output.old)) (devices (B.state bay.new) (O.state output.new)) }
 
-    // No call but `run`, `load`, `batch` and `desk` reads the input, and the three numbers are of the requests
-    // of `run`.
+    // No call but `run`, `load`, `batch` and `desk` reads the input, and the three numbers are of the
+    // requests of `run`.
     ensures unread { ReadsInput (texts words.now) result (input.new ≡ input.old) }
 
     // `run` serves the requests of the input. Of a file that opens, and a disk and an input that tell, this

@@ -15,7 +15,8 @@ use Rattle.disk_image.specs.Calls.{spelled}
 use Rattle.disk_image.specs.Disks.{image_state}
 use Rattle.disk_image.specs.Notings.{IsNoting, Noting, content, made, refused}
 
-module _ (n : Noting) (few : n.history.turn ≤ 2 ^ 64 - 1) (ended : EndedBy n.history.turn n.history.calls) where
+module _ (n : Noting) (few : n.history.turn ≤ 2 ^ 64 - 1)
+    (ended : EndedBy n.history.turn n.history.calls) where
   stays : (new : Noting) → new.start ≡ n.start → Stays (image_state n) (image_state new)
   stays new same = record {
     ready = refl;
@@ -100,7 +101,8 @@ module _ {seen n : Noting} {file : List ℕ} (is : seen ≡ n) (held : IsNoting 
 
   pub after_write : (at : ℕ) (bytes : List ℕ) (new : Noting) → new ≡ made (Wrote at bytes) n
       → AfterWrite at (length bytes) (image_state n) (image_state new)
-  after_write at bytes new e = subst (λ (x : Noting). AfterWrite at (length bytes) (image_state n) (image_state x))
+  after_write at bytes new e =
+      subst (λ (x : Noting). AfterWrite at (length bytes) (image_state n) (image_state x))
       (sym e) (wrote_frame n holds.few holds.ended at bytes)
 
   pub after_no_write : (at k : ℕ) (new : Noting) → new ≡ refused n

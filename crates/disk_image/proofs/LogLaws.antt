@@ -24,8 +24,9 @@ content_of_log start h text l =
     ∙ content_replayed start.base l.calls start.calls
 
 -- one call more
-pub log_done : (call : RecordedCall) (start h : History) (text : List ℕ) → h.turn ≤ 2 ^ 64 - 1 → FitsEntry call
-    → IsWithin call (file_of h) → IsLog start h text → IsLog start (done call h) (text ++ spelled call)
+pub log_done : (call : RecordedCall) (start h : History) (text : List ℕ) → h.turn ≤ 2 ^ 64 - 1
+    → FitsEntry call → IsWithin call (file_of h) → IsLog start h text
+    → IsLog start (done call h) (text ++ spelled call)
 log_done call start h text few fits within l = record {
   calls = record { began = h.turn; change = call } ∷ l.calls;
   same_base = l.same_base;
@@ -78,8 +79,8 @@ noting_none n new file same start none holds few ended = record {
 }
 
 -- a call that was made and noted
-pub noting_made : (call : RecordedCall) (n new : Noting) (file now : List ℕ) → IsNoting n file → FitsEntry call
-    → IsWithin call file → new.history ≡ done call n.history → new.start ≡ n.start
+pub noting_made : (call : RecordedCall) (n new : Noting) (file now : List ℕ) → IsNoting n file
+    → FitsEntry call → IsWithin call file → new.history ≡ done call n.history → new.start ≡ n.start
     → new.text ≡ n.text ++ spelled call → now ≡ changed call file → IsNoting new now
 noting_made call n new file now is fits within went start more does = record {
   same_file = does ∙ ap (changed call) is.same_file ∙ ap file_of (sym went);
@@ -91,7 +92,8 @@ noting_made call n new file now is fits within went start more does = record {
   log = subst (λ text. IsLog new.start new.history text) (sym more)
       (subst (λ (h : History). IsLog h new.history (n.text ++ spelled call)) (sym start)
       (subst (λ (h : History). IsLog n.start h (n.text ++ spelled call)) (sym went)
-      (log_done call n.start n.history n.text is.few fits (subst (IsWithin call) is.same_file within) is.log)));
+      (log_done call n.start n.history n.text is.few fits
+      (subst (IsWithin call) is.same_file within) is.log)));
 }
 
 -- one that failed

@@ -18,7 +18,8 @@ use Rattle.dump_stream.specs.Loading.{filled_by, last_name}
 -- where an object of a size goes, when so much of each segment is filled; an empty one has place 0
 abbrev pub spot_at : ℕ → List ℕ → List ℕ → ℕ → Spot
 spot_at k volumes filled size = record {
-  place = if nat_lt 0 size then start_of k volumes (class_of size) + slice_index filled (class_of size) else 0;
+  place = if nat_lt 0 size then start_of k volumes (class_of size) + slice_index filled (class_of size)
+      else 0;
   size = size;
 }
 

@@ -14,12 +14,13 @@ impl Display for Unread<'_> {
             ("load", "0") => f.write_str("its first line is none of a dump"),
             ("load", _) => write!(
                 f,
-                "object {number} is none that may follow in the dump, or the input ends before its end or goes on"
+                "object {number} is none that may follow in the dump, or the input ends before its end or \
+                goes on"
             ),
             ("batch", _) => write!(
                 f,
-                "request {number} is no put or del of a name above the one before, or the input ends within it or \
-                is too long"
+                "request {number} is no put or del of a name above the one before, or the input ends within \
+                it or is too long"
             ),
             ("desk", _) => write!(f, "event {number} is none, or the input ends within it"),
             _ => {

@@ -28,15 +28,18 @@ abbrev Same : disk.State → disk.State → Type 0
 Same before now = now.last_mount ≡ before.last_mount
 
 module _ {classes : ℕ} {old new : StoreValue} {before now : disk.State} where
-  pub change_mount : {c : Change} {result : Result Done Refusal} → IsChange classes c old new before now result
+  pub change_mount : {c : Change} {result : Result Done Refusal}
+      → IsChange classes c old new before now result
       → now.last_mount ≡ before.last_mount
-  change_mount {c} is = by_cases (refused_by old (ask.change c)) (λ h. (is.refused h).same_disk.stays.same_mount)
+  change_mount {c} is = by_cases (refused_by old (ask.change c))
+      (λ h. (is.refused h).same_disk.stays.same_mount)
       (λ h. by_bool (is_quiet (charges_of old c)) (λ q. (is.quiet h q).frame.stays.same_mount)
       (λ q. (is.flush h q).frame.stays.same_mount))
 
   pub begin_mount : {c : Change} {result : Result Begun Refusal}
       → BeginsChange classes c old new before now result → now.last_mount ≡ before.last_mount
-  begin_mount {c} is = by_cases (refused_by old (ask.change c)) (λ h. (is.refused h).same_disk.stays.same_mount)
+  begin_mount {c} is = by_cases (refused_by old (ask.change c))
+      (λ h. (is.refused h).same_disk.stays.same_mount)
       (λ h. by_bool (is_quiet (charges_of old c)) (λ q. (is.quiet h q).frame.stays.same_mount)
       (λ q. (is.flush h q).frame.stays.same_mount))
 

@@ -44,8 +44,9 @@ impl ImageStore {
         ensures makes { (h : FlushInHand) → self.old.store.in_hand ≡ Some h → MakesOne self.old.store
             self.new.store h (disk_before self.old) (disk_of self.new) result }
         ensures half { (h : FlushInHand) (o : Origin) → self.old.store.in_hand ≡ Some h
-            → HalfAgrees CLASSES self.old.store h o (disk_before self.old) → StepsHalf CLASSES o self.old.store
-            self.new.store (disk_before self.old) (disk_of self.new) result }
+            → HalfAgrees CLASSES self.old.store h o (disk_before self.old)
+            → StepsHalf CLASSES o self.old.store self.new.store (disk_before self.old) (disk_of self.new)
+            result }
         ensures broken { self.new.store.is_broken ≡ is_disk_fault result }
         ensures rests { result ≡ Ok Progress.Settled → RestsOnKept self.new }
         ensures noted { IsNoted self.old self.new }

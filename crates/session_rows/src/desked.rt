@@ -95,7 +95,8 @@ const PUT_D: &str = "put d 12\nabcdefghijkl\n";
 const ROWS: &[Row] = rows! {
     [PUT_A], [] => 0 ["left 0\n"], HAS_A;
     // All kinds of requests of one session, and what isn't saved.
-    [PUT_A], ["say 7\nstat\nsay 7\nlist\nsay 7\nget a\nsay 7\n", PUT_B, "say 7\nold b\nsay 7\nback\nsay 7\ndel x\n",
+    [PUT_A], ["say 7\nstat\nsay 7\nlist\nsay 7\nget a\nsay 7\n", PUT_B,
+        "say 7\nold b\nsay 7\nback\nsay 7\ndel x\n",
         "say 7\nkeep\nserve 7\nserve 7\nserve 7\nserve 7\nserve 7\nserve 7\nserve 7\nserve 7\nserve 7\n"]
         => 0 ["queued 7\nqueued 7\nqueued 7\nqueued 7\nqueued 7\nqueued 7\nqueued 7\nqueued 7\n",
         "to 7\nstat 1 100 1 100\nto 7\nlist 1\na 100\nto 7\n", DATA_A, "to 7\nok\nto 7\nrefused missing\n",
@@ -117,7 +118,8 @@ const ROWS: &[Row] = rows! {
         => 0 ["queued 0\nto 0\nok\nqueued 1\nto 1\nok kept\nleft 0\n"], HAS_AB;
     // Requests wait in the order of their session.
     [PUT_A], ["say 2\nget b\nsay 3\nget a\nsay 2\nstat\nserve 3\nserve 2\nserve 2\nserve 2\n"]
-        => 0 ["queued 2\nqueued 3\nqueued 2\nto 3\n", DATA_A, "to 2\nrefused missing\nto 2\nstat 1 100 1 100\n",
+        => 0 ["queued 2\nqueued 3\nqueued 2\nto 3\n", DATA_A,
+        "to 2\nrefused missing\nto 2\nstat 1 100 1 100\n",
         "empty 2\nleft 0\n"], HAS_A;
     // A name that is too long for a store, but not for a line.
     [PUT_A], ["say 1\nget 0123456789012345678901234567890123456789012345678901234567890123\nserve 1\n"]

@@ -55,7 +55,8 @@ keep_step limits s after fresh map kept book kept_book sequence =
     let calm : refusal limits (facts_of s ask.keep) ask.keep ≡ None =
     rw (lt-leb (2 ^ 61) s.sequence fresh) refl in
     let is = served_by limits s ask.keep None calm in
-    step_to limits s after ask.keep _ is map kept book kept_book (omega (arith, sequence)) (omega (arith, sequence))
+    step_to limits s after ask.keep _ is map kept book kept_book (omega (arith, sequence))
+    (omega (arith, sequence))
 
 module _ {classes : ℕ} (s : StoreValue) (h : IsStore classes s) where
   abbrev k : ℕ

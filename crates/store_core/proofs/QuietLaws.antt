@@ -58,7 +58,8 @@ change_step limits s after c none quiet map kept book kept_book sequence =
       state = record s { map = m; kept = m; book = next.book; kept_book = next.book };
       saves = record { least = 1; most = 2 * limits.k + 1 };
     } in r) quiet in
-    step_to limits s after (ask.change c) _ is map kept book kept_book (omega (arith, sequence)) (omega (arith, sequence))
+    step_to limits s after (ask.change c) _ is map kept book kept_book (omega (arith, sequence))
+    (omega (arith, sequence))
 
 -- a store with other places, in a layout of the same capacities, is over the same file
 pub over_beside : {classes : ℕ} (s : StoreValue) (file : List ℕ) (now : Spots) (book : Book) (asked : List ℕ)

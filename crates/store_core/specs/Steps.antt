@@ -29,7 +29,8 @@ AnswersStep result = (result ≡ Ok progress.Moved) ⊎ (result ≡ Ok progress.
 -- ---- what is made
 
 -- One object was moved, whose bytes the ledger has gained, after a save of what stood or after none. The
--- calls are at most those of the save and of the pieces of the object. Fewer steps are left, and at least one.
+-- calls are at most those of the save and of the pieces of the object. Fewer steps are left, and at least
+-- one.
 pub record MovesOne (old new : StoreValue) (h : FlushInHand) (before now : disk.State) : Type 0 where
   pub name : List ℕ
   pub spot : Spot

@@ -14,9 +14,9 @@ use disk_face::{Disk, read};
 use extent_table::Spot;
 
 impl<const C: usize> Store<C> {
-    /// Reads an object of now or of the last checkpoint into the front of `out`, where `get` or `old` would put
-    /// it, also while a flush is in hand. The answer is how many bytes it has; they have to fit. It is refused
-    /// as those are, so also as damaged, and the disk may fail.
+    /// Reads an object of now or of the last checkpoint into the front of `out`, where `get` or `old` would
+    /// put it, also while a flush is in hand. The answer is how many bytes it has; they have to fit. It is
+    /// refused as those are, so also as damaged, and the disk may fail.
     pub fn fetch<D: Disk>(
         &self,
         moment: Moment,

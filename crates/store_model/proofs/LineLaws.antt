@@ -144,7 +144,8 @@ module _ {out : List ℕ} {room end : ℕ} {spots : Spots} {n : ℕ} (so_far : I
   )
 
   -- one more that doesn't fit
-  pub copied_short : room - end < length (line_of (name, x.size)) → room < length (lines_of (listing_of spots))
+  pub copied_short : room - end < length (line_of (name, x.size))
+      → room < length (lines_of (listing_of spots))
   copied_short more = omega (arith, more, next_length, lines_few spots (n + 1), so_far.inside, so_far.same)
 
   -- one more that fits, as it is put into the memory

@@ -61,5 +61,6 @@ module _ {D : Type 0} (disk_of : D → State) (file : List ℕ) (old z : State) 
     upgrade_always = record {
       serves = serves_always file old z out put after end status is line later calm told is_upgrading both.0
           upgrade_whole;
-      line_alone = λ tells. ends_or_puts file old z out put after end status is line later calm told both.1 tells;
+      line_alone = λ tells.
+          ends_or_puts file old z out put after end status is line later calm told both.1 tells;
     }

@@ -36,7 +36,8 @@ module _ (wanted : Result (List ℕ) StopReason) (out put : SinkState) where
   answers_idle s already a b end from to is was = answers_put end is
       (subst (λ x. PutsUpgraded x put end) from (subst (λ y. PutsUpgraded a.sink y end) to was.ends))
   answers_idle s many a b end from to is was = subst (Answers (AnswersWith wanted) out put) (sym was.ends.0)
-      (nothing_put (AnswersWith wanted) out put (stop.TooManyNames (fin.len s.now)) (sym is, refl) (sym to ∙ was.ends.1 ∙ from))
+      (nothing_put (AnswersWith wanted) out put (stop.TooManyNames (fin.len s.now)) (sym is, refl)
+      (sym to ∙ was.ends.1 ∙ from))
   answers_idle s worn a b end from to is was = subst (Answers (AnswersWith wanted) out put) (sym was.ends.0)
       (nothing_put (AnswersWith wanted) out put stop.Worn (sym is, refl) (sym to ∙ was.ends.1 ∙ from))
 

@@ -74,8 +74,8 @@ module _ (t : choice.SlotTable) (m : Map) (b : Book) (old : State) (lawful : IsL
       record {
         start = start;
         starts = x.leaves.starts;
-        ends = ends_so (upgrade_end names start) (answers_early (AnswersWith (upgrade_end names start)) out put end x.early
-            x.nothing);
+        ends = ends_so (upgrade_end names start)
+            (answers_early (AnswersWith (upgrade_end names start)) out put end x.early x.nothing);
         done = λ is. no_answer (status_at end) none is;
         content = λ room. inl (x.leaves.content room);
         crash = λ room rests below image since. inl (x.leaves.left room rests below image since);
@@ -291,8 +291,8 @@ module _ (t : choice.SlotTable) (m : Map) (b : Book) (old : State) (lawful : IsL
         let none : has_answered (status_at end) ≡ false =
         ap (λ (e : Result (Unit {0}) StopReason). has_answered (status_at e)) was.ended in
         let seven : status_at end ≡ 7 = ap (λ (e : Result (Unit {0}) StopReason). status_at e) was.ended in
-        begun todo was.upgrades (answers_early (AnswersWith (upgrade_end u.names start)) out put end (inl was.ended)
-        was.nothing)
+        begun todo was.upgrades
+        (answers_early (AnswersWith (upgrade_end u.names start)) out put end (inl was.ended) was.nothing)
         (λ is. no_answer (status_at end) none is)
         (λ is. omega (arith, is, seven))
         (λ calm. absurd (omega (arith, was.upgrades.calls.cause.rose, op.faults, calm.same, calm.below)))

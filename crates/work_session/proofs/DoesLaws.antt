@@ -287,7 +287,8 @@ module _ {classes : ℕ} (s : StoreValue) (a d : disk.State) (name : List ℕ) (
   get_damaged served calm step =
       let is : IsTrue a.tells
       → served_at s a.file r ≡ unchanged (state_of s a.file) (ask.refused ask.damaged) =
-      λ told. replied_as true served told (found_damaged s a moment.Now name (can_read h) served t (step told)) in
+      λ told. replied_as true served told
+      (found_damaged s a moment.Now name (can_read h) served t (step told)) in
       record {
         serves = serves_same s r a d (Ok (head.Refused word.Damaged)) h same (λ told. record {
           reply = ask.refused ask.damaged;

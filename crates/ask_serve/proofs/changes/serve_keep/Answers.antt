@@ -5,7 +5,8 @@ use Rattle.ask_serve.proofs.ReplyLaws.{answered_as}
 use Rattle.ask_serve.proofs.changes.serve_keep.Goals as goal
 
 pub returns-clause-answers : goal.returns-clause-answers
-returns-clause-answers g c = answered_as c.answer_change.ensures (keep_answers c.args.store.now c.keep.new.self
+returns-clause-answers g c =
+    answered_as c.answer_change.ensures (keep_answers c.args.store.now c.keep.new.self
     (g.D.Disk.state c.args.disk.now) (g.D.Disk.state c.keep.new.disk) c.keep.result c.requires.can
     c.keep.ensures.answer c.keep.ensures.refused c.keep.ensures.kept
     c.keep.ensures.step c.keep.ensures.over c.keep.ensures.broken)

@@ -279,8 +279,8 @@ returns-in-Desk g c =
     let input = c.desk_file.new.input ≡ c.args.input.now in
     does_as (ap command_of c.in-Desk.is)
     (writing (desk c.in-Desk.file.now) refl refl refl refl c.desk_file.result old new from rest bay input
-    (desking_not_one c.desk_file.result.status e.keeps.serves.known) e.mounted (λ _. e.refused) (λ is. absurd (cc))
-    (λ is. absurd (cc)) (λ is. absurd (cc)) (λ _. e.numbers)
+    (desking_not_one c.desk_file.result.status e.keeps.serves.known) e.mounted (λ _. e.refused)
+    (λ is. absurd (cc)) (λ is. absurd (cc)) (λ is. absurd (cc)) (λ _. e.numbers)
     (e.desks, e.keeps, e.reads))
 
 pub returns-in-Load : goal.returns-in-Load

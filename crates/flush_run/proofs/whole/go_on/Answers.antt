@@ -55,7 +55,8 @@ pub steps-preserved-then-moved : goal.steps-preserved-then-moved
 steps-preserved-then-moved g c =
     let ok = c.in-Ok.ensures in
     run_next c.steps.invariant
-    (run_moved g.D.Disk.state c.steps.invariant (at_true c.if-moved.true ok.made) ok.keeps ok.paid ok.goes) c.advance.ensures.left
+    (run_moved g.D.Disk.state c.steps.invariant (at_true c.if-moved.true ok.made) ok.keeps ok.paid ok.goes)
+    c.advance.ensures.left
 
 pub steps-smaller-then-moved : goal.steps-smaller-then-moved
 steps-smaller-then-moved g c =
@@ -74,8 +75,8 @@ onward-requires g c =
 pub steps-preserved : goal.steps-preserved
 steps-preserved g c =
     let ok = c.in-Ok.ensures in
-    run_hand g.D.Disk.state (run_same g.D.Disk.state c.if-moved.false ok.made ok.none c.steps.invariant) c.requires.start.1
-    c.in-Next.ensures
+    run_hand g.D.Disk.state (run_same g.D.Disk.state c.if-moved.false ok.made ok.none c.steps.invariant)
+    c.requires.start.1 c.in-Next.ensures
 
 pub steps-smaller : goal.steps-smaller
 steps-smaller g c =
@@ -116,8 +117,8 @@ returns-in-Err-settle g c =
       ends = λ f can. tt;
       left = λ f can told.
           left_then (omega (arith, s.later)) ((i.all f can).left told)
-          (left_wider (omega (arith, s.later)) (s.left f (run_settles g.D.Disk.state i can c.in-End.ensures.course)
-          (still_told i.keeps told)));
+          (left_wider (omega (arith, s.later))
+          (s.left f (run_settles g.D.Disk.state i can c.in-End.ensures.course) (still_told i.keeps told)));
       few = saves_end i _ s.one;
       paid = λ q paid. paid_end i c.requires.start.1 _ s.one q paid;
       done = tt;
@@ -146,8 +147,8 @@ returns-in-Ok-settle g c =
       ends = λ f can. e.ends f (run_settles g.D.Disk.state i can c.in-End.ensures.course);
       left = λ f can told.
           left_then (omega (arith, s.later)) ((i.all f can).left told)
-          (left_wider (omega (arith, s.later)) (s.left f (run_settles g.D.Disk.state i can c.in-End.ensures.course)
-          (still_told i.keeps told)));
+          (left_wider (omega (arith, s.later))
+          (s.left f (run_settles g.D.Disk.state i can c.in-End.ensures.course) (still_told i.keeps told)));
       few = saves_end i _ s.one;
       paid = λ q paid. paid_end i c.requires.start.1 _ s.one q paid;
       done = run_done i (record {
@@ -164,5 +165,9 @@ returns-in-Ok-settle g c =
         keeps = s.keeps;
         turns = e.calls.all;
       });
-      cause = record { later = omega (arith, e.cause.later, i.calm); rose = tt; calm = e.cause.calm ∙ i.calm };
+      cause = record {
+        later = omega (arith, e.cause.later, i.calm);
+        rose = tt;
+        calm = e.cause.calm ∙ i.calm;
+      };
     }

@@ -9,8 +9,8 @@ pub invariant_of-self : goal.invariant_of-self
 invariant_of-self c =
     let s = c.self.inside in
     noting_refused (seen_of s.course.trail.history s.start.value.history s.room s.log)
-    (seen_of c.fail.new.self.trail.history s.start.value.history s.room s.log) (file_in s.room) c.self.invariant
-    c.fail.ensures refl refl
+    (seen_of c.fail.new.self.trail.history s.start.value.history s.room s.log) (file_in s.room)
+    c.self.invariant c.fail.ensures refl refl
 
 pub invariant_of-self-2 : goal.invariant_of-self-2
 invariant_of-self-2 c =

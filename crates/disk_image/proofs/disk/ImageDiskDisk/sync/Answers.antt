@@ -9,8 +9,8 @@ pub invariant_of-self : goal.invariant_of-self
 invariant_of-self c =
     let s = c.self.inside in
     noting_refused (seen_of s.course.trail.history s.start.value.history s.room s.log)
-    (seen_of c.fail.new.self.trail.history s.start.value.history s.room s.log) (file_in s.room) c.self.invariant
-    c.fail.ensures refl refl
+    (seen_of c.fail.new.self.trail.history s.start.value.history s.room s.log) (file_in s.room)
+    c.self.invariant c.fail.ensures refl refl
 
 pub invariant_of-self-2 : goal.invariant_of-self-2
 invariant_of-self-2 c =
@@ -29,7 +29,8 @@ returns-then-not-fits-clause-frame c =
 pub returns-clause-rests : goal.returns-clause-rests
 returns-clause-rests c =
     let s = c.self.inside in
-    only_made c.args.self.now (seen_of c.sync.new.self.trail.history s.start.value.history s.room c.add.new.self)
+    only_made c.args.self.now
+    (seen_of c.sync.new.self.trail.history s.start.value.history s.room c.add.new.self)
     (made_is c.self.view_is c.sync.ensures refl c.add.ensures.text refl c.add.ensures.same_length)
 
 pub returns-clause-frame : goal.returns-clause-frame

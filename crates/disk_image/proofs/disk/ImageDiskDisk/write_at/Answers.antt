@@ -13,8 +13,8 @@ pub invariant_of-self : goal.invariant_of-self
 invariant_of-self c =
     let s = c.self.inside in
     noting_refused (seen_of s.course.trail.history s.start.value.history s.room s.log)
-    (seen_of c.fail.new.self.trail.history s.start.value.history s.room s.log) (file_in s.room) c.self.invariant
-    c.fail.ensures refl refl
+    (seen_of c.fail.new.self.trail.history s.start.value.history s.room s.log) (file_in s.room)
+    c.self.invariant c.fail.ensures refl refl
 
 pub invariant_of-self-2 : goal.invariant_of-self-2
 invariant_of-self-2 c =
@@ -22,9 +22,9 @@ invariant_of-self-2 c =
     let within : c.args.pos + length c.args.bytes.now ≤ length (file_in s.room) = search rules in
     noting_made (Wrote c.args.pos c.args.bytes.now)
     (seen_of s.course.trail.history s.start.value.history s.room s.log)
-    (seen_of c.write.new.self.trail.history s.start.value.history c.put.new.self c.add.new.self) (file_in s.room)
-    (file_in c.put.new.self) c.self.invariant (omega arith, omega arith) within c.write.ensures refl
-    c.add.ensures.text
+    (seen_of c.write.new.self.trail.history s.start.value.history c.put.new.self c.add.new.self)
+    (file_in s.room) (file_in c.put.new.self) c.self.invariant (omega arith, omega arith) within
+    c.write.ensures refl c.add.ensures.text
     (c.put.ensures.file ∙ changed_within (file_in s.room) c.args.pos c.args.bytes.now within)
 
 pub returns-then-not-fits-clause-frame : goal.returns-then-not-fits-clause-frame

@@ -22,7 +22,10 @@ fetch-requires c =
       lit< tt,
       (
         refl,
-        (readable_seen s n c.of-view.result.bytes.now c.of-view.result.refused same c.self.invariant, fits.fits),
+        (
+          readable_seen s n c.of-view.result.bytes.now c.of-view.result.refused same c.self.invariant,
+          fits.fits,
+        ),
       ),
     )
 

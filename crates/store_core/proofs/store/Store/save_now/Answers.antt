@@ -116,7 +116,8 @@ returns-in-Ok-clause-over g c =
     let inside = lent c.self.inside c.deref_mut-hands.result.now c.self.inside.kept_layout.value in
     rw rest.none (record {
       idle = refl;
-      over = λ unbroken. keep_over inside c.args.self.now rest.view rest.whole c.requires.whole c.requires.fresh
+      over = λ unbroken.
+          keep_over inside c.args.self.now rest.view rest.whole c.requires.whole c.requires.fresh
           c.settled_header-next.result
           (header_is inside rest.whole c.settled_header-next.result c.settled_header-next.ensures.header)
           c.requires.over c.save.ensures.left
