@@ -1,6 +1,6 @@
 -- A piece that is filled part by part.
-use Rattle.std.specs.Prelude.{◌≡◌, ℕ, ◌+◌, ◌-◌, ◌≤◌, ◌<◌, List, [], ◌++◌, length, take, drop, refl}
-use Rattle.std.proofs.Common.{arith, ap, sym, ◌∙◌, append_assoc, length-append, length-drop}
+use Rattle.std.specs.Prelude.{◌≡◌, ℕ, ◌+◌, ◌-◌, ◌≤◌, List, ◌++◌, length, take, drop}
+use Rattle.std.proofs.Common.{ap, sym, ◌∙◌, append_assoc, length-drop}
 use Rattle.std.proofs.Math.Seq.{take-add}
 use Rattle.std.proofs.lemmas.List.{drop_at, length-take-le, take_at, take_rest}
 use lib.Seq.{take-append-le}
@@ -10,10 +10,6 @@ use borrow.Rule.Slice.PartMut.{put_mid, post_of}
 pub length-rest : (piece : List ℕ) (done : ℕ) → length (take (length piece - done) (drop done piece))
     ≡ length piece - done
 length-rest piece done = ap length (take_rest piece done) ∙ length-drop done piece
-
-pub nothing_taken : (piece rest : List ℕ) → rest ≡ take 0 piece ++ rest
-nothing_taken [] rest = refl
-nothing_taken piece rest = refl
 
 -- some more bytes were taken behind the first
 pub fill_more : (start piece part now rest : List ℕ) (done n : ℕ) → done ≤ length piece → n ≤ length part
@@ -32,15 +28,3 @@ fill_more start piece part now rest done n within fits so_far is =
     so_far ∙ ap (λ (xs : List ℕ). take done piece ++ xs) is
     ∙ sym (append_assoc (take done piece) (take n part) rest)
     ∙ ap (λ (xs : List ℕ). xs ++ rest) (sym more)
-
--- an input that ends within a piece is shorter than it
-pub too_short : (start piece now : List ℕ) (done : ℕ) → done < length piece → start ≡ take done piece ++ now
-    → now ≡ [] → length start < length piece
-too_short start piece now done low so_far none = omega (
-  arith,
-  low,
-  ap length so_far,
-  ap length none,
-  length-append (take done piece) now,
-  length-take-le done piece (omega (arith, low)),
-)

@@ -1,5 +1,5 @@
 -- An object that is read in pieces.
-use Rattle.std.proofs.Common.{◌≡◌, ℕ, ◌+◌, ◌-◌, append-nil, ◌≤◌, ◌<◌, List, [], ◌∷◌, ◌++◌, length, length-append, take, drop, append_assoc, ap, sym, ◌∙◌, arith}
+use Rattle.std.proofs.Common.{◌≡◌, ℕ, ◌+◌, ◌-◌, append-nil, ◌≤◌, ◌<◌, List, [], ◌∷◌, ◌++◌, length, take, drop, append_assoc, ap, sym, ◌∙◌, arith}
 use Rattle.std.proofs.Math.Seq.{take-add}
 use Rattle.std.proofs.lemmas.List.{take-append-drop}
 use Rattle.std.specs.Prelude.{replicate}
@@ -31,11 +31,6 @@ no_newline object mid size input long is none other rest other_long other_is =
     two (a ∷ o) [] x y same h = absurd (omega (arith, same))
     two (a ∷ o) (b ∷ p) x y same h = two o p x y (omega (arith, same)) (let e : o ++ x ≡ p ++ y = cc in e)
 
--- an input that is too short has no object
-pub too_short : (size : ℕ) (input : List ℕ) → length input < size → LacksObject size input
-too_short size input short object rest long is =
-    omega (arith, short, long, ap length is, length-append object (10 ∷ rest))
-
 all_there : (input : List ℕ) (size : ℕ) → size ≤ length input → resized input size ≡ take size input
 all_there input size within =
     let none : size - length input ≡ 0 = omega (arith, within) in
@@ -51,25 +46,4 @@ dropped told input rest body size big is = record {
   whole = λ t. sym (take-append-drop size input)
       ∙ ap (λ (xs : List ℕ). take size input ++ xs) (sym (is t).1)
       ∙ ap (λ (xs : List ℕ). xs ++ rest) (sym (all_there input size (is t).0));
-}
-
--- bytes were read
-pub filled : (told : Type 0) (input rest bytes body after : List ℕ) (size : ℕ) → length bytes ≡ size
-    → take size after ≡ bytes → (told → input ≡ bytes ++ rest) → HoldsObject told input rest size after
-filled told input rest bytes body after size long held is = record {
-  object = bytes;
-  long = long;
-  held = λ small. held;
-  whole = is;
-}
-
--- the newline stood behind it
-pub with_newline : (told : Type 0) (input mid rest body : List ℕ) (size : ℕ)
-    → HoldsObject told input mid size body
-    → (told → mid ≡ 10 ∷ rest) → HoldsObject told input (10 ∷ rest) size body
-with_newline told input mid rest body size h is = record {
-  object = h.object;
-  long = h.long;
-  held = h.held;
-  whole = λ t. h.whole t ∙ ap (λ (xs : List ℕ). h.object ++ xs) (is t);
 }

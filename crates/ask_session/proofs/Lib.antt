@@ -1,4 +1,2 @@
-pub mod FrontLaws
-pub mod RunIndexLaws
 pub mod GrowingLaws
 pub mod RunLaws

@@ -1,14 +1,12 @@
 -- The text that an input has left, and the front of it by which it is judged.
-use Rattle.std.specs.Prelude.{◌≡◌, ◌≢◌, ◌⊎◌, ℕ, zero, suc, ◌+◌, ◌-◌, ◌≤◌, nat_lt, Bool, true, false, List, [], ◌∷◌, ◌++◌, length, take, drop, Option, refl}
-use Rattle.std.proofs.Common.{arith, ap, sym, ◌∙◌, subst, inl, inr, append-nil, append_assoc}
+use Rattle.std.specs.Prelude.{◌≡◌, ◌≢◌, ◌⊎◌, ℕ, zero, suc, ◌+◌, ◌-◌, ◌≤◌, nat_lt, Bool, true, false, List, [], ◌∷◌, ◌++◌, length, take, drop, refl}
+use Rattle.std.proofs.Common.{arith, ap, sym, ◌∙◌, inl, inr, append-nil, append_assoc}
 use Rattle.std.proofs.Math.Seq.{length-take-le, take-append-add}
 use Rattle.std.proofs.lemmas.Bool.{ltb-false, ltb-true}
 use Rattle.std.proofs.lemmas.List.{take_all}
 use Rattle.size_class.specs.declared.TheConstants.{SIZE_MAX}
-use Rattle.map_model.specs.Maps.{Map}
 use Rattle.map_model.specs.Requests.{Change}
 use Rattle.batch_model.specs.Batches.{Begins, IsBatch, StopsAt, batch_text}
-use Rattle.batch_command.specs.Promise.{IsFor}
 use Rattle.batch_command.specs.Reading.{most_read, text_of}
 
 take_drop : (n : ℕ) (xs : List ℕ) → xs ≡ take n xs ++ drop n xs
@@ -42,23 +40,12 @@ module _ (left : List ℕ) where
     | inr long ↦ absurd (omega (arith, long, batch_long (text_of left) changes batch))
   ]
 
-  pub front_for : (again : Bool) (room : ℕ) (m : Map) (n : Option ℕ) → IsFor again room m (text_of left) n
-      → IsFor again room m left n
-  front_for again room m n is = record {
-    changes = is.changes;
-    batch = subst (λ (t : List ℕ). IsBatch t is.changes) (front_batch is.changes is.batch) is.batch;
-    fits = is.fits;
-  }
-
   -- nothing was read of nothing alone
   pub front_none : text_of left ≡ [] → left ≡ []
   front_none none = elim short_or_long as (λ _. left ≡ []) [
     | inl same ↦ sym same ∙ none
     | inr long ↦ absurd (omega (arith, long, ap length none))
   ]
-
-  pub front_some : text_of left ≢ [] → left ≢ []
-  front_some some none = some (ap text_of none ∙ take_all most_read [] (omega arith))
 
   -- ---- where a text stops being a batch
 

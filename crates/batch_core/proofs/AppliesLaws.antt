@@ -1,6 +1,6 @@
 -- What `apply` does at each of its ends.
-use Rattle.std.specs.Prelude.{◌≡◌, ◌≢◌, ◌⊎◌, ℕ, ◌<◌, Bool, true, false, ◌||◌, List, [], ◌∷◌, length, None, Result, Ok, Err, IfOk, IsTrue, refl}
-use Rattle.std.proofs.Common.{arith, ap, sym, ◌∙◌, subst, inl, inr}
+use Rattle.std.specs.Prelude.{◌≡◌, ◌≢◌, ℕ, ◌<◌, Bool, true, false, ◌||◌, List, [], length, None, Result, Ok, Err, IsTrue, refl}
+use Rattle.std.proofs.Common.{arith, ap, sym, ◌∙◌, subst, inr}
 use Rattle.std.specs.FinMap as fin
 use Rattle.disk_face.specs.Frames.{Unchanged}
 use Rattle.disk_face.specs.States as disk
@@ -8,21 +8,15 @@ use Rattle.disk_face.proofs.MomentLaws.{Leaves-none}
 use Rattle.map_model.specs.Maps.{Map}
 use Rattle.map_model.specs.Requests.{Change}
 use Rattle.data_area.proofs.CauseLaws.{calm_disk}
-use Rattle.store_model.specs.Connection.{IsConnected}
-use Rattle.store_model.specs.Stores.{IsStore}
 use Rattle.batch_model.specs.Batches.{IsBatch, batch_name}
 use Rattle.batch_model.proofs.TextLaws.{batch_one}
-use Rattle.batch_core.specs.Answers.{AnswersApply, Applies, IsBegun, IsJudged, applied_to, is_begun, is_disk_fault, requests_of}
+use Rattle.batch_core.specs.Answers.{Applies, IsBegun, IsJudged, applied_to, requests_of}
 use Rattle.batch_core.specs.Doing.{Batch, CanApply, CanGo, IsBatchMap, IsKeptNow, all_applied, worn_from}
 use Rattle.batch_core.specs.Going.{Goes, Stops}
 use Rattle.batch_core.specs.StoresOn.{StandsFor, StoreOn}
 use Rattle.batch_core.specs.declared.fault.BatchFault.{BatchFault}
 use Rattle.batch_core.specs.declared.fault.BatchFault.TheVariants as fault
 use Rattle.batch_core.proofs.ApplyLaws.{can_apply, few_made_by, goes_begun, stops_begun}
-
-or_false : (b : Bool) → b ≡ (b || false)
-or_false true = refl
-or_false false = refl
 
 -- ---- nothing was begun
 
@@ -36,60 +30,10 @@ unchanged_same a ready = record {
   stays = record { ready = ready; told = refl; images_told = refl; same_mount = refl };
 }
 
-pub applies_same : {classes : ℕ} (x : StoreOn) (text : List ℕ) (result : Result Bool BatchFault)
-    → IsTrue x.disk.is_ready → IsConnected classes x.store x.disk → AnswersApply x.store text result
-    → IfOk result (λ done. IsStore classes x.store)
-    → is_begun result ≡ false → is_disk_fault result ≡ false → Applies classes text x x result
-applies_same x text result ready over answer sound none calm = record {
-  answer = answer;
-  same = λ other. record {
-    same_store = refl;
-    same_disk = unchanged_same x.disk ready;
-    same_faults = refl;
-  };
-  begun = λ bad. absurd (let e : true ≡ false = sym bad ∙ none in cc);
-  over = over;
-  broken = or_false x.store.is_broken ∙ ap (λ (b : Bool). x.store.is_broken || b) (sym calm);
-  sound = sound;
-  frame = record {
-    no_turn_back = omega arith;
-    stays = record { ready = ready; told = refl; images_told = refl; same_mount = refl };
-  };
-  cause = calm_disk (λ is. let e : true ≡ false = ap is_disk_fault (sym is) ∙ calm in cc) refl;
-}
-
--- a text that isn't begun
-some_text : (text : List ℕ) → (false ≡ true) ⊎ (text ≢ []) → text ≢ []
-some_text text (inl bad) = absurd (cc)
-some_text text (inr some) = some
-
-pub judged_applies : {classes : ℕ} (x : StoreOn) (text : List ℕ) (w : BatchFault) → IsTrue x.disk.is_ready
-    → IsConnected classes x.store x.disk → x.store.is_broken ≡ false → IsJudged false x.store text (Err w)
-    → Applies classes text x x (Err w)
-judged_applies x text fault.Broken ready over whole is = absurd (is)
-judged_applies x text fault.Damaged ready over whole is = absurd (is)
-judged_applies x text fault.NoBatch ready over whole is = absurd (let bad : false ≡ true = is.0 in cc)
-judged_applies x text (fault.Line n) ready over whole is =
-    applies_same x text (Err (fault.Line n)) ready over (whole, is.1) tt refl refl
-judged_applies x text (fault.Unfit n) ready over whole is =
-    applies_same x text (Err (fault.Unfit n)) ready over (whole, is) tt refl refl
-judged_applies x text fault.Worn ready over whole is =
-    applies_same x text (Err fault.Worn) ready over ((whole, some_text text is.1, is.0), is.2) tt refl refl
-judged_applies x text fault.Disk ready over whole is = absurd (is)
-
 -- ---- an empty text
-
-pub none_of_length : (text : List ℕ) → length text ≡ 0 → text ≡ []
-none_of_length [] is = refl
-none_of_length (b ∷ text) is = absurd (omega (arith, is))
 
 pub some_of_length : (text : List ℕ) → (length text ≡ 0 → ⊥) → text ≢ []
 some_of_length text other none = other (ap length none)
-
-pub empty_applies : {classes : ℕ} (x : StoreOn) (text : List ℕ) → CanGo classes x → length text ≡ 0
-    → Applies classes text x x (Ok false)
-empty_applies x text go none = applies_same x text (Ok false) go.ready go.over
-    (go.whole, none_of_length text none) go.sound refl refl
 
 -- ---- a batch
 

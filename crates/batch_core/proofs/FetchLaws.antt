@@ -1,5 +1,5 @@
 -- What a store keeps as a batch, as it is read.
-use Rattle.std.specs.Prelude.{◌≡◌, ◌≢◌, ◌⊎◌, ℕ, ◌≤◌, Bool, true, false, not, if◌then◌else◌, List, length, take, is_some, Option, Some, None, option_map, Result, Ok, Err, IfOk, IsTrue, refl}
+use Rattle.std.specs.Prelude.{◌≡◌, ◌⊎◌, ℕ, ◌≤◌, Bool, true, false, not, if◌then◌else◌, List, length, take, is_some, Option, Some, None, option_map, Result, Ok, Err, IfOk, IsTrue, refl}
 use Rattle.std.proofs.Common.{arith, ap, sym, ◌∙◌, subst, inl, inr}
 use Rattle.std.proofs.Math.Seq.{length-take-le}
 use Rattle.std.specs.FinMap as fin
@@ -18,14 +18,14 @@ use Rattle.store_core.specs.Answers.{AnswersFetch, refusal_for, refused_by, size
 use Rattle.data_area.proofs.CauseLaws.{calm_disk, disk_cause_as}
 use Rattle.store_core.specs.Readings.{digest_read}
 use Rattle.store_core.specs.Reads as reads
-use Rattle.store_model.specs.Connection.{IsOver, StoreValue, base_of, state_of}
+use Rattle.store_model.specs.Connection.{IsOver, StoreValue, base_of}
 use Rattle.store_model.specs.Digested.{digest_of}
 use Rattle.store_model.specs.States.{State, object_in}
 use Rattle.store_model.specs.Stores.{IsStore}
 use Rattle.store_model.proofs.OverLaws.{kept_image, same_itself}
 use Rattle.store_model.proofs.StoreLaws.{small_object}
 use Rattle.batch_model.specs.Batches.{batch_name}
-use Rattle.batch_core.specs.Answers.{AnswersFinish, FetchedAs, Finishes, IsFetched, IsKeptText, JudgesKept, fetched_of, is_begun, is_disk_fault, kept_batch}
+use Rattle.batch_core.specs.Answers.{AnswersFinish, FetchedAs, Finishes, IsFetched, JudgesKept, fetched_of, is_begun, is_disk_fault, kept_batch}
 use Rattle.batch_core.specs.Doing.{CanGo, IsBatchMap}
 use Rattle.batch_core.specs.Going.{IsLeft}
 use Rattle.batch_core.specs.StoresOn.{StoreOn, state_on, store_on}
@@ -209,9 +209,6 @@ module _ {classes : ℕ} (x : StoreOn) (go : CanGo classes x) (d : disk.State)
   told_before : IsTrue d.tells → IsTrue x.disk.tells
   told_before told = subst IsTrue frame.stays.told told
 
-  same_file : IsTrue d.tells → state_of x.store x.disk.file ≡ state_of x.store d.file
-  same_file told = ap (state_of x.store) (sym (frame.same_file (told_before told)))
-
   pub go_after : CanGo classes (store_on x.store d)
   go_after = record {
     whole = go.whole;
@@ -222,16 +219,6 @@ module _ {classes : ℕ} (x : StoreOn) (go : CanGo classes x) (d : disk.State)
           (sym (frame.same_file (told_before told))) (go.over.over whole (told_before told));
     };
     ready = frame.stays.ready;
-  }
-
-  pub kept_after : (text : List ℕ) → IsKeptText x text → IsKeptText (store_on x.store d) text
-  kept_after text kept = record {
-    pending = kept.pending;
-    long = kept.long;
-    same = λ told. kept.same (told_before told)
-        ∙ ap (λ (t : State). object_in t.map batch_name) (same_file told);
-    sound = λ told. subst (λ (t : State). is_damaged x.store.book t.map batch_name ≡ false) (same_file told)
-        (kept.sound (told_before told));
   }
 
   -- nothing was begun, and no call failed
@@ -255,12 +242,6 @@ module _ {classes : ℕ} (x : StoreOn) (go : CanGo classes x) (d : disk.State)
     frame = record { no_turn_back = frame.since.later; stays = frame.stays };
     cause = calm_disk (λ is. let e : true ≡ false = ap is_disk_fault (sym is) ∙ other in cc) calm;
   }
-
-  pub none_finishes : (r : Result (Option ℕ) BatchFault) → r ≢ Err fault.Disk
-      → HasDiskCause fault.Disk x.disk.faults d.faults r → fin.get x.store.now batch_name ≡ None
-      → Finishes classes x (store_on x.store d) (Ok false)
-  none_finishes r other cause none = still_finishes (Ok false) (cause.calm other) (go.whole, none)
-      (λ told. tt) refl refl
 
   pub fault_finishes : (text : List ℕ) (w : BatchFault) → FetchedAs x text (Err w)
       → HasDiskCause {T = Option ℕ} fault.Disk x.disk.faults d.faults (Err w)

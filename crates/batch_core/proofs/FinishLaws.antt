@@ -45,9 +45,6 @@ module _ {classes : ℕ} (s : StoreValue) (a d : disk.State) (go : CanGo classes
   told_read : IsTrue a.tells → IsTrue d.tells
   told_read told = subst IsTrue (sym read.frame.stays.told) told
 
-  told_back : IsTrue d.tells → IsTrue a.tells
-  told_back told = subst IsTrue read.frame.stays.told told
-
   same_state : IsTrue a.tells → state_of s d.file ≡ state_of s a.file
   same_state told = ap (state_of s) (read.frame.same_file told)
 

@@ -36,9 +36,6 @@ use Rattle.batch_core.proofs.RequestLaws.{flush_done, kept_is, missing_done, non
 abbrev DoneOrDisk : Result Done Refusal → Type 0
 DoneOrDisk result = IsOk result ⊎ (result ≡ Err why.Disk)
 
-not_missing : why.Disk ≡ why.Missing → ⊥
-not_missing is = cc
-
 as_ok : {T E : Type 0} (P : Type 0) (result : Result Done Refusal) (r : Result T E) → DoneOrDisk result
     → IsDoneAs result r → OnOk result P → OnOk r P
 as_ok P (Ok done) (Ok u) answer agrees p = p

@@ -79,15 +79,6 @@ push_long changes c =
     ∙ ap (λ (xs : List ℕ). batch_text changes ++ xs) (append-nil (request_text (ask.change c))))
     ∙ length-append (batch_text changes) (request_text (ask.change c))
 
-pub checked_none : (text : List ℕ) → IsChecked text text None 0
-checked_none text = record {
-  changes = [];
-  front = record { whole = refl; parts = tt; rises = tt; short = omega arith };
-  last = refl;
-  number = refl;
-  few = omega arith;
-}
-
 -- what stands behind the changes that were read
 behind : (text rest : List ℕ) (changes : List Change) (c : Change) (others : List ℕ)
     → Begins text changes rest

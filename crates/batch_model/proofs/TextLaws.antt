@@ -1,6 +1,6 @@
 -- A text is one batch at most.
 use Rattle.std.specs.Prelude.{◌≡◌, ℕ, ◌<◌, ◌≤◌, nat_le, nat_lt, ◌&&◌, List, [], ◌∷◌, ◌++◌, length, Option, Some, None, IfSome, refl}
-use Rattle.std.proofs.Common.{arith, ap, sym, ◌∙◌, append_assoc, append-nil, length-append}
+use Rattle.std.proofs.Common.{arith, ap, sym, ◌∙◌, append-nil, length-append}
 use Rattle.std.proofs.lemmas.Bool.{and_from, and_parts, le-leb, leb-true}
 use Rattle.std.specs.List.{AllByRecursion, list_all}
 use Rattle.size_class.specs.declared.TheConstants.{SIZE_MAX}
@@ -31,10 +31,6 @@ part_text c p = by c.object p.small
         → IsAsk (change_ask c.name object)
     by None small = named_word c.name p.named
     by (Some object) small = (named_word c.name p.named, omega arith)
-
-texts_then : (c : Change) (changes : List Change) (rest : List ℕ)
-    → batch_text (c ∷ changes) ++ rest ≡ request_text (ask.change c) ++ (batch_text changes ++ rest)
-texts_then c changes rest = append_assoc (request_text (ask.change c)) (batch_text changes) rest
 
 -- a text of a request isn't empty
 pub text_some : (c : Change) (rest : List ℕ) → request_text (ask.change c) ++ rest ≡ [] → ⊥

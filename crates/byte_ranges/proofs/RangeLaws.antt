@@ -1,11 +1,10 @@
 -- Laws of byte strings by position: what is written is read, and nothing else changes.
 use Rattle.std.specs.Prelude.{◌≡◌, ℕ, ◌+◌, ◌-◌, ◌<◌, ◌≤◌, List, ◌++◌, length, take, drop, slice_index, refl}
-use Rattle.std.proofs.Common.{inl, inr, length-append, append_assoc, arith, sym, ◌∙◌, ap, length-drop, rules}
+use Rattle.std.proofs.Common.{length-append, append_assoc, arith, sym, ◌∙◌, ap, length-drop, rules}
 use Rattle.std.proofs.lemmas.List.{get_or-take, get_or-drop, places, length-take-le, take_at, drop_at, drop-take, take-take, drop-drop}
 use Rattle.std.proofs.Math.Seq.{take-add}
-use Rattle.std.proofs.lemmas.Bool.{cases_lt}
 use Rattle.std.proofs.lemmas.Grind.{same_number_lists}
-use Rattle.byte_ranges.specs.Ranges.{bytes_at, overwritten, resized, SameWithin, SameBelow, SameFrom, SameOutside}
+use Rattle.byte_ranges.specs.Ranges.{bytes_at, overwritten, resized, SameWithin, SameFrom, SameOutside}
 
 pub SameOutside-refl : (at n : ℕ) (a : List ℕ) → SameOutside at n a a
 SameOutside-refl at n a = record { same_length = refl; below = λ i h. refl; above = λ i h. refl }
@@ -119,34 +118,6 @@ pub SameWithin-trans : (low high : ℕ) (a b c : List ℕ) → SameWithin low hi
     → SameWithin low high a c
 SameWithin-trans low high a b c ab bc = λ i l h. ab i l h ∙ bc i l h
 
-pub SameBelow-sym : (end : ℕ) (a b : List ℕ) → SameBelow end a b → SameBelow end b a
-SameBelow-sym end a b same = λ i h. sym (same i h)
-
-pub SameBelow-trans : (end : ℕ) (a b c : List ℕ) → SameBelow end a b → SameBelow end b c → SameBelow end a c
-SameBelow-trans end a b c ab bc = λ i h. ab i h ∙ bc i h
-
-pub SameFrom-refl : (start : ℕ) (a : List ℕ) → SameFrom start a a
-SameFrom-refl start a = record { same_length = refl; bytes = λ i h. refl }
-
-pub SameFrom-trans : (start : ℕ) (a b c : List ℕ) → SameFrom start a b → SameFrom start b c
-    → SameFrom start a c
-SameFrom-trans start a b c ab bc =
-    record { same_length = ab.same_length ∙ bc.same_length; bytes = λ i h. ab.bytes i h ∙ bc.bytes i h }
-
-pub SameOutside-sym : (at n : ℕ) (a b : List ℕ) → SameOutside at n a b → SameOutside at n b a
-SameOutside-sym at n a b same = record {
-  same_length = sym same.same_length;
-  below = λ i h. sym (same.below i h);
-  above = λ i h. sym (same.above i h);
-}
-
--- files that are alike below a position and from it on are one
-pub same_file : (p : ℕ) (a b : List ℕ) → SameBelow p a b → SameFrom p a b → a ≡ b
-same_file p a b below above =
-    same_number_lists a b above.same_length
-    (λ i h. elim (cases_lt i p) as (λ x. slice_index a i
-    ≡ slice_index b i) [ inl low ↦ below i low | inr high ↦ above.bytes i high ])
-
 -- a part of what stands at a position is what stands there in the file
 pub bytes_at-within : (file : List ℕ) (at n i m : ℕ) → i + m ≤ n
     → bytes_at (bytes_at file at n) i m ≡ bytes_at file (at + i) m
@@ -186,17 +157,3 @@ overwritten-pieces file at xs ys within =
     ∙ ap (λ n. drop n file) (omega (arith, length-append xs ys)) in
     rw (front, back) (ap (λ (zs : List ℕ). zs ++ drop (at + length (xs ++ ys)) file)
     (append_assoc (take at file) xs ys))
-
--- the length that a file has
-pub resized-same : (file : List ℕ) → resized file (length file) ≡ file
-resized-same file = search (rules, places)
-
--- the same bytes at a position are alike there
-pub within_from_bytes : (a b : List ℕ) (at n : ℕ) → bytes_at a at n ≡ bytes_at b at n
-    → SameWithin at (at + n) a b
-within_from_bytes a b at n same = λ i l h.
-    let k : ℕ = i - at in
-    let is : i ≡ at + k = omega (arith, l) in
-    let low : k < n = omega (arith, l, h) in
-    ap (slice_index a) is ∙ sym (bytes_at-index a at n k low) ∙ ap (λ (xs : List ℕ). slice_index xs k) same
-    ∙ bytes_at-index b at n k low ∙ ap (slice_index b) (sym is)

@@ -1,6 +1,6 @@
 -- Lifting may begin after a change that isn't quiet: a removal, a put whose object found room, and a put
 -- whose object waits.
-use Rattle.std.specs.Prelude.{◌≡◌, ℕ, ◌+◌, ◌<◌, ◌≤◌, ◌^◌, nat_le, nat_lt, false, List, length, Option, Some, None, IsPermutation, refl}
+use Rattle.std.specs.Prelude.{◌≡◌, ℕ, ◌+◌, ◌<◌, ◌≤◌, nat_le, nat_lt, false, List, length, Option, Some, None, IsPermutation, refl}
 use Rattle.std.proofs.Common.{arith, sym, ◌∙◌, ap, subst}
 use Rattle.std.proofs.lemmas.Bool.{and_from, le-leb, lt-ltb}
 use Rattle.std.specs.FinMap as fin
@@ -34,7 +34,7 @@ use Rattle.change_charges.specs.Items.{item_at}
 use Rattle.change_charges.specs.Lifting.{BeginsLift}
 use Rattle.change_charges.specs.Starts.{CanStart, IsLoud, IsWith, IsWithout, WasBefore, flush_start}
 use Rattle.change_charges.proofs.CanFlushLaws.{begins_pending}
-use Rattle.change_charges.proofs.ChargedLaws.{class_low, new_some}
+use Rattle.change_charges.proofs.ChargedLaws.{new_some}
 use Rattle.placement_model.proofs.GoneLaws.{left_over}
 use Rattle.change_charges.proofs.HandsLaws.{hands_alone, hands_pending, pending_free}
 use Rattle.change_charges.proofs.NextBookLaws.{begun, book_begun, buffered_pending, buffered_placed, buffered_removed, names}
@@ -210,13 +210,6 @@ module _ (f : FlushFrame) (caps : List ℕ) (grid kept_grid : List (List ℕ)) (
       pub pending_high : b ≤ class_of size
       pending_high = new_high f.classes f.size_max caps grid kept_grid u e spans h name size after b small l
           missed
-
-      -- its class is one that the layout has
-      pub pending_class : class_of size < f.classes
-      pending_class = class_low f.classes f.size_max size h.both.now_laid.top pending_some small
-
-      pub pending_short : size ≤ 2 ^ 31
-      pending_short = omega (arith, small, h.small)
 
       pub pending_new : fin.get gone.now name ≡ None
       pending_new = ap (λ (x : Spots). fin.get x name) without.now ∙ get-remove_here e.now name

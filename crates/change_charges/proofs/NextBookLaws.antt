@@ -12,7 +12,7 @@ use Rattle.map_model.specs.Maps.{Map}
 use Rattle.map_model.specs.Requests.{Change, changed}
 use Rattle.map_model.specs.Weights.{same_name}
 use Rattle.map_model.proofs.MapLaws.{name_order, same_name-is}
-use Rattle.segment_layout.specs.Books.{Book, Charged, Names, entered_at, below_class, buffered_after, charge_all, charge_change, digests_after, found_room, is_new_buffered, is_quiet, item_of, new_item, next_book, old_item, reshaped, some_size, trigger, volumes}
+use Rattle.segment_layout.specs.Books.{Book, Charged, Names, entered_at, below_class, buffered_after, charge_all, charge_change, digests_after, found_room, is_new_buffered, item_of, new_item, next_book, old_item, reshaped, some_size, trigger, volumes}
 use Rattle.segment_layout.specs.Shapes.{boundary_of, buffer_for, buffer_start, settled_caps, settled_grid, start_of}
 use Rattle.segment_layout.proofs.ChargeLaws.{room_of_buffer}
 use Rattle.segment_layout.proofs.ChargingLaws.{last_found}
@@ -126,15 +126,6 @@ module _ (classes size_max : ℕ) (caps : List ℕ) (grid kept_grid : List (List
     where
       same_boundary : boundary_of charged.grid (trigger charged) ≡ b
       same_boundary = ap (λ g. boundary_of g (trigger charged)) (sym l.after_is) ∙ sym l.boundary
-
-  pub next_loud : (next_book k m book c).quiet ≡ false
-  unfolding next_book
-  next_loud = ap is_quiet same_charges ∙ l.needs_flush
-
-  pub next_boundary : (next_book k m book c).boundary ≡ b
-  unfolding next_book
-  next_boundary = ap (λ (x : Charged). boundary_of x.grid (trigger x)) same_charges
-      ∙ ap (λ g. boundary_of g (trigger charged)) (sym l.after_is) ∙ sym l.boundary
 
   -- ---- the names that stand in buffers
 

@@ -1,26 +1,23 @@
 -- The objects from which a flush may begin, or go on, stand on the shelf of their table.
-use Rattle.std.specs.Prelude.{ℕ, ◌≤◌, List}
-use Rattle.std.proofs.Common.{arith, inl, inr}
+use Rattle.std.specs.Prelude.{ℕ, List}
+use Rattle.std.proofs.Common.{arith}
 use Rattle.slot_codec.specs.Choice as choice
 use Rattle.span_math.specs.declared.span.Span.{Span}
 use Rattle.segment_layout.specs.Shapes.{end_of, start_of}
-use Rattle.table_rules.specs.Rules.{CanResume, KeepsPlaces}
+use Rattle.table_rules.specs.Rules.{KeepsPlaces}
 use Rattle.table_rules.specs.Tables.{HasFullRows}
 use Rattle.table_rules.proofs.SuffixLaws.{valid_for_suffix}
 use Rattle.extent_table.specs.Extents.{Extents}
 use Rattle.placement_model.specs.Laid.{laid, moving_header}
 use Rattle.placement_model.proofs.QuietLaws.{IsGrid-wider}
 use Rattle.placement_model.proofs.EnterLaws.{apart_by_name}
-use Rattle.flush_model.specs.Phases.{PlanState}
 use Rattle.flush_model.proofs.NumbersLaws.{item_begins}
-use Rattle.flush_run.specs.FlushFrames.{FlushFrame}
-use Rattle.flush_run.specs.Hands.{HandsMatchPlan, spot_item, suffix_items}
+use Rattle.flush_run.specs.Hands.{spot_item, suffix_items}
 use Rattle.flush_run.specs.Shelved.{shelf_of}
 use Rattle.flush_run.proofs.FreeLaws.{suffix_item}
-use Rattle.flush_run.proofs.OverLaws.{lower_before, shelf_holds}
+use Rattle.flush_run.proofs.OverLaws.{lower_before}
 use Rattle.flush_run.proofs.ShelfLaws.{on_shelf}
 use Rattle.change_charges.specs.Starts.{CanStart, flush_start}
-use Rattle.change_charges.proofs.AgainLaws.{items_can}
 use Rattle.change_charges.proofs.CanFlushLaws.{can_flush}
 use Rattle.change_charges.proofs.HandsLaws.{begun_header, below_begun}
 use Rattle.flush_plan.specs.Shelves.{IsOnShelf}
@@ -53,14 +50,3 @@ module _ (classes size_max : ℕ) (caps : List ℕ) (grid kept_grid : List (List
       (can_flush classes size_max caps grid kept_grid b u e spans h) 0 (spot_item e.keys (name, s))
       (suffix_item b e name s is some high))
       (apart_by_name e.now h.below.named h.below.below.apart)
-
--- where one goes on that was interrupted
-pub again_shelf : (f : FlushFrame) (u : choice.InUse) (e : Extents) (caps : List ℕ) (grid : List (List ℕ))
-    (spans : List Span) (p : PlanState) → HandsMatchPlan f u e caps grid spans p
-    → CanResume (laid f.classes f.size_max u.block.k f.reach
-    (moving_header p.numbers.boundary p.numbers.wall p.numbers.slack caps grid) e.now)
-    → IsOnShelf p.numbers.start (suffix_items p.numbers.boundary e) (shelf_of e)
-again_shelf f u e caps grid spans p h can =
-    let items = items_can f u e caps grid spans p h can in
-    shelf_holds f u e caps grid spans p h (λ it has. elim (items.side it has) as (λ _. p.numbers.start
-    ≤ it.place) [ inl past ↦ omega (arith, past, items.wall) | inr inside ↦ inside.0 ])

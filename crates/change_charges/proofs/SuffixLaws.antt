@@ -1,12 +1,11 @@
 -- The items of a table: each is a live object of the suffix, no two share a key, and one more name is one
 -- more item.
-use Rattle.std.specs.Prelude.{◌≡◌, ◌≢◌, ℕ, zero, suc, ◌<◌, ◌≤◌, nat_le, nat_lt, Bool, true, false, T, List, [], ◌∷◌, ◌++◌, length, map, filter, slice_get, Option, Some, None, is_some, Contains, IsPermutation, refl}
+use Rattle.std.specs.Prelude.{◌≡◌, ◌≢◌, ℕ, zero, suc, ◌<◌, ◌≤◌, nat_le, nat_lt, Bool, true, false, T, List, [], ◌∷◌, ◌++◌, map, filter, slice_get, Option, Some, None, is_some, Contains, IsPermutation, refl}
 use Rattle.std.proofs.Common.{arith, sym, ◌∙◌, ap, subst, inl, inr}
 use Rattle.std.proofs.lemmas.Bool.{and_parts, cases_Bool, cond-false, cond-true, leb-true, ltb-true}
-use Rattle.std.proofs.lemmas.List.{length-map, map-append}
+use Rattle.std.proofs.lemmas.List.{map-append}
 use Rattle.std.proofs.lemmas.List.Elements.{filter-append}
 use Rattle.std.proofs.lemmas.List.Sorted.{IsPermutation-append_comm, IsPermutation-middle, IsPermutation-sym, IsPermutation-trans}
-use Rattle.std.proofs.lemmas.List.Sums.{count_by-le-length, length-filter}
 use Rattle.std.proofs.lemmas.Option.{same_Some, slice_get-get_or, slice_get-map}
 use Rattle.std.specs.Ordering.{is_eq, is_lt}
 use Rattle.std.specs.declared.cmp.Ordering.{Ordering}
@@ -84,16 +83,6 @@ module _ (b : ℕ) (e : Extents) where
 
   pub has_item : (it : Item) → Contains (suffix_items b e) it → ItemOf b e it
   has_item it has = got_item has.0 it (slice_get-get_or (suffix_items b e) has.0 it has.1 ∙ ap Some has.2)
-
-  -- there are no more than live names
-  pub few_items : length (suffix_items b e) ≤ fin.len e.now
-  few_items = omega (
-    arith,
-    length-map (filter p es) (spot_item e.keys),
-    length-filter p es,
-    count_by-le-length p es,
-    fin.len-entries e.now,
-  )
 
 -- ---- two items are two objects
 

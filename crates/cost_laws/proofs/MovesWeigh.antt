@@ -13,7 +13,7 @@ use Rattle.segment_layout.specs.Books.{Book, charge_change, trigger, volumes}
 use Rattle.segment_layout.specs.Balance.{IsBalanced}
 use Rattle.segment_layout.proofs.SumLaws.{sum_below_le, sum_below_add, sum_below_times}
 use Rattle.segment_layout.proofs.NextLaws.{change_keeps}
-use Rattle.cost_laws.proofs.FewPlaces.{from, from-below, from-above}
+use Rattle.cost_laws.proofs.FewPlaces.{from, from-above}
 use Rattle.cost_laws.proofs.Weights.{item_weight, weight_from}
 use Rattle.cost_laws.proofs.RateFalls.{Falls}
 use Rattle.cost_laws.proofs.ItemsCharged.{Missed, missed_weight}
@@ -21,16 +21,6 @@ use Rattle.cost_laws.proofs.EntriesWeigh.{buffered_weigh}
 use Rattle.cost_laws.proofs.PayloadWeighs.{HasMissed, payload_weighs}
 use Rattle.cost_laws.proofs.HeavyClasses.{reach}
 use Rattle.cost_laws.proofs.VolumesAfter.{buffered_then, payload_rest, pending_bytes, payload_fits, payload_least, volumes_after, pending_weighs}
-
--- a function from b on has no larger a sum
-from_less : (b : ℕ) (f : ℕ → ℕ) → sum_below width (from b f) ≤ sum_below width f
-from_less b f = sum_below_le width (from b f) f (λ c h. elim (cases_lt c b) [
-  | inl low ↦ omega (
-    arith,
-    from-below b c f low,
-  )
-  | inr high ↦ omega (arith, from-above b c f high)
-])
 
 module _ (r : ℕ → ℕ) (falls : Falls r) (k : ℕ) (m : Map) (book : Book) (c : Change) (low : 2 ≤ k)
     (high : k ≤ 64) (b : IsBalanced k m book) where

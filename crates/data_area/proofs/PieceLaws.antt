@@ -95,16 +95,3 @@ made_most first now after len size done some less made is =
       | inl end ↦ omega (arith, is, made.none end, next, rise)
       | inr more ↦ omega (arith, is, made.some more, next, rise)
     ]
-
--- and no more once it is done
-pub made_all : (first now len size : ℕ) → 0 < size → HasMade first now len size size
-    → now ≡ counted first (pieces len size)
-made_all first now len size some made = made.some some
-
-pub made_at_most : (first now len size done : ℕ) → 0 < len → done ≤ size → HasMade first now len size done
-    → now ≤ first + pieces len size
-made_at_most first now len size done some upto made =
-    elim (zero_or_more done) as (λ x. now ≤ first + pieces len size) [
-      | inl end ↦ omega (arith, made.none end)
-      | inr more ↦ omega (arith, made.some more, pieces_rise len done size some upto)
-    ]

@@ -11,7 +11,7 @@ use Rattle.slot_pair.specs.Finding.{HasDiskCause}
 use Rattle.map_model.specs.Maps.{Map}
 use Rattle.map_model.specs.Requests as ask
 use Rattle.map_model.specs.Requests.{Refused, Reply, Request}
-use Rattle.segment_layout.specs.Books.{Book, is_damaged}
+use Rattle.segment_layout.specs.Books.{Book}
 use Rattle.data_area.proofs.CauseLaws.{calm_disk, disk_cause_as, sink_cause_after, sink_cause_as}
 use Rattle.store_core.proofs.ChangingLaws.{unchanged_itself}
 use Rattle.store_model.proofs.RequestLaws.{served_by}
@@ -87,10 +87,6 @@ still_step limits t r still = record {
 pub record SameToReads (t u : State) : Type 0 where
   pub map : t.map ≡ u.map
   pub digests : t.book.digests ≡ u.book.digests
-
-damaged_same : (b c : Book) (m : Map) (name : List ℕ) → b.digests ≡ c.digests
-    → is_damaged b m name ≡ is_damaged c m name
-damaged_same b c m name same = ap (λ (d : Option Map). is_damaged (record b { digests = d }) m name) same
 
 get_same : (limits : Limits) (t u : State) (name : List ℕ) → SameToReads t u
     → (served limits t (ask.get name)).reply ≡ (served limits u (ask.get name)).reply

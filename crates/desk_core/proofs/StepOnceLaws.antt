@@ -2,15 +2,10 @@
 use Rattle.std.specs.Prelude.{◌≡◌, ◌↔◌, ℕ, Bool, true, false, List, ◌++◌, codes, flat_map, Option, Some, None, Result, Ok, Err, IsSome, IsTrue, refl}
 use Rattle.std.specs.Fmt.{decimal}
 use Rattle.std.proofs.Common.{arith, ap, sym, ◌∙◌, subst, inl, inr, append-nil, append_assoc}
-use Rattle.disk_face.specs.Devices.{devices}
 use Rattle.disk_face.specs.States as disk
 use Rattle.disk_face.specs.Streams.{SinkState}
-use Rattle.disk_face.specs.Writes.{KeepsDisk}
-use Rattle.slot_pair.specs.Finding.{HasDiskCause}
 use Rattle.map_model.specs.Requests as ask
 use Rattle.store_core.specs.declared.answers.Progress.TheVariants as progress
-use Rattle.data_area.proofs.CauseLaws.{calm_disk, calm_sink}
-use Rattle.store_core.proofs.ChangingLaws.{unchanged_itself}
 use Rattle.store_model.specs.Connection.{FlushInHand, StoreValue}
 use Rattle.store_model.specs.Halves.{IsHalfway, IsReadable}
 use Rattle.ask_text.specs.Replies.{reply_text}
@@ -18,59 +13,15 @@ use Rattle.ask_text.specs.declared.ends.End.{End}
 use Rattle.ask_text.specs.declared.ends.End.TheVariants as ends
 use Rattle.ask_serve.specs.Serving.{PutsText, is_disk_fault}
 use Rattle.ask_serve.proofs.PutLaws.{puts_as, puts_cut, puts_none, puts_then}
-use Rattle.ask_serve.proofs.ReplyLaws.{no_disk_fault, sink_calm, sink_serving}
 use Rattle.desk_model.specs.Answers as answer
 use Rattle.desk_model.specs.Answers.{Answer, answer_text}
 use Rattle.desk_model.specs.Desks.{Desk, Flush, StepsOn, end_lines, finished, waiting}
 use Rattle.desk_model.specs.Events.{line_for}
-use Rattle.desk_core.specs.Playing.{Finishes, FinishesStore, KeepsGoing, PlaysOne, SettlesFlush, StepsFlush}
+use Rattle.desk_core.specs.Playing.{Finishes, FinishesStore, PlaysOne, SettlesFlush, StepsFlush}
 use Rattle.desk_core.specs.Shows.{ShowsStore}
 use Rattle.desk_core.specs.Telling.{PutsAll}
 
--- ---- where nothing is done to the store
-
-pub still_goes : {C : ℕ} (s : StoreValue) (a : disk.State) (out after : SinkState)
-    (result : Result (Unit {0}) End) (text : List ℕ) → IsReadable C s a → s.is_broken ≡ false
-    → IsTrue a.is_ready → PutsAll text out after result
-    → KeepsGoing C s s (devices a out) (devices a after) result
-still_goes s a out after result text over whole ready p = record {
-  readable = over;
-  broken = λ bad. absurd (let e : false ≡ true = sym whole ∙ bad in cc);
-  block = λ calm. refl;
-  frame = record { no_turn_back = omega arith; stays = (unchanged_itself a ready).stays };
-  only = sink_serving result p.only;
-  disk_cause = calm_disk (λ is. no_disk_fault result (sink_calm result p.only) is) refl;
-  sink_cause = p.cause;
-}
-
--- after steps of the flush
-pub stepped_goes : {C : ℕ} (s t : StoreValue) (a d : disk.State) (out after : SinkState)
-    (result : Result (Unit {0}) End) (text : List ℕ) → IsReadable C t d → t.is_broken ≡ false
-    → t.in_use.block ≡ s.in_use.block → KeepsDisk a d → d.faults ≡ a.faults → PutsAll text out after result
-    → KeepsGoing C s t (devices a out) (devices d after) result
-stepped_goes s t a d out after result text over whole block frame calm p = record {
-  readable = over;
-  broken = λ bad. absurd (let e : false ≡ true = sym whole ∙ bad in cc);
-  block = λ calm. block;
-  frame = frame;
-  only = sink_serving result p.only;
-  disk_cause = calm_disk (λ is. no_disk_fault result (sink_calm result p.only) is) calm;
-  sink_cause = p.cause;
-}
-
--- the disk failed, and nothing was put
-pub failed_goes : {C : ℕ} (s t : StoreValue) (a d : disk.State) (out : SinkState) → IsReadable C t d
-    → KeepsDisk a d → HasDiskCause {T = Unit {0}} ends.Disk a.faults d.faults (Err ends.Disk)
-    → KeepsGoing C s t (devices a out) (devices d out) (Err ends.Disk)
-failed_goes s t a d out over frame cause = record {
-  readable = over;
-  broken = λ bad. refl;
-  block = λ calm. absurd (cc);
-  frame = frame;
-  only = tt;
-  disk_cause = cause;
-  sink_cause = calm_sink (λ is. absurd (cc)) refl refl;
-}
+-- ---- whether a flush is in hand
 
 -- a store with a flush in hand is half way
 pub is_half : {C : ℕ} (s : StoreValue) (a : disk.State) → IsReadable C s a → IsSome s.in_hand

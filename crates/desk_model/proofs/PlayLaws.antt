@@ -1,13 +1,9 @@
 -- Events one after another, and then one more.
-use Rattle.std.specs.Prelude.{◌≡◌, List, [], ◌∷◌, ◌++◌, refl}
+use Rattle.std.specs.Prelude.{List, [], ◌∷◌, ◌++◌}
 use Rattle.store_model.specs.States.{Limits}
 use Rattle.desk_model.specs.Events.{Event}
 use Rattle.desk_model.specs.Answers.{Answer}
 use Rattle.desk_model.specs.Desks.{Desk, EventStep, Plays, last_desk}
-
-pub last_more : (d : Desk) (ds : List Desk) (t : Desk) → last_desk d (ds ++ t ∷ []) ≡ t
-last_more d [] t = refl
-last_more d (u ∷ ds) t = last_more u ds t
 
 pub plays_more : (limits : Limits) (d : Desk) (es : List Event) (answers : List Answer) (ds : List Desk)
     (e : Event) (a : Answer) (t : Desk) → Plays limits d es answers ds

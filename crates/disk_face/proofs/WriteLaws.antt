@@ -5,7 +5,7 @@ use Rattle.byte_ranges.specs.Ranges.{SameOutside}
 use Rattle.byte_ranges.proofs.RangeLaws.{SameOutside-refl, SameOutside-trans, SameOutside-wider}
 use Rattle.disk_face.specs.States.{State}
 use Rattle.disk_face.proofs.MomentLaws.{Leaves-call, Leaves-none, Leaves-trans, Leaves-weaken}
-use Rattle.disk_face.specs.Frames.{AfterSync, AfterWrite, Unchanged}
+use Rattle.disk_face.specs.Frames.{AfterWrite, Unchanged}
 use Rattle.disk_face.proofs.FrameLaws.{Stays-trans}
 use Rattle.disk_face.specs.Writes.{IsRewritten, WritesWithin}
 
@@ -16,17 +16,6 @@ within-write {at} {n} {a} w = record {
   images = w.images;
   since = Leaves-call (IsRewritten a.may_leave at n) w.time w.images;
   stays = w.stays;
-}
-
--- a sync
-pub within-sync : (at n : ℕ) {a b : State} → AfterSync a b → WritesWithin at n a b
-within-sync at n {a} s = record {
-  others = λ told. subst (λ x. SameOutside at n a.file x) (sym (s.same_file told))
-      (SameOutside-refl at n a.file);
-  images = λ image is. (image, s.images image is, SameOutside-refl at n image);
-  since = Leaves-call (IsRewritten a.may_leave at n) s.time
-      (λ image is. (image, is, SameOutside-refl at n image));
-  stays = s.stays;
 }
 
 -- no call

@@ -1,6 +1,5 @@
 -- One more piece of what is passed on.
-use Rattle.std.specs.Prelude.{MatchResult}
-use Rattle.std.proofs.Common.{rules, ◌<◌, Result, Ok, Err, ◌≡◌, ℕ, ◌+◌, ◌-◌, ◌≤◌, Option, List, ◌++◌, length, take, drop, arith, sym, ap, ◌∙◌, subst, drop_at, take_at, length-take-le, length-drop}
+use Rattle.std.proofs.Common.{◌≡◌, ℕ, ◌+◌, ◌-◌, ◌≤◌, Option, List, ◌++◌, length, take, drop, arith, sym, ap, ◌∙◌, subst, drop_at, take_at, length-take-le, length-drop}
 use Rattle.std.proofs.lemmas.List.{take_rest}
 use Rattle.std.proofs.Math.Seq.{take-add}
 use lib.Seq.{take-append-le}
@@ -72,9 +71,3 @@ written_more file before after bytes pos at done n is within fits inside was nex
     ∙ overwritten-pieces file pos front piece
     (omega (arith, front_len, piece_len, fits, length-rest_of bytes done, within, inside))
     ∙ ap (overwritten file pos) (sym (front_more bytes done n))
-
--- what gives some isn't what gave none
-pub not_none : {E : Type 0} (result : Result ℕ E) (n : ℕ) → result ≡ Ok n → n ≡ 0
-    → MatchResult result (λ m. 0 < m) (λ _. ⊥) → ⊥
-not_none (Ok m) n is none some = let same : m ≡ n = search rules in omega (arith, same, none, some)
-not_none (Err e) n is none some = some

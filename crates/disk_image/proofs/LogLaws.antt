@@ -8,7 +8,7 @@ use Rattle.disk_history.specs.Changes.{RecordedCall, Stamped, changed, content_a
 use Rattle.disk_history.specs.Histories.{History, EndedBy, done, file_of, fresh, undone}
 use Rattle.disk_history.proofs.HistoryLaws.{EndedBy_later}
 use Rattle.disk_image.specs.Calls.{FitsEntry, IsWithin, replayed, spelled}
-use Rattle.disk_image.specs.Notings.{Noting, IsLog, IsNoting, changes, content}
+use Rattle.disk_image.specs.Notings.{Noting, IsLog, IsNoting, changes}
 
 -- calls after others, from what was synced at first
 pub content_replayed : (base : List ℕ) (calls earlier : List Stamped)
@@ -50,32 +50,6 @@ log_undone start h text few l = record {
   within = l.within;
   later = omega (arith, l.later, few);
   since = l.since;
-}
-
--- none yet
-pub log_none : (h : History) → IsLog h h []
-log_none h = record {
-  calls = [];
-  same_base = refl;
-  grows = refl;
-  spells = refl;
-  fits = tt;
-  within = tt;
-  later = omega arith;
-  since = tt;
-}
-
--- a file as it is lent, or once its log is emptied
-pub noting_none : (n new : Noting) (file : List ℕ) → new.history ≡ n.history → new.start ≡ n.history
-    → new.text ≡ [] → file ≡ content n → n.history.turn ≤ 2 ^ 64 - 1 → EndedBy n.history.turn n.history.calls
-    → IsNoting new file
-noting_none n new file same start none holds few ended = record {
-  same_file = holds ∙ ap file_of (sym same);
-  few = subst (λ (h : History). h.turn ≤ 2 ^ 64 - 1) (sym same) few;
-  ended = subst (λ (h : History). EndedBy h.turn h.calls) (sym same) ended;
-  log = subst (λ text. IsLog new.start new.history text) (sym none)
-      (subst (λ (h : History). IsLog h new.history []) (sym start)
-      (subst (λ (h : History). IsLog n.history h []) (sym same) (log_none n.history)));
 }
 
 -- a call that was made and noted

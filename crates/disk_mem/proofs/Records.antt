@@ -14,10 +14,6 @@ pub newest_first_none : newest_first [] ≡ []
 unfolding newest_first
 newest_first_none = refl
 
-pub newest_first_zero : (entries : List Entry) → newest_first (take 0 entries) ≡ []
-unfolding newest_first
-newest_first_zero entries = refl
-
 -- one call more of the record
 pub newest_first_more : (entries : List Entry) (i : ℕ) (entry : Entry) → i < length entries
     → entry ≡ get_or entries i entry → newest_first (take (i + 1) entries)

@@ -1,9 +1,9 @@
 -- The record, call by call.
-use Rattle.std.specs.Prelude.{nat_le, if◌then◌else◌, true, false, Option, Some, None, option_map, slice_get}
+use Rattle.std.specs.Prelude.{nat_le, if◌then◌else◌, true, false, Option, Some, option_map, slice_get}
 use Rattle.std.proofs.Common.{◌≡◌, ◌+◌, ◌<◌, ◌≤◌, ℕ, List, [], ◌∷◌, ◌++◌, length, take, drop, get_or, sym, ◌∙◌, ap, arith}
 use Rattle.std.proofs.lemmas.Bool.{le-leb}
-use Rattle.std.proofs.lemmas.List.{take_more, take_all, drop_all, length-take, drop-append-le}
-use Rattle.std.proofs.lemmas.Option.{slice_get-get_or, slice_get_past}
+use Rattle.std.proofs.lemmas.List.{take_more, drop_all, length-take, drop-append-le}
+use Rattle.std.proofs.lemmas.Option.{slice_get-get_or}
 use Rattle.disk_face.specs.Counts.{counted}
 use Rattle.disk_history.specs.Changes.{Stamped, changed, content_after}
 use Rattle.disk_mem.specs.Entries.{change_of, stamp_of, newest_first}
@@ -101,13 +101,3 @@ pub turn_none : (t : ℕ) (next : Option Stamped) (entries : List Entry)
 unfolding at_turn
 turn_none t next entries = ap (at_turn t next) newest_first_none
     ∙ ap (λ calls. (next, calls)) (sym newest_first_none)
-
--- it begins behind the last call
-pub turn_start : (t : ℕ) (entries : List Entry)
-    → at_turn t None (newest_first entries)
-    ≡ at_turn t (option_map stamp_of (slice_get entries (length entries)))
-    (newest_first (take (length entries) entries))
-turn_start t entries =
-    ap (λ xs. at_turn t None (newest_first xs)) (sym (take_all (length entries) entries (omega arith)))
-    ∙ ap (λ x. at_turn t (option_map stamp_of x) (newest_first (take (length entries) entries)))
-    (sym (slice_get_past entries (length entries) (omega arith)))

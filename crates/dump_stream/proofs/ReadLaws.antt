@@ -46,9 +46,6 @@ end_missed text is = elim (cases_lt (number_end text) (length text)) [
   | inr high ↦ omega (arith, high, prefix_len-le-length (λ x. not (nat_lt x 48)) text)
 ]
 
-pub end_within : (text : List ℕ) → number_end text ≤ length text
-end_within text = prefix_len-le-length (λ x. not (nat_lt x 48)) text
-
 pub end_ends : (text : List ℕ) → Ends (drop (number_end text) text)
 end_ends [] = tt
 end_ends (x ∷ xs) = elim (cases_lt x 48) [
@@ -88,32 +85,11 @@ split_none text bad v rest s = bad v s.fits
 volume_is : (v : ℕ) (rest : List ℕ) → volume_text v ++ rest ≡ 32 ∷ (decimal v ++ rest)
 volume_is v rest = append_assoc (codes " ") (decimal v) rest
 
-pub volume_found : (text digits : List ℕ) (v n : ℕ) → text ≡ codes " " ++ digits
-    → Splits digits v (drop n digits)
-    → (v < 2 ^ 64) × (text ≡ volume_text v ++ drop (n + 1) text) × Ends (drop (n + 1) text)
-volume_found text digits v n is s =
-    let behind : drop (n + 1) text ≡ drop n digits =
-    let one : n + 1 ≡ suc n = omega arith in ap (λ m. drop m text) one ∙ ap (drop (suc n)) is
-    in (
-      s.fits,
-      is ∙ ap (λ xs. 32 ∷ xs) s.whole ∙ sym (volume_is v (drop n digits))
-          ∙ ap (λ xs. volume_text v ++ xs) (sym behind),
-      subst Ends (sym behind) s.ends,
-    )
-
 -- two numbers behind a blank in front of one text are one
 pub volume_one : (v w : ℕ) (s t : List ℕ) → v < 2 ^ 64 → w < 2 ^ 64 → Ends s → Ends t
     → volume_text v ++ s ≡ volume_text w ++ t → (v ≡ w) × (s ≡ t)
 volume_one v w s t f g e d h = number_one v w s t f g e d
     (append_cancel_left (codes " ") _ _ (sym (volume_is v s) ∙ h ∙ volume_is w t))
-
-pub volume_split : (text digits : List ℕ) (v : ℕ) (rest : List ℕ) → text ≡ codes " " ++ digits → v < 2 ^ 64
-    → Ends rest → text ≡ volume_text v ++ rest → Splits digits v rest
-volume_split text digits v rest is fits ends whole = record {
-  fits = fits;
-  whole = append_cancel_left (codes " ") _ _ (sym is ∙ whole ∙ volume_is v rest);
-  ends = ends;
-}
 
 -- the rest of a text, as the program cuts it
 pub from_on : (at : ℕ) (text : List ℕ) → take (length text - at) (drop at text) ≡ drop at text

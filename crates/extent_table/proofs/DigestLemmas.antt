@@ -1,33 +1,9 @@
--- What keys have once a digest is pushed or written.
-use Rattle.std.proofs.Common.{◌≡◌, ℕ, ◌≤◌, zero, suc, List, [], ◌∷◌, ◌++◌, length, refl, ap, ◌∙◌, arith}
+-- A list of digests that is empty, has another digest at a key, or was copied.
+use Rattle.std.proofs.Common.{◌≡◌, ℕ, ◌≤◌, List, [], length, refl, ap, ◌∙◌, arith}
 use Rattle.std.proofs.lemmas.Bool.{cases_eq}
 use mathlib.Core.Logic.{⊎_elim}
-use Rattle.slot_codec.specs.Spelling.{digest_len, zeros}
+use Rattle.slot_codec.specs.Spelling.{digest_len}
 use Rattle.extent_table.specs.Parts.{digest_in, IsDigestList}
-
--- zeros behind the end are what stood there
-pub zeros_pushed : (xs : List (List ℕ)) (k : ℕ) → digest_in (xs ++ (zeros digest_len) ∷ []) k ≡ digest_in xs k
-zeros_pushed [] zero = refl
-zeros_pushed [] (suc k) = refl
-zeros_pushed (x ∷ xs) zero = refl
-zeros_pushed (x ∷ xs) (suc k) = zeros_pushed xs k
-
--- a digest at the end
-pub pushed_here : (xs : List (List ℕ)) (d : List ℕ) (k : ℕ) → length xs ≡ k → digest_in (xs ++ d ∷ []) k ≡ d
-pushed_here [] d zero is = refl
-pushed_here [] d (suc k) is = absurd (omega (arith, is))
-pushed_here (x ∷ xs) d zero is = absurd (omega (arith, is))
-pushed_here (x ∷ xs) d (suc k) is = pushed_here xs d k (omega (arith, is))
-
-pub pushed_others : (xs : List (List ℕ)) (d : List ℕ) (key k : ℕ) → length xs ≡ key → (k ≡ key → ⊥)
-    → digest_in (xs ++ d ∷ []) k ≡ digest_in xs k
-pushed_others [] d zero zero is other = absurd (other refl)
-pushed_others [] d (suc key) k is other = absurd (omega (arith, is))
-pushed_others [] d zero (suc k) is other = refl
-pushed_others (x ∷ xs) d key zero is other = refl
-pushed_others (x ∷ xs) d zero (suc k) is other = absurd (omega (arith, is))
-pushed_others (x ∷ xs) d (suc key) (suc k) is other =
-    pushed_others xs d key k (omega (arith, is)) (λ e. other (omega (arith, e)))
 
 pub empty_list : {capacity room : ℕ} {digests : List (List ℕ)} → capacity ≤ room → digests ≡ []
     → IsDigestList capacity digests room

@@ -1,5 +1,5 @@
 -- The entries that names by key and the records of what was kept give.
-use Rattle.std.proofs.Common.{◌≡◌, ◌⊎◌, ℕ, zero, suc, ◌+◌, ◌<◌, true, false, Bor, cond, List, [], ◌∷◌, length, get_or, count_by, Option, Some, None, IsSome, is_some, refl, ap, sym, subst, ◌∙◌, inl, arith}
+use Rattle.std.proofs.Common.{◌≡◌, ◌⊎◌, ℕ, zero, suc, ◌+◌, ◌<◌, true, Bor, cond, List, [], ◌∷◌, length, get_or, count_by, Option, Some, None, IsSome, is_some, refl, ap, sym, subst, ◌∙◌, inl, arith}
 use Rattle.std.specs.Option.{option_copied}
 use mathlib.Core.Logic.{⊎_elim}
 use Rattle.std.proofs.lemmas.List.Sums.{sum_by-cons}
@@ -7,7 +7,7 @@ use Rattle.extent_table.specs.declared.spot.Spot.{Spot}
 use Rattle.extent_table.specs.declared.standing.Standing.{Standing}
 use Rattle.extent_table.specs.declared.kept.Kept.{Kept}
 use Rattle.extent_table.specs.declared.kept.Kept.TheVariants.{Same, New, Old}
-use Rattle.extent_table.specs.Kept.{kept_in, kept_spot, kept_as, is_change}
+use Rattle.extent_table.specs.Kept.{kept_in, kept_spot, is_change}
 use Rattle.extent_table.specs.Entries.{Entry, entry_of, entries_of, once_kept, once_back, if_stands, Goes}
 use Rattle.extent_table.specs.Parts.{name_of, now_of, kept_of, Edit, with_kept, with_now, after_keep, after_back}
 
@@ -147,23 +147,6 @@ pub kept_of_old : (spot : Spot) (s : Option Standing) → IsSome (entry_of (Old 
     → kept_of (entry_of (Old spot) s) ≡ Some spot
 kept_of_old spot None h = absurd (cc)
 kept_of_old spot (Some s) h = refl
-
--- a record of what stands says the same as none
-pub held : (s : Standing) → entry_of (kept_as s.now) (Some s) ≡ entry_of Same (Some s)
-held s = ap (λ k. Some (record { name = s.name; now = s.now; kept = k })) (by_now s.now)
-  where
-    by_now : (now : Option Spot) → kept_spot (kept_as now) now ≡ now
-    by_now None = refl
-    by_now (Some spot) = refl
-
-pub change_as : (now : Option Spot) → is_change (kept_as now) ≡ true
-change_as None = refl
-change_as (Some spot) = refl
-
-pub no_change : (x : Kept) → is_change x ≡ false → x ≡ Same
-no_change Same is = refl
-no_change New is = absurd (cc)
-no_change (Old spot) is = absurd (cc)
 
 -- an entry that changed keeps what was kept of it
 kept_stays : (x : Kept) (a b : Option Spot) → is_change x ≡ true → kept_spot x a ≡ kept_spot x b

@@ -1,5 +1,5 @@
 -- The records of what was kept, and the list of the keys that changed, as one more is written.
-use Rattle.std.proofs.Common.{◌≡◌, ℕ, zero, suc, ◌+◌, ◌<◌, Bool, true, false, cond, List, [], ◌∷◌, ◌++◌, length, set, get_or, count_by, IsTrue, refl, ap, sym, subst, ◌∙◌, arith}
+use Rattle.std.proofs.Common.{◌≡◌, ℕ, suc, ◌+◌, ◌<◌, Bool, true, false, cond, List, [], ◌∷◌, ◌++◌, length, set, get_or, count_by, IsTrue, refl, ap, sym, subst, ◌∙◌, arith}
 use Rattle.std.proofs.lemmas.Bool.{cases_eq}
 use mathlib.Core.Logic.{⊎_elim}
 use Rattle.std.proofs.lemmas.List.{get_or-set_other, get_or_append_left, get_or_push, length-set, length_push}
@@ -8,20 +8,8 @@ use Rattle.extent_table.specs.declared.kept.Kept.{Kept}
 use Rattle.extent_table.specs.declared.kept.Kept.TheVariants.{Same, New, Old}
 use Rattle.extent_table.specs.Kept.{kept_in, is_change, AreChanges}
 
--- a record of no change at the end says nothing new
-pub same_pushed : (kept : List Kept) (k : ℕ) → kept_in (kept ++ Same ∷ []) k ≡ kept_in kept k
-same_pushed [] zero = refl
-same_pushed [] (suc k) = refl
-same_pushed (x ∷ xs) zero = refl
-same_pushed (x ∷ xs) (suc k) = same_pushed xs k
-
 abbrev one : Kept → ℕ
 one k = cond (is_change k) 1 0
-
-pub count_pushed : (kept : List Kept) → count_by is_change (kept ++ Same ∷ []) ≡ count_by is_change kept
-count_pushed [] = refl
-count_pushed (x ∷ xs) = sum_by-cons one x (xs ++ Same ∷ []) ∙ ap (λ n. one x + n) (count_pushed xs)
-    ∙ sym (sum_by-cons one x xs)
 
 -- without any change none is counted
 pub count_none : (kept : List Kept) → ((k : ℕ) → kept_in kept k ≡ Same) → count_by is_change kept ≡ 0
@@ -49,16 +37,6 @@ module _ (kept : List Kept) (key : ℕ) (was : Kept) (within : key < length kept
       )
 
   module _ {changed : List ℕ} (h : AreChanges kept changed) where
-    pub noted_again : is_change (kept_in kept key) ≡ true → AreChanges (set kept key was) changed
-    noted_again is = record {
-      count = omega (arith, counted is, h.count);
-      whole = λ k changes. ⊎_elim
-          (λ (e : k ≡ key). h.whole k (ap (λ n. is_change (kept_in kept n)) e ∙ is))
-          (λ differs. h.whole k (subst (λ x. IsTrue (is_change x))
-          (get_or-set_other kept key k was Same differs) changes))
-          (cases_eq k key);
-    }
-
     pub noted : is_change (kept_in kept key) ≡ false → AreChanges (set kept key was) (changed ++ key ∷ [])
     noted is = record {
       count = omega (arith, counted is, h.count, length_push changed key);

@@ -1,11 +1,10 @@
 -- How a layer answers where it stops before it puts any byte.
-use Rattle.std.specs.Prelude.{◌≡◌, ◌≢◌, ◌⊎◌, ℕ, List, [], Some, Result, Ok, Err, OnErr, IsTrue, true, false, bytes_eq, refl}
+use Rattle.std.specs.Prelude.{◌≡◌, ◌≢◌, ℕ, List, [], Result, Ok, Err, OnErr, IsTrue, refl}
 use Rattle.std.proofs.Common.{arith, ap, sym, ◌∙◌, subst, inl, inr, append-nil}
-use Rattle.sha2.specs.Sha256.{sha256}
 use Rattle.disk_face.specs.Streams.{Puts, SinkState}
 use Rattle.command_face.specs.declared.stop.StopReason.{StopReason}
 use Rattle.command_face.specs.declared.stop.StopReason.TheVariants as stop
-use Rattle.file_commands.specs.Getting.{StopsAs, checked}
+use Rattle.file_commands.specs.Getting.{StopsAs}
 use Rattle.command_face.specs.Layers.{Answers}
 use Rattle.command_face.specs.Outcomes.{EndsBy}
 
@@ -42,32 +41,6 @@ put_answer answer bytes old new end is only puts = record {
     ends_of : (e : Result (Unit {0}) StopReason) → OnErr e (e ≡ Err stop.Sink) → EndsBy answer bytes e
     ends_of (Ok x) sink = is
     ends_of (Err e) sink = subst (EndsBy answer bytes) (sym sink) is
-
--- a layer puts the bytes of an object, unless the disk or the sink fails
-pub put_object : (answer : Result (List ℕ) StopReason → Type 0) (bytes : List ℕ) (old new : SinkState)
-    (end : Result (Unit {0}) StopReason) → answer (Ok bytes)
-    → OnErr end ((end ≡ Err stop.Disk) ⊎ (end ≡ Err stop.Sink))
-    → (IsTrue old.tells → Puts old.given new.given bytes end) → Answers answer old new end
-put_object answer bytes old new end is only puts = record {
-  bytes = bytes;
-  ends = ends_of end only;
-  puts = puts;
-}
-  where
-    ends_of : (e : Result (Unit {0}) StopReason) → OnErr e ((e ≡ Err stop.Disk) ⊎ (e ≡ Err stop.Sink))
-        → EndsBy answer bytes e
-    ends_of (Ok x) failed = is
-    ends_of (Err e) (inl disk) = subst (EndsBy answer bytes) (sym disk) (inl is)
-    ends_of (Err e) (inr sink) = subst (EndsBy answer bytes) (sym sink) is
-
--- an object whose digest is the one that it is to have, and one whose digest is another
-pub checked_same : (digest object : List ℕ) → bytes_eq digest (sha256 object) ≡ true
-    → checked (Some digest) (Some object) ≡ Ok object
-checked_same digest object same = rw same refl
-
-pub checked_other : (digest object : List ℕ) → bytes_eq digest (sha256 object) ≡ false
-    → checked (Some digest) (Some object) ≡ Err stop.Damaged
-checked_other digest object other = rw other refl
 
 -- what answers one command answers another that allows more
 pub answers_more : (answer other : Result (List ℕ) StopReason → Type 0)

@@ -19,16 +19,6 @@ pushed put piece after bytes is = record {
   front = tt;
 }
 
--- what is gathered is put
-pub emptied : (put piece after : List ℕ) → after ≡ put ++ piece → Gathers put piece after [] [] (Ok tt)
-emptied put piece after is = record {
-  all = (
-    append-nil after ∙ is ∙ ap (λ (xs : List ℕ). put ++ xs) (sym (append-nil piece)),
-    omega (arith, ap length is, length-append put piece),
-  );
-  front = tt;
-}
-
 -- a front of a front, where more was put since
 module _ {put piece mid gathered x : List ℕ} (first : Gathers put piece mid gathered x (Ok tt)) where
   both : (more : List ℕ) → mid ++ (gathered ++ more) ≡ put ++ (piece ++ (x ++ more))

@@ -11,9 +11,6 @@ module _ (spans : List Span) (s : Span) (n : ℕ) (within : n ≤ length spans) 
   abbrev With : List Span
   With = insert spans n s
 
-  At : ℕ → Span → Span
-  At k d = slice_index_or With k d
-
   long : length With ≡ length spans + 1
   long = length-insert spans n s within
 

@@ -12,11 +12,6 @@ module _ (spans : List Span) (o : AreInOrder spans) (s : Span) (end : ℕ) (ends
     (below : (k : ℕ) (d : Span) → k < n → (slice_index_or spans k d).place < end)
     (above : (k : ℕ) (d : Span) → n ≤ k → k < length spans → end ≤ (slice_index_or spans k d).place)
   where
-    -- none begins before the end
-    pub none_shares : n ≡ 0 → All (λ a. IsApart a s) spans
-    none_shares none k d low = inr
-        (inr (inr (omega (arith, ends_at, above k d (omega (arith, none)) low))))
-
     module _ (some : 0 < n) (last : Span) (is : slice_get spans (n - 1) ≡ Some last) where
       abbrev At : ℕ → Span → Span
       At k d = slice_index_or spans k d

@@ -24,9 +24,6 @@ by_bool : {P : Type 0} (b : Bool) → (b ≡ true → P) → (b ≡ false → P)
 by_bool true f g = f refl
 by_bool false f g = g refl
 
-abbrev Same : disk.State → disk.State → Type 0
-Same before now = now.last_mount ≡ before.last_mount
-
 module _ {classes : ℕ} {old new : StoreValue} {before now : disk.State} where
   pub change_mount : {c : Change} {result : Result Done Refusal}
       → IsChange classes c old new before now result

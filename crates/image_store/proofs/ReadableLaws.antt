@@ -1,7 +1,6 @@
--- A store belongs to its file over a read, and once its log is emptied.
-use Rattle.std.proofs.Common.{◌≡◌, ◌∙◌, refl, rules, sym, subst, inl, inr, ℕ}
+-- A store with a flush in hand over its file, once its log is emptied.
+use Rattle.std.proofs.Common.{◌≡◌, refl, rules, sym, subst, inl, inr}
 use Rattle.std.specs.Prelude.{Option, None, IsSome, Ok}
-use Rattle.disk_face.specs.Frames.{Unchanged}
 use Rattle.disk_face.specs.States as disk
 use Rattle.size_class.specs.declared.TheConstants.{CLASSES}
 use Rattle.disk_image.specs.Disks.{image_state}
@@ -11,28 +10,9 @@ use Rattle.store_core.specs.declared.answers.Progress.TheVariants as progress
 use Rattle.store_core.specs.declared.answers.Refusal.{Refusal}
 use Rattle.std.specs.Prelude.{Result, Some}
 use Rattle.store_core.specs.Steps.{GoesOnHalf, StepsHalf}
-use Rattle.store_model.specs.Connection.{FlushInHand, IsConnected, IsOver, RestsOnTable, StoreValue, base_of}
+use Rattle.store_model.specs.Connection.{FlushInHand, RestsOnTable, StoreValue, base_of}
 use Rattle.store_model.specs.Halves.{HalfAgrees, IsHalfway, IsReadable, Origin}
-use Rattle.store_model.proofs.HalfLaws.{halfway_read}
 use Rattle.image_store.specs.Embedded.{Embedded, disk_before}
-
-connected_read : {classes : ℕ} {s : StoreValue} {a d : disk.State} → Unchanged a d → IsConnected classes s a
-    → IsConnected classes s d
-connected_read {classes} {s} {a} {d} same c = record {
-  idle = c.idle;
-  over = λ whole told.
-      let was = sym same.stays.told ∙ told in
-      subst (IsOver classes s) (sym (same.same_file was)) (c.over whole was);
-}
-
-pub readable_read : {classes : ℕ} {s new : StoreValue} {a d : disk.State} → new ≡ s → Unchanged a d
-    → IsReadable classes s a → IsReadable classes new d
-readable_read {classes} {s} {new} {a} {d} e same is =
-    subst (λ x. IsReadable classes x d) (sym e) (by_kind is)
-  where
-    by_kind : IsReadable classes s a → IsReadable classes s d
-    by_kind (inl c) = inl (connected_read same c)
-    by_kind (inr h) = inr (halfway_read same h)
 
 pub no_some : {A P : Type 0} (o : Option A) → IsSome o → o ≡ None → P
 no_some None some none = absurd (search rules)

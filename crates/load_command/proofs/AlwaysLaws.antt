@@ -3,7 +3,7 @@ use Rattle.std.specs.Prelude.{◌≡◌, ◌≢◌, ◌⊎◌, ◌≤◌, ℕ, z
 use Rattle.std.proofs.Common.{arith, ap, sym, ◌∙◌, subst, inl, inr, append-nil}
 use Rattle.std.specs.FinMap as fin
 use Rattle.disk_face.specs.Counts.{IsCalm, Rose}
-use Rattle.disk_face.specs.Devices.{Devices, devices}
+use Rattle.disk_face.specs.Devices.{devices}
 use Rattle.disk_face.specs.States.{State}
 use Rattle.disk_face.specs.Streams.{Puts, SinkState, SourceState}
 use Rattle.size_class.specs.declared.TheConstants.{CLASSES, SIZE_MAX}
@@ -13,7 +13,7 @@ use Rattle.load_stream.specs.declared.fault.LoadFault.{LoadFault}
 use Rattle.load_stream.specs.declared.fault.LoadFault.TheVariants as why
 use Rattle.load_stream.proofs.AnswerLaws.{dump_loads}
 use Rattle.command_face.specs.Outcomes.{PutsLast, PutsLine, PutsOut, line_at, status_at}
-use Rattle.command_face.specs.declared.status.TheConstants.{DISK_FAILED, DONE, NOT_EMPTY, NO_MEMORY, SINK_FAILED, SOURCE_FAILED, TOO_MANY_NAMES}
+use Rattle.command_face.specs.declared.status.TheConstants.{DONE, NOT_EMPTY, NO_MEMORY, SINK_FAILED, SOURCE_FAILED, TOO_MANY_NAMES}
 use Rattle.command_face.specs.declared.stop.StopReason.{StopReason}
 use Rattle.command_face.specs.declared.stop.StopReason.TheVariants as stop
 use Rattle.command_face.proofs.EndedLaws.{causes_by, line_alone, whole_of}
@@ -193,15 +193,3 @@ module _ (k names : ℕ) (old new : State) (out put after : SinkState) (from res
     told = is.source_told;
     unread = λ five. let taken = taken_by end (sym same ∙ five) in is.unread taken.0 taken.1;
   }
-
--- where the disk failed the fault line is all that is put
-pub silent : (status : ℕ) (old new : Devices) → LoadAlways status old new → IsTrue old.sink.tells
-    → status ≡ DISK_FAILED → PutsLine DISK_FAILED old.sink new.sink
-silent status old new always told is = elim (always.line_alone told)
-    as (λ _. PutsLine DISK_FAILED old.sink new.sink) [
-      | inl done ↦ absurd (omega (arith, done, is))
-      | inr rest ↦ elim rest as (λ _. PutsLine DISK_FAILED old.sink new.sink) [
-        | inl sink ↦ absurd (omega (arith, sink, is))
-        | inr line ↦ subst (λ (n : ℕ). PutsLine n old.sink new.sink) is line
-      ]
-    ]

@@ -1,5 +1,5 @@
 -- How a load goes on after a call that changes nothing, and where it stops at one.
-use Rattle.std.specs.Prelude.{◌≡◌, ◌<◌, ℕ, List, length, Result, Err, IsTrue, refl}
+use Rattle.std.specs.Prelude.{◌≡◌, ℕ, List, length, Result, Err, IsTrue, refl}
 use Rattle.std.proofs.Common.{arith, ap, sym, ◌∙◌, inl, subst}
 use Rattle.disk_face.specs.Counts.{Rose, counted}
 use Rattle.disk_face.specs.Devices.{devices}
@@ -119,33 +119,4 @@ module _ (k names : ℕ) (a b : State) (same : Untouched a b) where
       source = record { later = omega arith; rose = λ is. absurd (cc); calm = λ _. refl };
       source_told = refl;
       unread = λ n is. asked;
-    }
-
-    -- the file has bytes
-    pub loading_taken : (n : ℕ) → (IsTrue a.tells → n ≡ length a.file) → 0 < n → b.faults ≡ a.faults
-        → IsLoading k names (devices a o) (devices b o) from from S (Err (stop.Taken n))
-    loading_taken n is some calm = record {
-      only = tt;
-      begun = λ told. (is told, omega (arith, is told, some));
-      judged = λ told. tt;
-      puts = λ told. refl;
-      untouched = λ _. same;
-      file = λ told none. absurd (omega (arith, is told, none, some));
-      crash = crash_none;
-      loaded = λ told no. absurd no;
-      no_turn_back = omega (arith, same.same_turn);
-      told = same.told;
-      images_told = same.images_told;
-      causes = record {
-        later = same.later;
-        rose = λ is. absurd (cc);
-        calm = λ other. calm;
-        sink_later = omega arith;
-        sink_rose = λ is. absurd (cc);
-        sink_calm = λ done. refl;
-        sink_told = refl;
-      };
-      source = record { later = omega arith; rose = λ is. absurd (cc); calm = λ _. refl };
-      source_told = refl;
-      unread = λ m is. asked;
     }

@@ -1,5 +1,5 @@
 -- An object that is read and written piece by piece.
-use Rattle.std.specs.Prelude.{◌≡◌, ℕ, ◌+◌, ◌<◌, ◌≤◌, List, [], ◌∷◌, ◌++◌, length, IsTrue, refl, take, drop}
+use Rattle.std.specs.Prelude.{◌≡◌, ℕ, ◌+◌, ◌≤◌, List, [], ◌∷◌, ◌++◌, length, IsTrue, refl, take, drop}
 use Rattle.std.proofs.Common.{arith, ap, sym, ◌∙◌, append-nil, append_assoc, length-append}
 use Rattle.byte_ranges.specs.Ranges.{overwritten}
 use Rattle.byte_ranges.proofs.RangeLaws.{length-overwritten, overwritten-pieces}
@@ -47,13 +47,6 @@ pub body_long : (told : Type 0) (at size done : ℕ) (input rest : List ℕ) (fi
 body_long told at size done input rest first now upto within t a =
     ap length (a.written t) ∙ length-overwritten first.file at a.object (omega (arith, a.long, upto, within))
 
--- an input that ends within a piece is shorter than the object
-pub body_short : (told : Type 0) (at done n size : ℕ) (input mid : List ℕ) (first old : State)
-    → done + n ≤ size
-    → told → WritesObject told at done input mid first old → length mid < n → length input < size
-body_short told at done n size input mid first old upto t a short =
-    omega (arith, ap length (a.whole t), length-append a.object mid, a.long, upto, short)
-
 -- the same, where what is told is told there too
 pub body_as : (told other : Type 0) (at m n : ℕ) (input rest : List ℕ) (first now : State) → (told → other)
     → m ≡ n → WritesObject other at m input rest first now → WritesObject told at n input rest first now
@@ -72,26 +65,9 @@ same_front (a ∷ o) [] x y same h = absurd (omega (arith, same))
 same_front (a ∷ o) (b ∷ p) x y same h =
     same_front o p x y (omega (arith, same)) (let e : o ++ x ≡ p ++ y = cc in e)
 
--- the newline stood behind the bytes
-pub body_ended : (told : Type 0) (at n : ℕ) (input mid rest : List ℕ) (first now : State)
-    → (told → mid ≡ rest)
-    → WritesObject told at n input mid first now → WritesObject told at n input rest first now
-body_ended told at n input mid rest first now is a = record {
-  object = a.object;
-  long = a.long;
-  whole = λ t. a.whole t ∙ ap (λ (xs : List ℕ). a.object ++ xs) (is t);
-  written = a.written;
-}
-
 -- the newline is missing
 pub body_without : (told : Type 0) (at size : ℕ) (input mid : List ℕ) (first now : State) → told
     → WritesObject told at size input mid first now → ((rest : List ℕ) → mid ≡ 10 ∷ rest → ⊥)
     → (object behind : List ℕ) → length object ≡ size → input ≡ object ++ 10 ∷ behind → ⊥
 body_without told at size input mid first now t a none object behind long h =
     none behind (same_front a.object object mid (10 ∷ behind) (a.long ∙ sym long) (sym (a.whole t) ∙ h))
-
--- an input that is too short has no such bytes
-pub too_short : (size : ℕ) (input : List ℕ) → length input < size → (object behind : List ℕ)
-    → length object ≡ size → input ≡ object ++ 10 ∷ behind → ⊥
-too_short size input short object behind long h =
-    omega (arith, short, long, ap length h, length-append object (10 ∷ behind))

@@ -1,5 +1,5 @@
 -- A formatted file, while it is filled: what it and its images stand for, up to the save and after it.
-use Rattle.std.specs.Prelude.{◌≡◌, ◌⊎◌, ℕ, ◌+◌, ◌≤◌, Bool, List, [], ◌++◌, length, slice_index, Result, Err, IsTrue}
+use Rattle.std.specs.Prelude.{◌≡◌, ◌⊎◌, ℕ, ◌+◌, ◌≤◌, List, ◌++◌, length, slice_index, Result, Err, IsTrue}
 use Rattle.std.proofs.Common.{arith, ap, sym, ◌∙◌, inl, inr, subst, append-nil}
 use Rattle.std.specs.FinMap as fin
 use Rattle.std.proofs.lemmas.List.{length-map}
@@ -11,7 +11,6 @@ use Rattle.disk_face.specs.Frames.{AfterLength}
 use Rattle.disk_face.specs.Moments.{Leaves, Rests}
 use Rattle.disk_face.specs.Writes.{WritesWithin}
 use Rattle.disk_face.proofs.MomentLaws.{Leaves-trans, Leaves-weaken}
-use Rattle.size_class.specs.Rows.{cells_of}
 use Rattle.size_class.specs.declared.TheConstants.{SIZE_MAX}
 use Rattle.slot_codec.specs.Readable.{IsSuperBlock}
 use Rattle.slot_codec.specs.Spelling.{head_len}
@@ -33,7 +32,7 @@ use Rattle.load_stream.specs.declared.plan.Plan.{Plan}
 use Rattle.load_stream.specs.declared.plan.SoFar.{SoFar}
 use Rattle.load_stream.specs.Images.{StaysEmpty}
 use Rattle.load_stream.specs.Saved.{IsEmptyLike, IsEmptyOrLaid, IsLaidBeside, IsPlanFor, LeavesRead, MapRead, OpensEmpty, OpensFor, OpensLaid, OpensRead, ReadsBody, StopsBody, laid_with}
-use Rattle.load_stream.specs.Steps.{LoadsAll, LoadsTo, Passed, StopsIn, passed}
+use Rattle.load_stream.specs.Steps.{LoadsAll, Passed, StopsIn}
 use Rattle.load_stream.proofs.LoopLaws.{loads_count}
 use Rattle.load_stream.proofs.ImageLaws.{empty_begins, empty_for, empty_resized, empty_written, first_long}
 
@@ -75,27 +74,6 @@ alike_below k names n at m s0 s1 s2 rests first high is w low told x image left 
     }
 
 -- ---- all objects
-
-pub loads_all : (p : Plan) (now : SoFar) (tells : Bool) (input left after : List ℕ) (first state : State)
-    → LoadsTo p now (passed tells input left) p.head.count first state
-    → cells_of now.filled ≡ caps_of p.layout
-    → (IsTrue tells → (left ≡ []) × (after ≡ [])) → LoadsAll p now (passed tells input after) first state
-loads_all p now tells input left after first state o whole ended = record {
-  to = record {
-    objects = o.objects;
-    same_count = o.same_count;
-    follow = o.follow;
-    placing = o.placing;
-    filled = o.filled;
-    last = o.last;
-    whole = λ t. o.whole t
-        ∙ ap (λ (xs : List ℕ). objects_text o.objects ++ xs) ((ended t).0 ∙ sym (ended t).1);
-    read = o.read;
-    made = o.made;
-  };
-  whole = whole;
-  ended = λ t. (ended t).1;
-}
 
 module _ (p : Plan) (now : SoFar) (x : Passed) (first state : State) (told : IsTrue first.tells)
     (l : LoadsAll p now x first state) where
@@ -149,20 +127,6 @@ stops_due p input n s = record {
   whole = s.whole;
   due = λ low. s.none;
   ended = λ all. absurd (omega (arith, all, s.due));
-}
-
-pub stops_behind : (p : Plan) (now : SoFar) (tells : Bool) (input left : List ℕ) (first state : State)
-    → LoadsTo p now (passed tells input left) p.head.count first state → IsTrue tells
-    → (cells_of now.filled ≡ caps_of p.layout → left ≡ [] → ⊥) → StopsBody p input (p.head.count + 1)
-stops_behind p now tells input left first state o told more = record {
-  objects = o.objects;
-  rest = left;
-  same_number = omega (arith, o.same_count);
-  few = omega (arith, o.same_count);
-  follow = o.follow;
-  whole = o.whole told;
-  due = λ low. absurd (omega (arith, low, o.same_count));
-  ended = λ all filled. more (o.filled ∙ filled);
 }
 
 -- ---- a file that is filled

@@ -1,6 +1,6 @@
 -- Sums over the entries of a map from names, each weighed by its name and its value, whatever values are:
 -- what a put and a removal do to them. Of a map of objects, its bytes and the largest object.
-use Rattle.std.specs.Prelude.{◌≡◌, ℕ, ◌+◌, ◌≤◌, max, Bool, true, false, not, cond, T, ◌&&◌, List, [], ◌∷◌, ◌++◌, length, map, fold, sum_by, Option, Some, None, refl}
+use Rattle.std.specs.Prelude.{◌≡◌, ℕ, ◌+◌, ◌≤◌, max, Bool, true, false, not, cond, T, ◌&&◌, List, [], ◌∷◌, length, map, fold, sum_by, Some, None, refl}
 use Rattle.std.proofs.Common.{arith, sym, ◌∙◌, ap, inl, inr}
 use Rattle.std.proofs.lemmas.Bool.{cases_Bool, cond-true, cond-false}
 use Rattle.std.proofs.lemmas.List.Sums.{sum_by-cons}
@@ -10,9 +10,8 @@ use Rattle.std.specs.declared.cmp.Ordering.TheVariants.{Less, Equal, Greater}
 use Rattle.std.specs.Cmp.{IsTotalOrder, tied_itself, Equal-is, eq_by_cmp_equiv}
 use Rattle.std.specs.Cmp.Lexicographic.{nat_list_cmp_total}
 use Rattle.std.specs.FinMap as fin
-use Rattle.std.specs.FinMap.Entries.{find, put, is_sorted, by_order, below_all, where_key, is_sorted-where_key, find-where_key}
+use Rattle.std.specs.FinMap.Entries.{find, is_sorted, below_all, where_key, is_sorted-where_key, find-where_key}
 use Rattle.map_model.specs.Maps.{Map, name_cmp, volume, largest}
-use Rattle.map_model.specs.Requests.{Change, changed}
 use Rattle.map_model.specs.Weights.{Entry, weights, weight, weight_at, same_name, size_of_entry, size_at}
 
 abbrev pub name_order : IsTotalOrder name_cmp
@@ -250,36 +249,6 @@ module _ {X : Type 0} where
             ∙ ap (fin.get m) (sym (same_name-is q k same))
         | inr other ↦ cond-false (same_name q k) None (fin.get m q) other
       ])
-
--- ---- a change of a map of objects
-
--- the weight of the map after a change
-pub weights-changed : (f : Entry → ℕ) (c : Change) (m : Map)
-    → weights f (changed c m) + weight_at f m c.name ≡ weights f m + weight f c.name c.object
-weights-changed f c m = go c.object
-  where
-    go : (object : Option (List ℕ)) → weights f (changed (record { name = c.name; object = object }) m)
-        + weight_at f m c.name ≡ weights f m + weight f c.name object
-    go None = omega (arith, weights-remove f m c.name)
-    go (Some object) = weights-insert f m c.name object
-
--- a name that stands behind all others is entered last
-put_last : (k v : List ℕ) (es : List Entry) → T (is_sorted name_cmp es)
-    → ((q w : List ℕ) → find name_cmp q es ≡ Some w → name_cmp k q ≡ Greater)
-    → put name_cmp k v es ≡ es ++ (k, v) ∷ []
-put_last k v [] h last = refl
-put_last k v (e ∷ es) h last =
-    let behind = first_of_both (below_all name_cmp e.0 es) (is_sorted name_cmp es) h in
-    ap (λ o. by_order o ((k, v) ∷ e ∷ es) ((e.0, v) ∷ es) (e ∷ put name_cmp k v es))
-    (last e.0 e.1 (find_head e es))
-    ∙ ap (λ (fs : List Entry). e ∷ fs)
-    (put_last k v es (second_of_both (below_all name_cmp e.0 es) (is_sorted name_cmp es) h)
-    (λ q w is. last q w (find_behind e es q w behind is)))
-
-pub entries-push : (m : Map) (k v : List ℕ) → ((q w : List ℕ) → fin.get m q ≡ Some w → name_cmp k q ≡ Greater)
-    → fin.entries (fin.insert m k v) ≡ fin.entries m ++ (k, v) ∷ []
-entries-push m k v last = fin.entries-insert name_order m k v
-    ∙ put_last k v (fin.entries m) (fin.entries_sorted m) (λ q w is. last q w (fin.get-entries m q ∙ is))
 
 -- ---- volumes
 

@@ -55,21 +55,6 @@ stayed_or_not (Some y) (Some x) = elim (cases_lt 0 x.size) [
 
 -- ---- what a program does to the guard
 
--- nothing joins, where the name doesn't stand where it was kept
-pub frees_differ : (now kept : Option Spot) (spans : List Span) → (now ≡ kept → ⊥)
-    → FreesSpot now kept spans spans
-frees_differ now kept spans differ = record {
-  joins = λ s stands held some. absurd (differ (stands ∙ sym held));
-  stays = λ none. refl;
-}
-
--- or where it stands nowhere
-pub frees_nowhere : (kept : Option Spot) (spans : List Span) → FreesSpot None kept spans spans
-frees_nowhere kept spans = record {
-  joins = λ s stands held some. absurd (cc);
-  stays = λ none. refl;
-}
-
 -- a span joins where it does, unless it is empty
 pub frees_joined : (now kept : Option Spot) (spans after : List Span) (s : Spot) (a : Span) → now ≡ Some s
     → kept ≡ Some s → IsSpanOf s a → (0 < a.size → Joins a spans after) → (a.size ≡ 0 → after ≡ spans)

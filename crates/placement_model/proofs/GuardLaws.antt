@@ -1,6 +1,6 @@
 -- What the last checkpoint holds though nothing stands there now, when an object moves, joins, goes, is kept
 -- or comes back.
-use Rattle.std.specs.Prelude.{◌≡◌, ◌≢◌, ℕ, ◌<◌, ◌≤◌, ◌==◌, nat_lt, not, Bool, true, false, ◌&&◌, cond, List, [], ◌∷◌, length, sum_by, Some, None, Contains, IsTrue, refl}
+use Rattle.std.specs.Prelude.{◌≡◌, ℕ, ◌<◌, ◌≤◌, ◌==◌, nat_lt, not, Bool, true, false, ◌&&◌, cond, List, [], ◌∷◌, length, sum_by, Some, None, Contains, IsTrue, refl}
 use Rattle.std.proofs.Common.{arith, sym, ◌∙◌, ap, subst, inl, inr}
 use Rattle.std.proofs.lemmas.Bool.{cases_Bool, cond-true, cond-false, and_from, and_parts, eqb-true, eq-eqb, lt-ltb, ltb-true}
 use Rattle.std.proofs.lemmas.List.Sums.{sum_by-cons}
@@ -249,13 +249,6 @@ module _ (spans : List Span) (now kept : Spots) (name : List ℕ) where
                   ∙ ap (λ o. nat_lt 0 s.size && not (is_at o s)) (ap (fin.get now) (sym k))
             ]
       ]
-
--- an object isn't at a spot whose place is another one, or that shares no byte with it
-pub not_at : (t s : Spot) → t.place ≢ s.place → is_at (Some t) s ≡ false
-not_at t s differ = elim (cases_Bool (t.place == s.place)) [
-  | inl same ↦ absurd (differ (eqb-true t.place s.place same))
-  | inr other ↦ ap (λ x. x && (t.size == s.size)) other
-]
 
 pub not_at_apart : (t s : Spot) → 0 < s.size → LiesApart t.place t.size s → is_at (Some t) s ≡ false
 not_at_apart t s some apart = elim (cases_Bool (is_at (Some t) s)) [

@@ -4,7 +4,7 @@ use Rattle.std.specs.Prelude.{◌≡◌, ℕ, ◌≤◌, nat_lt, if◌then◌els
 use Rattle.std.proofs.Common.{subst, sym}
 use Rattle.slot_codec.specs.declared.codec.Kind.{Kind}
 use Rattle.slot_codec.specs.declared.codec.Kind.TheVariants.{Settled, Moving}
-use Rattle.table_rules.specs.Tables.{TableInLayout, book_of, last_end, nth, end_of_record}
+use Rattle.table_rules.specs.Tables.{TableInLayout, last_end, nth, end_of_record}
 use Rattle.table_rules.specs.Rules.{KeepsPlaces, CanResume, IsMore, IsValid, KindFits}
 use Rattle.table_rules.proofs.HeaderLaws.{places_renumbered}
 use Rattle.placement_model.specs.Laid.{in_version, numbered}
@@ -57,6 +57,3 @@ valid_numbered q n t valid = valid_stamped t.header.version q n t valid
 pub valid_versioned : (v : ℕ) (t : TableInLayout) → IsValid t
     → IsValid (record t { header = in_version v t.header })
 valid_versioned v t valid = valid_stamped v t.header.sequence t.header.count t valid
-
-pub book_numbered : (q n : ℕ) (t : TableInLayout) → book_of (numbered q n t) ≡ book_of t
-book_numbered q n t = refl

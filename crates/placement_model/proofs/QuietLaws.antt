@@ -1,18 +1,18 @@
 -- Items that are charged one after another: each finds room, and what the grid is then, or one finds none.
-use Rattle.std.specs.Prelude.{◌≡◌, ◌⊎◌, ℕ, ◌+◌, ◌≤◌, nat_le, nat_lt, Bool, true, false, ◌&&◌, List, [], ◌∷◌, ◌++◌, fold, Option, Some, None, refl}
+use Rattle.std.specs.Prelude.{◌≡◌, ◌⊎◌, ℕ, ◌≤◌, nat_le, nat_lt, Bool, true, false, ◌&&◌, List, [], ◌∷◌, ◌++◌, fold, Option, Some, None, refl}
 use Rattle.std.proofs.Common.{arith, sym, ◌∙◌, ap, subst, inl, inr, append_assoc}
 use Rattle.std.proofs.lemmas.Bool.{and_from, and_parts, cases_Bool, cond-false, cond-true, le-leb, leb-true, lt-ltb, ltb-true}
 use Rattle.std.proofs.lemmas.List.{append-nil}
 use Rattle.std.proofs.lemmas.List.Folds.{list_all-append}
 use Rattle.size_class.specs.Classes.{IsGrid, class_of, width}
 use Rattle.size_class.proofs.ClassLaws.{class_below}
-use Rattle.segment_layout.specs.Shapes.{buffer_for, buffer_start, start_of, taken_in, with_entry}
+use Rattle.segment_layout.specs.Shapes.{buffer_for, buffer_start, start_of, with_entry}
 use Rattle.segment_layout.specs.Books.{Charged, charge_all, charge_one, entered_at, is_quiet, some_size}
 use Rattle.segment_layout.proofs.ChargeLaws.{room_of_buffer}
 use Rattle.segment_layout.proofs.ChargingLaws.{charge_all-append}
 use Rattle.segment_layout.proofs.ShapeLaws.{IsGrid-with_entry}
 use Rattle.extent_table.specs.declared.spot.Spot.{Spot}
-use Rattle.placement_model.specs.Quiet.{InPayload, PlacedTo, QuietTo, gone_items, is_in_payload}
+use Rattle.placement_model.specs.Quiet.{InPayload, QuietTo, gone_items, is_in_payload}
 use Rattle.placement_model.specs.Rises.{CellsRise}
 use Rattle.placement_model.proofs.RiseLaws.{CellsRise-itself, CellsRise-then, CellsRise-with_entry}
 
@@ -68,9 +68,6 @@ module _ (k : ℕ) (caps : List ℕ) where
 
   -- ---- each item finds room
 
-  pub quiet_none : (grid : List (List ℕ)) → QuietTo k caps grid [] grid
-  quiet_none grid = record { quiet = refl; after_is = refl }
-
   one_at : (grid : List (List ℕ)) (size : ℕ) (o : Option ℕ)
       → buffer_for k caps grid (class_of size) size ≡ o
       → charge_all k caps grid (size ∷ []) ≡ entered_at (record { grid = grid; tried = [] }) size o
@@ -97,53 +94,10 @@ module _ (k : ℕ) (caps : List ℕ) where
         ∙ ap (λ (c : Charged). c.grid) (sym (charge_all-split grid xs ys));
   }
 
-  -- ---- an item finds none
-
-  pub loud_first : (grid : List (List ℕ)) (xs ys : List ℕ) → is_quiet (charge_all k caps grid xs) ≡ false
-      → is_quiet (charge_all k caps grid (xs ++ ys)) ≡ false
-  loud_first grid xs ys needs_flush = is_quiet-split grid xs ys
-      ∙ ap (λ x. x && is_quiet (charge_all k caps (charge_all k caps grid xs).grid ys)) needs_flush
-
-  pub loud_then : (grid mid : List (List ℕ)) (xs ys : List ℕ) → QuietTo k caps grid xs mid
-      → is_quiet (charge_all k caps mid ys) ≡ false → is_quiet (charge_all k caps grid (xs ++ ys)) ≡ false
-  loud_then grid mid xs ys first needs_flush = is_quiet-split grid xs ys
-      ∙ (λ i. first.quiet i && (ap (λ g. is_quiet (charge_all k caps g ys)) (sym first.after_is)
-      ∙ needs_flush) i)
-
   -- ---- the place of a new object
-
-  pub some_size-none : some_size 0 ≡ []
-  some_size-none = refl
 
   pub some_size-some : (size : ℕ) → 1 ≤ size → some_size size ≡ size ∷ []
   some_size-some size some = cond-true (nat_lt 0 size) (size ∷ []) [] (lt-ltb 0 size (omega (arith, some)))
-
-  pub placed_empty : (grid : List (List ℕ)) → PlacedTo k caps grid 0 grid 0
-  placed_empty grid = record {
-    charged = quiet_none grid;
-    empty = λ none. refl;
-    behind = λ j some found. absurd (omega (arith, some));
-  }
-
-  pub placed_one : (grid : List (List ℕ)) (size j : ℕ) → 1 ≤ size
-      → buffer_for k caps grid (class_of size) size ≡ Some j
-      → PlacedTo k caps grid size (with_entry grid j (class_of size) size)
-      (buffer_start k caps j + taken_in grid j)
-  placed_one grid size j some found = record {
-    charged = subst (λ items. QuietTo k caps grid items (with_entry grid j (class_of size) size))
-        (sym (some_size-some size some)) (quiet_one grid size j found);
-    empty = λ none. absurd (omega (arith, none, some));
-    behind = λ i more also. ap (λ x. buffer_start k caps x + taken_in grid x) (same i also);
-  }
-    where
-      same : (i : ℕ) → buffer_for k caps grid (class_of size) size ≡ Some i → j ≡ i
-      same i also = let e : Some j ≡ Some i = sym found ∙ also in cc
-
-  pub loud_place : (grid : List (List ℕ)) (size : ℕ) → 1 ≤ size
-      → buffer_for k caps grid (class_of size) size ≡ None
-      → is_quiet (charge_all k caps grid (some_size size)) ≡ false
-  loud_place grid size some none = ap (λ items. is_quiet (charge_all k caps grid items))
-      (some_size-some size some) ∙ loud_one grid size none
 
   -- ---- what an object that goes charges
 

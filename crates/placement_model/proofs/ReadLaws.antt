@@ -1,5 +1,5 @@
 -- What a file gives at spots: name by name, and after a change of the spots or of the file.
-use Rattle.std.specs.Prelude.{◌≡◌, ◌⊎◌, ℕ, zero, suc, ◌+◌, ◌<◌, ◌≤◌, Bool, true, false, cond, T, ◌&&◌, List, [], ◌∷◌, map, length, slice_get, slice_index_or, Option, Some, None, option_map, IsSome, refl, take, drop}
+use Rattle.std.specs.Prelude.{◌≡◌, ◌⊎◌, ℕ, zero, suc, ◌+◌, ◌<◌, ◌≤◌, Bool, true, false, cond, T, ◌&&◌, List, [], ◌∷◌, map, length, slice_get, slice_index_or, Option, Some, None, option_map, IsSome, refl}
 use Rattle.std.proofs.Common.{arith, sym, ◌∙◌, ap, subst, inl, inr}
 use Rattle.std.proofs.lemmas.Bool.{cases_Bool, cond-true, cond-false}
 use Rattle.std.proofs.lemmas.Option.{get_or_from_slice_get, same_Some, slice_get-get_or, slice_get-map, slice_get_within}
@@ -184,18 +184,6 @@ read_at-put base place file object spots name named is fits within apart =
     ∙ (λ i. fin.insert (read_at-overwritten base place file object spots named fits within apart i) name
     (bytes_at-overwritten file (base + place) object fits i))
 
--- an empty one is put without a write
-pub read_at-put_empty : (base place : ℕ) (file : List ℕ) (spots : Spots) (name : List ℕ) → AreNamed spots
-    → IsName name → read_at base file (fin.insert spots name (record { place = place; size = 0 }))
-    ≡ fin.insert (read_at base file spots) name []
-read_at-put_empty base place file spots name named is =
-    read_at-insert base file spots name (record { place = place; size = 0 }) named is
-    ∙ ap (fin.insert (read_at base file spots) name) (nothing (drop (base + place) file))
-  where
-    nothing : (xs : List ℕ) → take 0 xs ≡ []
-    nothing [] = refl
-    nothing (x ∷ xs) = refl
-
 -- ---- records and spots
 
 not_tied : (r s : Ordering) → s ≡ ordering_reverse r → is_lt r ≡ true → is_eq s ≡ false
@@ -312,16 +300,3 @@ spots_apart base place n len spots named apart within =
       | inl below ↦ inl (omega (arith, below, s.same_place, s.same_size))
       | inr above ↦ inr (omega (arith, above, s.same_place))
     ]) within
-
-pub spots_apart_within : (base place n : ℕ) (file : List ℕ) (spots : Spots) → AreNamed spots
-    → AllLieApart place n spots → EndWithin base file spots
-    → AllApart base (base + place) n (length file) (records_of spots)
-spots_apart_within base place n file spots named apart within =
-    spots_apart base place n (length file) spots named apart (λ i low.
-    let s = spot_of_record spots named i low in
-    omega (
-      arith,
-      within (slice_index_or (records_of spots) i no_record).name s.spot s.is,
-      s.same_place,
-      s.same_size,
-    ))

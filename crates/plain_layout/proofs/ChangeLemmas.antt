@@ -1,5 +1,4 @@
--- The next book by its numbers, the items of a change by its sizes, and the names that stand in buffers
--- after a change.
+-- The next book by its numbers, and the names that stand in buffers after a change.
 use Rattle.std.specs.Prelude.{◌≡◌, ℕ, ◌-◌, nat_lt, Bool, true, false, ◌&&◌, ◌||◌, if◌then◌else◌, List, [], ◌∷◌, ◌++◌, length, drop, map, Option, Some, None, refl}
 use Rattle.std.specs.FinMap as fin
 use Rattle.std.specs.FinSet as set
@@ -14,7 +13,7 @@ use Rattle.segment_layout.specs.Books as books
 use Rattle.segment_layout.specs.Books.{Charged, Reshaped, below_class, buffered_after, charge_all, charge_change, charge_one, found_room, is_below_class, is_new_buffered, item_of, new_item, next_book, old_item, reshaped, volumes, volumes_of_sizes}
 use Rattle.segment_layout.proofs.ChargingLaws.{charge_all-append, last_found, tried_one}
 use Rattle.segment_layout.proofs.NextLaws.{after_here, after_other, names_after}
-use Rattle.plain_layout.specs.Changes.{IsNext, IsReshaped, enters, finds_last, is_of_lower, sized, stays_buffered}
+use Rattle.plain_layout.specs.Changes.{IsNext, IsReshaped, enters, finds_last, is_of_lower, stays_buffered}
 use Rattle.plain_layout.specs.declared.change.Next as plain
 use Rattle.plain_layout.proofs.ChargeSteps.{finds, last_next}
 
@@ -38,21 +37,6 @@ next_of next k caps grid items after x m book c ec eg ei ea =
       caps = x.capacities ∙ sym (ap (λ (r : Reshaped). r.caps) shape);
       grid = x.used ∙ sym (ap (λ (r : Reshaped). r.grid) shape);
     }
-
-item_by_size : (o : Option (List ℕ)) → item_of o ≡ sized (option_map length o)
-item_by_size None = refl
-item_by_size (Some object) = refl
-
-pub items_by_sizes : (old new : Option ℕ) (is_buffered : Bool) (m : Map) (book : books.Book) (c : Change)
-    → option_map length (fin.get m c.name) ≡ old → set.contains book.buffered c.name ≡ is_buffered
-    → option_map length c.object ≡ new
-    → (if is_buffered then [] else sized old) ++ sized new ≡ old_item m book c.name ++ new_item c
-items_by_sizes old new is_buffered m book c o b n =
-    let first : old_item m book c.name
-    ≡ (if is_buffered then [] else sized old) = λ i. if b i then []
-    else (item_by_size (fin.get m c.name) ∙ ap sized o) i in
-    let second : new_item c ≡ sized new = item_by_size c.object ∙ ap sized n in
-    sym (λ i. first i ++ second i)
 
 -- ---- the names that stand in buffers after a change
 

@@ -1,14 +1,12 @@
 -- One item more.
-use Rattle.std.specs.Prelude.{◌≡◌, ℕ, ◌+◌, ◌<◌, ◌≤◌, Bool, true, false, ◌&&◌, if◌then◌else◌, min, List, [], ◌∷◌, ◌++◌, length, fold, take, slice_index, Option, Some, None, is_some, refl}
-use Rattle.std.specs.List.{list_all}
+use Rattle.std.specs.Prelude.{◌≡◌, ℕ, ◌+◌, ◌<◌, ◌≤◌, Bool, false, List, [], ◌∷◌, ◌++◌, length, fold, take, slice_index, Option, Some, None, is_some, refl}
 use Rattle.std.proofs.Common.{arith, ap, sym, ◌∙◌, add-one, inl, inr}
 use Rattle.std.proofs.Math.Seq.{take-suc}
-use Rattle.std.proofs.lemmas.List.Folds.{list_all-append}
 use Rattle.std.proofs.lemmas.List.Sums.{fold-append}
 use Rattle.std.proofs.lemmas.Bool.{cases_lt}
 use Rattle.std.proofs.lemmas.List.{ext_get_or}
 use Rattle.size_class.specs.Classes.{class_of, width}
-use Rattle.segment_layout.specs.Books.{Charged, entered_at, charge_one, charge_all, is_quiet, trigger}
+use Rattle.segment_layout.specs.Books.{Charged, entered_at, charge_one, charge_all}
 use Rattle.segment_layout.proofs.ChargingLaws.{charge_all-append, tried_one}
 use Rattle.segment_layout.specs.Shapes.{buffer_for, settled_grid}
 use Rattle.segment_layout.proofs.ShapeLaws.{length-settled_grid, row-settled_above, row-settled_below}
@@ -35,27 +33,6 @@ grid_at done size (Some j) = refl
 pub grid_next : (k : ℕ) (caps : List ℕ) (done : Charged) (size : ℕ)
     → (charge_one k caps done size).grid ≡ after_one k caps done.grid size
 grid_next k caps done size = grid_at done size (buffer_for k caps done.grid (class_of size) size)
-
-and_last : (a b : Bool) → (a && (b && true)) ≡ (a && b)
-and_last true true = refl
-and_last true false = refl
-and_last false true = refl
-and_last false false = refl
-
-pub quiet_next : (k : ℕ) (caps : List ℕ) (done : Charged) (size : ℕ)
-    → is_quiet (charge_one k caps done size) ≡ (is_quiet done && finds k caps done.grid size)
-quiet_next k caps done size =
-    ap (list_all (λ (item : ℕ × Bool). item.1)) (tried_one k caps done size)
-    ∙ list_all-append (λ (item : ℕ × Bool). item.1) done.tried ((size, finds k caps done.grid size) ∷ [])
-    ∙ and_last (is_quiet done) (finds k caps done.grid size)
-
-pub trigger_next : (k : ℕ) (caps : List ℕ) (done : Charged) (size : ℕ)
-    → trigger (charge_one k caps done size)
-    ≡ (if finds k caps done.grid size then trigger done else min (trigger done) (class_of size))
-trigger_next k caps done size =
-    ap (λ tried. trigger (record { grid = done.grid; tried = tried })) (tried_one k caps done size)
-    ∙ fold-append (λ (least : ℕ) (item : ℕ × Bool). if item.1 then least else min least (class_of item.0)) 31
-    done.tried ((size, finds k caps done.grid size) ∷ [])
 
 pub last_next : (k : ℕ) (caps : List ℕ) (done : Charged) (size : ℕ)
     → finds_last (charge_one k caps done size) ≡ finds k caps done.grid size

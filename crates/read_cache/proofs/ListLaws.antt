@@ -123,11 +123,6 @@ lookup-promoted test es = by (lookup_entry test es) refl
         let found = entry_some test es e is in
         cond-true (test e.0) (Some e.1) (lookup test (remove_entry test es)) found.0 ∙ sym found.1
 
-pub lookup-head : (name object : List ℕ) (es : List Pair)
-    → lookup (is_name name) ((name, object) ∷ es) ≡ Some object
-lookup-head name object es = cond-true (is_name name name) (Some object) (lookup (is_name name) es)
-    ((bytes_decides name name).1 refl)
-
 -- what is found where something is
 pub some_found : (o : Option (List ℕ)) → is_some o ≡ true → (object : List ℕ) × (o ≡ Some object)
 some_found None some = absurd (cc)

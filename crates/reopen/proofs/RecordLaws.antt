@@ -3,7 +3,7 @@ use Rattle.std.specs.Prelude.{◌≡◌, refl, ℕ, suc, ◌+◌, ◌-◌, ◌*�
 use Rattle.std.specs.FinMap as fin
 use Rattle.std.proofs.Common.{arith, ap, ◌∙◌, sym, subst, length-append}
 use Rattle.std.proofs.lemmas.Bool.{not-false}
-use Rattle.std.proofs.lemmas.List.{append_assoc, append-nil, drop-append-le, drop-drop, drop_all, length-drop, length-take-le, take-append-drop, take_at}
+use Rattle.std.proofs.lemmas.List.{append_assoc, append-nil, drop-append-le, drop-drop, length-drop, length-take-le, take-append-drop, take_at}
 use Rattle.std.proofs.Math.Nat.{mul-le-mul_left}
 use Rattle.byte_ranges.specs.Ranges.{bytes_at}
 use Rattle.byte_ranges.specs.Lists.{◌>>=◌}
@@ -22,7 +22,7 @@ use Rattle.extent_table.specs.Extents.{Extents, Spots, records_of, rolled}
 use Rattle.extent_table.proofs.RollLaws.{rolled-push}
 use Rattle.placement_model.specs.Orders.{SetSoFar, spot_of}
 use Rattle.placement_model.proofs.OrderLaws.{set_more}
-use Rattle.reopen.specs.Records.{SetPiece, SetThrough, all_records, rows}
+use Rattle.reopen.specs.Records.{SetThrough, all_records, rows}
 use Rattle.slot_pair.proofs.RefusalLaws.{refuses_on}
 
 -- a record that is read behind a name rises above it
@@ -218,22 +218,6 @@ through_refused version l len text at n i before last old now f p low long t rea
     (here version l text more i n last (Err f) low long read) in
     t.read front m more ∙ next_is version l done text at n i last m more low ∙ bad
     ∙ ap (λ q. Err (choice.codec f q)) (sym place)
-
--- after the last record, what stands behind the text is still to be read
-pub through_all : (version l : ℕ) (text : List ℕ) (at n : ℕ) (before last : Option (List ℕ))
-    (old now : Extents) → length text ≡ l * n → SetThrough (rows version l at n) text n before last old now
-    → SetPiece (rows version l at n) text before last old now
-through_all version l text at n before last old now long t = record {
-  done = t.done;
-  same = t.same;
-  read = λ front m more.
-      let none : drop (l * n) text ≡ [] = drop_all (l * n) text (omega (arith, long)) in
-      let count : n - n + m ≡ m = omega arith in
-      let done = front ++ t.done in
-      t.read front m more
-      ∙ ap (λ k. all_records version done k (drop (l * n) text ++ more) (at + l * n) last) count
-      ∙ ap (λ (xs : List ℕ). all_records version done m (xs ++ more) (at + l * n) last) none;
-}
 
 -- ---- the first and the last of all records
 

@@ -249,9 +249,6 @@ module _ (h : SoFar) where
   pub calls_c : c.turn ≡ counted s1.kept_turn (calls_since limits 0 start states ran.requests ran.replies)
   calls_c = ran.calls op.told 0 (omega (arith, lawful_a.turn_fits))
 
-  pub acknowledged_c : s1.kept_done ≡ last_kept 0 0 ran.replies
-  acknowledged_c = number
-
   pub told_now : IsTrue c.tells
   told_now = ran.frame.stays.told ∙ op.told
 

@@ -1,11 +1,10 @@
 -- How a session went, from the steps that its functions take.
-use Rattle.std.specs.Prelude.{◌≡◌, ℕ, ◌≤◌, List, false, Ok, Err, refl}
-use Rattle.std.proofs.Common.{ap, sym, ◌∙◌, subst, inl, inr}
+use Rattle.std.specs.Prelude.{◌≡◌, ℕ, ◌≤◌, List, false, Ok, refl}
+use Rattle.std.proofs.Common.{ap, ◌∙◌, subst, inl, inr}
 use Rattle.disk_face.specs.Frames.{AfterMount}
-use Rattle.disk_face.specs.States.{State}
 use Rattle.disk_face.specs.declared.bay.Mounted.TheVariants.{There}
 use Rattle.size_class.specs.declared.TheConstants.{CLASSES}
-use Rattle.store_model.specs.Connection.{IsConnected, StoreValue}
+use Rattle.store_model.specs.Connection.{StoreValue}
 use Rattle.store_model.specs.Opened.{IsOpening}
 use Rattle.store_model.specs.Stores.{IsStore}
 use Rattle.ask_serve.specs.Outside.{Held, Seen, held}
@@ -14,18 +13,9 @@ use Rattle.ask_session.specs.Runs.{EndsRun}
 use Rattle.ask_text.specs.declared.ends.End.{End}
 use Rattle.run_command.specs.Sessions.{RunSteps, OpenRunSteps, ended_as, unserved}
 use Rattle.command_face.specs.Mounting.{IsNotThere, mounted}
-use Rattle.command_face.specs.Refusing.{stop_of}
 use Rattle.command_face.specs.declared.stop.StopReason.{StopReason}
 use Rattle.command_face.specs.declared.stop.StopReason.TheVariants as stop
 use Rattle.run_command.specs.declared.run.SessionEnd.{SessionEnd}
-use Rattle.reopen.specs.declared.fault.OpenFault.{OpenFault}
-
--- a store that was opened is over its file
-pub connected_of : (a b : State) (s : StoreValue) → IsOpening CLASSES a b (Ok s) → IsConnected CLASSES s b
-connected_of a b s opening = record {
-  idle = opening.fresh.idle;
-  over = λ whole told. opening.over (sym opening.frame.stays.told ∙ told);
-}
 
 module _ {D I O : Type 0} (seen : Seen D I O) where
   pub steps_session : (first mid : D) (now : Held D I O) (from : I) (out : O) (store : StoreValue)
@@ -55,19 +45,6 @@ module _ {D I O : Type 0} (seen : Seen D I O) where
       store = store;
       opening = opening;
       ended = is ∙ ap (λ (n : ℕ). unserved stop.NoMemory n) at;
-    }),
-    refl,
-    refl,
-  )
-
-  pub steps_unopened : (first now : D) (from : I) (out : O) (why : OpenFault) (turn : ℕ) (e : SessionEnd)
-      → IsOpening CLASSES (seen.disk first) (seen.disk now) (Err why) → turn ≡ (seen.disk now).turn
-      → e ≡ unserved (stop_of why) turn → OpenRunSteps seen (held first from out) (held now from out) e
-  steps_unopened first now from out why turn e opening at is = inl (
-    inl (record {
-      fault = why;
-      opening = opening;
-      ended = is ∙ ap (λ (n : ℕ). unserved (stop_of why) n) at;
     }),
     refl,
     refl,

@@ -18,13 +18,6 @@ record_len-low version =
       | inr other ↦ omega (arith, record_len-short version other)
     ]
 
-pub record_len-high : (version : ℕ) → record_len version ≤ 112
-record_len-high version =
-    elim (cases_Bool (version == 2)) [
-      | inl is ↦ omega (arith, record_len-long version is)
-      | inr other ↦ omega (arith, record_len-short version other)
-    ]
-
 long_fit : (room count : ℕ) → count ≤ room / 112 → 112 * count ≤ room
 long_fit room count few = omega (arith, few)
 

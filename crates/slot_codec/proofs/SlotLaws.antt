@@ -17,9 +17,6 @@ use Rattle.slot_codec.proofs.StepLaws.{bind_from}
 use Rattle.slot_codec.specs.declared.codec.Header.{Header}
 use Rattle.slot_codec.specs.declared.codec.SuperBlock.{SuperBlock}
 
-pub SameButSlot-refl : (names slot : ℕ) (a : List ℕ) → SameButSlot names slot a a
-SameButSlot-refl names slot a = record { before = λ i low. refl; after = λ i low high. refl }
-
 pub SameButSlot-trans : (names slot : ℕ) (a b c : List ℕ) → SameButSlot names slot a b
     → SameButSlot names slot b c → SameButSlot names slot a c
 SameButSlot-trans names slot a b c h k =

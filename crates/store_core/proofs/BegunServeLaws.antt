@@ -33,7 +33,7 @@ use Rattle.store_core.proofs.ChangingLaws.{stays_broken, unchanged_itself}
 use Rattle.store_core.proofs.ReadingLaws.{whole_if_served}
 use Rattle.store_core.proofs.RefusedLaws.{not_none, not_some}
 use Rattle.store_core.proofs.FlushChangeLaws.{IsServed, is_served}
-use Rattle.store_core.proofs.HoldLaws.{begun_can, begun_content, begun_going, begun_half, begun_holds, begun_left, begun_whole, held}
+use Rattle.store_core.proofs.HoldLaws.{begun_can, begun_content, begun_going, begun_half, begun_holds, begun_left, held}
 
 -- a quiet change is the same, whatever its answer is called
 pub quiet_done : {T U : Type 0} {classes : ℕ} {c : Change} {old new : StoreValue} {a d : disk.State}
@@ -174,10 +174,6 @@ module _ {C : ℕ} (s : Inside C) (t : StoreValue) (is : kept_of s ≡ t) (whole
       → IsGoing began (record s { hands = hands1 }) (phases.Lift v)
   begin_going keeps = begun_going s whole unbroken c can.named fresh a over_here hands1 v place bytes made
       object began at row keeps
-
-  pub begin_whole : IsWhole (record s { hands = hands1; broken = true })
-  begin_whole = begun_whole s whole unbroken c can.named fresh a over_here hands1 v place bytes made object
-      began at row
 
   -- it failed
   pub begin_failed : {E : Type 0} (fault : E) → HasCause {T = Unit {0}} a.faults d.faults (Err fault)

@@ -1,5 +1,5 @@
 -- A store after its flush, whether or not it failed.
-use Rattle.std.specs.Prelude.{◌≡◌, ℕ, ◌+◌, ◌-◌, ◌*◌, ◌<◌, ◌≤◌, true, false, List, slice_index, Option, None, Ok, Err, IsTrue, vec_len, refl}
+use Rattle.std.specs.Prelude.{◌≡◌, ℕ, ◌+◌, ◌-◌, ◌*◌, ◌<◌, ◌≤◌, true, false, List, slice_index, Option, None, Ok, Err, IsTrue, vec_len}
 use Rattle.std.proofs.Common.{arith, sym, ◌∙◌, ap, subst, inl, inr}
 use Rattle.disk_face.specs.States as disk
 use Rattle.disk_face.specs.Counts.{HasCause}
@@ -21,7 +21,7 @@ use Rattle.store_core.specs.Keeps.{now_map}
 use Rattle.change_charges.specs.Sized.{IsSizedBy}
 use Rattle.std.proofs.lemmas.Bool.{cases_lt}
 use Rattle.std.specs.FinMap as fin
-use Rattle.segment_layout.specs.Layouts.{caps_of, divisor_of, grid_of}
+use Rattle.segment_layout.specs.Layouts.{caps_of, grid_of}
 use Rattle.extent_table.specs.Extents.{Spots, digests_seen}
 use Rattle.flush_model.specs.Phases.{PlanState}
 use Rattle.flush_run.specs.declared.hands.Hands.{Hands}
@@ -95,9 +95,6 @@ module _ {C : ℕ} (s : Inside C) (c : Change) (hands1 : Hands C) (p : PlanState
 
   same_room : hands2.guard.room ≡ s.hands.guard.room
   same_room = w.made.keeps.room ∙ ap (λ (y : HandsValue). y.room) w.begun.rest
-
-  same_divisor : divisor_of hands2.layout ≡ divisor_of s.hands.layout
-  same_divisor = w.made.keeps.divisor ∙ ap (λ (y : HandsValue). y.divisor) w.begun.rest
 
   same_sequence : hands1.slots.sequence ≡ s.hands.slots.sequence
   same_sequence = ap (λ (y : HandsValue). y.in_use.sequence) w.begun.rest
@@ -185,25 +182,6 @@ module _ {C : ℕ} (s : Inside C) (c : Change) (hands1 : Hands C) (p : PlanState
 
   abbrev failed_inside : Inside C
   failed_inside = record s { hands = hands2; kept_layout = hands2.layout; broken = true }
-
-  pub failed_whole : IsWhole failed_inside
-  failed_whole = record {
-    classes = w.whole.classes;
-    wide = w.whole.wide;
-    version = fits.known;
-    base = same_base ∙ w.whole.base ∙ ap (λ (b : SuperBlock). head_len b.names) (sym same_block);
-    few = omega (arith, w.whole.few, ap (λ (b : SuperBlock). b.names) same_block);
-    buf = same_buffer;
-    divisor = same_divisor ∙ w.whole.divisor ∙ ap (λ (b : SuperBlock). b.k) (sym same_block);
-    kept_divisor = same_divisor ∙ w.whole.divisor ∙ ap (λ (b : SuperBlock). b.k) (sym same_block);
-    kept_caps = refl;
-    room = same_names ∙ w.whole.room ∙ ap (λ (b : SuperBlock). b.names) (sym same_block);
-    cap = same_cap ∙ w.whole.cap ∙ (λ i. cap ((sym same_block) i).names ((sym same_version) i));
-    guard_room = same_room ∙ w.whole.guard_room ∙ ap (λ (b : SuperBlock). b.names) (sym same_block);
-    table = λ sound. absurd (cc);
-    sound = λ sound. absurd (cc);
-    freed = λ sound. absurd (cc);
-  }
 
   pub failed_flush : {E : Type 0} (why : Refusal) (fault : E)
       → HasCause {T = Unit {0}} a.faults d.faults (Err fault)

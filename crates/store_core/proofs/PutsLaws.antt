@@ -1,6 +1,6 @@
 -- Bytes that are put one after another.
 use Rattle.std.specs.Prelude.{◌≡◌, ℕ, ◌+◌, ◌-◌, ◌≤◌, List, ◌++◌, length, take, Result, Ok, Err}
-use Rattle.std.proofs.Common.{arith, ap, sym, ◌∙◌, append_assoc, append-nil, length-append, subst}
+use Rattle.std.proofs.Common.{arith, ap, sym, ◌∙◌, append_assoc, length-append, subst}
 use Rattle.std.proofs.lemmas.List.{take-append-le}
 use Rattle.std.proofs.Math.Seq.{take-append-add}
 use Rattle.byte_ranges.specs.Ranges.{bytes_at}
@@ -41,10 +41,6 @@ puts_cut xs ys a b e f puts =
         front.2 ∙ ap (λ (zs : List ℕ). a ++ zs) (sym (take-append-le front.0 xs ys front.1)),
       );
     }
-
--- nothing was put of them
-pub puts_nothing : {T E : Type 0} (xs a : List ℕ) (e : E) → Puts {T = T} a a xs (Err e)
-puts_nothing xs a e = record { all = tt; front = (0, omega arith, sym (append-nil a)) }
 
 pub puts_as : {T E : Type 0} (xs ys a b : List ℕ) (result : Result T E) → xs ≡ ys → Puts a b xs result
     → Puts a b ys result

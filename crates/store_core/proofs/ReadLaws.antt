@@ -1,5 +1,5 @@
 -- A read of an object, of now or of the last checkpoint: what is found, and what is refused.
-use Rattle.std.specs.Prelude.{◌≡◌, ◌==◌, ℕ, ◌+◌, ◌≤◌, Bool, true, false, if◌then◌else◌, List, ◌++◌, length, Option, Some, None, option_map, Result, Err, IsNone, IsTrue, OnOk, refl}
+use Rattle.std.specs.Prelude.{◌≡◌, ℕ, ◌+◌, ◌≤◌, Bool, true, false, if◌then◌else◌, List, ◌++◌, length, Option, Some, None, option_map, Result, Err, IsNone, IsTrue, OnOk, refl}
 use Rattle.std.proofs.Common.{ap, subst, sym, ◌∙◌}
 use Rattle.disk_face.specs.Devices.{devices}
 use Rattle.disk_face.specs.States as disk
@@ -10,9 +10,7 @@ use Rattle.map_model.specs.Requests as ask
 use Rattle.map_model.specs.Requests.{Refused, Request}
 use Rattle.segment_layout.specs.Books.{differs}
 use Rattle.extent_table.specs.declared.spot.Spot.{Spot}
-use Rattle.std.specs.FinMap as fin
-use Rattle.slot_codec.specs.Choice.{Digests}
-use Rattle.extent_table.specs.Extents.{IsInRange, digests_seen}
+use Rattle.extent_table.specs.Extents.{IsInRange}
 use Rattle.placement_model.specs.Reads.{object_at}
 use Rattle.store_core.specs.declared.answers.Moment.{Moment}
 use Rattle.store_core.specs.declared.answers.Moment.TheVariants as moment
@@ -27,7 +25,7 @@ use Rattle.store_model.specs.States.{Limits, State, accepted, refusal, unchanged
 use Rattle.store_model.specs.Stores.{IsStanding, IsStore}
 use Rattle.data_area.proofs.CauseLaws.{calm_disk, calm_sink}
 use Rattle.store_core.proofs.ChangingLaws.{unchanged_itself}
-use Rattle.store_core.proofs.ReadingLaws.{IsFound, answers_read, damaged_there, digest_seen, gives_object, object_there, refused_read}
+use Rattle.store_core.proofs.ReadingLaws.{IsFound, answers_read, damaged_there, gives_object, object_there, refused_read}
 use Rattle.store_core.proofs.RefusedLaws.{not_none}
 use Rattle.store_core.proofs.StepLaws.{read_reply, read_step}
 use Rattle.store_model.specs.Halves.{IsReadable}
@@ -65,19 +63,6 @@ found_damaged s file h moment.Now name x there =
     damaged_there (base_of s) file s.book s.now name x h.now_named there
 found_damaged s file h moment.Kept name x there =
     damaged_there (base_of s) file s.kept_book s.kept name x h.kept_named there
-
--- the digest that a table has for a name, where its books are a store's
-module _ (v : ℕ) (now kept : Digests) (s : StoreValue) (name : List ℕ)
-    (is_now : digests_seen v now ≡ s.book.digests) (is_kept : digests_seen v kept ≡ s.kept_book.digests) where
-  pub no_digest : (m : Moment) → (v == 2) ≡ false → digest_read s (asks_for m name) ≡ None
-  no_digest moment.Now other = digest_seen v now s.book.digests name false other is_now
-  no_digest moment.Kept other = digest_seen v kept s.kept_book.digests name false other is_kept
-
-  pub digest_now : (v == 2) ≡ true → digest_read s (ask.get name) ≡ fin.get now name
-  digest_now two = digest_seen v now s.book.digests name true two is_now
-
-  pub digest_then : (v == 2) ≡ true → digest_read s (ask.old name) ≡ fin.get kept name
-  digest_then two = digest_seen v kept s.kept_book.digests name true two is_kept
 
 read_serves : (limits : Limits) (t : State) (m : Moment) (name : List ℕ)
     → accepted limits t (asks_for m name)

@@ -1,15 +1,14 @@
 -- What a read of an object finds, and gives to the sink.
-use Rattle.std.specs.Prelude.{◌≡◌, ◌==◌, ℕ, Bool, true, false, not, if◌then◌else◌, List, [], ◌∷◌, ◌++◌, length, IsTrue, Option, Some, None, option_map, Result, Ok, Err, refl}
+use Rattle.std.specs.Prelude.{◌≡◌, ℕ, Bool, true, false, not, if◌then◌else◌, List, [], ◌∷◌, ◌++◌, length, IsTrue, Option, Some, None, option_map, Result, Ok, Err, refl}
 use Rattle.std.proofs.Common.{ap, sym, ◌∙◌, subst, inl, inr}
 use Rattle.std.specs.FinMap as fin
 use Rattle.slot_codec.specs.Names.{is_name}
-use Rattle.slot_codec.specs.Choice.{Digests}
 use Rattle.map_model.specs.Maps.{Map}
 use Rattle.map_model.specs.Requests as ask
 use Rattle.map_model.specs.Requests.{Refused, Request}
 use Rattle.segment_layout.specs.Books.{Book, differs, is_damaged}
 use Rattle.extent_table.specs.declared.spot.Spot.{Spot}
-use Rattle.extent_table.specs.Extents.{Spots, digests_seen}
+use Rattle.extent_table.specs.Extents.{Spots}
 use Rattle.placement_model.specs.Reads.{AreNamed, object_at, read_at}
 use Rattle.placement_model.proofs.ReadLaws.{get-read_at}
 use Rattle.store_core.specs.declared.answers.Refusal.{Refusal}
@@ -100,16 +99,6 @@ pub damaged_there : (base : ℕ) (file : List ℕ) (book : Book) (spots : Spots)
 damaged_there base file book spots name s named is = damaged_is book (read_at base file spots) name
     (object_at base file s)
     (get-read_at base file spots named name ∙ ap (option_map (object_at base file)) is)
-
--- the digest that a table of a version has for a name
-pub digest_seen : (v : ℕ) (ds : Digests) (seen : Option Map) (name : List ℕ) (two : Bool) → (v == 2) ≡ two
-    → digests_seen v ds ≡ seen → digest_of seen name ≡ (if two then fin.get ds name else None)
-digest_seen v ds seen name two is same = ap (λ (x : Option Map). digest_of x name) (sym same)
-    ∙ ap (λ (b : Bool). digest_of (if b then Some ds else None) name) is ∙ by two
-  where
-    by : (b : Bool) → digest_of (if b then Some ds else None) name ≡ (if b then fin.get ds name else None)
-    by true = refl
-    by false = refl
 
 named_by : (named live : Bool)
     → first_refusal ((not named, ask.bad_name) ∷ (not live, ask.missing) ∷ []) ≡ None → IsTrue named

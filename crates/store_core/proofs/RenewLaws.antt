@@ -61,10 +61,6 @@ pub record AreRenewed (base : ℕ) (file : List ℕ) (spots : Spots) (n : ℕ) (
   pub each : (i : ℕ) (name : List ℕ) (x : Spot) → i < n → slice_get (fin.entries spots) i ≡ Some (name, x)
       → fin.get digests name ≡ Some (sha256 (object_at base file x))
 
-pub renewed_none : (base : ℕ) (file : List ℕ) (spots : Spots) (digests : Digests)
-    → AreRenewed base file spots 0 digests
-renewed_none base file spots digests = record { each = λ i name x low is. absurd (omega (arith, low)) }
-
 module _ {base : ℕ} {file : List ℕ} {spots : Spots} {n : ℕ} {digests : Digests}
     (h : AreRenewed base file spots n digests) where
   pub renewed_more : (name : List ℕ) (x : Spot) (digest : List ℕ)

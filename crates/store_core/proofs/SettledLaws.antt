@@ -178,10 +178,6 @@ module _ {C : ℕ} (began : Began C) (s : Inside C) (v : Phase C) (g : IsGoing b
     abbrev pub failed : Inside C
     failed = record s { hands = hands2; kept_layout = hands2.layout; broken = true }
 
-    pub failed_whole : IsWhole failed
-    failed_whole = parts_after began s v g hands2 hands2.layout stopped.keeps refl
-        (stopped.keeps.divisor ∙ g.parts.divisor)
-
     pub failed_makes : StopsFlush seen_now (kept_of failed) a d
     failed_makes = record {
       same_now = stopped.spots;

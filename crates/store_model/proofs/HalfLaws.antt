@@ -22,7 +22,7 @@ use Rattle.extent_table.specs.Extents.{Spots, record_of, records_of}
 use Rattle.placement_model.specs.Reads.{AreNamed, EndWithin}
 use Rattle.placement_model.proofs.EnterLaws.{by_name}
 use Rattle.placement_model.proofs.OpenedLaws.{record_within}
-use Rattle.flush_run.specs.FlushFrames.{FlushFrame, IsOldOrNew, LeavesOldOrNew, MidFlush, OpensEither}
+use Rattle.flush_run.specs.FlushFrames.{IsOldOrNew, LeavesOldOrNew, MidFlush, OpensEither}
 use Rattle.store_model.specs.Connection.{FlushInHand, IsConnected, StoreValue, base_of}
 use Rattle.store_model.specs.Halves.{HalfAgrees, IsHalfImage, IsHalfway, IsReadable, Origin, frame_at}
 use Rattle.store_model.specs.Stores.{IsStanding, IsStore}
@@ -42,9 +42,6 @@ standing_of s h = record {
 
 module _ {classes : ℕ} {s : StoreValue} {h : FlushInHand} {o : Origin} {d : disk.State}
     (half : HalfAgrees classes s h o d) where
-  abbrev f : FlushFrame
-  f = frame_at classes s h o
-
   pub half_now_lies : EndWithin (base_of s) d.file s.now
   half_now_lies name x there = omega (
     arith,

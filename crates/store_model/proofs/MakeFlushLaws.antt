@@ -1,5 +1,5 @@
 -- The device calls of a flush, from the growing of the file to the first move.
-use Rattle.std.specs.Prelude.{◌≡◌, ◌⊎◌, ℕ, ◌+◌, ◌-◌, ◌*◌, ◌^◌, ◌<◌, ◌≤◌, List, [], length, Option, Some, None, IsTrue, refl}
+use Rattle.std.specs.Prelude.{◌≡◌, ◌⊎◌, ℕ, ◌+◌, ◌-◌, ◌*◌, ◌≤◌, List, [], length, Option, Some, None, IsTrue, refl}
 use Rattle.std.proofs.Common.{arith, sym, ◌∙◌, ap, subst, inl, inr}
 use Rattle.std.specs.FinMap as fin
 use Rattle.byte_ranges.specs.Ranges.{overwritten, resized}
@@ -112,15 +112,6 @@ module _ {classes : ℕ} {x0 : HandsValue} {c : Change} {g : BeforeChange} {x : 
 
   free : IsFreeSpace stays x0.table.kept place (length bytes)
   free = subst (λ (n : ℕ). IsFreeSpace stays x0.table.kept place n) size_is can.begun.free
-
-  pub base_low : x0.base < 2 ^ 62
-  base_low = omega (arith, can.may.base, can.may.before.block.names_high)
-
-  pub len_fits : x.base + reach < 2 ^ 63
-  len_fits = omega (arith, same_base, base_low, can.begun.low)
-
-  pub write_fits : x.base + place + length bytes < 2 ^ 63
-  write_fits = omega (arith, same_base, base_low, can.begun.low, can.begun.within, size_is)
 
   -- ---- the moves may begin
 

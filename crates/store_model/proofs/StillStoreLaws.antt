@@ -210,9 +210,6 @@ module _ {C : ℕ} (x : Loaded C) (loads : KeepsLoaded x) (still : x.header.kind
           ];
         }
 
-    same_found : SameOnFound t file file
-    same_found = record { same_length = refl; below = λ i low. refl; objects = λ i low j above below. refl }
-
     module _ (image : List ℕ) (is : image ≡ resized file len) where
       pub cut_len : length image ≡ len
       cut_len = ap length is ∙ length-resized file len

@@ -15,7 +15,6 @@ use Rattle.slot_codec.specs.declared.codec.Header.{Header}
 use Rattle.segment_layout.specs.Shapes.{start_of, taken_in}
 use Rattle.segment_layout.proofs.ShapeLaws.{end_of-high}
 use Rattle.extent_table.specs.Extents.{Extents, IsTable, records_of}
-use Rattle.extent_table.proofs.ExtentLaws.{records_of-few}
 use Rattle.extent_table.proofs.SaveLaws.{records_in_range}
 use Rattle.table_rules.specs.Tables.{no_record}
 use Rattle.table_check.specs.Placed.{ranked}
@@ -42,9 +41,6 @@ sum-small xs long small =
       sum_by-le (λ (x : ℕ). x) (2 ^ 48 - 1) xs
           (All-from_get_or (λ x. x ≤ 2 ^ 48 - 1) xs 0 (λ i h. omega (arith, small i))),
     )
-
-pub few_records : (e : Extents) → IsTable e → length (records_of e.now) ≤ 65536
-few_records e table = omega (arith, records_of-few e.now, table.now_room, table.limit)
 
 -- ---- the numbers of a header that is in range
 

@@ -88,12 +88,6 @@ carries_on classes size_max t a b m book o long same room objects =
           (sym (book_longer (placed_table classes size_max a t) (length b - head_len t.chosen.block.names)));
     }
 
-pub AllApart-longer : (base at n len more : ℕ) (rs : List Record) → len ≤ more → AllApart base at n len rs
-    → AllApart base at n more rs
-AllApart-longer base at n len more [] le h = tt
-AllApart-longer base at n len more (r ∷ rs) le h =
-    (h.0, omega (arith, h.1, le), AllApart-longer base at n len more rs le h.2)
-
 -- a change outside the objects leaves them as they were
 pub objects_stay : (base at n : ℕ) (rs : List Record) (a b : List ℕ) → SameOutside at n a b
     → AllApart base at n (length a) rs → SameObjects base rs a b

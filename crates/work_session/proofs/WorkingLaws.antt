@@ -1,5 +1,5 @@
 -- Jobs that were done and counted, one after another.
-use Rattle.std.specs.Prelude.{◌≡◌, ℕ, ◌+◌, ◌≤◌, List, [], ◌∷◌, ◌++◌, length, Ok, Err, IsTrue, refl}
+use Rattle.std.specs.Prelude.{ℕ, ◌+◌, ◌≤◌, List, [], ◌∷◌, ◌++◌, length, Ok, Err, IsTrue, refl}
 use Rattle.std.proofs.Common.{arith, ap, sym, ◌∙◌, subst, append_assoc, length-append}
 use Rattle.disk_face.specs.States as disk
 use Rattle.map_model.specs.Requests.{Request}
@@ -61,9 +61,3 @@ module _ {classes : ℕ} (old mid new : StoreValue) (all left : List Request) (r
   working_stopped end does =
       work_stopped old mid a b x.jobs x.replies x.states x.ran r new d (Err end) does.serves does.cause
       (ap (λ (x : End). Err x) does.only) all left x.split
-
--- the same jobs are left
-pub as_left : {classes : ℕ} {old new : StoreValue} {all xs ys : List Request} {a d : disk.State} {t : Tally}
-    → IsWorking classes old new all xs a d t → xs ≡ ys → IsWorking classes old new all ys a d t
-as_left {classes} {old} {new} {all} {xs} {ys} {a} {d} {t} w same =
-    subst (λ (rs : List Request). IsWorking classes old new all rs a d t) same w

@@ -1,5 +1,5 @@
 use Rattle.std.proofs.Common.{◌≡◌, ◌+◌, ◌-◌, ◌<◌, ◌++◌, ◌∙◌, IsTrue, length, arith, subst, sym}
-use Rattle.ask_lines.proofs.PieceLemmas.{fill_more, length-rest, too_short}
+use Rattle.ask_lines.proofs.PieceLemmas.{fill_more, length-rest}
 use Rattle.ask_lines.proofs.piece.fill.Goals as goal
 
 pub parts-preserved : goal.parts-preserved
