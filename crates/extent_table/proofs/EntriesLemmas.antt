@@ -4,11 +4,10 @@ use Rattle.std.specs.Option.{option_copied}
 use mathlib.Core.Logic.{⊎_elim}
 use Rattle.std.proofs.lemmas.List.Sums.{sum_by-cons}
 use Rattle.extent_table.specs.declared.spot.Spot.{Spot}
-use Rattle.extent_table.specs.declared.standing.Standing.{Standing}
 use Rattle.extent_table.specs.declared.kept.Kept.{Kept}
 use Rattle.extent_table.specs.declared.kept.Kept.TheVariants.{Same, New, Old}
 use Rattle.extent_table.specs.Kept.{kept_in, kept_spot, is_change}
-use Rattle.extent_table.specs.Entries.{Entry, entry_of, entries_of, once_kept, once_back, if_stands, Goes}
+use Rattle.extent_table.specs.Entries.{Entry, Standing, entry_of, entries_of, once_kept, once_back, if_stands, Goes}
 use Rattle.extent_table.specs.Parts.{name_of, now_of, kept_of, Edit, with_kept, with_now, after_keep, after_back}
 
 -- the entry at a key
@@ -125,6 +124,11 @@ some_read_of (Some e) h = refl
 pub some_name : (x : Kept) (s : Option Standing) → IsSome (entry_of x s) → IsSome s
 some_name x None h = h
 some_name x (Some s) h = refl
+
+-- and where its object stands
+pub now_name : (x : Kept) (s : Option Standing) → IsSome (now_of (entry_of x s)) → IsSome s
+now_name x None h = h
+now_name x (Some s) h = refl
 
 pub below : {X : Type 0} (xs : List (Option X)) (k : ℕ) → IsSome (get_or xs k None) → k < length xs
 below [] k h = absurd (cc)

@@ -2,7 +2,6 @@
 use Rattle.std.specs.Prelude.{◌≡◌, ℕ, List, [], ◌∷◌, Option, Some, None, slice_index_or, refl}
 use Rattle.std.specs.Coded.{Coded, code_by, coded×, coded_ℕ, coded_list, coded_option}
 use Rattle.extent_table.specs.declared.spot.Spot.{Spot}
-use Rattle.extent_table.specs.declared.standing.Standing.{Standing}
 use Rattle.extent_table.specs.declared.kept.Kept.{Kept}
 use Rattle.extent_table.specs.declared.kept.Kept.TheVariants.{Same, New, Old}
 use Rattle.extent_table.specs.Extents.{spot_code}
@@ -18,6 +17,15 @@ abbrev pub entry_code : Coded Entry
 entry_code = code_by (List ℕ × (Option Spot × Option Spot))
     (coded× (coded_list coded_ℕ) (coded× (coded_option spot_code) (coded_option spot_code)))
     (λ e. (e.name, (e.now, e.kept))) (λ p. record { name = p.0; now = p.1.0; kept = p.1.1 }) (λ _. refl)
+
+-- a name, and where its object stands now
+pub record Standing : Type 0 where
+  pub name : List ℕ
+  pub now : Option Spot
+
+abbrev pub standing_code : Coded Standing
+standing_code = code_by (List ℕ × Option Spot) (coded× (coded_list coded_ℕ) (coded_option spot_code))
+    (λ s. (s.name, s.now)) (λ p. record { name = p.0; now = p.1 }) (λ _. refl)
 
 -- a name that stands, with what was kept of it
 abbrev pub entry_of : Kept → Option Standing → Option Entry

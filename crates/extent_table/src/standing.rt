@@ -1,148 +1,87 @@
-//! Names by key with where their objects stand now, and the two ways to take one side for the other.
-ghost use Rattle.std.specs.Prelude.{◌≡◌, ℕ, ◌<◌, ◌≤◌, Some, IsSome, IfSome, IsTrue, length, slice_index, vec_capacity};
-ghost use Rattle.slab.specs.Slab.{get, Updates};
-ghost use Rattle.extent_table.specs.{declared.kept.Kept.TheVariants.{Same}, Kept.{kept_in, is_change, AreChanges}, Entries.{entry_of, standing_still, standing_at, once_kept, once_back, Goes}};
+//! A name with where its object stands now.
+ghost use Rattle.std.specs.Prelude.{◌≡◌, Some, IsSome};
+ghost use Rattle.slot_codec.specs.Names.{IsName};
 
 use crate::Spot;
-use crate::kept::{Kept, is_change, kept_as, note, read};
-use slab::Slab;
 use slot_codec::Name;
+use std::marker::Model;
 
-/// A name, and where its object stands now.
+/// A name, and where its object stands now, if it does. Contracts see it as just that.
+///
+/// The numbers lie in memory as a record of a file has them, byte by byte and right behind the name:
+/// so an entry of a slab takes 88 bytes and not 96, lies in fewer lines of a cache, and a record is
+/// written by copying what is there.
 #[derive(Drop)]
 pub(crate) struct Standing {
-    pub(crate) name: Name,
-    pub(crate) now: Option<Spot>,
+    name: Name,
+    place: [u8; 8],
+    size: [u8; 8],
+    is_here: bool,
 }
 
-/// Writes where the object of a name stands now, or that it is no longer there.
-pub(crate) fn write_now(standing: &mut Slab<Standing>, key: u32, now: Option<Spot>)
-    requires { IsSome (get standing.old key) }
-    ensures updates { IfSome (get standing.old key)
-        (λ s. Updates standing.old standing.new key (Some (record s { now = now }))) }
-    ensures capacity { standing.new.capacity ≡ standing.old.capacity }
-{
-    let here = standing.get_mut(key as usize).unwrap();
-    here.now = now;
+impl Model for Standing {
+    ghost use Rattle.extent_table.specs.Entries.{Standing as Stands, standing_code};
+
+    ghost Value = { Stands };
+
+    ghost coded = { standing_code };
+
+    ghost use Rattle.extent_table.specs.Spelled.{standing_in};
+
+    ghost view = { standing_in };
 }
 
-/// Records what was kept of a name, if it wasn't yet.
-pub(crate) fn hold(
-    standing: &Slab<Standing>,
-    kept: &mut Vec<Kept>,
-    changed: &mut Vec<u32>,
-    key: u32,
-)
-    requires here { IsSome (get standing.now key) }
-    requires changes { AreChanges kept.old.items changed.old.items }
-    requires short { length kept.old.items ≤ standing.now.capacity }
-    requires kept_room { standing.now.capacity ≤ vec_capacity kept.old }
-    requires changed_room { standing.now.capacity ≤ vec_capacity changed.old }
-    ensures changes { AreChanges kept.new.items changed.new.items }
-    ensures change { IsTrue (is_change (kept_in kept.new.items key)) }
-    ensures same { (k : ℕ) → entry_of (kept_in kept.new.items k) (get standing.now k)
-        ≡ entry_of (kept_in kept.old.items k) (get standing.now k) }
-    ensures short { length kept.new.items ≤ standing.now.capacity }
-    ensures kept_capacity { vec_capacity kept.new ≡ vec_capacity kept.old }
-    ensures changed_capacity { vec_capacity changed.new ≡ vec_capacity changed.old }
-{
-    if is_change(read(kept, key)) {
-        return;
-    }
-    let was = kept_as(standing.get(key as usize).unwrap().now);
-    note(kept, changed, standing.capacity(), key, was);
-}
-
-/// Lets the name at a key go if its object doesn't stand.
-fn drop_absent(standing: &mut Slab<Standing>, key: u32)
-    ensures updates { Updates standing.old standing.new key (standing_still (get standing.old key)) }
-    ensures capacity { standing.new.capacity ≡ standing.old.capacity }
-{
-    let gone = match standing.get(key as usize) {
-        Some(here) => here.now.is_none(),
-        None => false,
-    };
-    if gone {
-        standing.remove(key as usize);
-    }
-}
-
-/// Says of a key that what was kept stands there now.
-fn forget(kept: &mut [Kept], key: u32)
-    ensures here { kept_in kept.new key ≡ Same }
-    ensures others { (k : ℕ) → (k ≡ key → ⊥) → kept_in kept.new k ≡ kept_in kept.old k }
-    ensures long { length kept.new ≡ length kept.old }
-{
-    if (key as usize) < kept.len() {
-        kept[key as usize] = Kept::Same;
-    }
-}
-
-/// Takes what stands at a key as kept. A name that doesn't stand goes.
-fn keep_at(standing: &mut Slab<Standing>, kept: &mut [Kept], key: u32)
-    ensures updates { Updates standing.old standing.new key
-        (once_kept (kept_in kept.old key) (get standing.old key)) }
-    ensures here { kept_in kept.new key ≡ Same }
-    ensures others { (k : ℕ) → (k ≡ key → ⊥) → kept_in kept.new k ≡ kept_in kept.old k }
-    ensures long { length kept.new ≡ length kept.old }
-    ensures capacity { standing.new.capacity ≡ standing.old.capacity }
-{
-    if is_change(read(kept, key)) {
-        drop_absent(standing, key);
-        forget(kept, key);
-    }
-}
-
-/// Takes what was kept at a key as what stands there. A name of which nothing was kept goes.
-fn back_at(standing: &mut Slab<Standing>, kept: &mut [Kept], key: u32)
-    ensures updates { Updates standing.old standing.new key
-        (once_back (kept_in kept.old key) (get standing.old key)) }
-    ensures here { kept_in kept.new key ≡ Same }
-    ensures others { (k : ℕ) → (k ≡ key → ⊥) → kept_in kept.new k ≡ kept_in kept.old k }
-    ensures long { length kept.new ≡ length kept.old }
-    ensures capacity { standing.new.capacity ≡ standing.old.capacity }
-{
-    match read(kept, key) {
-        Kept::Same => return,
-        Kept::New => {
-            standing.try_remove(key as usize);
+impl Standing {
+    /// A name whose object stands at a spot.
+    pub(crate) fn new(name: &Name, spot: Spot) -> Standing
+        ensures value { result ≡ record { name = name.now; now = Some spot } }
+        ensures named { IsName name.now }
+    {
+        Standing {
+            name: name.copied(),
+            place: spot.place.to_le_bytes(),
+            size: spot.size.to_le_bytes(),
+            is_here: true,
         }
-        Kept::Old(spot) => put_back(standing, key, spot),
     }
-    forget(kept, key);
-}
 
-/// Lets the object of a name stand at a spot, if the name is there.
-fn put_back(standing: &mut Slab<Standing>, key: u32, spot: Spot)
-    ensures updates { Updates standing.old standing.new key
-        (standing_at spot (get standing.old key)) }
-    ensures capacity { standing.new.capacity ≡ standing.old.capacity }
-{
-    if standing.contains(key as usize) {
-        write_now(standing, key, Some(spot));
+    /// The name.
+    pub(crate) fn name(&self) -> &Name
+        ensures { result.now ≡ self.now.name }
+    {
+        &self.name
     }
-}
 
-/// Takes what stands as kept, at each key of a list.
-pub(crate) fn keep_each(standing: &mut Slab<Standing>, kept: &mut [Kept], changed: &[u32])
-    ensures goes { Goes once_kept standing.old.slots kept.old standing.new.slots kept.new }
-    ensures done { (i : ℕ) → i < length changed.now → kept_in kept.new (slice_index changed.now i) ≡ Same }
-    ensures long { length kept.new ≡ length kept.old }
-    ensures capacity { standing.new.capacity ≡ standing.old.capacity }
-{
-    'keys: for key in changed {
-        keep_at(standing, kept, *key);
+    /// Where its object stands, if it does.
+    pub(crate) fn now(&self) -> Option<Spot>
+        ensures { result ≡ self.now.now }
+    {
+        if self.is_here {
+            Some(self.spot())
+        } else {
+            None
+        }
     }
-}
 
-/// Takes what was kept as what stands, at each key of a list.
-pub(crate) fn back_each(standing: &mut Slab<Standing>, kept: &mut [Kept], changed: &[u32])
-    ensures goes { Goes once_back standing.old.slots kept.old standing.new.slots kept.new }
-    ensures done { (i : ℕ) → i < length changed.now → kept_in kept.new (slice_index changed.now i) ≡ Same }
-    ensures long { length kept.new ≡ length kept.old }
-    ensures capacity { standing.new.capacity ≡ standing.old.capacity }
-{
-    'keys: for key in changed {
-        back_at(standing, kept, *key);
+    /// Where its object stands, of which it is known that it does: nothing is tested.
+    pub(crate) fn spot(&self) -> Spot
+        requires { IsSome self.now.now }
+        ensures { self.now.now ≡ Some result }
+    {
+        Spot {
+            place: u64::from_le_bytes(self.place),
+            size: u64::from_le_bytes(self.size),
+        }
+    }
+
+    /// Writes where its object stands from now on, or that it doesn't.
+    pub(crate) fn write(&mut self, now: Option<Spot>)
+        ensures { self.new ≡ record self.old { now = now } }
+    {
+        self.is_here = now.is_some();
+        if let Some(spot) = now {
+            self.place = spot.place.to_le_bytes();
+            self.size = spot.size.to_le_bytes();
+        }
     }
 }

@@ -27,4 +27,4 @@ pub use lengths::{
 pub use name::Name;
 pub use read::{read_record, read_record_after, read_superblock};
 pub use roll::Roll;
-pub use write::{write_header, write_parts, write_record, write_superblock};
+pub use write::{write_digest, write_header, write_plain, write_record, write_superblock};

@@ -7,7 +7,7 @@ use Rattle.extent_table.proofs.SeenLemmas.{seen}
 use Rattle.extent_table.proofs.entry.bytes_of.Goals as goal
 
 pub returns-in-Some : goal.returns-in-Some
-returns-in-Some c = c.as_bytes.ensures.value
+returns-in-Some c = c.as_bytes.ensures.value ∙ c.name.ensures
     ∙ sym (ap name_of (seen c.entries.inside c.entries.view_is c.args.key
     ∙ ap (entry_of (kept_in c.entries.inside.kept.items c.args.key)) (read_some c.get.ensures c.in-Some.is)))
 

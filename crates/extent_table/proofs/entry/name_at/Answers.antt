@@ -13,6 +13,6 @@ unwrap-requires c =
     (subst (λ e. IsSome e) (seen c.entries.inside c.entries.view_is c.args.key) c.requires)))
 
 pub returns : goal.returns
-returns c = sym (ap name_of (seen c.entries.inside c.entries.view_is c.args.key
+returns c = c.name.ensures ∙ sym (ap name_of (seen c.entries.inside c.entries.view_is c.args.key
     ∙ ap (entry_of (kept_in c.entries.inside.kept.items c.args.key))
     (read_some c.get.ensures c.unwrap.ensures)))

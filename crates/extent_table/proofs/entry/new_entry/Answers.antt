@@ -1,6 +1,6 @@
-use Rattle.std.proofs.Common.{refl, ap, ◌∙◌, arith}
+use Rattle.std.proofs.Common.{ap, ◌∙◌, arith}
 use Rattle.extent_table.specs.Kept.{kept_in}
-use Rattle.extent_table.specs.Entries.{entry_of}
+use Rattle.extent_table.specs.Entries.{Standing, entry_of}
 use Rattle.extent_table.proofs.EntriesLemmas.{count_of, entered}
 use Rattle.extent_table.proofs.SeenLemmas.{seen}
 use Rattle.extent_table.proofs.entry.new_entry.Goals as goal
@@ -17,8 +17,9 @@ returns-clause-vacant c = seen c.entries.inside c.entries.view_is c.insert_reser
 
 pub returns-clause-edit : goal.returns-clause-edit
 returns-clause-edit c =
-    rw (← c.entries.view_is, ← c.copied.ensures.value)
+    let is = c.new.ensures.value in
+    rw (← c.entries.view_is, ← ap (λ (s : Standing). s.name) is)
     (entered _ _ _ _ c.insert_reserved-key.result _ c.note.ensures.others
     c.insert_reserved-key.ensures.updates.others
-    c.insert_reserved-key.ensures.was_vacant c.insert_reserved-key.ensures.updates.changed refl
-    c.note.ensures.here)
+    c.insert_reserved-key.ensures.was_vacant c.insert_reserved-key.ensures.updates.changed
+    (ap (λ (s : Standing). s.now) is) c.note.ensures.here)

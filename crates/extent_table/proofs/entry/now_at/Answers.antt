@@ -7,7 +7,7 @@ use Rattle.extent_table.proofs.SeenLemmas.{seen}
 use Rattle.extent_table.proofs.entry.now_at.Goals as goal
 
 pub returns-in-Some : goal.returns-in-Some
-returns-in-Some c = sym (ap now_of (seen c.entries.inside c.entries.view_is c.args.key
+returns-in-Some c = c.now.ensures ∙ sym (ap now_of (seen c.entries.inside c.entries.view_is c.args.key
     ∙ ap (entry_of (kept_in c.entries.inside.kept.items c.args.key)) (read_some c.get.ensures c.in-Some.is)))
 
 pub returns-in-None : goal.returns-in-None
