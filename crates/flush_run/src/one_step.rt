@@ -51,7 +51,7 @@ pub fn step<D: Disk, const C: usize>(
 }
 
 /// Makes the step in place, so that a flush that is run hands no phase on by value. Answers what was settled
-/// where no move was left.
+/// where no move was left, and none where it made one.
 pub(crate) fn step_on<D: Disk, const C: usize>(
     disk: &mut D,
     at: &mut Phase<C>,
