@@ -101,28 +101,37 @@ const PAGE: &[&str] = &[
     "",
     "FILE is any text that isn't empty. NAME is 1 to 63 bytes of printable ASCII without blanks.",
     "K is 2 to 64: a buffer has a k-th of its segment. NAMES is 16 to 65536: how many objects may be live.",
-    "NUMBER is 0 to 18446744073709551615, COUNT is 1 to 1000000, ENTRIES is 1 to 4096. Numbers have no sign and",
+    "NUMBER is 0 to 18446744073709551615, COUNT is 1 to 1000000, ENTRIES is 1 to 4096. \
+    Numbers have no sign and",
     "no leading zero.",
     "",
-    "check puts store K NAMES COUNT BYTES DATA SEQUENCE KIND: how many objects there are and how many bytes they",
+    "check puts store K NAMES COUNT BYTES DATA SEQUENCE KIND: \
+    how many objects there are and how many bytes they",
     "have, how many the file has behind its head, the number of its checkpoint, and still, or moving where a",
-    "rebuild was interrupted. map puts a line class C CAPACITY BUFFER TAKEN for each segment that has bytes, and",
+    "rebuild was interrupted. \
+    map puts a line class C CAPACITY BUFFER TAKEN for each segment that has bytes, and",
     "object NAME PLACE SIZE for each object; before them moving BOUNDARY WALL SLACK for a moving file.",
     "",
-    "work puts, removes and reads objects named o0, o1 and so on, saves, and then puts twelve lines: requests,",
-    "ok and kept (those done without a checkpoint and with one), read (bytes), refused; names, bytes and length",
-    "at the end; moved (bytes); and linear, flat and seek, what the bytes moved and those asked for cost. cached",
+    "work puts, removes and reads objects named o0, o1 and so on, saves, and then puts twelve lines: \
+    requests,",
+    "ok and kept (those done without a checkpoint and with one), read (bytes), refused; \
+    names, bytes and length",
+    "at the end; moved (bytes); and linear, flat and seek, what the bytes moved and those asked for cost. \
+    cached",
     "puts three lines more: hits, misses and drops, how many reads the cache served and how many it didn't.",
     "",
-    "desk reads events: say S, with a request on the lines behind it, which waits behind those of its session;",
-    "serve S, which serves the first that waits; and step, which makes one move of a flush that is in hand. S is 0",
+    "desk reads events: say S, with a request on the lines behind it, \
+    which waits behind those of its session;",
+    "serve S, which serves the first that waits; \
+    and step, which makes one move of a flush that is in hand. S is 0",
     "to 7. It puts queued S or full S; to S and the reply, begun S, wait S or empty S; and moved or idle.",
     "",
     "status: 0 done, 1 faulty words, 2 a faulty request, 3 no such file, 4 no store, 5 the file isn't empty,",
     "6 no such object, 7 the disk failed, 8 the input failed, 9 the output failed, 10 out of memory,",
     "11 too many requests, 13 the object was damaged, 14 too many names, 15 the file has saved too often,",
     "16 what the file keeps as a batch is none, 17 the batch doesn't fit the file.",
-    "At each status but 0 and 9 one line that begins with fault is put last, but where there is no memory for",
+    "At each status but 0 and 9 one line that begins with fault is put last, \
+    but where there is no memory for",
     "the words.",
     "",
     "examples: costore format blocks 9 1024",
