@@ -13,8 +13,6 @@ mod retries;
 mod standard;
 mod streams;
 mod system;
-#[cfg(test)]
-mod tests;
 
 pub use bay::FileBay;
 pub use cause::{Cause, NoRoom};

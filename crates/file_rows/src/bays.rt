@@ -3,9 +3,8 @@ ghost use Rattle.std.specs.Prelude.{◌≡◌, None, IsTrue, IsFalse};
 ghost use Rattle.disk_face.specs.Mounts.{has_file};
 ghost use Rattle.disk_file.specs.Bays.{bay_state};
 
-use crate::host::Host;
-use crate::{Cause, FileBay};
 use disk_face::{Bay, Mounted};
+use disk_file::{Cause, FileBay, Host};
 use std::process::Abort;
 
 /// A cause as a word, which can be compared.

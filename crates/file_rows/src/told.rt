@@ -3,10 +3,9 @@ ghost use Rattle.std.specs.Prelude.{◌≡◌, ◌≤◌, [], codes, length, Non
 ghost use Rattle.byte_ranges.specs.Ranges.{overwritten, resized};
 ghost use Rattle.disk_file.specs.Bays.{bay_state, has_lost, marks_of, use_of};
 
-use super::memory::Memory;
-use crate::FileBay;
-use crate::host::Use;
+use crate::memory::Memory;
 use disk_face::{Bay, Disk};
+use disk_file::{FileBay, Use};
 use std::process::Abort;
 
 /// Makes a file of twelve bytes, writes the bytes from position 2 on, syncs, and reads them. None of the

@@ -2,12 +2,10 @@
 ghost use Rattle.std.specs.Prelude.{IsTrue, IsFalse};
 ghost use Rattle.disk_file.specs.Bays.{bay_state};
 
-use super::bays::{mounts, word};
-use super::faulty::Faulty;
-use crate::host::{Host, Kind, Use};
-use crate::positions::{fill, write_whole};
-use crate::{Cause, FileBay};
+use crate::bays::{mounts, word};
+use crate::faulty::Faulty;
 use disk_face::{Disk, Mounted};
+use disk_file::{Cause, FileBay, Host, Kind, Use};
 use std::io::ErrorKind;
 use std::process::Abort;
 
@@ -69,13 +67,28 @@ fn tries(rt: &impl Abort, row: &Row) {
     assert!(rt; seen(rt, row.fails) == *row, "call {}", row.fails);
 }
 
+/// A system whose file has one byte, and of which the call of a number fails so.
+fn of_one_byte(fails: u64, failing: ErrorKind) -> Faulty {
+    let mut host = Faulty::new(Some(Kind::File), fails);
+    host.failing = failing;
+    host.len = 1;
+    host
+}
+
+/// A bay that has mounted the file of a system, to change it.
+fn bay_over(rt: &impl Abort, host: Faulty) -> FileBay<Faulty>
+    ensures ready { IsTrue (bay_state result).is_ready }
+    ensures untold { IsFalse (bay_state result).tells }
+{
+    let mut bay = FileBay::over(host, Use::Changing);
+    mounts(rt, &mut bay, "f", false, Mounted::There);
+    bay
+}
+
 /// Mounts a file of one byte and makes each call of a disk, where a call of the system fails.
 fn seen(rt: &impl Abort, fails: u64) -> Row {
-    let mut host = Faulty::new(Some(Kind::File), fails);
-    host.len = 1;
-    let mut bay = FileBay::over(host, Use::Changing);
+    let mut bay = bay_over(rt, of_one_byte(fails, ErrorKind::Other));
     let mut out = [0u8; 8];
-    mounts(rt, &mut bay, "f", false, Mounted::There);
     let changes = failed_changes(&mut bay);
     let cause = word(bay.cause());
     let reads = failed_reads(&mut bay, &mut out);
@@ -122,19 +135,26 @@ fn failed_reads<D: Disk>(disk: &mut D, out: &mut [u8; 8]) -> [u8; 3]
 fn syncs_no_file_that_is_gone(rt: HostRuntime) {
     let mut host = Faulty::new(Some(Kind::File), 0);
     host.strays = true;
-    let mut bay = FileBay::over(host, Use::Changing);
-    mounts(&rt, &mut bay, "f", false, Mounted::There);
-    assert!(rt; bay.sync().is_err());
-    assert_eq!(rt; word(bay.cause()), "gone");
-    assert!(rt; bay.sync().is_err());
-    assert_eq!(rt; word(bay.cause()), "lost");
+    let mut bay = bay_over(&rt, host);
+    assert!(rt; sync_cause(&mut bay) == "gone");
+    assert!(rt; sync_cause(&mut bay) == "lost");
+}
+
+/// The cause of a sync that fails.
+fn sync_cause<H: Host>(bay: &mut FileBay<H>) -> &'static str
+    requires ready { IsTrue (bay_state bay.old).is_ready }
+    ensures ready { IsTrue (bay_state bay.new).is_ready }
+{
+    match bay.sync() {
+        Ok(()) => "synced",
+        Err(_) => word(bay.cause()),
+    }
 }
 
 /// A read past the end and a write past what the system takes are faults with their causes.
 #[test]
 fn tells_why_a_part_is_missing(rt: HostRuntime) {
-    let mut bay = FileBay::over(Faulty::new(Some(Kind::File), 0), Use::Changing);
-    mounts(&rt, &mut bay, "f", false, Mounted::There);
+    let mut bay = bay_over(&rt, Faulty::new(Some(Kind::File), 0));
     assert!(rt; causes(&mut bay) == ["none", "ended", "none taken"]);
 }
 
@@ -155,7 +175,9 @@ fn causes<H: Host>(bay: &mut FileBay<H>) -> [&'static str; 3]
 /// What is told where there is no room for a change: the number of the system's call that fails, how it
 /// fails, and how much was asked for and had. The calls after the mount are one of a length of sixteen bytes,
 /// and three that write the eight from position 4 on.
-const FULL: &[(u64, ErrorKind, u64, Option<u64>)] = &[
+type Lack = (u64, ErrorKind, u64, Option<u64>);
+
+const FULL: &[Lack] = &[
     (8, ErrorKind::FileTooLarge, 16, None),
     (9, ErrorKind::StorageFull, 12, Some(4)),
     (10, ErrorKind::QuotaExceeded, 12, Some(7)),
@@ -169,21 +191,36 @@ fn tells_what_there_was_no_room_for(rt: HostRuntime) {
     }
 }
 
-/// The cause has the word and the numbers of the row.
-fn lacks(rt: &impl Abort, row: &(u64, ErrorKind, u64, Option<u64>)) {
-    let (fails, failing, asked, had) = *row;
-    let mut host = Faulty::new(Some(Kind::File), fails);
-    host.failing = failing;
-    host.len = 1;
-    let mut bay = FileBay::over(host, Use::Changing);
-    mounts(rt, &mut bay, "f", false, Mounted::There);
-    let is_whole = bay.set_len(16).is_ok() && bay.write_at(4, b"abcdefgh").is_ok();
-    assert!(rt; !is_whole);
-    let Some(Cause::NoRoom(room)) = bay.cause() else {
-        panic!(rt; "call {fails}")
-    };
-    assert!(rt; room.error.kind() == failing && room.asked == asked && room.had == had);
-    assert!(rt; Cause::NoRoom(room).word() == "no-room");
+/// The cause is what the row says.
+fn lacks(rt: &impl Abort, row: &Lack) {
+    let cause = full_cause(rt, row.0, row.1);
+    assert!(rt; is_lack(cause, row), "call {}", row.0);
+}
+
+/// The cause of a change that fails where the system's call of a number does.
+fn full_cause(rt: &impl Abort, fails: u64, failing: ErrorKind) -> Option<Cause> {
+    let mut bay = bay_over(rt, of_one_byte(fails, failing));
+    assert!(rt; !grows(&mut bay));
+    bay.cause()
+}
+
+/// Whether the file is given sixteen bytes, and eight of them are written.
+fn grows<D: Disk>(disk: &mut D) -> bool
+    requires ready { IsTrue (D.state disk.old).is_ready }
+    requires untold { IsFalse (D.state disk.old).tells }
+{
+    disk.set_len(16).is_ok() && disk.write_at(4, b"abcdefgh").is_ok()
+}
+
+/// Whether a cause has the word and the numbers of a row.
+fn is_lack(cause: Option<Cause>, row: &Lack) -> bool {
+    match cause {
+        Some(Cause::NoRoom(room)) => {
+            Cause::NoRoom(room).word() == "no-room"
+                && (room.error.kind(), room.asked, room.had) == (row.1, row.2, row.3)
+        }
+        _ => false,
+    }
 }
 
 #[test]
@@ -191,22 +228,26 @@ fn reads_and_writes_in_pieces(rt: HostRuntime) {
     let mut host = Faulty::new(Some(Kind::File), 0);
     host.stutters = true;
     host.len = 10;
+    let mut bay = bay_over(&rt, host);
     let mut out = [0u8; 8];
-    let is_ok = pieces(&mut host, &mut out);
+    let is_ok = pieces(&mut bay, &mut out);
     assert!(rt; is_ok == [true, true, false, true, false]);
     assert!(rt; out == *b"12345678");
-    assert!(rt; &host.bytes[..10] == b"01aABCDEFG".as_slice());
+    assert!(rt; &bay.host().bytes[..10] == b"01aABCDEFG".as_slice());
 }
 
 /// Which of these end well: a write of all ten bytes, a read of eight within them and one past them, a
 /// write of eight within them and one past them.
-fn pieces(host: &mut Faulty, out: &mut [u8; 8]) -> [bool; 5] {
+fn pieces<D: Disk>(disk: &mut D, out: &mut [u8; 8]) -> [bool; 5]
+    requires ready { IsTrue (D.state disk.old).is_ready }
+    requires untold { IsFalse (D.state disk.old).tells }
+{
     let mut past = [0u8; 8];
     [
-        write_whole(host, 0, b"0123456789").is_ok(),
-        fill(host, 1, out).is_ok(),
-        fill(host, 3, &mut past).is_ok(),
-        write_whole(host, 2, b"abcdefgh").is_ok(),
-        write_whole(host, 3, b"ABCDEFGH").is_ok(),
+        disk.write_at(0, b"0123456789").is_ok(),
+        disk.read_at(1, out).is_ok(),
+        disk.read_at(3, &mut past).is_ok(),
+        disk.write_at(2, b"abcdefgh").is_ok(),
+        disk.write_at(3, b"ABCDEFGH").is_ok(),
     ]
 }

@@ -1,9 +1,8 @@
 //! The calls that a mount makes of a system, and mounts that are refused.
-use super::bays::{mounts, refuses, word};
-use super::faulty::Faulty;
-use crate::FileBay;
-use crate::host::{Kind, Use};
+use crate::bays::{mounts, refuses, word};
+use crate::faulty::Faulty;
 use disk_face::{Bay, Disk, Mounted};
+use disk_file::{FileBay, Kind, Use};
 use std::alloc::{AllocError, Global};
 use std::process::Abort;
 

@@ -1,7 +1,7 @@
 //! Streams that pass on little at a time, are interrupted, and fail at a call.
-use super::slow::{Failing, Slow};
-use crate::{StdSink, StdSource};
+use crate::slow::{Failing, Slow};
 use disk_face::{Sink, Source};
+use disk_file::{StdSink, StdSource};
 use std::alloc::{AllocError, Global};
 use std::process::Abort;
 
@@ -30,10 +30,9 @@ fn puts_fronts(rt: &impl Abort, alloc: Global, how: Failing) {
 
 /// Puts the object to a writer.
 fn puts_front(rt: &impl Abort, alloc: Global, how: Failing, row: &(u64, u64, &str)) {
-    let (fails, puts, front) = *row;
-    let mut slow = Slow::new(Vec::new(alloc), fails, how);
-    let ended = put_both(&mut slow);
-    assert!(rt; ended == puts && slow.bytes.as_slice() == front.as_bytes());
+    let mut slow = Slow::new(Vec::new(alloc), row.0, how);
+    assert!(rt; put_both(&mut slow) == row.1);
+    assert!(rt; slow.bytes.as_slice() == row.2.as_bytes());
 }
 
 /// Puts both parts, the second if the first ends well, and tells how many do.

@@ -1,7 +1,7 @@
 //! A system that notes each call, and fails one.
 ghost use Rattle.std.specs.Prelude.{◌≤◌, ◌+◌, true};
 
-use crate::host::{Host, How, Kind, Use};
+use disk_file::{Host, How, Kind, Use};
 use std::cell::Cell;
 use std::io::{self, ErrorKind};
 

@@ -2,7 +2,7 @@
 ghost use Rattle.std.specs.Prelude.{◌≡◌, ◌≤◌, ◌+◌, [], length, take, vec_capacity, IfOk, IsTrue, IsFalse};
 ghost use Rattle.byte_ranges.specs.Ranges.{bytes_at, overwritten, resized};
 
-use crate::host::{Host, How, Kind, Use};
+use disk_file::{Host, How, Kind, Use};
 use std::alloc::{AllocError, Global};
 use std::io::{self, ErrorKind};
 

@@ -2,10 +2,9 @@
 ghost use Rattle.std.specs.Prelude.{◌≡◌, None, IsTrue, IsFalse};
 ghost use Rattle.disk_file.specs.Bays.{bay_state};
 
-use super::bays::{mounts, refuses, word};
-use crate::host::{Host, Use};
-use crate::{FileBay, hold_numbers, is_own_stream};
+use crate::bays::{mounts, refuses, word};
 use disk_face::{Bay, Disk, DiskFault, Mounted};
+use disk_file::{FileBay, Host, Use, hold_numbers, is_own_stream};
 use std::alloc::{AllocError, Global};
 use std::fs::{self, File, Files};
 use std::process::Abort;
@@ -52,6 +51,11 @@ fn store(alloc: Global) -> Result<Vec<u8>, AllocError> {
     Ok(store)
 }
 
+/// Makes a file of these bytes.
+fn makes(rt: &(impl Abort + Files<File = File>), name: &str, bytes: &[u8]) {
+    fs::write(rt, name, bytes).expect(rt, "a file");
+}
+
 /// The file of that name has these bytes. It is removed.
 fn left(rt: &(impl Abort + Alloc + Files<File = File>), name: &str, bytes: &[u8]) {
     let left = fs::read(rt, name).expect(rt, "a file");
@@ -59,14 +63,52 @@ fn left(rt: &(impl Abort + Alloc + Files<File = File>), name: &str, bytes: &[u8]
     assert!(rt; left.as_slice() == bytes);
 }
 
+/// What is tried with a bay that has mounted nothing.
+#[derive(Clone, Copy)]
+enum Act {
+    /// It is refused a name, which it would make where there is none, for a cause.
+    Refuses(&'static str, bool, &'static str),
+    Keeps,
+    FindsNone,
+    ReadsObject,
+    ChangesNothing,
+    /// The file goes, or another gets its name.
+    Goes(bool),
+}
+
+/// Tries a bay.
+fn tries<H: Host>(rt: &(impl Abort + Files<File = File>), bay: &mut FileBay<H>, act: Act)
+    requires none { (bay_state bay.old).last_mount ≡ None }
+    requires untold { IsFalse (bay_state bay.old).tells }
+{
+    match act {
+        Act::Refuses(name, make, cause) => refuses(rt, bay, name, make, cause),
+        Act::Keeps => keeps(rt, bay),
+        Act::FindsNone => mounts(rt, bay, NAME, false, Mounted::Absent),
+        Act::ReadsObject => reads_object(rt, bay),
+        Act::ChangesNothing => changes_nothing(rt, bay),
+        Act::Goes(is_replaced) => goes(rt, bay, is_replaced),
+    }
+}
+
+/// Tries a bay that may change its file.
+fn changing(rt: &(impl Abort + Files<File = File>), act: Act) {
+    tries(rt, &mut FileBay::new(rt), act);
+}
+
+/// Tries a bay that only reads.
+fn reading(rt: &(impl Abort + Files<File = File>), act: Act) {
+    tries(rt, &mut FileBay::reading(rt), act);
+}
+
 #[test]
 fn keeps_a_real_file(rt: HostRuntime) {
     // A run that was cut off may have left it.
     let _ = fs::remove_dir_all(&rt, FOLDER);
     fs::create_dir(&rt, FOLDER).expect(&rt, "a file");
-    keeps(&rt, &mut FileBay::new(&rt));
+    changing(&rt, Act::Keeps);
     fs::remove_dir_all(&rt, FOLDER).expect(&rt, "a file");
-    mounts(&rt, &mut FileBay::new(&rt), NAME, false, Mounted::Absent);
+    changing(&rt, Act::FindsNone);
 }
 
 /// Makes the file, writes five of its ten bytes, and reads all of them.
@@ -108,8 +150,8 @@ fn reads<D: Disk>(rt: &impl Abort, disk: &mut D)
 fn leaves_a_store_whole(rt: HostRuntime) {
     let _ = fs::remove_file(&rt, STORE_NAME);
     let written = store(rt.alloc()).expect(&rt, "memory");
-    fs::write(&rt, STORE_NAME, &written).expect(&rt, "a file");
-    reads_object(&rt, &mut FileBay::new(&rt));
+    makes(&rt, STORE_NAME, &written);
+    changing(&rt, Act::ReadsObject);
     left(&rt, STORE_NAME, &written);
 }
 
@@ -133,16 +175,15 @@ fn holds_the_numbers_of_the_streams(rt: HostRuntime) {
 /// What is no regular file is refused.
 #[test]
 fn refuses_what_is_no_file(rt: HostRuntime) {
-    refuses(&rt, &mut FileBay::new(&rt), ".", true, "folder");
-    let mut device = FileBay::reading(&rt);
-    refuses(&rt, &mut device, "/dev/null", false, "special");
+    changing(&rt, Act::Refuses(".", true, "folder"));
+    reading(&rt, Act::Refuses("/dev/null", false, "special"));
 }
 
 /// A file that another bay holds is refused. Bays that read share.
 #[test]
 fn refuses_what_is_held(rt: HostRuntime) {
     let _ = fs::remove_file(&rt, HELD_NAME);
-    fs::write(&rt, HELD_NAME, b"kept".as_slice()).expect(&rt, "a file");
+    makes(&rt, HELD_NAME, b"kept");
     shares(&rt);
     holds(&rt);
     left(&rt, HELD_NAME, b"kept");
@@ -159,24 +200,24 @@ fn shares(rt: &(impl Abort + Files<File = File>)) {
 fn shares_more(rt: &(impl Abort + Files<File = File>)) {
     let mut second = FileBay::reading(rt);
     mounts(rt, &mut second, HELD_NAME, false, Mounted::There);
-    refuses(rt, &mut FileBay::new(rt), HELD_NAME, true, "in use");
+    changing(rt, Act::Refuses(HELD_NAME, true, "in use"));
 }
 
 /// A bay that may change the file, and beside it one that reads.
 fn holds(rt: &(impl Abort + Files<File = File>)) {
     let mut only = FileBay::new(rt);
     mounts(rt, &mut only, HELD_NAME, true, Mounted::There);
-    refuses(rt, &mut FileBay::reading(rt), HELD_NAME, false, "in use");
+    reading(rt, Act::Refuses(HELD_NAME, false, "in use"));
 }
 
 /// A bay that reads makes no file, and can't change one.
 #[test]
 fn only_reads(rt: HostRuntime) {
     let _ = fs::remove_file(&rt, READ_NAME);
-    refuses(&rt, &mut FileBay::reading(&rt), READ_NAME, true, "system");
+    reading(&rt, Act::Refuses(READ_NAME, true, "system"));
     assert!(rt; !fs::exists(&rt, READ_NAME).expect(&rt, "a file"));
-    fs::write(&rt, READ_NAME, b"kept".as_slice()).expect(&rt, "a file");
-    changes_nothing(&rt, &mut FileBay::reading(&rt));
+    makes(&rt, READ_NAME, b"kept");
+    reading(&rt, Act::ChangesNothing);
     left(&rt, READ_NAME, b"kept");
 }
 
@@ -198,8 +239,8 @@ const GONE: &[bool] = &[false, true];
 #[test]
 fn syncs_no_file_that_is_gone(rt: HostRuntime) {
     for is_replaced in GONE {
-        fs::write(&rt, GONE_NAME, b"kept".as_slice()).expect(&rt, "a file");
-        goes(&rt, &mut FileBay::new(&rt), *is_replaced);
+        makes(&rt, GONE_NAME, b"kept");
+        changing(&rt, Act::Goes(*is_replaced));
     }
     assert!(rt; !is_own_stream(&rt, GONE_NAME, Use::Changing));
     left(&rt, GONE_NAME, b"other");
@@ -220,7 +261,7 @@ fn goes<H: Host>(rt: &(impl Abort + Files<File = File>), bay: &mut FileBay<H>, i
 /// Removes the file, or gives its name to another.
 fn loses_name(rt: &(impl Abort + Files<File = File>), is_replaced: bool) {
     if is_replaced {
-        fs::write(rt, OTHER_NAME, b"other".as_slice()).expect(rt, "a file");
+        makes(rt, OTHER_NAME, b"other");
         fs::rename(rt, OTHER_NAME, GONE_NAME).expect(rt, "a file");
     } else {
         fs::remove_file(rt, GONE_NAME).expect(rt, "a file");

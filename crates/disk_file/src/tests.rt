@@ -1,9 +1,0 @@
-mod bays;
-mod calls;
-mod faulty;
-mod files;
-mod memory;
-mod mounts;
-mod slow;
-mod streams;
-mod told;
