@@ -5,4 +5,4 @@ use Rattle.slot_codec.proofs.write.write_digest.Goals as goal
 pub returns : goal.returns
 returns c =
     let whole : length c.put.new.out ≤ 80 + length c.args.digest.now = omega arith in
-    sym (take_all _ c.put.new.out whole) ∙ c.put.ensures
+    sym (take_all _ c.put.new.out whole) ∙ c.put.ensures.part

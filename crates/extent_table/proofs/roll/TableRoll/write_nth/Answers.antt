@@ -94,7 +94,7 @@ returns-then-version-eq2 c =
     c.digest_there.ensures.value ∙ ap (λ xs. digest_in xs c.index-key.result.now) c.deref.ensures.value in
     ap (option_map (record_bytes c.args.version))
     (shown path.After-spot_at-spot (within path.After-self))
-    ∙ ap Some (sym (record_more c.args.version _ _ _ _ c.if-version-eq2.true c.write_plain.ensures
+    ∙ ap Some (sym (record_more c.args.version _ _ _ _ c.if-version-eq2.true c.write_plain.ensures.record
     (c.write_digest.ensures ∙ ap (λ xs. take 80 c.write_plain.new.out ++ xs) digest)))
 
 pub returns-else-version-eq2 : goal.returns-else-version-eq2
@@ -103,4 +103,4 @@ returns-else-version-eq2 c =
     ap (option_map (record_bytes c.args.version))
     (shown path.After-spot_at-spot (within path.After-self))
     ∙ ap Some (sym (record_ends c.args.version _ _ _ (ne_eqb c.args.version 2 c.if-version-eq2.false)
-    (omega arith) c.write_plain.ensures))
+    (omega arith) c.write_plain.ensures.record))
