@@ -1,6 +1,6 @@
 //! Why a device failed, as a stable word and in words for people.
 use crate::shown::Shown;
-use disk_file::Cause;
+use disk_file::{Cause, NoRoom};
 use std::fmt::{self, Display, Formatter};
 
 /// What failed, a file or a stream, and why.
@@ -26,31 +26,45 @@ struct Text(Cause);
 impl Display for Text {
     fn fmt<W: fmt::Write>(&self, f: &mut Formatter<W>) -> fmt::Result {
         match self.0 {
-            Cause::System(error) => write!(f, "{error}"),
-            Cause::NoRoom(room) => {
-                let error = room.error;
-                let asked = room.asked;
-                match room.had {
-                    None => write!(f, "{error}; it was to have {asked} bytes"),
-                    Some(had) => write!(
-                        f,
-                        "{error}; it was to have {asked} bytes, and came to {had}"
-                    ),
-                }
-            }
+            Cause::System(error) => error.fmt(f),
+            Cause::NoRoom(room) => Little(room).fmt(f),
             Cause::NoFolder(error) => write!(f, "its folder: {error}"),
-            Cause::NoName => f.write_str("it is empty"),
-            Cause::LongName => f.write_str("it has more than 4095 bytes"),
-            Cause::Folder => f.write_str("it is a folder"),
-            Cause::Special => f.write_str("it is a device, a pipe or a socket"),
-            Cause::InUse => f.write_str("it is in use by another process"),
-            Cause::OwnStream => f.write_str(
-                "it is what this program's standard streams read or write",
+            cause => f.write_str(text_of(cause)),
+        }
+    }
+}
+
+/// What is said of a cause of which the system has no error, or nothing.
+fn text_of(cause: Cause) -> &'static str {
+    match cause {
+        Cause::NoName => "it is empty",
+        Cause::LongName => "it has more than 4095 bytes",
+        Cause::Folder => "it is a folder",
+        Cause::Special => "it is a device, a pipe or a socket",
+        Cause::InUse => "it is in use by another process",
+        Cause::OwnStream => "it is what this program's standard streams read or write",
+        Cause::Ended => "it ended before it was read whole",
+        Cause::NoneTaken => "it takes no more bytes",
+        Cause::Lost => "a sync failed before, and bytes may be lost",
+        Cause::Gone => "its name leads to it no more",
+        Cause::System(_) | Cause::NoRoom(_) | Cause::NoFolder(_) => "",
+    }
+}
+
+/// That there was too little room for a change.
+#[derive(Clone, Copy)]
+struct Little(NoRoom);
+
+impl Display for Little {
+    fn fmt<W: fmt::Write>(&self, f: &mut Formatter<W>) -> fmt::Result {
+        let error = self.0.error;
+        let asked = self.0.asked;
+        match self.0.had {
+            None => write!(f, "{error}; it was to have {asked} bytes"),
+            Some(had) => write!(
+                f,
+                "{error}; it was to have {asked} bytes, and came to {had}"
             ),
-            Cause::Ended => f.write_str("it ended before it was read whole"),
-            Cause::NoneTaken => f.write_str("it takes no more bytes"),
-            Cause::Lost => f.write_str("a sync failed before, and bytes may be lost"),
-            Cause::Gone => f.write_str("its name leads to it no more"),
         }
     }
 }

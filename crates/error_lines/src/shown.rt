@@ -16,23 +16,17 @@ impl Display for Shown<'_> {
     }
 }
 
-/// How many bytes of a line are shown.
-const SHOWN: usize = 40;
-
-/// The first bytes of a line, in quotes: printable ASCII as it is, but that a quote and a backslash have
-/// a backslash before them, and each other byte as a backslash, `x` and its two digits of base 16. Two dots
-/// behind the quotes say that there are more.
+/// Bytes of a line as they stand within quotes: printable ASCII as it is, but that a quote and a backslash
+/// have a backslash before them, and each other byte as a backslash, `x` and its two digits of base 16.
 #[derive(Clone, Copy)]
-pub struct Front<'a>(pub &'a [u8]);
+pub struct Quoted<'a>(pub &'a [u8]);
 
-impl Display for Front<'_> {
+impl Display for Quoted<'_> {
     fn fmt<W: fmt::Write>(&self, f: &mut Formatter<W>) -> fmt::Result {
-        let bytes = self.0;
-        f.write_str("\"")?;
-        for byte in bytes[..bytes.len().min(SHOWN)].iter() {
+        for byte in self.0.iter() {
             Escaped(*byte).fmt(f)?;
         }
-        f.write_str(if bytes.len() > SHOWN { "\" .." } else { "\"" })
+        Ok(())
     }
 }
 
@@ -43,12 +37,11 @@ struct Escaped(u8);
 impl Display for Escaped {
     fn fmt<W: fmt::Write>(&self, f: &mut Formatter<W>) -> fmt::Result {
         let byte = self.0;
-        if byte < b' ' || byte > b'~' {
-            return write!(f, "\\x{byte:02x}");
+        match byte {
+            b'"' => f.write_str("\\\""),
+            b'\\' => f.write_str("\\\\"),
+            b' '..=b'~' => f.write_char(byte as char),
+            _ => write!(f, "\\x{byte:02x}"),
         }
-        if byte == b'"' || byte == b'\\' {
-            f.write_char('\\')?;
-        }
-        f.write_char(byte as char)
     }
 }

@@ -19,20 +19,30 @@ impl Display for Unkept<'_> {
     fn fmt<W: fmt::Write>(&self, f: &mut Formatter<W>) -> fmt::Result {
         let file = Shown(self.file);
         let requests = self.requests;
-        let (noun, verb) = if requests == 1 {
-            ("request", "is")
+        let since = Since(self.since);
+        let answered = if requests == 1 {
+            " request answered ok since "
         } else {
-            ("requests", "are")
+            " requests answered ok since "
         };
-        write!(f, "{file}: unkept: {requests} {noun} answered ok since ")?;
-        match self.since {
-            0 => f.write_str("the session began")?,
-            since => write!(f, "the checkpoint of request {since}")?,
-        }
-        if self.may_be_kept {
-            f.write_str(" may not be in the file")
-        } else {
-            write!(f, " {verb} not in the file, as no keep followed")
+        let where_now = match (self.may_be_kept, requests) {
+            (true, _) => " may not be in the file",
+            (false, 1) => " is not in the file, as no keep followed",
+            (false, _) => " are not in the file, as no keep followed",
+        };
+        write!(f, "{file}: unkept: {requests}{answered}{since}{where_now}")
+    }
+}
+
+/// Since when: since the request of a checkpoint, or since the session began where that is 0.
+#[derive(Clone, Copy)]
+struct Since(u64);
+
+impl Display for Since {
+    fn fmt<W: fmt::Write>(&self, f: &mut Formatter<W>) -> fmt::Result {
+        match self.0 {
+            0 => f.write_str("the session began"),
+            since => write!(f, "the checkpoint of request {since}"),
         }
     }
 }

@@ -1,9 +1,10 @@
 //! The line on standard error: what failed, by a stable word and in words for people.
 use crate::failed::Failed;
-use crate::refused::Refused;
+use crate::line::{Line, Texts, one, three};
+use crate::refused::refused;
 use crate::shown::Shown;
-use crate::unread::Unread;
-use crate::wrong::Wrong;
+use crate::told::{Row, row_of};
+use crate::wrong::wrong;
 use disk_file::Cause;
 use std::fmt::{self, Display, Formatter};
 use std::io::Error;
@@ -11,6 +12,15 @@ use std::str;
 
 /// The number of the system's error that nothing has a name.
 const NOTHING_THERE: i32 = 2;
+
+/// What stands in front of the number in the fault line of a status, and what is said where it isn't there.
+const FAULTS: &[(u8, &str, &str)] = &[
+    (2, "fault request ", "?"),
+    (4, "fault store ", ""),
+    (5, "fault taken ", "some"),
+    (14, "fault too many ", "some"),
+    (17, "fault unfit ", "?"),
+];
 
 /// How a call of the program ended, other than well.
 #[derive(Clone, Copy)]
@@ -32,115 +42,110 @@ pub struct Why<'a> {
     pub output: Option<Cause>,
 }
 
-impl Why<'_> {
+impl<'a> Why<'a> {
+    /// The line where the system has no error of its own to be shown.
+    fn line(&self) -> Line<'a> {
+        let number = self.number();
+        match self.status {
+            1 => line("words", wrong(self.words, self.are_text)),
+            4 => line(self.file, refused(number)),
+            _ => match row_of(self.status, command_of(self.words), number) {
+                Some(row) => line(self.what(), told(row, number)),
+                None => self.unread(number),
+            },
+        }
+    }
+
+    /// The file or the stream that is to blame.
+    fn what(&self) -> &'a str {
+        match self.status {
+            2 | 11 => "standard input",
+            _ => self.file,
+        }
+    }
+
+    /// That a request is none. At another status nothing is known.
+    fn unread(&self, number: &'a str) -> Line<'a> {
+        if self.status != 2 {
+            return line("io", one("it failed"));
+        }
+        Line {
+            what: "standard input",
+            texts: three(
+                "request: request ",
+                number,
+                " is none, or the input ends within it; ",
+            ),
+            begun: Some(self.begun),
+        }
+    }
+
+    /// The number that the fault line tells, or what it says of a file that is no store.
+    fn number(&self) -> &'a str {
+        for (status, front, unknown) in FAULTS {
+            if *status == self.status {
+                return self.said(front).unwrap_or(unknown);
+            }
+        }
+        ""
+    }
+
     /// What the fault line says after these words.
-    fn said(&self, front: &str) -> Option<&str> {
-        let text = str::from_utf8(self.line).ok()?;
-        let rest = text.strip_prefix(front)?;
-        rest.strip_suffix('\n')
+    fn said(&self, front: &str) -> Option<&'a str> {
+        let Ok(text) = str::from_utf8(self.line) else {
+            return None;
+        };
+        match text.strip_prefix(front) {
+            Some(rest) => rest.strip_suffix('\n'),
+            None => None,
+        }
+    }
+
+    /// The file or the stream that failed, and why.
+    fn failed(&self) -> Failed<'a> {
+        match self.status {
+            7 => Failed(self.file, self.disk),
+            8 => Failed("standard input", self.input),
+            _ => Failed("standard output", self.output),
+        }
     }
 }
 
 impl Display for Why<'_> {
     fn fmt<W: fmt::Write>(&self, f: &mut Formatter<W>) -> fmt::Result {
-        let file = Shown(self.file);
         match self.status {
-            1 => {
-                let wrong = Wrong(self.words, self.are_text);
-                write!(f, "words: {wrong}")
-            }
-            2 => {
-                let number = self.said("fault request ").unwrap_or("?");
-                let unread = Unread(command_of(self.words), number, self.begun);
-                write!(f, "standard input: request: {unread}")
-            }
             3 => {
+                let file = Shown(self.file);
                 let error = Error::from_raw_os_error(NOTHING_THERE);
                 write!(f, "{file}: missing: {error}")
             }
-            4 => {
-                let fault = Refused(self.said("fault store ").unwrap_or(""));
-                write!(f, "{file}: {fault}")
-            }
-            5 => {
-                let number = self.said("fault taken ").unwrap_or("some");
-                let taken = Taken(command_of(self.words), number);
-                write!(f, "{file}: taken: {taken}")
-            }
-            7 => Failed(self.file, self.disk).fmt(f),
-            8 => Failed("standard input", self.input).fmt(f),
-            9 => Failed("standard output", self.output).fmt(f),
-            10 => write!(f, "{file}: memory: there is too little"),
-            11 => f.write_str(
-                "standard input: budget: a session has answered as many requests as it may",
-            ),
-            13 => {
-                let object = if command_of(self.words) == "batch" {
-                    "the batch that it keeps"
-                } else {
-                    "the object"
-                };
-                write!(f, "{file}: damaged: the bytes of {object} don't have ")?;
-                f.write_str("the digest that it was put with")
-            }
-            14 => {
-                let number = self.said("fault too many ").unwrap_or("some");
-                let many = TooMany(command_of(self.words), number);
-                write!(f, "{file}: too-many-names: {many}")
-            }
-            15 => write!(f, "{file}: worn: it was saved as often as a file may be"),
-            16 => write!(
-                f,
-                "{file}: no-batch: the bytes of its object !batch are no batch"
-            ),
-            17 => {
-                let number = self.said("fault unfit ").unwrap_or("?");
-                write!(f, "{file}: unfit: request {number} of the batch ")?;
-                f.write_str("removes a name that isn't there, or leaves no room")
-            }
-            _ => f.write_str("io: it failed"),
+            7..=9 => self.failed().fmt(f),
+            _ => self.line().fmt(f),
         }
+    }
+}
+
+/// A line that shows nothing of the input.
+fn line<'a>(what: &'a str, texts: Texts<'a>) -> Line<'a> {
+    Line {
+        what,
+        texts,
+        begun: None,
+    }
+}
+
+/// What a row says, with the number where something stands behind it.
+fn told<'a>(row: &Row, number: &'a str) -> Texts<'a> {
+    let front: &'a str = row.front;
+    let behind: &'a str = row.behind;
+    if behind.is_empty() {
+        one(front)
+    } else {
+        three(front, number, behind)
     }
 }
 
 /// The first word of a command line, or nothing.
 fn command_of<'a>(words: &[&'a str]) -> &'a str {
     words.get(0).copied().unwrap_or("")
-}
-
-/// Of how many names there is no room, by the command that found them.
-#[derive(Clone, Copy)]
-struct TooMany<'a>(&'a str, &'a str);
-
-impl Display for TooMany<'_> {
-    fn fmt<W: fmt::Write>(&self, f: &mut Formatter<W>) -> fmt::Result {
-        let TooMany(command, number) = *self;
-        if command == "load" {
-            return write!(f, "the dump has {number}, and NAMES gives room for fewer");
-        }
-        write!(
-            f,
-            "it has {number}, and a table whose records have digests has room for fewer"
-        )
-    }
-}
-
-/// Why no store is made of a file of so many bytes, by the command that was to make one.
-#[derive(Clone, Copy)]
-struct Taken<'a>(&'a str, &'a str);
-
-impl Display for Taken<'_> {
-    fn fmt<W: fmt::Write>(&self, f: &mut Formatter<W>) -> fmt::Result {
-        let number = self.1;
-        write!(f, "it has {number} bytes, and ")?;
-        f.write_str(if self.0 == "load" {
-            "a dump is loaded into an empty file alone"
-        } else {
-            "only an empty file is formatted"
-        })?;
-        if number == "64" {
-            return f.write_str("; a format that was stopped leaves as many: it may be removed");
-        }
-        Ok(())
-    }
 }

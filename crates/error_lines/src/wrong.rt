@@ -1,11 +1,12 @@
 //! Which word of a command line is wrong, and what it may be.
-use crate::shown::Shown;
-use std::fmt::{self, Display, Formatter};
+use crate::line::{Texts, one, three};
+use crate::texts::text_of;
 
-/// A command, and what its words are called.
+/// A command, and what its words are called: each, and all behind one another.
 struct Form {
     command: &'static str,
     words: &'static [&'static str],
+    text: &'static str,
 }
 
 /// The commands.
@@ -13,142 +14,142 @@ const FORMS: &[Form] = &[
     Form {
         command: "format",
         words: &["FILE", "K", "NAMES"],
+        text: " FILE K NAMES",
     },
     Form {
         command: "get",
         words: &["FILE", "NAME"],
+        text: " FILE NAME",
     },
     Form {
         command: "check",
         words: &["FILE"],
+        text: " FILE",
     },
     Form {
         command: "map",
         words: &["FILE"],
+        text: " FILE",
     },
     Form {
         command: "run",
         words: &["FILE"],
+        text: " FILE",
     },
     Form {
         command: "work",
         words: &["FILE", "NUMBER", "COUNT"],
+        text: " FILE NUMBER COUNT",
     },
     Form {
         command: "dump",
         words: &["FILE"],
+        text: " FILE",
     },
     Form {
         command: "upgrade",
         words: &["FILE"],
+        text: " FILE",
     },
     Form {
         command: "load",
         words: &["FILE", "K", "NAMES"],
+        text: " FILE K NAMES",
     },
     Form {
         command: "batch",
         words: &["FILE"],
+        text: " FILE",
     },
     Form {
         command: "desk",
         words: &["FILE"],
+        text: " FILE",
     },
     Form {
         command: "cached",
         words: &["FILE", "NUMBER", "COUNT", "ENTRIES"],
+        text: " FILE NUMBER COUNT ENTRIES",
     },
     Form {
         command: "--help",
         words: &[],
+        text: "",
     },
     Form {
         command: "--version",
         words: &[],
+        text: "",
     },
 ];
 
-/// The words of a command line that are no command, and whether each is UTF-8; where one isn't there are
-/// none here.
-#[derive(Clone, Copy)]
-pub struct Wrong<'a>(pub &'a [&'a str], pub bool);
-
-impl Display for Wrong<'_> {
-    fn fmt<W: fmt::Write>(&self, f: &mut Formatter<W>) -> fmt::Result {
-        let Wrong(words, are_text) = *self;
-        if !are_text {
-            return f.write_str("one isn't UTF-8, as each has to be, a file's name too");
+/// The form of a command, if it is one.
+fn form_of(command: &str) -> Option<&'static Form> {
+    for form in FORMS {
+        if form.command == command {
+            return Some(form);
         }
-        let Some(command) = words.get(0) else {
-            return f.write_str("there is no command; costore --help tells them");
-        };
-        let command = Shown(command);
-        for form in FORMS {
-            if form.command == command.0 {
-                return Ill(form, &words[1..]).fmt(f);
+    }
+    None
+}
+
+/// What is wrong in the words of a command line, and whether each is UTF-8; where one isn't there are none
+/// here.
+pub fn wrong<'a>(words: &[&'a str], are_text: bool) -> Texts<'a> {
+    if !are_text {
+        return one("one isn't UTF-8, as each has to be, a file's name too");
+    }
+    let Some(command) = words.get(0) else {
+        return one("there is no command; costore --help tells them");
+    };
+    match form_of(command) {
+        Some(form) => ill(form, &words[1..]),
+        None => three(
+            "there is no command ",
+            command,
+            "; costore --help tells them",
+        ),
+    }
+}
+
+/// What is wrong in the words of a command, by what they are called: the first that isn't what it may be, or
+/// how many they are.
+fn ill<'a>(form: &Form, words: &[&'a str]) -> Texts<'a> {
+    if form.words.len() == words.len() {
+        for at in 0..words.len() {
+            let name = form.words[at];
+            let word = words[at];
+            if !may_be(name, word) {
+                return out(name, word);
             }
         }
-        write!(
-            f,
-            "there is no command {command}; costore --help tells them"
-        )
+    }
+    three(
+        "the words of this command are: costore ",
+        form.command,
+        form.text,
+    )
+}
+
+/// That a word isn't what one of its name may be.
+fn out<'a>(name: &'a str, word: &'a str) -> Texts<'a> {
+    let range = text_of(RANGES, name).unwrap_or("any text but the empty one");
+    if word.is_empty() {
+        three(name, " is ", range)
+    } else {
+        [name, " is ", range, ", and not ", word]
     }
 }
 
-/// Words that a command doesn't take.
-#[derive(Clone, Copy)]
-struct Ill<'a>(&'static Form, &'a [&'a str]);
-
-impl Display for Ill<'_> {
-    fn fmt<W: fmt::Write>(&self, f: &mut Formatter<W>) -> fmt::Result {
-        let Ill(form, words) = *self;
-        if form.words.len() == words.len() {
-            for at in 0..words.len() {
-                let name = form.words[at];
-                let word = words[at];
-                if !may_be(name, word) {
-                    return Out(name, word).fmt(f);
-                }
-            }
-        }
-        let command = form.command;
-        write!(f, "the words of this command are: costore {command}")?;
-        for name in form.words {
-            write!(f, " {name}")?;
-        }
-        Ok(())
-    }
-}
-
-/// A word that isn't what one of its name may be.
-#[derive(Clone, Copy)]
-struct Out<'a>(&'static str, &'a str);
-
-impl Display for Out<'_> {
-    fn fmt<W: fmt::Write>(&self, f: &mut Formatter<W>) -> fmt::Result {
-        let Out(name, word) = *self;
-        let range = range_of(name);
-        write!(f, "{name} is {range}")?;
-        if !word.is_empty() {
-            let word = Shown(word);
-            write!(f, ", and not {word}")?;
-        }
-        Ok(())
-    }
-}
-
-/// What a word of this name may be.
-fn range_of(name: &str) -> &'static str {
-    match name {
-        "NAME" => "1 to 63 bytes of printable ASCII without blanks",
-        "K" => "a number from 2 to 64",
-        "NAMES" => "a number from 16 to 65536",
-        "NUMBER" => "a number from 0 to 18446744073709551615",
-        "COUNT" => "a number from 1 to 1000000",
-        "ENTRIES" => "a number from 1 to 4096",
-        _ => "any text but the empty one",
-    }
-}
+/// What a word may be, by what it is called.
+const RANGES: &[(&str, &str)] = &[
+    ("NAME", "1 to 63 bytes of printable ASCII without blanks"),
+    ("K", "a number from 2 to 64"),
+    ("NAMES", "a number from 16 to 65536"),
+    ("NUMBER", "a number from 0 to 18446744073709551615"),
+    ("COUNT", "a number from 1 to 1000000"),
+    ("ENTRIES", "a number from 1 to 4096"),
+];
 
 /// Whether a word of this name may be so.
 fn may_be(name: &str, word: &str) -> bool {
