@@ -2,18 +2,19 @@
 //! those that it reads first.
 ghost use Rattle.std.specs.Prelude.{◌≤◌, IsTrue, IsFalse};
 
+use crate::answers::answered;
 use crate::clock::{mean, now};
+use crate::lines::Lines;
 use crate::numbered::names_of;
+use crate::scratch::{Measured, on_scratch};
 use cache_rows::trials::{CacheTrial, cached_on};
-use disk_face::{Bay, Disk, Mounted};
-use disk_file::FileBay;
+use disk_face::Disk;
 use disk_mem::MemSink;
 use slot_pair::SlotPair;
-use std::fs;
 use std::test::Fail;
 use store_rows::slices::{Slicer, sliced_on};
 
-/// The scratch file, which is removed at the end.
+/// The scratch file.
 const NAME: &str = "bench_cached.scratch";
 
 /// The divisor of the file: a buffer has a ninth of what its payload segment has.
@@ -28,21 +29,41 @@ const MOST: u64 = 4096;
 /// Bytes of them all.
 const ROOM: u64 = 1 << 24;
 
+/// An object of each name, which is read twice: by the store, or behind a cache that lists them all.
+#[derive(Drop)]
+struct Reads<'a> {
+    names: &'a [String],
+    count: u64,
+    is_cached: bool,
+    ghost low: { 16 ≤ count },
+    ghost high: { count ≤ 4096 },
+}
+
 /// Puts objects on a new file and reads each by the store, and on another one and reads each twice behind a
 /// cache that lists them all.
-pub fn measure(rt: &HostRuntime, names: u64, is_told: bool) -> Result<(), Fail>
+pub fn measure(rt: &HostRuntime, names: u64, lines: &mut Lines) -> Result<(), Fail>
     requires low { 16 ≤ names }
     requires high { names ≤ 65536 }
 {
     let count = names.min(MOST);
-    let list = names_of(rt.alloc(), count)?;
-    let plain = on_new_file(rt, &list, count, false)?;
-    let cached = on_new_file(rt, &list, count, true)?;
-    if is_told {
-        let (get, _) = plain;
-        let (miss, hit) = cached;
-        println!(rt; "{count} objects of 4 KiB: ns a get {get}, ns a miss {miss}, ns a hit {hit}")?;
-    }
+    let names = names_of(rt.alloc(), count)?;
+    measure_names(rt, &names, count, lines)
+}
+
+/// The same with these names.
+fn measure_names(
+    rt: &HostRuntime,
+    names: &[String],
+    count: u64,
+    lines: &mut Lines,
+) -> Result<(), Fail>
+    requires low { 16 ≤ count }
+    requires high { count ≤ 4096 }
+{
+    let [get, _] = on_new_file(rt, names, count, false)?;
+    let [miss, hit] = on_new_file(rt, names, count, true)?;
+    let text = "# objects of 4 KiB: ns a get #, ns a miss #, ns a hit #";
+    lines.add(rt, "", text, &[count, get, miss, hit]);
     Ok(())
 }
 
@@ -52,73 +73,60 @@ fn on_new_file(
     names: &[String],
     count: u64,
     is_cached: bool,
-) -> Result<(u64, u64), Fail>
+) -> Result<[u64; 2], Fail>
     requires low { 16 ≤ count }
     requires high { count ≤ 4096 }
 {
-    let mut bay = FileBay::new(rt);
-    let Ok(Mounted::Made) = bay.mount(NAME, true) else {
-        return Err("a new file")?;
+    let reads = Reads {
+        names,
+        count,
+        is_cached,
     };
-    let measured = on_disk(rt, bay, names, count, is_cached);
-    let removed = fs::remove_file(rt, NAME);
-    let times = measured?;
-    removed?;
-    Ok(times)
+    on_scratch(rt, NAME, true, &reads)
 }
 
-/// Formats the file, puts the objects, and reads each twice.
-fn on_disk<D: Disk + Drop>(
-    rt: &HostRuntime,
-    disk: D,
-    names: &[String],
-    count: u64,
-    is_cached: bool,
-) -> Result<(u64, u64), Fail>
-    requires ready { IsTrue (D.state disk).is_ready }
-    requires untold { IsFalse (D.state disk).tells }
-    requires low { 16 ≤ count }
-    requires high { count ≤ 4096 }
-{
-    let mut disk = disk;
-    SlotPair::format(&mut disk, DIVISOR, count)?;
-    if is_cached {
-        let mut store = cached_on(rt.alloc(), disk, count)?;
-        for name in names {
-            store.put(name.as_str(), OBJECT)?;
+impl<'a> Measured for Reads<'a> {
+    type Times = [u64; 2];
+
+    /// Formats the file, puts the objects, and reads each twice.
+    fn times<D: Disk + Drop>(&self, rt: &HostRuntime, disk: D) -> Result<[u64; 2], Fail>
+        requires ready { IsTrue (D.state disk).is_ready }
+        requires untold { IsFalse (D.state disk).tells }
+    {
+        let mut disk = disk;
+        SlotPair::format(&mut disk, DIVISOR, self.count)?;
+        if self.is_cached {
+            let mut store = cached_on(rt.alloc(), disk, self.count)?;
+            by_cache(rt, &mut store, self.names)
+        } else {
+            let mut store = sliced_on(rt.alloc(), disk)?;
+            by_store(rt, &mut store, self.names)
         }
-        store.keep()?;
-        Ok((
-            by_cache(rt, &mut store, names)?,
-            by_cache(rt, &mut store, names)?,
-        ))
-    } else {
-        let mut store = sliced_on(rt.alloc(), disk)?;
-        put_all(&mut store, names)?;
-        Ok((
-            by_store(rt, &mut store, names)?,
-            by_store(rt, &mut store, names)?,
-        ))
     }
+}
+
+/// Puts the objects, and reads each twice by the store.
+fn by_store<D: Disk>(
+    rt: &HostRuntime,
+    store: &mut Slicer<D>,
+    names: &[String],
+) -> Result<[u64; 2], Fail> {
+    put_all(store, names)?;
+    let first = gets(rt, store, names)?;
+    let second = gets(rt, store, names)?;
+    Ok([first, second])
 }
 
 /// Puts an object of each name.
 fn put_all<D: Disk>(store: &mut Slicer<D>, names: &[String]) -> Result<(), Fail> {
     for name in names {
-        let Some(answer) = store.put(name.as_str(), OBJECT) else {
-            return Err("no flush in hand")?;
-        };
-        answer?;
+        answered(store.put(name.as_str(), OBJECT))?;
     }
     Ok(())
 }
 
 /// Nanoseconds of a read by the store.
-fn by_store<D: Disk>(
-    rt: &HostRuntime,
-    store: &mut Slicer<D>,
-    names: &[String],
-) -> Result<u64, Fail> {
+fn gets<D: Disk>(rt: &HostRuntime, store: &mut Slicer<D>, names: &[String]) -> Result<u64, Fail> {
     let mut sink = MemSink::with_room(rt.alloc(), ROOM, Vec::new(rt.alloc()))?;
     let start = now(rt);
     for name in names {
@@ -127,8 +135,23 @@ fn by_store<D: Disk>(
     Ok(mean(rt, start, names.len()))
 }
 
-/// Nanoseconds of a read behind the cache.
+/// Puts the objects, and reads each twice behind the cache.
 fn by_cache<D: Disk>(
+    rt: &HostRuntime,
+    store: &mut CacheTrial<D>,
+    names: &[String],
+) -> Result<[u64; 2], Fail> {
+    for name in names {
+        store.put(name.as_str(), OBJECT)?;
+    }
+    store.keep()?;
+    let miss = cached_gets(rt, store, names)?;
+    let hit = cached_gets(rt, store, names)?;
+    Ok([miss, hit])
+}
+
+/// Nanoseconds of a read behind the cache.
+fn cached_gets<D: Disk>(
     rt: &HostRuntime,
     store: &mut CacheTrial<D>,
     names: &[String],

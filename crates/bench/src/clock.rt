@@ -26,3 +26,8 @@ pub fn micros(rt: &HostRuntime, start: Option<Instant>) -> u64 {
 pub fn mean(rt: &HostRuntime, start: Option<Instant>, calls: usize) -> u64 {
     nanos(rt, start) / calls.max(1) as u64
 }
+
+/// Takes the nanoseconds a call, where they are the least so far.
+pub fn take_least(rt: &HostRuntime, start: Option<Instant>, calls: usize, least: &mut u64) {
+    *least = (*least).min(mean(rt, start, calls));
+}

@@ -3,13 +3,13 @@ ghost use Rattle.std.specs.Prelude.{◌≡◌, ◌≤◌, IsTrue, length};
 
 mod phases;
 
+use crate::lines::Lines;
 use crate::numbered::names_of;
 use disk_face::Disk;
 use disk_mem::PlainDisk;
-use phases::{Cost, OBJECT, changes, checkpoint};
+use phases::{Cost, OBJECT, changes};
 use slot_pair::SlotPair;
 use std::alloc::Global;
-use std::io;
 use std::test::Fail;
 use store_rows::trials::{Trial, store_on};
 
@@ -22,13 +22,22 @@ const ROOM_A_NAME: u64 = 1024;
 const ROOM_BESIDE: u64 = 65_536;
 
 /// Measures a file with so many names.
-pub fn measure(rt: &HostRuntime, names: u64, is_told: bool) -> Result<(), Fail>
+pub fn measure(rt: &HostRuntime, names: u64, lines: &mut Lines) -> Result<(), Fail>
     requires low { 16 ≤ names }
     requires high { names ≤ 65536 }
 {
-    let disk = PlainDisk::with_room(rt.alloc(), names * ROOM_A_NAME + ROOM_BESIDE)?;
-    let mut trial = fresh_on(rt.alloc(), disk, names)?;
-    measure_on(rt, &mut trial, names, is_told)
+    let list = names_of(rt.alloc(), names)?;
+    let mut trial = fresh(rt.alloc(), names)?;
+    measure_on(rt, &mut trial, &list, lines)
+}
+
+/// The store of a file on a disk in memory, which has room for `names` names.
+fn fresh(alloc: Global, names: u64) -> Result<Trial<PlainDisk>, Fail>
+    requires low { 16 ≤ names }
+    requires high { names ≤ 65536 }
+{
+    let disk = PlainDisk::with_room(alloc, names * ROOM_A_NAME + ROOM_BESIDE)?;
+    fresh_on(alloc, disk, names)
 }
 
 /// The store of a file that is formatted with room for `names` names.
@@ -49,42 +58,40 @@ fn fresh_on<D: Disk + Drop>(alloc: Global, disk: D, names: u64) -> Result<Trial<
 fn measure_on<D: Disk>(
     rt: &HostRuntime,
     trial: &mut Trial<D>,
-    count: u64,
-    is_told: bool,
+    names: &[String],
+    lines: &mut Lines,
 ) -> Result<(), Fail> {
-    let names = names_of(rt.alloc(), count)?;
-    let filled = changes(rt, trial, &names, Some(OBJECT))?;
-    let full = checkpoint(rt, trial)?;
-    let replaced = changes(rt, trial, &names, Some(OBJECT))?;
-    let later = checkpoint(rt, trial)?;
+    let filled = changes(rt, trial, names, Some(OBJECT))?;
+    let replaced = changes(rt, trial, names, Some(OBJECT))?;
     let removed = changes(rt, trial, &names[..names.len() / 2], None)?;
-    let half = checkpoint(rt, trial)?;
-    if is_told {
-        println!(rt; "{count} names: checkpoint {full} us, {later} us later, {half} us with half")?;
-        show(rt, "put", &filled, 0)?;
-        show(rt, "replace", &replaced, later)?;
-        show(rt, "remove half", &removed, half)?;
-    }
+    show_all(rt, names.len() as u64, &[filled, replaced, removed], lines);
     Ok(())
+}
+
+/// Prints what the checkpoints and the changes cost.
+fn show_all(rt: &HostRuntime, count: u64, costs: &[Cost; 3], lines: &mut Lines) {
+    let [filled, replaced, removed] = costs;
+    let (full, later, half) = (filled.checkpoint, replaced.checkpoint, removed.checkpoint);
+    let text = "# names: checkpoint # us, # us later, # us with half";
+    lines.add(rt, "", text, &[count, full, later, half]);
+    show(rt, "put", filled, 0, lines);
+    show(rt, "replace", replaced, later, lines);
+    show(rt, "remove half", removed, half, lines);
 }
 
 /// Prints what some changes cost. Of the time of the flushes, `save` microseconds a checkpoint aren't
 /// counted to the moves: none while names are put, where the checkpoints have from no name to all.
-fn show(rt: &HostRuntime, what: &str, cost: &Cost, save: u64) -> io::Result<()> {
-    let Cost {
-        quiet,
-        quiet_nanos,
-        flushes,
-        flush_nanos,
-        moves,
-        saves,
-    } = *cost;
-    let a_quiet = quiet_nanos / quiet.max(1);
-    let saving = save.saturating_mul(1000).saturating_mul(saves);
-    let a_move = flush_nanos.saturating_sub(saving) / moves.max(1);
-    let micros = flush_nanos / 1000;
-    println!(rt;
-        "{what}: quiet {quiet}, ns a quiet {a_quiet}, flushes {flushes}, us {micros}, \
-        moves {moves}, saves {saves}, ns a move {a_move}"
-    )
+fn show(rt: &HostRuntime, what: &str, cost: &Cost, save: u64, lines: &mut Lines) {
+    let saving = save.saturating_mul(1000).saturating_mul(cost.saves);
+    let numbers = [
+        cost.quiet,
+        cost.quiet_nanos / cost.quiet.max(1),
+        cost.flushes,
+        cost.flush_nanos / 1000,
+        cost.moves,
+        cost.saves,
+        cost.flush_nanos.saturating_sub(saving) / cost.moves.max(1),
+    ];
+    let text = ": quiet #, ns a quiet #, flushes #, us #, moves #, saves #, ns a move #";
+    lines.add(rt, what, text, &numbers);
 }

@@ -4,42 +4,49 @@ mod parts;
 
 ghost use Rattle.std.specs.Prelude.{◌≤◌, IsTrue, IsFalse};
 
-use disk_face::{Bay, Disk, Mounted};
-use disk_file::FileBay;
+use crate::lines::Lines;
+use crate::scratch::{Measured, on_scratch};
+use disk_face::Disk;
 use file::written;
-use parts::{show, timed};
-use std::fs;
+use parts::timed;
 use std::test::Fail;
 
-/// The scratch file, which is removed at the end.
+/// The scratch file.
 const NAME: &str = "bench_open.scratch";
 
+/// Openings of a file of so many objects.
+#[derive(Drop)]
+struct Openings {
+    names: u64,
+    ghost low: { 16 ≤ names },
+    ghost high: { names ≤ 65536 },
+}
+
 /// Measures the opening of a file of so many objects.
-pub fn measure(rt: &HostRuntime, names: u64, is_told: bool) -> Result<(), Fail>
+pub fn measure(rt: &HostRuntime, names: u64, lines: &mut Lines) -> Result<(), Fail>
     requires low { 16 ≤ names }
     requires high { names ≤ 65536 }
 {
-    let mut bay = FileBay::new(rt);
-    let Ok(Mounted::Made | Mounted::There) = bay.mount(NAME, true) else {
-        return Err("a scratch file")?;
-    };
-    let times = times_of(rt, &mut bay, names);
-    let removed = fs::remove_file(rt, NAME);
-    let times = times?;
-    removed?;
-    if is_told {
-        show(rt, times)?;
-    }
+    let times = on_scratch(rt, NAME, false, &Openings { names })?;
+    lines.add(
+        rt,
+        "find",
+        " # us, state # us, rules # us, open # us",
+        &times,
+    );
     Ok(())
 }
 
-/// Writes the objects to an empty file, and times what is measured.
-fn times_of<D: Disk>(rt: &HostRuntime, disk: &mut D, names: u64) -> Result<[u64; 4], Fail>
-    requires ready { IsTrue (D.state disk.old).is_ready }
-    requires untold { IsFalse (D.state disk.old).tells }
-    requires low { 16 ≤ names }
-    requires high { names ≤ 65536 }
-{
-    written(rt, disk, names)?;
-    timed(rt, disk)
+impl Measured for Openings {
+    type Times = [u64; 4];
+
+    /// Writes the objects to an empty file, and times what is measured.
+    fn times<D: Disk + Drop>(&self, rt: &HostRuntime, disk: D) -> Result<[u64; 4], Fail>
+        requires ready { IsTrue (D.state disk).is_ready }
+        requires untold { IsFalse (D.state disk).tells }
+    {
+        let mut disk = disk;
+        written(rt, &mut disk, self.names)?;
+        timed(rt, &mut disk)
+    }
 }

@@ -5,39 +5,68 @@ ghost use Rattle.std.specs.Prelude.{◌≤◌, IsTrue, IsFalse};
 mod sliced;
 mod spread;
 
+use crate::lines::Lines;
 use crate::numbered::names_of;
-use disk_face::{Bay, Disk, Mounted};
-use disk_file::FileBay;
-use sliced::{Pauses, by_steps, in_one};
+use crate::scratch::{Measured, on_scratch};
+use disk_face::Disk;
+use sliced::{FLUSHES, GETS, Pauses, QUIET, STEPS, by_steps, in_one};
 use slot_pair::SlotPair;
 use spread::Spread;
 use std::test::Fail;
-use std::{fs, io};
 use store_rows::slices::{Slicer, sliced_on};
 
-/// The scratch file, which is removed at the end.
+/// The scratch file.
 const NAME: &str = "bench_pause.scratch";
 
 /// The divisor of the file: a buffer has a ninth of what its payload segment has.
 const DIVISOR: u64 = 9;
 
+/// How calls are told where each put is one call.
+const CALLS: &[(&str, usize)] = &[("put that flushes", FLUSHES), ("quiet put", QUIET)];
+
+/// The same where puts are made by steps.
+const CALLS_BY_STEPS: &[(&str, usize)] = &[
+    ("begin", FLUSHES),
+    ("step", STEPS),
+    ("get between two steps", GETS),
+    ("quiet begin", QUIET),
+];
+
+/// An object of each name, put twice: by one call each, or by steps.
+#[derive(Drop)]
+struct Puts<'a> {
+    names: &'a [String],
+    count: u64,
+    is_sliced: bool,
+    ghost low: { 16 ≤ count },
+    ghost high: { count ≤ 65536 },
+}
+
 /// Puts an object of each name twice on a new file, by one call each, and on another one by steps.
-pub fn measure(rt: &HostRuntime, names: u64, is_told: bool) -> Result<(), Fail>
-    requires low { 16 ≤ names }
-    requires high { names ≤ 65536 }
+pub fn measure(rt: &HostRuntime, count: u64, lines: &mut Lines) -> Result<(), Fail>
+    requires low { 16 ≤ count }
+    requires high { count ≤ 65536 }
 {
-    let list = names_of(rt.alloc(), names)?;
-    let one = on_new_file(rt, &list, names, false)?;
-    let steps = on_new_file(rt, &list, names, true)?;
-    if is_told {
-        println!(rt; "{names} names, nanoseconds: calls, half within, 99 of 100 within, longest")?;
-        show(rt, "put that flushes", &one.flushes)?;
-        show(rt, "quiet put", &one.quiet)?;
-        show(rt, "begin", &steps.flushes)?;
-        show(rt, "step", &steps.steps)?;
-        show(rt, "get between two steps", &steps.gets)?;
-        show(rt, "quiet begin", &steps.quiet)?;
-    }
+    let names = names_of(rt.alloc(), count)?;
+    measure_names(rt, &names, count, lines)
+}
+
+/// The same with these names.
+fn measure_names(
+    rt: &HostRuntime,
+    names: &[String],
+    count: u64,
+    lines: &mut Lines,
+) -> Result<(), Fail>
+    requires low { 16 ≤ count }
+    requires high { count ≤ 65536 }
+{
+    let one = on_new_file(rt, names, count, false)?;
+    let steps = on_new_file(rt, names, count, true)?;
+    let text = "# names, nanoseconds: calls, half within, 99 of 100 within, longest";
+    lines.add(rt, "", text, &[count]);
+    show(rt, CALLS, &one, lines);
+    show(rt, CALLS_BY_STEPS, &steps, lines);
     Ok(())
 }
 
@@ -51,38 +80,30 @@ fn on_new_file(
     requires low { 16 ≤ count }
     requires high { count ≤ 65536 }
 {
-    let mut bay = FileBay::new(rt);
-    let Ok(Mounted::Made) = bay.mount(NAME, true) else {
-        return Err("a new file")?;
+    let puts = Puts {
+        names,
+        count,
+        is_sliced,
     };
-    let measured = on_disk(rt, bay, names, count, is_sliced);
-    let removed = fs::remove_file(rt, NAME);
-    let pauses = measured?;
-    removed?;
-    Ok(pauses)
+    on_scratch(rt, NAME, true, &puts)
 }
 
-/// Formats the file, and measures on it.
-fn on_disk<D: Disk + Drop>(
-    rt: &HostRuntime,
-    disk: D,
-    names: &[String],
-    count: u64,
-    is_sliced: bool,
-) -> Result<Pauses, Fail>
-    requires ready { IsTrue (D.state disk).is_ready }
-    requires untold { IsFalse (D.state disk).tells }
-    requires low { 16 ≤ count }
-    requires high { count ≤ 65536 }
-{
-    let mut disk = disk;
-    SlotPair::format(&mut disk, DIVISOR, count)?;
-    let mut store = sliced_on(rt.alloc(), disk)?;
-    let mut pauses = Pauses::new();
-    'rounds: for _ in 0..2 {
-        all_names(rt, &mut store, names, is_sliced, &mut pauses)?;
+impl<'a> Measured for Puts<'a> {
+    type Times = Pauses;
+
+    fn times<D: Disk + Drop>(&self, rt: &HostRuntime, disk: D) -> Result<Pauses, Fail>
+        requires ready { IsTrue (D.state disk).is_ready }
+        requires untold { IsFalse (D.state disk).tells }
+    {
+        let mut disk = disk;
+        SlotPair::format(&mut disk, DIVISOR, self.count)?;
+        let mut store = sliced_on(rt.alloc(), disk)?;
+        let mut pauses = [Spread::new(); 4];
+        for _ in 0..2 {
+            all_names(rt, &mut store, self.names, self.is_sliced, &mut pauses)?;
+        }
+        Ok(pauses)
     }
-    Ok(pauses)
 }
 
 /// Puts an object of each name.
@@ -103,9 +124,11 @@ fn all_names<D: Disk>(
     Ok(())
 }
 
-/// Prints how long some calls took.
-fn show(rt: &HostRuntime, what: &str, spread: &Spread) -> io::Result<()> {
-    let (half, most) = (spread.within(50), spread.within(99));
-    let (calls, longest) = (spread.calls, spread.longest);
-    println!(rt; "{what}: {calls} calls, {half}, {most}, {longest}")
+/// Prints how long calls took.
+fn show(rt: &HostRuntime, calls: &[(&str, usize)], pauses: &Pauses, lines: &mut Lines) {
+    for (what, kind) in calls {
+        if let Some(spread) = pauses.get(*kind) {
+            lines.add(rt, what, ": # calls, #, #, #", &spread.numbers());
+        }
+    }
 }

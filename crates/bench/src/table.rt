@@ -8,11 +8,11 @@ mod names;
 mod whole;
 
 use crate::clock::{mean, now};
+use crate::lines::Lines;
 use extent_table::Table;
 use names::{fill, names_of};
 use slot_codec::Name;
 use std::alloc::AllocError;
-use std::io;
 use std::test::Fail;
 
 /// How often each measurement is made. The least is taken, since other processes run.
@@ -20,59 +20,70 @@ const ROUNDS: u64 = 8;
 
 /// Times each call at a table with room for `room` names. One name fewer is live, so that any may
 /// be set.
-pub fn measure(rt: &HostRuntime, room: u64, is_told: bool) -> Result<(), Fail>
+pub fn measure(rt: &HostRuntime, room: u64, lines: &mut Lines) -> Result<(), Fail>
     requires { room ≤ 65536 }
 {
     let names = names_of(rt.alloc(), 'o', room.saturating_sub(1))?;
-    let mut table = made(rt, room, is_told)?;
+    let mut table = made(rt, room, lines)?;
     fill(&mut table, &names);
-    calls(rt, &mut table, &names, is_told)?;
-    passes(rt, &mut table, &names, is_told)?;
+    measure_filled(rt, &mut table, &names, lines)?;
     Ok(())
 }
 
 /// Times the making of an empty table.
-fn made(rt: &HostRuntime, room: u64, is_told: bool) -> io::Result<Table>
+fn made(rt: &HostRuntime, room: u64, lines: &mut Lines) -> Result<Table, Fail>
     requires { room ≤ 65536 }
 {
     let start = now(rt);
-    let Ok(table) = Table::with_room(rt.alloc(), room) else {
-        return Err(io::Error::from(AllocError));
-    };
-    let making = mean(rt, start, 1);
-    if is_told {
-        println!(rt; "with_room {making}")?;
-    }
+    let table = Table::with_room(rt.alloc(), room)?;
+    lines.add(rt, "with_room", " #", &[mean(rt, start, 1)]);
     Ok(table)
 }
 
+/// Times the calls at a table where these names are live.
+fn measure_filled(
+    rt: &HostRuntime,
+    table: &mut Table,
+    names: &[Name],
+    lines: &mut Lines,
+) -> Result<(), AllocError> {
+    calls(rt, table, names, lines)?;
+    passes(rt, table, names, lines)
+}
+
 /// Times the calls of one name, key or place.
-fn calls(rt: &HostRuntime, table: &mut Table, names: &[Name], is_told: bool) -> io::Result<()> {
+fn calls(
+    rt: &HostRuntime,
+    table: &mut Table,
+    names: &[Name],
+    lines: &mut Lines,
+) -> Result<(), AllocError> {
     let by_name = by_name::time(rt, table, names);
     table.keep();
     let kept = by_name::time(rt, table, names);
     let by_key = by_key::time(rt, table)?;
     let by_place = by_place::time(rt, table);
-    if is_told {
-        by_name::show(rt, by_name, "never kept")?;
-        by_name::show(rt, kept, "kept")?;
-        by_key::show(rt, by_key)?;
-        by_place::show(rt, by_place)?;
-    }
+    lines.add(rt, "never kept", by_name::TEXT, &by_name);
+    lines.add(rt, "kept", by_name::TEXT, &kept);
+    lines.add(rt, "in_order", by_key::TEXT, &by_key);
+    by_place::show(rt, &by_place, lines);
     Ok(())
 }
 
 /// Times the calls that go over the whole table.
-fn passes(rt: &HostRuntime, table: &mut Table, names: &[Name], is_told: bool) -> io::Result<()> {
+fn passes(
+    rt: &HostRuntime,
+    table: &mut Table,
+    names: &[Name],
+    lines: &mut Lines,
+) -> Result<(), AllocError> {
     let others = names_of(rt.alloc(), 'p', names.len() as u64)?;
     let first = &names[..names.len().min(1)];
     let one = whole::time(rt, table, first, first);
     let all = whole::time(rt, table, names, names);
     let new = whole::time(rt, table, names, &others);
-    if is_told {
-        whole::show(rt, one, "one name changed")?;
-        whole::show(rt, all, "all names changed")?;
-        whole::show(rt, new, "all names replaced")?;
-    }
+    lines.add(rt, "one name changed", whole::TEXT, &one);
+    lines.add(rt, "all names changed", whole::TEXT, &all);
+    lines.add(rt, "all names replaced", whole::TEXT, &new);
     Ok(())
 }

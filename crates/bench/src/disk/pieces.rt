@@ -4,8 +4,41 @@ ghost use Rattle.std.specs.Prelude.{IsTrue, IsFalse};
 use crate::clock::{micros, now};
 use disk_face::{Disk, DiskFault};
 
+/// How many times fewer syncs than pieces are measured.
+const PIECES_A_SYNC: u64 = 64;
+
+/// The times of writes, of reads and of syncs. The file is written once before, without being measured.
+pub fn times_of<D: Disk>(
+    rt: &HostRuntime,
+    disk: &mut D,
+    piece: &mut [u8],
+    count: u64,
+) -> Result<[u64; 3], DiskFault>
+    requires ready { IsTrue (D.state disk.old).is_ready }
+    requires untold { IsFalse (D.state disk.old).tells }
+    ensures ready { IsTrue (D.state disk.new).is_ready }
+    ensures untold { IsFalse (D.state disk.new).tells }
+{
+    fill(rt, disk, piece, count)?;
+    let write = writes(rt, disk, piece, count)?;
+    let read = reads(rt, disk, piece, count)?;
+    let sync = syncs(rt, disk, piece, count / PIECES_A_SYNC)?;
+    Ok([write, read, sync])
+}
+
+/// Gives the file its length, and writes it once.
+fn fill<D: Disk>(rt: &HostRuntime, disk: &mut D, piece: &[u8], count: u64) -> Result<u64, DiskFault>
+    requires ready { IsTrue (D.state disk.old).is_ready }
+    requires untold { IsFalse (D.state disk.old).tells }
+    ensures ready { IsTrue (D.state disk.new).is_ready }
+    ensures untold { IsFalse (D.state disk.new).tells }
+{
+    disk.set_len(count.saturating_mul(piece.len() as u64))?;
+    writes(rt, disk, piece, count)
+}
+
 /// Writes a piece so many times, one after another from position 0.
-pub fn writes<D: Disk>(
+fn writes<D: Disk>(
     rt: &HostRuntime,
     disk: &mut D,
     piece: &[u8],
@@ -26,7 +59,7 @@ pub fn writes<D: Disk>(
 }
 
 /// Reads a piece so many times, one after another from position 0.
-pub fn reads<D: Disk>(
+fn reads<D: Disk>(
     rt: &HostRuntime,
     disk: &mut D,
     piece: &mut [u8],
@@ -48,7 +81,7 @@ pub fn reads<D: Disk>(
 
 /// Syncs what was written before, which isn't measured; then writes a piece at position 0 and syncs, so
 /// many times.
-pub fn syncs<D: Disk>(
+fn syncs<D: Disk>(
     rt: &HostRuntime,
     disk: &mut D,
     piece: &[u8],

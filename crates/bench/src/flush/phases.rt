@@ -15,8 +15,9 @@ const CLASS: usize = 6;
 const ROUNDS: u64 = 8;
 
 /// What some changes cost: how many were quiet, and how many made a flush, and nanoseconds of both;
-/// and how many objects the flushes moved, and how many checkpoints they saved.
-#[derive(Clone, Copy)]
+/// and how many objects the flushes moved, and how many checkpoints they saved. Then microseconds of a
+/// checkpoint after them.
+#[derive(Drop)]
 pub struct Cost {
     pub quiet: u64,
     pub quiet_nanos: u64,
@@ -24,9 +25,10 @@ pub struct Cost {
     pub flush_nanos: u64,
     pub moves: u64,
     pub saves: u64,
+    pub checkpoint: u64,
 }
 
-/// Puts the object under each name, or removes each where there is none.
+/// Puts the object under each name, or removes each where there is none; then saves checkpoints.
 pub fn changes<D: Disk>(
     rt: &HostRuntime,
     trial: &mut Trial<D>,
@@ -34,23 +36,36 @@ pub fn changes<D: Disk>(
     object: Option<&[u8]>,
 ) -> Result<Cost, Fail> {
     let (moved, saved) = counts(trial);
-    let mut quiet = [0u64; 2];
-    let mut flushed = [0u64; 2];
+    let [quiet, quiet_nanos, flushes, flush_nanos] = change_each(rt, trial, names, object)?;
+    let (moved_then, saved_then) = counts(trial);
+    let checkpoint = checkpoint(rt, trial)?;
+    Ok(Cost {
+        quiet,
+        quiet_nanos,
+        flushes,
+        flush_nanos,
+        moves: moved_then.saturating_sub(moved) / OBJECT.len() as u64,
+        saves: saved_then.saturating_sub(saved),
+        checkpoint,
+    })
+}
+
+/// Makes the changes: how many were quiet, and their nanoseconds, and the same of those that made a flush.
+fn change_each<D: Disk>(
+    rt: &HostRuntime,
+    trial: &mut Trial<D>,
+    names: &[String],
+    object: Option<&[u8]>,
+) -> Result<[u64; 4], Refusal> {
+    let mut quiet = [0; 2];
+    let mut flushed = [0; 2];
     for name in names {
         let start = now(rt);
         let is_flush = change(trial, name.as_str(), object)?;
         let nanos = nanos(rt, start);
         add(if is_flush { &mut flushed } else { &mut quiet }, nanos);
     }
-    let (moved_then, saved_then) = counts(trial);
-    Ok(Cost {
-        quiet: quiet[0],
-        quiet_nanos: quiet[1],
-        flushes: flushed[0],
-        flush_nanos: flushed[1],
-        moves: moved_then.saturating_sub(moved) / OBJECT.len() as u64,
-        saves: saved_then.saturating_sub(saved),
-    })
+    Ok([quiet[0], quiet[1], flushed[0], flushed[1]])
 }
 
 /// Puts the object under a name, or removes the name, and tells whether that made a flush.
@@ -79,7 +94,7 @@ fn counts<D: Disk>(trial: &Trial<D>) -> (u64, u64) {
 }
 
 /// Microseconds of a checkpoint: the least of a few.
-pub fn checkpoint<D: Disk>(rt: &HostRuntime, trial: &mut Trial<D>) -> Result<u64, Fail> {
+fn checkpoint<D: Disk>(rt: &HostRuntime, trial: &mut Trial<D>) -> Result<u64, Refusal> {
     let mut least = u64::MAX;
     for _ in 0..ROUNDS {
         let start = now(rt);

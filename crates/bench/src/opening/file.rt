@@ -2,10 +2,10 @@
 ghost use Rattle.std.specs.Prelude.{◌≤◌, IfOk, IsTrue, IsFalse};
 ghost use Rattle.slot_codec.specs.Reading.{all_in_range};
 
-use crate::numbered::scrambled;
+use crate::numbered::scrambled_name;
 use disk_face::Disk;
 use extent_table::{Spot, Table, a_table_can_be_saved};
-use slot_codec::{CodecFault, HEADER_LEN, Header, Name, cap, read_header};
+use slot_codec::{CodecFault, HEADER_LEN, Header, cap, read_header};
 use slot_pair::SlotPair;
 use std::alloc::Global;
 use std::test::Fail;
@@ -28,13 +28,26 @@ pub fn written<D: Disk>(rt: &HostRuntime, disk: &mut D, names: u64) -> Result<()
     ensures ready { IsTrue (D.state disk.new).is_ready }
     ensures untold { IsFalse (D.state disk.new).tells }
 {
-    let table = table_of(rt.alloc(), names)?;
-    SlotPair::format(disk, DIVISOR, names)?;
     let payload = names * OBJECT;
-    let length = disk.len()?;
-    disk.set_len(length.saturating_add(payload + payload / DIVISOR))?;
+    formatted(disk, names, payload + payload / DIVISOR)?;
     let header = header_of(payload, names)?;
-    saved(rt.alloc(), disk, &header, &table)
+    let table = table_of(rt.alloc(), names)?;
+    saved(disk, &header, &table)
+}
+
+/// Formats an empty file, and gives it more bytes.
+fn formatted<D: Disk>(disk: &mut D, names: u64, more: u64) -> Result<(), Fail>
+    requires ready { IsTrue (D.state disk.old).is_ready }
+    requires untold { IsFalse (D.state disk.old).tells }
+    requires low { 16 ≤ names }
+    requires high { names ≤ 65536 }
+    ensures ready { IsTrue (D.state disk.new).is_ready }
+    ensures untold { IsFalse (D.state disk.new).tells }
+{
+    SlotPair::format(disk, DIVISOR, names)?;
+    let length = disk.len()?;
+    disk.set_len(length.saturating_add(more))?;
+    Ok(())
 }
 
 /// The header of a first checkpoint whose one class has so many bytes.
@@ -49,7 +62,7 @@ fn header_of(payload: u64, names: u64) -> Result<Header, CodecFault>
 }
 
 /// Saves a table.
-fn saved<D: Disk>(alloc: Global, disk: &mut D, header: &Header, table: &Table) -> Result<(), Fail>
+fn saved<D: Disk>(disk: &mut D, header: &Header, table: &Table) -> Result<(), Fail>
     requires ready { IsTrue (D.state disk.old).is_ready }
     requires untold { IsFalse (D.state disk.old).tells }
     requires ranges { IsTrue (all_in_range header.now) }
@@ -58,7 +71,7 @@ fn saved<D: Disk>(alloc: Global, disk: &mut D, header: &Header, table: &Table) -
 {
     let found = SlotPair::find(disk)?;
     let mut pair = SlotPair::of(&found);
-    let mut buf = vec![in alloc; 0u8; 57_344]?;
+    let mut buf = [0; 57_344];
     a_table_can_be_saved();
     if header.version != 1
         || cap(found.block.names, 1) < table.count()
@@ -76,17 +89,13 @@ fn table_of(alloc: Global, names: u64) -> Result<Table, Fail>
 {
     let mut table = Table::with_room(alloc, names)?;
     for n in 0..names {
-        let text = scrambled(alloc, 'o', n, names)?;
-        if let Some(name) = Name::new(text.as_str().as_bytes()) {
+        if let Some(name) = scrambled_name(alloc, 'o', n, names)? {
+            let spot = Spot {
+                place: n * OBJECT,
+                size: OBJECT,
+            };
             if table.room() {
-                table.set(
-                    &name,
-                    Spot {
-                        place: n * OBJECT,
-                        size: OBJECT,
-                    },
-                    [0; 32],
-                );
+                table.set(&name, spot, [0; 32]);
             }
         }
     }

@@ -7,7 +7,6 @@ use disk_face::Disk;
 use reopen::{Loaded, State, read_state};
 use size_class::CLASSES;
 use slot_pair::SlotPair;
-use std::io;
 use std::test::Fail;
 use store_core::Store;
 use table_check::check_settled;
@@ -22,19 +21,19 @@ pub fn timed<D: Disk>(rt: &HostRuntime, disk: &mut D) -> Result<[u64; 4], Fail>
 {
     let mut least = [u64::MAX; 4];
     for _ in 0..ROUNDS {
-        least[0] = least[0].min(finding(rt, disk)?);
+        let finding = finding(rt, disk)?;
         let [reading, trying] = reading(rt, disk)?;
-        least[1] = least[1].min(reading);
-        least[2] = least[2].min(trying);
-        least[3] = least[3].min(opening(rt, disk)?);
+        let opening = opening(rt, disk)?;
+        take_less(&mut least, &[finding, reading, trying, opening]);
     }
     Ok(least)
 }
 
-/// Prints the times.
-pub fn show(rt: &HostRuntime, times: [u64; 4]) -> io::Result<()> {
-    let [finding, reading, trying, opening] = times;
-    println!(rt; "find {finding} us, state {reading} us, rules {trying} us, open {opening} us")
+/// Takes each time that is less than the least so far.
+fn take_less(least: &mut [u64; 4], times: &[u64; 4]) {
+    for n in 0..4 {
+        least[n] = least[n].min(times[n]);
+    }
 }
 
 /// Microseconds of finding the slot in use.
@@ -53,15 +52,16 @@ fn reading<D: Disk>(rt: &HostRuntime, disk: &mut D) -> Result<[u64; 2], Fail>
     ensures ready { IsTrue (D.state disk.new).is_ready }
 {
     let start = now(rt);
-    let Ok(State::Still(loaded)) = read_state::<D, CLASSES>(rt.alloc(), disk) else {
-        return Err("a settled state")?;
-    };
+    let state = read_state::<D, CLASSES>(rt.alloc(), disk);
     let reading = micros(rt, start);
-    Ok([reading, trying(rt, &loaded)?])
+    match &state {
+        Ok(State::Still(loaded)) => trying(rt, loaded, reading),
+        _ => Err("a settled state")?,
+    }
 }
 
-/// Microseconds of trying the rules of a table.
-fn trying(rt: &HostRuntime, loaded: &Loaded<CLASSES>) -> Result<u64, Fail>
+/// Microseconds of trying the rules of a table, behind those of reading it.
+fn trying(rt: &HostRuntime, loaded: &Loaded<CLASSES>, reading: u64) -> Result<[u64; 2], Fail>
     requires { KeepsLoaded loaded.now }
 {
     let mut order = Vec::with_capacity(rt.alloc(), 65_536)?;
@@ -72,7 +72,7 @@ fn trying(rt: &HostRuntime, loaded: &Loaded<CLASSES>) -> Result<u64, Fail>
     let length = loaded.layout.end();
     let k = loaded.block.k;
     check_settled::<CLASSES>(&loaded.table, &loaded.header, k, length, &mut order)?;
-    Ok(micros(rt, start))
+    Ok([reading, micros(rt, start)])
 }
 
 /// Microseconds of opening a store.

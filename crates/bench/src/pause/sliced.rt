@@ -1,5 +1,6 @@
 //! Times puts by one call, and by a begin and its steps with a read before each.
 use super::spread::Spread;
+use crate::answers::answered;
 use crate::clock::{nanos, now};
 use disk_face::Disk;
 use disk_mem::MemSink;
@@ -11,28 +12,18 @@ use store_rows::slices::Slicer;
 const OBJECT: &[u8] = &[7; 64];
 
 /// How long calls took, by their kind.
-#[derive(Drop)]
-pub struct Pauses {
-    /// Changes that saved nothing.
-    pub quiet: Spread,
-    /// Puts that made a flush, or begins of one.
-    pub flushes: Spread,
-    pub steps: Spread,
-    /// Reads between two steps.
-    pub gets: Spread,
-}
+pub type Pauses = [Spread; 4];
 
-impl Pauses {
-    /// No call yet.
-    pub fn new() -> Pauses {
-        Pauses {
-            quiet: Spread::new(),
-            flushes: Spread::new(),
-            steps: Spread::new(),
-            gets: Spread::new(),
-        }
-    }
-}
+/// Puts that made a flush, or begins of one.
+pub const FLUSHES: usize = 0;
+
+/// Changes that saved nothing.
+pub const QUIET: usize = 1;
+
+pub const STEPS: usize = 2;
+
+/// Reads between two steps.
+pub const GETS: usize = 3;
 
 /// Puts the object under a name by one call.
 pub fn in_one<D: Disk>(
@@ -42,14 +33,12 @@ pub fn in_one<D: Disk>(
     pauses: &mut Pauses,
 ) -> Result<(), Fail> {
     let start = now(rt);
-    let Some(answer) = store.put(name, OBJECT) else {
-        return Err("no flush in hand")?;
-    };
+    let answer = store.put(name, OBJECT);
     let nanos = nanos(rt, start);
-    if answer?.kept {
-        pauses.flushes.count(nanos);
+    if answered(answer)?.kept {
+        pauses[FLUSHES].count(nanos);
     } else {
-        pauses.quiet.count(nanos);
+        pauses[QUIET].count(nanos);
     }
     Ok(())
 }
@@ -62,14 +51,12 @@ pub fn by_steps<D: Disk>(
     pauses: &mut Pauses,
 ) -> Result<(), Fail> {
     let start = now(rt);
-    let Some(answer) = store.begin_put(name, OBJECT) else {
-        return Err("no flush in hand")?;
-    };
+    let answer = store.begin_put(name, OBJECT);
     let nanos = nanos(rt, start);
-    match answer? {
-        Begun::Done => pauses.quiet.count(nanos),
+    match answered(answer)? {
+        Begun::Done => pauses[QUIET].count(nanos),
         Begun::InHand => {
-            pauses.flushes.count(nanos);
+            pauses[FLUSHES].count(nanos);
             to_end(rt, store, name, pauses)?;
         }
     }
@@ -84,13 +71,11 @@ fn to_end<D: Disk>(
     pauses: &mut Pauses,
 ) -> Result<(), Fail> {
     for _ in 0..MOST_STEPS {
-        read(rt, store, name, &mut pauses.gets)?;
+        read(rt, store, name, &mut pauses[GETS])?;
         let start = now(rt);
-        let Some(answer) = store.step() else {
-            return Err("a flush in hand")?;
-        };
-        pauses.steps.count(nanos(rt, start));
-        if answer? == Progress::Settled {
+        let answer = store.step();
+        pauses[STEPS].count(nanos(rt, start));
+        if answered(answer)? == Progress::Settled {
             return Ok(());
         }
     }

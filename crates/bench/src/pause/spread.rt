@@ -4,9 +4,9 @@
 #[derive(Clone, Copy)]
 pub struct Spread {
     counts: [u64; 512],
-    pub calls: u64,
+    calls: u64,
     /// Nanoseconds.
-    pub longest: u64,
+    longest: u64,
 }
 
 impl Spread {
@@ -28,8 +28,13 @@ impl Spread {
         self.longest = self.longest.max(nanos);
     }
 
+    /// How many calls there were, and nanoseconds in which half of them ended, 99 of 100, and all.
+    pub fn numbers(&self) -> [u64; 4] {
+        [self.calls, self.within(50), self.within(99), self.longest]
+    }
+
     /// Nanoseconds in which so many of a hundred calls ended, to within an eighth.
-    pub fn within(&self, of_hundred: u64) -> u64 {
+    fn within(&self, of_hundred: u64) -> u64 {
         let wanted = self.calls.saturating_mul(of_hundred) / 100;
         let mut seen = 0u64;
         for place in 0..self.counts.len() {

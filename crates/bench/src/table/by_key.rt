@@ -3,37 +3,42 @@ ghost use Rattle.std.specs.Prelude.{All, IfOk};
 ghost use Rattle.extent_table.specs.Extents.{IsLive};
 
 use super::ROUNDS;
-use crate::clock::{mean, now};
+use crate::clock::{now, take_least};
 use extent_table::Table;
 use slot_codec::{Roll, write_record};
 use std::alloc::{AllocError, Global};
-use std::io;
+
+/// The times, as they are told.
+pub const TEXT: &str = " #, kept_spot #, record #, sum #";
 
 /// Times `in_order`, `kept_spot` and the writing of a record, each at all live names. What they answer
 /// is summed and comes last, so that no call is left out.
 pub fn time(rt: &HostRuntime, table: &Table) -> Result<[u64; 4], AllocError> {
-    let mut least = [u64::MAX; 3];
-    let mut sum = 0u64;
+    let mut least = [u64::MAX; 4];
+    least[3] = 0;
     for _ in 0..ROUNDS {
-        let keys = live_keys(rt.alloc(), table)?;
-        let start = now(rt);
-        sum = sum.wrapping_add(sum_in_order(table));
-        least[0] = least[0].min(mean(rt, start, keys.len()));
-        let start = now(rt);
-        sum = sum.wrapping_add(sum_of_kept(table, &keys));
-        least[1] = least[1].min(mean(rt, start, keys.len()));
-        let start = now(rt);
-        sum = sum.wrapping_add(sum_of_records(table));
-        least[2] = least[2].min(mean(rt, start, keys.len()));
+        one_round(rt, table, &mut least)?;
     }
-    let [in_order, kept_spot, record] = least;
-    Ok([in_order, kept_spot, record, sum])
+    Ok(least)
 }
 
-/// Prints the times.
-pub fn show(rt: &HostRuntime, times: [u64; 4]) -> io::Result<()> {
-    let [in_order, kept_spot, record, sum] = times;
-    println!(rt; "in_order {in_order}, kept_spot {kept_spot}, record {record}, sum {sum}")
+/// Times each at all live names once.
+fn one_round(rt: &HostRuntime, table: &Table, least: &mut [u64; 4]) -> Result<(), AllocError> {
+    let keys = live_keys(rt.alloc(), table)?;
+    let start = now(rt);
+    let in_order = sum_in_order(table);
+    take_least(rt, start, keys.len(), &mut least[0]);
+    let start = now(rt);
+    let kept = sum_of_kept(table, &keys);
+    take_least(rt, start, keys.len(), &mut least[1]);
+    let start = now(rt);
+    let records = sum_of_records(table);
+    take_least(rt, start, keys.len(), &mut least[2]);
+    least[3] = least[3]
+        .wrapping_add(in_order)
+        .wrapping_add(kept)
+        .wrapping_add(records);
+    Ok(())
 }
 
 /// The keys of the live names, in the order of the names.

@@ -1,10 +1,12 @@
 //! Times of the calls that search a name.
 use super::ROUNDS;
 use super::names::{clear, fill};
-use crate::clock::{mean, now};
+use crate::clock::{now, take_least};
 use extent_table::Table;
 use slot_codec::Name;
-use std::io;
+
+/// The times, as they are told.
+pub const TEXT: &str = ": get #, set live #, remove #, set new #, sum #";
 
 /// Times `get`, `set` of a live name, `remove` and `set` of a new name, where the names are live.
 /// What `get` answers is summed and comes last, so that no call is left out.
@@ -22,16 +24,16 @@ fn one_round(rt: &HostRuntime, table: &mut Table, names: &[Name], least: &mut [u
     for batch in names.chunks((names.len() / 16 + 1).min(1024)) {
         let start = now(rt);
         least[4] = least[4].wrapping_add(sum_of_places(table, batch));
-        least[0] = least[0].min(mean(rt, start, batch.len()));
+        take_least(rt, start, batch.len(), &mut least[0]);
         let start = now(rt);
         fill(table, batch);
-        least[1] = least[1].min(mean(rt, start, batch.len()));
+        take_least(rt, start, batch.len(), &mut least[1]);
         let start = now(rt);
         clear(table, batch);
-        least[2] = least[2].min(mean(rt, start, batch.len()));
+        take_least(rt, start, batch.len(), &mut least[2]);
         let start = now(rt);
         fill(table, batch);
-        least[3] = least[3].min(mean(rt, start, batch.len()));
+        take_least(rt, start, batch.len(), &mut least[3]);
     }
 }
 
@@ -42,10 +44,4 @@ fn sum_of_places(table: &Table, names: &[Name]) -> u64 {
         sum = sum.wrapping_add(table.get(name).map_or(0, |spot| spot.place));
     }
     sum
-}
-
-/// Prints the times.
-pub fn show(rt: &HostRuntime, times: [u64; 5], what: &str) -> io::Result<()> {
-    let [get, live, remove, new, sum] = times;
-    println!(rt; "{what}: get {get}, set live {live}, remove {remove}, set new {new}, sum {sum}")
 }

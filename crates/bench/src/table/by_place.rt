@@ -2,9 +2,9 @@
 ghost use Rattle.std.specs.Prelude.{◌+◌, ◌<◌, ◌≤◌, ◌^◌};
 
 use super::ROUNDS;
-use crate::clock::{mean, now};
+use crate::clock::{now, take_least};
+use crate::lines::Lines;
 use extent_table::Table;
-use std::io;
 
 /// So many bytes lie between the places of neighbours.
 const STEP: u64 = 1 << 20;
@@ -14,11 +14,11 @@ const FAR: u64 = 64;
 
 /// Times `at_place` and `place_rank` at each rank, and `relocate` in runs: where the rank stays,
 /// where it changes by one, and where the object goes from one end to the other. The objects stand
-/// `STEP` apart when a measure begins. What the first two answer is summed and comes last, so that no
-/// call is left out.
+/// `STEP` apart when a measure begins. What the first two answer is summed and comes behind their times,
+/// so that no call is left out.
 pub fn time(rt: &HostRuntime, table: &mut Table) -> [u64; 6] {
     let mut least = [u64::MAX; 6];
-    least[5] = 0;
+    least[2] = 0;
     for _ in 0..ROUNDS {
         spread(table);
         ask_each(rt, table, &mut least);
@@ -31,11 +31,11 @@ pub fn time(rt: &HostRuntime, table: &mut Table) -> [u64; 6] {
 fn ask_each(rt: &HostRuntime, table: &Table, least: &mut [u64; 6]) {
     let calls = table.place_count() as usize;
     let start = now(rt);
-    least[5] = least[5].wrapping_add(sum_at_place(table));
-    least[0] = least[0].min(mean(rt, start, calls));
+    least[2] = least[2].wrapping_add(sum_at_place(table));
+    take_least(rt, start, calls, &mut least[0]);
     let start = now(rt);
-    least[5] = least[5].wrapping_add(sum_of_ranks(table));
-    least[1] = least[1].min(mean(rt, start, calls));
+    least[2] = least[2].wrapping_add(sum_of_ranks(table));
+    take_least(rt, start, calls, &mut least[1]);
 }
 
 /// Times `relocate`.
@@ -43,21 +43,25 @@ fn move_all(rt: &HostRuntime, table: &mut Table, least: &mut [u64; 6]) {
     let calls = table.place_count() as usize;
     let start = now(rt);
     move_each(table, 0, 1, 1);
-    least[2] = least[2].min(mean(rt, start, calls));
+    take_least(rt, start, calls, &mut least[3]);
     spread(table);
     let start = now(rt);
     move_each(table, 1, 2, STEP + STEP / 2);
-    least[3] = least[3].min(mean(rt, start, calls / 2));
+    take_least(rt, start, calls / 2, &mut least[4]);
     let start = now(rt);
     move_far(table);
-    least[4] = least[4].min(mean(rt, start, 2 * FAR as usize));
+    take_least(rt, start, 2 * FAR as usize, &mut least[5]);
 }
 
 /// Prints the times.
-pub fn show(rt: &HostRuntime, times: [u64; 6]) -> io::Result<()> {
-    let [at_place, place_rank, stays, next, far, sum] = times;
-    println!(rt; "at_place {at_place}, place_rank {place_rank}, sum {sum}")?;
-    println!(rt; "relocate: rank stays {stays}, next rank {next}, far end {far}")
+pub fn show(rt: &HostRuntime, times: &[u64; 6], lines: &mut Lines) {
+    lines.add(rt, "at_place", " #, place_rank #, sum #", &times[..3]);
+    lines.add(
+        rt,
+        "relocate",
+        ": rank stays #, next rank #, far end #",
+        &times[3..],
+    );
 }
 
 /// Moves the object of a rank, if there is one.

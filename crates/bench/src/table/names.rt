@@ -1,7 +1,7 @@
 //! Names that are set and removed.
 ghost use Rattle.std.specs.Prelude.{◌<◌, ◌^◌};
 
-use crate::numbered::scrambled;
+use crate::numbered::scrambled_name;
 use extent_table::{Spot, Table};
 use slot_codec::Name;
 use std::alloc::{AllocError, Global};
@@ -10,8 +10,7 @@ use std::alloc::{AllocError, Global};
 pub fn names_of(alloc: Global, letter: char, count: u64) -> Result<Vec<Name>, AllocError> {
     let mut names = Vec::new(alloc);
     for n in 0..count {
-        let text = scrambled(alloc, letter, n, count)?;
-        if let Some(name) = Name::new(text.as_str().as_bytes()) {
+        if let Some(name) = scrambled_name(alloc, letter, n, count)? {
             names.push(name)?;
         }
     }

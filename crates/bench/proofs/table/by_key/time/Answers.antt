@@ -1,7 +1,0 @@
-use Rattle.std.proofs.Common.{All, subst, sym}
-use Rattle.extent_table.specs.Extents.{IsLive}
-use Rattle.bench.proofs.table.by_key.time.Goals as goal
-
-pub sum_of_kept-sum-requires : goal.sum_of_kept-sum-requires
-sum_of_kept-sum-requires c = subst (All (IsLive c.args.table.now)) (sym c.deref.ensures.value)
-    c.in_ok-keys.ensures.live
