@@ -58,6 +58,11 @@ pub fn try_command(
     ran.disk
 }
 
+/// The number of one call.
+pub fn numbered(rt: &impl Abort, alloc: Global, call: u64) -> Vec<u64> {
+    vec![in alloc; call].expect(rt, "memory")
+}
+
 /// What a command puts of a file of some bytes, which it doesn't change.
 pub fn try_unchanged(
     rt: &impl Abort,
@@ -82,9 +87,14 @@ pub fn try_ends(rt: &impl Abort, alloc: Global, name: &str, file: MemDisk, lengt
     );
     try_outcome(rt, ran.outcome, ended(0), &name);
     try_number(rt, ran.disk.turns(), turns, &name);
-    try_number(rt, ran.put.len() as u64, length, &name);
-    try_holds(rt, has_ends(&ran.put), &name);
+    try_marks(rt, &ran.put, length, name);
     ran.disk
+}
+
+/// An object of so many bytes, of which the first is `<` and the last `>`.
+fn try_marks(rt: &impl Abort, bytes: &[u8], length: u64, name: &str) {
+    try_number(rt, bytes.len() as u64, length, &name);
+    try_holds(rt, has_ends(bytes), &name);
 }
 
 /// Whether the first byte is `<` and the last `>`.

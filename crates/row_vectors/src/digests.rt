@@ -2,6 +2,7 @@
 use crate::answers::{GET, got, try_bytes, try_outcome, try_unchanged};
 use crate::images::{Change, HELLO_DIGESTED, image};
 use crate::runs::{ended, run};
+use plain_layout::put;
 use std::alloc::Global;
 use std::process::Abort;
 
@@ -16,7 +17,7 @@ struct Row {
 
 macro_rules! rows {
     ($($changes:expr => $status:literal $puts:literal;)*) => {
-        [$(Row { changes: &$changes, status: $status, puts: $puts }),*]
+        &[$(Row { changes: &$changes, status: $status, puts: $puts }),*]
     };
 }
 
@@ -26,7 +27,7 @@ fn try_row(rt: &impl Abort, alloc: Global, row: &Row) {
     try_unchanged(rt, alloc, &bytes, GET, row.status, row.puts);
 }
 
-const ROWS: &[Row] = &rows! {
+const ROWS: &[Row] = rows! {
     [] => 0 "hello";
     // The first byte of the object, and its last.
     [(19_603, b'j')] => 13 "fault damaged\n";
@@ -150,50 +151,65 @@ const OF_TWO: &[Two] = &[
     (&["check", "f"], 0, b"store 9 16 2 200 222 1 still\n"),
 ];
 
-/// What a command puts of the file of two objects.
-fn try_two(rt: &impl Abort, alloc: Global, changes: &[Change], row: &Two) {
+/// The file of two objects, changed further.
+fn two(rt: &impl Abort, alloc: Global, changes: &[Change]) -> Vec<u8> {
+    got(rt, image(alloc, 19_825, TWO, changes))
+}
+
+/// What a command puts of a file of these bytes.
+fn try_two(rt: &impl Abort, alloc: Global, bytes: &[u8], row: &Two) {
     let (words, status, puts) = *row;
-    let bytes = got(rt, image(alloc, 19_825, TWO, changes));
-    let ran = got(rt, run(alloc, words, &bytes));
+    let ran = got(rt, run(alloc, words, bytes));
     try_outcome(rt, ran.outcome, ended(status), &words);
     try_bytes(rt, &ran.put, puts, &words);
 }
 
 #[test]
 fn gets_each_other_object_where_one_is_damaged(rt: HostRuntime) {
+    let bytes = two(&rt, rt.alloc(), &[]);
     for row in OF_TWO {
-        try_two(&rt, rt.alloc(), &[], row);
+        try_two(&rt, rt.alloc(), &bytes, row);
     }
 }
 
 /// The first object has no bytes, as its digest says; what stood there is no object's.
+const EMPTY: &[Change] = &[(152, 100), (8624, 0), (8728, 0)];
+
+/// What `get` puts of it.
+const NO_BYTES: &Two = &(GET, 0, b"");
+
 #[test]
 fn gets_an_object_without_bytes(rt: HostRuntime) {
-    let changes = [(152, 100), (8624, 0), (8728, 0)];
-    let row: Two = (GET, 0, b"");
-    try_two(&rt, rt.alloc(), &changes, &row);
+    let bytes = two(&rt, rt.alloc(), EMPTY);
+    try_two(&rt, rt.alloc(), &bytes, NO_BYTES);
 }
 
-/// Then the second object is damaged: what stands before its text is the first.
+/// The digest of the second object is changed too.
+const EMPTY_AND_DAMAGED: &[Change] = &[(152, 100), (8624, 0), (8728, 0), (8744, 0xCC)];
+
+/// What stands before the text of the second object is the first.
+const DUMPED: &Two = &(
+    &["dump", "f"],
+    13,
+    b"dump 2 0 0 0 0 0 0 100 0 0 0 0 0 0 0 0 0 0 0 0 0 0 0 0 0 0 0 0\nput a 0\n\nfault damaged\n",
+);
+
 #[test]
 fn dumps_what_stands_before_a_damaged_object(rt: HostRuntime) {
-    let changes = [(152, 100), (8624, 0), (8728, 0), (8744, 0xCC)];
-    let row: Two = (
-        &["dump", "f"],
-        13,
-        b"dump 2 0 0 0 0 0 0 100 0 0 0 0 0 0 0 0 0 0 0 0 0 0 0 0 0 0 0 0\nput a 0\n\nfault damaged\n",
-    );
-    try_two(&rt, rt.alloc(), &changes, &row);
+    let bytes = two(&rt, rt.alloc(), EMPTY_AND_DAMAGED);
+    try_two(&rt, rt.alloc(), &bytes, DUMPED);
 }
+
+/// What `get` puts of the second object once it was changed.
+const DAMAGED: &Two = &(&["get", "f", "b"], 13, b"fault damaged\n");
 
 /// The one byte of the second object that is changed, at a place of it: the object is damaged, and the other
 /// one isn't.
 fn try_byte(rt: &impl Abort, alloc: Global, at: usize) {
-    let changes = [(152, 100), (8624, 0), (8728, 0), (at, 1)];
-    let damaged: Two = (&["get", "f", "b"], 13, b"fault damaged\n");
-    try_two(rt, alloc, &changes, &damaged);
-    let other: Two = (GET, 0, b"");
-    try_two(rt, alloc, &changes, &other);
+    let mut bytes = two(rt, alloc, EMPTY);
+    put(&mut bytes, &[(at, 1)]);
+    try_two(rt, alloc, &bytes, DAMAGED);
+    try_two(rt, alloc, &bytes, NO_BYTES);
 }
 
 #[test]

@@ -1,6 +1,6 @@
 //! Runs over a disk that fails at one call.
 use crate::answers::{
-    FORMAT, GET, got, is_front_of_long, try_answer, try_command, try_holds, try_outcome,
+    FORMAT, GET, got, is_front_of_long, numbered, try_answer, try_command, try_holds, try_outcome,
 };
 use crate::images::{Change, LONG, LONG_DIGESTED, disk, image};
 use crate::runs::{Ran, ended, run_on};
@@ -11,11 +11,7 @@ use std::process::Abort;
 
 /// `get f a` of a file over a fuse that fails the read of a number.
 fn get_failing(rt: &impl Abort, alloc: Global, file: MemDisk, number: u64) -> Ran<Fuse<MemDisk>> {
-    let fuse = Fuse::listed(
-        file,
-        Vec::new(alloc),
-        vec![in alloc; number].expect(rt, "memory"),
-    );
+    let fuse = Fuse::listed(file, Vec::new(alloc), numbered(rt, alloc, number));
     got(rt, run_on(alloc, GET, true, fuse, Vec::new(alloc)))
 }
 
@@ -100,11 +96,15 @@ fn puts_nothing_before_it_read_for_the_digest(rt: HostRuntime) {
 /// `get f a` comes to. It is read once.
 const DAMAGED_PIECES: &[(u64, u8, &str)] = &[(12, 7, "fault disk\n"), (13, 13, "fault damaged\n")];
 
-fn try_damaged(rt: &impl Abort, alloc: Global, number: u64, status: u8, puts: &str) {
+/// That file.
+fn damaged(rt: &impl Abort, alloc: Global) -> MemDisk {
     let mut bytes = got(rt, image(alloc, 197_380, LONG, LONG_DIGESTED));
     put(&mut bytes, &[(179_602, b'l')]);
-    let file = MemDisk::from_bytes(alloc, &bytes).expect(rt, "memory");
-    let ran = get_failing(rt, alloc, file, number);
+    MemDisk::from_bytes(alloc, &bytes).expect(rt, "memory")
+}
+
+fn try_damaged(rt: &impl Abort, alloc: Global, number: u64, status: u8, puts: &str) {
+    let ran = get_failing(rt, alloc, damaged(rt, alloc), number);
     try_answer(rt, &ran, status, puts);
 }
 
@@ -133,11 +133,7 @@ const FORMATS: &[(u64, u8, &str)] = &[
 /// A format of which the changing call of a number failed, and what `get f a` then comes to.
 fn try_format(rt: &impl Abort, alloc: Global, number: u64, status: u8, puts: &str) {
     let none = MemDisk::new(alloc);
-    let fuse = Fuse::listed(
-        none,
-        vec![in alloc; number].expect(rt, "memory"),
-        Vec::new(alloc),
-    );
+    let fuse = Fuse::listed(none, numbered(rt, alloc, number), Vec::new(alloc));
     let ran = got(rt, run_on(alloc, FORMAT, false, fuse, Vec::new(alloc)));
     try_answer(rt, &ran, 7, "fault disk\n");
     let file = ran.disk.into_inner();

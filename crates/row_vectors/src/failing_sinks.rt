@@ -1,9 +1,10 @@
 //! Runs whose sink fails at one call.
 use crate::answers::{
-    FORMAT, GET, Told, got, is_front_of_long, told, try_answer, try_holds, try_number, try_outcome,
+    FORMAT, GET, Told, got, is_front_of_long, numbered, told, try_answer, try_holds, try_number,
+    try_outcome,
 };
 use crate::images::{LONG, disk};
-use crate::runs::{ended, run_on};
+use crate::runs::{Ran, ended, run_on};
 use disk_face::Disk;
 use disk_mem::MemDisk;
 use std::alloc::Global;
@@ -12,19 +13,22 @@ use std::process::Abort;
 /// The number of a put that fails, the status, and how much is put of the object of 160,000 bytes.
 const PIECES: &[(u64, u8, usize)] = &[(1, 9, 0), (2, 9, 65_536), (3, 9, 131_072), (4, 0, 160_000)];
 
+/// A command over a file that is there and a sink of which the put of a number fails.
+fn run_failing(
+    rt: &impl Abort,
+    alloc: Global,
+    file: MemDisk,
+    words: &[&str],
+    number: u64,
+) -> Ran<MemDisk> {
+    let fails = numbered(rt, alloc, number);
+    got(rt, run_on(alloc, words, true, file, fails))
+}
+
 /// What is put of the object of 160,000 bytes where the put of a number fails.
 fn try_long(rt: &impl Abort, alloc: Global, fails: u64, status: u8, length: usize) {
     let file = got(rt, disk(alloc, 197_380, LONG, &[]));
-    let ran = got(
-        rt,
-        run_on(
-            alloc,
-            GET,
-            true,
-            file,
-            vec![in alloc; fails].expect(rt, "memory"),
-        ),
-    );
+    let ran = run_failing(rt, alloc, file, GET, fails);
     try_outcome(rt, ran.outcome, ended(status), &fails);
     try_holds(rt, is_front_of_long(&ran.put, length), &fails);
     try_number(rt, ran.disk.turns(), 0, &fails);
@@ -40,16 +44,7 @@ fn puts_a_front_of_the_object(rt: HostRuntime) {
 /// What a command comes to over the hand-made file where the first put fails.
 fn try_row(rt: &impl Abort, alloc: Global, row: &Told) {
     let file = got(rt, disk(alloc, 19608, &[], &[]));
-    let ran = got(
-        rt,
-        run_on(
-            alloc,
-            row.words,
-            true,
-            file,
-            vec![in alloc; 1].expect(rt, "memory"),
-        ),
-    );
+    let ran = run_failing(rt, alloc, file, row.words, 1);
     try_answer(rt, &ran, row.status, row.puts);
 }
 
@@ -98,16 +93,8 @@ fn says_that_the_sink_failed(rt: HostRuntime) {
 #[test]
 fn formats_before_the_sink_fails_to_be_told(rt: HostRuntime) {
     let none = MemDisk::new(rt.alloc());
-    let ran = got(
-        &rt,
-        run_on(
-            rt.alloc(),
-            FORMAT,
-            false,
-            none,
-            vec![in rt.alloc(); 1].expect(&rt, "memory"),
-        ),
-    );
+    let fails = numbered(&rt, rt.alloc(), 1);
+    let ran = got(&rt, run_on(rt.alloc(), FORMAT, false, none, fails));
     try_answer(&rt, &ran, 9, "");
     try_number(&rt, ran.disk.turns(), 10, &"format");
 }

@@ -23,12 +23,13 @@ pub fn try_bytes(rt: &impl Abort, bytes: &[u8], expected: &[u8], row: &impl Debu
 
 /// The status and the numbers of a row are the expected ones.
 pub fn try_outcome(rt: &impl Abort, outcome: Outcome, expected: Outcome, row: &impl Debug) {
-    assert_eq!(rt; outcome, expected, "{row:?}");
+    try_number(rt, outcome.status as u64, expected.status as u64, row);
+    try_holds(rt, outcome == expected, row);
 }
 
 /// A number of a row is the expected one.
 pub fn try_number(rt: &impl Abort, number: u64, expected: u64, row: &impl Debug) {
-    assert_eq!(rt; number, expected, "{row:?}");
+    assert!(rt; number == expected, "{number}: {row:?}");
 }
 
 /// What holds of a row.

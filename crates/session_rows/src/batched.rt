@@ -2,12 +2,14 @@
 //! is stopped.
 ghost use Rattle.std.specs.Prelude.{IsTrue};
 
-use crate::answers::{MAP, got, serve_parts, try_bytes, try_holds, try_outcome, try_told};
+use crate::answers::{
+    MAP, got, played, stored, try_command, try_end, try_holds, try_puts, try_told,
+};
 use disk_face::Disk;
-use disk_mem::{Fuse, MemDisk, MemSource};
+use disk_mem::{Fuse, MemDisk};
 use row_vectors::images::{Change, disk};
 use row_vectors::inputs::{DATA_A, DATA_B, MISSING, PUT_A, PUT_B};
-use row_vectors::runs::{Ran, ended, formatted, joined, run_with, session};
+use row_vectors::runs::{Ran, joined, session};
 use std::alloc::Global;
 use std::process::Abort;
 
@@ -18,11 +20,14 @@ fn batch_on<D: Disk + Drop>(rt: &impl Abort, alloc: Global, disk: D, parts: &[&s
     requires ready { IsTrue (D.state disk).is_ready }
     ensures { IsTrue (D.state result.disk).is_ready }
 {
-    let input = got(rt, joined(alloc, parts));
-    let source = MemSource::new(input, 7, Vec::new(alloc));
-    got(
+    played(
         rt,
-        run_with(alloc, BATCH, true, disk, source, Vec::new(alloc)),
+        alloc,
+        disk,
+        BATCH,
+        parts,
+        Vec::new(alloc),
+        Vec::new(alloc),
     )
 }
 
@@ -38,15 +43,8 @@ fn try_batch<D: Disk + Drop>(
     ensures { IsTrue (D.state result).is_ready }
 {
     let ran = batch_on(rt, alloc, disk, parts);
-    try_bytes(rt, &ran.put, end.1.as_bytes(), &end);
-    try_outcome(rt, ran.outcome, ended(end.0), &end);
+    try_end(rt, &ran, end.0, end.1, &parts);
     ran.disk
-}
-
-/// A new file that served these requests.
-fn stored(rt: &impl Abort, alloc: Global, requests: &[&str]) -> MemDisk {
-    let file = got(rt, formatted(alloc, "9"));
-    serve_parts(rt, alloc, file, requests, 64).disk
 }
 
 /// What a session looks at, and what it finds of `a` of 100 bytes, of `b` of 10, and of nothing.
@@ -58,11 +56,15 @@ const HAS_B: &[&str] = &["list 1\nb 10\n", MISSING, DATA_B];
 
 const HAS_NONE: &[&str] = &["list 0\n", MISSING, MISSING];
 
+/// What a session finds in a file.
+fn found(rt: &impl Abort, alloc: Global, disk: MemDisk) -> Vec<u8> {
+    got(rt, session(alloc, disk, LOOK, 7)).put
+}
+
 /// The file has these objects and no other.
 fn try_found(rt: &impl Abort, alloc: Global, disk: MemDisk, puts: &[&str]) {
-    let ran = got(rt, session(alloc, disk, LOOK, 7));
-    let expected = got(rt, joined(alloc, puts));
-    try_bytes(rt, &ran.put, &expected, &puts);
+    let put = found(rt, alloc, disk);
+    try_puts(rt, alloc, &put, puts, &puts);
 }
 
 // ---- what is applied
@@ -89,25 +91,6 @@ const ROWS: &[Row] = rows! {
     [PUT_A], ["del a\n", PUT_B] => 0 "ok kept\n" HAS_B;
     [PUT_A], ["del a\n"] => 0 "ok kept\n" HAS_NONE;
     [PUT_A], [] => 0 "ok\n" HAS_A;
-    // A name that isn't there.
-    [PUT_A], ["del x\n"] => 17 "fault unfit 1\n" HAS_A;
-    [PUT_A], ["del a\n", "del x\n"] => 17 "fault unfit 2\n" HAS_A;
-    // Names that don't rise, the batch's own, one of 64 bytes.
-    [PUT_A], ["del b\n", "del a\n"] => 2 "fault request 2\n" HAS_A;
-    [PUT_A], ["put b 1\nx\n", "put b 1\ny\n"] => 2 "fault request 2\n" HAS_A;
-    [PUT_A], ["put !batch 0\n\n"] => 2 "fault request 1\n" HAS_A;
-    [PUT_A], ["del 0123456789012345678901234567890123456789012345678901234567890123\n"]
-        => 2 "fault request 1\n" HAS_A;
-    // A request that is none, and others that don't change.
-    [PUT_A], ["puts\n"] => 2 "fault request 1\n" HAS_A;
-    [PUT_A], ["get a\n"] => 2 "fault request 1\n" HAS_A;
-    [PUT_A], ["del a\n", "keep\n"] => 2 "fault request 2\n" HAS_A;
-    // Half a body, one without its newline, a line without one.
-    [PUT_A], ["put b 10\nabcde"] => 2 "fault request 1\n" HAS_A;
-    [PUT_A], ["put b 10\nabcdefghij"] => 2 "fault request 1\n" HAS_A;
-    [PUT_A], ["del a\n", "del b"] => 2 "fault request 2\n" HAS_A;
-    // An object that is too long.
-    [PUT_A], ["put b 67108865\nabc"] => 2 "fault request 1\n" HAS_A;
     // A batch that is kept: it comes first.
     [PUT_A, "put !batch 6\ndel a\n\n", "keep\n"], [] => 0 "ok\n" HAS_NONE;
     [PUT_A, "put !batch 6\ndel a\n\n", "keep\n"], ["put b 10\nabcdefghij\n"] => 0 "ok kept\n" HAS_B;
@@ -119,6 +102,36 @@ const ROWS: &[Row] = rows! {
     [PUT_A, "put !batch 0\n\n", "keep\n"], [] => 0 "ok\n" HAS_A;
 };
 
+/// An input for a file that has `a`, which is left as it is, and the end.
+type Refused = (&'static str, u8, &'static str);
+
+macro_rules! refusals {
+    ($($input:literal => $status:literal $puts:literal;)*) => {
+        &[$(($input, $status, $puts)),*]
+    };
+}
+
+const REFUSALS: &[Refused] = refusals! {
+    // A name that isn't there.
+    "del x\n" => 17 "fault unfit 1\n";
+    "del a\ndel x\n" => 17 "fault unfit 2\n";
+    // Names that don't rise, the batch's own, one of 64 bytes.
+    "del b\ndel a\n" => 2 "fault request 2\n";
+    "put b 1\nx\nput b 1\ny\n" => 2 "fault request 2\n";
+    "put !batch 0\n\n" => 2 "fault request 1\n";
+    "del 0123456789012345678901234567890123456789012345678901234567890123\n" => 2 "fault request 1\n";
+    // A request that is none, and others that don't change.
+    "puts\n" => 2 "fault request 1\n";
+    "get a\n" => 2 "fault request 1\n";
+    "del a\nkeep\n" => 2 "fault request 2\n";
+    // Half a body, one without its newline, a line without one.
+    "put b 10\nabcde" => 2 "fault request 1\n";
+    "put b 10\nabcdefghij" => 2 "fault request 1\n";
+    "del a\ndel b" => 2 "fault request 2\n";
+    // An object that is too long.
+    "put b 67108865\nabc" => 2 "fault request 1\n";
+};
+
 /// What a batch comes to.
 fn try_row(rt: &impl Abort, alloc: Global, row: &Row) {
     let file = stored(rt, alloc, row.before);
@@ -126,11 +139,27 @@ fn try_row(rt: &impl Abort, alloc: Global, row: &Row) {
     try_found(rt, alloc, file, row.after);
 }
 
+/// What an input that is refused comes to.
+fn try_refused(rt: &impl Abort, alloc: Global, row: &Refused) {
+    let (input, status, puts) = *row;
+    let file = stored(rt, alloc, &[PUT_A]);
+    let file = try_batch(rt, alloc, file, &[input], (status, puts));
+    try_found(rt, alloc, file, HAS_A);
+}
+
+/// The inputs that are refused.
+fn try_refusals(rt: &impl Abort, alloc: Global) {
+    for row in REFUSALS {
+        try_refused(rt, alloc, row);
+    }
+}
+
 #[test]
 fn applies_or_says_why_not(rt: HostRuntime) {
     for row in ROWS {
         try_row(&rt, rt.alloc(), row);
     }
+    try_refusals(&rt, rt.alloc());
 }
 
 /// The words that ask for `a`.
@@ -143,14 +172,7 @@ fn leaves_no_trace_of_what_it_removed(rt: HostRuntime) {
     let file = try_batch(&rt, rt.alloc(), file, REPLACES, (0, "ok kept\n"));
     let text = "class 3 10 1 0\nobject b 0 10\n";
     let file = try_told(&rt, rt.alloc(), file, MAP, text, &"replaced");
-    try_missing(&rt, rt.alloc(), file);
-}
-
-fn try_missing(rt: &impl Abort, alloc: Global, file: MemDisk) {
-    let none = MemSource::new(Vec::new(alloc), 1, Vec::new(alloc));
-    let ran = got(rt, run_with(alloc, GET, true, file, none, Vec::new(alloc)));
-    try_bytes(rt, &ran.put, b"fault missing\n", &"missing");
-    try_outcome(rt, ran.outcome, ended(6), &"missing");
+    try_command(&rt, rt.alloc(), file, GET, 6, "fault missing\n");
 }
 
 // ---- what is kept as a batch and is none
@@ -172,50 +194,43 @@ fn says_that_what_is_kept_is_no_batch(rt: HostRuntime) {
 
 // ---- room for names
 
-/// Puts of names without bytes, of which a file of version 1 with room for 16 has 16.
-const NAMES: [&str; 16] = [
-    "put c0 0\n\n",
-    "put c1 0\n\n",
-    "put c2 0\n\n",
-    "put c3 0\n\n",
-    "put c4 0\n\n",
-    "put c5 0\n\n",
-    "put c6 0\n\n",
-    "put c7 0\n\n",
-    "put c8 0\n\n",
-    "put c9 0\n\n",
-    "put d0 0\n\n",
-    "put d1 0\n\n",
-    "put d2 0\n\n",
-    "put d3 0\n\n",
-    "put d4 0\n\n",
-    "put d5 0\n\n",
-];
+/// Puts of eight names and of six without bytes.
+const EIGHT: &str = "put c0 0\n\nput c1 0\n\nput c2 0\n\nput c3 0\n\n\
+    put c4 0\n\nput c5 0\n\nput c6 0\n\nput c7 0\n\n";
 
-/// How many of the names there are, the input and the end: one name is the batch's own.
-type Full = (usize, &'static [&'static str], (u8, &'static str));
+const SIX: &str = "put c8 0\n\nput c9 0\n\nput d0 0\n\nput d1 0\n\nput d2 0\n\nput d3 0\n\n";
+
+/// So many names, which are saved. A file of version 1 with room for 16 has 16.
+const FOURTEEN: &[&str] = &[EIGHT, SIX, "keep\n"];
+
+const FIFTEEN: &[&str] = &[EIGHT, SIX, "put d4 0\n\n", "keep\n"];
+
+const SIXTEEN: &[&str] = &[EIGHT, SIX, "put d4 0\n\n", "put d5 0\n\n", "keep\n"];
+
+/// The names that there are, the input and the end: one name is the batch's own.
+type Full = (
+    &'static [&'static str],
+    &'static [&'static str],
+    (u8, &'static str),
+);
 
 const FULL: &[Full] = &[
-    (14, &["put e 0\n\n"], (0, "ok kept\n")),
-    (14, &["put e 0\n\n", "put f 0\n\n"], (17, "fault unfit 2\n")),
-    (15, &["put e 0\n\n"], (17, "fault unfit 1\n")),
-    (15, &["del c0\n", "put e 0\n\n"], (0, "ok kept\n")),
-    (15, &["put c0 0\n\n"], (0, "ok kept\n")),
-    (16, &["del c0\n"], (17, "fault unfit 1\n")),
-    (16, &[], (0, "ok\n")),
+    (FOURTEEN, &["put e 0\n\n"], (0, "ok kept\n")),
+    (
+        FOURTEEN,
+        &["put e 0\n\n", "put f 0\n\n"],
+        (17, "fault unfit 2\n"),
+    ),
+    (FIFTEEN, &["put e 0\n\n"], (17, "fault unfit 1\n")),
+    (FIFTEEN, &["del c0\n", "put e 0\n\n"], (0, "ok kept\n")),
+    (FIFTEEN, &["put c0 0\n\n"], (0, "ok kept\n")),
+    (SIXTEEN, &["del c0\n"], (17, "fault unfit 1\n")),
+    (SIXTEEN, &[], (0, "ok\n")),
 ];
 
 fn try_full(rt: &impl Abort, alloc: Global, row: &Full) {
-    let file = named(rt, alloc, row.0);
+    let file = stored(rt, alloc, row.0);
     try_batch(rt, alloc, file, row.1, row.2);
-}
-
-/// A new file that has so many of the names, and saved them.
-fn named(rt: &impl Abort, alloc: Global, count: usize) -> MemDisk {
-    let mut input = got(rt, joined(alloc, NAMES.get(..count).expect(rt, "names")));
-    input.extend_from_slice(b"keep\n").expect(rt, "memory");
-    let file = got(rt, formatted(alloc, "9"));
-    got(rt, session(alloc, file, &input, 64)).disk
 }
 
 #[test]
@@ -295,19 +310,22 @@ fn try_stopped(rt: &impl Abort, alloc: Global, calls: u64) -> bool {
     let ran = batch_on(rt, alloc, fuse, REPLACES);
     let is_whole = ran.outcome.status == 0;
     let end = if is_whole { WHOLE } else { STOPPED };
-    try_bytes(rt, &ran.put, end.1.as_bytes(), &calls);
+    try_end(rt, &ran, end.0, end.1, &calls);
     try_finished(rt, alloc, ran.disk.into_inner(), is_whole, calls);
     is_whole
+}
+
+/// Whether a session puts these parts.
+fn is_put(rt: &impl Abort, alloc: Global, put: &[u8], parts: &[&str]) -> bool {
+    got(rt, joined(alloc, parts)).as_slice() == put
 }
 
 /// A batch of nothing finishes the one that is kept.
 fn try_finished(rt: &impl Abort, alloc: Global, file: MemDisk, is_whole: bool, calls: u64) {
     let file = try_batch(rt, alloc, file, &[], (0, "ok\n"));
-    let ran = got(rt, session(alloc, file, LOOK, 7));
-    let before = got(rt, joined(alloc, HAS_A));
-    let after = got(rt, joined(alloc, HAS_B));
-    let is_after = ran.put.as_slice() == after.as_slice();
-    let is_before = ran.put.as_slice() == before.as_slice();
+    let put = found(rt, alloc, file);
+    let is_after = is_put(rt, alloc, &put, HAS_B);
+    let is_before = is_put(rt, alloc, &put, HAS_A);
     try_holds(rt, is_after || (is_before && !is_whole), &calls);
 }
 

@@ -2,13 +2,13 @@
 //! objects of more than one piece. And files into which nothing is loaded, since they have bytes.
 ghost use Rattle.std.specs.Prelude.{◌<◌, IsTrue};
 
-use crate::answers::{CHECK, got, try_bytes, try_number, try_outcome, try_told};
+use crate::answers::{CHECK, got, told, try_bytes, try_end, try_number, try_outcome, try_told};
 use crate::loaded::{EMPTY, HEAD, LOAD, PARTS, WHOLE};
 use disk_face::Disk;
 use disk_mem::{MemDisk, MemSource};
 use row_vectors::images::{Change, HELLO_DIGESTED, MOVING, disk};
 use row_vectors::inputs::{PUT_A, PUT_B};
-use row_vectors::runs::{Ran, ended, joined, run_on, run_with};
+use row_vectors::runs::{Ran, ended, joined, run_with};
 use std::alloc::Global;
 use std::process::Abort;
 
@@ -32,7 +32,7 @@ fn run_there(
 
 /// A file by the changes to the hand-made one and its length, the numbers for which it is copied, and what
 /// `check` puts of the copy.
-#[derive(Clone, Copy, Debug)]
+#[derive(Clone, Copy)]
 struct Row {
     base: &'static [Change],
     length: usize,
@@ -70,22 +70,27 @@ const ROWS: &[Row] = &[
 ];
 
 /// The dump of a file, which isn't changed by it.
-fn dumped(rt: &impl Abort, alloc: Global, file: MemDisk, row: &Row) -> Vec<u8> {
-    let ran = got(rt, run_on(alloc, DUMP, true, file, Vec::new(alloc)));
-    try_outcome(rt, ran.outcome, ended(0), row);
-    try_number(rt, ran.disk.turns(), 0, row);
+fn dumped(rt: &impl Abort, alloc: Global, file: MemDisk) -> Vec<u8> {
+    let ran = told(rt, alloc, file, DUMP);
+    try_outcome(rt, ran.outcome, ended(0), &"dump");
+    try_number(rt, ran.disk.turns(), 0, &"turns");
     ran.put
+}
+
+/// The dump of a copy is the one that was loaded.
+fn try_copy(rt: &impl Abort, alloc: Global, copy: MemDisk, text: &[u8]) {
+    let again = told(rt, alloc, copy, DUMP);
+    try_bytes(rt, &again.put, text, &"again");
 }
 
 /// The dump of a file is loaded, and the copy has the same dump.
 fn try_row(rt: &impl Abort, alloc: Global, row: &Row) {
     let file = got(rt, disk(alloc, row.length, row.base, &[]));
-    let text = dumped(rt, alloc, file, row);
+    let text = dumped(rt, alloc, file);
     let ran = run_there(rt, alloc, row.words, MemDisk::new(alloc), &text);
-    try_bytes(rt, &ran.put, b"loaded\n", row);
-    let copy = try_told(rt, alloc, ran.disk, CHECK, row.checks, row);
-    let again = got(rt, run_on(alloc, DUMP, true, copy, Vec::new(alloc)));
-    try_bytes(rt, &again.put, &text, row);
+    try_bytes(rt, &ran.put, b"loaded\n", &row.words);
+    let copy = try_told(rt, alloc, ran.disk, CHECK, row.checks, &row.words);
+    try_copy(rt, alloc, copy, &text);
 }
 
 #[test]
@@ -134,11 +139,7 @@ fn writes_a_large_object_in_pieces(rt: HostRuntime) {
     let new = MemDisk::new(rt.alloc());
     let ran = run_there(&rt, rt.alloc(), LOAD, new, &text);
     try_number(&rt, ran.disk.turns(), 22, &"turns");
-    let again = got(
-        &rt,
-        run_on(rt.alloc(), DUMP, true, ran.disk, Vec::new(rt.alloc())),
-    );
-    try_bytes(&rt, &again.put, &text, &"dump");
+    try_copy(&rt, rt.alloc(), ran.disk, &text);
 }
 
 /// The dump without its last object.
@@ -153,8 +154,7 @@ fn try_taken(rt: &impl Abort, alloc: Global, parts: &[&str], checks: &str) {
     let file = run_there(rt, alloc, LOAD, MemDisk::new(alloc), &text).disk;
     let turns = file.turns();
     let ran = run_there(rt, alloc, LOAD, file, &text);
-    try_bytes(rt, &ran.put, b"fault taken 19730\n", &checks);
-    try_outcome(rt, ran.outcome, ended(5), &checks);
+    try_end(rt, &ran, 5, "fault taken 19730\n", &checks);
     try_number(rt, ran.disk.turns(), turns, &checks);
     try_told(rt, alloc, ran.disk, CHECK, checks, &checks);
 }

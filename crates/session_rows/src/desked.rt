@@ -1,11 +1,11 @@
 //! `desk` of files that sessions made: what it puts, how it ends, and what is left where it is stopped.
 ghost use Rattle.std.specs.Prelude.{IsTrue};
 
-use crate::answers::{got, serve_parts, try_bytes, try_holds, try_outcome};
+use crate::answers::{got, numbered, played, stored, try_end, try_holds, try_puts, try_ran};
 use disk_face::Disk;
-use disk_mem::{Fuse, MemDisk, MemSource};
+use disk_mem::{Fuse, MemDisk};
 use row_vectors::inputs::{DATA_A, DATA_B, MISSING, PUT_A, PUT_B, PUT_C};
-use row_vectors::runs::{Ran, ended, formatted, joined, run_with, session};
+use row_vectors::runs::{Ran, ended, joined, session};
 use std::alloc::Global;
 use std::process::Abort;
 
@@ -23,15 +23,7 @@ fn desk_on<D: Disk + Drop>(
     requires ready { IsTrue (D.state disk).is_ready }
     ensures { IsTrue (D.state result.disk).is_ready }
 {
-    let input = got(rt, joined(alloc, script));
-    let source = MemSource::new(input, 7, takes);
-    got(rt, run_with(alloc, DESK, true, disk, source, puts))
-}
-
-/// A new file that served these requests.
-fn stored(rt: &impl Abort, alloc: Global, requests: &[&str]) -> MemDisk {
-    let file = got(rt, formatted(alloc, "9"));
-    serve_parts(rt, alloc, file, requests, 64).disk
+    played(rt, alloc, disk, DESK, script, takes, puts)
 }
 
 /// What a session looks at.
@@ -55,7 +47,7 @@ fn found(rt: &impl Abort, alloc: Global, disk: MemDisk) -> Vec<u8> {
 // ---- scripts
 
 /// What the file has before, the script, how it ends and what it puts, and what the file has then.
-#[derive(Clone, Copy, Debug)]
+#[derive(Clone, Copy)]
 struct Row {
     before: &'static [&'static str],
     script: &'static [&'static str],
@@ -121,41 +113,77 @@ const ROWS: &[Row] = rows! {
         => 0 ["queued 2\nqueued 3\nqueued 2\nto 3\n", DATA_A,
         "to 2\nrefused missing\nto 2\nstat 1 100 1 100\n",
         "empty 2\nleft 0\n"], HAS_A;
-    // A name that is too long for a store, but not for a line.
-    [PUT_A], ["say 1\nget 0123456789012345678901234567890123456789012345678901234567890123\nserve 1\n"]
-        => 0 ["queued 1\nto 1\nrefused name\nleft 0\n"], HAS_A;
-    // No events.
-    [PUT_A], ["say 8\nstat\n"] => 2 ["fault request 1\n"], HAS_A;
-    [PUT_A], ["say 00\nstat\n"] => 2 ["fault request 1\n"], HAS_A;
-    [PUT_A], ["say\nstat\n"] => 2 ["fault request 1\n"], HAS_A;
-    [PUT_A], ["serve\n"] => 2 ["fault request 1\n"], HAS_A;
-    [PUT_A], ["serve 0 \n"] => 2 ["fault request 1\n"], HAS_A;
-    [PUT_A], ["serve a\n"] => 2 ["fault request 1\n"], HAS_A;
-    [PUT_A], ["step 0\n"] => 2 ["fault request 1\n"], HAS_A;
-    [PUT_A], ["Step\n"] => 2 ["fault request 1\n"], HAS_A;
-    [PUT_A], ["stat\n"] => 2 ["fault request 1\n"], HAS_A;
-    [PUT_A], ["\n"] => 2 ["fault request 1\n"], HAS_A;
-    // No request behind a `say`, half of one, and the end of the input within an event.
-    [PUT_A], ["say 0\nsay 0\nstat\n"] => 2 ["fault request 1\n"], HAS_A;
-    [PUT_A], ["say 0\nget\n"] => 2 ["fault request 1\n"], HAS_A;
-    [PUT_A], ["say 0\nput b 3\nabcd\n"] => 2 ["fault request 1\n"], HAS_A;
-    [PUT_A], ["say 0\n"] => 2 ["fault request 1\n"], HAS_A;
-    [PUT_A], ["say 0\nstat"] => 2 ["fault request 1\n"], HAS_A;
-    [PUT_A], ["step\nstep\nserve 0"] => 2 ["idle\nidle\nfault request 3\n"], HAS_A;
-    [PUT_A], ["say 0\nstat\nserve 0\nnothing\n"]
-        => 2 ["queued 0\nto 0\nstat 1 100 1 100\nfault request 3\n"], HAS_A;
 };
+
+/// Plays a script over devices that don't fail.
+fn desk_over<D: Disk + Drop>(rt: &impl Abort, alloc: Global, disk: D, script: &[&str]) -> Ran<D>
+    requires ready { IsTrue (D.state disk).is_ready }
+    ensures { IsTrue (D.state result.disk).is_ready }
+{
+    desk_on(rt, alloc, disk, script, Vec::new(alloc), Vec::new(alloc))
+}
 
 /// What a script comes to.
 fn try_row(rt: &impl Abort, alloc: Global, row: &Row) {
-    let file = stored(rt, alloc, row.before);
-    let (takes, puts) = (Vec::new(alloc), Vec::new(alloc));
-    let ran = desk_on(rt, alloc, file, row.script, takes, puts);
-    let expected = got(rt, joined(alloc, row.puts));
-    try_bytes(rt, &ran.put, &expected, row);
-    try_outcome(rt, ran.outcome, ended(row.status), row);
-    let after = got(rt, joined(alloc, row.after));
-    try_bytes(rt, &found(rt, alloc, ran.disk), &after, row);
+    let ran = desk_over(rt, alloc, stored(rt, alloc, row.before), row.script);
+    try_ran(rt, alloc, &ran, row.puts, ended(row.status), &row.script);
+    let after = found(rt, alloc, ran.disk);
+    try_puts(rt, alloc, &after, row.after, &row.script);
+}
+
+/// A script of one part over a file that has `a` before and after it, how it ends and what it puts.
+type Short = (&'static str, u8, &'static str);
+
+macro_rules! shorts {
+    ($($script:literal => $status:literal $puts:literal;)*) => {
+        &[$(($script, $status, $puts)),*]
+    };
+}
+
+const SHORTS: &[Short] = shorts! {
+    // A name that is too long for a store, but not for a line.
+    "say 1\nget 0123456789012345678901234567890123456789012345678901234567890123\nserve 1\n"
+        => 0 "queued 1\nto 1\nrefused name\nleft 0\n";
+    // No events.
+    "say 8\nstat\n" => 2 "fault request 1\n";
+    "say 00\nstat\n" => 2 "fault request 1\n";
+    "say\nstat\n" => 2 "fault request 1\n";
+    "serve\n" => 2 "fault request 1\n";
+    "serve 0 \n" => 2 "fault request 1\n";
+    "serve a\n" => 2 "fault request 1\n";
+    "step 0\n" => 2 "fault request 1\n";
+    "Step\n" => 2 "fault request 1\n";
+    "stat\n" => 2 "fault request 1\n";
+    "\n" => 2 "fault request 1\n";
+    // No request behind a `say`, half of one, and the end of the input within an event.
+    "say 0\nsay 0\nstat\n" => 2 "fault request 1\n";
+    "say 0\nget\n" => 2 "fault request 1\n";
+    "say 0\nput b 3\nabcd\n" => 2 "fault request 1\n";
+    "say 0\n" => 2 "fault request 1\n";
+    "say 0\nstat" => 2 "fault request 1\n";
+    "step\nstep\nserve 0" => 2 "idle\nidle\nfault request 3\n";
+    "say 0\nstat\nserve 0\nnothing\n" => 2 "queued 0\nto 0\nstat 1 100 1 100\nfault request 3\n";
+};
+
+/// What is left of a file that has `a`.
+fn try_left(rt: &impl Abort, alloc: Global, disk: MemDisk, script: &str) {
+    let after = found(rt, alloc, disk);
+    try_puts(rt, alloc, &after, HAS_A, &script);
+}
+
+/// What such a script comes to.
+fn try_short(rt: &impl Abort, alloc: Global, row: &Short) {
+    let (script, status, puts) = *row;
+    let ran = desk_over(rt, alloc, stored(rt, alloc, &[PUT_A]), &[script]);
+    try_end(rt, &ran, status, puts, &script);
+    try_left(rt, alloc, ran.disk, script);
+}
+
+/// The short scripts.
+fn try_shorts(rt: &impl Abort, alloc: Global) {
+    for row in SHORTS {
+        try_short(rt, alloc, row);
+    }
 }
 
 #[test]
@@ -168,6 +196,7 @@ fn answers_each_event(rt: HostRuntime) {
     for row in ROWS {
         try_row(&rt, rt.alloc(), row);
     }
+    try_shorts(&rt, rt.alloc());
 }
 
 // ---- devices that fail
@@ -175,18 +204,37 @@ fn answers_each_event(rt: HostRuntime) {
 /// Whether these bytes are a front of the worked script's answers, and then a line.
 fn is_front(rt: &impl Abort, alloc: Global, put: &[u8], line: &str) -> bool {
     let whole = got(rt, joined(alloc, WORKED.puts));
-    let Some(front) = put.strip_suffix(line.as_bytes()) else {
-        return false;
-    };
-    whole.starts_with(front)
+    match put.strip_suffix(line.as_bytes()) {
+        Some(front) => whole.starts_with(front),
+        None => false,
+    }
+}
+
+/// Whether a session found these parts.
+fn is_found(rt: &impl Abort, alloc: Global, found: &[u8], parts: &[&str]) -> bool {
+    got(rt, joined(alloc, parts)).as_slice() == found
 }
 
 /// Whether a session finds what the file had before the script or has after it.
 fn is_one_of_two(rt: &impl Abort, alloc: Global, disk: MemDisk) -> bool {
     let found = found(rt, alloc, disk);
-    let before = got(rt, joined(alloc, HAS_AB));
-    let after = got(rt, joined(alloc, HAS_ABC));
-    found.as_slice() == before.as_slice() || found.as_slice() == after.as_slice()
+    is_found(rt, alloc, &found, HAS_AB) || is_found(rt, alloc, &found, HAS_ABC)
+}
+
+/// What a script put that a device may have stopped, with this status and this line. Whether it was all done
+/// comes back.
+fn try_put<D: Disk>(
+    rt: &impl Abort,
+    alloc: Global,
+    ran: &Ran<D>,
+    stop: (u8, &str),
+    call: u64,
+) -> bool {
+    let is_whole = ran.outcome.status == 0;
+    let line = if is_whole { "" } else { stop.1 };
+    try_holds(rt, is_whole || ran.outcome.status == stop.0, &call);
+    try_holds(rt, is_front(rt, alloc, &ran.put, line), &call);
+    is_whole
 }
 
 /// More calls than the script makes of a device.
@@ -195,12 +243,8 @@ const MOST: u64 = 200;
 /// The disk stops after so many changing calls. Whether it was all done comes back.
 fn try_stopped(rt: &impl Abort, alloc: Global, calls: u64) -> bool {
     let fuse = Fuse::stop_after(stored(rt, alloc, WORKED.before), calls);
-    let (takes, puts) = (Vec::new(alloc), Vec::new(alloc));
-    let ran = desk_on(rt, alloc, fuse, WORKED.script, takes, puts);
-    let is_whole = ran.outcome.status == 0;
-    let line = if is_whole { "" } else { "fault disk\n" };
-    try_holds(rt, is_whole || ran.outcome.status == 7, &calls);
-    try_holds(rt, is_front(rt, alloc, &ran.put, line), &calls);
+    let ran = desk_over(rt, alloc, fuse, WORKED.script);
+    let is_whole = try_put(rt, alloc, &ran, (7, "fault disk\n"), calls);
     try_holds(rt, is_one_of_two(rt, alloc, ran.disk.into_inner()), &calls);
     is_whole
 }
@@ -215,22 +259,28 @@ fn leaves_one_of_two_maps_where_the_disk_stops(rt: HostRuntime) {
     panic!(rt; "a desk that doesn't end");
 }
 
-/// The input, or else the output, fails one call. Whether it was all done comes back.
-fn try_failing(rt: &impl Abort, alloc: Global, call: u64, is_input: bool) -> bool {
-    let failing = vec![in alloc; call].expect(rt, "memory");
+/// Plays the worked script where the input, or else the output, fails one call.
+fn failed(rt: &impl Abort, alloc: Global, call: u64, is_input: bool) -> Ran<MemDisk> {
     let file = stored(rt, alloc, WORKED.before);
-    let ran = if is_input {
+    let failing = numbered(rt, alloc, call);
+    if is_input {
         desk_on(rt, alloc, file, WORKED.script, failing, Vec::new(alloc))
     } else {
         desk_on(rt, alloc, file, WORKED.script, Vec::new(alloc), failing)
+    }
+}
+
+/// The input, or else the output, fails one call. Whether it was all done comes back.
+fn try_failing(rt: &impl Abort, alloc: Global, call: u64, is_input: bool) -> bool {
+    let ran = failed(rt, alloc, call, is_input);
+    let stop = if is_input {
+        (8, "fault source\n")
+    } else {
+        (9, "")
     };
-    let status = ran.outcome.status;
-    let line = if status == 8 { "fault source\n" } else { "" };
-    let expected = if is_input { 8 } else { 9 };
-    try_holds(rt, status == 0 || status == expected, &call);
-    try_holds(rt, is_front(rt, alloc, &ran.put, line), &call);
+    let is_whole = try_put(rt, alloc, &ran, stop, call);
     try_holds(rt, is_one_of_two(rt, alloc, ran.disk), &call);
-    status == 0
+    is_whole
 }
 
 /// It fails each call.

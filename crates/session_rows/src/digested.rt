@@ -1,12 +1,10 @@
 //! Files whose tables are of version 2, made by hand: what each opens to, in both ways, and why it isn't
 //! opened.
-use crate::answers::{got, try_bytes, try_number, try_outcome};
-use crate::openings::{Row, refusal_by_both};
+use crate::answers::{got, try_command, try_number};
+use crate::openings::{Row, try_rows};
 use disk_face::Disk;
 use plain_layout::Refusal;
-use row_vectors::Outcome;
 use row_vectors::images::{Change, HELLO_DIGESTED, disk};
-use row_vectors::runs::run_on;
 use slot_codec::CodecFault;
 use slot_pair::SlotFault;
 use std::alloc::Global;
@@ -14,7 +12,7 @@ use std::process::Abort;
 
 macro_rules! rows {
     ($($what:literal: $length:literal, $changes:expr => $refusal:expr;)*) => {
-        [$(Row { what: $what, length: $length, changes: &$changes, refusal: $refusal }),*]
+        &[$(Row { what: $what, length: $length, changes: &$changes, refusal: $refusal }),*]
     };
 }
 
@@ -26,7 +24,7 @@ macro_rules! fault {
 
 /// One record, whose digest stands from 8,632 to 8,664: the bytes of the SHA-256 of `hello` at its ends,
 /// or any.
-const ONE: &[Row] = &rows! {
+const ONE: &[Row] = rows! {
     "a digest": 19608, [(64, 2), (8632, 0x2C), (8663, 0x24)] => None;
     "a digest of zeros": 19608, [(64, 2)] => None;
     "a digest of a record of version 1": 19608, [(8632, 0x2C), (8663, 0x24)] => None;
@@ -43,7 +41,7 @@ const ONE: &[Row] = &rows! {
 
 /// The changes to two objects of version 2, of 100 bytes each in class 6, whose capacity stands at 152.
 /// The second record stands at 8,664, its place at 8,728, its size at 8,736 and its digest at 8,744.
-const TWO: [Change; 9] = [
+const TWO: &[Change] = &[
     (64, 2),
     (80, 2),
     (120, 0),
@@ -55,7 +53,7 @@ const TWO: [Change; 9] = [
     (8736, 100),
 ];
 
-const TWO_RECORDS: &[Row] = &rows! {
+const TWO_RECORDS: &[Row] = rows! {
     "side by side": 19825, [] => None;
     "with digests": 19825, [(8632, 1), (8663, 0xFF), (8744, 1), (8775, 0xFF)] => None;
     "no name": 19825, [(8664, 0)] => fault!(NameBytes, 8664);
@@ -67,33 +65,19 @@ const TWO_RECORDS: &[Row] = &rows! {
         => fault!(NameBytes, 8664);
 };
 
-/// Opens a row's file in both ways, with the changes that all have in common before its own.
-fn try_row(rt: &impl Abort, alloc: Global, common: &[Change], row: &Row) {
-    let mut file = got(rt, disk(alloc, row.length, common, row.changes));
-    assert!(rt;
-        refusal_by_both(alloc, &mut file) == Ok(row.refusal),
-        "{}",
-        row.what
-    );
-}
-
 #[test]
 fn opens_one_record_of_version_2_or_refuses_it(rt: HostRuntime) {
-    for row in ONE {
-        try_row(&rt, rt.alloc(), &[], row);
-    }
+    try_rows(&rt, rt.alloc(), &[], ONE);
 }
 
 #[test]
 fn opens_two_records_of_version_2_or_refuses_them(rt: HostRuntime) {
-    for row in TWO_RECORDS {
-        try_row(&rt, rt.alloc(), &TWO, row);
-    }
+    try_rows(&rt, rt.alloc(), TWO, TWO_RECORDS);
 }
 
 /// Slot 1 has a table of version 2 with the same object, whose record stands at 18,321 and its digest at
 /// 18,401.
-const OTHER: [Change; 9] = [
+const OTHER: &[Change] = &[
     (9833, 2),
     (9841, 2),
     (9849, 1),
@@ -105,7 +89,7 @@ const OTHER: [Change; 9] = [
     (19_601, 0xA5),
 ];
 
-const UNLIKE: &[Row] = &rows! {
+const UNLIKE: &[Row] = rows! {
     "version 2 is the newer": 19608, [] => None;
     "version 2 is the newer and at fault": 19608, [(18_322, 0)] => fault!(NameBytes, 18_321);
     "version 1 is the newer": 19608, [(72, 3), (18_322, 0)] => None;
@@ -115,9 +99,7 @@ const UNLIKE: &[Row] = &rows! {
 
 #[test]
 fn opens_the_newer_of_two_slots_of_unlike_versions(rt: HostRuntime) {
-    for row in UNLIKE {
-        try_row(&rt, rt.alloc(), &OTHER, row);
-    }
+    try_rows(&rt, rt.alloc(), OTHER, UNLIKE);
 }
 
 /// The words of a command, and what it puts of the file of version 2.
@@ -132,19 +114,9 @@ const ANSWERS: &[Answer] = &[
 /// What a command puts of the file of version 2, which it leaves as it is.
 fn try_answer(rt: &impl Abort, alloc: Global, words: &[&str], puts: &str) {
     let file = got(rt, disk(alloc, 19608, HELLO_DIGESTED, &[]));
-    let ran = got(rt, run_on(alloc, words, true, file, Vec::new(alloc)));
-    try_outcome(rt, ran.outcome, ENDED, &puts);
-    try_bytes(rt, &ran.put, puts.as_bytes(), &puts);
-    try_number(rt, ran.disk.turns(), 0, &puts);
+    let left = try_command(rt, alloc, file, words, 0, puts);
+    try_number(rt, left.turns(), 0, &puts);
 }
-
-/// The outcome of a command that is done.
-const ENDED: Outcome = Outcome {
-    status: 0,
-    done: 0,
-    kept_done: 0,
-    kept_turn: 0,
-};
 
 #[test]
 fn answers_from_a_file_of_version_2(rt: HostRuntime) {

@@ -1,11 +1,10 @@
 //! A put that flushes, of whose 23 changing calls one fails, and what its file then opens to.
-use crate::answers::{CHECK, got, serve_parts, try_number, try_ran, try_told};
+use crate::answers::{CHECK, fresh, numbered, serve_parts, try_number, try_ran, try_told};
 use crate::opened_maps::{Map, ONE, THREE, try_map};
 use disk_face::Disk;
 use disk_mem::{Fuse, MemDisk};
 use row_vectors::Outcome;
 use row_vectors::inputs::{KEPT, OK, PUT_A, PUT_B, PUT_C};
-use row_vectors::runs::formatted;
 use std::alloc::Global;
 use std::process::Abort;
 
@@ -50,9 +49,8 @@ const OUTCOME: Outcome = Outcome {
 
 /// A fresh file in a fuse that fails the call of a number of the flush. The puts before make 13 calls.
 fn fused(rt: &impl Abort, alloc: Global, number: u64) -> Fuse<MemDisk> {
-    let fails = vec![in alloc; number.saturating_add(13)].expect(rt, "memory");
-    let disk = got(rt, formatted(alloc, "9"));
-    Fuse::listed(disk, fails, Vec::new(alloc))
+    let fails = numbered(rt, alloc, number.saturating_add(13));
+    Fuse::listed(fresh(rt, alloc), fails, Vec::new(alloc))
 }
 
 /// Serves the session, whose call of a number fails. The disk inside is given back.

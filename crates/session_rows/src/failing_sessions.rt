@@ -1,11 +1,13 @@
 //! Sessions whose disk, input or output fails at one call.
-use crate::answers::{got, serve_parts, try_holds, try_number, try_ran};
+use crate::answers::{
+    fresh, got, numbered, serve_parts, stored, try_holds, try_number, try_ran, try_text,
+};
 use crate::cases::{Case, Left, PIECES, try_case, try_file};
 use disk_face::Disk;
 use disk_mem::{Choice, Fuse, MemDisk, MemSource};
 use row_vectors::Outcome;
 use row_vectors::inputs::{DATA_A, KEPT, OK, PUT_A, PUT_B, PUT_C};
-use row_vectors::runs::{Ran, formatted, run_with, session};
+use row_vectors::runs::{Ran, joined, run_with, session};
 use std::alloc::Global;
 use std::process::Abort;
 
@@ -44,25 +46,24 @@ const OPENED: &Case = &Case {
     },
 };
 
-/// Serves the session on a fresh file in a fuse, of which that call fails, and gives the disk inside back.
-fn try_failing(rt: &impl Abort, alloc: Global, fuse: Fuse<MemDisk>, piece: usize) -> MemDisk {
+/// Serves the session in a fuse, of which that call fails, and gives the disk inside back.
+fn failed(rt: &impl Abort, alloc: Global, fuse: Fuse<MemDisk>, piece: usize) -> MemDisk {
     let ran = serve_parts(rt, alloc, fuse, FAILING.input, piece);
-    let made = FAILING.left.calls.saturating_add(10);
-    try_number(rt, ran.disk.turns(), made.saturating_add(1), &"fuse");
+    try_number(rt, ran.disk.turns(), 28, &"fuse");
     try_ran(rt, alloc, &ran, FAILING.puts, FAILING.outcome, &piece);
-    let disk = ran.disk.into_inner();
-    try_number(rt, disk.turns(), made, &"disk");
+    ran.disk.into_inner()
+}
+
+/// What it leaves: the format made 10 calls.
+fn try_failing(rt: &impl Abort, alloc: Global, fuse: Fuse<MemDisk>, piece: usize) -> MemDisk {
+    let disk = failed(rt, alloc, fuse, piece);
+    try_number(rt, disk.turns(), 27, &"disk");
     try_file(rt, alloc, disk, &FAILING.left)
 }
 
 /// Both sessions.
 fn try_both(rt: &impl Abort, alloc: Global, piece: usize) {
-    let disk = got(rt, formatted(alloc, "9"));
-    let fuse = Fuse::listed(
-        disk,
-        vec![in alloc; 18].expect(rt, "memory"),
-        Vec::new(alloc),
-    );
+    let fuse = Fuse::listed(fresh(rt, alloc), numbered(rt, alloc, 18), Vec::new(alloc));
     let disk = try_failing(rt, alloc, fuse, piece);
     try_case(rt, alloc, disk, OPENED, piece);
 }
@@ -83,11 +84,7 @@ fn read_failing(
     piece: usize,
 ) -> Ran<Fuse<MemDisk>> {
     let disk = MemDisk::from_bytes(alloc, file).expect(rt, "memory");
-    let fuse = Fuse::listed(
-        disk,
-        Vec::new(alloc),
-        vec![in alloc; number].expect(rt, "memory"),
-    );
+    let fuse = Fuse::listed(disk, Vec::new(alloc), numbered(rt, alloc, number));
     got(rt, session(alloc, fuse, b"get a\n", piece))
 }
 
@@ -124,10 +121,9 @@ fn try_reads(rt: &impl Abort, alloc: Global, file: &[u8], piece: usize) {
 
 /// A file with one object.
 fn one_object(rt: &impl Abort, alloc: Global) -> Vec<u8> {
-    let disk = got(rt, formatted(alloc, "9"));
-    let put = got(rt, session(alloc, disk, PUT_A.as_bytes(), 7));
-    let turn = put.disk.turns();
-    put.disk.image(turn, Choice::Newest).expect(rt, "memory")
+    let disk = stored(rt, alloc, &[PUT_A]);
+    let turn = disk.turns();
+    disk.image(turn, Choice::Newest).expect(rt, "memory")
 }
 
 #[test]
@@ -138,6 +134,11 @@ fn puts_nothing_of_a_reply_whose_read_fails(rt: HostRuntime) {
     }
 }
 
+/// The words of a session, and its one request.
+const RUN: &[&str] = &["run", "f"];
+
+const ASKED: &[&str] = &["put y 0\n\n"];
+
 /// A session on a fresh file whose source or sink fails the listed calls.
 fn failing_streams(
     rt: &impl Abort,
@@ -146,11 +147,12 @@ fn failing_streams(
     takes: Vec<u64>,
     puts: Vec<u64>,
 ) -> Ran<MemDisk> {
-    let disk = got(rt, formatted(alloc, "9"));
     assert!(rt; piece > 0);
-    let input = b"put y 0\n\n".to_vec(alloc).expect(rt, "memory");
-    let source = MemSource::new(input, piece, takes);
-    got(rt, run_with(alloc, &["run", "f"], true, disk, source, puts))
+    let source = MemSource::new(got(rt, joined(alloc, ASKED)), piece, takes);
+    got(
+        rt,
+        run_with(alloc, RUN, true, fresh(rt, alloc), source, puts),
+    )
 }
 
 /// The fresh file, as that session leaves it.
@@ -161,31 +163,22 @@ const FRESH: &Left = &Left {
 };
 
 /// What such a session puts, its status, and that it changes nothing.
-fn try_streams(rt: &impl Abort, alloc: Global, ran: Ran<MemDisk>, status: u8, puts: &[&str]) {
+fn try_streams(rt: &impl Abort, alloc: Global, ran: Ran<MemDisk>, status: u8, text: &str) {
     let outcome = Outcome {
         status,
         done: 0,
         kept_done: 0,
         kept_turn: 10,
     };
+    try_text(rt, &ran, text, outcome, &status);
     try_number(rt, ran.disk.turns(), 10, &status);
-    try_ran(rt, alloc, &ran, puts, outcome, &status);
     try_file(rt, alloc, ran.disk, FRESH);
 }
 
-/// What is put then.
-const SOURCE_FAULT: &[&str] = &["fault source\n"];
-
 /// The source fails.
 fn try_source(rt: &impl Abort, alloc: Global, piece: usize) {
-    let ran = failing_streams(
-        rt,
-        alloc,
-        piece,
-        vec![in alloc; 1].expect(rt, "memory"),
-        Vec::new(alloc),
-    );
-    try_streams(rt, alloc, ran, 8, SOURCE_FAULT);
+    let ran = failing_streams(rt, alloc, piece, numbered(rt, alloc, 1), Vec::new(alloc));
+    try_streams(rt, alloc, ran, 8, "fault source\n");
 }
 
 #[test]
@@ -197,14 +190,8 @@ fn says_that_the_input_failed(rt: HostRuntime) {
 
 /// The sink fails.
 fn try_sink(rt: &impl Abort, alloc: Global, piece: usize) {
-    let ran = failing_streams(
-        rt,
-        alloc,
-        piece,
-        Vec::new(alloc),
-        vec![in alloc; 1].expect(rt, "memory"),
-    );
-    try_streams(rt, alloc, ran, 9, &[]);
+    let ran = failing_streams(rt, alloc, piece, Vec::new(alloc), numbered(rt, alloc, 1));
+    try_streams(rt, alloc, ran, 9, "");
 }
 
 #[test]

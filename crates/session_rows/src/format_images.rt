@@ -1,8 +1,8 @@
 //! A format: what a crash leaves of it at each turn.
-use crate::answers::{got, try_bytes, try_number};
+use crate::answers::{fresh, got, try_end};
 use crate::images::{image_at, try_check};
 use disk_mem::{Choice, MemDisk};
-use row_vectors::runs::{formatted, run};
+use row_vectors::runs::run;
 use std::alloc::Global;
 use std::process::Abort;
 
@@ -37,6 +37,12 @@ const UNFORMATTED: &str = "fault store slot 2\n";
 
 const STORE: &str = "store 9 16 0 0 0 1 still\n";
 
+/// `get` of a name puts this of an image.
+fn try_put(rt: &impl Abort, alloc: Global, image: &[u8], end: (u8, &str), at: (u64, Choice)) {
+    let ran = got(rt, run(alloc, GET, image));
+    try_end(rt, &ran, end.0, end.1, &at);
+}
+
 /// `get` of a name puts of an image the same refusal as `check`, or that the store hasn't the name.
 fn try_get(rt: &impl Abort, alloc: Global, image: &[u8], puts: &str, at: (u64, Choice)) {
     let (status, line) = if puts == STORE {
@@ -44,9 +50,7 @@ fn try_get(rt: &impl Abort, alloc: Global, image: &[u8], puts: &str, at: (u64, C
     } else {
         (4, puts)
     };
-    let ran = got(rt, run(alloc, GET, image));
-    try_bytes(rt, &ran.put, line.as_bytes(), &at);
-    try_number(rt, ran.outcome.status as u64, status, &at);
+    try_put(rt, alloc, image, (status, line), at);
 }
 
 /// The words of that command.
@@ -105,7 +109,7 @@ const ROWS: &[Row] = &rows! {
 
 #[test]
 fn leaves_no_store_or_the_empty_one(rt: HostRuntime) {
-    let disk = got(&rt, formatted(rt.alloc(), "9"));
+    let disk = fresh(&rt, rt.alloc());
     for row in ROWS {
         try_row(&rt, rt.alloc(), &disk, row);
     }

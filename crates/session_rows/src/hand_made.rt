@@ -1,5 +1,5 @@
 //! Sessions over the hand-made file, also where its sequence is worn.
-use crate::answers::{got, try_bytes, try_number, try_outcome};
+use crate::answers::{got, try_number, try_text};
 use crate::cases::PIECES;
 use disk_face::Disk;
 use row_vectors::Outcome;
@@ -41,8 +41,7 @@ const ROWS: &[Row] = &rows! {
 fn try_row(rt: &impl Abort, alloc: Global, row: &Row, piece: usize) {
     let file = got(rt, disk(alloc, 19_608, row.changes, &[]));
     let ran = got(rt, session(alloc, file, row.input.as_bytes(), piece));
-    try_bytes(rt, &ran.put, row.puts.as_bytes(), &row.puts);
-    try_outcome(rt, ran.outcome, row.outcome, &row.puts);
+    try_text(rt, &ran, row.puts, row.outcome, &row.puts);
     try_number(rt, ran.disk.turns(), 0, &row.puts);
 }
 

@@ -1,5 +1,5 @@
 //! Images of a disk, and what the program makes of each.
-use crate::answers::{CHECK, got, try_bytes, try_number};
+use crate::answers::{CHECK, got, try_end, try_number};
 use disk_face::Disk;
 use disk_mem::{Choice, MemDisk};
 use row_vectors::runs::run;
@@ -32,7 +32,6 @@ pub fn try_check(
     at: (u64, Choice),
 ) {
     let ran = got(rt, run(alloc, CHECK, file));
-    try_bytes(rt, &ran.put, puts.as_bytes(), &at);
-    try_number(rt, ran.outcome.status as u64, status as u64, &at);
+    try_end(rt, &ran, status, puts, &at);
     try_number(rt, ran.disk.turns(), 0, &at);
 }

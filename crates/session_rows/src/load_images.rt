@@ -1,9 +1,9 @@
 //! A load: what a crash leaves of it at each turn is no store, the empty map, or the map of the dump.
-use crate::answers::{got, try_holds};
-use crate::images::image_at;
-use crate::loaded::{EMPTY, LOAD, PARTS, WHOLE};
-use disk_mem::{Choice, MemDisk, MemSource};
-use row_vectors::runs::{joined, run, run_with};
+use crate::answers::{CHECK, got, try_holds};
+use crate::images::{CHOICES, image_at};
+use crate::loaded::{EMPTY, LOAD, PARTS, WHOLE, load};
+use disk_mem::{Choice, MemDisk};
+use row_vectors::runs::{joined, run};
 use std::alloc::Global;
 use std::process::Abort;
 
@@ -26,43 +26,40 @@ const ROWS: &[(u64, u64, &[&str])] = &[
     (21, 22, &[WHOLE]),
 ];
 
-const CHOICES: &[Choice] = &[
-    Choice::Durable,
-    Choice::Newest,
-    Choice::Torn(0),
-    Choice::Torn(0x5A),
-    Choice::Torn(0xA5),
-];
+/// Whether this is one of these lines.
+fn is_one_of(put: &[u8], lines: &[&str]) -> bool {
+    let mut known = false;
+    for line in lines {
+        known = known || line.as_bytes() == put;
+    }
+    known
+}
 
 /// `check` of an image puts one of these lines.
 fn try_image(rt: &impl Abort, alloc: Global, disk: &MemDisk, at: (u64, Choice), lines: &[&str]) {
     let image = image_at(rt, disk, at.0, at.1);
-    let ran = got(rt, run(alloc, &["check", "f"], &image));
-    let mut known = false;
-    for line in lines {
-        known = known || line.as_bytes() == ran.put.as_slice();
+    let ran = got(rt, run(alloc, CHECK, &image));
+    try_holds(rt, is_one_of(&ran.put, lines), &at);
+}
+
+/// The images of a turn.
+fn try_turn(rt: &impl Abort, alloc: Global, disk: &MemDisk, turn: u64, lines: &[&str]) {
+    for choice in CHOICES {
+        try_image(rt, alloc, disk, (turn, *choice), lines);
     }
-    try_holds(rt, known, &(at, &ran.put));
 }
 
 /// The images of some turns.
 fn try_turns(rt: &impl Abort, alloc: Global, disk: &MemDisk, from: u64, to: u64, lines: &[&str]) {
     for turn in from..to {
-        for choice in CHOICES {
-            try_image(rt, alloc, disk, (turn, *choice), lines);
-        }
+        try_turn(rt, alloc, disk, turn, lines);
     }
 }
 
 #[test]
 fn leaves_no_part_of_a_map(rt: HostRuntime) {
     let input = got(&rt, joined(rt.alloc(), PARTS));
-    let source = MemSource::new(input, 64, Vec::new(rt.alloc()));
-    let new = MemDisk::new(rt.alloc());
-    let ran = got(
-        &rt,
-        run_with(rt.alloc(), LOAD, false, new, source, Vec::new(rt.alloc())),
-    );
+    let ran = load(&rt, rt.alloc(), LOAD, MemDisk::new(rt.alloc()), &input, 64);
     for (from, to, lines) in ROWS {
         try_turns(&rt, rt.alloc(), &ran.disk, *from, *to, *lines);
     }

@@ -2,12 +2,14 @@
 //! what the file is then, also where a device fails.
 ghost use Rattle.std.specs.Prelude.{◌≡◌, ◌<◌, IsFalse, IsTrue, length};
 
-use crate::answers::{CHECK, got, try_bytes, try_number, try_outcome, try_told};
+use crate::answers::{
+    CHECK, got, numbered, told, try_bytes, try_command, try_end, try_number, try_outcome, try_told,
+};
 use disk_face::Disk;
 use disk_mem::{Fuse, MemDisk, MemSource};
-use row_vectors::images::Change;
+use plain_layout::{Change, put};
 use row_vectors::inputs::{PUT_A, PUT_B, PUT_C};
-use row_vectors::runs::{Ran, ended, joined, run_on, run_with};
+use row_vectors::runs::{Ran, ended, joined, run_with};
 use std::alloc::Global;
 use std::process::Abort;
 
@@ -26,7 +28,7 @@ pub const WHOLE: &str = "store 9 16 3 115 127 2 still\n";
 pub const EMPTY: &str = "store 9 16 0 0 127 1 still\n";
 
 /// Loads an input, in pieces of at most so many bytes, into a file that isn't there.
-fn load<D: Disk + Drop>(
+pub fn load<D: Disk + Drop>(
     rt: &impl Abort,
     alloc: Global,
     words: &[&str],
@@ -47,9 +49,14 @@ fn load<D: Disk + Drop>(
     )
 }
 
+/// The dump.
+fn whole(rt: &impl Abort, alloc: Global) -> Vec<u8> {
+    got(rt, joined(alloc, PARTS))
+}
+
 /// What a load puts and how it ends, and how many changing calls it makes; then what `check` puts of the
 /// file, which is there.
-#[derive(Clone, Copy, Debug)]
+#[derive(Clone, Copy)]
 struct Row {
     status: u8,
     puts: &'static str,
@@ -62,19 +69,20 @@ const NONE: (u8, &str) = (4, "fault store slot 1\n");
 
 /// What `check` puts of a file.
 fn try_file(rt: &impl Abort, alloc: Global, disk: MemDisk, checks: (u8, &str)) {
-    let (status, puts) = checks;
-    let ran = got(rt, run_on(alloc, CHECK, true, disk, Vec::new(alloc)));
-    try_bytes(rt, &ran.put, puts.as_bytes(), &puts);
-    try_outcome(rt, ran.outcome, ended(status), &puts);
+    try_command(rt, alloc, disk, CHECK, checks.0, checks.1);
+}
+
+/// How many changing calls a load made, where the row says it.
+fn try_turns(rt: &impl Abort, disk: &MemDisk, row: &Row) {
+    if let Some(turns) = row.turns {
+        try_number(rt, disk.turns(), turns, &row.puts);
+    }
 }
 
 /// What a load comes to.
 fn try_ran(rt: &impl Abort, alloc: Global, ran: Ran<MemDisk>, row: &Row) {
-    try_bytes(rt, &ran.put, row.puts.as_bytes(), row);
-    try_outcome(rt, ran.outcome, ended(row.status), row);
-    if let Some(turns) = row.turns {
-        try_number(rt, ran.disk.turns(), turns, row);
-    }
+    try_end(rt, &ran, row.status, row.puts, &row.puts);
+    try_turns(rt, &ran.disk, row);
     try_file(rt, alloc, ran.disk, row.checks);
 }
 
@@ -102,16 +110,13 @@ fn try_pieces(rt: &impl Abort, alloc: Global, input: &[u8], piece: usize)
 {
     let ran = load(rt, alloc, LOAD, MemDisk::new(alloc), input, piece);
     let disk = try_told(rt, alloc, ran.disk, &["map", "f"], MAP, &piece);
-    let dumped = got(
-        rt,
-        run_on(alloc, &["dump", "f"], true, disk, Vec::new(alloc)),
-    );
+    let dumped = told(rt, alloc, disk, &["dump", "f"]);
     try_bytes(rt, &dumped.put, input, &piece);
 }
 
 #[test]
 fn loads_what_was_dumped(rt: HostRuntime) {
-    let input = got(&rt, joined(rt.alloc(), PARTS));
+    let input = whole(&rt, rt.alloc());
     try_input(&rt, rt.alloc(), LOAD, &input, LOADED);
     try_pieces(&rt, rt.alloc(), &input, 1);
     try_pieces(&rt, rt.alloc(), &input, 2);
@@ -144,7 +149,7 @@ fn try_front(rt: &impl Abort, alloc: Global, front: &[u8]) {
 
 #[test]
 fn refuses_each_front_of_a_dump(rt: HostRuntime) {
-    let input = got(&rt, joined(rt.alloc(), PARTS));
+    let input = whole(&rt, rt.alloc());
     for n in 0..209 {
         let front = input.get(..n).unwrap_or(b"");
         try_front(&rt, rt.alloc(), front);
@@ -193,21 +198,21 @@ const CHANGES: &[(Change, Option<&str>)] = &[
 ];
 
 /// The dump with one byte changed.
+fn changed(rt: &impl Abort, alloc: Global, change: Change) -> Vec<u8> {
+    let mut input = whole(rt, alloc);
+    put(&mut input, &[change]);
+    input
+}
+
+/// What a load of it comes to.
 fn try_change(rt: &impl Abort, alloc: Global, change: Change, refused: Option<&str>) {
-    let (at, byte) = change;
-    let mut input = got(rt, joined(alloc, PARTS));
-    if let Some(place) = input.get_mut(at) {
-        *place = byte;
-    }
+    let (status, text) = match refused {
+        Some(line) => (2, line),
+        None => (0, "loaded\n"),
+    };
+    let input = changed(rt, alloc, change);
     let ran = load(rt, alloc, LOAD, MemDisk::new(alloc), &input, 7);
-    try_bytes(
-        rt,
-        &ran.put,
-        refused.unwrap_or("loaded\n").as_bytes(),
-        &change,
-    );
-    let status = if refused.is_some() { 2 } else { 0 };
-    try_outcome(rt, ran.outcome, ended(status), &change);
+    try_end(rt, &ran, status, text, &change);
 }
 
 #[test]
@@ -300,11 +305,10 @@ const STOPS: &[(u64, (u8, &str))] = &[
 
 /// A load over a disk that fails after so many changing calls.
 fn try_stop(rt: &impl Abort, alloc: Global, calls: u64, checks: (u8, &str)) {
-    let input = got(rt, joined(alloc, PARTS));
+    let input = whole(rt, alloc);
     let fuse = Fuse::stop_after(MemDisk::new(alloc), calls);
     let ran = load(rt, alloc, LOAD, fuse, &input, 64);
-    try_bytes(rt, &ran.put, b"fault disk\n", &calls);
-    try_outcome(rt, ran.outcome, ended(7), &calls);
+    try_end(rt, &ran, 7, "fault disk\n", &calls);
     let file = ran.disk.into_inner();
     try_number(rt, file.turns(), calls, &calls);
     try_file(rt, alloc, file, checks);
@@ -320,18 +324,18 @@ fn leaves_the_empty_map_where_the_disk_fails(rt: HostRuntime) {
 /// The call of the source that fails, of pieces of 7 bytes, and what `check` puts then.
 const SOURCES: &[(u64, (u8, &str))] = &[(1, NONE), (10, NONE), (11, (0, EMPTY)), (20, (0, EMPTY))];
 
+/// A load of the dump over a source and a sink that fail the listed calls.
+fn load_failing(rt: &impl Abort, alloc: Global, takes: Vec<u64>, puts: Vec<u64>) -> Ran<MemDisk> {
+    let source = MemSource::new(whole(rt, alloc), 7, takes);
+    let new = MemDisk::new(alloc);
+    got(rt, run_with(alloc, LOAD, false, new, source, puts))
+}
+
 /// A load of an input of which one call fails.
 fn try_source(rt: &impl Abort, alloc: Global, call: u64, checks: (u8, &str)) {
-    let input = got(rt, joined(alloc, PARTS));
-    let calls = vec![in alloc; call].expect(rt, "memory");
-    let source = MemSource::new(input, 7, calls);
-    let new = MemDisk::new(alloc);
-    let ran = got(
-        rt,
-        run_with(alloc, LOAD, false, new, source, Vec::new(alloc)),
-    );
-    try_bytes(rt, &ran.put, b"fault source\n", &call);
-    try_outcome(rt, ran.outcome, ended(8), &call);
+    let calls = numbered(rt, alloc, call);
+    let ran = load_failing(rt, alloc, calls, Vec::new(alloc));
+    try_end(rt, &ran, 8, "fault source\n", &call);
     try_file(rt, alloc, ran.disk, checks);
 }
 
@@ -345,11 +349,8 @@ fn tells_that_its_input_failed(rt: HostRuntime) {
 /// The line can't be put, and the file is loaded.
 #[test]
 fn has_loaded_where_the_sink_fails(rt: HostRuntime) {
-    let input = got(&rt, joined(rt.alloc(), PARTS));
-    let source = MemSource::new(input, 7, Vec::new(rt.alloc()));
-    let fails = vec![in rt.alloc(); 1].expect(&rt, "memory");
-    let new = MemDisk::new(rt.alloc());
-    let ran = got(&rt, run_with(rt.alloc(), LOAD, false, new, source, fails));
+    let puts = numbered(&rt, rt.alloc(), 1);
+    let ran = load_failing(&rt, rt.alloc(), Vec::new(rt.alloc()), puts);
     try_outcome(&rt, ran.outcome, ended(9), &"sink");
     try_file(&rt, rt.alloc(), ran.disk, (0, WHOLE));
 }

@@ -75,11 +75,11 @@ fn seen_at(turn: u64, choice: Choice) -> u64 {
 }
 
 /// The last checkpoint up to a turn.
-fn stage_at(rt: &impl Abort, story: &Story, seen: u64) -> Stage {
+fn stage_at(rt: &impl Abort, story: &Story, seen: u64) -> &'static Stage {
     let mut last = None;
     for stage in story.stages {
         if stage.from <= seen {
-            last = Some(*stage);
+            last = Some(stage);
         }
     }
     last.expect(rt, "a turn at which there is a store")
@@ -109,7 +109,7 @@ fn try_moment(rt: &impl Abort, alloc: Global, disk: &MemDisk, story: &Story, at:
     let stage = stage_at(rt, story, seen_at(at.0, at.1));
     let data = data_of(story, at.0, at.1);
     let image = image_at(rt, disk, at.0, at.1);
-    try_image(rt, alloc, &image, &stage, data, at);
+    try_image(rt, alloc, &image, stage, data, at);
 }
 
 /// The images of a turn.

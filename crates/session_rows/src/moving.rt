@@ -1,33 +1,34 @@
 //! A worked file with a moving table, its changes, and what each opens to.
-use crate::openings::{Row, open_plainly, stand, try_rows};
+use crate::answers::try_number;
+use crate::openings::{Row, Standing, open_plainly, stand, try_rows};
 use plain_layout::Refusal;
-use row_vectors::images::MOVING;
-use std::test::Fail;
+use row_vectors::images::{Change, MOVING};
 
 macro_rules! rows {
     ($($what:literal: $length:literal, $changes:expr => $refusal:expr;)*) => {
-        [$(Row { what: $what, length: $length, changes: &$changes, refusal: $refusal }),*]
+        &[$(Row { what: $what, length: $length, changes: &$changes, refusal: $refusal }),*]
     };
 }
 
-const SPOTS: [(&str, Option<(u64, u64)>); 3] = [
+/// The changes to the file.
+const MOVED: &[Change] = &MOVING;
+
+const SPOTS: &[Standing] = &[
     ("a", Some((139, 100))),
     ("b", Some((239, 10))),
     ("c", Some((249, 5))),
 ];
 
 #[test]
-fn opens_a_moving_file(rt: HostRuntime) -> Result<(), Fail> {
-    let opened = open_plainly(rt.alloc(), 19857, &MOVING)?;
-    let table = &opened.table;
-    assert_eq!(rt;
-        (table.records.len(), table.data_len, table.table_boundary()),
-        (3, 254, 2)
-    );
-    stand(&rt, &opened, &SPOTS)
+fn opens_a_moving_file(rt: HostRuntime) {
+    let opened = open_plainly(&rt, rt.alloc(), 19857, MOVED);
+    try_number(&rt, opened.table.records.len() as u64, 3, &"records");
+    try_number(&rt, opened.table.data_len, 254, &"data");
+    try_number(&rt, opened.table.table_boundary() as u64, 2, &"boundary");
+    stand(&rt, &opened, SPOTS);
 }
 
-const MORE: [Row; 3] = rows! {
+const MORE: &[Row] = rows! {
         "the largest is laid": 19857, [(8616, 16), (80, 1), (96, 100)] => None;
         "all behind the wall": 19957, [(8616, 254)] => None;
         "none from the boundary on": 19714,
@@ -35,11 +36,11 @@ const MORE: [Row; 3] = rows! {
 };
 
 #[test]
-fn opens_more_moving_files(rt: HostRuntime) -> Result<(), Fail> {
-    try_rows(&rt, rt.alloc(), &MOVING, &MORE)
+fn opens_more_moving_files(rt: HostRuntime) {
+    try_rows(&rt, rt.alloc(), MOVED, MORE);
 }
 
-const ANY_TABLE: [Row; 14] = rows! {
+const ANY_TABLE: &[Row] = rows! {
         "1: an object of 67,108,865 bytes": 19857, [(8624, 1), (8627, 4)] => Some(Refusal::Rule(1, 0));
         "2: an empty object at 249": 19857, [(8784, 0)] => Some(Refusal::Rule(2, 2));
         "3: an object of 1,048,577 bytes": 19857, [(8624, 1), (8626, 0x10)] => Some(Refusal::Rule(3, 0));
@@ -60,11 +61,11 @@ const ANY_TABLE: [Row; 14] = rows! {
 };
 
 #[test]
-fn refuses_by_the_rules_of_any_table(rt: HostRuntime) -> Result<(), Fail> {
-    try_rows(&rt, rt.alloc(), &MOVING, &ANY_TABLE)
+fn refuses_by_the_rules_of_any_table(rt: HostRuntime) {
+    try_rows(&rt, rt.alloc(), MOVED, ANY_TABLE);
 }
 
-const MOVING_TABLES: [Row; 5] = rows! {
+const MOVING_TABLES: &[Row] = rows! {
         "11: no room for the slack below the wall": 19857, [(96, 113)] => Some(Refusal::Rule(11, 0));
         "11: a slack below the size of an object": 19857, [(96, 99)] => Some(Refusal::Rule(11, 0));
         "12: an object across the wall": 19858, [(8616, 140), (8696, 240), (8776, 250)]
@@ -75,6 +76,6 @@ const MOVING_TABLES: [Row; 5] = rows! {
 };
 
 #[test]
-fn refuses_by_the_rules_of_moving_tables(rt: HostRuntime) -> Result<(), Fail> {
-    try_rows(&rt, rt.alloc(), &MOVING, &MOVING_TABLES)
+fn refuses_by_the_rules_of_moving_tables(rt: HostRuntime) {
+    try_rows(&rt, rt.alloc(), MOVED, MOVING_TABLES);
 }

@@ -1,8 +1,9 @@
 //! A worked file, its changes, and what each opens to, by `plain_layout` and by `read_state` alike.
-ghost use Rattle.std.specs.Prelude.{◌≤◌, IfOk};
+ghost use Rattle.std.specs.Prelude.{◌≤◌};
 
+use crate::answers::{got, try_holds, try_number};
 use disk_mem::MemDisk;
-use plain_layout::{Opened, Refusal, open};
+use plain_layout::{Opened, Refusal, Table, open};
 use row_vectors::alike::{Parting, Seen, opened_by_both};
 use row_vectors::images::{Change, disk};
 use size_class::{CLASSES, SIZE_MAX};
@@ -10,7 +11,6 @@ use slot_codec::{CodecFault, Name};
 use slot_pair::SlotFault;
 use std::alloc::Global;
 use std::process::Abort;
-use std::test::Fail;
 
 /// A change of a file, and why it isn't opened, if it isn't.
 #[derive(Clone, Copy)]
@@ -23,7 +23,7 @@ pub struct Row {
 
 macro_rules! rows {
     ($($what:literal: $length:literal, $changes:expr => $refusal:expr;)*) => {
-        [$(Row { what: $what, length: $length, changes: &$changes, refusal: $refusal }),*]
+        &[$(Row { what: $what, length: $length, changes: &$changes, refusal: $refusal }),*]
     };
 }
 
@@ -35,22 +35,21 @@ pub fn refusal_by_both(alloc: Global, file: &mut MemDisk) -> Result<Option<Refus
     }
 }
 
-/// Opens the file of each row in both ways, with the changes that all have in common before its own.
-pub fn try_rows(
-    rt: &impl Abort,
-    alloc: Global,
-    common: &[Change],
-    rows: &[Row],
-) -> Result<(), Fail> {
-    for row in rows {
-        let mut file = disk(alloc, row.length, common, row.changes)?;
-        let refusal = refusal_by_both(alloc, &mut file);
-        assert_eq!(rt; refusal, Ok(row.refusal), "{}", row.what);
-    }
-    Ok(())
+/// Opens a row's file in both ways, with the changes that all have in common before its own.
+fn try_row(rt: &impl Abort, alloc: Global, common: &[Change], row: &Row) {
+    let mut file = got(rt, disk(alloc, row.length, common, row.changes));
+    let refusal = refusal_by_both(alloc, &mut file);
+    try_holds(rt, refusal == Ok(row.refusal), &row.what);
 }
 
-const NO_SLOT: [Row; 11] = rows! {
+/// The files of some rows.
+pub fn try_rows(rt: &impl Abort, alloc: Global, common: &[Change], rows: &[Row]) {
+    for row in rows {
+        try_row(rt, alloc, common, row);
+    }
+}
+
+const NO_SLOT: &[Row] = rows! {
         "one object": 19608, [] => None;
         "no object": 19603, [(80, 0), (120, 0)] => None;
         "below a superblock": 63, [] => Some(Refusal::Slot(SlotFault::Short));
@@ -68,11 +67,11 @@ const NO_SLOT: [Row; 11] = rows! {
 };
 
 #[test]
-fn refuses_what_no_slot_shows(rt: HostRuntime) -> Result<(), Fail> {
-    try_rows(&rt, rt.alloc(), &[], &NO_SLOT)
+fn refuses_what_no_slot_shows(rt: HostRuntime) {
+    try_rows(&rt, rt.alloc(), &[], NO_SLOT);
 }
 
-const ONE_OBJECT: [Row; 15] = rows! {
+const ONE_OBJECT: &[Row] = rows! {
         "1: an object of 67,108,865 bytes": 19608, [(8624, 1), (8627, 4)] => Some(Refusal::Rule(1, 0));
         "2: an empty object at 1": 19608, [(8616, 1), (8624, 0)] => Some(Refusal::Rule(2, 0));
         "3: an object past the end": 19608, [(8616, 1)] => Some(Refusal::Rule(3, 0));
@@ -91,13 +90,13 @@ const ONE_OBJECT: [Row; 15] = rows! {
 };
 
 #[test]
-fn refuses_by_the_first_rule_that_one_object_breaks(rt: HostRuntime) -> Result<(), Fail> {
-    try_rows(&rt, rt.alloc(), &[], &ONE_OBJECT)
+fn refuses_by_the_first_rule_that_one_object_breaks(rt: HostRuntime) {
+    try_rows(&rt, rt.alloc(), &[], ONE_OBJECT);
 }
 
 /// The changes to two objects: `a` of 100 bytes at 0 in class 6, whose capacity stands at 152, and `b`
 /// whose place stands at 8,696 and size at 8,704.
-const TWO: [Change; 6] = [
+const TWO: &[Change] = &[
     (80, 2),
     (120, 0),
     (152, 100),
@@ -106,7 +105,7 @@ const TWO: [Change; 6] = [
     (8633, b'b'),
 ];
 
-const TWO_OBJECTS: [Row; 4] = rows! {
+const TWO_OBJECTS: &[Row] = rows! {
         "side by side in class 6": 19825, [(152, 200), (8696, 100), (8704, 100)] => None;
         "8: two objects share bytes": 19825, [(152, 200), (8696, 50),
             (8704, 100)] => Some(Refusal::Rule(8, 1));
@@ -117,50 +116,50 @@ const TWO_OBJECTS: [Row; 4] = rows! {
 };
 
 #[test]
-fn refuses_by_the_first_rule_that_two_objects_break(rt: HostRuntime) -> Result<(), Fail> {
-    try_rows(&rt, rt.alloc(), &TWO, &TWO_OBJECTS)
+fn refuses_by_the_first_rule_that_two_objects_break(rt: HostRuntime) {
+    try_rows(&rt, rt.alloc(), TWO, TWO_OBJECTS);
 }
 
 /// What `plain_layout` makes of a hand-made file.
-pub fn open_plainly(alloc: Global, length: usize, changes: &[Change]) -> Result<Opened, Fail>
-    ensures divisor { IfOk result (λ o. (2 ≤ o.table.k) × (o.table.k ≤ 64)) }
+pub fn open_plainly(rt: &impl Abort, alloc: Global, length: usize, changes: &[Change]) -> Opened
+    ensures divisor { (2 ≤ result.table.k) × (result.table.k ≤ 64) }
 {
-    let mut file = disk(alloc, length, changes, &[])?;
-    match open(alloc, &mut file, CLASSES as u8, SIZE_MAX) {
-        Ok(opened) => Ok(opened),
-        Err(_) => Err("a store")?,
-    }
+    let mut file = got(rt, disk(alloc, length, changes, &[]));
+    open(alloc, &mut file, CLASSES as u8, SIZE_MAX).expect(rt, "a store")
+}
+
+/// A name, and where its object stands, if there is one.
+pub type Standing = (&'static str, Option<(u64, u64)>);
+
+/// A name stands there, or it doesn't.
+fn stands(rt: &impl Abort, opened: &Opened, text: &str, spot: Option<(u64, u64)>) {
+    let name = Name::new(text.as_bytes()).expect(rt, "a name");
+    try_holds(rt, opened.spot_of(&name) == spot, &text);
 }
 
 /// Where names stand, or that they don't.
-pub fn stand(
-    rt: &impl Abort,
-    opened: &Opened,
-    spots: &[(&str, Option<(u64, u64)>)],
-) -> Result<(), Fail> {
+pub fn stand(rt: &impl Abort, opened: &Opened, spots: &[Standing]) {
     for (text, spot) in spots {
-        let name = Name::new(text.as_bytes()).ok_or("a name")?;
-        assert_eq!(rt; opened.spot_of(&name), *spot, "{text}");
+        stands(rt, opened, *text, *spot);
     }
-    Ok(())
 }
 
-const SPOTS: [(&str, Option<(u64, u64)>); 2] = [("a", Some((0, 5))), ("b", None)];
+const SPOTS: &[Standing] = &[("a", Some((0, 5))), ("b", None)];
+
+/// The one object of the table, and its class.
+fn try_object(rt: &impl Abort, table: &Table) {
+    try_number(rt, table.place(0), 0, &"place");
+    try_number(rt, table.size(0), 5, &"size");
+    try_number(rt, table.data_len, 5, &"data");
+    try_number(rt, table.cap(2), 5, &"class 2");
+}
 
 #[test]
-fn gives_the_book_of_a_file(rt: HostRuntime) -> Result<(), Fail> {
-    let opened = open_plainly(rt.alloc(), 19608, &[])?;
-    let table = &opened.table;
-    assert_eq!(rt; (opened.found.sequence, table.records.len()), (1, 1));
-    assert_eq!(rt;
-        (
-            table.place(0),
-            table.size(0),
-            table.data_len,
-            table.cap(2),
-            table.is_buffered(0)
-        ),
-        (0, 5, 5, 5, false)
-    );
-    stand(&rt, &opened, &SPOTS)
+fn gives_the_book_of_a_file(rt: HostRuntime) {
+    let opened = open_plainly(&rt, rt.alloc(), 19608, &[]);
+    try_number(&rt, opened.found.sequence, 1, &"sequence");
+    try_number(&rt, opened.table.records.len() as u64, 1, &"records");
+    try_object(&rt, &opened.table);
+    try_holds(&rt, !opened.table.is_buffered(0), &"buffered");
+    stand(&rt, &opened, SPOTS);
 }

@@ -1,11 +1,10 @@
 //! A put of 10 bytes in place of 100: each image opens to the one or to the other.
-use crate::answers::{got, serve_parts, try_number, try_puts};
+use crate::answers::{fresh, serve_parts, try_number, try_puts};
 use crate::further_puts::TEN;
 use crate::moments::{FIRST_PUT, FORMATTED, Stage, Story, try_turns};
 use disk_face::Disk;
 use disk_mem::MemDisk;
 use row_vectors::inputs::{KEPT, PUT_A};
-use row_vectors::runs::formatted;
 use std::alloc::Global;
 use std::process::Abort;
 
@@ -43,8 +42,7 @@ const SESSION: &Story = &Story {
 
 /// The disk of that session.
 fn served(rt: &impl Abort, alloc: Global) -> MemDisk {
-    let disk = got(rt, formatted(alloc, "9"));
-    let ran = serve_parts(rt, alloc, disk, REQUESTS, 7);
+    let ran = serve_parts(rt, alloc, fresh(rt, alloc), REQUESTS, 7);
     try_puts(rt, alloc, &ran.put, REPLIES, &"replies");
     try_number(rt, ran.disk.turns(), 42, &"turns");
     ran.disk

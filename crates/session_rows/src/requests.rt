@@ -1,11 +1,10 @@
 //! A session of three puts and three removals, of which four flush: what a crash leaves at each turn.
-use crate::answers::{got, serve_parts, try_number, try_puts};
+use crate::answers::{fresh, serve_parts, try_number, try_puts};
 use crate::further_puts::{NONE, ONE, THREE};
 use crate::moments::{FIRST_PUT, FORMATTED, Stage, Story, try_turns};
 use disk_face::Disk;
 use disk_mem::MemDisk;
 use row_vectors::inputs::{KEPT, OK, PUT_A, PUT_B, PUT_C};
-use row_vectors::runs::formatted;
 use std::alloc::Global;
 use std::process::Abort;
 
@@ -103,8 +102,7 @@ const REPLIES: &[&str] = &[KEPT, OK, KEPT, OK, KEPT, KEPT];
 
 /// The disk of that session.
 pub fn served(rt: &impl Abort, alloc: Global) -> MemDisk {
-    let disk = got(rt, formatted(alloc, "9"));
-    let ran = serve_parts(rt, alloc, disk, REQUESTS, 7);
+    let ran = serve_parts(rt, alloc, fresh(rt, alloc), REQUESTS, 7);
     try_puts(rt, alloc, &ran.put, REPLIES, &"replies");
     try_number(rt, ran.disk.turns(), 74, &"turns");
     ran.disk

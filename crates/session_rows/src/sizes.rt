@@ -1,37 +1,41 @@
 //! Objects of sizes at the bounds of a class, and one that is too large, by sessions.
 ghost use Rattle.std.specs.Prelude.{◌<◌, IsTrue};
 
-use crate::answers::{MAP, got, try_bytes, try_number, try_outcome, try_told};
+use crate::answers::{MAP, fresh, got, try_number, try_text, try_told};
 use crate::cases::{Left, PIECES, try_file};
 use disk_face::Disk;
 use disk_mem::{MemSource, PlainDisk};
 use row_vectors::Outcome;
-use row_vectors::runs::{Ran, formatted, run_on, run_with, session};
+use row_vectors::runs::{Ran, run_on, run_with, session};
 use size_class::SIZE_MAX;
-use std::alloc::{AllocError, Global};
+use std::alloc::Global;
 use std::process::Abort;
-
-/// A put of an object `x` of so many bytes.
-fn put_of(alloc: Global, size: usize) -> Result<Vec<u8>, AllocError> {
-    let mut input = Vec::with_capacity(alloc, size.saturating_add(64))?;
-    let line = format!(in alloc; "put x {size}\n")?;
-    input.extend_from_slice(line.as_bytes())?;
-    add_object(&mut input, size)?;
-    Ok(input)
-}
 
 /// How many bytes of an object are added at a time.
 const PIECE: usize = 65_536;
 
-/// Adds an object of so many bytes, and the newline behind it.
-fn add_object(input: &mut Vec<u8>, size: usize) -> Result<(), AllocError> {
-    let piece = vec![in *input.allocator(); b'x'; PIECE]?;
+/// Adds these bytes.
+fn add(rt: &impl Abort, input: &mut Vec<u8>, bytes: &[u8]) {
+    input.extend_from_slice(bytes).expect(rt, "memory");
+}
+
+/// Adds an object of so many bytes.
+fn add_object(rt: &impl Abort, input: &mut Vec<u8>, size: usize) {
+    let piece = vec![in *input.allocator(); b'x'; PIECE].expect(rt, "memory");
     'pieces: for _ in 0..size / PIECE {
-        input.extend_from_slice(&piece)?;
+        add(rt, input, &piece);
     }
-    input.extend_from_slice(&piece[..size % PIECE])?;
-    input.push(b'\n')?;
-    Ok(())
+    add(rt, input, &piece[..size % PIECE]);
+}
+
+/// A put of an object `x` of so many bytes.
+fn put_of(rt: &impl Abort, alloc: Global, size: usize) -> Vec<u8> {
+    let line = format!(in alloc; "put x {size}\n").expect(rt, "memory");
+    let mut input = Vec::with_capacity(alloc, size.saturating_add(64)).expect(rt, "memory");
+    add(rt, &mut input, line.as_bytes());
+    add_object(rt, &mut input, size);
+    add(rt, &mut input, b"\n");
+    input
 }
 
 /// A size, and what is left once an object of it is put on a fresh file.
@@ -62,8 +66,7 @@ fn try_put<D: Disk>(rt: &impl Abort, ran: &Ran<D>, row: &Row) {
         kept_done: 1,
         kept_turn: turn,
     };
-    try_bytes(rt, &ran.put, b"ok kept\n", &row.size);
-    try_outcome(rt, ran.outcome, outcome, &row.size);
+    try_text(rt, ran, "ok kept\n", outcome, &row.size);
     try_number(rt, ran.disk.turns(), turn, &row.size);
 }
 
@@ -78,16 +81,13 @@ fn try_left<D: Disk + Drop>(rt: &impl Abort, alloc: Global, ran: Ran<D>, row: &R
 
 /// Puts an object on a fresh file in pieces of a size.
 fn try_row(rt: &impl Abort, alloc: Global, input: &[u8], row: &Row, piece: usize) {
-    let ran = got(
-        rt,
-        session(alloc, got(rt, formatted(alloc, "9")), input, piece),
-    );
+    let ran = got(rt, session(alloc, fresh(rt, alloc), input, piece));
     try_left(rt, alloc, ran, row);
 }
 
 /// Puts an object in each size of pieces.
 fn try_pieces(rt: &impl Abort, alloc: Global, row: &Row) {
-    let input = put_of(alloc, row.size).expect(rt, "memory");
+    let input = put_of(rt, alloc, row.size);
     for piece in PIECES {
         try_row(rt, alloc, &input, row, *piece);
     }
@@ -145,20 +145,21 @@ const RUN: &[&str] = &["run", "f"];
 /// How many bytes of a long input come at a time: a little less than is read ahead, and a lot more.
 const LONG_PIECES: &[usize] = &[4_095, 65_536];
 
+/// A fresh file of a disk that keeps no record.
+fn made(rt: &impl Abort, alloc: Global) -> PlainDisk {
+    let new = PlainDisk::with_room(alloc, LARGEST_REACH).expect(rt, "memory");
+    got(rt, run_on(alloc, FORMAT, false, new, Vec::new(alloc))).disk
+}
+
 /// Puts an object on a fresh file of a disk that keeps no record.
 fn put_plainly(rt: &impl Abort, alloc: Global, size: usize, piece: usize) -> Ran<PlainDisk>
     requires { 0 < piece }
 {
-    let new = PlainDisk::with_room(alloc, LARGEST_REACH).expect(rt, "memory");
-    let made = got(rt, run_on(alloc, FORMAT, false, new, Vec::new(alloc)));
-    let source = MemSource::new(
-        put_of(alloc, size).expect(rt, "memory"),
-        piece,
-        Vec::new(alloc),
-    );
+    let source = MemSource::new(put_of(rt, alloc, size), piece, Vec::new(alloc));
+    let disk = made(rt, alloc);
     got(
         rt,
-        run_with(alloc, RUN, true, made.disk, source, Vec::new(alloc)),
+        run_with(alloc, RUN, true, disk, source, Vec::new(alloc)),
     )
 }
 
@@ -171,7 +172,7 @@ fn sets_the_largest_sizes_in_their_classes(rt: HostRuntime) {
 }
 
 /// What is put where the object is too large.
-const TOO_LARGE: &[u8] = b"refused size\nrefused missing\nstat 0 0 0 0\n";
+const TOO_LARGE: &str = "refused size\nrefused missing\nstat 0 0 0 0\n";
 
 /// How that session ends.
 const REFUSED: Outcome = Outcome {
@@ -183,21 +184,15 @@ const REFUSED: Outcome = Outcome {
 
 /// Serves a put that is too large, and two requests behind it.
 fn try_too_large(rt: &impl Abort, alloc: Global, input: &[u8], piece: usize) {
-    let ran = got(
-        rt,
-        session(alloc, got(rt, formatted(alloc, "9")), input, piece),
-    );
-    try_bytes(rt, &ran.put, TOO_LARGE, &piece);
-    try_outcome(rt, ran.outcome, REFUSED, &piece);
+    let ran = got(rt, session(alloc, fresh(rt, alloc), input, piece));
+    try_text(rt, &ran, TOO_LARGE, REFUSED, &piece);
     try_number(rt, ran.disk.turns(), 10, &piece);
 }
 
 #[test]
 fn reads_an_object_that_is_too_large_to_its_end(rt: HostRuntime) {
-    let mut input = put_of(rt.alloc(), SIZE_MAX as usize + 1).expect(&rt, "memory");
-    input
-        .extend_from_slice(b"get x\nstat\n")
-        .expect(&rt, "memory");
+    let mut input = put_of(&rt, rt.alloc(), SIZE_MAX as usize + 1);
+    add(&rt, &mut input, b"get x\nstat\n");
     for piece in LONG_PIECES {
         try_too_large(&rt, rt.alloc(), &input, *piece);
     }

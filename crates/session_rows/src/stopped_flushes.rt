@@ -1,5 +1,5 @@
 //! A flush that stopped within or behind its first save, and an empty session that goes on with it.
-use crate::answers::{got, try_bytes, try_number, try_outcome};
+use crate::answers::{got, try_number, try_text};
 use crate::images::{image_at, try_check};
 use crate::moments::try_kept;
 use crate::requests::served;
@@ -59,8 +59,7 @@ fn opened(rt: &impl Abort, alloc: Global, image: &[u8], row: &Row, at: (u64, Cho
         kept_done: 0,
         kept_turn: row.calls,
     };
-    try_bytes(rt, &ran.put, b"", &at);
-    try_outcome(rt, ran.outcome, outcome, &at);
+    try_text(rt, &ran, "", outcome, &at);
     ran.disk
 }
 

@@ -1,11 +1,10 @@
 //! A session of three puts and three removals, over a disk that stops after each number of changing calls.
-use crate::answers::{got, serve_parts, try_holds, try_number, try_ran};
+use crate::answers::{fresh, serve_parts, try_holds, try_number, try_ran};
 use crate::opened_maps::{Map, NONE, ONE, THREE, try_map};
 use disk_face::Disk;
 use disk_mem::{Choice, Fuse, MemDisk};
 use row_vectors::Outcome;
 use row_vectors::inputs::{KEPT, OK, PUT_A, PUT_B, PUT_C};
-use row_vectors::runs::formatted;
 use std::alloc::Global;
 use std::process::Abort;
 
@@ -56,11 +55,11 @@ const REACHES: &[Reach] = &reaches! {
 };
 
 /// How far the session comes at a stop.
-fn reach_of(rt: &impl Abort, calls: u64) -> Reach {
+fn reach_of(rt: &impl Abort, calls: u64) -> &'static Reach {
     let mut last = None;
     for reach in REACHES {
         if reach.from <= calls {
-            last = Some(*reach);
+            last = Some(reach);
         }
     }
     last.expect(rt, "a stop")
@@ -99,11 +98,11 @@ fn seen_at(calls: u64, choice: Choice) -> u64 {
 }
 
 /// The last checkpoint up to a call.
-fn checkpoint_of(rt: &impl Abort, seen: u64) -> Checkpoint {
+fn checkpoint_of(rt: &impl Abort, seen: u64) -> &'static Checkpoint {
     let mut last = None;
     for checkpoint in CHECKPOINTS {
         if checkpoint.gate <= seen {
-            last = Some(*checkpoint);
+            last = Some(checkpoint);
         }
     }
     last.expect(rt, "a checkpoint")
@@ -111,7 +110,7 @@ fn checkpoint_of(rt: &impl Abort, seen: u64) -> Checkpoint {
 
 /// A fresh file in a fuse that stops after so many calls.
 fn fused(rt: &impl Abort, alloc: Global, calls: u64) -> Fuse<MemDisk> {
-    Fuse::stop_after(got(rt, formatted(alloc, "9")), calls)
+    Fuse::stop_after(fresh(rt, alloc), calls)
 }
 
 /// Serves the session up to a stop, on a fresh file, and gives the disk inside back.
@@ -136,7 +135,7 @@ fn is_left(checkpoint: &Checkpoint, outcome: &Outcome) -> bool {
 /// An image of the last turn. It has the map at one of these.
 fn try_image(rt: &impl Abort, alloc: Global, disk: &MemDisk, outcome: &Outcome, at: (u64, Choice)) {
     let checkpoint = checkpoint_of(rt, seen_at(at.0, at.1));
-    try_holds(rt, is_left(&checkpoint, outcome), &at);
+    try_holds(rt, is_left(checkpoint, outcome), &at);
     let opened = last_image(rt, alloc, disk, at.1);
     try_map(rt, alloc, opened, &checkpoint.map, &at);
 }
@@ -154,7 +153,7 @@ const CHOICES: &[Choice] = &[Choice::Durable, Choice::Newest, Choice::Torn(90)];
 /// What a crash leaves of a session that stopped.
 fn try_stop(rt: &impl Abort, alloc: Global, calls: u64) {
     let reach = reach_of(rt, calls);
-    let disk = stopped(rt, alloc, calls, &reach);
+    let disk = stopped(rt, alloc, calls, reach);
     for choice in CHOICES {
         try_image(rt, alloc, &disk, &reach.outcome, (calls, *choice));
     }

@@ -1,19 +1,18 @@
 //! The text of each fault.
+use crate::answers::try_bytes;
 use slot_codec::{CodecFault, NoMemory};
 use slot_pair::SlotFault;
 use std::alloc::Global;
 use std::fmt::Display;
 use std::process::Abort;
-use std::test::Fail;
 
 /// A fault says so.
-fn says(rt: &impl Abort, alloc: Global, fault: &impl Display, text: &str) -> Result<(), Fail> {
-    let said = format!(in alloc; "{fault}")?;
-    assert_eq!(rt; said.as_str(), text);
-    Ok(())
+fn says(rt: &impl Abort, alloc: Global, fault: &impl Display, text: &str) {
+    let said = format!(in alloc; "{fault}").expect(rt, "memory");
+    try_bytes(rt, said.as_bytes(), text.as_bytes(), &text);
 }
 
-const BYTES: [(CodecFault, &str); 10] = [
+const BYTES: &[(CodecFault, &str)] = &[
     (
         CodecFault::Magic,
         "the file doesn't begin with the store's mark",
@@ -42,14 +41,13 @@ const BYTES: [(CodecFault, &str); 10] = [
 ];
 
 #[test]
-fn says_what_bytes_are_refused_for(rt: HostRuntime) -> Result<(), Fail> {
-    for (fault, text) in &BYTES {
-        says(&rt, rt.alloc(), fault, text)?;
+fn says_what_bytes_are_refused_for(rt: HostRuntime) {
+    for (fault, text) in BYTES {
+        says(&rt, rt.alloc(), fault, *text);
     }
-    Ok(())
 }
 
-const SLOTS: [(SlotFault, &str); 6] = [
+const SLOTS: &[(SlotFault, &str)] = &[
     (SlotFault::Short, "the file is too short"),
     (
         SlotFault::Unformatted,
@@ -65,14 +63,13 @@ const SLOTS: [(SlotFault, &str); 6] = [
 ];
 
 #[test]
-fn says_why_no_slot_is_in_use(rt: HostRuntime) -> Result<(), Fail> {
-    for (fault, text) in &SLOTS {
-        says(&rt, rt.alloc(), fault, text)?;
+fn says_why_no_slot_is_in_use(rt: HostRuntime) {
+    for (fault, text) in SLOTS {
+        says(&rt, rt.alloc(), fault, *text);
     }
-    Ok(())
 }
 
 #[test]
-fn says_that_memory_is_out(rt: HostRuntime) -> Result<(), Fail> {
-    says(&rt, rt.alloc(), &NoMemory, "out of memory")
+fn says_that_memory_is_out(rt: HostRuntime) {
+    says(&rt, rt.alloc(), &NoMemory, "out of memory");
 }

@@ -1,36 +1,17 @@
 //! `upgrade` of files made by hand and by sessions: what it puts, how many changing calls it makes, what
 //! stands in the file then, and what is answered where it is stopped.
-ghost use Rattle.std.specs.Prelude.{IsTrue};
-
-use crate::answers::{got, serve_parts, try_bytes, try_number, try_outcome, try_puts};
+use crate::answers::{
+    fresh, got, numbered, serve_parts, try_command, try_holds, try_number, try_puts,
+};
 use disk_face::Disk;
 use disk_mem::{Choice, Fuse, MemDisk};
 use row_vectors::images::{Change, HELLO_DIGESTED, disk};
-use row_vectors::runs::{ended, formatted, run_on};
 use std::alloc::Global;
 use std::process::Abort;
 
 const UPGRADE: &[&str] = &["upgrade", "f"];
 
 const GET: &[&str] = &["get", "f", "a"];
-
-/// Runs a command that reads no input on a disk, which it gives back.
-fn try_command<D: Disk + Drop>(
-    rt: &impl Abort,
-    alloc: Global,
-    disk: D,
-    words: &[&str],
-    status: u8,
-    puts: &str,
-) -> D
-    requires ready { IsTrue (D.state disk).is_ready }
-    ensures { IsTrue (D.state result).is_ready }
-{
-    let ran = got(rt, run_on(alloc, words, true, disk, Vec::new(alloc)));
-    try_bytes(rt, &ran.put, puts.as_bytes(), &puts);
-    try_outcome(rt, ran.outcome, ended(status), &puts);
-    ran.disk
-}
 
 /// The file of one object, `hello` under the name `a`, with changes; the status of `upgrade`, what it puts,
 /// and how many changing calls it makes.
@@ -91,7 +72,7 @@ const WRITTEN: &[Change] = &[
 /// One of these bytes.
 fn try_written(rt: &impl Abort, bytes: &[u8], written: &Change) {
     let (at, byte) = *written;
-    assert!(rt; bytes.get(at).copied() == Some(byte), "at {}", at);
+    try_holds(rt, bytes.get(at).copied() == Some(byte), &at);
 }
 
 /// The bytes of a file as it stands.
@@ -168,16 +149,13 @@ const TWELFTH: &[&str] = &["put l 0\n\n", "keep\n"];
 
 /// A new file that served these requests.
 fn named(rt: &impl Abort, alloc: Global) -> MemDisk {
-    let file = got(rt, formatted(alloc, "9"));
-    let ran = serve_parts(rt, alloc, file, NAMES, 64);
-    ran.disk
+    serve_parts(rt, alloc, fresh(rt, alloc), NAMES, 64).disk
 }
 
 #[test]
 fn says_how_many_names_are_too_many(rt: HostRuntime) {
     let file = named(&rt, rt.alloc());
-    let ran = serve_parts(&rt, rt.alloc(), file, TWELFTH, 64);
-    let file = ran.disk;
+    let file = serve_parts(&rt, rt.alloc(), file, TWELFTH, 64).disk;
     let turns = file.turns();
     let file = try_command(&rt, rt.alloc(), file, UPGRADE, 14, "fault too many 12\n");
     try_number(&rt, file.turns(), turns, &"none");
@@ -188,9 +166,8 @@ fn says_how_many_names_are_too_many(rt: HostRuntime) {
 /// It is stopped at one changing call: the object is there, and once more it is done, by as many calls as it
 /// takes where it wasn't yet.
 fn try_stopped(rt: &impl Abort, alloc: Global, call: u64) {
-    let calls = vec![in alloc; call].expect(rt, "memory");
     let file = got(rt, disk(alloc, 19_608, &[], &[]));
-    let fuse = Fuse::listed(file, calls, Vec::new(alloc));
+    let fuse = Fuse::listed(file, numbered(rt, alloc, call), Vec::new(alloc));
     let file = try_command(rt, alloc, fuse, UPGRADE, 7, "fault disk\n").into_inner();
     try_again(rt, alloc, file, call);
 }

@@ -1,8 +1,8 @@
 //! The commands `work` and `cached` over new files, and what a plain program in another language found of the
 //! same jobs: their summaries, and the counts of a cache.
-use crate::answers::{got, try_bytes, try_holds, try_outcome};
+use crate::answers::{got, try_command, try_holds};
 use disk_mem::PlainDisk;
-use row_vectors::runs::{ended, run_on};
+use row_vectors::runs::run_on;
 use std::alloc::Global;
 use std::process::Abort;
 
@@ -30,16 +30,12 @@ const FIVE_THOUSAND_CACHED: &str = five_thousand!("hits 1\nmisses 93\ndrops 0\n"
 fn made(rt: &impl Abort, alloc: Global, k: &str, names: &str) -> PlainDisk {
     let new = PlainDisk::with_room(alloc, ROOM).expect(rt, "memory");
     let words = ["format", "f", k, names];
-    let ran = got(rt, run_on(alloc, &words, false, new, Vec::new(alloc)));
-    ran.disk
+    got(rt, run_on(alloc, &words, false, new, Vec::new(alloc))).disk
 }
 
 /// Tries what a command puts over a new file with this divisor and so many names.
 fn try_jobs(rt: &impl Abort, alloc: Global, [k, names]: [&str; 2], words: &[&str], text: &str) {
-    let disk = made(rt, alloc, k, names);
-    let ran = got(rt, run_on(alloc, words, true, disk, Vec::new(alloc)));
-    try_bytes(rt, &ran.put, text.as_bytes(), &text);
-    try_outcome(rt, ran.outcome, ended(0), &text);
+    try_command(rt, alloc, made(rt, alloc, k, names), words, 0, text);
 }
 
 /// The summary of 2,000 jobs of number 1 at a divisor of 9 and with 4,096 names.
