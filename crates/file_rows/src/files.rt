@@ -65,9 +65,9 @@ fn left(rt: &(impl Abort + Alloc + Files<File = File>), name: &str, bytes: &[u8]
 
 /// What is tried with a bay that has mounted nothing.
 #[derive(Clone, Copy)]
-enum Act {
+enum Act<'a> {
     /// It is refused a name, which it would make where there is none, for a cause.
-    Refuses(&'static str, bool, &'static str),
+    Refuses(&'a str, bool, &'a str),
     Keeps,
     FindsNone,
     ReadsObject,
@@ -77,7 +77,7 @@ enum Act {
 }
 
 /// Tries a bay.
-fn tries<H: Host>(rt: &(impl Abort + Files<File = File>), bay: &mut FileBay<H>, act: Act)
+fn tries<H: Host>(rt: &(impl Abort + Files<File = File>), bay: &mut FileBay<H>, act: Act<'_>)
     requires none { (bay_state bay.old).last_mount ≡ None }
     requires untold { IsFalse (bay_state bay.old).tells }
 {
@@ -92,12 +92,12 @@ fn tries<H: Host>(rt: &(impl Abort + Files<File = File>), bay: &mut FileBay<H>, 
 }
 
 /// Tries a bay that may change its file.
-fn changing(rt: &(impl Abort + Files<File = File>), act: Act) {
+fn changing(rt: &(impl Abort + Files<File = File>), act: Act<'_>) {
     tries(rt, &mut FileBay::new(rt), act);
 }
 
 /// Tries a bay that only reads.
-fn reading(rt: &(impl Abort + Files<File = File>), act: Act) {
+fn reading(rt: &(impl Abort + Files<File = File>), act: Act<'_>) {
     tries(rt, &mut FileBay::reading(rt), act);
 }
 

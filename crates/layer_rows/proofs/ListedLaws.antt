@@ -1,10 +1,10 @@
 -- A list in the order of places is a shelf, and stays one through the moves of a flush.
-use Rattle.std.specs.Prelude.{◌≡◌, ℕ, ◌≤◌, nat_le, List, [], ◌∷◌, slice_get, slice_index_or, Some, Contains, IsPermutation, refl}
+use Rattle.std.specs.Prelude.{◌≡◌, ℕ, ◌<◌, ◌≤◌, nat_le, List, [], ◌∷◌, length, slice_get, slice_index_or, Some, Contains, IsPermutation, refl}
 use Rattle.std.specs.List.Sorted.{IsNonDecreasingBy}
 use Rattle.std.proofs.Common.{arith, sym, ◌∙◌, ap, subst, inl, inr}
 use Rattle.std.proofs.lemmas.Bool.{cases_order, cond-true, le-leb}
 use Rattle.std.proofs.lemmas.List.Sorted.{IsPermutation-map, IsPermutation-trans}
-use Rattle.std.proofs.lemmas.Option.{slice_get-get_or}
+use Rattle.std.proofs.lemmas.Option.{slice_get-get_or, slice_get_within}
 use Rattle.flush_model.specs.declared.item.Item.{Item}
 use Rattle.flush_model.specs.declared.item.Move.{Move}
 use Rattle.flush_model.specs.declared.item.Numbers.{Numbers}
@@ -78,6 +78,24 @@ at_rank xs rises m has rank is = elim (cases_order has.0 rank) [
         places_rise xs rises rank has.0 a m more at (got_at m xs has),
       ))
 ]
+
+-- so many objects stand before a place where the next one doesn't
+pub rank_before : (xs : List Item) (place rank : ℕ) → IsShelf xs → rank ≤ length xs
+    → ((i : ℕ) (it : Item) → i < rank → slice_get xs i ≡ Some it → it.place < place)
+    → ((it : Item) → slice_get xs rank ≡ Some it → place ≤ it.place) → IsRank xs place rank
+rank_before xs place rank rises within before next = record {
+  within = within;
+  before = before;
+  from = λ i it low at. elim (cases_order rank i) [
+    | inl e ↦ next it (ap (slice_get xs) e ∙ at)
+    | inr (inl less) ↦
+        let a = slice_index_or xs rank it in
+        let here : slice_get xs rank ≡ Some a =
+        slice_get-get_or xs rank it (omega (arith, less, slice_get_within xs i it at)) in
+        omega (arith, next a here, places_rise xs rises rank i a it less here at)
+    | inr (inr more) ↦ absurd (omega (arith, more, low))
+  ];
+}
 
 -- what a move leaves
 pub relisted : (items xs ys : List Item) (mv : Move) → IsPermutation items xs

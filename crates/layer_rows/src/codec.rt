@@ -64,12 +64,31 @@ fn put(bytes: &mut [u8], at: usize, byte: u8)
     }
 }
 
+/// Puts bytes at positions.
+fn put_all<const N: usize>(bytes: &mut [u8; N], parts: &[(usize, u8)]) {
+    for (at, byte) in parts {
+        put(bytes, *at, *byte);
+    }
+}
+
+/// The bytes of the superblock that aren't 0.
+const SUPERBLOCK: &[(usize, u8)] = &[
+    (0, b'C'),
+    (1, b'O'),
+    (2, b'S'),
+    (3, b'T'),
+    (4, b'O'),
+    (5, b'R'),
+    (6, b'E'),
+    (7, b'1'),
+    (8, 9),
+    (16, 16),
+];
+
 /// The superblock of the file as bytes, but for one byte.
 fn superblock_bytes(at: usize, byte: u8) -> [u8; SUPERBLOCK_LEN] {
     let mut bytes = [0u8; SUPERBLOCK_LEN];
-    bytes[..8].copy_from_slice(b"COSTORE1");
-    bytes[8] = 9;
-    bytes[16] = 16;
+    put_all(&mut bytes, SUPERBLOCK);
     put(&mut bytes, at, byte);
     bytes
 }
@@ -163,12 +182,13 @@ fn version_2_has_room_for_fewer_records(rt: HostRuntime) {
     }
 }
 
+/// The bytes of the record that aren't 0.
+const RECORD: &[(usize, u8)] = &[(0, 1), (1, b'a'), (72, 5)];
+
 /// The record of the file as bytes, but for one byte.
 fn record_bytes(at: usize, byte: u8) -> [u8; RECORD_LEN] {
     let mut bytes = [0u8; RECORD_LEN];
-    bytes[0] = 1;
-    bytes[1] = b'a';
-    bytes[72] = 5;
+    put_all(&mut bytes, RECORD);
     put(&mut bytes, at, byte);
     bytes
 }
@@ -214,7 +234,7 @@ const DIGESTED_LEN: usize = RECORD_LEN + DIGEST_LEN;
 /// The record of the file as bytes of version 2, but for one byte. Byte `i` of its digest is `128 + i`.
 fn digested_bytes(at: usize, byte: u8) -> [u8; DIGESTED_LEN] {
     let mut bytes = [0u8; DIGESTED_LEN];
-    bytes[..RECORD_LEN].copy_from_slice(&record_bytes(1, b'a'));
+    put_all(&mut bytes, RECORD);
     'digest: for i in 0..DIGEST_LEN {
         bytes[RECORD_LEN + i] = 128 + i as u8;
     }

@@ -254,15 +254,17 @@ fn digest_of_record<R: Roll>(roll: &R, n: u64) -> Option<u8> {
     }
 }
 
+/// Acts on an empty table, that leave two names.
+const TWO: &[Act] = &[Set(b'b', 0), Set(b'a', 7), Keep, Renew(b'b', 9)];
+
+/// Whether the records of the two names have their digests.
+fn has_records(table: &Table) -> bool {
+    digest_of_record(table, 0) == Some(7) && digest_of_record(table, 1) == Some(9)
+}
+
 #[test]
 fn records_have_the_digests_of_their_names(rt: HostRuntime) {
     let mut table = Table::with_room(rt.alloc(), 16).expect(&rt, "no memory");
-    assert!(&rt;
-        are_done(
-            &mut table,
-            &[Set(b'b', 0), Set(b'a', 7), Keep, Renew(b'b', 9)]
-        )
-    );
-    assert!(&rt; digest_of_record(&table, 0) == Some(7));
-    assert!(&rt; digest_of_record(&table, 1) == Some(9));
+    assert!(&rt; are_done(&mut table, TWO));
+    assert!(&rt; has_records(&table));
 }

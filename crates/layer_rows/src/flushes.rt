@@ -10,7 +10,7 @@ use crate::rows::try_holds;
 use flush_plan::{Item, Laying, Lifting, Move, Numbers, Packing, Settled};
 use segment_layout::Layout;
 use size_class::CLASSES;
-use std::alloc::{AllocError, Global};
+use std::alloc::Global;
 use std::process::Abort;
 
 /// A worked flush: the volumes of its layout by class, its objects by key, class, place and size, the bytes
@@ -18,19 +18,25 @@ use std::process::Abort;
 #[derive(Clone, Copy)]
 struct Worked {
     volumes: &'static [(u8, u64)],
-    objects: &'static [(u32, u8, u64, u64)],
+    objects: &'static [Item],
     pending: u64,
     numbers: Numbers,
     moves: &'static [(u32, u64, u64)],
 }
 
 macro_rules! flushes {
-    ($([$($volume:expr),*], [$($object:expr),*], $pending:literal,
+    ($([$($volume:expr),*], [$(($key:literal, $class:literal, $place:literal, $size:literal)),*],
+        $pending:literal,
         [$boundary:literal, $start:literal, $wall:literal, $slack:literal, $reach:literal, $end:literal] =>
         [$($mv:expr),*];)*) => {
         &[$(Worked {
             volumes: &[$($volume),*],
-            objects: &[$($object),*],
+            objects: &[$(Item {
+                key: $key,
+                class: $class,
+                place: $place,
+                size: $size,
+            }),*],
             pending: $pending,
             numbers: Numbers {
                 boundary: $boundary,
@@ -73,19 +79,11 @@ const FOUND_PACKED: &[Worked] = flushes!(
         => [(1, 100, 239), (0, 0, 139), (PENDING, 249, 0), (1, 239, 5), (0, 139, 16)];
 );
 
-/// The items by key, class, place and size, with room for one more.
-fn items_of(alloc: Global, objects: &[(u32, u8, u64, u64)]) -> Result<Vec<Item>, AllocError> {
-    let mut items = Vec::new(alloc);
-    'objects: for (key, class, place, size) in objects {
-        items.push(Item {
-            key: *key,
-            class: *class,
-            place: *place,
-            size: *size,
-        })?;
-    }
-    items.reserve(1)?;
-    Ok(items)
+/// The items, with room for one more.
+fn items_of(rt: &impl Abort, alloc: Global, objects: &[Item]) -> Vec<Item> {
+    let mut items = Vec::from_slice(alloc, objects).expect(rt, "memory");
+    items.reserve(1).expect(rt, "memory");
+    items
 }
 
 /// Begins a worked flush.
@@ -97,7 +95,7 @@ fn begin(
 ) -> Begun<CLASSES>
     ensures { LiftsList CLASSES (divisor_of layout.now) result.lifting result.shelf.items.items }
 {
-    let items = items_of(alloc, worked.objects).expect(rt, "memory");
+    let items = items_of(rt, alloc, worked.objects);
     flush_of(layout, worked.numbers.boundary, items, worked.pending).expect(rt, "no flush")
 }
 
@@ -109,8 +107,16 @@ fn try_numbers(rt: &impl Abort, found: Numbers, wanted: Numbers) {
 /// Tries the moves that were made.
 fn try_moves(rt: &impl Abort, made: &[Move], wanted: &[(u32, u64, u64)]) {
     try_holds(rt, made.len() == wanted.len(), &made.len());
-    'moves: for (mv, to) in made.iter().zip(wanted) {
-        try_holds(rt, (mv.key, mv.from, mv.to) == *to, to);
+    'moves: for n in 0..wanted.len() {
+        try_holds(rt, is_move(made.get(n), &wanted[n]), &n);
+    }
+}
+
+/// Whether this is a move of a key from a place to another.
+fn is_move(made: Option<&Move>, wanted: &(u32, u64, u64)) -> bool {
+    match made {
+        Some(mv) => (mv.key, mv.from, mv.to) == *wanted,
+        None => false,
     }
 }
 

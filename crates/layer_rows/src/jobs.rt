@@ -5,7 +5,7 @@ use work_maker::{Job, Work};
 /// number says which it is.
 type Short = (&'static [u8], u64, u8);
 
-const FIRST: [Short; 9] = [
+const FIRST: &[Short] = &[
     (b"o3985", 1624, 1),
     (b"o1747", 0, 1),
     (b"o2854", 3907, 3),
@@ -17,7 +17,7 @@ const FIRST: [Short; 9] = [
     (b"", 0, 2),
 ];
 
-const GREATEST: [Short; 5] = [
+const GREATEST: &[Short] = &[
     (b"o12369", 0, 1),
     (b"o61755", 0, 0),
     (b"", 0, 2),
@@ -26,7 +26,7 @@ const GREATEST: [Short; 5] = [
 ];
 
 /// The jobs from the 255th on.
-const LATER: [Short; 6] = [
+const LATER: &[Short] = &[
     (b"o1032", 3724, 255),
     (b"o1222", 5390, 0),
     (b"o2768", 2253, 1),
@@ -48,10 +48,16 @@ fn is_short(job: &Job, wanted: &Short) -> bool {
 
 /// Whether the first jobs of a list are these.
 fn begins_with(work: &mut Work, wanted: &[Short]) -> bool {
-    wanted.iter().all(|want| match work.next() {
-        Some(job) => is_short(&job, want),
-        None => false,
-    })
+    for want in wanted {
+        let is_next = match work.next() {
+            Some(job) => is_short(&job, want),
+            None => false,
+        };
+        if !is_next {
+            return false;
+        }
+    }
+    true
 }
 
 /// Whether so many jobs of a list are there.
@@ -67,7 +73,7 @@ fn passes(work: &mut Work, count: u64) -> bool {
 #[test]
 fn numbers_give_their_jobs(rt: HostRuntime) {
     let mut work = Work::new(1, 8, 4096);
-    assert!(rt; begins_with(&mut work, &FIRST));
+    assert!(rt; begins_with(&mut work, FIRST));
     assert!(rt; work.next().is_none());
     assert!(rt; work.next().is_none());
 }
@@ -75,7 +81,7 @@ fn numbers_give_their_jobs(rt: HostRuntime) {
 #[test]
 fn the_greatest_number_gives_its_jobs(rt: HostRuntime) {
     let mut work = Work::new(u64::MAX, 4, 65536);
-    assert!(rt; begins_with(&mut work, &GREATEST));
+    assert!(rt; begins_with(&mut work, GREATEST));
     assert!(rt; work.next().is_none());
 }
 
@@ -83,5 +89,5 @@ fn the_greatest_number_gives_its_jobs(rt: HostRuntime) {
 fn objects_begin_with_the_number_of_their_job(rt: HostRuntime) {
     let mut work = Work::new(1, 300, 4096);
     assert!(rt; passes(&mut work, 254));
-    assert!(rt; begins_with(&mut work, &LATER));
+    assert!(rt; begins_with(&mut work, LATER));
 }

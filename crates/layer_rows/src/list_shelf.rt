@@ -26,6 +26,14 @@ impl Shelf for ListShelf {
     }
 }
 
+/// Puts objects in the order of their places.
+pub(crate) fn sort_by_place(items: &mut Vec<Item>)
+    ensures same { IsPermutation items.old.items items.new.items }
+    ensures rising { IsNonDecreasingBy (λ (it : AnyItem). it.place) items.new.items }
+{
+    items.sort_unstable_by_key(|item| item.place);
+}
+
 impl ListShelf {
     /// Puts objects in the order of their places.
     pub(crate) fn new(objects: Vec<Item>) -> ListShelf
@@ -33,7 +41,7 @@ impl ListShelf {
         ensures rising { IsNonDecreasingBy (λ (it : AnyItem). it.place) result.items.items }
     {
         let mut items = objects;
-        items.sort_unstable_by_key(|item| item.place);
+        sort_by_place(&mut items);
         ListShelf { items }
     }
 

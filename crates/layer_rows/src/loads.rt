@@ -10,7 +10,7 @@ use slot_codec::Name;
 use std::alloc::Global;
 use std::process::Abort;
 
-const LOADED: [Row; 2] = [(b'a', Some((9, 5)), None), (b'b', Some((2, 7)), None)];
+const LOADED: &[Row] = &[(b'a', Some((9, 5)), None), (b'b', Some((2, 7)), None)];
 
 /// Sets two names, the second of which stands before the first by place, and answers their keys.
 fn push_two(load: &mut BulkLoad, a: &Name, b: &Name) -> (u32, u32)
@@ -43,14 +43,19 @@ fn key_at(table: &Table, n: u64) -> Option<u32> {
 #[test]
 fn names_of_a_load_stand_where_they_were_set(rt: HostRuntime) {
     let (table, _) = loaded_table(&rt, rt.alloc());
-    assert!(rt; are_standing(&table, &LOADED));
+    assert!(rt; are_standing(&table, LOADED));
     assert!(rt; has_counts(&table, [2, 0], [12, 0]));
+}
+
+/// Whether these two keys stand by place, and no others.
+fn are_by_place(table: &Table, first: u32, second: u32) -> bool {
+    key_at(table, 0) == Some(first)
+        && key_at(table, 1) == Some(second)
+        && key_at(table, 2).is_none()
 }
 
 #[test]
 fn names_of_a_load_are_in_order_of_place(rt: HostRuntime) {
     let (table, (behind, before)) = loaded_table(&rt, rt.alloc());
-    assert!(rt; key_at(&table, 0) == Some(before));
-    assert!(rt; key_at(&table, 1) == Some(behind));
-    assert!(rt; key_at(&table, 2) == None);
+    assert!(rt; are_by_place(&table, before, behind));
 }

@@ -19,7 +19,7 @@ enum Step {
 }
 
 /// An empty object gets bytes, and another loses its own.
-const ENTRIES: [Step; 16] = [
+const ENTRIES: &[Step] = &[
     Step::Put(b'd', 5, 1),
     Step::Put(b'c', 2, 0),
     Step::Put(b'a', 9, 4),
@@ -38,7 +38,7 @@ const ENTRIES: [Step; 16] = [
     Step::Stand(&[(5, 3), (5, 1), (9, 4)]),
 ];
 
-const MOVES: [Step; 12] = [
+const MOVES: &[Step] = &[
     Step::Put(b'a', 10, 1),
     Step::Put(b'b', 20, 2),
     Step::Put(b'c', 30, 3),
@@ -114,11 +114,11 @@ fn first_fault(table: &mut Table, steps: &[Step]) -> Option<usize> {
 #[test]
 fn entries_stand_by_place(rt: HostRuntime) {
     let mut table = empty_table(&rt, rt.alloc());
-    assert!(rt; first_fault(&mut table, &ENTRIES) == None);
+    assert!(rt; first_fault(&mut table, ENTRIES) == None);
 }
 
 #[test]
 fn a_move_changes_the_rank(rt: HostRuntime) {
     let mut table = empty_table(&rt, rt.alloc());
-    assert!(rt; first_fault(&mut table, &MOVES) == None);
+    assert!(rt; first_fault(&mut table, MOVES) == None);
 }

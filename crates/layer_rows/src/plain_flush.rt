@@ -1,18 +1,28 @@
 //! A plain plan of a flush in three passes over its items.
 ghost use Rattle.std.specs.Prelude.{◌<◌, ◌≤◌};
 
+use crate::list_shelf::sort_by_place;
 use flush_model::{Item, Move, Numbers};
 use segment_layout::Layout;
 use size_class::{Row, class_of};
 use std::alloc::AllocError;
 
-/// The sizes of the items that pass a test.
-fn sum_of<F: Fn(&Item) -> bool>(items: &[Item], passes: F) -> u64
-    requires { F.IsAlwaysCallable passes }
-{
+/// The sizes of the items of a class.
+fn volume_of(items: &[Item], class: u8) -> u64 {
     let mut sum = 0u64;
     'items: for item in items {
-        if passes(item) {
+        if item.class == class {
+            sum = sum.saturating_add(item.size);
+        }
+    }
+    sum
+}
+
+/// The sizes of the items that stand in their payload segments, or of those that don't.
+fn payload_of<const C: usize>(layout: &Layout<C>, items: &[Item], stands: bool) -> u64 {
+    let mut sum = 0u64;
+    'items: for item in items {
+        if in_payload(layout, item) == stands {
             sum = sum.saturating_add(item.size);
         }
     }
@@ -42,7 +52,7 @@ pub(crate) fn slow_numbers<const C: usize>(
     let mut end = start;
     let mut largest = pending;
     'classes: for class in b..C as u8 {
-        let mut volume = sum_of(items, |item| item.class == class);
+        let mut volume = volume_of(items, class);
         if pending > 0 && pending < 1 << 31 && class_of(pending) == class {
             volume = volume.saturating_add(pending);
         }
@@ -51,8 +61,8 @@ pub(crate) fn slow_numbers<const C: usize>(
     'items: for item in items {
         largest = largest.max(item.size);
     }
-    let kept = sum_of(items, |item| in_payload(layout, item));
-    let lifted = sum_of(items, |item| !in_payload(layout, item));
+    let kept = payload_of(layout, items, true);
+    let lifted = payload_of(layout, items, false);
     let slack = largest.saturating_add(kept / k).saturating_add(1);
     let wall = layout.end().max(end).saturating_add(slack);
     Numbers {
@@ -87,7 +97,7 @@ pub(crate) fn slow_lift<const C: usize>(
     items: &mut Vec<Item>,
     moves: &mut Vec<Move>,
 ) -> Result<(), AllocError> {
-    items.sort_unstable_by_key(|item| item.place);
+    sort_by_place(items);
     let mut to = wall;
     'items: for item in items.iter_mut() {
         if item.place < wall && !in_payload(layout, item) {
@@ -126,7 +136,7 @@ pub(crate) fn slow_lay<const C: usize>(
     requires fits { C ≤ 32 }
     requires divisor { 2 ≤ k }
 {
-    items.sort_unstable_by_key(|item| item.place);
+    sort_by_place(items);
     let mut start = numbers.start;
     'classes: for class in numbers.boundary..C as u8 {
         let mut to = start;

@@ -10,12 +10,12 @@ pub type Standing = Option<(u64, u64)>;
 /// A name of one letter, where its object stands, and where it stood at the last checkpoint.
 pub type Row = (u8, Standing, Standing);
 
-const CHANGED: [Row; 2] = [
+const CHANGED: &[Row] = &[
     (b'a', Some((5, 10)), Some((0, 100))),
     (b'b', Some((20, 1)), None),
 ];
 
-const KEPT: [Row; 2] = [(b'a', Some((0, 100)), Some((0, 100))), (b'b', None, None)];
+const KEPT: &[Row] = &[(b'a', Some((0, 100)), Some((0, 100))), (b'b', None, None)];
 
 /// The names of one letter that are set first, and those that are set once these are gone.
 const SMALL: &[u8] = b"abcdefghijklmnop";
@@ -50,8 +50,12 @@ fn before(table: &Table, letter: u8) -> Standing {
 
 /// Whether each object stands and stood so.
 pub fn are_standing(table: &Table, rows: &[Row]) -> bool {
-    rows.iter().all(|(letter, is, was)| now(table, *letter) == *is
-        && before(table, *letter) == *was)
+    for (letter, is, was) in rows {
+        if now(table, *letter) != *is || before(table, *letter) != *was {
+            return false;
+        }
+    }
+    true
 }
 
 /// Whether so many names are live and kept, and their objects have so many bytes.
@@ -68,18 +72,22 @@ pub fn empty_table(rt: &impl Abort, alloc: Global) -> Table {
 /// A table in which `a` was kept and then moved, and `b` was set.
 fn changed_table(rt: &impl Abort, alloc: Global) -> Table {
     let mut table = empty_table(rt, alloc);
-    let key = set(&mut table, b'a', 0, 100);
-    assert!(rt; key.is_some());
-    table.keep();
-    assert!(rt; set(&mut table, b'a', 5, 10) == key);
-    assert!(rt; set(&mut table, b'b', 20, 1).is_some());
+    assert!(rt; is_changed(&mut table));
     table
+}
+
+/// Sets `a`, keeps it, moves it, which leaves it its key, and sets `b`; answers whether all is so.
+fn is_changed(table: &mut Table) -> bool {
+    let key = set(table, b'a', 0, 100);
+    table.keep();
+    let moved = set(table, b'a', 5, 10);
+    key.is_some() && moved == key && set(table, b'b', 20, 1).is_some()
 }
 
 #[test]
 fn a_checkpoint_is_kept(rt: HostRuntime) {
     let table = changed_table(&rt, rt.alloc());
-    assert!(rt; are_standing(&table, &CHANGED));
+    assert!(rt; are_standing(&table, CHANGED));
     assert!(rt; has_counts(&table, [2, 1], [11, 100]));
 }
 
@@ -87,7 +95,7 @@ fn a_checkpoint_is_kept(rt: HostRuntime) {
 fn back_takes_what_was_kept(rt: HostRuntime) {
     let mut table = changed_table(&rt, rt.alloc());
     table.back();
-    assert!(rt; are_standing(&table, &KEPT));
+    assert!(rt; are_standing(&table, KEPT));
     assert!(rt; has_counts(&table, [1, 1], [100, 100]));
 }
 
@@ -98,24 +106,33 @@ fn standing_of(letter: u8) -> Standing {
 
 /// Whether each name finds room, and is set.
 fn are_set(table: &mut Table, letters: &[u8]) -> bool {
-    letters.iter().all(|letter| {
+    for letter in letters {
         let size = u64::from(*letter);
-        set(table, *letter, 1000 * size, size).is_some()
-    })
+        if set(table, *letter, 1000 * size, size).is_none() {
+            return false;
+        }
+    }
+    true
 }
 
 /// Whether each name stands where it was set, and is taken out.
 fn are_taken(table: &mut Table, letters: &[u8]) -> bool {
-    letters
-        .iter()
-        .all(|letter| take(table, *letter) == standing_of(*letter))
+    for letter in letters {
+        if take(table, *letter) != standing_of(*letter) {
+            return false;
+        }
+    }
+    true
 }
 
 /// Whether each name stands where it was set.
 fn are_there(table: &Table, letters: &[u8]) -> bool {
-    letters
-        .iter()
-        .all(|letter| now(table, *letter) == standing_of(*letter))
+    for letter in letters {
+        if now(table, *letter) != standing_of(*letter) {
+            return false;
+        }
+    }
+    true
 }
 
 /// Takes the name of one letter out, and answers where its object stood.
@@ -127,11 +144,16 @@ pub fn take(table: &mut Table, letter: u8) -> Standing {
 /// A full table, all of whose names were kept, taken out, and followed by as many others.
 fn twice_filled_table(rt: &impl Abort, alloc: Global) -> Table {
     let mut table = empty_table(rt, alloc);
-    assert!(rt; are_set(&mut table, SMALL) && !table.room());
+    fill(rt, &mut table, SMALL);
     table.keep();
     assert!(rt; are_taken(&mut table, SMALL));
-    assert!(rt; are_set(&mut table, LARGE) && !table.room());
+    fill(rt, &mut table, LARGE);
     table
+}
+
+/// Sets names until there is no room.
+fn fill(rt: &impl Abort, table: &mut Table, letters: &[u8]) {
+    assert!(rt; are_set(table, letters) && !table.room());
 }
 
 #[test]

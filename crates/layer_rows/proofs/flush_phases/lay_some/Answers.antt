@@ -28,3 +28,6 @@ pub returns-in-None : goal.returns-in-None
 returns-in-None g c =
     subst (λ v. LaysList g.row.C (divisor_of c.args.layout.now) v c.lays.shelf.items.items)
     (sym (c.in-None.ensures.same refl)) c.lays.invariant
+
+pub returns : goal.returns
+returns g c = c.lays.invariant

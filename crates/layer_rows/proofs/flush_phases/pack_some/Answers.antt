@@ -28,3 +28,6 @@ pub returns-in-None : goal.returns-in-None
 returns-in-None g c =
     subst (λ v. PacksList g.row.C (divisor_of c.args.layout.now) v c.packs.shelf.items.items)
     (sym (c.in-None.ensures.same refl)) c.packs.invariant
+
+pub returns : goal.returns
+returns g c = c.packs.invariant
