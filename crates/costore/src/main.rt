@@ -9,12 +9,13 @@ use costore_top::{HELP, Outcome, costore, may_change};
 use disk_file::{
     Cause, FileBay, StdSink, StdSource, Use, hold_numbers, is_own_errors, is_own_stream,
 };
-use error_lines::{Asked, Backs, Failed, Heard, Unkept, Why};
+use error_lines::{Failed, Unkept, Why};
 use progress_lines::{CountedSink, CountedSource, Pace, Stream, is_terminal};
 use std::alloc::{AllocError, Global};
 use std::env;
 use std::io::{self, ErrorKind};
 use std::process::ExitCode;
+use watched_streams::{Asked, Backs, Heard};
 
 /// The status of a disk that failed: the numbers of the standard streams couldn't be held, and so no
 /// file may be opened.

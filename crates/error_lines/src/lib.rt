@@ -2,15 +2,10 @@
 //! people, how a line begins that is no request, and how much of a session no checkpoint holds.
 #![tactic(auto)]
 
-mod asked;
-mod backs;
-mod begun;
 mod failed;
-mod heard;
 mod line;
 mod refused;
 mod shown;
-mod tally;
 mod texts;
 mod told;
 mod unkept;
@@ -18,11 +13,6 @@ mod unread;
 mod why;
 mod wrong;
 
-pub use asked::Asked;
-pub use backs::Backs;
-pub use begun::Begun;
 pub use failed::Failed;
-pub use heard::Heard;
-pub use tally::Tally;
 pub use unkept::Unkept;
 pub use why::Why;

@@ -1,7 +1,7 @@
 //! A source that keeps the start of the request that a session reads.
 ghost use Rattle.std.specs.Prelude.{◌≡◌, ◌≤◌, IfOk, IsTrue, OnErr, length, take};
 ghost use Rattle.disk_face.specs.{Counts.{HasCause}, Streams.{Takes}};
-ghost use Rattle.error_lines.specs.Begins.{ReadsAll, start};
+ghost use Rattle.watched_streams.specs.Begins.{ReadsAll, start};
 
 use crate::backs::Backs;
 use crate::begun::Begun;
@@ -17,7 +17,7 @@ pub struct Asked<'a, I: Source> {
 }
 
 impl<'a, I: Source> Asked<'a, I> {
-    ghost use Rattle.error_lines.specs.Asked.{begun_of, source_of};
+    ghost use Rattle.watched_streams.specs.Asked.{begun_of, source_of};
 
     /// Round a source; nothing was given.
     pub fn new(source: I, backs: &'a Backs) -> Asked<'a, I>
@@ -48,7 +48,7 @@ impl<'a, I: Source> Asked<'a, I> {
 }
 
 impl<I: Source> Source for Asked<'_, I> {
-    ghost use Rattle.error_lines.specs.Asked.{begun_of, source_of};
+    ghost use Rattle.watched_streams.specs.Asked.{begun_of, source_of};
 
     ghost state = { λ asked. I.state asked.source };
 

@@ -1,7 +1,7 @@
 //! The request that a session's input has begun.
 ghost use Rattle.std.specs.Prelude.{◌≡◌, ◌<◌, ◌≤◌, length, take, false, true};
 ghost use Rattle.ask_text.specs.{Asks.{AsksFor, AsksForNothing}, declared.ask.Ask.{Ask}};
-ghost use Rattle.error_lines.specs.Begins.{Reads, ReadsAll, asked, start};
+ghost use Rattle.watched_streams.specs.Begins.{Reads, ReadsAll, asked, start};
 
 use crate::backs::Backs;
 use arrayvec::ArrayVec;

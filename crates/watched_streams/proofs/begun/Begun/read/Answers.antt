@@ -1,7 +1,7 @@
 -- What was read so far, and the first of the rest.
 use Rattle.std.proofs.Common.{arith}
-use Rattle.error_lines.proofs.BeginsLaws.{reads_on}
-use Rattle.error_lines.proofs.begun.Begun.read.Goals as goal
+use Rattle.watched_streams.proofs.BeginsLaws.{reads_on}
+use Rattle.watched_streams.proofs.begun.Begun.read.Goals as goal
 
 pub bytes-preserved : goal.bytes-preserved
 bytes-preserved c = (

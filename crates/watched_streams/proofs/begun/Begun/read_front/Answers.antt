@@ -1,7 +1,7 @@
 -- What needs no look at each byte: what follows bytes that are no request, and bytes of an object.
 use Rattle.std.proofs.Common.{arith, rules, length, take}
-use Rattle.error_lines.proofs.BeginsLaws.{reads_none, reads_some}
-use Rattle.error_lines.proofs.begun.Begun.read_front.Goals as goal
+use Rattle.watched_streams.proofs.BeginsLaws.{reads_none, reads_some}
+use Rattle.watched_streams.proofs.begun.Begun.read_front.Goals as goal
 
 pub returns-then-self-clause-reads : goal.returns-then-self-clause-reads
 returns-then-self-clause-reads c =

@@ -1,6 +1,6 @@
 -- What is seen of a source that keeps the start of the request that it gave last.
-use Rattle.error_lines.specs.declared.asked.Asked.{Asked}
-use Rattle.error_lines.specs.declared.begun.Begun.{Begun}
+use Rattle.watched_streams.specs.declared.asked.Asked.{Asked}
+use Rattle.watched_streams.specs.declared.begun.Begun.{Begun}
 
 module _ {I : Type 0} where
   -- the source inside

@@ -3,7 +3,7 @@ use Rattle.std.specs.Prelude.{◌≡◌, ◌<◌, ◌≤◌, ℕ, ◌+◌, ◌-�
 use Rattle.ask_text.specs.Asks.{AsksFor, AsksForNothing}
 use Rattle.ask_text.specs.declared.ask.Ask.{Ask}
 use Rattle.ask_text.specs.declared.ask.Ask.TheVariants as ask
-use Rattle.error_lines.specs.declared.begun.Begun.{Begun}
+use Rattle.watched_streams.specs.declared.begun.Begun.{Begun}
 
 -- nothing of a request was given
 abbrev pub start : Begun

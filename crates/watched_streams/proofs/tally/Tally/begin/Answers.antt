@@ -1,7 +1,7 @@
 -- A line that announces an object or a list is the first line of that reply alone.
 use Rattle.std.proofs.Common.{◌∙◌, sym, arith}
-use Rattle.error_lines.proofs.TallyLemmas.{data_told, list_told}
-use Rattle.error_lines.proofs.tally.Tally.begin.Goals as goal
+use Rattle.watched_streams.proofs.TallyLemmas.{data_told, list_told}
+use Rattle.watched_streams.proofs.tally.Tally.begin.Goals as goal
 
 pub returns-in-Some : goal.returns-in-Some
 returns-in-Some c = λ r told is.

@@ -1,7 +1,7 @@
 -- So many newlines are behind what is left.
 use Rattle.std.proofs.Common.{◌≡◌, ◌≤◌, ◌+◌, length, drop}
-use Rattle.error_lines.specs.Tallies.{lines_in}
-use Rattle.error_lines.proofs.tally.newlines.Given as goal
+use Rattle.watched_streams.specs.Tallies.{lines_in}
+use Rattle.watched_streams.proofs.tally.newlines.Given as goal
 
 abbrev pub invariant-bytes : goal.invariant-bytes
 invariant-bytes l = (l.at ≤ length l.bytes) × (l.found + l.at ≤ length l.bytes)

@@ -4,7 +4,7 @@ use Rattle.disk_face.specs.Counts.{counted}
 use Rattle.ask_text.specs.Replies.{IsTold, first_line}
 use Rattle.ask_text.specs.declared.reply.Reply.{Reply}
 use Rattle.ask_text.specs.declared.reply.Reply.TheVariants as head
-use Rattle.error_lines.specs.declared.tally.Tally.{Tally}
+use Rattle.watched_streams.specs.declared.tally.Tally.{Tally}
 
 -- nothing is due of a reply
 abbrev pub IsBetween : Tally → Type 0

@@ -2,7 +2,7 @@
 ghost use Rattle.std.specs.Prelude.{◌≡◌, ◌<◌, ◌^◌, ◌++◌, ◌↔◌, ℕ, IsTrue, MatchOption, codes};
 ghost use Rattle.std.specs.Fmt.{decimal};
 ghost use Rattle.ask_text.specs.{Replies.{IsTold, first_line}, declared.reply.Reply.{Reply}};
-ghost use Rattle.error_lines.specs.Tallies.{lines_in};
+ghost use Rattle.watched_streams.specs.Tallies.{lines_in};
 
 use ask_text::number;
 
@@ -20,7 +20,7 @@ pub struct Tally {
 }
 
 impl Tally {
-    ghost use Rattle.error_lines.specs.Tallies.{Hears, IsBetween, tallied};
+    ghost use Rattle.watched_streams.specs.Tallies.{Hears, IsBetween, tallied};
 
     /// Nothing was put.
     pub fn new() -> Tally

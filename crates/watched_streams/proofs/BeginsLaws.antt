@@ -2,8 +2,8 @@
 use Rattle.std.proofs.Common.{◌≡◌, ◌<◌, ◌≤◌, ℕ, ◌+◌, ◌-◌, ◌++◌, List, [], ◌∷◌, length, take, drop, ap, refl, subst, arith, rules, true, false}
 use Rattle.std.proofs.Math.Seq.{take-add}
 use Rattle.std.proofs.lemmas.List.{length-drop, take_all}
-use Rattle.error_lines.specs.Begins.{Reads, ReadsAll}
-use Rattle.error_lines.specs.declared.begun.Begun.{Begun}
+use Rattle.watched_streams.specs.Begins.{Reads, ReadsAll}
+use Rattle.watched_streams.specs.declared.begun.Begun.{Begun}
 
 -- what follows bytes that are no request changes nothing
 pub reads_none : (bytes : List ℕ) (b : Begun) → b.is_none ≡ true → ReadsAll bytes b b

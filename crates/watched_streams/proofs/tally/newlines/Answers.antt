@@ -1,8 +1,8 @@
 -- The newlines are counted from the last byte on.
 use Rattle.std.proofs.Common.{arith, rules}
 use Rattle.std.specs.Prelude.{true, false}
-use Rattle.error_lines.proofs.TallyLemmas.{lines_before, lines_none}
-use Rattle.error_lines.proofs.tally.newlines.Goals as goal
+use Rattle.watched_streams.proofs.TallyLemmas.{lines_before, lines_none}
+use Rattle.watched_streams.proofs.tally.newlines.Goals as goal
 
 pub bytes-init : goal.bytes-init
 bytes-init c = (omega arith, omega arith, lines_none c.args.bytes.now)

@@ -10,8 +10,8 @@ use Rattle.ask_text.specs.Replies.{IsTold, first_line}
 use Rattle.ask_text.specs.declared.reply.Reply.{Reply}
 use Rattle.ask_text.specs.declared.reply.Reply.TheVariants as head
 use Rattle.disk_face.specs.Counts.{counted}
-use Rattle.error_lines.specs.Tallies.{lines_in, tallied}
-use Rattle.error_lines.specs.declared.tally.Tally.{Tally}
+use Rattle.watched_streams.specs.Tallies.{lines_in, tallied}
+use Rattle.watched_streams.specs.declared.tally.Tally.{Tally}
 
 -- the first byte, or 0
 abbrev first : List ℕ → ℕ

@@ -1,7 +1,7 @@
 -- A line is the digits before its newline, and the newline.
 use Rattle.std.proofs.Common.{◌∙◌, ap, rules, ◌++◌, ◌∷◌, []}
-use Rattle.error_lines.proofs.TallyLemmas.{cut_line}
-use Rattle.error_lines.proofs.tally.number_of.Goals as goal
+use Rattle.watched_streams.proofs.TallyLemmas.{cut_line}
+use Rattle.watched_streams.proofs.tally.number_of.Goals as goal
 
 pub returns-in-Some-number : goal.returns-in-Some-number
 returns-in-Some-number c =

@@ -1,7 +1,7 @@
 -- What is seen of a sink that keeps what was put last.
 use Rattle.std.specs.Prelude.{ℕ, List}
-use Rattle.error_lines.specs.declared.heard.Heard.{Heard}
-use Rattle.error_lines.specs.declared.tally.Tally.{Tally}
+use Rattle.watched_streams.specs.declared.heard.Heard.{Heard}
+use Rattle.watched_streams.specs.declared.tally.Tally.{Tally}
 
 module _ {O : Type 0} where
   -- the sink inside

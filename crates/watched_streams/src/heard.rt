@@ -1,7 +1,7 @@
 //! A sink that keeps what was put last, and counts the replies of a session.
 ghost use Rattle.std.specs.Prelude.{◌≡◌, ◌≤◌, [], length, IsTrue};
 ghost use Rattle.disk_face.specs.{Counts.{HasCause}, Streams.{Puts}};
-ghost use Rattle.error_lines.specs.Tallies.{HearsOne};
+ghost use Rattle.watched_streams.specs.Tallies.{HearsOne};
 
 use crate::backs::Backs;
 use crate::tally::Tally;
@@ -19,7 +19,7 @@ pub struct Heard<'a, O: Sink> {
 }
 
 impl<'a, O: Sink> Heard<'a, O> {
-    ghost use Rattle.error_lines.specs.Heard.{line_of, sink_of, tally_of};
+    ghost use Rattle.watched_streams.specs.Heard.{line_of, sink_of, tally_of};
 
     /// Round a sink; nothing was put.
     pub fn new(sink: O, backs: &'a Backs) -> Heard<'a, O>
@@ -59,7 +59,7 @@ impl<'a, O: Sink> Heard<'a, O> {
 }
 
 impl<O: Sink> Sink for Heard<'_, O> {
-    ghost use Rattle.error_lines.specs.Heard.{line_of, sink_of, tally_of};
+    ghost use Rattle.watched_streams.specs.Heard.{line_of, sink_of, tally_of};
 
     ghost state = { λ heard. O.state heard.sink };
 
