@@ -1,8 +1,9 @@
 -- What holds of the fields of the entries.
 --
 -- The slab has what stands now of each name, by key; `kept` has what was kept where that is something else,
--- and `changed` lists the keys at which it is. Both have room for all keys of the slab.
-use Rattle.std.specs.Prelude.{◌≤◌, length, vec_capacity}
+-- and `changed` lists the keys at which it is. Both have room for all keys of the slab. `spare` is a slab of
+-- no names, with the same room.
+use Rattle.std.specs.Prelude.{◌≡◌, ◌≤◌, [], length, vec_capacity}
 use Rattle.slab.specs.Slab.{Slab}
 use Rattle.extent_table.specs.declared.entry.Entries.TheInside.{Inside}
 use Rattle.extent_table.specs.Entries.{Entry, entries_of}
@@ -21,3 +22,5 @@ pub record IsShelved (e : Inside) : Type 0 where
   pub short : length e.kept.items ≤ e.standing.capacity
   pub kept_room : e.standing.capacity ≤ vec_capacity e.kept
   pub changed_room : e.standing.capacity ≤ vec_capacity e.changed
+  pub none_spare : e.spare.slots ≡ []
+  pub spare_room : e.spare.capacity ≡ e.standing.capacity

@@ -1,5 +1,5 @@
 //! Digests by key. Past the end of the list each key has zeros, so a table without digests writes none.
-ghost use Rattle.std.specs.Prelude.{◌≡◌, ℕ, ◌<◌, ◌≤◌, [], length, IsSome, IfOk, vec_capacity};
+ghost use Rattle.std.specs.Prelude.{◌≡◌, ◌≢◌, ℕ, ◌<◌, ◌≤◌, [], length, IsSome, IfOk, slice_index, vec_capacity};
 ghost use Rattle.extent_table.specs.Parts.{IsDigestList, at, digest_in};
 
 use crate::entry::{Entries, entry_room};
@@ -86,4 +86,26 @@ pub(crate) fn copy_digests(to: &mut Vec<[u8; 32]>, from: &[[u8; 32]])
 {
     to.clear();
     to.extend_from_slice(from).unwrap();
+}
+
+/// Puts the digests at the keys of one list at those of another, which all differ.
+pub(crate) fn carry_digests(
+    entries: &Entries,
+    digests: &[[u8; 32]],
+    from: &[u32],
+    carried: &mut Vec<[u8; 32]>,
+    to: &[u32],
+)
+    requires there { (i : ℕ) → i < length to.now → IsSome (at entries.now.slots (slice_index to.now i)) }
+    requires apart { (i j : ℕ) → i < j → j < length to.now → slice_index to.now i ≢ slice_index to.now j }
+    requires long { length to.now ≡ length from.now }
+    requires list { IsDigestList entries.now.capacity carried.old.items (vec_capacity carried.old) }
+    ensures list { IsDigestList entries.now.capacity carried.new.items (vec_capacity carried.new) }
+    ensures carried { (i : ℕ) → i < length to.now → digest_in carried.new.items (slice_index to.now i)
+        ≡ digest_in digests.now (slice_index from.now i) }
+{
+    'ranks: for rank in 0..to.len() {
+        let digest = digest_at(digests, from[rank]);
+        put_digest(entries, carried, to[rank], digest);
+    }
 }

@@ -1,7 +1,7 @@
 //! Names by key with where their objects stand now, and the two ways to take one side for the other.
-ghost use Rattle.std.specs.Prelude.{◌≡◌, ℕ, ◌<◌, ◌≤◌, Some, IsSome, IfSome, IsTrue, length, slice_index, vec_capacity};
+ghost use Rattle.std.specs.Prelude.{◌≡◌, ℕ, ◌<◌, ◌≤◌, ◌^◌, [], Some, IsSome, IfSome, IsTrue, length, slice_index, vec_capacity};
 ghost use Rattle.slab.specs.Slab.{get, Updates};
-ghost use Rattle.extent_table.specs.{declared.kept.Kept.TheVariants.{Same}, Kept.{kept_in, is_change, AreChanges}, Entries.{entry_of, standing_still, standing_at, once_kept, once_back, Goes}};
+ghost use Rattle.extent_table.specs.{declared.kept.Kept.TheVariants.{Same}, Kept.{kept_in, is_change, AreChanges}, Entries.{entry_of, standing_still, standing_at, once_kept, once_back, Goes}, Relaid.{AreRelaid}};
 
 use crate::Spot;
 use crate::kept::{Kept, is_change, kept_as, note, read};
@@ -136,5 +136,30 @@ pub(crate) fn back_each(standing: &mut Slab<Standing>, kept: &mut [Kept], change
 {
     'keys: for key in changed {
         back_at(standing, kept, *key);
+    }
+}
+
+/// Copies the names at the keys of a list into a slab without any, in its order, and lists their keys
+/// there.
+pub(crate) fn copy_each(
+    standing: &Slab<Standing>,
+    from: &[u32],
+    spare: &mut Slab<Standing>,
+    to: &mut Vec<u32>,
+)
+    requires there { (i : ℕ) → i < length from.now → IsSome (get standing.now (slice_index from.now i)) }
+    requires none { spare.old.slots ≡ [] }
+    requires empty { to.old.items ≡ [] }
+    requires room { length from.now ≤ spare.old.capacity }
+    requires small { spare.old.capacity < 2 ^ 32 }
+    requires to_room { length from.now ≤ vec_capacity to.old }
+    ensures relaid { AreRelaid (length from.now) standing.now.slots spare.new.slots from.now to.new.items }
+    ensures capacity { spare.new.capacity ≡ spare.old.capacity }
+    ensures to_capacity { vec_capacity to.new ≡ vec_capacity to.old }
+{
+    'keys: for key in from {
+        let copy = standing.get(*key as usize).unwrap().copied();
+        let at = spare.insert_reserved(copy) as u32;
+        to.push_reserved(at);
     }
 }

@@ -45,6 +45,18 @@ impl Standing {
         }
     }
 
+    /// Another one that is the same.
+    pub(crate) fn copied(&self) -> Standing
+        ensures { result ≡ self.now }
+    {
+        Standing {
+            name: self.name.copied(),
+            place: self.place,
+            size: self.size,
+            is_here: self.is_here,
+        }
+    }
+
     /// The name.
     pub(crate) fn name(&self) -> &Name
         ensures { result.now ≡ self.now.name }

@@ -17,12 +17,14 @@ enum Act {
     /// Moves the object of the first name.
     Move,
     Keep,
+    /// Keeps, and lays the entries out in the order of names where many names are new.
+    Sort,
     Back,
     /// Lets so many names be live.
     Narrow(u64),
 }
 
-use Act::{Back, Keep, Move, Narrow, Remove, Renew, Set};
+use Act::{Back, Keep, Move, Narrow, Remove, Renew, Set, Sort};
 
 /// Acts on an empty table with room for 16 names, and what it has then: the digests of `a` and `b`, now
 /// and at the last checkpoint, and whether there is room for another name.
@@ -83,6 +85,24 @@ const ROWS: &[Row] = &[
         &[Set(b'a', 7), Keep, Remove(b'a'), Set(b'a', 5), Keep],
         [Some(5), None],
         [Some(5), None],
+        true,
+    ),
+    (
+        &[Set(b'b', 7), Set(b'a', 8), Sort],
+        [Some(8), Some(7)],
+        [Some(8), Some(7)],
+        true,
+    ),
+    (
+        &[Set(b'b', 7), Set(b'a', 8), Sort, Set(b'a', 0), Remove(b'b')],
+        [Some(0), None],
+        [Some(8), Some(7)],
+        true,
+    ),
+    (
+        &[Set(b'b', 7), Keep, Set(b'a', 0), Remove(b'b'), Sort, Back],
+        [Some(0), None],
+        [Some(0), None],
         true,
     ),
     (
@@ -185,6 +205,10 @@ fn is_done(table: &mut Table, act: &Act) -> bool
         Move => move_first(table),
         Keep => {
             table.keep();
+            true
+        }
+        Sort => {
+            table.keep_sorted();
             true
         }
         Back => {

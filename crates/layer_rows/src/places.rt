@@ -11,6 +11,8 @@ enum Step {
     /// The object of a rank by place is moved to a place.
     Carry(u64, u64),
     Keep,
+    /// Keeps, and lays the entries out in the order of names where many names are new.
+    Sort,
     Back,
     /// The entries by place are these, each a place and a size, and no others.
     Stand(&'static [(u64, u64)]),
@@ -53,6 +55,21 @@ const MOVES: &[Step] = &[
     Step::Stand(&[(20, 1), (20, 2), (20, 4), (30, 3)]),
 ];
 
+/// Entries that were laid out anew stand by place as before, and are changed, and go back.
+const LAID_OUT: &[Step] = &[
+    Step::Put(b'd', 5, 1),
+    Step::Put(b'a', 9, 4),
+    Step::Put(b'b', 5, 3),
+    Step::Sort,
+    Step::Stand(&[(5, 3), (5, 1), (9, 4)]),
+    Step::Put(b'c', 2, 7),
+    Step::Take(b'a'),
+    Step::Carry(2, 1),
+    Step::Stand(&[(1, 1), (2, 7), (5, 3)]),
+    Step::Back,
+    Step::Stand(&[(5, 3), (5, 1), (9, 4)]),
+];
+
 /// Moves the object of a rank by place, and says whether there is one.
 fn carry(table: &mut Table, from: u64, place: u64) -> bool {
     if table.place_count() <= from || 1 << 48 <= place {
@@ -92,6 +109,10 @@ fn holds(table: &mut Table, step: &Step) -> bool {
             table.keep();
             true
         }
+        Step::Sort => {
+            table.keep_sorted();
+            true
+        }
         Step::Back => {
             table.back();
             true
@@ -121,4 +142,10 @@ fn entries_stand_by_place(rt: HostRuntime) {
 fn a_move_changes_the_rank(rt: HostRuntime) {
     let mut table = empty_table(&rt, rt.alloc());
     assert!(rt; first_fault(&mut table, MOVES) == None);
+}
+
+#[test]
+fn entries_that_were_laid_out_stand_by_place(rt: HostRuntime) {
+    let mut table = empty_table(&rt, rt.alloc());
+    assert!(rt; first_fault(&mut table, LAID_OUT) == None);
 }

@@ -201,3 +201,21 @@ fn records_stand_by_name(rt: HostRuntime) {
     assert!(rt; size_of_record(&table, 1) == Some(98));
     assert!(rt; size_of_record(&table, 3) == None);
 }
+
+/// Whether the keys of the live names rise as the names do.
+fn do_keys_rise(table: &Table) -> bool {
+    for n in 1..table.count() {
+        if table.in_order(n).0 <= table.in_order(n - 1).0 {
+            return false;
+        }
+    }
+    true
+}
+
+#[test]
+fn keys_rise_with_the_names_once_entries_are_laid_out(rt: HostRuntime) {
+    let mut table = empty_table(&rt, rt.alloc());
+    assert!(rt; are_set(&mut table, b"ponmlkjihgfedcba") && !do_keys_rise(&table));
+    table.keep_sorted();
+    assert!(rt; do_keys_rise(&table) && are_there(&table, SMALL));
+}

@@ -69,7 +69,7 @@ impl<const C: usize> Store<C> {
     }
 }
 
-/// What stands now is kept, and no other space is held.
+/// What stands now is kept, and no other space is held. No flush is in hand, so no plan has keys of names.
 pub(crate) fn keep_spots(table: &mut Table, guard: &mut Guard)
     ensures now { table.new.now ≡ table.old.now }
     ensures kept { table.new.kept ≡ table.old.now }
@@ -81,6 +81,6 @@ pub(crate) fn keep_spots(table: &mut Table, guard: &mut Guard)
     ensures empty { guard.new.spans ≡ [] }
     ensures room { guard.new.room ≡ guard.old.room }
 {
-    table.keep();
+    table.keep_sorted();
     guard.clear();
 }
