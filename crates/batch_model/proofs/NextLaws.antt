@@ -1,11 +1,9 @@
 -- The next change of a batch whose text is read from the left, and what is made by then.
-use Rattle.std.specs.Prelude.{◌≡◌, ◌≢◌, ℕ, ◌+◌, ◌≤◌, false, Bool, if◌then◌else◌, cond, ◌||◌, List, [], ◌∷◌, ◌++◌, length, is_some, Option, Some, None, refl}
+use Rattle.std.specs.Prelude.{◌≡◌, ◌≢◌, ℕ, ◌+◌, if◌then◌else◌, ◌||◌, List, [], ◌∷◌, ◌++◌, length, is_some, Option, Some, refl}
 use Rattle.std.proofs.Common.{arith, ap, sym, ◌∙◌, subst, append_assoc, append-nil, length-append}
 use Rattle.std.proofs.lemmas.Bool.{cond-false}
-use Rattle.std.proofs.lemmas.List.{append_cancel_left}
 use Rattle.std.specs.FinMap as fin
 use Rattle.std.specs.List.{AllByRecursion}
-use Rattle.size_class.specs.declared.TheConstants.{SIZE_MAX}
 use Rattle.map_model.specs.Maps.{Map}
 use Rattle.map_model.specs.Requests as ask
 use Rattle.map_model.specs.Requests.{Change, changed}
@@ -13,7 +11,7 @@ use Rattle.map_model.specs.Weights.{same_name}
 use Rattle.map_model.proofs.MapLaws.{name_order}
 use Rattle.ask_text.specs.Inputs.{request_text}
 use Rattle.ask_text.proofs.InputLaws.{text_one}
-use Rattle.batch_model.specs.Batches.{Begins, IsBatch, IsNoBatch, IsPart, Rises, RisesFrom, StopsAt, applied, batch_name, batch_text}
+use Rattle.batch_model.specs.Batches.{IsNoBatch, IsPart, Rises, RisesFrom, StopsAt, applied, batch_name, batch_text}
 use Rattle.batch_model.specs.Fits.{made, made_by}
 use Rattle.batch_model.specs.Parts.{CanStand, IsNoPart}
 use Rattle.batch_model.proofs.PartLaws.{can_text}
