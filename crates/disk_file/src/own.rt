@@ -11,15 +11,10 @@ const OUTPUT: &str = "/proc/self/fd/1";
 const ERRORS: &str = "/proc/self/fd/2";
 
 /// The numbers of a file: one file alone has this number on this device.
-#[derive(Clone, Copy)]
+#[derive(Clone, Copy, PartialEq, Eq)]
 pub struct Node {
     device: u64,
     number: u64,
-}
-
-/// Whether two are one file.
-pub fn is_same(one: Node, other: Node) -> bool {
-    one.device == other.device && one.number == other.number
 }
 
 /// The numbers of the file of which a system told this.
@@ -59,7 +54,7 @@ pub fn has_stream<R: Files>(rt: &R, file: Node, usage: Use) -> bool {
 /// Whether a name leads to a file, as far as the system tells.
 fn is_at<R: Files>(rt: &R, name: &str, file: Node) -> bool {
     match fs::metadata(rt, name) {
-        Ok(named) => is_same(node_of(&named), file),
+        Ok(named) => node_of(&named) == file,
         Err(_) => false,
     }
 }

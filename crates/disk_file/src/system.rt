@@ -5,7 +5,7 @@ ghost use Rattle.std.specs.Fs.{asks_append, asks_create, asks_create_new, asks_r
 ghost use Rattle.disk_file.specs.Mounted.{untold};
 
 use crate::host::{Host, How, Kind, Use};
-use crate::own::{Node, has_stream, is_same, node_of};
+use crate::own::{Node, has_stream, node_of};
 use std::fs::{self, File, Files, Metadata, OpenOptions, TryLockError};
 use std::io::{self, ErrorKind};
 use std::os::unix::fs::FileExt;
@@ -184,7 +184,7 @@ impl<R: Files<File = File>> Host for SystemFile<'_, R> {
 
     fn leads(&self, name: &str) -> bool {
         match fs::metadata(self.rt, name) {
-            Ok(named) => is_same(node_of(&named), self.opened().node),
+            Ok(named) => node_of(&named) == self.opened().node,
             Err(error) => !leads_nowhere(&error),
         }
     }
