@@ -22,9 +22,12 @@ busy_code = negsuc 12
 abbrev pub idle_code : ℤ
 idle_code = negsuc 13
 
--- bytes don't fit; a number is out of its range; a handle isn't being fed, or has bytes already
+-- bytes don't fit; there is no memory; a number is out of its range; a handle isn't being fed, or has bytes
 abbrev pub short_code : ℤ
 short_code = negsuc 8
+
+abbrev pub no_memory_code : ℤ
+no_memory_code = negsuc 9
 
 abbrev pub bad_number_code : ℤ
 bad_number_code = negsuc 15
@@ -68,6 +71,6 @@ number_code (Err refused) = refusal_code refused
 
 -- an opening gave no store
 abbrev pub opening_code : OpenFault → ℤ
-opening_code fault.NoMemory = negsuc 9
+opening_code fault.NoMemory = no_memory_code
 opening_code (fault.Slot slot.Disk) = negsuc 7
 opening_code _ = negsuc 14

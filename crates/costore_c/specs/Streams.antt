@@ -13,20 +13,15 @@ use Rattle.image_store.specs.Noted.{IsNotedOf}
 use Rattle.image_store.specs.Streams.{AnswersDump, HasLoaded, RefusesLoad}
 use Rattle.store_handle.specs.declared.Stage.{Stage}
 use Rattle.store_handle.specs.declared.Stage.TheVariants as stage
+use Rattle.costore_c.specs.Answers.{bad_number_code, no_memory_code, not_fed_code}
 use Rattle.costore_c.specs.Reads.{Memory}
 
 -- ---- answers as numbers
 
-abbrev pub bad_number_code : ℤ
-bad_number_code = negsuc 15
-
-abbrev pub not_fed_code : ℤ
-not_fed_code = negsuc 16
-
 abbrev pub dump_code : Result ℕ DumpStop → ℤ
 dump_code (Ok n) = pos 0
 dump_code (Err stop.Broken) = negsuc 1
-dump_code (Err stop.NoMemory) = negsuc 9
+dump_code (Err stop.NoMemory) = no_memory_code
 dump_code (Err stop.Damaged) = negsuc 11
 dump_code (Err stop.Disk) = negsuc 7
 dump_code (Err stop.Short) = negsuc 8
@@ -34,7 +29,7 @@ dump_code (Err stop.Short) = negsuc 8
 abbrev pub load_code : LoadFault → ℤ
 load_code (why.Line n) = negsuc 17
 load_code (why.TooMany n) = negsuc 21
-load_code why.NoMemory = negsuc 9
+load_code why.NoMemory = no_memory_code
 load_code why.Disk = negsuc 7
 load_code why.Source = negsuc 7
 

@@ -1,6 +1,8 @@
 //! Handles: making one, feeding it a file, opening and closing its store.
+ghost use Rattle.std.specs.Prelude.{◌≡◌, ◌⊎◌, pos};
 ghost use Rattle.slot_codec.specs.Readable.{IsSuperBlock};
 ghost use Rattle.slot_pair.specs.Formats.{block_for};
+ghost use Rattle.costore_c.specs.Answers.{no_memory_code};
 ghost use Rattle.costore_c.specs.Openings.{Closes, FeedsFed, Formats, IsOpenOf, MakesFed, OpensFed};
 ghost use Rattle.store_handle.specs.declared.Stage.TheVariants as Stage;
 
@@ -13,9 +15,12 @@ use std::mem;
 use store_handle::{Handle, Held, Stage};
 
 /// Makes a handle with memory for a file of at most `room` bytes and for a log of `log` bytes, and writes its
-/// pointer. The file is empty until it is fed.
+/// pointer. The file is empty until it is fed. Where there is no memory it says so, and writes nothing.
 #[unsafe(no_mangle)]
-pub extern "C" fn costore_new(alloc: Global, room: u64, log: u64, out: &mut *mut u8) -> i32 {
+pub extern "C" fn costore_new(alloc: Global, room: u64, log: u64, out: &mut *mut u8) -> i32
+    ensures answers { (result ≡ pos 0) ⊎ (result ≡ no_memory_code) }
+    ensures same { result ≡ no_memory_code → out.new ≡ out.old }
+{
     let Ok(room) = Room::with_room(alloc, room as usize) else {
         return NO_MEMORY;
     };
