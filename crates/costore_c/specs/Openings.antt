@@ -10,7 +10,7 @@ use Rattle.slot_pair.specs.Formats.{block_for}
 use Rattle.reopen.specs.Refusals.{RefusesToOpen}
 use Rattle.reopen.specs.declared.fault.OpenFault.{OpenFault}
 use Rattle.store_model.specs.Opened.{IsOpening}
-use Rattle.image_store.specs.Embedded.{Embedded, disk_of}
+use Rattle.image_store.specs.Embedded.{disk_of}
 use Rattle.image_store.specs.Made.{IsMade, NotMade}
 use Rattle.image_store.specs.Noted.{IsNotedOf}
 use Rattle.store_handle.specs.declared.Stage.{Stage}

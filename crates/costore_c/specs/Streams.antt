@@ -76,15 +76,11 @@ LoadsEmpty k names text before number (stage.Fed room log) code = ⊥
 abbrev pub StaysAt : Stage → Stage → ℤ → ℤ → Type 0
 StaysAt old now code answer = (now ≡ old) × (code ≡ answer)
 
--- a file that was fed is loaded where it is empty, and else stays
-pub record LoadsFile (k names : ℕ) (text : List ℕ) (before number : ℕ) (old now : Stage)
-    (file : List ℕ) (code : ℤ) : Type 0 where
-  pub empty : file ≡ [] → LoadsEmpty k names text before number now code
-  pub taken : file ≢ [] → StaysAt old now code not_fed_code
-
+-- a file that was fed is loaded where it is empty; another one and another handle stay
 abbrev pub LoadsInto : ℕ → ℕ → List ℕ → ℕ → ℕ → Stage → Stage → ℤ → Type 0
 LoadsInto k names text before number (stage.Fed room log) now code =
-    LoadsFile k names text before number (stage.Fed room log) now room.bytes.items code
+    (room.bytes.items ≡ [] → LoadsEmpty k names text before number now code)
+    × (room.bytes.items ≢ [] → StaysAt (stage.Fed room log) now code not_fed_code)
 LoadsInto k names text before number stage.Closed now code = StaysAt stage.Closed now code not_fed_code
 LoadsInto k names text before number (stage.Open s) now code = StaysAt (stage.Open s) now code not_fed_code
 

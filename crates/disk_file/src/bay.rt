@@ -1,8 +1,8 @@
 //! A bay of real files.
 ghost use Rattle.std.specs.Prelude.{◌≡◌, ◌≤◌, ◌+◌, ◌<◌, ◌⊎◌, ◌↔◌, None, Some, Ok, refl, [], length, is_ok, is_some, if◌then◌else◌, IfOk, IfSome, IsErr, IsOk, OnErr, OnOk, IsTrue, IsFalse};
 ghost use Rattle.byte_ranges.specs.Ranges.{bytes_at, overwritten, resized};
-ghost use Rattle.disk_face.specs.{Counts.{HasCause, counted, last}, Frames.{AfterLength, AfterMount, AfterRead, AfterSync, AfterWrite}, Moments.{Only}, Mounts.{has_file, is_mounted}};
-ghost use Rattle.disk_file.specs.{Mounted.{CanMount, HasName, IsAtRest, IsHeld, mount_of}, Words.{AsksFor}};
+ghost use Rattle.disk_face.specs.{Counts.{counted, last}, Frames.{AfterLength, AfterMount, AfterRead, AfterSync, AfterWrite}, Moments.{Only}, Mounts.{has_file, is_mounted}};
+ghost use Rattle.disk_file.specs.{Mounted.{CanMount, IsTaken, mount_of}, Words.{AsksFor}};
 
 use crate::calls::{resize, sync, write};
 use crate::cause::Cause;
@@ -114,7 +114,7 @@ impl<H: Host> FileBay<H> {
 }
 
 impl<H: Host> Disk for FileBay<H> {
-    ghost use Rattle.disk_file.specs.Bays.{SameBay, bay_state, cause_of, has_lost, marks_of, use_of};
+    ghost use Rattle.disk_file.specs.Bays.{LosesSync, NotesFault, SameBay, bay_state, cause_of, has_lost, marks_of, use_of};
 
     ghost state = { bay_state };
 
@@ -132,11 +132,8 @@ impl<H: Host> Disk for FileBay<H> {
         ensures length { IsTrue (bay_state self.old).tells
             → IfOk result (λ n. n ≡ length (bay_state self.old).file) }
         ensures frame { AfterRead (bay_state self.old) (bay_state self.new) }
-        ensures cause { HasCause (bay_state self.old).faults (bay_state self.new).faults result }
-        ensures faults { (bay_state self.new).faults ≡ (if is_ok result then (bay_state self.old).faults
-            else counted (bay_state self.old).faults 1) }
+        ensures noted { NotesFault self.old self.new result }
         ensures serves { IsFalse (marks_of self.old).may_fail → IsOk result }
-        ensures told { OnErr result (IsTrue (is_some (cause_of self.new))) }
         ensures bay { SameBay self.old self.new }
     {
         match self.host.length() {
@@ -152,12 +149,9 @@ impl<H: Host> Disk for FileBay<H> {
         ensures bytes { IsTrue (bay_state self.old).tells
             → OnOk result (out.new ≡ bytes_at (bay_state self.old).file pos (length out.old)) }
         ensures frame { AfterRead (bay_state self.old) (bay_state self.new) }
-        ensures cause { HasCause (bay_state self.old).faults (bay_state self.new).faults result }
-        ensures faults { (bay_state self.new).faults ≡ (if is_ok result then (bay_state self.old).faults
-            else counted (bay_state self.old).faults 1) }
+        ensures noted { NotesFault self.old self.new result }
         ensures serves { IsFalse (marks_of self.old).may_fail → IsTrue (bay_state self.old).tells
             → pos + length out.old ≤ last → IsOk result }
-        ensures told { OnErr result (IsTrue (is_some (cause_of self.new))) }
         ensures bay { SameBay self.old self.new }
     {
         match fill(&self.host, pos, out) {
@@ -173,12 +167,9 @@ impl<H: Host> Disk for FileBay<H> {
         ensures written { IsTrue (bay_state self.old).tells
             → OnOk result ((bay_state self.new).file ≡ overwritten (bay_state self.old).file pos bytes.now) }
         ensures frame { AfterWrite pos (length bytes.now) (bay_state self.old) (bay_state self.new) }
-        ensures cause { HasCause (bay_state self.old).faults (bay_state self.new).faults result }
-        ensures faults { (bay_state self.new).faults ≡ (if is_ok result then (bay_state self.old).faults
-            else counted (bay_state self.old).faults 1) }
+        ensures noted { NotesFault self.old self.new result }
         ensures serves { IsFalse (marks_of self.old).may_fail → IsTrue (bay_state self.old).tells
             → pos + length bytes.now ≤ last → IsOk result }
-        ensures told { OnErr result (IsTrue (is_some (cause_of self.new))) }
         ensures room { OnErr result (IfSome (cause_of self.new) (AsksFor (counted pos (length bytes.now)))) }
         ensures bay { SameBay self.old self.new }
     {
@@ -196,11 +187,8 @@ impl<H: Host> Disk for FileBay<H> {
             → OnErr result (((bay_state self.new).file ≡ (bay_state self.old).file)
             ⊎ ((bay_state self.new).file ≡ resized (bay_state self.old).file n)) }
         ensures frame { AfterLength n (bay_state self.old) (bay_state self.new) }
-        ensures cause { HasCause (bay_state self.old).faults (bay_state self.new).faults result }
-        ensures faults { (bay_state self.new).faults ≡ (if is_ok result then (bay_state self.old).faults
-            else counted (bay_state self.old).faults 1) }
+        ensures noted { NotesFault self.old self.new result }
         ensures serves { IsFalse (marks_of self.old).may_fail → n ≤ (marks_of self.old).room → IsOk result }
-        ensures told { OnErr result (IsTrue (is_some (cause_of self.new))) }
         ensures room { OnErr result (IfSome (cause_of self.new) (AsksFor n)) }
         ensures bay { SameBay self.old self.new }
     {
@@ -217,15 +205,9 @@ impl<H: Host> Disk for FileBay<H> {
         requires { IsTrue (bay_state self.old).is_ready }
         ensures rests { OnOk result (Only (bay_state self.old).file (bay_state self.new).may_leave) }
         ensures frame { AfterSync (bay_state self.old) (bay_state self.new) }
-        ensures cause { HasCause (bay_state self.old).faults (bay_state self.new).faults result }
-        ensures faults { (bay_state self.new).faults ≡ (if is_ok result then (bay_state self.old).faults
-            else counted (bay_state self.old).faults 1) }
-        ensures lost { IsTrue (has_lost self.old) → IsErr result }
-        ensures gone { IsTrue (marks_of self.old).tells → IfSome (bay_state self.old).last_mount (λ mount.
-            IsFalse ((marks_of self.old).leads mount.name) → IsErr result) }
-        ensures loses { IsErr result ↔ IsTrue (has_lost self.new) }
+        ensures noted { NotesFault self.old self.new result }
+        ensures loses { LosesSync self.old self.new result }
         ensures serves { IsFalse (marks_of self.old).may_fail → IsFalse (has_lost self.old) → IsOk result }
-        ensures told { OnErr result (IsTrue (is_some (cause_of self.new))) }
         ensures marks { marks_of self.new ≡ marks_of self.old }
         ensures usage { use_of self.new ≡ use_of self.old }
     {
@@ -244,7 +226,7 @@ impl<H: Host> Disk for FileBay<H> {
 }
 
 impl<H: Host> Bay for FileBay<H> {
-    ghost use Rattle.disk_file.specs.{Hosts.{SameWorld, names_of}, Bays.{bay_state, cause_of, has_lost, marks_of, use_of}};
+    ghost use Rattle.disk_file.specs.{Hosts.{names_of}, Bays.{Mounts, NotesFault, SameMeans, bay_state, marks_of, use_of}};
 
     ghost names = { λ bay. names_of (marks_of bay) };
 
@@ -254,32 +236,14 @@ impl<H: Host> Bay for FileBay<H> {
     /// is then brought to rest: it is synced.
     fn mount(&mut self, name: &str, make: bool) -> Result<Mounted, DiskFault>
         requires { (bay_state self.old).last_mount ≡ None }
-        ensures mounted { IfOk result (λ answer. (bay_state self.new).last_mount
-            ≡ Some (record { name = name.now; make = make; answer = answer })) }
-        ensures none { OnErr result ((bay_state self.new).last_mount ≡ None) }
-        ensures there { IsTrue (names_of (marks_of self.old)).tells → IfOk result (λ answer.
-            IsTrue ((names_of (marks_of self.old)).is_there name.now) ↔ (answer ≡ Mounted.There)) }
-        ensures made { result ≡ Ok Mounted.Made
-            → IsTrue make × (IsTrue (bay_state self.old).tells → (bay_state self.new).file ≡ []) }
-        ensures absent { result ≡ Ok Mounted.Absent → IsFalse make }
+        ensures mounts { Mounts name.now make self.old self.new result }
         ensures frame { AfterMount (bay_state self.old) (bay_state self.new) }
-        ensures cause { HasCause (bay_state self.old).faults (bay_state self.new).faults result }
-        ensures faults { (bay_state self.new).faults ≡ (if is_ok result then (bay_state self.old).faults
-            else counted (bay_state self.old).faults 1) }
-        ensures names_told { (names_of (marks_of self.new)).tells ≡ (names_of (marks_of self.old)).tells }
-        ensures held { IsTrue (marks_of self.old).tells → IfOk result (λ answer.
-            IsHeld (use_of self.old) answer (marks_of self.new)) }
-        ensures own { IsTrue (marks_of self.old).tells → IfOk result (λ answer. IsTrue (has_file answer)
-            → IsFalse ((marks_of self.old).is_stream (use_of self.old))) }
-        ensures rests { IfOk result (λ answer. IsAtRest (use_of self.old) answer (bay_state self.new)) }
-        ensures named { IsTrue (marks_of self.old).tells → IfOk result (λ answer.
-            HasName (use_of self.old) answer (bay_state self.new) (marks_of self.new)) }
+        ensures noted { NotesFault self.old self.new result }
+        ensures taken { IfOk result (λ answer. IsTaken (use_of self.old) answer (marks_of self.old)
+            (marks_of self.new) (bay_state self.new)) }
         ensures serves { IsFalse (marks_of self.old).may_fail → 0 < length name.now → length name.now ≤ 4095
             → CanMount (use_of self.old) make name.now (marks_of self.old) → IsOk result }
-        ensures told { OnErr result (IsTrue (is_some (cause_of self.new))) }
-        ensures usage { use_of self.new ≡ use_of self.old }
-        ensures lost { has_lost self.new ≡ has_lost self.old }
-        ensures world { SameWorld (marks_of self.old) (marks_of self.new) }
+        ensures bay { SameMeans self.old self.new }
     {
         if name.is_empty() {
             return Err(self.fail(Cause::NoName));

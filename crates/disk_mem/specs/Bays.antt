@@ -1,8 +1,10 @@
 -- What callers see of a bay of one file.
-use Rattle.std.specs.Prelude.{◌≡◌, ℕ, ◌+◌, Bool, ◌&&◌, true, List, bytes_eq, string_bytes, Option}
+use Rattle.std.specs.Prelude.{◌≡◌, ℕ, ◌+◌, Bool, ◌&&◌, ◌||◌, true, List, bytes_eq, string_bytes, Option, Result, Ok, IfOk, IsErr, IsTrue, IsFalse}
 use Rattle.disk_face.specs.Mounts.{Mount, Names, is_mounted}
 use Rattle.disk_face.specs.States.{State}
-use Rattle.disk_mem.specs.LastMounts.{mount_of}
+use Rattle.disk_face.specs.declared.bay.Mounted.{Mounted}
+use Rattle.disk_face.specs.declared.bay.Mounted.TheVariants as found
+use Rattle.disk_mem.specs.LastMounts.{mount_of, own_answer}
 use Rattle.disk_face.specs.declared.Disk.{Ghosts}
 use Rattle.disk_mem.specs.declared.bay.MemBay.{MemBay}
 
@@ -49,3 +51,12 @@ module _ {D : Type 0} {g : Ghosts D} where
     pub there : has_its_file new ≡ has_its_file old
     pub mount : last_mount_of new ≡ last_mount_of old
     pub faults : own_faults new ≡ own_faults old
+
+  -- A mount of its own name is answered, and makes its file where that is asked. One of another name finds
+  -- nothing, and fails where its file is to be made.
+  pub record MountsByName {E : Type 0} (name : List ℕ) (make : Bool) (old new : MemBay D g)
+      (result : Result Mounted E) : Type 0 where
+    pub own : IsTrue (is_own old name) → result ≡ Ok (own_answer (has_its_file old) make)
+    pub other : IsFalse (is_own old name) → IfOk result (λ answer. answer ≡ found.Absent)
+    pub not_made : IsFalse (is_own old name) → IsTrue make → IsErr result
+    pub file : has_its_file new ≡ (has_its_file old || (is_own old name && make))

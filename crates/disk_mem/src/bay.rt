@@ -159,8 +159,8 @@ impl<D: Disk> Disk for MemBay<D> {
 }
 
 impl<D: Disk> Bay for MemBay<D> {
-    ghost use Rattle.std.specs.Prelude.{◌||◌, if◌then◌else◌, is_ok};
-    ghost use Rattle.disk_mem.specs.Bays.{bay_state, disk_of, name_of, has_its_file, own_faults, last_mount_of, is_own, names_of};
+    ghost use Rattle.std.specs.Prelude.{if◌then◌else◌, is_ok};
+    ghost use Rattle.disk_mem.specs.Bays.{MountsByName, bay_state, disk_of, name_of, own_faults, last_mount_of, names_of};
 
     ghost names = { names_of };
 
@@ -178,11 +178,7 @@ impl<D: Disk> Bay for MemBay<D> {
         ensures cause { HasCause (bay_state self.old).faults (bay_state self.new).faults result }
         ensures disk { disk_of self.new ≡ disk_of self.old }
         ensures name { name_of self.new ≡ name_of self.old }
-        ensures own { IsTrue (is_own self.old name.now)
-            → result ≡ Ok (own_answer (has_its_file self.old) make) }
-        ensures other { IsFalse (is_own self.old name.now) → IfOk result (λ answer. answer ≡ Mounted.Absent) }
-        ensures not_made { IsFalse (is_own self.old name.now) → IsTrue make → IsErr result }
-        ensures file { has_its_file self.new ≡ (has_its_file self.old || (is_own self.old name.now && make)) }
+        ensures by_name { MountsByName name.now make self.old self.new result }
         ensures faults { own_faults self.new
             ≡ (if is_ok result then own_faults self.old else counted (own_faults self.old) 1) }
     {

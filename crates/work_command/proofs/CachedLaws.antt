@@ -12,14 +12,14 @@ use Rattle.store_model.specs.Opened.{IsOpening}
 use Rattle.command_face.specs.declared.stop.StopReason.{StopReason}
 use Rattle.command_face.specs.declared.stop.StopReason.TheVariants as stop
 use Rattle.read_cache.specs.CacheValues.{CacheValue}
-use Rattle.read_cache.specs.Lists.{Listing, after, after_all, empty_listing}
+use Rattle.read_cache.specs.Lists.{Listing, after_all, empty_listing}
 use Rattle.work_session.specs.Servers.{BecameAll, BecomesCached, HasServed}
 use Rattle.work_session.specs.Works.{HasStopped}
 use Rattle.work_session.specs.declared.summary.Summary.{Summary}
 use Rattle.work_command.specs.Asked.{NumberedJobs, TellsCache, jobs_numbered, jobs_of}
 use Rattle.work_command.specs.Steps.{OpenWorkSteps}
 use Rattle.work_command.specs.Summaries.{cache_lines, summary_text}
-use Rattle.work_command.proofs.StepsLemmas.{steps_all, steps_nothing, steps_stop}
+use Rattle.work_command.proofs.StepsLemmas.{steps_all, steps_stop}
 
 -- ---- the list
 

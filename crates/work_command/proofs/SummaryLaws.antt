@@ -12,7 +12,7 @@ use Rattle.work_command.specs.Steps.{OpenWorkSteps, WorkSteps, IsAllDone}
 use Rattle.work_command.specs.Asked.{NumberedJobs}
 use Rattle.command_face.specs.Faults.{line_of}
 use Rattle.command_face.specs.Refusing.{stop_of}
-use Rattle.command_face.specs.Outcomes.{Ends, EndsBy, IsFront, PutsLast, PutsLine, line_at, status_at, status_of}
+use Rattle.command_face.specs.Outcomes.{IsFront, PutsLast, PutsLine, line_at, status_at, status_of}
 use Rattle.work_command.specs.Working.{KeepsWork, PutsSummary, has_worked}
 use Rattle.command_face.specs.declared.stop.StopReason.{StopReason}
 use Rattle.command_face.specs.declared.stop.StopReason.TheVariants as stop

@@ -12,14 +12,14 @@ use Rattle.slot_codec.specs.Spelling.{head_len}
 use Rattle.slot_codec.specs.declared.codec.SuperBlock.{SuperBlock}
 use Rattle.map_model.specs.Maps.{Map}
 use Rattle.map_model.specs.Requests.{Reply, Request}
-use Rattle.segment_layout.specs.Books.{Book, book_end}
+use Rattle.segment_layout.specs.Books.{Book}
 use Rattle.table_rules.specs.Opening.{Opens, OpensBy}
 use Rattle.table_rules.specs.Sequences.{HasSequenceUpTo}
 use Rattle.table_rules.proofs.SequenceLaws.{sequence_wider}
 use Rattle.store_model.specs.Connection.{IsOver, StoreValue, base_of, limits_of, state_of}
 use Rattle.store_model.specs.States as store
 use Rattle.store_model.specs.States.{Chain}
-use Rattle.store_model.specs.Opened.{IsFoundImage, LeavesRoom, RestsOnFound, found_base}
+use Rattle.store_model.specs.Opened.{IsFoundImage, LeavesRoom, RestsOnFound}
 use Rattle.store_model.proofs.OpeningLaws.{found_image}
 use Rattle.ask_session.specs.Runs as run
 use Rattle.ask_session.specs.Runs.{IsRunImage, IsStepImage, last_state, most_sequence}
@@ -30,7 +30,7 @@ use Rattle.work_session.specs.Works.{ArePaidLines, HasDone, HasStopped, IsJobIma
 use Rattle.work_session.specs.declared.summary.Summary.{Summary}
 use Rattle.command_face.specs.declared.status.TheConstants.{DISK_FAILED, NO_FILE, NO_MEMORY, SINK_FAILED}
 use Rattle.work_command.specs.Asked.{NumberedJobs, Tells, jobs_of}
-use Rattle.served_file.specs.Served.{EndsTight, IsNextStart, OpensTo, OpensToBeing, OpensToKept, Starts, limits_with, most_left, turn_opened, found_with}
+use Rattle.served_file.specs.Served.{EndsTight, IsNextStart, OpensTo, OpensToBeing, OpensToKept, Starts, limits_with, most_left, found_with}
 use Rattle.command_face.specs.Outcomes.{PutsLast}
 use Rattle.work_command.specs.Working.{JobsHold, has_worked, is_working}
 use Rattle.served_file.proofs.OpeningLaws.{Opened, exact_turn, found_numbered, requests_low, start_low}

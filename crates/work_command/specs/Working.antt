@@ -16,7 +16,7 @@ use Rattle.map_model.specs.Requests.{Reply, Request}
 use Rattle.segment_layout.specs.Books.{Book, book_end}
 use Rattle.table_rules.specs.Opening.{OpensBy}
 use Rattle.table_rules.specs.Sequences.{HasSequenceUpTo}
-use Rattle.store_model.specs.States.{State}
+use Rattle.store_model.specs.States.{Limits, State}
 use Rattle.store_model.specs.Opened.{ContinuesFrom, LeavesRoom, RestsOnFound, found_base}
 use Rattle.ask_session.specs.Runs as run
 use Rattle.ask_session.specs.Runs.{last_state}
@@ -76,17 +76,17 @@ pub record HasSaved (u : SuperBlock) (s : State) (rested : Type 0) (new : disk.S
 -- where the sink failed a front of it. Over a settled file that ended with its layout the changing calls are
 -- at most those of the jobs and those of the bytes moved: one for the least size of an object of each class,
 -- and one for each 65,536 bytes.
-pub record AreDone (found : Found) (entries : Option ℕ) (start : State) (requests : List Request)
-    (replies : List Reply) (states : List State) (status : ℕ) (old new : Devices) : Type 0 where
+pub record AreDone (found : Found) (entries : Option ℕ) {limits : Limits} {start : State}
+    {all : List Request} {n : ℕ} (ran : Ran limits start all n) (status : ℕ) (old new : Devices) : Type 0 where
   pub summary : Summary
-  pub sums : SumsUp found.block.k found.b start requests replies states summary
+  pub sums : SumsUp found.block.k found.b start ran.answered ran.replies ran.states summary
   pub text : List ℕ
-  pub tells : Tells entries requests replies summary text
+  pub tells : Tells entries ran.answered ran.replies summary text
   pub puts : IsTrue old.sink.tells → PutsLast old.sink.given new.sink.given text (status ≡ SINK_FAILED)
-  pub saved : HasSaved found.block (last_state start states) (RestsOnFound found.table old.disk) new.disk
+  pub saved : HasSaved found.block (last_state start ran.states) (RestsOnFound found.table old.disk) new.disk
   pub calls : found.table.chosen.header.kind ≡ kind.Settled
       → length old.disk.file ≡ found_base found.table + book_end found.table.chosen.block.k found.b
-      → new.disk.turn ≤ old.disk.turn + calls_in start requests replies states
+      → new.disk.turn ≤ old.disk.turn + calls_in start ran.answered ran.replies ran.states
       + summary.flat.moved / 2 ^ (CLASSES - 1) + summary.moved / 65536
 
 -- ---- the whole
@@ -106,7 +106,7 @@ pub record JobsHold (found : Found) (asked : NumberedJobs) (status : ℕ) (old n
   pub ran : Ran (limits_with found.block) start (jobs asked.number asked.count found.block.names) n
   pub far : HowManyJobs status n ran.others
   pub done : IsTrue (has_worked status)
-      → AreDone found asked.entries start ran.answered ran.replies ran.states status old new
+      → AreDone found asked.entries ran status old new
   pub crash : LeavesRoom found.table → RestsOnFound found.table old.disk → new.disk.turn < last
       → LeftOnly new.disk old.disk.turn (λ image. OpensToKept start ran.replies ran.states image
       ⊎ OpensToBeing status (limits_with found.block) (last_state start ran.states) ran.others image)
