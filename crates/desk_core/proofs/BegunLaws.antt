@@ -42,7 +42,7 @@ use Rattle.desk_model.specs.Answers.{Answer}
 use Rattle.desk_model.specs.Desks.{Desk, Flush, TakesIf, begins, flush_by, with_queue}
 use Rattle.desk_model.specs.Events.{line_for}
 use Rattle.desk_core.specs.Images.{BeganAt, Checkpoint, LeavesFrom, OpensTo, RestsFrom, kept_of, settled_of}
-use Rattle.desk_core.specs.Playing.{TakesRequest, CallsOnce}
+use Rattle.desk_core.specs.Playing.{CallsOnce, TakesRequest, owned}
 use Rattle.desk_core.specs.Shows.{ShowsFlush, ShowsStore}
 use Rattle.desk_core.specs.Telling.{PutsAll, PutsReply, TellsBegun}
 use Rattle.desk_core.proofs.HandLaws.{no_hand, same_hand}
@@ -110,7 +110,7 @@ module _ {C : ℕ} (session : ℕ) (c : Change) (s new : StoreValue) (of : ℕ) 
 
   done_takes : BeginsChange C c s new a d (Ok begun.Done) → StepsAs (Some ask.done)
       → PutsReply session out after (Ok head.Ok) result
-      → TakesRequest C session r s new of of (devices a out) (devices d after) result
+      → TakesRequest C session r (owned s of) (owned new of) (devices a out) (devices d after) result
   done_takes x step p =
       let h : Answers C r s new a d (Ok head.Ok) = change_answers s new c a d
       (Ok (record { kept = false })) can (begun_done c s new a d x) step in
@@ -119,7 +119,7 @@ module _ {C : ℕ} (session : ℕ) (c : Change) (s new : StoreValue) (of : ℕ) 
 
   refused_takes : (w : Refusal) → BeginsChange C c s new a d (Err w) → StepsAs (begun_reply (Err w))
       → PutsReply session out after (answer_of w) result
-      → TakesRequest C session r s new of of (devices a out) (devices d after) result
+      → TakesRequest C session r (owned s of) (owned new of) (devices a out) (devices d after) result
   refused_takes w x step p =
       let h : Answers C r s new a d (answer_of w) = change_answers s new c a d (Err w) can
       (begun_failed c s new a d w x) step in
@@ -228,7 +228,7 @@ module _ {C : ℕ} (session : ℕ) (c : Change) (s new : StoreValue) (of : ℕ) 
 
     pub in_hand_takes : (now_of : ℕ) → now_of ≡ session
         → PutsAll (line_for (codes "begun") session) out after result
-        → TakesRequest C session r s new of now_of (devices a out) (devices d after) result
+        → TakesRequest C session r (owned s of) (owned new now_of) (devices a out) (devices d after) result
     in_hand_takes now_of is p = record {
       plays = λ told desk rest shown free.
           let e = shown.idle can.idle in
@@ -276,12 +276,14 @@ module _ {C : ℕ} (session : ℕ) (c : Change) (s new : StoreValue) (of : ℕ) 
   pub begun_takes : (b : Result Begun Refusal) (now_of : ℕ) → BeginsChange C c s new a d b
       → StepsAs (begun_reply b) → (new.is_broken ≡ false → IsStanding new)
       → TellsBegun session b of now_of out after result
-      → TakesRequest C session r s new of now_of (devices a out) (devices d after) result
+      → TakesRequest C session r (owned s of) (owned new now_of) (devices a out) (devices d after) result
   begun_takes (Ok begun.InHand) now_of x step stands p =
       in_hand_takes x (stands (x.broken ∙ ap (λ (b : Bool). b || false) can.whole)) now_of p.0 p.1
   begun_takes (Ok begun.Done) now_of x step stands p =
-      subst (λ (n : ℕ). TakesRequest C session r s new of n (devices a out) (devices d after) result)
+      subst (λ (n : ℕ). TakesRequest C session r (owned s of) (owned new n) (devices a out)
+      (devices d after) result)
       (sym p.0) (done_takes x step p.1)
   begun_takes (Err w) now_of x step stands p =
-      subst (λ (n : ℕ). TakesRequest C session r s new of n (devices a out) (devices d after) result)
+      subst (λ (n : ℕ). TakesRequest C session r (owned s of) (owned new n) (devices a out)
+      (devices d after) result)
       (sym p.0) (refused_takes w x step p.1)

@@ -13,14 +13,14 @@ use Rattle.desk_model.specs.Answers.{Answer}
 use Rattle.desk_model.specs.Desks.{Desk, SaysIf, has_room, queue_of, ring, texts_of, with_queue}
 use Rattle.desk_model.specs.Events.{line_for, sessions}
 use Rattle.desk_queues.specs.Queues.{Holds, Queued, requests_at, ring_of}
-use Rattle.desk_core.specs.Hearing.{Hears, HearsOne, IsHeard}
+use Rattle.desk_core.specs.Hearing.{Hears, HearsOne, IsHeard, talk}
 use Rattle.desk_core.specs.Telling.{PutsAll}
 
 -- a heard text that was told comes to its answer
 said : {told : Type 0} {session : ℕ} {old new : Queued} {input rest : List ℕ} {before now : SinkState}
     (text : List ℕ) (result : Result (Unit {0}) End) → PutsAll text before now result
-    → HearsOne told session old new input rest before now result
-    → IsHeard told session old new input rest before now result
+    → HearsOne told session old new (talk input before) (talk rest now) result
+    → IsHeard told session old new (talk input before) (talk rest now) result
 said text (Ok x) puts h = h
 said text (Err ends.Sink) puts h = h
 said text (Err ends.Line) puts h = absurd (let e : ends.Line ≡ ends.Sink = puts.only in cc)
@@ -42,7 +42,7 @@ module _ (told : Type 0) (session : ℕ) (low : session < sessions) (old : Queue
       → ((qs : List (List Request)) (r : Request) → Holds old qs → HasText r → take n text ≡ request_text r
       → Holds new (slice_set qs session (requests_at qs session ++ r ∷ [])))
       → PutsAll (line_for (codes "queued") session) before now result
-      → IsHeard told session old new input rest before now result
+      → IsHeard told session old new (talk input before) (talk rest now) result
   heard_queued new n h fits pushed puts = said (line_for (codes "queued") session) result puts (record {
     request = h.request;
     has_text = h.has_text;
@@ -78,7 +78,7 @@ module _ (told : Type 0) (session : ℕ) (low : session < sessions) (old : Queue
   -- there was none
   pub heard_full : (h : Hears told input rest room text None)
       → PutsAll (line_for (codes "full") session) before now result
-      → IsHeard told session old old input rest before now result
+      → IsHeard told session old old (talk input before) (talk rest now) result
   heard_full h puts = said (line_for (codes "full") session) result puts (record {
     request = h.request;
     has_text = h.has_text;

@@ -1,9 +1,8 @@
 -- What a crash may leave of a desk, event by event.
-use Rattle.std.specs.Prelude.{◌≡◌, ◌⊎◌, ℕ, ◌<◌, Bool, true, false, ◌&&◌, List, Option, Some, None, Result, Ok, Err, IsTrue, refl}
+use Rattle.std.specs.Prelude.{◌≡◌, ◌⊎◌, ℕ, Bool, true, false, ◌&&◌, List, Option, Some, None, Result, IsTrue, refl}
 use Rattle.std.proofs.Common.{arith, ap, sym, ◌∙◌, subst, inl, inr}
 use Rattle.std.proofs.Math.Bool.{and-false}
 use Rattle.disk_face.specs.Frames.{Unchanged}
-use Rattle.disk_face.specs.Moments.{Leaves}
 use Rattle.disk_face.specs.States as disk
 use Rattle.disk_face.specs.States.{IsLawful}
 use Rattle.disk_face.proofs.MomentLaws.{Leaves-none, Leaves-weaken}
@@ -19,7 +18,7 @@ use Rattle.store_model.specs.Stores.{IsStore}
 use Rattle.store_model.proofs.HalfLaws.{half_read}
 use Rattle.store_model.proofs.OverLaws.{kept_image}
 use Rattle.ask_text.specs.declared.ends.End.{End}
-use Rattle.ask_serve.specs.Serving.{IsServingImage, Serves, is_changing, is_disk_fault, served_at}
+use Rattle.ask_serve.specs.Serving.{IsServingImage, Serves, is_changing, is_disk_fault}
 use Rattle.ask_serve.proofs.MakesLaws.{makes}
 use Rattle.desk_model.specs.Answers.{Answer}
 use Rattle.desk_model.specs.Desks.{Desk, Flush, StepsOn, TakesIf}

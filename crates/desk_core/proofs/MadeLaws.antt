@@ -1,13 +1,10 @@
 -- Which requests made the checkpoints of desks.
-use Rattle.std.specs.Prelude.{◌≡◌, ◌⊎◌, ℕ, nat_lt, Bool, true, false, List, [], ◌∷◌, Option, Some, None, IsTrue, refl}
-use Rattle.std.proofs.Common.{arith, ap, sym, ◌∙◌, subst, inl, inr}
-use Rattle.map_model.specs.Maps.{Map}
+use Rattle.std.specs.Prelude.{◌≡◌, ◌⊎◌, ℕ, nat_lt, Bool, true, false, List, [], ◌∷◌, IsTrue, refl}
+use Rattle.std.proofs.Common.{ap, sym, ◌∙◌, subst, inl, inr}
 use Rattle.map_model.specs.Requests as ask
 use Rattle.map_model.specs.Requests.{Reply, Request}
-use Rattle.segment_layout.specs.Books.{Book}
 use Rattle.store_model.specs.States.{Limits, Served, State, served}
 use Rattle.ask_serve.proofs.MakesLaws.{MakesNone, MakesOne, makes}
-use Rattle.desk_model.specs.Answers as answer
 use Rattle.desk_model.specs.Answers.{Answer}
 use Rattle.desk_model.specs.Desks.{Desk, EventStep, Plays, SaysIf, ServesFirst, ServesIf, TakesIf, begins, has_room, queue_of, waits}
 use Rattle.desk_model.specs.Events as event

@@ -20,7 +20,7 @@ use Rattle.desk_queues.specs.Queues.{Holds, Queued}
 use Rattle.desk_core.specs.declared.event.EventLine.TheVariants as line
 use Rattle.desk_core.specs.Benches.{Bench, unread}
 use Rattle.desk_core.specs.Images.{LeavesEnd, LeavesStep}
-use Rattle.desk_core.specs.Hearing.{HearsOne, HoldsBeside, IsHeard}
+use Rattle.desk_core.specs.Hearing.{HearsOne, HoldsBeside, IsHeard, talk}
 use Rattle.desk_core.specs.Lines.{words_of}
 use Rattle.desk_core.specs.Playing.{Finishes, FinishesStore, PlaysOne, CallsOnce}
 use Rattle.desk_core.specs.Shows.{Shows, ShowsFlush, ShowsParts, ShowsStore}
@@ -57,8 +57,8 @@ module _ (C : ℕ) (old b : Bench) (before now : Outside) where
       }
 
       heard : (result : Result (Unit {0}) End)
-          → HearsOne (IsTrue before.source.tells) session old.queued b.queued mid (unread b now.source)
-          before.sink now.sink result
+          → HearsOne (IsTrue before.source.tells) session old.queued b.queued (talk mid before.sink)
+          (talk (unread b now.source) now.sink) result
           → PlaysEvent C old b before now result
       heard result h = record {
         event = event.say session h.request;
@@ -81,8 +81,8 @@ module _ (C : ℕ) (old b : Bench) (before now : Outside) where
       }
 
       pub say_turn : (result : Result (Unit {0}) End)
-          → IsHeard (IsTrue before.source.tells) session old.queued b.queued mid (unread b now.source)
-          before.sink now.sink result
+          → IsHeard (IsTrue before.source.tells) session old.queued b.queued (talk mid before.sink)
+          (talk (unread b now.source) now.sink) result
           → IsDeskTurn C old (counted_bench b result) before now (turn_of result)
       say_turn (Ok x) h = counts (heard (Ok tt) h)
         where

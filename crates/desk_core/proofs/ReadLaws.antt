@@ -29,7 +29,7 @@ use Rattle.desk_model.specs.Answers as answer
 use Rattle.desk_model.specs.Desks.{Desk, Flush, TakesIf, begins, is_read, waits, with_queue}
 use Rattle.desk_model.specs.Events.{line_for}
 use Rattle.desk_core.specs.Images.{kept_of}
-use Rattle.desk_core.specs.Playing.{KeepsGoing, TakesRequest}
+use Rattle.desk_core.specs.Playing.{KeepsGoing, TakesRequest, owned}
 use Rattle.desk_core.specs.Shows.{ShowsStore}
 use Rattle.desk_core.specs.Telling.{PutsAll}
 use Rattle.desk_core.proofs.ImageLaws.{leaves_same, leaves_unchanged}
@@ -264,9 +264,10 @@ module _ {C : ℕ} (session : ℕ) (r : Request) (reading : IsReading r) (s : St
     pub gives_take : (after : SinkState) (new : StoreValue) (y : Result Bool End) → IsLawful a
         → PutsAll (line_for (codes "to") session) out mid (Ok tt)
         → GivesReply r s new (devices a mid) (devices d after) y
-        → TakesRequest C session r s new of of (devices a out) (devices d after) (unit_of y)
+        → TakesRequest C session r (owned s of) (owned new of) (devices a out) (devices d after) (unit_of y)
     gives_take after new y lawful first g =
-        subst (λ (x : StoreValue). TakesRequest C session r s x of of (devices a out) (devices d after)
+        subst (λ (x : StoreValue). TakesRequest C session r (owned s of) (owned x of) (devices a out)
+        (devices d after)
         (unit_of y)) (sym g.store) (record {
           plays = λ told desk rest shown free. record {
             answer = answer.to session (served (limits_of s) desk.state r).reply;
@@ -297,7 +298,8 @@ module _ {C : ℕ} (session : ℕ) (r : Request) (reading : IsReading r) (s : St
   -- the sink failed at the line of the session
   pub cut_take : (out mid : SinkState) (end : End)
       → PutsAll (line_for (codes "to") session) out mid (Err end)
-      → IsTrue a.is_ready → TakesRequest C session r s s of of (devices a out) (devices a mid) (Err end)
+      → IsTrue a.is_ready → TakesRequest C session r (owned s of) (owned s of) (devices a out)
+      (devices a mid) (Err end)
   cut_take out mid end first ready = record {
     plays = λ told desk rest shown free. record {
       answer = answer.to session (served (limits_of s) desk.state r).reply;

@@ -14,7 +14,7 @@ use Rattle.store_model.specs.Halves.{IsHalfway}
 use Rattle.ask_text.specs.declared.ends.End.{End}
 use Rattle.ask_text.specs.declared.ends.End.TheVariants as ends
 use Rattle.desk_model.specs.Desks.{Desk, Flush}
-use Rattle.desk_core.specs.Images.{Checkpoint, LeavesEnd, LeavesFrom, OpensTo, RestsFrom, kept_of, settled_of}
+use Rattle.desk_core.specs.Images.{LeavesEnd, LeavesFrom, kept_of, settled_of}
 use Rattle.desk_core.specs.Playing.{SettlesFlush, StepsFlush}
 use Rattle.desk_core.specs.Shows.{ShowsFlush, ShowsStore}
 use Rattle.desk_core.proofs.ImageLaws.{leaves_as, leaves_same}

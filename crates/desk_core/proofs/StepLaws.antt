@@ -1,5 +1,5 @@
 -- A step of the flush in hand: how the desk goes on.
-use Rattle.std.specs.Prelude.{◌≡◌, ℕ, ◌+◌, Option, Some, None, Ok, Err, IsTrue, refl, ◌≤◌, Bool, true, false}
+use Rattle.std.specs.Prelude.{◌≡◌, ℕ, ◌+◌, Some, None, Ok, Err, IsTrue, refl, ◌≤◌, Bool, true, false}
 use Rattle.std.specs.FinMap as fin
 use Rattle.std.proofs.Common.{arith, ap, sym, ◌∙◌, subst, inl, inr}
 use Rattle.disk_face.specs.States as disk

@@ -29,7 +29,7 @@ use Rattle.desk_model.specs.Answers.{Answer}
 use Rattle.desk_model.specs.Desks.{Desk, TakesIf, begins, flush_by, with_queue}
 use Rattle.desk_model.specs.Events.{line_for}
 use Rattle.desk_core.specs.Images.{kept_of, settled_of}
-use Rattle.desk_core.specs.Playing.{CallsOnce, TakesRequest}
+use Rattle.desk_core.specs.Playing.{CallsOnce, TakesRequest, owned}
 use Rattle.desk_core.specs.Telling.{PutsAll, PutsReply}
 use Rattle.desk_core.proofs.HandLaws.{no_hand}
 use Rattle.desk_core.proofs.ImageLaws.{leaves_as, serves_leaves}
@@ -155,7 +155,7 @@ module _ {C : ℕ} (session : ℕ) (r : Request) (s new : StoreValue) (of : ℕ)
   answered : (x : text.Reply) → Answers C r s new a d (Ok x)
       → (IsTrue a.tells → begins (limits_of s) (state_of s a.file) r ≡ false)
       → PutsAll (line_for (codes "to") session ++ first_line x) out after result
-      → TakesRequest C session r s new of of (devices a out) (devices d after) result
+      → TakesRequest C session r (owned s of) (owned new of) (devices a out) (devices d after) result
   answered x h calm_begins p = record {
     plays = λ told desk rest shown free.
         let e = shown.idle can.idle in
@@ -203,12 +203,13 @@ module _ {C : ℕ} (session : ℕ) (r : Request) (s new : StoreValue) (of : ℕ)
 
   -- the disk failed
   stopped : (end : End) → Answers C r s new a d (Err end) → result ≡ Err end → after ≡ out
-      → TakesRequest C session r s new of of (devices a out) (devices d after) result
+      → TakesRequest C session r (owned s of) (owned new of) (devices a out) (devices d after) result
   stopped end h is same =
       let disk : result ≡ Err ends.Disk = is ∙ ap (λ (x : End). Err x) h.only in
       let h' : Answers C r s new a d (Err ends.Disk) =
       subst (λ (x : End). Answers C r s new a d (Err x)) h.only h in
-      subst (λ (y : Result (Unit {0}) End). TakesRequest C session r s new of of (devices a out)
+      subst (λ (y : Result (Unit {0}) End). TakesRequest C session r (owned s of) (owned new of)
+      (devices a out)
       (devices d after) y) (sym disk) (record {
         plays = λ told desk rest shown free.
             let m = may_take (begins (limits_of s) desk.state r) (limits_of s) session r rest desk in
@@ -244,6 +245,6 @@ module _ {C : ℕ} (session : ℕ) (r : Request) (s new : StoreValue) (of : ℕ)
   pub answer_takes : (x : Result text.Reply End) → Answers C r s new a d x
       → (IsTrue a.tells → IfOk x (λ y. begins (limits_of s) (state_of s a.file) r ≡ false))
       → PutsReply session out after x result
-      → TakesRequest C session r s new of of (devices a out) (devices d after) result
+      → TakesRequest C session r (owned s of) (owned new of) (devices a out) (devices d after) result
   answer_takes (Ok y) h calm_begins p = answered y h calm_begins p
   answer_takes (Err end) h calm_begins p = stopped end h p.0 p.1

@@ -41,28 +41,35 @@ pub record HoldsBeside (q : Queued) (d d' : Desk) : Type 0 where
   pub state : d'.state ≡ d.state
   pub hand : d'.hand ≡ d.hand
 
+-- what is unread of an input, and what a sink took
+pub record Talk : Type 0 where
+  pub unread : List ℕ
+  pub sink : SinkState
+
+abbrev pub talk : List ℕ → SinkState → Talk
+talk unread sink = record { unread = unread; sink = sink }
+
 -- The text of a request stood in front of the input, and was queued where there was room; that was told, or a
 -- front of it where the sink failed.
-pub record HearsOne (told : Type 0) (session : ℕ) (old new : Queued) (input rest : List ℕ)
-    (before now : SinkState) (result : Result (Unit {0}) End) : Type 0 where
+pub record HearsOne (told : Type 0) (session : ℕ) (old new : Queued) (before now : Talk)
+    (result : Result (Unit {0}) End) : Type 0 where
   pub request : Request
   pub has_text : HasText request
-  pub whole : told → input ≡ request_text request ++ rest
+  pub whole : told → before.unread ≡ request_text request ++ now.unread
   pub plays : (d : Desk) → Holds old d.queues
-      → PlaysOne (SaysIf (has_room d session request) session request d) (HoldsBeside new d) before now result
+      → PlaysOne (SaysIf (has_room d session request) session request d) (HoldsBeside new d) before.sink
+      now.sink result
 
 -- what was heard, by the answer
-abbrev pub IsHeard : Type 0 → ℕ → Queued → Queued → List ℕ → List ℕ → SinkState → SinkState
-    → Result (Unit {0}) End → Type 0
-IsHeard told session old new input rest before now (Ok x) =
-    HearsOne told session old new input rest before now (Ok x)
-IsHeard told session old new input rest before now (Err ends.Sink) =
-    HearsOne told session old new input rest before now (Err ends.Sink)
-IsHeard told session old new input rest before now (Err ends.Line) = (new ≡ old) × (told → BeginsNone input)
-IsHeard told session old new input rest before now (Err ends.Source) = new ≡ old
-IsHeard told session old new input rest before now (Err ends.End) = ⊥
-IsHeard told session old new input rest before now (Err ends.Disk) = ⊥
-IsHeard told session old new input rest before now (Err ends.Budget) = ⊥
+abbrev pub IsHeard : Type 0 → ℕ → Queued → Queued → Talk → Talk → Result (Unit {0}) End → Type 0
+IsHeard told session old new before now (Ok x) = HearsOne told session old new before now (Ok x)
+IsHeard told session old new before now (Err ends.Sink) =
+    HearsOne told session old new before now (Err ends.Sink)
+IsHeard told session old new before now (Err ends.Line) = (new ≡ old) × (told → BeginsNone before.unread)
+IsHeard told session old new before now (Err ends.Source) = new ≡ old
+IsHeard told session old new before now (Err ends.End) = ⊥
+IsHeard told session old new before now (Err ends.Disk) = ⊥
+IsHeard told session old new before now (Err ends.Budget) = ⊥
 
 -- nothing was heard
 abbrev pub is_unheard : Result (Unit {0}) End → Bool

@@ -56,22 +56,34 @@ CallsOnce old new before now = (now.turn ≤ before.turn + 2)
     ⊎ ((size : ℕ) × (new.moved ≡ added old.moved size)
     × (now.turn ≤ before.turn + save_calls (fin.len old.now) + pieces 65536 size))
 
+-- a store, and the session whose request its flush in hand is of
+pub record Owned : Type 0 where
+  pub store : StoreValue
+  pub session : ℕ
+
+abbrev pub owned : StoreValue → ℕ → Owned
+owned store session = record { store = store; session = session }
+
+-- a desk is shown by a store whose flush is of that session
+abbrev pub ShowsOwned : Owned → List ℕ → Desk → Type 0
+ShowsOwned s = ShowsStore s.store s.session
+
 -- A request of a session was taken, which didn't have to wait: it began a flush, or was served and replied.
 -- What a crash may leave meanwhile opens to the checkpoint that was settled before, or to that of the state
 -- after it.
-pub record TakesRequest (classes : ℕ) (session : ℕ) (r : Request) (old new : StoreValue) (of now_of : ℕ)
-    (before now : Devices) (result : Result (Unit {0}) End) : Type 0 where
+pub record TakesRequest (classes : ℕ) (session : ℕ) (r : Request) (old new : Owned) (before now : Devices)
+    (result : Result (Unit {0}) End) : Type 0 where
   pub plays : IsTrue before.disk.tells → (d : Desk) (rest : List Request)
-      → ShowsStore old of before.disk.file d → waits d.hand session r ≡ false
-      → PlaysOne (TakesIf (begins (limits_of old) d.state r) (limits_of old) session r rest d)
-      (ShowsStore new now_of now.disk.file) before.sink now.sink result
-  pub images : IsTrue before.disk.tells → (d : Desk) → ShowsStore old of before.disk.file d
-      → waits d.hand session r ≡ false → (k : Checkpoint) → RestsFrom classes old before.disk k
-      → LeavesFrom classes new before.disk now.disk (settled_of k d)
-      (kept_of (served (limits_of old) d.state r).state) result
-  pub goes : KeepsGoing classes old new before now result
-  pub of_is : (now_of ≡ of) ⊎ (now_of ≡ session)
-  pub calls : CallsOnce old new before.disk now.disk
+      → ShowsOwned old before.disk.file d → waits d.hand session r ≡ false
+      → PlaysOne (TakesIf (begins (limits_of old.store) d.state r) (limits_of old.store) session r rest d)
+      (ShowsOwned new now.disk.file) before.sink now.sink result
+  pub images : IsTrue before.disk.tells → (d : Desk) → ShowsOwned old before.disk.file d
+      → waits d.hand session r ≡ false → (k : Checkpoint) → RestsFrom classes old.store before.disk k
+      → LeavesFrom classes new.store before.disk now.disk (settled_of k d)
+      (kept_of (served (limits_of old.store) d.state r).state) result
+  pub goes : KeepsGoing classes old.store new.store before now result
+  pub of_is : (new.session ≡ old.session) ⊎ (new.session ≡ session)
+  pub calls : CallsOnce old.store new.store before.disk now.disk
 
 -- the desk once its flush in hand has settled, with a sequence that it may leave
 abbrev pub SettlesTo : Flush → Desk → Desk → Type 0

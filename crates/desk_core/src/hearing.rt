@@ -3,7 +3,7 @@ ghost use Rattle.std.specs.Prelude.{◌≡◌, ◌<◌, ◌++◌, true, length, 
 ghost use Rattle.ask_serve.specs.Inputs.{HasSourceCause};
 ghost use Rattle.data_area.specs.Causes.{HasSinkCause};
 ghost use Rattle.desk_model.specs.{Desks.{ring}, Events.{sessions}};
-ghost use Rattle.desk_core.specs.Hearing.{IsHeard, is_unheard};
+ghost use Rattle.desk_core.specs.Hearing.{IsHeard, is_unheard, talk};
 
 use crate::lines::put_for;
 use crate::said::read_said;
@@ -24,8 +24,8 @@ pub(crate) fn hear<I: Source, O: Sink>(
     requires session { session < sessions }
     requires room { length text.old ≡ ring }
     ensures heard { IsHeard (IsTrue (I.state input.old).tells) session queues.old queues.new
-        (ahead.old ++ (I.state input.old).left) (ahead.new ++ (I.state input.new).left) (O.state output.old)
-        (O.state output.new) result }
+        (talk (ahead.old ++ (I.state input.old).left) (O.state output.old))
+        (talk (ahead.new ++ (I.state input.new).left) (O.state output.new)) result }
     ensures told { (I.state input.new).tells ≡ (I.state input.old).tells }
     ensures cause { HasSourceCause (I.state input.old).faults (I.state input.new).faults result }
     ensures sink_cause { HasSinkCause End.Sink (O.state output.old) (O.state output.new) result }

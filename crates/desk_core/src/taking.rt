@@ -9,7 +9,7 @@ ghost use Rattle.ask_text.specs.Asks.{ask_of};
 ghost use Rattle.ask_serve.specs.{Inputs.{size_asked}, Ready.{CanServe}};
 ghost use Rattle.desk_model.specs.Events.{sessions};
 ghost use Rattle.desk_queues.specs.Queues.{StandsIn};
-ghost use Rattle.desk_core.specs.{Playing.{TakesRequest}, Telling.{TellsBegun, is_read_ask}};
+ghost use Rattle.desk_core.specs.{Playing.{TakesRequest, owned}, Telling.{TellsBegun, is_read_ask}};
 
 use crate::lines::{put_for, put_reply};
 use crate::served::Served;
@@ -37,7 +37,7 @@ pub(crate) fn take<const C: usize, D: Disk, O: Sink>(
     requires room { IfSome (size_asked ask.now) (λ n. n ≤ length text.now) }
     requires free { is_read_ask ask.now ≡ false → IsConnected C served.old.store (D.state disk.old) }
     ensures { (r : Request) → ask_of r ≡ ask.now → StandsIn text.now r → TakesRequest C session r
-        served.old.store served.new.store served.old.session served.new.session
+        (owned served.old.store served.old.session) (owned served.new.store served.new.session)
         (devices (D.state disk.old) (O.state output.old)) (devices (D.state disk.new) (O.state output.new))
         result }
 {
@@ -78,8 +78,8 @@ fn take_put<const C: usize, D: Disk, O: Sink>(
     requires over { IsConnected C served.old.store (D.state disk.old) }
     requires whole { served.old.store.is_broken ≡ false }
     requires session { session < sessions }
-    ensures { TakesRequest C session (ask.change (put_of name.now object.now)) served.old.store
-        served.new.store served.old.session served.new.session
+    ensures { TakesRequest C session (ask.change (put_of name.now object.now))
+        (owned served.old.store served.old.session) (owned served.new.store served.new.session)
         (devices (D.state disk.old) (O.state output.old)) (devices (D.state disk.new) (O.state output.new))
         result }
 {
@@ -100,8 +100,8 @@ fn take_del<const C: usize, D: Disk, O: Sink>(
     requires over { IsConnected C served.old.store (D.state disk.old) }
     requires whole { served.old.store.is_broken ≡ false }
     requires session { session < sessions }
-    ensures { TakesRequest C session (ask.change (del_of name.now)) served.old.store
-        served.new.store served.old.session served.new.session
+    ensures { TakesRequest C session (ask.change (del_of name.now))
+        (owned served.old.store served.old.session) (owned served.new.store served.new.session)
         (devices (D.state disk.old) (O.state output.old)) (devices (D.state disk.new) (O.state output.new))
         result }
 {
@@ -146,8 +146,8 @@ fn take_get<const C: usize, D: Disk, O: Sink>(
     requires over { IsReadable C served.old.store (D.state disk.old) }
     requires whole { served.old.store.is_broken ≡ false }
     requires session { session < sessions }
-    ensures { TakesRequest C session (ask.get name.now) served.old.store served.new.store
-        served.old.session served.new.session
+    ensures { TakesRequest C session (ask.get name.now)
+        (owned served.old.store served.old.session) (owned served.new.store served.new.session)
         (devices (D.state disk.old) (O.state output.old)) (devices (D.state disk.new) (O.state output.new))
         result }
 {
@@ -172,8 +172,8 @@ fn take_old<const C: usize, D: Disk, O: Sink>(
     requires over { IsReadable C served.old.store (D.state disk.old) }
     requires whole { served.old.store.is_broken ≡ false }
     requires session { session < sessions }
-    ensures { TakesRequest C session (ask.old name.now) served.old.store served.new.store
-        served.old.session served.new.session
+    ensures { TakesRequest C session (ask.old name.now)
+        (owned served.old.store served.old.session) (owned served.new.store served.new.session)
         (devices (D.state disk.old) (O.state output.old)) (devices (D.state disk.new) (O.state output.new))
         result }
 {
@@ -197,8 +197,8 @@ fn take_list<const C: usize, D: Disk, O: Sink>(
     requires over { IsReadable C served.old.store (D.state disk.old) }
     requires whole { served.old.store.is_broken ≡ false }
     requires session { session < sessions }
-    ensures { TakesRequest C session ask.list served.old.store served.new.store
-        served.old.session served.new.session
+    ensures { TakesRequest C session ask.list
+        (owned served.old.store served.old.session) (owned served.new.store served.new.session)
         (devices (D.state disk.old) (O.state output.old)) (devices (D.state disk.new) (O.state output.new))
         result }
 {

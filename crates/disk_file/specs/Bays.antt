@@ -63,8 +63,8 @@ module _ {H : Type 0} {g : Ghosts H} where
         IsFalse ((marks_of old).leads mount.name) → IsErr result)
     pub lost : IsErr result ↔ IsTrue (has_lost new)
 
-  -- A mount that is answered is the last one, and one that fails leaves none. What the name had is told as the
-  -- system tells it; what was made has no bytes, and nothing is absent that was to be made.
+  -- A mount that is answered is the last one, and one that fails leaves none. What the name had is told as
+  -- the system tells it; what was made has no bytes, and nothing is absent that was to be made.
   pub record Mounts {E : Type 0} (name : List ℕ) (make : Bool) (old new : FileBay H g)
       (result : Result Mounted E) : Type 0 where
     pub mounted : IfOk result (λ answer.

@@ -2,6 +2,7 @@
 use Rattle.std.specs.Prelude.{◌≡◌, ◌≢◌, ◌<◌, ◌≤◌, ◌^◌, ◌==◌, ℕ, false, true, Bool, if◌then◌else◌, List, [], ◌∷◌, ◌++◌, length, map, take, Option, Some, None, Result, Err, IfOk, OnErr, OnOk, IsTrue}
 use Rattle.std.specs.FinMap as fin
 use Rattle.std.specs.List.{AllByRecursion}
+use Rattle.disk_face.specs.Devices.{Devices, devices}
 use Rattle.disk_face.specs.Frames.{Unchanged}
 use Rattle.disk_face.specs.States as disk
 use Rattle.disk_face.specs.Streams.{Puts, SinkState}
@@ -128,16 +129,17 @@ pub record CanClass (C : ℕ) : Type 0 where
 
 -- The dump of the map that a file gives at the places of a table was put as far as can be, and nothing was
 -- changed. In version 1 no object is damaged, whatever the disk tells.
-pub record DumpsTable {T : Type 0} (C base version : ℕ) (table : Extents) (before now : disk.State)
-    (given after : SinkState) (result : Result T DumpFault) : Type 0 where
-  pub puts : IsTrue before.tells → PutsDump C (digests_seen version table.digests)
-      (read_at base before.file table.now) given after result
+pub record DumpsTable {T : Type 0} (C base version : ℕ) (table : Extents) (old new : Devices)
+    (result : Result T DumpFault) : Type 0 where
+  pub puts : IsTrue old.disk.tells → PutsDump C (digests_seen version table.digests)
+      (read_at base old.disk.file table.now) old.sink new.sink result
   pub plain : (version == 2) ≡ false → result ≢ Err why.Damaged
-  pub causes : HasCauses before now given after result
-  pub frame : Unchanged before now
+  pub causes : HasCauses old.disk new.disk old.sink new.sink result
+  pub frame : Unchanged old.disk new.disk
 
 -- the same of a table that was read
 abbrev pub DumpsLoaded : {T : Type 0} {C : ℕ} → Loaded C → disk.State → disk.State → SinkState → SinkState
     → Result T DumpFault → Type 0
 DumpsLoaded {C = C} x before now given after result =
-    DumpsTable C (head_len x.block.names) x.header.version x.table before now given after result
+    DumpsTable C (head_len x.block.names) x.header.version x.table (devices before given) (devices now after)
+    result

@@ -5,7 +5,7 @@ use Rattle.slot_codec.specs.Choice.{rises}
 use Rattle.slot_codec.specs.Names.{IsName}
 use Rattle.map_model.specs.Weights.{Entry}
 use Rattle.segment_layout.specs.Books.{volumes_of_sizes}
-use Rattle.dump_stream.specs.Heads.{IsHead, Tells, TellsNothing, head_line}
+use Rattle.dump_stream.specs.Heads.{IsHead, head_line}
 use Rattle.dump_stream.specs.Dumps.{object_text, objects_text}
 
 -- the bytes of each class that objects have together

@@ -13,7 +13,8 @@ use Rattle.command_face.specs.declared.stop.StopReason.{StopReason}
 use Rattle.command_face.specs.declared.stop.StopReason.TheVariants as stop
 use Rattle.read_cache.specs.CacheValues.{CacheValue}
 use Rattle.read_cache.specs.Lists.{Listing, after_all, empty_listing}
-use Rattle.work_session.specs.Servers.{BecameAll, BecomesCached, HasServed}
+use Rattle.read_cache.specs.Coherence.{IsCoherent}
+use Rattle.work_session.specs.Servers.{BecameAll, BecomesCached, HasServed, words_of}
 use Rattle.work_session.specs.Works.{HasStopped}
 use Rattle.work_session.specs.declared.summary.Summary.{Summary}
 use Rattle.work_command.specs.Asked.{NumberedJobs, TellsCache, jobs_numbered, jobs_of}
@@ -77,8 +78,8 @@ module _ {D : Type 0} (disk_of : D → State) (number count entries : ℕ) (firs
 
   pub cached_all : (new : CacheValue) (x : Summary) (text : List ℕ) (end : Result (Unit {0}) StopReason)
       → old.list ≡ empty_listing entries
-      → HasServed (λ c. c.store) BecomesCached CLASSES old new (jobs_of asked old.store) (disk_of mid)
-      (disk_of now) x
+      → HasServed (words_of (λ c. c.store) (λ c d. IsCoherent c.store c.list.pairs d) BecomesCached CLASSES)
+      old new (jobs_of asked old.store) (disk_of mid) (disk_of now) x
       → text ≡ summary_text x ++ cache_lines new.list
       → (IsTrue out.tells → Puts out.given put.given text end) → OnErr end (end ≡ Err stop.Sink)
       → put.tells ≡ out.tells → HasCause out.faults put.faults end

@@ -77,7 +77,8 @@ pub record HasSaved (u : SuperBlock) (s : State) (rested : Type 0) (new : disk.S
 -- at most those of the jobs and those of the bytes moved: one for the least size of an object of each class,
 -- and one for each 65,536 bytes.
 pub record AreDone (found : Found) (entries : Option ℕ) {limits : Limits} {start : State}
-    {all : List Request} {n : ℕ} (ran : Ran limits start all n) (status : ℕ) (old new : Devices) : Type 0 where
+    {all : List Request} {n : ℕ} (ran : Ran limits start all n) (status : ℕ) (old new : Devices)
+    : Type 0 where
   pub summary : Summary
   pub sums : SumsUp found.block.k found.b start ran.answered ran.replies ran.states summary
   pub text : List ℕ

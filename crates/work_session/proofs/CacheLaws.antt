@@ -1,6 +1,6 @@
 -- What a job does that is done by a store behind a cache, and what the list becomes.
-use Rattle.std.specs.Prelude.{◌≡◌, ℕ, Bool, true, false, ◌&&◌, ◌||◌, if◌then◌else◌, List, [], is_ok, is_some, Option, Some, None, Result, Ok, Err, IfSome, IsTrue, OnOk, refl}
-use Rattle.std.proofs.Common.{arith, ap, sym, ◌∙◌, subst}
+use Rattle.std.specs.Prelude.{◌≡◌, ℕ, Bool, true, false, ◌&&◌, ◌||◌, if◌then◌else◌, List, [], is_ok, is_some, Result, Ok, Err, IfSome, IsTrue, OnOk, refl}
+use Rattle.std.proofs.Common.{ap, sym, ◌∙◌, subst}
 use Rattle.disk_face.specs.Devices.{devices}
 use Rattle.disk_face.specs.States as disk
 use Rattle.disk_face.specs.Streams.{SinkState}
@@ -22,7 +22,7 @@ use Rattle.read_cache.specs.CacheValues.{CacheValue}
 use Rattle.read_cache.specs.Coherence.{IsCoherent}
 use Rattle.read_cache.specs.Gets.{HasListed, ListsGet, is_sink, size_got}
 use Rattle.read_cache.specs.declared.got.Got.{Got}
-use Rattle.read_cache.specs.Lists.{Listing, after, after_get, after_hit, listed, without}
+use Rattle.read_cache.specs.Lists.{Listing, after, after_hit, listed, without}
 use Rattle.ask_text.specs.declared.reply.Reply as text
 use Rattle.ask_text.specs.declared.reply.Reply.TheVariants as head
 use Rattle.ask_text.specs.declared.ends.End.{End}
@@ -30,7 +30,7 @@ use Rattle.ask_serve.specs.Ready.{CanServe}
 use Rattle.ask_serve.specs.ReplyLines.{answer_change, answer_of}
 use Rattle.ask_serve.specs.Serving.{reply_at}
 use Rattle.work_session.specs.Jobs.{Does}
-use Rattle.work_session.specs.Servers.{BecomesCached, IsSaid, ServesJob}
+use Rattle.work_session.specs.Servers.{BecomesCached, IsSaid, ServesJob, words_of}
 use Rattle.work_session.proofs.DoesLaws.{change_does, get_gives, get_stops, keep_does}
 use Rattle.work_session.proofs.DoneLaws.{IsShortChange}
 
@@ -125,7 +125,8 @@ kept_by (ask.counts names bytes kept_names kept_bytes) l = refl
 module _ {classes : ℕ} (old new : CacheValue) (a d : disk.State) (h : CanServe classes old.store a) where
   -- a job of the cache
   abbrev Serves : Request → Result text.Reply End → Type 0
-  Serves r out = ServesJob (λ c. c.store) (λ c d. IsCoherent c.store c.list.pairs d) BecomesCached classes r
+  Serves r out = ServesJob (words_of (λ c. c.store) (λ c d. IsCoherent c.store c.list.pairs d)
+      BecomesCached classes) r
       old new a d out
 
   module _ (coherent : IsCoherent new.store new.list.pairs d)

@@ -10,7 +10,7 @@ use Rattle.ask_text.specs.declared.reply.Reply as text
 use Rattle.ask_text.specs.declared.ends.End.{End}
 use Rattle.ask_serve.specs.Serving.{reply_at}
 use Rattle.work_session.specs.Jobs.{Does, HasTally, no_tally, tally_with}
-use Rattle.work_session.specs.Servers.{BecameAll, HasServed, IsServing, ServesJob}
+use Rattle.work_session.specs.Servers.{BecameAll, HasServed, IsServing, ServesJob, words_of}
 use Rattle.work_session.specs.Works.{EndsAt, HasStopped, LinesOf}
 use Rattle.work_session.specs.declared.summary.Summary.{Summary}
 use Rattle.work_session.specs.declared.tally.Tally.{Tally}
@@ -22,7 +22,7 @@ use Rattle.work_session.proofs.WorkingLaws.{working_more, working_none, working_
 -- a store is known to be nothing more than its value, and becomes that
 pub store_serves : {classes : ℕ} {r : Request} {s new : StoreValue} {a d : disk.State}
     {result : Result text.Reply End} → Does classes r s new a d result
-    → ServesJob (λ s. s) (λ s d. Unit {0}) (λ s r reply t. Unit {0}) classes r s new a d result
+    → ServesJob (words_of (λ s. s) (λ s d. Unit {0}) (λ s r reply t. Unit {0}) classes) r s new a d result
 store_serves {classes} {r} {s} {new} {a} {d} {result} does = record {
   does = does;
   known = always result tt;
@@ -45,7 +45,7 @@ module _ {S : Type 0} (store : S → StoreValue) (knows : S → disk.State → T
     (becomes : S → Request → Reply → S → Type 0) {classes : ℕ} where
   pub serving_none : (s : S) (all : List Request) (a : disk.State) → IsFresh classes (store s)
       → IsConnected classes (store s) a → IsTrue a.is_ready → knows s a
-      → IsServing store knows becomes classes s s all all a a no_tally
+      → IsServing (words_of store knows becomes classes) s s all all a a no_tally
   serving_none s all a fresh over ready known = record {
     working = working_none (store s) all a fresh over ready;
     known = known;
@@ -55,13 +55,13 @@ module _ {S : Type 0} (store : S → StoreValue) (knows : S → disk.State → T
   }
 
   module _ (old mid new : S) (all left : List Request) (r : Request) (a b d : disk.State) (t : Tally)
-      (x : IsServing store knows becomes classes old mid all (r ∷ left) a b t) where
+      (x : IsServing (words_of store knows becomes classes) old mid all (r ∷ left) a b t) where
     told_b : IsTrue a.tells → IsTrue b.tells
     told_b told = subst IsTrue (sym x.working.ran.frame.stays.told) told
 
     pub serving_more : (head : text.Reply)
-        → ServesJob store knows becomes classes r mid new b d (Ok head) → length all ≤ 1000001
-        → IsServing store knows becomes classes old new all left a d (tally_with t head)
+        → ServesJob (words_of store knows becomes classes) r mid new b d (Ok head) → length all ≤ 1000001
+        → IsServing (words_of store knows becomes classes) old new all left a d (tally_with t head)
     serving_more head job few = record {
       working = working_more (store old) (store mid) (store new) all left r a b d t x.working head job.does
           few;
@@ -73,25 +73,27 @@ module _ {S : Type 0} (store : S → StoreValue) (knows : S → disk.State → T
           job.became.became;
     }
 
-    pub serving_stopped : (end : End) → ServesJob store knows becomes classes r mid new b d (Err end)
+    pub serving_stopped : (end : End) → ServesJob (words_of store knows becomes classes) r mid new b d
+        (Err end)
         → HasStopped classes (store old) all a d
     serving_stopped end job =
         working_stopped (store old) (store mid) (store new) all left r a b d t x.working end job.does
 
   -- the same jobs are left
   pub as_left : {old new : S} {all xs ys : List Request} {a d : disk.State} {t : Tally}
-      → IsServing store knows becomes classes old new all xs a d t → xs ≡ ys
-      → IsServing store knows becomes classes old new all ys a d t
+      → IsServing (words_of store knows becomes classes) old new all xs a d t → xs ≡ ys
+      → IsServing (words_of store knows becomes classes) old new all ys a d t
   as_left {old} {new} {all} {xs} {ys} {a} {d} {t} w same =
-      subst (λ (rs : List Request). IsServing store knows becomes classes old new all rs a d t) same w
+      subst (λ (rs : List Request). IsServing (words_of store knows becomes classes) old new all rs a d t)
+      same w
 
   -- ---- all jobs
 
   pub has_served : (old new : S) (jobs : List Request) (a d : disk.State) (t : Tally) (x : Summary)
-      → IsServing store knows becomes classes old new jobs [] a d t → HasTally t (length jobs) x
+      → IsServing (words_of store knows becomes classes) old new jobs [] a d t → HasTally t (length jobs) x
       → EndsAt (store new) x → LinesOf classes (store new).moved (store new).asked x
       → ((c : ℕ) → classes ≤ c → slice_index (store new).moved c ≡ 0)
-      → HasServed store becomes classes old new jobs a d x
+      → HasServed (words_of store knows becomes classes) old new jobs a d x
   has_served old new jobs a d t x w tally end lines zeros = record {
     done = has_done (store old) (store new) jobs a d t x w.working tally end lines zeros;
     said = w.said;

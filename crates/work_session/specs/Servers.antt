@@ -2,7 +2,8 @@
 use Rattle.std.specs.Prelude.{◌≡◌, ℕ, Bool, List, [], ◌∷◌, Result, IsTrue, OnOk}
 use Rattle.disk_face.specs.States as disk
 use Rattle.map_model.specs.Requests.{Reply, Request}
-use Rattle.store_model.specs.Connection.{StoreValue}
+use Rattle.store_model.specs.Connection.{IsConnected, StoreValue}
+use Rattle.store_model.specs.Opened.{IsFresh}
 use Rattle.read_cache.specs.CacheValues.{CacheValue}
 use Rattle.read_cache.specs.Lists.{after}
 use Rattle.ask_text.specs.declared.reply.Reply as text
@@ -38,29 +39,48 @@ pub record IsSaid {S : Type 0} (becomes : S → Request → Reply → S → Type
   pub same : told → reply ≡ given
   pub became : becomes old r reply new
 
+-- What is said of a server of so many classes: its store, what is known of it and of its disk between two
+-- jobs, and what it becomes by a request that was answered so.
+pub record ServerWords (S : Type 0) : Type 1 where
+  pub store : S → StoreValue
+  pub knows : S → disk.State → Type 0
+  pub becomes : S → Request → Reply → S → Type 0
+  pub classes : ℕ
+
+abbrev pub words_of : {S : Type 0} → (S → StoreValue) → (S → disk.State → Type 0)
+    → (S → Request → Reply → S → Type 0) → ℕ → ServerWords S
+words_of store knows becomes classes =
+    record { store = store; knows = knows; becomes = becomes; classes = classes }
+
+-- One may begin with its jobs: its disk is ready and has its store, of which nothing was saved since it was
+-- opened.
+pub record MayServe {S : Type 0} (s : ServerWords S) (server : S) (d : disk.State) : Type 0 where
+  pub ready : IsTrue d.is_ready
+  pub over : IsConnected s.classes (s.store server) d
+  pub fresh : IsFresh s.classes (s.store server)
+  pub knows : s.knows server d
+
 -- One does a job by its store. What it knows of the disk it knows again, and it became what a reply says.
-pub record ServesJob {S : Type 0} (store : S → StoreValue) (knows : S → disk.State → Type 0)
-    (becomes : S → Request → Reply → S → Type 0) (classes : ℕ) (r : Request) (old new : S)
-    (before now : disk.State) (result : Result text.Reply End) : Type 0 where
-  pub does : Does classes r (store old) (store new) before now result
-  pub known : OnOk result (knows new now)
+pub record ServesJob {S : Type 0} (s : ServerWords S) (r : Request) (old new : S) (before now : disk.State)
+    (result : Result text.Reply End) : Type 0 where
+  pub does : Does s.classes r (s.store old) (s.store new) before now result
+  pub known : OnOk result (s.knows new now)
   pub became : OnOk result
-      (IsSaid becomes (IsTrue before.tells) r (reply_at (store old) before.file r) old new)
+      (IsSaid s.becomes (IsTrue before.tells) r (reply_at (s.store old) before.file r) old new)
 
 -- Of a list of jobs it did the first, and counted them.
-pub record IsServing {S : Type 0} (store : S → StoreValue) (knows : S → disk.State → Type 0)
-    (becomes : S → Request → Reply → S → Type 0) (classes : ℕ) (old new : S) (all left : List Request)
+pub record IsServing {S : Type 0} (s : ServerWords S) (old new : S) (all left : List Request)
     (before now : disk.State) (t : Tally) : Type 0 where
-  pub working : IsWorking classes (store old) (store new) all left before now t
-  pub known : knows new now
+  pub working : IsWorking s.classes (s.store old) (s.store new) all left before now t
+  pub known : s.knows new now
   pub said : List Reply
   pub same : IsTrue before.tells → said ≡ working.replies
-  pub became : BecameAll becomes old working.jobs said new
+  pub became : BecameAll s.becomes old working.jobs said new
 
 -- It did all jobs, and became what some replies say: those that were given, where the disk tells its content.
-pub record HasServed {S : Type 0} (store : S → StoreValue) (becomes : S → Request → Reply → S → Type 0)
-    (classes : ℕ) (old new : S) (jobs : List Request) (before now : disk.State) (x : Summary) : Type 0 where
-  pub done : HasDone classes (store old) jobs before now x
+pub record HasServed {S : Type 0} (s : ServerWords S) (old new : S) (jobs : List Request)
+    (before now : disk.State) (x : Summary) : Type 0 where
+  pub done : HasDone s.classes (s.store old) jobs before now x
   pub said : List Reply
   pub same : IsTrue before.tells → said ≡ done.replies
-  pub became : BecameAll becomes old jobs said new
+  pub became : BecameAll s.becomes old jobs said new

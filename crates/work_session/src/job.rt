@@ -2,7 +2,7 @@
 ghost use Rattle.std.specs.Prelude.{◌≡◌, ◌≤◌, ◌^◌, ◌<◌, ℕ, List, false, None, IsTrue, length};
 ghost use Rattle.store_model.specs.{Connection.{IsConnected}, Stores.{IsStore}};
 ghost use Rattle.work_maker.specs.{Jobs.{counting_bytes}, Making.{asked_by}};
-ghost use Rattle.work_session.specs.{Jobs.{IsPattern, IsShort}, Servers.{ServesJob}};
+ghost use Rattle.work_session.specs.{Jobs.{IsPattern, IsShort}, Servers.{ServesJob, words_of}};
 
 use crate::Server;
 use ask_text::{End, Reply};
@@ -23,7 +23,7 @@ pub(crate) fn do_job<S: Server<C>, const C: usize, D: Disk>(
     requires knows { S.knows server.old (D.state disk.old) }
     requires pattern { IsPattern pattern.now }
     requires short { IsShort job.now }
-    ensures { ServesJob S.store S.knows S.becomes C (asked_by job.now) server.old server.new
+    ensures { ServesJob (words_of S.store S.knows S.becomes C) (asked_by job.now) server.old server.new
         (D.state disk.old) (D.state disk.new) result }
 {
     match job {

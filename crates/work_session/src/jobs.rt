@@ -2,7 +2,7 @@
 ghost use Rattle.std.specs.Prelude.{◌≡◌, ◌≤◌, ◌^◌, [], false, IfOk, IsTrue, OnErr, length};
 ghost use Rattle.store_model.specs.{Connection.{IsConnected}, Opened.{IsFresh}};
 ghost use Rattle.work_maker.specs.Making.{jobs_left};
-ghost use Rattle.work_session.specs.{Jobs.{IsPattern}, Servers.{IsServing}, Works.{HasStopped}};
+ghost use Rattle.work_session.specs.{Jobs.{IsPattern}, Servers.{IsServing, words_of}, Works.{HasStopped}};
 
 use crate::Server;
 use crate::job::do_job;
@@ -23,8 +23,8 @@ pub(crate) fn do_jobs<S: Server<C>, const C: usize, D: Disk>(
     requires knows { S.knows server.old (D.state disk.old) }
     requires pattern { IsPattern pattern.now }
     requires few { length (jobs_left work.old) ≤ 1000001 }
-    ensures done { IfOk result (λ tally. IsServing S.store S.knows S.becomes C server.old server.new
-        (jobs_left work.old) [] (D.state disk.old) (D.state disk.new) tally) }
+    ensures done { IfOk result (λ tally. IsServing (words_of S.store S.knows S.becomes C) server.old
+        server.new (jobs_left work.old) [] (D.state disk.old) (D.state disk.new) tally) }
     ensures stopped { OnErr result (HasStopped C (S.store server.old) (jobs_left work.old) (D.state disk.old)
         (D.state disk.new)) }
 {

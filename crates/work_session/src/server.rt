@@ -7,7 +7,7 @@ ghost use Rattle.map_model.specs.Requests as ask;
 ghost use Rattle.extent_table.specs.Extents.{volume_of};
 ghost use Rattle.segment_layout.specs.Books.{book_end};
 ghost use Rattle.store_model.specs.{Connection.{IsConnected, StoreValue}, Quiet.{del_of, put_of}, Stores.{IsStore}};
-ghost use Rattle.work_session.specs.Servers.{ServesJob};
+ghost use Rattle.work_session.specs.Servers.{ServesJob, words_of};
 
 use ask_text::{End, Reply};
 use data_area::Ledger;
@@ -38,8 +38,8 @@ pub trait Server<const C: usize> {
         requires sound { IsStore C (store self.old) }
         requires knows { knows self.old (D.state disk.old) }
         requires short { length object.now ≤ 8192 }
-        ensures { ServesJob store knows becomes C (ask.change (put_of name.now object.now)) self.old self.new
-            (D.state disk.old) (D.state disk.new) result };
+        ensures { ServesJob (words_of store knows becomes C) (ask.change (put_of name.now object.now))
+            self.old self.new (D.state disk.old) (D.state disk.new) result };
 
     /// Removes a name.
     fn remove<D: Disk>(&mut self, disk: &mut D, name: &[u8]) -> Result<Reply, End>
@@ -48,7 +48,7 @@ pub trait Server<const C: usize> {
         requires whole { (store self.old).is_broken ≡ false }
         requires sound { IsStore C (store self.old) }
         requires knows { knows self.old (D.state disk.old) }
-        ensures { ServesJob store knows becomes C (ask.change (del_of name.now)) self.old self.new
+        ensures { ServesJob (words_of store knows becomes C) (ask.change (del_of name.now)) self.old self.new
             (D.state disk.old) (D.state disk.new) result };
 
     /// Reads an object, and drops its bytes.
@@ -58,8 +58,8 @@ pub trait Server<const C: usize> {
         requires whole { (store self.old).is_broken ≡ false }
         requires sound { IsStore C (store self.old) }
         requires knows { knows self.old (D.state disk.old) }
-        ensures { ServesJob store knows becomes C (ask.get name.now) self.old self.new (D.state disk.old)
-            (D.state disk.new) result };
+        ensures { ServesJob (words_of store knows becomes C) (ask.get name.now) self.old self.new
+            (D.state disk.old) (D.state disk.new) result };
 
     /// Saves a checkpoint.
     fn save<D: Disk>(&mut self, disk: &mut D) -> Result<Reply, End>
@@ -68,7 +68,7 @@ pub trait Server<const C: usize> {
         requires whole { (store self.old).is_broken ≡ false }
         requires sound { IsStore C (store self.old) }
         requires knows { knows self.old (D.state disk.old) }
-        ensures { ServesJob store knows becomes C ask.keep self.old self.new (D.state disk.old)
+        ensures { ServesJob (words_of store knows becomes C) ask.keep self.old self.new (D.state disk.old)
             (D.state disk.new) result };
 
     /// How many names there are in the store, and how many bytes their objects have.

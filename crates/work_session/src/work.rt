@@ -3,7 +3,7 @@ ghost use Rattle.std.specs.Prelude.{◌≡◌, ◌≤◌, ◌+◌, Err, IfOk, Is
 ghost use Rattle.disk_face.specs.Writes.{KeepsDisk};
 ghost use Rattle.store_model.specs.{Connection.{IsConnected}, Opened.{IsFresh}};
 ghost use Rattle.work_maker.specs.Jobs.{jobs};
-ghost use Rattle.work_session.specs.{Servers.{HasServed}, Works.{HasStopped}};
+ghost use Rattle.work_session.specs.{Servers.{HasServed, MayServe, words_of}, Works.{HasStopped}};
 
 use crate::jobs::do_jobs;
 use crate::pattern::counting;
@@ -35,14 +35,10 @@ pub fn do_work<S: Server<C>, const C: usize, D: Disk>(
     count: u64,
     names: u64,
 ) -> Result<Summary, WorkFault>
-    requires ready { IsTrue (D.state disk.old).is_ready }
-    requires over { IsConnected C (S.store server.old) (D.state disk.old) }
-    requires fresh { IsFresh C (S.store server.old) }
-    requires knows { S.knows server.old (D.state disk.old) }
+    requires serves { MayServe (words_of S.store S.knows S.becomes C) server.old (D.state disk.old) }
     requires names { names ≡ (S.store server.old).in_use.block.names }
-    requires least { 1 ≤ count }
-    requires most { count ≤ 1000000 }
-    ensures done { IfOk result (HasServed S.store S.becomes C server.old server.new
+    requires counts { (1 ≤ count) × (count ≤ 1000000) }
+    ensures done { IfOk result (HasServed (words_of S.store S.knows S.becomes C) server.old server.new
         (jobs number count (S.store server.old).in_use.block.names) (D.state disk.old)
         (D.state disk.new)) }
     ensures stopped { result ≡ Err WorkFault.Disk → HasStopped C (S.store server.old)

@@ -3,7 +3,7 @@ use Rattle.disk_face.specs.Devices.{devices}
 use Rattle.map_model.specs.Requests as ask
 use Rattle.store_model.specs.Connection.{StoreValue}
 use Rattle.store_model.specs.Quiet.{del_of}
-use Rattle.desk_core.specs.Playing.{TakesRequest}
+use Rattle.desk_core.specs.Playing.{TakesRequest, owned}
 use Rattle.desk_core.proofs.BegunLaws.{begun_takes}
 use Rattle.desk_core.proofs.taking.take_del.Goals as goal
 
@@ -15,8 +15,9 @@ returns g c =
     let d = g.D.Disk.state c.begin_del-begun.new.disk in
     let out = g.O.Sink.state c.args.output.now in
     let after = g.O.Sink.state c.tell.new.output in
-    subst (λ (x : StoreValue). TakesRequest g.row.C c.args.session (ask.change change) s x
-    c.args.served.now.session c.tell.new.served.session (devices a out) (devices d after) c.tell.result)
+    subst (λ (x : StoreValue). TakesRequest g.row.C c.args.session (ask.change change)
+    (owned s c.args.served.now.session)
+    (owned x c.tell.new.served.session) (devices a out) (devices d after) c.tell.result)
     (sym c.tell.ensures.store)
     (begun_takes c.args.session change s c.begin_del-begun.new.self c.args.served.now.session a d
     c.can_serve.ensures out after c.tell.result c.begin_del-begun.result c.tell.new.served.session

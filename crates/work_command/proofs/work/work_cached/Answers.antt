@@ -17,14 +17,15 @@ do_work-requires g c =
     let cached = c.in-Ok.cached in
     let same = sym c.in-Ok.ensures.store in
     record {
-      ready = c.requires.ready;
-      over = subst (λ (x : StoreValue). IsConnected CLASSES x d) same c.requires.over;
-      fresh = subst (λ (x : StoreValue). IsFresh CLASSES x) same c.requires.fresh;
-      knows = subst (λ (l : Listing). IsCoherent cached.store l.pairs d) (sym c.in-Ok.ensures.list)
-          (λ whole. tt);
+      serves = record {
+        ready = c.requires.ready;
+        over = subst (λ (x : StoreValue). IsConnected CLASSES x d) same c.requires.over;
+        fresh = subst (λ (x : StoreValue). IsFresh CLASSES x) same c.requires.fresh;
+        knows = subst (λ (l : Listing). IsCoherent cached.store l.pairs d) (sym c.in-Ok.ensures.list)
+            (λ whole. tt);
+      };
       names = c.names-names.ensures ∙ ap (λ (x : StoreValue). x.in_use.block.names) same;
-      least = c.requires.least;
-      most = c.requires.most;
+      counts = (c.requires.least, c.requires.most);
     }
 
 pub returns-in_default : goal.returns-in_default

@@ -1,13 +1,14 @@
 use Rattle.std.proofs.Common.{refl, sym, subst}
 use Rattle.work_maker.specs.Making.{asked_by, jobs_left}
-use Rattle.work_session.specs.Servers.{IsServing}
+use Rattle.work_session.specs.Servers.{IsServing, words_of}
 use Rattle.work_session.specs.declared.tally.Tally.{Tally}
 use Rattle.work_session.proofs.PatternLaws.{short_next}
 use Rattle.work_session.proofs.ServingLaws.{as_left, serving_more, serving_none, serving_stopped}
 use Rattle.work_session.proofs.jobs.do_jobs.Goals as goal
 
 pub jobs-init : goal.jobs-init
-jobs-init g c = subst (λ (t : Tally). IsServing g.S.Server.store g.S.Server.knows g.S.Server.becomes g.row.C
+jobs-init g c = subst (λ (t : Tally). IsServing
+    (words_of g.S.Server.store g.S.Server.knows g.S.Server.becomes g.row.C)
     c.args.server.now c.args.server.now (jobs_left c.args.work.now) (jobs_left c.args.work.now)
     (g.D.Disk.state c.args.disk.now) (g.D.Disk.state c.args.disk.now) t)
     (sym c.none-tally.ensures)
@@ -29,8 +30,9 @@ do_job-requires g c =
     }
 
 pub jobs-preserved : goal.jobs-preserved
-jobs-preserved g c = subst (λ (t : Tally). IsServing g.S.Server.store g.S.Server.knows g.S.Server.becomes
-    g.row.C c.args.server.now c.do_job.new.server
+jobs-preserved g c = subst (λ (t : Tally). IsServing
+    (words_of g.S.Server.store g.S.Server.knows g.S.Server.becomes g.row.C) c.args.server.now
+    c.do_job.new.server
     (jobs_left c.args.work.now) (jobs_left c.next.new.self) (g.D.Disk.state c.args.disk.now)
     (g.D.Disk.state c.do_job.new.disk) t)
     (sym c.add.ensures)

@@ -1,10 +1,11 @@
 use Rattle.std.proofs.Common.{length}
 use Rattle.work_maker.specs.Making.{jobs_left}
-use Rattle.work_session.specs.Servers.{IsServing}
+use Rattle.work_session.specs.Servers.{IsServing, words_of}
 use Rattle.work_session.proofs.jobs.do_jobs.Given as goal
 
 abbrev pub invariant-jobs : goal.invariant-jobs
-invariant-jobs g l = IsServing g.S.Server.store g.S.Server.knows g.S.Server.becomes g.row.C l.fn.server
+invariant-jobs g l = IsServing (words_of g.S.Server.store g.S.Server.knows g.S.Server.becomes g.row.C)
+    l.fn.server
     l.server (jobs_left l.fn.work) (jobs_left l.work) (g.D.Disk.state l.fn.disk) (g.D.Disk.state l.disk)
     l.tally
 

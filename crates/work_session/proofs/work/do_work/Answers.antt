@@ -4,23 +4,23 @@ use Rattle.std.specs.Prelude.{List, [], ℕ}
 use Rattle.map_model.specs.Requests.{Request}
 use Rattle.work_maker.specs.Jobs.{jobs}
 use Rattle.work_session.specs.Jobs.{HasTally, IsPattern}
-use Rattle.work_session.specs.Servers.{IsServing}
+use Rattle.work_session.specs.Servers.{IsServing, words_of}
 use Rattle.work_session.proofs.WholeLaws.{jobs_long}
 use Rattle.work_session.proofs.ServingLaws.{has_served}
 use Rattle.work_session.proofs.work.do_work.Goals as goal
 
 pub do_jobs-requires : goal.do_jobs-requires
 do_jobs-requires g c = record {
-  ready = c.requires.ready;
-  over = c.requires.over;
-  fresh = c.requires.fresh;
-  knows = c.requires.knows;
+  ready = c.requires.serves.ready;
+  over = c.requires.serves.over;
+  fresh = c.requires.serves.fresh;
+  knows = c.requires.serves.knows;
   pattern = subst IsPattern (sym c.as_slice.ensures.value) c.in-Ok.ensures;
   few = omega (
     arith,
     ap length c.new-work.ensures,
     jobs_long c.args.number c.args.count c.args.names,
-    c.requires.most,
+    c.requires.counts,
   );
 }
 
@@ -30,7 +30,8 @@ returns-in-Ok-do_jobs-clause-done g c =
     has_served g.S.Server.store g.S.Server.knows g.S.Server.becomes c.args.server.now c.do_jobs.new.server
     (jobs c.args.number c.args.count names) (g.D.Disk.state c.args.disk.now)
     (g.D.Disk.state c.do_jobs.new.disk) c.in-Ok-do_jobs.tally c.sum_up.result
-    (subst (λ (rs : List Request). IsServing g.S.Server.store g.S.Server.knows g.S.Server.becomes g.row.C
+    (subst (λ (rs : List Request). IsServing (words_of g.S.Server.store g.S.Server.knows
+    g.S.Server.becomes g.row.C)
     c.args.server.now c.do_jobs.new.server rs [] (g.D.Disk.state c.args.disk.now)
     (g.D.Disk.state c.do_jobs.new.disk) c.in-Ok-do_jobs.tally)
     (c.new-work.ensures ∙ ap (jobs c.args.number c.args.count) c.requires.names)

@@ -7,7 +7,7 @@ use Rattle.desk_model.specs.Events as event
 use Rattle.desk_core.specs.declared.event.EventLine.{EventLine}
 use Rattle.desk_core.specs.declared.event.EventLine.TheVariants as line
 use Rattle.desk_core.specs.Benches.{Bench, unread}
-use Rattle.desk_core.specs.Hearing.{IsHeard}
+use Rattle.desk_core.specs.Hearing.{IsHeard, talk}
 use Rattle.desk_core.specs.Inside.{bench_of}
 use Rattle.desk_core.specs.Lines.{IsEventLine, words_of}
 use Rattle.desk_core.specs.Turns.{IsDeskTurn, counted_bench}
@@ -34,8 +34,8 @@ returns-in-Ok-Say-clause-turn g c =
     (say_turn g.row.C old b before now c.in-Ok-Say.session low mid
     (λ told. c.in-Ok-Say.ensures.line told ∙ ap (λ (e : EventLine). words_of e ++ 10 ∷ mid) same)
     refl refl refl c.hear-done.result
-    (subst (λ (t : Bool). IsHeard (IsTrue t) c.in-Ok-Say.session old.queued b.queued mid
-    (unread b now.source) before.sink now.sink c.hear-done.result) c.in-Ok-Say.ensures.told
+    (subst (λ (t : Bool). IsHeard (IsTrue t) c.in-Ok-Say.session old.queued b.queued
+    (talk mid before.sink) (talk (unread b now.source) now.sink) c.hear-done.result) c.in-Ok-Say.ensures.told
     c.hear-done.ensures.heard))))
 
 pub returns-in-Ok-Serve-clause-turn : goal.returns-in-Ok-Serve-clause-turn

@@ -5,7 +5,7 @@ use Rattle.map_model.specs.Requests as ask
 use Rattle.read_cache.specs.Coherence.{IsCoherent}
 use Rattle.ask_text.specs.declared.reply.Reply.{Reply}
 use Rattle.ask_text.specs.declared.ends.End.{End}
-use Rattle.work_session.specs.Servers.{BecomesCached, ServesJob}
+use Rattle.work_session.specs.Servers.{BecomesCached, ServesJob, words_of}
 use Rattle.work_session.proofs.CacheLaws.{change_serves}
 use Rattle.work_session.proofs.DoesLaws.{can_serve}
 use Rattle.work_session.proofs.DoneLaws.{del_short}
@@ -16,8 +16,9 @@ returns g c =
     let a = g.D.Disk.state c.args.disk.now in
     let d = g.D.Disk.state c.del-answer.new.disk in
     let change = del_of c.args.name.now in
-    subst (λ (x : Result Reply End). ServesJob (λ c. c.store) (λ c d. IsCoherent c.store c.list.pairs d)
-    BecomesCached g.row.C (ask.change change) c.args.self.now c.del-answer.new.self a d x)
+    subst (λ (x : Result Reply End). ServesJob
+    (words_of (λ c. c.store) (λ c d. IsCoherent c.store c.list.pairs d) BecomesCached g.row.C)
+    (ask.change change) c.args.self.now c.del-answer.new.self a d x)
     (sym c.answer_change.ensures)
     (change_serves c.args.self.now c.del-answer.new.self a d
     (can_serve c.args.self.now.store a c.requires.whole c.requires.sound c.requires.over c.requires.ready
