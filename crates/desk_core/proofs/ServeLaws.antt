@@ -158,82 +158,82 @@ module _ (session : ℕ) (q0 q1 : Queued) (s t : StoreValue) (of now_of : ℕ) (
         (stands : (qs : List (List Request)) (r : Request) (rest : List Request) → Holds q0 qs
         → requests_at qs session ≡ r ∷ rest → StandsIn text r)
         (taken : (r : Request) → ask_of r ≡ line → StandsIn text r
-        → TakesRequest C session r (owned s of) (owned t now_of) (devices a out) (devices d after) result)
-      where
-        takes_of : (qs : List (List Request)) (r : Request) (rest : List Request) → Holds q0 qs
-            → requests_at qs session ≡ r ∷ rest
-            → TakesRequest C session r (owned s of) (owned t now_of) (devices a out) (devices d after) result
-        takes_of qs r rest holds is = taken r (sym (asks qs r rest holds is)) (stands qs r rest holds is)
+        → TakesRequest C session r (owned s of) (owned t now_of) (devices a out)
+        (devices d after) result) where
+      takes_of : (qs : List (List Request)) (r : Request) (rest : List Request) → Holds q0 qs
+          → requests_at qs session ≡ r ∷ rest
+          → TakesRequest C session r (owned s of) (owned t now_of) (devices a out) (devices d after) result
+      takes_of qs r rest holds is = taken r (sym (asks qs r rest holds is)) (stands qs r rest holds is)
 
-        -- the first request is taken
-        pub take_serves : (is_some s.in_hand && ((of == session) || not reads)) ≡ false
-            → ((qs : List (List Request)) (r : Request) (rest : List Request) → Holds q0 qs
-            → requests_at qs session ≡ r ∷ rest → Holds q1 (slice_set qs session rest)) → IsServed
-        take_serves free left told desk holds shown = by (requests_at desk.queues session) refl
-          where
-            by : (q : List Request) → requests_at desk.queues session ≡ q
-                → PlaysOne (ServesFirst q (limits_of s) session desk) (ShowsParts q1 t now_of d.file) out after
-                result
-            by [] e = absurd (some desk.queues holds e)
-            by (r ∷ rest) e =
-                let calm = waits_as desk holds shown r rest e ∙ free in
-                let x = (takes_of desk.queues r rest holds e).plays told desk rest shown calm in
-                record {
-                  answer = x.answer;
-                  desk = x.desk;
-                  step = subst (λ (b : Bool). ServesIf b (limits_of s) session r rest desk x.answer x.desk)
-                      (sym calm) x.step;
-                  shown = λ fine. record {
-                    queues = subst (λ (qs : List (List Request)). Holds q1 qs)
-                        (sym (takes_queues (begins (limits_of s) desk.state r) (limits_of s) session r rest desk
-                        x.answer x.desk x.step)) (left desk.queues r rest holds e);
-                    store = x.shown fine;
-                  };
-                  puts = x.puts;
-                }
+      -- the first request is taken
+      pub take_serves : (is_some s.in_hand && ((of == session) || not reads)) ≡ false
+          → ((qs : List (List Request)) (r : Request) (rest : List Request) → Holds q0 qs
+          → requests_at qs session ≡ r ∷ rest → Holds q1 (slice_set qs session rest)) → IsServed
+      take_serves free left told desk holds shown = by (requests_at desk.queues session) refl
+        where
+          by : (q : List Request) → requests_at desk.queues session ≡ q
+              → PlaysOne (ServesFirst q (limits_of s) session desk) (ShowsParts q1 t now_of d.file) out after
+              result
+          by [] e = absurd (some desk.queues holds e)
+          by (r ∷ rest) e =
+              let calm = waits_as desk holds shown r rest e ∙ free in
+              let x = (takes_of desk.queues r rest holds e).plays told desk rest shown calm in
+              record {
+                answer = x.answer;
+                desk = x.desk;
+                step = subst (λ (b : Bool). ServesIf b (limits_of s) session r rest desk x.answer x.desk)
+                    (sym calm) x.step;
+                shown = λ fine. record {
+                  queues = subst (λ (qs : List (List Request)). Holds q1 qs)
+                      (sym (takes_queues (begins (limits_of s) desk.state r) (limits_of s) session r rest desk
+                      x.answer x.desk x.step)) (left desk.queues r rest holds e);
+                  store = x.shown fine;
+                };
+                puts = x.puts;
+              }
 
-        -- what a crash may leave meanwhile
-        pub take_images : (is_some s.in_hand && ((of == session) || not reads)) ≡ false → IsTrue a.tells
-            → (desk : Desk) → Holds q0 desk.queues → ShowsStore s of a.file desk
-            → LeavesStep C (ServesFirst (queue_of desk session) (limits_of s) session desk) s t a d desk result
-        take_images free told desk holds shown k rests said next step =
-            by (requests_at desk.queues session) refl step
-          where
-            by : (q : List Request) → requests_at desk.queues session ≡ q
-                → ServesFirst q (limits_of s) session desk said next
-                → LeavesFrom C t a d (settled_of k desk) (kept_of next.state) result
-            by [] e is = absurd (some desk.queues holds e)
-            by (r ∷ rest) e is =
-                let calm = waits_as desk holds shown r rest e ∙ free in
-                let takes : TakesIf (begins (limits_of s) desk.state r) (limits_of s) session r rest desk said
-                next = subst (λ (b : Bool). ServesIf b (limits_of s) session r rest desk said next) calm is in
-                subst (λ (y : Checkpoint). LeavesFrom C t a d (settled_of k desk) y result)
-                (sym (takes_kept (begins (limits_of s) desk.state r) (limits_of s) session r rest desk said next
-                takes))
-                ((takes_of desk.queues r rest holds e).images told desk shown calm k rests)
+      -- what a crash may leave meanwhile
+      pub take_images : (is_some s.in_hand && ((of == session) || not reads)) ≡ false → IsTrue a.tells
+          → (desk : Desk) → Holds q0 desk.queues → ShowsStore s of a.file desk
+          → LeavesStep C (ServesFirst (queue_of desk session) (limits_of s) session desk) s t a d desk result
+      take_images free told desk holds shown k rests said next step =
+          by (requests_at desk.queues session) refl step
+        where
+          by : (q : List Request) → requests_at desk.queues session ≡ q
+              → ServesFirst q (limits_of s) session desk said next
+              → LeavesFrom C t a d (settled_of k desk) (kept_of next.state) result
+          by [] e is = absurd (some desk.queues holds e)
+          by (r ∷ rest) e is =
+              let calm = waits_as desk holds shown r rest e ∙ free in
+              let takes : TakesIf (begins (limits_of s) desk.state r) (limits_of s) session r rest desk said
+              next = subst (λ (b : Bool). ServesIf b (limits_of s) session r rest desk said next) calm is in
+              subst (λ (y : Checkpoint). LeavesFrom C t a d (settled_of k desk) y result)
+              (sym (takes_kept (begins (limits_of s) desk.state r) (limits_of s) session r rest desk said next
+              takes))
+              ((takes_of desk.queues r rest holds e).images told desk shown calm k rests)
 
-        pub take_goes : (qs : List (List Request)) → Holds q0 qs
-            → KeepsGoing C s t (devices a out) (devices d after) result
-        take_goes qs holds = by (requests_at qs session) refl
-          where
-            by : (q : List Request) → requests_at qs session ≡ q
-                → KeepsGoing C s t (devices a out) (devices d after) result
-            by [] e = absurd (some qs holds e)
-            by (r ∷ rest) e = (takes_of qs r rest holds e).goes
+      pub take_goes : (qs : List (List Request)) → Holds q0 qs
+          → KeepsGoing C s t (devices a out) (devices d after) result
+      take_goes qs holds = by (requests_at qs session) refl
+        where
+          by : (q : List Request) → requests_at qs session ≡ q
+              → KeepsGoing C s t (devices a out) (devices d after) result
+          by [] e = absurd (some qs holds e)
+          by (r ∷ rest) e = (takes_of qs r rest holds e).goes
 
-        pub take_calls : (qs : List (List Request)) → Holds q0 qs → CallsOnce s t a d
-        take_calls qs holds = by (requests_at qs session) refl
-          where
-            by : (q : List Request) → requests_at qs session ≡ q → CallsOnce s t a d
-            by [] e = absurd (some qs holds e)
-            by (r ∷ rest) e = (takes_of qs r rest holds e).calls
+      pub take_calls : (qs : List (List Request)) → Holds q0 qs → CallsOnce s t a d
+      take_calls qs holds = by (requests_at qs session) refl
+        where
+          by : (q : List Request) → requests_at qs session ≡ q → CallsOnce s t a d
+          by [] e = absurd (some qs holds e)
+          by (r ∷ rest) e = (takes_of qs r rest holds e).calls
 
-        pub take_of : (qs : List (List Request)) → Holds q0 qs → (now_of ≡ of) ⊎ (now_of ≡ session)
-        take_of qs holds = by (requests_at qs session) refl
-          where
-            by : (q : List Request) → requests_at qs session ≡ q → (now_of ≡ of) ⊎ (now_of ≡ session)
-            by [] e = absurd (some qs holds e)
-            by (r ∷ rest) e = (takes_of qs r rest holds e).of_is
+      pub take_of : (qs : List (List Request)) → Holds q0 qs → (now_of ≡ of) ⊎ (now_of ≡ session)
+      take_of qs holds = by (requests_at qs session) refl
+        where
+          by : (q : List Request) → requests_at qs session ≡ q → (now_of ≡ of) ⊎ (now_of ≡ session)
+          by [] e = absurd (some qs holds e)
+          by (r ∷ rest) e = (takes_of qs r rest holds e).of_is
 
 -- ---- what a taken request may ask
 
