@@ -14,7 +14,8 @@ pub const BATCH: &[u8] = b"!batch";
 /// How many changes a batch has; or the number of the first request of the text that can't stand in
 /// one.
 pub fn check_text(text: &[u8]) -> Result<u64, u64>
-    ensures batch { IfOk result (λ n. (changes : List Change) × (n ≡ length changes) × IsBatch text.now changes) }
+    ensures batch { IfOk result (λ n. (changes : List Change) × (n ≡ length changes)
+        × IsBatch text.now changes) }
     ensures stops { IfErr result (StopsAt text.now) }
 {
     let mut rest = text;

@@ -35,7 +35,8 @@ module _ {X : Type 0} {n : ℕ} {old new : List (Option X)} {from to : List ℕ}
     (vacant : get_or new key None ≡ None) where
   differs : (i : ℕ) → i < n → get_or to i 0 ≡ key → ⊥
   differs i lt e =
-      let some : IsSome (get_or new (get_or to i 0) None) = subst (λ o. IsSome o) (sym (r.same i lt)) (there i lt) in
+      let some : IsSome (get_or new (get_or to i 0) None) =
+      subst (λ o. IsSome o) (sym (r.same i lt)) (there i lt) in
       let never = rw (e, vacant) at some in
       cc
 
@@ -246,6 +247,7 @@ kept_as_now {s = s} sound same k = by_now (now_of (at s k)) refl
         by_kept : (y : Option Spot) → kept_of (at s k) ≡ y → kept_of (at s k) ≡ None
         by_kept None none = none
         by_kept (Some v) there = absurd (
-            let stands = shared sound.entries some_of_kept some_of_now sound.kept sound.now (sym same) k v there in
+            let stands =
+            shared sound.entries some_of_kept some_of_now sound.kept sound.now (sym same) k v there in
             let never = sym is ∙ stands in
             cc)

@@ -8,7 +8,8 @@ pub ranks-preserved : goal.ranks-preserved
 ranks-preserved c = record {
   list = c.put_digest.ensures.list;
   carried = λ i lt. ⊎_elim
-      (λ (e : i ≡ c.ranks.rank). subst (λ j. digest_in c.put_digest.new.digests.items (get_or c.args.to.now j 0)
+      (λ (e : i ≡ c.ranks.rank). subst
+      (λ j. digest_in c.put_digest.new.digests.items (get_or c.args.to.now j 0)
       ≡ digest_in c.args.digests.now (get_or c.args.from.now j 0)) (sym e)
       (c.put_digest.ensures.here ∙ c.digest_at-digest.ensures.value))
       (λ apart. let less : i < c.ranks.rank = omega (arith, lt, apart) in

@@ -14,4 +14,5 @@ copy_each-requires-clause-there c = λ i lt.
 pub returns-clause-relaid : goal.returns-clause-relaid
 returns-clause-relaid c =
     rw (c.clear-3.ensures.items, c.swap.ensures.x_after, ← c.entries.view_is)
-    (relaid_entries c.entries.inside.kept.items c.copy_each.ensures.relaid (rw (← c.entries.view_is) at c.requires.kept))
+    (relaid_entries c.entries.inside.kept.items c.copy_each.ensures.relaid
+    (rw (← c.entries.view_is) at c.requires.kept))

@@ -43,7 +43,8 @@ push_reserved-requires c = omega (
 
 pub keys-preserved : goal.keys-preserved
 keys-preserved c =
-    let was : get c.args.standing.now (get_or c.args.from.now c.keys.key-index 0) ≡ Some c.copied-copy.result =
+    let was : get c.args.standing.now (get_or c.args.from.now c.keys.key-index 0)
+    ≡ Some c.copied-copy.result =
     read_some c.get.ensures c.unwrap.ensures ∙ ap (λ s. Some s) (sym c.copied-copy.ensures) in
     record {
       relaid = rw c.push_reserved.ensures.items
@@ -58,7 +59,8 @@ keys-preserved c =
 
 pub returns-clause-relaid : goal.returns-clause-relaid
 returns-clause-relaid c =
-    let all : c.keys.key-index ≡ length c.args.from.now = omega (arith, c.keys-test.false, c.keys.auto.key-index-end) in
+    let all : c.keys.key-index ≡ length c.args.from.now =
+    omega (arith, c.keys-test.false, c.keys.auto.key-index-end) in
     rw all at c.keys.invariant.relaid
 
 pub returns-clause-capacity : goal.returns-clause-capacity

@@ -78,7 +78,8 @@ invariant_of-self c =
         kept_order = rw c.lay_out.ensures.to_capacity c.self.invariant.room.kept_order;
       };
       digests = rw c.lay_out.ensures.capacity (list_copied c.self.invariant.digests
-          (rw c.lay_out.ensures.capacity at c.carry_digests.ensures.list) copy c.copy_digests.ensures.capacity);
+          (rw c.lay_out.ensures.capacity at c.carry_digests.ensures.list)
+          copy c.copy_digests.ensures.capacity);
       kept_digests = c.carry_digests.ensures.list;
       volume = rw same (c.self.invariant.volume
           ∙ sym (volume_goes r now_of now_of c.self.invariant.sound.now (λ k. refl) some_of_now));
@@ -106,6 +107,7 @@ returns c =
       names = ap (λ (e : Extents). e.names) c.self.view_is;
       cap = ap (λ (e : Extents). e.cap) c.self.view_is;
       table = rw same (table (sound at.After-unwrap all) c.self.invariant.room.limit c.self.invariant.cap
-          (list_copied c.self.invariant.digests (rw c.lay_out.ensures.capacity at c.carry_digests.ensures.list)
+          (list_copied c.self.invariant.digests
+          (rw c.lay_out.ensures.capacity at c.carry_digests.ensures.list)
           copy c.copy_digests.ensures.capacity) c.carry_digests.ensures.list);
     }
